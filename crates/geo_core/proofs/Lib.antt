@@ -1,0 +1,3 @@
+pub mod CoveringLaws
+pub mod NeighbourLaws
+pub mod SquareOrderLaws

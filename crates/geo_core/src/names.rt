@@ -1,0 +1,72 @@
+//! Names: lists of bytes that are told apart by their bytes alone.
+ghost use Rattle.std.specs.Prelude.{◌≡◌, ◌↔◌, ◌==◌, IfOk, IsTrue};
+ghost use lib.Pointwise.{pointwise};
+
+use crate::faults::GeoFault;
+use std::alloc::Global;
+use std::marker::Model;
+
+/// A name of a cell, a node, a layer or a file. Contracts see it as the list of its bytes.
+#[derive(Debug, Drop)]
+pub struct Name {
+    text: Vec<u8>,
+}
+
+impl Model for Name {
+    ghost use Rattle.std.specs.Prelude.{List, ℕ};
+
+    ghost Value = { List ℕ };
+
+    ghost view = { λ name. name.text.items };
+}
+
+impl Name {
+    /// The name of these bytes.
+    pub fn of(alloc: Global, bytes: &[u8]) -> Result<Name, GeoFault>
+        ensures { IfOk result (λ name. name ≡ bytes.now) }
+    {
+        Ok(Name {
+            text: Vec::from_slice(alloc, bytes)?,
+        })
+    }
+
+    /// An equal name.
+    pub fn copy(&self, alloc: Global) -> Result<Name, GeoFault>
+        ensures { IfOk result (λ name. name ≡ self.now) }
+    {
+        Name::of(alloc, self.bytes())
+    }
+
+    /// The bytes of the name.
+    pub fn bytes(&self) -> &[u8]
+        ensures { result.now ≡ self.now }
+    {
+        self.text.as_slice()
+    }
+}
+
+impl PartialEq for Name {
+    ghost use Rattle.std.specs.Prelude.{◌==◌};
+    ghost use Rattle.std.specs.Cmp.Rules.{comparing};
+    ghost use Rattle.std.proofs.Common.{rules};
+    ghost use lib.Pointwise.{pointwise};
+
+    ghost eq = { pointwise ◌==◌ };
+
+    ghost laws = { Prim.search (comparing, rules) };
+
+    /// Whether the two names have the same bytes.
+    fn eq(&self, other: &Name) -> bool
+        ensures tested { result ≡ pointwise ◌==◌ self.now other.now }
+        ensures same { IsTrue result ↔ (self.now ≡ other.now) }
+    {
+        self.bytes() == other.bytes()
+    }
+}
+
+impl Eq for Name {
+    ghost use Rattle.std.specs.Cmp.Rules.{comparing};
+    ghost use Rattle.std.proofs.Common.{rules};
+
+    ghost laws = { Prim.search (comparing, rules) };
+}
