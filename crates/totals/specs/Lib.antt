@@ -1,0 +1,6 @@
+pub mod Lists
+pub mod Total
+pub mod Chain
+pub mod Least
+pub mod Range
+pub mod Laws
