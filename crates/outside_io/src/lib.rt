@@ -1,0 +1,21 @@
+//! The outside: where a program's bytes come from, where they go, and where its files lie.
+//!
+//! Each of the three traits says what its calls do to content that may be told or not, and counts what went wrong
+//! outside. A program that is written over them is proved for all of their implementations at once:
+//!
+//! | Trait | In memory, its n-th call can be made to fail | Never fails | Over the system |
+//! |---|---|---|---|
+//! | `Source` | `MemorySource` | `FaultlessSource` | `ReaderSource` |
+//! | `Sink` | `MemorySink` | `FaultlessSink` | `WriterSink` |
+//! | `Shelf` | `MemoryShelf` | `FaultlessShelf` | `FolderShelf` |
+//!
+//! Those in memory tell their content, those over the system do not.
+#![tactic(auto)]
+
+mod faults;
+mod outside;
+mod whole;
+
+pub use faults::{Failed, PutFault, ReadAllFault, ShelfFault};
+pub use outside::{LONGEST_FILE, Shelf, Sink, Source};
+pub use whole::{read_all, write_all};
