@@ -1,0 +1,88 @@
+// What no clause says: that the definitions give the lines and words that a person would. The
+// helpers show how a caller's loop proves what it does with each line and each word.
+ghost use Rattle.std.specs.Prelude.{◌≡◌, length, map, IfOk};
+ghost use Rattle.text_scan.specs.Lines.{lines_of};
+ghost use Rattle.text_scan.specs.Words.{words_of};
+
+use crate::{lines, words};
+use std::alloc::{AllocError, Global};
+use std::test::Fail;
+
+fn count_lines(text: &[u8]) -> usize
+    ensures { result ≡ length (lines_of text.now) }
+{
+    let mut count = 0;
+    for _line in lines(text) {
+        count += 1;
+    }
+    count
+}
+
+fn copy_words(alloc: Global, line: &[u8]) -> Result<Vec<Vec<u8>>, AllocError>
+    ensures { IfOk result (λ copies. map (λ copy. copy.items) copies.items ≡ words_of line.now) }
+{
+    let mut copies = Vec::new(alloc);
+    for word in words(line) {
+        copies.push(Vec::from_slice(alloc, word)?)?;
+    }
+    Ok(copies)
+}
+
+#[test]
+fn finds_lines(rt: HostRuntime) -> Result<(), Fail> {
+    let table: [(&[u8], &[u8]); 11] = [
+        (b"", b""),
+        (b"one", b"[one]"),
+        (b"one\n", b"[one]"),
+        (b"one\ntwo", b"[one][two]"),
+        (b"\n", b"[]"),
+        (b"\n\none\n\n", b"[][][one][]"),
+        (b"one\r\ntwo\r\n", b"[one][two]"),
+        (b"one\r\r\n", b"[one\r]"),
+        (b"one\rtwo\n", b"[one\rtwo]"),
+        (b"one\r", b"[one]"),
+        (b"\r\n\r", b"[][]"),
+    ];
+    for (text, want) in table {
+        let mut shown = Vec::new(rt.alloc());
+        for line in lines(text) {
+            shown.push(b'[')?;
+            shown.extend_from_slice(line)?;
+            shown.push(b']')?;
+        }
+        assert_eq!(rt; shown.as_slice(), want);
+    }
+    Ok(())
+}
+
+#[test]
+fn finds_words(rt: HostRuntime) -> Result<(), Fail> {
+    let table: [(&[u8], &[u8]); 7] = [
+        (b"", b""),
+        (b" \t ", b""),
+        (b"rect", b"[rect]"),
+        (b"rect 1 2", b"[rect][1][2]"),
+        (b"\trect \t1  2 ", b"[rect][1][2]"),
+        (b"a\tb\tc", b"[a][b][c]"),
+        (b"a\rb\x0bc", b"[a\rb\x0bc]"),
+    ];
+    for (line, want) in table {
+        let mut shown = Vec::new(rt.alloc());
+        for word in words(line) {
+            shown.push(b'[')?;
+            shown.extend_from_slice(word)?;
+            shown.push(b']')?;
+        }
+        assert_eq!(rt; shown.as_slice(), want);
+    }
+    Ok(())
+}
+
+#[test]
+fn loops_of_callers(rt: HostRuntime) -> Result<(), Fail> {
+    assert_eq!(rt; count_lines(b"one\ntwo\n\nfour"), 4);
+    let copies = copy_words(rt.alloc(), b" use inverter  left")?;
+    assert_eq!(rt; copies.len(), 3);
+    assert_eq!(rt; copies[1].as_slice(), b"inverter".as_slice());
+    Ok(())
+}
