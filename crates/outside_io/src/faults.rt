@@ -111,3 +111,13 @@ impl From<Failed> for ReadAllFault {
         ReadAllFault::Failed
     }
 }
+
+impl From<ReadAllFault> for ShelfFault {
+    fn from(fault: ReadAllFault) -> ShelfFault {
+        match fault {
+            ReadAllFault::TooLong => ShelfFault::TooLong,
+            ReadAllFault::Failed => ShelfFault::Failed,
+            ReadAllFault::Memory => ShelfFault::Memory,
+        }
+    }
+}

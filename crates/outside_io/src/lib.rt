@@ -17,10 +17,12 @@ mod calls;
 mod faultless;
 mod memory;
 mod outside;
+mod system;
 mod whole;
 
 pub use faultless::{FaultlessShelf, FaultlessSink, FaultlessSource};
 pub use faults::{Failed, PutFault, ReadAllFault, ShelfFault};
 pub use memory::{MemoryShelf, MemorySink, MemorySource};
 pub use outside::{LONGEST_FILE, Shelf, Sink, Source};
+pub use system::{FolderShelf, ReaderSource, WriterSink};
 pub use whole::{read_all, write_all};

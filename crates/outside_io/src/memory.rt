@@ -39,9 +39,7 @@ impl MemorySource {
 }
 
 impl Source for MemorySource {
-    ghost use Rattle.std.specs.Prelude.{drop, Some};
-
-    ghost left = { λ memory. Some (drop memory.source.taken memory.source.bytes.items) };
+    ghost left = { λ memory. ⟦<FaultlessSource as Source>⟧.left memory.source };
 
     ghost faults = { λ memory. memory.faults };
 
@@ -89,9 +87,7 @@ impl MemorySink {
 }
 
 impl Sink for MemorySink {
-    ghost use Rattle.std.specs.Prelude.{Some};
-
-    ghost written = { λ memory. Some memory.sink.bytes.items };
+    ghost written = { λ memory. ⟦<FaultlessSink as Sink>⟧.written memory.sink };
 
     ghost faults = { λ memory. memory.faults };
 
@@ -136,14 +132,11 @@ impl MemoryShelf {
 }
 
 impl Shelf for MemoryShelf {
-    ghost use Rattle.std.specs.Prelude.{Some};
-    ghost use Rattle.std.specs.FinMap.{from_entries};
+    ghost files = { λ memory. ⟦<FaultlessShelf as Shelf>⟧.files memory.shelf };
 
-    ghost files = { λ memory. Some (from_entries memory.shelf.files.entries) };
+    ghost absences = { λ memory. ⟦<FaultlessShelf as Shelf>⟧.absences memory.shelf };
 
-    ghost absences = { λ memory. memory.shelf.absences };
-
-    ghost overlengths = { λ memory. memory.shelf.overlengths };
+    ghost overlengths = { λ memory. ⟦<FaultlessShelf as Shelf>⟧.overlengths memory.shelf };
 
     ghost fetch_faults = { λ memory. memory.fetch_faults };
 
