@@ -18,6 +18,8 @@ mod faultless;
 mod memory;
 mod outside;
 mod system;
+#[cfg(test)]
+mod tests;
 mod whole;
 
 pub use faultless::{FaultlessShelf, FaultlessSink, FaultlessSource};
