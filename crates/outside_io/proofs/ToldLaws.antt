@@ -1,6 +1,7 @@
 -- Told bytes with others before or after them.
-use Rattle.std.proofs.Common.{◌≡◌, ℕ, ◌+◌, List, [], ◌++◌, take, drop, refl, sym, ap, ◌∙◌, append_assoc, append-nil, arith}
+use Rattle.std.proofs.Common.{◌≡◌, ℕ, ◌+◌, ◌≤◌, List, [], ◌++◌, take, drop, refl, sym, ap, ◌∙◌, append_assoc, append-nil, length, arith}
 use Rattle.std.proofs.lemmas.List.{take-append-drop, take-take, drop-take}
+use Rattle.std.proofs.lemmas.Grind.{common_steps}
 use Rattle.std.specs.Prelude.{Some, None}
 use Rattle.outside_io.specs.Told.{Told, with_front, with_back}
 
@@ -37,3 +38,13 @@ with_back-more first told told' bytes piece done count rest so_far more =
     more ∙ ap (λ (p : List ℕ). with_back told (take count p)) rest
     ∙ ap (λ (t : Told). with_back t (take count (drop done bytes))) so_far
     ∙ with_back-with_back first _ _ ∙ ap (with_back first) (sym (take-in_parts done count bytes))
+
+-- what a source in memory hands out, and what is left then
+pub handed_out : (bytes filled buf : List ℕ) (taken count : ℕ)
+  → filled ≡ take count (drop taken bytes) → count ≤ length (drop taken bytes)
+  → drop taken bytes ≡ take count (filled ++ drop count buf) ++ drop (taken + count) bytes
+handed_out bytes filled buf taken count filled_is within =
+    let whole : take count (drop taken bytes) ++ drop count (drop taken bytes) ≡ drop taken bytes = take-append-drop count (drop taken bytes) in
+    let front : take count (filled ++ drop count buf) ≡ filled = grind (arith, common_steps) in
+    let back : drop count (drop taken bytes) ≡ drop (taken + count) bytes = grind (arith, common_steps) in
+    cc

@@ -1,6 +1,7 @@
 //! How a call of the outside is refused. Want of memory comes from this program, all else from outside.
 
-use std::alloc::AllocError;
+use geo_core::GeoFault;
+use std::alloc::{AllocError, AllocFailed};
 use thiserror::Error;
 
 /// A call failed outside. What the system says of the reason is not kept.
@@ -55,6 +56,29 @@ impl From<AllocError> for PutFault {
     }
 }
 
+impl<T: Drop> From<AllocFailed<T>> for PutFault {
+    ghost use Rattle.std.specs.Prelude.{◌≡◌};
+    ghost use Rattle.outside_io.specs.declared.faults.PutFault.TheVariants.{Memory};
+
+    ghost from_gives = { λ _ fault. fault ≡ Memory };
+
+    fn from(_failed: AllocFailed<T>) -> PutFault {
+        PutFault::Memory
+    }
+}
+
+/// Want of memory alone refuses the calls of names.
+impl From<GeoFault> for PutFault {
+    ghost use Rattle.std.specs.Prelude.{◌≡◌};
+    ghost use Rattle.outside_io.specs.declared.faults.PutFault.TheVariants.{Memory};
+
+    ghost from_gives = { λ _ fault. fault ≡ Memory };
+
+    fn from(_fault: GeoFault) -> PutFault {
+        PutFault::Memory
+    }
+}
+
 impl From<AllocError> for ShelfFault {
     ghost use Rattle.std.specs.Prelude.{◌≡◌};
     ghost use Rattle.outside_io.specs.declared.faults.ShelfFault.TheVariants.{Memory};
@@ -85,5 +109,15 @@ impl From<Failed> for ReadAllFault {
 
     fn from(_fault: Failed) -> ReadAllFault {
         ReadAllFault::Failed
+    }
+}
+
+impl From<ReadAllFault> for ShelfFault {
+    fn from(fault: ReadAllFault) -> ShelfFault {
+        match fault {
+            ReadAllFault::TooLong => ShelfFault::TooLong,
+            ReadAllFault::Failed => ShelfFault::Failed,
+            ReadAllFault::Memory => ShelfFault::Memory,
+        }
     }
 }

@@ -13,9 +13,18 @@
 #![tactic(auto)]
 
 mod faults;
+mod calls;
+mod faultless;
+mod memory;
 mod outside;
+mod system;
+#[cfg(test)]
+mod tests;
 mod whole;
 
+pub use faultless::{FaultlessShelf, FaultlessSink, FaultlessSource};
 pub use faults::{Failed, PutFault, ReadAllFault, ShelfFault};
+pub use memory::{MemoryShelf, MemorySink, MemorySource};
 pub use outside::{LONGEST_FILE, Shelf, Sink, Source};
+pub use system::{FolderShelf, ReaderSource, WriterSink};
 pub use whole::{read_all, write_all};

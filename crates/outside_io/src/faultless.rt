@@ -1,0 +1,163 @@
+//! A source, a sink and a shelf in memory that never fail: each call is refused for want of memory at most.
+ghost use Rattle.std.specs.Prelude.{◌≡◌, ◌<◌, ◌≤◌, [], vec_len};
+ghost use Rattle.std.specs.Prelude.{Some};
+ghost use Rattle.outside_io.specs.Files.{no_files};
+
+use crate::faults::{Failed, PutFault, ShelfFault};
+use crate::outside::{LONGEST_FILE, Shelf, Sink, Source};
+use geo_core::{List, Name};
+use std::alloc::Global;
+use std::collections::BTreeMap;
+
+/// A source that hands out the bytes of a vector and never fails.
+#[derive(Drop)]
+pub struct FaultlessSource {
+    bytes: Vec<u8>,
+    taken: usize,
+    largest: usize,
+    ghost within: { taken ≤ vec_len bytes },
+    ghost some: { 0 < largest },
+}
+
+impl FaultlessSource {
+    /// A source that hands out as many bytes as the buffer has room for.
+    pub fn new(bytes: Vec<u8>) -> FaultlessSource
+        ensures { ⟦<FaultlessSource as Source>⟧.left result ≡ Some bytes.items }
+    {
+        FaultlessSource::in_pieces(bytes, usize::MAX)
+    }
+
+    /// A source that hands out at most so many bytes at a time.
+    pub fn in_pieces(bytes: Vec<u8>, largest: usize) -> FaultlessSource
+        requires { 0 < largest }
+        ensures { ⟦<FaultlessSource as Source>⟧.left result ≡ Some bytes.items }
+    {
+        FaultlessSource {
+            bytes,
+            taken: 0,
+            largest,
+        }
+    }
+}
+
+impl Source for FaultlessSource {
+    ghost use Rattle.std.specs.Prelude.{drop, Some};
+
+    ghost left = { λ source. Some (drop source.taken source.bytes.items) };
+
+    ghost faults = { λ _. 0 };
+
+    fn read(&mut self, buf: &mut [u8]) -> Result<usize, Failed> {
+        let rest = &self.bytes[self.taken..];
+        let count = rest.len().min(buf.len()).min(self.largest);
+        buf[..count].copy_from_slice(&rest[..count]);
+        self.taken += count;
+        Ok(count)
+    }
+}
+
+/// A sink that keeps what is written in a vector and never fails.
+#[derive(Drop)]
+pub struct FaultlessSink {
+    bytes: Vec<u8>,
+    largest: usize,
+    ghost some: { 0 < largest },
+}
+
+impl FaultlessSink {
+    /// An empty sink that takes the whole of each piece.
+    pub fn new(alloc: Global) -> FaultlessSink
+        ensures { ⟦<FaultlessSink as Sink>⟧.written result ≡ Some [] }
+    {
+        FaultlessSink::in_pieces(alloc, usize::MAX)
+    }
+
+    /// An empty sink that takes at most so many bytes at a time.
+    pub fn in_pieces(alloc: Global, largest: usize) -> FaultlessSink
+        requires { 0 < largest }
+        ensures { ⟦<FaultlessSink as Sink>⟧.written result ≡ Some [] }
+    {
+        FaultlessSink {
+            bytes: Vec::new(alloc),
+            largest,
+        }
+    }
+
+    /// What was written.
+    pub fn bytes(&self) -> &[u8]
+        ensures { ⟦<FaultlessSink as Sink>⟧.written self.now ≡ Some result.now }
+    {
+        self.bytes.as_slice()
+    }
+}
+
+impl Sink for FaultlessSink {
+    ghost use Rattle.std.specs.Prelude.{Some};
+
+    ghost written = { λ sink. Some sink.bytes.items };
+
+    ghost faults = { λ _. 0 };
+
+    fn write(&mut self, piece: &[u8]) -> Result<usize, PutFault> {
+        let count = piece.len().min(self.largest);
+        self.bytes.extend_from_slice(&piece[..count])?;
+        Ok(count)
+    }
+}
+
+/// A shelf that keeps its files in a map and never fails.
+#[derive(Drop)]
+pub struct FaultlessShelf {
+    alloc: Global,
+    files: BTreeMap<Name, List<u8>>,
+    absences: u64,
+    overlengths: u64,
+}
+
+impl FaultlessShelf {
+    /// A shelf without files.
+    pub fn new(alloc: Global) -> FaultlessShelf
+        ensures { ⟦<FaultlessShelf as Shelf>⟧.files result ≡ Some no_files }
+    {
+        FaultlessShelf {
+            alloc,
+            files: BTreeMap::new(alloc),
+            absences: 0,
+            overlengths: 0,
+        }
+    }
+}
+
+impl Shelf for FaultlessShelf {
+    ghost use Rattle.std.specs.Prelude.{Some};
+    ghost use Rattle.std.specs.FinMap.{from_entries};
+
+    ghost files = { λ shelf. Some (from_entries shelf.files.entries) };
+
+    ghost absences = { λ shelf. shelf.absences };
+
+    ghost overlengths = { λ shelf. shelf.overlengths };
+
+    ghost fetch_faults = { λ _. 0 };
+
+    ghost store_faults = { λ _. 0 };
+
+    fn fetch(&mut self, alloc: Global, name: &Name) -> Result<Vec<u8>, ShelfFault> {
+        let Some(bytes) = self.files.get(name) else {
+            self.absences = self.absences.saturating_add(1);
+            return Err(ShelfFault::Absent);
+        };
+        if bytes.items().len() > LONGEST_FILE {
+            self.overlengths = self.overlengths.saturating_add(1);
+            return Err(ShelfFault::TooLong);
+        }
+        Ok(Vec::from_slice(alloc, bytes.items())?)
+    }
+
+    fn store(&mut self, name: &Name, bytes: &[u8]) -> Result<(), PutFault> {
+        let kept = List::of(Vec::from_slice(self.alloc, bytes)?);
+        let name = name.copy(self.alloc)?;
+        self.files.insert(name, kept)?;
+        Ok(())
+    }
+}

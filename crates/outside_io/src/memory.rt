@@ -1,0 +1,160 @@
+//! A source, a sink and a shelf in memory whose calls fail where their numbers are listed.
+//!
+//! They do what the forms that never fail do, and count their calls. A call that is to fail does nothing else.
+ghost use Rattle.std.specs.Prelude.{◌≡◌, [], Some};
+ghost use Rattle.outside_io.specs.Files.{no_files};
+
+use crate::calls::{Calls, raised};
+use crate::faultless::{FaultlessShelf, FaultlessSink, FaultlessSource};
+use crate::faults::{Failed, PutFault, ShelfFault};
+use crate::outside::{Shelf, Sink, Source};
+use geo_core::Name;
+use std::alloc::Global;
+
+/// A source in memory, some of whose calls fail.
+#[derive(Drop)]
+pub struct MemorySource {
+    source: FaultlessSource,
+    calls: Calls,
+    faults: u64,
+}
+
+impl MemorySource {
+    /// This source, whose calls of these numbers fail. The first call has number 1.
+    pub fn new(source: FaultlessSource, failing: Vec<u64>) -> MemorySource
+        ensures content { ⟦<MemorySource as Source>⟧.left result ≡ ⟦<FaultlessSource as Source>⟧.left source }
+        ensures no_faults { ⟦<MemorySource as Source>⟧.faults result ≡ 0 }
+    {
+        MemorySource {
+            source,
+            calls: Calls::new(failing),
+            faults: 0,
+        }
+    }
+
+    /// How many calls were made.
+    pub fn calls(&self) -> u64 {
+        self.calls.made
+    }
+}
+
+impl Source for MemorySource {
+    ghost left = { λ memory. ⟦<FaultlessSource as Source>⟧.left memory.source };
+
+    ghost faults = { λ memory. memory.faults };
+
+    fn read(&mut self, buf: &mut [u8]) -> Result<usize, Failed> {
+        if self.calls.is_next_to_fail() {
+            self.faults = raised(self.faults);
+            return Err(Failed);
+        }
+        self.source.read(buf)
+    }
+}
+
+/// A sink in memory, some of whose calls fail.
+#[derive(Drop)]
+pub struct MemorySink {
+    sink: FaultlessSink,
+    calls: Calls,
+    faults: u64,
+}
+
+impl MemorySink {
+    /// This sink, whose calls of these numbers fail. The first call has number 1.
+    pub fn new(sink: FaultlessSink, failing: Vec<u64>) -> MemorySink
+        ensures content { ⟦<MemorySink as Sink>⟧.written result ≡ ⟦<FaultlessSink as Sink>⟧.written sink }
+        ensures no_faults { ⟦<MemorySink as Sink>⟧.faults result ≡ 0 }
+    {
+        MemorySink {
+            sink,
+            calls: Calls::new(failing),
+            faults: 0,
+        }
+    }
+
+    /// What was written.
+    pub fn bytes(&self) -> &[u8]
+        ensures { ⟦<MemorySink as Sink>⟧.written self.now ≡ Some result.now }
+    {
+        self.sink.bytes()
+    }
+
+    /// How many calls were made.
+    pub fn calls(&self) -> u64 {
+        self.calls.made
+    }
+}
+
+impl Sink for MemorySink {
+    ghost written = { λ memory. ⟦<FaultlessSink as Sink>⟧.written memory.sink };
+
+    ghost faults = { λ memory. memory.faults };
+
+    fn write(&mut self, piece: &[u8]) -> Result<usize, PutFault> {
+        if self.calls.is_next_to_fail() {
+            self.faults = raised(self.faults);
+            return Err(PutFault::Failed);
+        }
+        self.sink.write(piece)
+    }
+}
+
+/// A shelf in memory, some of whose calls fail.
+#[derive(Drop)]
+pub struct MemoryShelf {
+    shelf: FaultlessShelf,
+    calls: Calls,
+    fetch_faults: u64,
+    store_faults: u64,
+}
+
+impl MemoryShelf {
+    /// This shelf, whose calls of these numbers fail. The first call has number 1; fetches and stores are counted
+    /// together.
+    pub fn new(shelf: FaultlessShelf, failing: Vec<u64>) -> MemoryShelf
+        ensures content { ⟦<MemoryShelf as Shelf>⟧.files result ≡ ⟦<FaultlessShelf as Shelf>⟧.files shelf }
+        ensures no_fetch_faults { ⟦<MemoryShelf as Shelf>⟧.fetch_faults result ≡ 0 }
+        ensures no_store_faults { ⟦<MemoryShelf as Shelf>⟧.store_faults result ≡ 0 }
+    {
+        MemoryShelf {
+            shelf,
+            calls: Calls::new(failing),
+            fetch_faults: 0,
+            store_faults: 0,
+        }
+    }
+
+    /// How many calls were made, fetches and stores together.
+    pub fn calls(&self) -> u64 {
+        self.calls.made
+    }
+}
+
+impl Shelf for MemoryShelf {
+    ghost files = { λ memory. ⟦<FaultlessShelf as Shelf>⟧.files memory.shelf };
+
+    ghost absences = { λ memory. ⟦<FaultlessShelf as Shelf>⟧.absences memory.shelf };
+
+    ghost overlengths = { λ memory. ⟦<FaultlessShelf as Shelf>⟧.overlengths memory.shelf };
+
+    ghost fetch_faults = { λ memory. memory.fetch_faults };
+
+    ghost store_faults = { λ memory. memory.store_faults };
+
+    fn fetch(&mut self, alloc: Global, name: &Name) -> Result<Vec<u8>, ShelfFault> {
+        if self.calls.is_next_to_fail() {
+            self.fetch_faults = raised(self.fetch_faults);
+            return Err(ShelfFault::Failed);
+        }
+        self.shelf.fetch(alloc, name)
+    }
+
+    fn store(&mut self, name: &Name, bytes: &[u8]) -> Result<(), PutFault> {
+        if self.calls.is_next_to_fail() {
+            self.store_faults = raised(self.store_faults);
+            return Err(PutFault::Failed);
+        }
+        self.shelf.store(name, bytes)
+    }
+}
