@@ -8,9 +8,11 @@ ghost use Rattle.text_scan.specs.Lines.{lines_of};
 ghost use Rattle.text_scan.specs.Words.{words_of};
 
 pub use line::{Lines, split_line};
+pub use numeral::{NumFault, number, wide};
 pub use word::{Words, split_word};
 
 mod line;
+mod numeral;
 #[cfg(test)]
 mod tests;
 mod word;
