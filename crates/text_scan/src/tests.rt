@@ -4,7 +4,7 @@ ghost use Rattle.std.specs.Prelude.{◌≡◌, length, map, IfOk};
 ghost use Rattle.text_scan.specs.Lines.{lines_of};
 ghost use Rattle.text_scan.specs.Words.{words_of};
 
-use crate::{NumFault, lines, number, wide, words};
+use crate::{NumFault, append_decimal, lines, number, wide, words};
 use std::alloc::{AllocError, Global};
 use std::test::Fail;
 
@@ -143,4 +143,17 @@ fn reads_wide_numbers(rt: HostRuntime) {
     for (word, want) in table {
         assert_eq!(rt; wide(word), want);
     }
+}
+
+#[test]
+fn writes_numbers(rt: HostRuntime) -> Result<(), Fail> {
+    let mut out = Vec::from_slice(rt.alloc(), b"n")?;
+    for value in [0, 7, -7, 10, -100, i128::MAX, i128::MIN] {
+        out.push(b' ')?;
+        append_decimal(&mut out, value)?;
+    }
+    let want: &[u8] =
+        b"n 0 7 -7 10 -100 170141183460469231731687303715884105727 -170141183460469231731687303715884105728";
+    assert_eq!(rt; out.as_slice(), want);
+    Ok(())
 }
