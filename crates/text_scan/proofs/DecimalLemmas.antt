@@ -80,7 +80,7 @@ digits_value-glyphs n [] small = refl
 digits_value-glyphs n (digit ∷ digits) small =
     ap (λ d. digits_value_after 10 (n * 10 + d) (glyphs digits)) (digit_value-glyph digit small.0) ∙ digits_value-glyphs (n * 10 + digit) digits small.1
 
-all_ascii_digits-natural_text : (n : ℕ) → all_ascii_digits (natural_text n) ≡ true
+pub all_ascii_digits-natural_text : (n : ℕ) → all_ascii_digits (natural_text n) ≡ true
 all_ascii_digits-natural_text zero = ap all_ascii_digits natural_text-zero
 all_ascii_digits-natural_text (suc n) =
     ap all_ascii_digits (natural_text-some (suc n) (omega arith)) ∙ all_ascii_digits-glyphs (digits_of 10 (suc n)) (all_below_base_digits_of 10 (suc n) (omega arith))
@@ -91,7 +91,7 @@ digits_value-natural_text (suc n) =
     ap (digits_value 10) (natural_text-some (suc n) (omega arith))
     ∙ (digits_value-glyphs 0 (digits_of 10 (suc n)) (all_below_base_digits_of 10 (suc n) (omega arith)) ∙ number_digits_of 10 (suc n) (omega arith))
 
-length-natural_text : (n : ℕ) → 0 < length (natural_text n)
+pub length-natural_text : (n : ℕ) → 0 < length (natural_text n)
 length-natural_text zero = omega (arith, ap length natural_text-zero)
 length-natural_text (suc n) =
     let digits = digits_of_step 10 (suc n) (omega arith) (omega arith) in

@@ -2,3 +2,4 @@ pub mod DecimalLemmas
 pub mod LineLemmas
 pub mod NumberLemmas
 pub mod WordLemmas
+pub mod WrittenLemmas

@@ -2,3 +2,4 @@ pub mod Decimal
 pub mod Lines
 pub mod Numbers
 pub mod Words
+pub mod Written
