@@ -1,2 +1,5 @@
+pub mod DecimalLemmas
 pub mod LineLemmas
+pub mod NumberLemmas
 pub mod WordLemmas
+pub mod WrittenLemmas

@@ -1,2 +1,5 @@
+pub mod Decimal
 pub mod Lines
+pub mod Numbers
 pub mod Words
+pub mod Written

@@ -7,10 +7,16 @@ ghost use Rattle.std.specs.Prelude.{◌≡◌, ◌≤◌, length};
 ghost use Rattle.text_scan.specs.Lines.{lines_of};
 ghost use Rattle.text_scan.specs.Words.{words_of};
 
+pub use decimal_text::append_decimal;
+pub use laws::{reads_written_lines, reads_written_numbers, reads_written_words};
 pub use line::{Lines, split_line};
+pub use numeral::{NumFault, number, wide};
 pub use word::{Words, split_word};
 
+mod decimal_text;
+mod laws;
 mod line;
+mod numeral;
 #[cfg(test)]
 mod tests;
 mod word;

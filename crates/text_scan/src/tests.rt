@@ -4,7 +4,7 @@ ghost use Rattle.std.specs.Prelude.{◌≡◌, length, map, IfOk};
 ghost use Rattle.text_scan.specs.Lines.{lines_of};
 ghost use Rattle.text_scan.specs.Words.{words_of};
 
-use crate::{lines, words};
+use crate::{NumFault, append_decimal, lines, number, wide, words};
 use std::alloc::{AllocError, Global};
 use std::test::Fail;
 
@@ -84,5 +84,76 @@ fn loops_of_callers(rt: HostRuntime) -> Result<(), Fail> {
     let copies = copy_words(rt.alloc(), b" use inverter  left")?;
     assert_eq!(rt; copies.len(), 3);
     assert_eq!(rt; copies[1].as_slice(), b"inverter".as_slice());
+    Ok(())
+}
+
+#[test]
+fn reads_numbers(rt: HostRuntime) {
+    let table: [(&[u8], Result<i64, NumFault>); 17] = [
+        (b"0", Ok(0)),
+        (b"-0", Ok(0)),
+        (b"007", Ok(7)),
+        (b"-12", Ok(-12)),
+        (b"", Err(NumFault::Empty)),
+        (b"-", Err(NumFault::Empty)),
+        (b"--1", Err(NumFault::Digit)),
+        (b"+1", Err(NumFault::Digit)),
+        (b"12x4", Err(NumFault::Digit)),
+        (b"1 2", Err(NumFault::Digit)),
+        (b"9223372036854775807", Ok(i64::MAX)),
+        (b"9223372036854775808", Err(NumFault::Range)),
+        (b"-9223372036854775808", Ok(i64::MIN)),
+        (b"-9223372036854775809", Err(NumFault::Range)),
+        (
+            b"340282366920938463463374607431768211457",
+            Err(NumFault::Range),
+        ),
+        (b"000000000000000000000000000000000000000000009", Ok(9)),
+        (
+            b"9999999999999999999999999999999999999999x",
+            Err(NumFault::Digit),
+        ),
+    ];
+    for (word, want) in table {
+        assert_eq!(rt; number(word), want);
+    }
+}
+
+#[test]
+fn reads_wide_numbers(rt: HostRuntime) {
+    let table: [(&[u8], Result<i128, NumFault>); 8] = [
+        (b"-00000000000000000000000000000000000000000007", Ok(-7)),
+        (b"-", Err(NumFault::Empty)),
+        (b"1-", Err(NumFault::Digit)),
+        (b"170141183460469231731687303715884105727", Ok(i128::MAX)),
+        (
+            b"170141183460469231731687303715884105728",
+            Err(NumFault::Range),
+        ),
+        (b"-170141183460469231731687303715884105728", Ok(i128::MIN)),
+        (
+            b"-170141183460469231731687303715884105729",
+            Err(NumFault::Range),
+        ),
+        (
+            b"9999999999999999999999999999999999999999x",
+            Err(NumFault::Digit),
+        ),
+    ];
+    for (word, want) in table {
+        assert_eq!(rt; wide(word), want);
+    }
+}
+
+#[test]
+fn writes_numbers(rt: HostRuntime) -> Result<(), Fail> {
+    let mut out = Vec::from_slice(rt.alloc(), b"n")?;
+    for value in [0, 7, -7, 10, -100, i128::MAX, i128::MIN] {
+        out.push(b' ')?;
+        append_decimal(&mut out, value)?;
+    }
+    let want: &[u8] =
+        b"n 0 7 -7 10 -100 170141183460469231731687303715884105727 -170141183460469231731687303715884105728";
+    assert_eq!(rt; out.as_slice(), want);
     Ok(())
 }
