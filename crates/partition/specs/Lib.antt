@@ -1,0 +1,4 @@
+pub mod Marks
+pub mod Divides
+pub mod Leaders
+pub mod Parents

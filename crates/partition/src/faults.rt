@@ -1,0 +1,22 @@
+//! Why a call of this crate is refused.
+
+use std::alloc::AllocError;
+use thiserror::Error;
+
+/// Want of memory alone refuses a call of this crate.
+#[derive(Clone, Copy, Debug, PartialEq, Eq, Error)]
+pub enum PartitionFault {
+    #[error("out of memory")]
+    Memory,
+}
+
+impl From<AllocError> for PartitionFault {
+    ghost use Rattle.std.specs.Prelude.{◌≡◌};
+    ghost use Rattle.partition.specs.declared.faults.PartitionFault.TheVariants.{Memory};
+
+    ghost from_gives = { λ _ fault. fault ≡ Memory };
+
+    fn from(_error: AllocError) -> PartitionFault {
+        PartitionFault::Memory
+    }
+}
