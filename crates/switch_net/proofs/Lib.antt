@@ -1,0 +1,6 @@
+pub mod Paths
+pub mod Ranges
+pub mod Unique
+pub mod Phases
+pub mod Locality
+pub mod Sound
