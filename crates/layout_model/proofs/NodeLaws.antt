@@ -1,0 +1,96 @@
+-- Links lead both ways, and a layout has one list of nodes.
+use Rattle.std.proofs.Common.{◌≡◌, ◌⊎◌, ℕ, ℤ, Bool, true, List, [], ◌∷◌, inl, inr, refl, sym, subst, ap, ◌∙◌, rules, IsTrue}
+use Rattle.totals.specs.Chain.{Chain}
+use Rattle.totals.specs.Lists.{In}
+use Rattle.totals.specs.Least.{IsLeast}
+use Rattle.totals.proofs.Chains.{Chain-back, Chain-append}
+use Rattle.totals.proofs.Totals.{Total-unique}
+use Rattle.layout_model.specs.Places.{Place, IsBefore, IsNoLater}
+use Rattle.layout_model.specs.Layouts.{Layout, IsMaterial}
+use Rattle.layout_model.specs.Links.{AreLinked, AreOneNode}
+use Rattle.layout_model.specs.Measures.{area_at, perimeter_at}
+use Rattle.layout_model.specs.Technologies.{Class, Technology}
+use Rattle.layout_model.specs.Nodes.{Node, AreMeasures, IsNode, AreInOrder, AreNodes}
+use Rattle.layout_model.specs.Laws.{ConnectsBothWays, HasOneNodeList}
+use Rattle.layout_model.proofs.PlaceLaws.{AreNeighbours-sym, AreStacked-sym, IsBefore-irreflexive, IsBefore-trans, IsNoLater-antisym}
+
+pub AreLinked-sym : (connects : ℕ → ℕ → Bool) (layout : Layout) → ConnectsBothWays connects → (a b : Place) → AreLinked connects layout a b → AreLinked connects layout b a
+AreLinked-sym connects layout symmetric a b link = record {
+  here = link.there;
+  there = link.here;
+  near = elim link.near [ inl beside ↦ inl (AreNeighbours-sym a b beside) | inr stacked ↦ inr (AreStacked-sym a b stacked) ];
+  connected = sym (symmetric (layout a) (layout b)) ∙ link.connected;
+}
+
+pub AreOneNode-sym : (connects : ℕ → ℕ → Bool) (layout : Layout) → ConnectsBothWays connects → {a b : Place} → AreOneNode connects layout a b → AreOneNode connects layout b a
+AreOneNode-sym connects layout symmetric chain = Chain-back (AreLinked-sym connects layout symmetric) chain
+
+-- the measures of a set are determined
+same_measures : (classes : List Class) (layout : Layout) (Within : Place → Type 0) (ms ns : List (ℤ × ℤ)) → AreMeasures classes layout Within ms → AreMeasures classes layout Within ns → ms ≡ ns
+same_measures [] layout Within [] [] p q = refl
+same_measures [] layout Within [] (n ∷ ns) p q = absurd q
+same_measures [] layout Within (m ∷ ms) ns p q = absurd p
+same_measures (class ∷ classes) layout Within [] ns p q = absurd p
+same_measures (class ∷ classes) layout Within (m ∷ ms) [] p q = absurd q
+same_measures (class ∷ classes) layout Within (m ∷ ms) (n ∷ ns) p q =
+    let area = Total-unique Within (area_at class.contains layout) m.0 n.0 p.0 q.0 in
+    let perimeter = Total-unique Within (perimeter_at class.contains layout) m.1 n.1 p.1 q.1 in
+    let both : m ≡ n = ap (λ (v : ℤ). (v, m.1)) area ∙ ap (λ (v : ℤ). (n.0, v)) perimeter in
+    rw (both, same_measures classes layout Within ms ns p.2 q.2) refl
+
+-- a node is determined by its least place
+same_node : (technology : Technology) (layout : Layout) (m n : Node) → IsNode technology layout m → IsNode technology layout n → m.least ≡ n.least → m ≡ n
+same_node technology layout m n p q same =
+    let kind : m.kind ≡ n.kind = p.kind ∙ ap layout same ∙ sym q.kind in
+    let theirs = subst (λ (place : Place). AreMeasures technology.classes layout (AreOneNode technology.connects layout place) m.measures) same p.measures in
+    let measures = same_measures technology.classes layout (AreOneNode technology.connects layout n.least) m.measures n.measures theirs q.measures in
+    let whole : record { least = m.least; kind = m.kind; measures = m.measures } ≡ n = rw (same, kind, measures) refl in
+    whole
+
+-- two lists in order with the same nodes are one
+after_first : (x : Node) (xs : List Node) (z : Node) → AreInOrder (x ∷ xs) → In z xs → IsBefore x.least z.least
+after_first x [] z order inside = absurd inside
+after_first x (y ∷ ys) z order (inl same) = subst (λ (n : Node). IsBefore x.least n.least) same order.0
+after_first x (y ∷ ys) z order (inr later) = IsBefore-trans x.least y.least z.least order.0 (after_first y ys z order.1 later)
+
+rest_in_order : (x : Node) (xs : List Node) → AreInOrder (x ∷ xs) → AreInOrder xs
+rest_in_order x [] order = tt
+rest_in_order x (y ∷ ys) order = order.1
+
+same_heads : (x y : Node) (xs ys : List Node) → AreInOrder (x ∷ xs) → AreInOrder (y ∷ ys) → In x (y ∷ ys) → In y (x ∷ xs) → x ≡ y
+same_heads x y xs ys p q (inl same) there = sym same
+same_heads x y xs ys p q (inr here) (inl same) = same
+same_heads x y xs ys p q (inr here) (inr there) =
+    absurd (IsBefore-irreflexive x.least (IsBefore-trans x.least y.least x.least (after_first x xs y p there) (after_first y ys x q here)))
+
+in_rest : (x y : Node) (xs ys : List Node) → AreInOrder (x ∷ xs) → x ≡ y → (z : Node) → In z xs → In z (y ∷ ys) → In z ys
+in_rest x y xs ys order same z inside (inr later) = later
+in_rest x y xs ys order same z inside (inl first) =
+    absurd (IsBefore-irreflexive x.least (subst (λ (n : Node). IsBefore x.least n.least) (sym (same ∙ first)) (after_first x xs z order inside)))
+
+same_lists : (xs ys : List Node) → AreInOrder xs → AreInOrder ys → ((z : Node) → In z xs → In z ys) → ((z : Node) → In z ys → In z xs) → xs ≡ ys
+same_lists [] [] p q there back = refl
+same_lists [] (y ∷ ys) p q there back = absurd (back y (inl refl))
+same_lists (x ∷ xs) [] p q there back = absurd (there x (inl refl))
+same_lists (x ∷ xs) (y ∷ ys) p q there back =
+    let same = same_heads x y xs ys p q (there x (inl refl)) (back y (inl refl)) in
+    let rest = same_lists xs ys (rest_in_order x xs p) (rest_in_order y ys q)
+    (λ z inside. in_rest x y xs ys p same z inside (there z (inr inside)))
+    (λ z inside. in_rest y x ys xs q (sym same) z inside (back z (inr inside))) in
+    rw (same, rest) refl
+
+-- each node of one list stands in the other
+stands_there : (technology : Technology) (layout : Layout) (xs ys : List Node) → ConnectsBothWays technology.connects → AreNodes technology layout xs → AreNodes technology layout ys → (z : Node) → In z xs → In z ys
+stands_there technology layout xs ys symmetric p q z inside =
+    let mine = p.sound z inside in
+    let other = q.whole z.least mine.material in
+    let theirs = q.sound other.0 other.1 in
+    let back = AreOneNode-sym technology.connects layout symmetric other.2 in
+    let same = IsNoLater-antisym z.least other.0.least (mine.least.1 other.0.least back) (theirs.least.1 z.least other.2) in
+    subst (λ (n : Node). In n ys) (sym (same_node technology layout z other.0 mine theirs same)) other.1
+
+pub has_one_node_list : HasOneNodeList
+has_one_node_list technology layout xs ys symmetric p q =
+    same_lists xs ys p.in_order q.in_order
+    (stands_there technology layout xs ys symmetric p q)
+    (stands_there technology layout ys xs symmetric q p)

@@ -1,0 +1,7 @@
+pub mod Laws
+pub mod Layouts
+pub mod Links
+pub mod Measures
+pub mod Nodes
+pub mod Places
+pub mod Technologies

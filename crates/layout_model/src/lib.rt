@@ -1,0 +1,9 @@
+//! What a layout is, and what its nodes are: the definitions that the theorems of the crates above speak of, and their laws.
+#![tactic(auto)]
+
+ghost use Rattle.layout_model.specs.Laws.{HasOneNodeList};
+
+/// The law that a layout has one list of nodes, whatever the technology. It does nothing.
+pub fn node_list_is_unique()
+    ensures { HasOneNodeList }
+{}
