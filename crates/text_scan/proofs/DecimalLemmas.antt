@@ -1,12 +1,12 @@
 -- The decimal text of a number, and that it is read as the number.
-use Rattle.std.proofs.Common.{◌≡◌, ◌≢◌, ℕ, zero, suc, ◌+◌, ◌-◌, ◌*◌, ◌/◌, ◌%◌, ◌^◌, ◌<◌, ◌≤◌, Bool, true, false, cond, ◌&&◌, eqb, List, [], ◌∷◌, ◌++◌, length, get_or, drop, map, ℤ, pos, negsuc, neg_ℤ, FitsSigned, w64, Result, Ok, Err, refl, sym, ap, ◌∙◌, subst, arith, inl, inr, rules, append_assoc}
+use Rattle.std.proofs.Common.{◌≡◌, ℕ, zero, suc, ◌+◌, ◌*◌, ◌/◌, ◌%◌, ◌^◌, ◌<◌, ◌≤◌, true, false, cond, List, [], ◌∷◌, ◌++◌, length, drop, map, ℤ, pos, negsuc, FitsSigned, w64, Result, Ok, refl, sym, ap, ◌∙◌, arith}
 use Rattle.std.specs.Char.{is_ascii_digit, digit_value}
 use Rattle.std.specs.Fmt.{signed_decimal, decimal as unsigned_decimal}
 use Rattle.std.specs.Int.{w128}
-use Rattle.std.specs.Int.Digits.{digits_of, AllBelowBase, number_from_digits, number_from_digits_after}
+use Rattle.std.specs.Int.Digits.{digits_of, AllBelowBase, number_from_digits_after}
 use Rattle.std.specs.Str.{all_ascii_digits}
 use Rattle.std.specs.Str.Parse.{starts_with_minus, digits_value, digits_value_after}
-use Rattle.std.proofs.lemmas.Bool.{cases_lt, cases_eq, ne_eqb, eq-eqb, and_from, and_parts}
+use Rattle.std.proofs.lemmas.Bool.{ne_eqb, and_from, and_parts}
 use Rattle.std.proofs.lemmas.Bool.Decides.{nat_tests}
 use Rattle.std.proofs.lemmas.Fmt.{decimal_by_steps_wide}
 use Rattle.std.proofs.lemmas.Int.Digits.{digits_of_step, number_digits_of, all_below_base_digits_of}
@@ -14,7 +14,7 @@ use Rattle.std.proofs.lemmas.List.{length-map, length-append}
 use lib.Signed.{mag}
 use Rattle.text_scan.specs.declared.numeral.NumFault.{NumFault}
 use Rattle.text_scan.specs.Decimal.{natural_text, decimal}
-use Rattle.text_scan.specs.Numbers.{natural_of, without_minus, with_sign, signed, integer_of, within, in_range, number_of, wide_of}
+use Rattle.text_scan.specs.Numbers.{natural_of, signed, integer_of, in_range, number_of, wide_of}
 use Rattle.text_scan.proofs.NumberLemmas.{digit_is, natural_of-digits, within_ok}
 
 abbrev glyphs : List ℕ → List ℕ

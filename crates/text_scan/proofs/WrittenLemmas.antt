@@ -1,12 +1,10 @@
 -- What is written is read again.
-use Rattle.std.proofs.Common.{◌≡◌, ℕ, suc, ◌+◌, ◌-◌, ◌<◌, ◌≤◌, Bool, true, false, not, cond, ◌&&◌, ◌||◌, eqb, List, [], ◌∷◌, ◌++◌, length, get_or, take, ℤ, pos, negsuc, refl, sym, ap, ◌∙◌, arith, inl, inr}
+use Rattle.std.proofs.Common.{◌≡◌, ℕ, suc, ◌-◌, true, false, not, cond, ◌&&◌, ◌||◌, eqb, List, [], ◌∷◌, ◌++◌, length, get_or, take, ℤ, pos, negsuc, refl, sym, ap, ◌∙◌, arith, append_assoc}
 use Rattle.std.specs.Char.{is_ascii_digit}
-use Rattle.std.specs.List.{All, AllByRecursion, list_all, join_with_byte}
+use Rattle.std.specs.List.{All, AllByRecursion, list_all}
 use Rattle.std.specs.Str.{all_ascii_digits}
-use Rattle.std.specs.Str.Lines.{strip_carriage_return}
-use Rattle.std.proofs.lemmas.Bool.{cases_eq, or_parts, and_parts, not-true, ne_eqb}
+use Rattle.std.proofs.lemmas.Bool.{or_parts, and_parts, not-true}
 use Rattle.std.proofs.lemmas.Bool.Decides.{Decides-by_and, nat_tests}
-use Rattle.std.proofs.lemmas.List.{length-append}
 use Rattle.std.proofs.lemmas.List.Elements.{All-append, All-cons}
 use Rattle.text_scan.specs.Decimal.{natural_text, decimal}
 use Rattle.text_scan.specs.Lines.{lines_of, is_line_feed}
@@ -34,6 +32,18 @@ pub lines_of-text_of : (lines : List (List ℕ)) → AllByRecursion IsLine lines
 lines_of-text_of [] all = lines_of-nil
 lines_of-text_of (line ∷ lines) all =
     lines_of-at line (text_of lines) all.0.whole ∙ (ap (λ first. first ∷ lines_of (text_of lines)) all.0.kept ∙ ap (λ rest. line ∷ rest) (lines_of-text_of lines all.1))
+
+-- the texts of some lines and of more lines, one behind the other
+pub text_of-append : (lines more : List (List ℕ)) → text_of (lines ++ more) ≡ text_of lines ++ text_of more
+text_of-append [] more = refl
+text_of-append (line ∷ lines) more =
+    ap (λ rest. line ++ 10 ∷ rest) (text_of-append lines more) ∙ sym (append_assoc line (10 ∷ text_of lines) (text_of more))
+
+-- one more word, behind a blank
+pub line_of-push : (first : List ℕ) (words : List (List ℕ)) (word : List ℕ) → line_of (first ∷ (words ++ word ∷ [])) ≡ line_of (first ∷ words) ++ 32 ∷ word
+line_of-push first [] word = refl
+line_of-push first (next ∷ words) word =
+    ap (λ rest. first ++ 32 ∷ rest) (line_of-push next words word) ∙ sym (append_assoc first (32 ∷ line_of (next ∷ words)) (32 ∷ word))
 
 -- a byte that ends no line
 abbrev IsPlain : ℕ → Type 0

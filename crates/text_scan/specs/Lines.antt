@@ -13,6 +13,7 @@ without_empty_last [] = []
 without_empty_last (part ∷ []) = if length part == 0 then [] else part ∷ []
 without_empty_last (part ∷ next ∷ parts) = part ∷ without_empty_last (next ∷ parts)
 
--- A line feed ends each line, and may be missing after the last one. One carriage return at a line's end is no part of it.
+-- A line feed ends each line, and may be missing after the last one.
+-- One carriage return at a line's end is no part of it.
 unfoldable pub lines_of : List ℕ → List (List ℕ)
 lines_of text = map strip_carriage_return (without_empty_last (slice_split is_line_feed text))

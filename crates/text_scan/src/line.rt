@@ -7,6 +7,7 @@ ghost use Rattle.text_scan.specs.Lines.{lines_of, is_line_feed};
 use std::marker::Model;
 
 /// The lines of a text that are left, the first one first: the result of [`lines`](crate::lines).
+/// A contract sees it as the list of these lines.
 #[derive(Drop)]
 pub struct Lines<'a> {
     rest: &'a [u8],
@@ -72,7 +73,7 @@ fn without_return(line: &[u8]) -> &[u8]
     }
 }
 
-/// The first line of a text, and the text that follows its line feed. `None` is for no text.
+/// The first line of a text, and what follows its line feed. `None` is for an empty text.
 pub fn split_line(text: &[u8]) -> Option<(&[u8], &[u8])>
     ensures none { IsNone result ↔ (text.now ≡ []) }
     ensures line { IfSome result

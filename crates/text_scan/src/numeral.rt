@@ -16,7 +16,8 @@ pub enum NumFault {
 }
 
 /// The number that a word writes in decimal: digits, and one `-` before them or none. There may be
-/// any number of leading zeros.
+/// any number of leading zeros. A word with a byte that is no digit is a
+/// [`Digit`](NumFault::Digit) fault, however long it is.
 pub fn number(word: &[u8]) -> Result<i64, NumFault>
     ensures { result ≡ number_of word.now }
 {

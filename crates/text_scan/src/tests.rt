@@ -152,8 +152,8 @@ fn writes_numbers(rt: HostRuntime) -> Result<(), Fail> {
         out.push(b' ')?;
         append_decimal(&mut out, value)?;
     }
-    let want: &[u8] =
-        b"n 0 7 -7 10 -100 170141183460469231731687303715884105727 -170141183460469231731687303715884105728";
+    let want: &[u8] = b"n 0 7 -7 10 -100 \
+        170141183460469231731687303715884105727 -170141183460469231731687303715884105728";
     assert_eq!(rt; out.as_slice(), want);
     Ok(())
 }

@@ -6,6 +6,7 @@ ghost use Rattle.text_scan.specs.Words.{words_of, is_blank, is_in_word, from_fir
 use std::marker::Model;
 
 /// The words of a line that are left, the first one first: the result of [`words`](crate::words).
+/// A contract sees it as the list of these words.
 #[derive(Drop)]
 pub struct Words<'a> {
     rest: &'a [u8],
@@ -84,7 +85,8 @@ fn split_at_blank(line: &[u8]) -> (&[u8], &[u8])
     }
 }
 
-/// The first word of a line, and what follows the word. `None` is for a line without a word.
+/// The first word of a line, and what follows it, from the next blank on. `None` is for a line
+/// without a word.
 pub fn split_word(line: &[u8]) -> Option<(&[u8], &[u8])>
     ensures words { MatchOption result (words_of line.now ≡ [])
         (λ split. words_of line.now ≡ split.0.now ∷ words_of split.1.now) }

@@ -1,5 +1,4 @@
-use Rattle.std.proofs.Common.{◌-◌, ◌^◌, ℕ, Bool, List, min, sym, ap, ◌∙◌}
-use Rattle.std.specs.Result.{result_map_both}
+use Rattle.std.proofs.Common.{◌^◌, ℕ, Bool, List, sym, ap, ◌∙◌}
 use Rattle.std.proofs.lemmas.Result.{err_from_is_err_and}
 use Rattle.text_scan.specs.Numbers.{natural_of, with_sign, within}
 use Rattle.text_scan.proofs.NumberLemmas.{capped, wide_of-ok, wide_of-err}
