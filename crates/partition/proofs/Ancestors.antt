@@ -1,11 +1,10 @@
 -- Parents and the leaders above them.
-use Rattle.std.proofs.Common.{◌≡◌, ◌≢◌, ℕ, zero, suc, ◌+◌, ◌<◌, ◌≤◌, min, max, cond, eqb, List, [], ◌∷◌, ◌⊎◌, inl, inr, map, length, get_or, set, refl, sym, ◌∙◌, ap, subst, arith, length-set, get_or-set_same, get_or-set_other}
+use Rattle.std.proofs.Common.{◌≡◌, ℕ, zero, suc, ◌<◌, ◌≤◌, min, max, cond, eqb, List, inl, inr, map, length, get_or, set, refl, sym, ◌∙◌, ap, subst, arith, length-set, get_or-set_same, get_or-set_other}
 use Rattle.std.proofs.lemmas.Bool.{cases_eq}
 use Rattle.std.proofs.lemmas.Bool.Decides.{nat_tests}
 use Rattle.std.proofs.lemmas.List.{length-map, get_or-map, ext_get_or}
 use Rattle.std.proofs.lemmas.List.FromFn.{length-range_with_len, get_or-range_with_len, get_or-map-range_with_len, length-map-range_with_len}
-use Rattle.std.specs.List.{range_with_len}
-use Rattle.partition.specs.Leaders.{joined_leaders}
+use Rattle.partition.specs.Leaders.{numbers_below, joined_leaders}
 use Rattle.partition.specs.Parents.{PointDown, ancestor, leaders_of}
 
 root_stays : (p : List ℕ) (steps k : ℕ) → get_or p k 0 ≡ k → ancestor p steps k ≡ k
@@ -226,14 +225,22 @@ leaders_of-link p leaders d same a b x y a_in b_in x_in y_in x_is y_is =
           ∙ (let high : x ≡ max u v = omega arith in let low : y ≡ min u v = omega arith in ap (λ z. at z y) high ∙ ap (at (max u v)) low)),
     )
 
-at_range : (n k : ℕ) → k < length (range_with_len 0 n) → get_or (range_with_len 0 n) k 0 ≡ k
-at_range n k h = get_or-range_with_len 0 n k 0 (omega (arith, length-range_with_len 0 n)) ∙ omega arith
+pub length-numbers_below : (n : ℕ) → length (numbers_below n) ≡ n
+unfolding numbers_below
+length-numbers_below n = length-range_with_len 0 n
 
-pub PointDown-range : (n : ℕ) → PointDown (range_with_len 0 n)
-PointDown-range n = λ k h. omega (arith, at_range n k h)
+pub get_or-numbers_below : (n k : ℕ) → k < n → get_or (numbers_below n) k 0 ≡ k
+unfolding numbers_below
+get_or-numbers_below n k h = get_or-range_with_len 0 n k 0 h ∙ omega arith
+
+at_itself : (n k : ℕ) → k < length (numbers_below n) → get_or (numbers_below n) k 0 ≡ k
+at_itself n k h = get_or-numbers_below n k (omega (arith, length-numbers_below n))
+
+pub PointDown-numbers_below : (n : ℕ) → PointDown (numbers_below n)
+PointDown-numbers_below n = λ k h. omega (arith, at_itself n k h)
 
 -- where each number is its own parent it leads itself
-pub leaders_of-range : (n : ℕ) → leaders_of (range_with_len 0 n) ≡ range_with_len 0 n
-leaders_of-range n =
-    leaders_from_Leads (range_with_len 0 n) (range_with_len 0 n) (PointDown-range n)
-    (record { long = refl; follows = λ k h. ap (λ z. get_or (range_with_len 0 n) z 0) (sym (at_range n k h)); roots = λ k h e. e })
+pub leaders_of-numbers_below : (n : ℕ) → leaders_of (numbers_below n) ≡ numbers_below n
+leaders_of-numbers_below n =
+    leaders_from_Leads (numbers_below n) (numbers_below n) (PointDown-numbers_below n)
+    (record { long = refl; follows = λ k h. ap (λ z. get_or (numbers_below n) z 0) (sym (at_itself n k h)); roots = λ k h e. e })

@@ -1,18 +1,16 @@
 -- Marks against chains of links: laws of `Divides`.
-use Rattle.std.proofs.Common.{◌≡◌, ℕ, zero, suc, ◌+◌, ◌<◌, ◌≤◌, min, max, cond, eqb, List, [], ◌∷◌, ◌++◌, ◌⊎◌, inl, inr, map, length, get_or, refl, sym, ◌∙◌, ap, subst, arith}
+use Rattle.std.proofs.Common.{◌≡◌, ℕ, ◌<◌, min, max, cond, eqb, List, [], ◌∷◌, ◌++◌, ◌⊎◌, inl, inr, map, length, get_or, refl, sym, ◌∙◌, ap, subst, arith}
 use Rattle.std.proofs.lemmas.Bool.{cases_eq, cases_lt}
 use Rattle.std.proofs.lemmas.Bool.Decides.{nat_tests}
 use Rattle.std.proofs.lemmas.List.{length-map, get_or-map}
-use Rattle.std.proofs.lemmas.List.FromFn.{length-range_with_len, get_or-range_with_len}
-use Rattle.std.specs.List.{range_with_len}
-use Rattle.totals.specs.Lists.{In}
 use Rattle.totals.specs.Chain.{Chain, EitherWay}
 use Rattle.totals.specs.Chain.Chain.{stay, go}
 use Rattle.totals.proofs.Members.{In-append_left, In-push, In-push_cases}
 use Rattle.totals.proofs.Chains.{Chain-append, Chain-push, Chain-same, Chain-weaker, Chain-either_through}
 use Rattle.partition.specs.Marks.{SameClasses}
 use Rattle.partition.specs.Divides.{IsJoined, Divides, IsPair}
-use Rattle.partition.specs.Leaders.{joined_leaders}
+use Rattle.partition.specs.Leaders.{numbers_below, joined_leaders}
+use Rattle.partition.proofs.Ancestors.{length-numbers_below, get_or-numbers_below}
 
 -- other links divide alike, where each of the one kind is a chain of the other
 pub Divides-links : (marks : List ℕ) (Link Other : ℕ → ℕ → Type 0) → ((a b : ℕ) → Link a b → IsJoined Other a b) → ((a b : ℕ) → Other a b → IsJoined Link a b)
@@ -37,14 +35,14 @@ no_pair a b stay = refl
 no_pair a b (go step rest) = elim step [ inl none ↦ absurd none | inr none ↦ absurd none ]
 
 -- without pairs each number is alone
-pub Divides-none : (n : ℕ) → Divides (range_with_len 0 n) (IsPair [])
+pub Divides-none : (n : ℕ) → Divides (numbers_below n) (IsPair [])
 Divides-none n = λ a b a_in b_in.
-    let a_below : a < n = omega (arith, length-range_with_len 0 n) in
-    let b_below : b < n = omega (arith, length-range_with_len 0 n) in
-    let at_a = get_or-range_with_len 0 n a 0 a_below in
-    let at_b = get_or-range_with_len 0 n b 0 b_below in (
+    let a_below : a < n = omega (arith, length-numbers_below n) in
+    let b_below : b < n = omega (arith, length-numbers_below n) in
+    let at_a = get_or-numbers_below n a a_below in
+    let at_b = get_or-numbers_below n b b_below in (
       (λ e. Chain-same (EitherWay (IsPair [])) a b (omega arith)),
-      (λ way. ap (λ k. get_or (range_with_len 0 n) k 0) (no_pair a b way)),
+      (λ way. ap (λ k. get_or (numbers_below n) k 0) (no_pair a b way)),
     )
 
 -- the greater of two marks is taken for the lesser
@@ -130,6 +128,19 @@ Divides-join marks Link d a b a_in b_in = λ i j i_in j_in.
       ]),
       (λ way. at_i ∙ walk marks Link d a b a_in b_in f (merged_marks u v) i i j i_old stay way j_old ∙ sym at_j),
     )
+
+-- one more link joined, where a caller speaks of links of its own before and after
+pub Divides-join_as : (marks : List ℕ) (Link Next : ℕ → ℕ → Type 0) → Divides marks Link → (a b : ℕ) → a < length marks → b < length marks
+    → ((x y : ℕ) → Link x y → IsJoined Next x y) → IsJoined Next a b → ((x y : ℕ) → Next x y → IsJoined (WithLink Link a b) x y)
+    → Divides (joined_leaders marks a b) Next
+Divides-join_as marks Link Next d a b a_in b_in old new back =
+    Divides-links (joined_leaders marks a b) (WithLink Link a b) Next
+    (λ x y h. elim h [
+      | inl link ↦ old x y link
+      | inr at ↦ (let P : ℕ → ℕ → Type 0 = λ u v. IsJoined Next u v in subst (λ u. P u y) (sym at.0) (subst (λ v. P a v) (sym at.1) new))
+    ])
+    back
+    (Divides-join marks Link d a b a_in b_in)
 
 pair_then_link : (pairs : List (ℕ × ℕ)) (a b x y : ℕ) → IsPair (pairs ++ (a, b) ∷ []) x y → WithLink (IsPair pairs) a b x y
 pair_then_link pairs a b x y h = elim (In-push_cases (x, y) pairs (a, b) h) [ inl old ↦ inl old | inr e ↦ inr (ap (λ p. p.0) (sym e), ap (λ p. p.1) (sym e)) ]

@@ -1,3 +1,4 @@
 pub mod Ancestors
 pub mod Numbering
 pub mod Division
+pub mod Uniqueness

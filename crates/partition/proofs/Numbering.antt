@@ -1,5 +1,5 @@
 -- The labels of classes: how many classes have a lesser leader.
-use Rattle.std.proofs.Common.{◌≡◌, ◌≢◌, ℕ, zero, suc, ◌+◌, ◌-◌, ◌<◌, ◌≤◌, ◌↔◌, cond, eqb, List, [], ◌∷◌, ◌⊎◌, inl, inr, map, length, get_or, set, All, refl, sym, ◌∙◌, ap, subst, arith, add-zero, add-one, add-suc, length-set, get_or-set_same, get_or-set_other}
+use Rattle.std.proofs.Common.{◌≡◌, ◌≢◌, ℕ, zero, suc, ◌+◌, ◌-◌, ◌<◌, ◌≤◌, cond, eqb, List, inl, inr, length, get_or, set, All, refl, sym, ◌∙◌, ap, subst, arith, add-zero, add-one, add-suc, get_or-set_same, get_or-set_other}
 use Rattle.std.proofs.lemmas.Bool.{cases_eq, cases_lt}
 use Rattle.std.proofs.lemmas.Bool.Decides.{nat_tests}
 use Rattle.std.proofs.lemmas.List.{length-map, get_or-map, ext_get_or}
@@ -8,7 +8,7 @@ use Rattle.totals.specs.Least.{IsLeast}
 use Rattle.partition.specs.Marks.{HasMark, SameClasses, IsNumbered}
 use Rattle.partition.specs.Leaders.{classes_below, labels_of}
 use Rattle.partition.specs.Parents.{PointDown, leaders_of}
-use Rattle.partition.proofs.Ancestors.{Leads, Leads-leaders_of, Leads-le, Leads-root, Leads-itself}
+use Rattle.partition.proofs.Ancestors.{Leads-leaders_of, Leads-le, Leads-root, Leads-itself}
 
 -- what a number and its leader add to the count of classes
 abbrev counted_at : ℕ → ℕ → ℕ

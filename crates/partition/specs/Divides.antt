@@ -1,5 +1,5 @@
 -- The classes that links between numbers make.
-use Rattle.std.specs.Prelude.{◌≡◌, ◌↔◌, ℕ, ◌<◌, List, length, slice_index}
+use Rattle.std.specs.Prelude.{◌≡◌, ◌↔◌, ℕ, ◌<◌, List, [], ◌∷◌, ◌++◌, length, slice_index}
 use Rattle.totals.specs.Lists.{In}
 use Rattle.totals.specs.Chain.{Chain, EitherWay}
 
@@ -15,3 +15,11 @@ Divides marks Link =
 -- the numbers are one of the pairs
 abbrev pub IsPair : List (ℕ × ℕ) → ℕ → ℕ → Type 0
 IsPair pairs a b = In {X = ℕ × ℕ} (a, b) pairs
+
+-- whatever pairs divide the old marks, those and one more divide the new
+abbrev pub AddsPair : List ℕ → List ℕ → ℕ → ℕ → Type 0
+AddsPair old new a b = (pairs : List (ℕ × ℕ)) → Divides old (IsPair pairs) → Divides new (IsPair (pairs ++ (a, b) ∷ []))
+
+-- whatever pairs divide the old marks divide the new
+abbrev pub KeepsPairs : List ℕ → List ℕ → Type 0
+KeepsPairs old new = (pairs : List (ℕ × ℕ)) → Divides old (IsPair pairs) → Divides new (IsPair pairs)

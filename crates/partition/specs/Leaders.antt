@@ -1,5 +1,10 @@
 -- Classes of the numbers below n by their leaders: each number's mark is the least member of its class.
 use Rattle.std.specs.Prelude.{ℕ, ◌+◌, ◌==◌, zero, suc, min, max, if◌then◌else◌, List, map, slice_index}
+use Rattle.std.specs.List.{range_with_len}
+
+-- the leaders while no two numbers are joined: each number leads itself alone
+unfoldable pub numbers_below : ℕ → List ℕ
+numbers_below n = range_with_len 0 n
 
 -- the leaders once the classes of a and b are one: the lesser of their two leads it
 abbrev pub joined_leaders : List ℕ → ℕ → ℕ → List ℕ

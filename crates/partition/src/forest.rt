@@ -2,18 +2,17 @@
 //!
 //! Each number has a parent, itself or a lesser number of its class. A number that is its own
 //! parent is the root of its class, and so its least member. Each walk to a root halves the way
-//! that it took, so a long chain is walked only once.
+//! that it took, so that long branches soon get short.
 
 ghost use Rattle.std.specs.Prelude.{◌≡◌, ◌<◌, length, slice_index, IfOk};
-ghost use Rattle.std.specs.List.{range_with_len};
-ghost use Rattle.partition.specs.Leaders.{joined_leaders, classes_below, labels_of};
+ghost use Rattle.partition.specs.Leaders.{numbers_below, joined_leaders, classes_below, labels_of};
 ghost use Rattle.partition.specs.Parents.{PointDown, leaders_of};
 
 use std::alloc::{AllocError, Global};
 
 /// The numbers below the count, each its own parent.
 pub fn each_alone(alloc: Global, count: usize) -> Result<Vec<usize>, AllocError>
-    ensures { IfOk result (λ parents. parents.items ≡ range_with_len 0 count) }
+    ensures { IfOk result (λ parents. parents.items ≡ numbers_below count) }
 {
     (0..count).collect(alloc)
 }

@@ -1,13 +1,15 @@
 //! Classes of pairs: which of the numbers below a count are joined by chains of pairs.
 //!
 //! `Partition` takes the pairs one at a time and stores none; `classes` takes a slice of them.
-//! Each of the two costs little more than the number of pairs: a walk to the root of a class
-//! halves the way that it took.
+//! Of n numbers each pair takes a number of steps that is at most the logarithm of n, on an
+//! average over all pairs: a walk to the root of a class halves the way that it took.
 #![tactic(auto)]
 
 mod faults;
 mod forest;
 mod stream;
+#[cfg(test)]
+mod tests;
 
 pub use faults::PartitionFault;
-pub use stream::{Labelling, Partition, classes};
+pub use stream::{Labelling, Partition, classes, labels_are_unique};

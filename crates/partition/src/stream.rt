@@ -1,10 +1,10 @@
 //! The classes of pairs that come one at a time.
 
-ghost use Rattle.std.specs.Prelude.{◌≡◌, ◌↔◌, ◌≤◌, ◌<◌, ℕ, List, [], ◌∷◌, ◌++◌, length, slice_index, vec_len, All, IfOk, IsTrue};
-ghost use Rattle.std.specs.List.{range_with_len};
+ghost use Rattle.std.specs.Prelude.{◌≡◌, ◌↔◌, ◌≤◌, ◌<◌, [], length, slice_index, vec_len, All, IfOk, IsTrue};
 ghost use Rattle.totals.specs.Least.{IsLeast};
-ghost use Rattle.partition.specs.Divides.{Divides, IsPair};
-ghost use Rattle.partition.specs.Leaders.{joined_leaders, classes_below, labels_of};
+ghost use Rattle.partition.specs.Divides.{Divides, IsPair, AddsPair, KeepsPairs};
+ghost use Rattle.partition.specs.Laws.{LabelsAreUnique};
+ghost use Rattle.partition.specs.Leaders.{numbers_below, joined_leaders, classes_below, labels_of};
 ghost use Rattle.partition.specs.Parents.{PointDown, leaders_of};
 ghost use Rattle.partition.specs.Marks.{HasMark, SameClasses, IsNumbered};
 
@@ -14,7 +14,8 @@ use std::alloc::Global;
 use std::marker::Model;
 
 /// The numbers below a count, in classes. Contracts see the list of their leaders: at each number
-/// the least member of its class.
+/// the least member of its class. Pairs that are joined one after another are not kept; that
+/// chains of them make the classes is what `divides` says.
 #[derive(Drop)]
 pub struct Partition {
     parents: Vec<usize>,
@@ -59,7 +60,7 @@ impl Partition {
     /// The numbers below the count, each in a class of its own. Want of memory alone refuses.
     pub fn new(alloc: Global, count: usize) -> Result<Partition, PartitionFault>
         ensures len { IfOk result (λ partition. length partition ≡ count) }
-        ensures leaders { IfOk result (λ partition. partition ≡ range_with_len 0 count) }
+        ensures leaders { IfOk result (λ partition. partition ≡ numbers_below count) }
         ensures divides { IfOk result (λ partition. Divides partition (IsPair [])) }
     {
         Ok(Partition {
@@ -97,7 +98,7 @@ impl Partition {
         requires b_within { b < length self.old }
         ensures len { length self.new ≡ length self.old }
         ensures leaders { self.new ≡ joined_leaders self.old a b }
-        ensures divides { (pairs : List (ℕ × ℕ)) → Divides self.old (IsPair pairs) → Divides self.new (IsPair (pairs ++ (a, b) ∷ [])) }
+        ensures divides { AddsPair self.old self.new a b }
     {
         join_roots(&mut self.parents, a, b);
     }
@@ -107,7 +108,7 @@ impl Partition {
         ensures len { vec_len result.labels ≡ length self }
         ensures same { SameClasses self result.labels.items }
         ensures numbered { IsNumbered result.labels.items result.count }
-        ensures divides { (pairs : List (ℕ × ℕ)) → Divides self (IsPair pairs) → Divides result.labels.items (IsPair pairs) }
+        ensures divides { KeepsPairs self result.labels.items }
     {
         let Partition { parents } = self;
         Labelling::of_forest(parents)
@@ -131,3 +132,8 @@ pub fn classes(
     }
     Ok(partition.into_labels())
 }
+
+/// The labels that `classes` and `into_labels` give are the only ones that their contracts allow.
+pub fn labels_are_unique()
+    ensures { LabelsAreUnique }
+{}

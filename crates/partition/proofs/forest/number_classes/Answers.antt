@@ -1,6 +1,6 @@
-use Rattle.std.proofs.Common.{◌≡◌, ◌+◌, length, sym, ◌∙◌, ap, subst, arith}
+use Rattle.std.proofs.Common.{◌≡◌, length, subst, arith}
 use Rattle.partition.specs.Parents.{leaders_of}
-use Rattle.partition.proofs.Numbering.{Numbered, numbered_none, numbered_root, numbered_child, numbered_all, classes_below-le}
+use Rattle.partition.proofs.Numbering.{Numbered, numbered_root, numbered_child, numbered_all, classes_below-le}
 use Rattle.partition.proofs.forest.number_classes.Goals as goal
 use Rattle.partition.proofs.forest.number_classes.Goals.{then-parent-number, else-parent-number}
 

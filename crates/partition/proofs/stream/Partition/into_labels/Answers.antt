@@ -1,4 +1,4 @@
-use Rattle.std.proofs.Common.{◌≡◌, ◌<◌, ℕ, List, length, vec_len, All, sym, ◌∙◌, ap, subst, arith}
+use Rattle.std.proofs.Common.{◌≡◌, ℕ, List, length, vec_len, sym, ◌∙◌, ap, subst, arith}
 use Rattle.partition.specs.Divides.{IsPair}
 use Rattle.partition.specs.Leaders.{classes_below, labels_of}
 use Rattle.partition.specs.Marks.{IsNumbered}
