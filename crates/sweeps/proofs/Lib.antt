@@ -8,3 +8,4 @@ pub mod Counting
 pub mod Leading
 pub mod Opening
 pub mod BothWays
+pub mod Rows

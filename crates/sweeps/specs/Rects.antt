@@ -20,9 +20,13 @@ pub record IsNear (area : Rect) : Type 0 where
   pub xhi : IsSmall area.xhi
   pub yhi : IsSmall area.yhi
 
--- the rectangle at a place of a list, and an empty one past its end
+-- a rectangle without a square
+abbrev pub no_rect : Rect
+no_rect = record { xlo = pos 0; ylo = pos 0; xhi = pos 0; yhi = pos 0 }
+
+-- the rectangle at a place of a list, and one without a square past its end
 abbrev pub rect_at : List Rect → ℕ → Rect
-rect_at rects place = slice_index_or rects place (record { xlo = pos 0; ylo = pos 0; xhi = pos 0; yhi = pos 0 })
+rect_at rects place = slice_index_or rects place no_rect
 
 -- the places of a list, from 0 on
 abbrev pub places_of : List Rect → List ℕ

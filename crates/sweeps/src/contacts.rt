@@ -58,3 +58,6 @@ fn abreast(alloc: Global, rects: &[Rect]) -> Result<Vec<Contact>, AllocError>
     let lefts = sorted_sides(alloc, rects, Edge::Left)?;
     meetings(alloc, rights.as_slice(), lefts.as_slice())
 }
+
+#[cfg(test)]
+mod tests;
