@@ -12,7 +12,7 @@ use Rattle.totals.proofs.Listings.{Lists-iff, Lists-image}
 use Rattle.totals.proofs.Sums.{sum_on-add, sum_on-zero, sum_on-map, sum_on-count}
 use Rattle.totals.proofs.Ranges.{extent_up, length-integer_range, Lists-rectangle}
 use Rattle.sweeps.specs.Contacts.{overlap, shared_beside, shared_upon}
-use Rattle.sweeps.specs.Squares.{squares_of, count_if, edges_between}
+use Rattle.sweeps.specs.Squares.{squares_of, one_if, edges_between}
 use Rattle.sweeps.specs.EdgeLaws.{SquaresAreCovered, AreaCountsSquares, SharedLengthCountsEdges, PerimeterLeadsOut}
 use Rattle.sweeps.proofs.Apart.{AreApart, AreApart-sym, apart_from_disjoint}
 use Rattle.sweeps.proofs.Counting.{count_moved, sum_on-pairs_of}
@@ -44,23 +44,23 @@ one_back : (x : ℤ) → x -ℤ pos 1 ≡ x +ℤ neg_ℤ (pos 1)
 one_back x = omega (arith, ints)
 
 module _ (a b : Rect) (p : IsProper a) where
-  to_right : sum_on (λ square. count_if (is_covered b (right_of square))) (squares_of a) ≡ rightward a b
+  to_right : sum_on (λ square. one_if (is_covered b (right_of square))) (squares_of a) ≡ rightward a b
   to_right =
       count_moved (λ x. x +ℤ pos 1) (λ y. y) (pos 1) (pos 0) (λ x. refl) by_itself a b p
       ∙ ap (λ (z : ℤ). overlap (a.xlo +ℤ pos 1) (a.xhi +ℤ pos 1) b.xlo b.xhi *ℤ z) (not_moved a.ylo a.yhi b.ylo b.yhi)
 
-  to_left : sum_on (λ square. count_if (is_covered b (left_of square))) (squares_of a) ≡ rightward b a
+  to_left : sum_on (λ square. one_if (is_covered b (left_of square))) (squares_of a) ≡ rightward b a
   to_left =
       let across = moved_back a.xlo a.xhi b.xlo b.xhi in
       let along = not_moved a.ylo a.yhi b.ylo b.yhi ∙ overlap-comm a.ylo a.yhi b.ylo b.yhi in
       count_moved (λ x. x -ℤ pos 1) (λ y. y) (neg_ℤ (pos 1)) (pos 0) one_back by_itself a b p ∙ (λ k. across k *ℤ along k)
 
-  to_top : sum_on (λ square. count_if (is_covered b (above square))) (squares_of a) ≡ upward a b
+  to_top : sum_on (λ square. one_if (is_covered b (above square))) (squares_of a) ≡ upward a b
   to_top =
       count_moved (λ x. x) (λ y. y +ℤ pos 1) (pos 0) (pos 1) by_itself (λ y. refl) a b p
       ∙ ap (λ (z : ℤ). z *ℤ overlap (a.ylo +ℤ pos 1) (a.yhi +ℤ pos 1) b.ylo b.yhi) (not_moved a.xlo a.xhi b.xlo b.xhi)
 
-  to_bottom : sum_on (λ square. count_if (is_covered b (below square))) (squares_of a) ≡ upward b a
+  to_bottom : sum_on (λ square. one_if (is_covered b (below square))) (squares_of a) ≡ upward b a
   to_bottom =
       let across = not_moved a.xlo a.xhi b.xlo b.xhi ∙ overlap-comm a.xlo a.xhi b.xlo b.xhi in
       let along = moved_back a.ylo a.yhi b.ylo b.yhi in
@@ -69,7 +69,7 @@ module _ (a b : Rect) (p : IsProper a) where
   -- the edges in all four directions
   edges_by_direction : edges_between a b ≡ (rightward a b +ℤ rightward b a) +ℤ (upward a b +ℤ upward b a)
   edges_by_direction =
-      let n : Square → ℤ = λ square. count_if (is_covered b square) in
+      let n : Square → ℤ = λ square. one_if (is_covered b square) in
       let all = squares_of a in
       sum_on-add (λ q. n (right_of q)) (λ q. n (left_of q) +ℤ (n (above q) +ℤ (n (below q) +ℤ pos 0))) all
       ∙ (λ k. to_right k +ℤ (sum_on-add (λ q. n (left_of q)) (λ q. n (above q) +ℤ (n (below q) +ℤ pos 0)) all

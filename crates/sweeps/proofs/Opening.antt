@@ -13,7 +13,7 @@ use Rattle.totals.proofs.Members.{In-index}
 use Rattle.totals.proofs.Sums.{sum_on-same, sum_on-sub, sum_on-swap, sum_on-scale}
 use Rattle.sweeps.specs.Rects.{AreDisjoint}
 use Rattle.sweeps.specs.Contacts.{shared_length}
-use Rattle.sweeps.specs.Squares.{squares_of, area_of, perimeter_of, count_if, edges_between, is_covered_by_any, open_edges}
+use Rattle.sweeps.specs.Squares.{squares_of, area_of, perimeter_of, one_if, edges_between, is_covered_by_any, open_edges}
 use Rattle.sweeps.specs.EdgeLaws.{PerimeterIsOpenOrShared}
 use Rattle.sweeps.proofs.Shared.{shared_length-same}
 use Rattle.sweeps.proofs.Leading.{edges_between-disjoint, edges_between-same, sum_on-squares_of}
@@ -37,46 +37,46 @@ by_test false t f = f refl
 
 -- none of the rectangles covers a square of another that is disjoint from each of them
 none_covers : (a : Rect) (rects : List Rect) (square : Square) → ((b : Rect) → In b rects → AreDisjoint a b) → is_covered a square ≡ true
-    → sum_on (λ b. count_if (is_covered b square)) rects ≡ pos 0
+    → sum_on (λ b. one_if (is_covered b square)) rects ≡ pos 0
 none_covers a [] square h c = refl
 none_covers a (b ∷ rest) square h c =
     let out : is_covered b square ≡ false = by_test (is_covered b square)
     (λ t. absurd (h b (inl refl) square (Covers-is_covered a square c) (Covers-is_covered b square t))) (λ f. f) in
-    (λ k. count_if (out k) +ℤ none_covers a rest square (λ x i. h x (inr i)) c k)
+    (λ k. one_if (out k) +ℤ none_covers a rest square (λ x i. h x (inr i)) c k)
 
 -- at most one of disjoint rectangles covers a square
 covering_count : (rects : List Rect) (square : Square) → AllDisjoint rects
-    → count_if (not (is_covered_by_any rects square)) ≡ pos 1 -ℤ sum_on (λ b. count_if (is_covered b square)) rects
+    → one_if (not (is_covered_by_any rects square)) ≡ pos 1 -ℤ sum_on (λ b. one_if (is_covered b square)) rects
 unfolding AllDisjoint
 covering_count [] square h = refl
 covering_count (a ∷ rest) square h =
     let any = is_covered_by_any rest square in
-    let n = sum_on (λ b. count_if (is_covered b square)) rest in
+    let n = sum_on (λ b. one_if (is_covered b square)) rest in
     by_test (is_covered a square)
     (λ t. let none = none_covers a rest square h.0 t in
-    (λ k. count_if (not (t k || any))) ∙ sym (λ k. pos 1 -ℤ (count_if (t k) +ℤ none k)))
+    (λ k. one_if (not (t k || any))) ∙ sym (λ k. pos 1 -ℤ (one_if (t k) +ℤ none k)))
     (λ f. let same : pos 1 -ℤ n ≡ pos 1 -ℤ (pos 0 +ℤ n) = omega (arith, ints) in
-    (λ k. count_if (not (f k || any))) ∙ covering_count rest square h.1 ∙ same ∙ sym (λ k. pos 1 -ℤ (count_if (f k) +ℤ n)))
+    (λ k. one_if (not (f k || any))) ∙ covering_count rest square h.1 ∙ same ∙ sym (λ k. pos 1 -ℤ (one_if (f k) +ℤ n)))
 
 module _ (rects : List Rect) (disjoint : AllPairs AreDisjoint rects) where
   -- the open edges of one square
-  open_of_square : (square : Square) → sum_on (λ other. count_if (not (is_covered_by_any rects other))) (edge_neighbours square)
-      ≡ pos 4 -ℤ sum_on (λ b. sum_on (λ other. count_if (is_covered b other)) (edge_neighbours square)) rects
+  open_of_square : (square : Square) → sum_on (λ other. one_if (not (is_covered_by_any rects other))) (edge_neighbours square)
+      ≡ pos 4 -ℤ sum_on (λ b. sum_on (λ other. one_if (is_covered b other)) (edge_neighbours square)) rects
   open_of_square square =
       let around = edge_neighbours square in
-      sum_on-same (λ other. count_if (not (is_covered_by_any rects other))) (λ other. pos 1 -ℤ sum_on (λ b. count_if (is_covered b other)) rects) around
+      sum_on-same (λ other. one_if (not (is_covered_by_any rects other))) (λ other. pos 1 -ℤ sum_on (λ b. one_if (is_covered b other)) rects) around
       (λ other i. covering_count rects other (all_disjoint rects disjoint))
-      ∙ sum_on-sub (λ other. pos 1) (λ other. sum_on (λ b. count_if (is_covered b other)) rects) around
-      ∙ ap (λ (z : ℤ). pos 4 -ℤ z) (sum_on-swap (λ other b. count_if (is_covered b other)) around rects)
+      ∙ sum_on-sub (λ other. pos 1) (λ other. sum_on (λ b. one_if (is_covered b other)) rects) around
+      ∙ ap (λ (z : ℤ). pos 4 -ℤ z) (sum_on-swap (λ other b. one_if (is_covered b other)) around rects)
 
   -- all edges of its squares, but for those that lead to squares of the rectangles
   open_edges_are : (a : Rect) → IsProper a → open_edges rects a ≡ (pos 4 *ℤ area_of a) -ℤ sum_on (edges_between a) rects
   open_edges_are a p =
       let all = squares_of a in
-      let led : Square → Rect → ℤ = λ square b. sum_on (λ other. count_if (is_covered b other)) (edge_neighbours square) in
+      let led : Square → Rect → ℤ = λ square b. sum_on (λ other. one_if (is_covered b other)) (edge_neighbours square) in
       let four = sum_on-scale (pos 4) (λ (square : Square). pos 1) all ∙ ap (λ (z : ℤ). pos 4 *ℤ z) (sum_on-squares_of a p) in
       let swapped = sum_on-swap led all rects in
-      sum_on-same (λ square. sum_on (λ other. count_if (not (is_covered_by_any rects other))) (edge_neighbours square)) (λ square. pos 4 -ℤ sum_on (led square) rects) all
+      sum_on-same (λ square. sum_on (λ other. one_if (not (is_covered_by_any rects other))) (edge_neighbours square)) (λ square. pos 4 -ℤ sum_on (led square) rects) all
       (λ square i. open_of_square square)
       ∙ sum_on-sub (λ square. pos 4) (λ square. sum_on (led square) rects) all
       ∙ (λ k. four k -ℤ swapped k)

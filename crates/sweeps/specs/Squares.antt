@@ -21,12 +21,12 @@ abbrev pub perimeter_of : Rect → ℤ
 perimeter_of area = pos 2 *ℤ ((area.xhi -ℤ area.xlo) +ℤ (area.yhi -ℤ area.ylo))
 
 -- 1 for what passes a test
-abbrev pub count_if : Bool → ℤ
-count_if passes = if passes then pos 1 else pos 0
+abbrev pub one_if : Bool → ℤ
+one_if passes = if passes then pos 1 else pos 0
 
 -- how many edges lead from a square of the first rectangle to a square of the second
 abbrev pub edges_between : Rect → Rect → ℤ
-edges_between a b = sum_on (λ square. sum_on (λ other. count_if (is_covered b other)) (edge_neighbours square)) (squares_of a)
+edges_between a b = sum_on (λ square. sum_on (λ other. one_if (is_covered b other)) (edge_neighbours square)) (squares_of a)
 
 -- whether one of the rectangles covers the square
 abbrev pub is_covered_by_any : List Rect → Square → Bool
@@ -34,4 +34,4 @@ is_covered_by_any rects square = list_any (λ area. is_covered area square) rect
 
 -- how many edges lead from a square of the rectangle to a square that none of the rectangles covers
 abbrev pub open_edges : List Rect → Rect → ℤ
-open_edges rects a = sum_on (λ square. sum_on (λ other. count_if (not (is_covered_by_any rects other))) (edge_neighbours square)) (squares_of a)
+open_edges rects a = sum_on (λ square. sum_on (λ other. one_if (not (is_covered_by_any rects other))) (edge_neighbours square)) (squares_of a)
