@@ -21,19 +21,19 @@ AreaCountsSquares = (a : Rect) → IsProper a → sum_on (λ square. pos 1) (squ
 abbrev pub SharedLengthCountsEdges : Type 0
 SharedLengthCountsEdges = (a b : Rect) → IsProper a → IsProper b → AreDisjoint a b → edges_between a b ≡ shared_length a b
 
--- Of the four edges of each square of a rectangle, as many as its perimeter lead out of it.
+-- Of the four edges of each square of a rectangle, all but as many as its perimeter lead to squares of the rectangle.
 abbrev pub PerimeterLeadsOut : Type 0
 PerimeterLeadsOut = (a : Rect) → IsProper a → edges_between a a ≡ (pos 4 *ℤ area_of a) -ℤ perimeter_of a
 
--- Of one of several disjoint rectangles, as many edges lead to squares of none of them as its perimeter has length
--- beside what it shares with each of them. With itself it shares nothing.
+-- From one of several disjoint rectangles as many edges lead to squares of none of them as its perimeter says,
+-- less what it shares with each of them. With itself it shares nothing.
 abbrev pub PerimeterIsOpenOrShared : Type 0
 PerimeterIsOpenOrShared =
     (rects : List Rect) (a : Rect) → All IsProper rects → AllPairs AreDisjoint rects → In a rects
     → open_edges rects a ≡ perimeter_of a -ℤ sum_on (shared_length a) rects
 
--- Each contact counts for both of its rectangles: a sum over contacts, where a rectangle at place i counts
--- what it shares with the one at place j by weight i j, is the sum over all i and j.
+-- A sum over the contacts that counts each for both of its rectangles, by a weight of their two places, is the sum over all
+-- pairs of places of what the rectangles there share, by that weight.
 abbrev pub ContactsCountBothWays : Type 0
 ContactsCountBothWays =
     (rects : List Rect) (contacts : List Contact) (weight : ℕ → ℕ → ℤ) → All IsProper rects → Lists (IsContact rects) contacts

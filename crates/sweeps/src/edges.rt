@@ -1,10 +1,10 @@
 //! What the lengths of contacts count, square by square.
 ghost use Rattle.sweeps.specs.EdgeLaws.{SquaresAreCovered, AreaCountsSquares, SharedLengthCountsEdges, PerimeterLeadsOut, PerimeterIsOpenOrShared, ContactsCountBothWays};
 
-/// Does nothing: its contract says that areas of rectangles count squares, that lengths of their edges,
-/// shared or not, count edges of squares, and what a sum over contacts counts. So the area and the
-/// perimeter of a shape made of disjoint rectangles are those of the rectangles, and of the perimeters
-/// twice the lengths that they share taken off.
+/// Does nothing: its contract says that areas of rectangles count squares, that lengths of their edges, shared
+/// or not, count edges of squares, and what a sum over contacts counts. So a shape made of disjoint rectangles
+/// has the sum of their areas as its area, and the sum of their perimeters, less twice the lengths that they
+/// share, as its perimeter.
 pub fn lengths_count_edges()
     ensures squares { SquaresAreCovered }
     ensures area { AreaCountsSquares }
