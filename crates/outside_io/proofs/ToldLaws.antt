@@ -41,8 +41,8 @@ with_back-more first told told' bytes piece done count rest so_far more =
 
 -- what a source in memory hands out, and what is left then
 pub handed_out : (bytes filled buf : List ℕ) (taken count : ℕ)
-  → filled ≡ take count (drop taken bytes) → count ≤ length (drop taken bytes)
-  → drop taken bytes ≡ take count (filled ++ drop count buf) ++ drop (taken + count) bytes
+    → filled ≡ take count (drop taken bytes) → count ≤ length (drop taken bytes)
+    → drop taken bytes ≡ take count (filled ++ drop count buf) ++ drop (taken + count) bytes
 handed_out bytes filled buf taken count filled_is within =
     let whole : take count (drop taken bytes) ++ drop count (drop taken bytes) ≡ drop taken bytes = take-append-drop count (drop taken bytes) in
     let front : take count (filled ++ drop count buf) ≡ filled = grind (arith, common_steps) in

@@ -1,4 +1,4 @@
-use Rattle.std.proofs.Common.{◌≡◌, ◌∙◌, sym, ap, List, ℕ}
+use Rattle.std.proofs.Common.{◌∙◌, sym, ap, List, ℕ}
 use Rattle.std.specs.Prelude.{Some}
 use Rattle.outside_io.proofs.FileLaws.{bytes_of-from_entries}
 use Rattle.outside_io.proofs.faultless.FaultlessShelfShelf.fetch.Goals as goal
@@ -16,4 +16,4 @@ returns-then-items-gt-LONGEST_FILE-clause-too_long_file c _ =
 pub returns-clause-found : goal.returns-clause-found
 returns-clause-found c =
     bytes_of-from_entries c.args.self.now.files.entries c.args.name.now ∙ sym c.in-Some.ensures.value
-      ∙ ap (λ (b : List ℕ). Some b) (sym (c.in_ok-from_slice.ensures.items ∙ c.items-2.ensures))
+    ∙ ap (λ (b : List ℕ). Some b) (sym (c.in_ok-from_slice.ensures.items ∙ c.items-2.ensures))
