@@ -1,14 +1,16 @@
 -- Files: what a name has after a file is put under a name.
-use Rattle.std.proofs.Common.{◌≡◌, ℕ, List, [], ◌∷◌, Bool, cond, refl, sym, ap, ◌∙◌}
+use Rattle.std.proofs.Common.{◌≡◌, ◌≢◌, ℕ, List, [], ◌∷◌, Option, Bool, true, false, cond, refl, sym, ap, ◌∙◌}
 use Rattle.std.specs.Prelude.{Some, None}
-use Rattle.std.specs.Ordering.{nat_cmp, eq_by_cmp}
+use Rattle.std.specs.Ordering.{nat_cmp, eq_by_cmp, is_eq}
+use Rattle.std.specs.declared.cmp.Ordering.{Ordering}
+use Rattle.std.specs.declared.cmp.Ordering.TheVariants.{Less, Equal, Greater}
 use Rattle.std.specs.Cmp.{eq_by_cmp_equiv}
 use Rattle.std.specs.Cmp.Lexicographic.{slice_cmp, nat_list_cmp_total}
 use Rattle.std.specs.FinMap as map
 use Rattle.std.specs.FinMap.Entries.{find}
 use Rattle.std.specs.BTreeMap.{is_at}
 use Rattle.std.specs.Map.{lookup}
-use Rattle.outside_io.specs.Files.{Files, no_files, bytes_of, with_file}
+use Rattle.outside_io.specs.Files.{Files, no_files, bytes_of, with_file, told_with_file, SameElsewhere, ToldSameElsewhere}
 
 -- names tie only where they are one
 names_apart : map.IsAntisymmetric (slice_cmp nat_cmp)
@@ -46,3 +48,28 @@ from_entries-updated old new name bytes updated = same_files _ _ (λ q.
     ∙ ap (λ (b : Bool). cond b (Some bytes) (lookup (is_at (slice_cmp nat_cmp q)) old)) ((eq_by_cmp_equiv nat_list_cmp_total).symm name q)
     ∙ ap (cond (eq_by_cmp (slice_cmp nat_cmp) q name) (Some bytes)) (sym (bytes_of-from_entries old q))
     ∙ sym (bytes_of-with_file (map.from_entries old) name bytes q))
+
+-- names that the order ties are one
+tied_names : (r : Ordering) (one other : List ℕ) → slice_cmp nat_cmp one other ≡ r → is_eq r ≡ true → one ≡ other
+tied_names Less one other e tied = cc
+tied_names Equal one other e tied = names_apart one other e
+tied_names Greater one other e tied = cc
+
+pub bytes_of-with_file_other : (files : Files) (name bytes other : List ℕ) → other ≢ name → bytes_of (with_file files name bytes) other ≡ bytes_of files other
+bytes_of-with_file_other files name bytes other apart = bytes_of-with_file files name bytes other
+    ∙ elim (eq_by_cmp (slice_cmp nat_cmp) other name) as (λ b. eq_by_cmp (slice_cmp nat_cmp) other name ≡ b → cond b (Some bytes) (bytes_of files other) ≡ bytes_of files other) [
+      | true ↦ λ tied. absurd (apart (tied_names _ other name refl tied))
+      | false ↦ λ _. refl
+    ] refl
+
+-- a store changes one name alone
+pub SameElsewhere-with_file : (files : Files) (name bytes : List ℕ) → SameElsewhere name files (with_file files name bytes)
+SameElsewhere-with_file files name bytes other apart = bytes_of-with_file_other files name bytes other apart
+
+pub ToldSameElsewhere-with_file : (told : Option Files) (name bytes : List ℕ) → ToldSameElsewhere name told (told_with_file told name bytes)
+ToldSameElsewhere-with_file None name bytes = tt
+ToldSameElsewhere-with_file (Some files) name bytes = SameElsewhere-with_file files name bytes
+
+pub ToldSameElsewhere-refl : (told : Option Files) (name : List ℕ) → ToldSameElsewhere name told told
+ToldSameElsewhere-refl None name = tt
+ToldSameElsewhere-refl (Some files) name = λ _ _. refl

@@ -146,6 +146,8 @@ fn a_shelf_keeps_files_by_name(rt: HostRuntime) -> Result<(), Fail> {
     ];
     take_steps(&rt, &mut shelf, steps.as_slice())?;
     assert_eq!(rt; shelf.calls(), 8);
+    let nor = Name::of(rt.alloc(), b"nor.mag")?;
+    assert!(rt; shelf.file(&nor) == Some(b"tech scmos"));
     Ok(())
 }
 
