@@ -6,4 +6,5 @@ pub mod TileContacts
 pub mod TileLaws
 pub mod TileLinks
 pub mod TileLists
+pub mod TileMeasures
 pub mod Walks
