@@ -13,19 +13,19 @@ use Rattle.geo_core.specs.Covering.{Covers, IsProper, is_covered}
 use Rattle.geo_core.specs.Neighbours.{edge_neighbours}
 use Rattle.geo_core.proofs.CoveringLaws.{Covers-is_covered, is_covered-Covers}
 use Rattle.totals.specs.Lists.{In, Lists}
-use Rattle.totals.specs.Total.{sum_on, Total}
+use Rattle.totals.specs.Total.{sum_on, Total, one_if}
 use Rattle.totals.proofs.Members.{In-map, In-get_or}
 use Rattle.totals.proofs.Listings.{Lists-iff, Lists-map}
 use Rattle.totals.proofs.Sums.{sum_on-map, sum_on-same}
 use Rattle.totals.proofs.Totals.{Total-at, Total-from_list}
 use Rattle.sweeps.specs.Rects.{AreDisjoint, IsNear}
 use Rattle.sweeps.specs.Contacts.{shared_length}
-use Rattle.sweeps.specs.Squares.{squares_of, area_of, perimeter_of, count_if, is_covered_by_any}
+use Rattle.sweeps.specs.Squares.{squares_of, area_of, perimeter_of, is_covered_by_any}
 use Rattle.sweeps.proofs.Leading.{Lists-squares_of, sum_on-squares_of}
 use Rattle.sweeps.proofs.Opening.{open_edges-disjoint}
 use Rattle.layout_model.specs.Places.{Place, neighbours}
 use Rattle.layout_model.specs.Layouts.{is_material, painted}
-use Rattle.layout_model.specs.Measures.{one_if, area_at, perimeter_at}
+use Rattle.layout_model.specs.Measures.{area_at, perimeter_at}
 use Rattle.layout_model.proofs.PaintLaws.{painted_over-cases}
 use Rattle.flood_nodes.specs.Tiles.{AreTiles, layout_of, LiesIn}
 use Rattle.flood_nodes.proofs.TileLaws.{tile_is_material, tile_is_proper, painted-tile}
@@ -122,11 +122,11 @@ tile_area pieces index piece tiles there =
 
 -- what a square of a piece counts for the perimeter
 open_at_square : (pieces : List Piece) (square : Square) → AreTiles pieces → is_material (painted pieces square) ≡ true
-    → perimeter_at is_material (layout_of pieces) (on_plane_0 square) ≡ sum_on (λ (other : Square). count_if (not (is_covered_by_any (areas_of pieces) other))) (edge_neighbours square)
+    → perimeter_at is_material (layout_of pieces) (on_plane_0 square) ≡ sum_on (λ (other : Square). one_if (not (is_covered_by_any (areas_of pieces) other))) (edge_neighbours square)
 open_at_square pieces square tiles material =
     ap (λ (test : Bool). cond test (sum_on (λ (neighbour : Place). one_if (not (is_material (layout_of pieces neighbour)))) (neighbours (on_plane_0 square))) (pos 0)) material
     ∙ sum_on-map on_plane_0 (λ (neighbour : Place). one_if (not (is_material (layout_of pieces neighbour)))) (edge_neighbours square)
-    ∙ sum_on-same (λ (other : Square). one_if (not (is_material (painted pieces other)))) (λ (other : Square). count_if (not (is_covered_by_any (areas_of pieces) other))) (edge_neighbours square)
+    ∙ sum_on-same (λ (other : Square). one_if (not (is_material (painted pieces other)))) (λ (other : Square). one_if (not (is_covered_by_any (areas_of pieces) other))) (edge_neighbours square)
     (λ other among. ap (λ (test : Bool). one_if (not test)) (material_is_covered pieces other tiles))
 
 -- the perimeter of a piece, where material lies on the other side of what it shares with other pieces
@@ -138,7 +138,7 @@ tile_perimeter pieces index piece tiles there =
     let places = Lists-tile pieces index piece there in
     Total-at (LiesIn pieces index) weight (sum_on weight (map on_plane_0 squares)) (perimeter_of piece.area -ℤ sum_on (shared_length piece.area) (areas_of pieces))
     (sum_on-map on_plane_0 weight squares
-    ∙ sum_on-same (λ (square : Square). weight (on_plane_0 square)) (λ (square : Square). sum_on (λ (other : Square). count_if (not (is_covered_by_any (areas_of pieces) other))) (edge_neighbours square)) squares
+    ∙ sum_on-same (λ (square : Square). weight (on_plane_0 square)) (λ (square : Square). sum_on (λ (other : Square). one_if (not (is_covered_by_any (areas_of pieces) other))) (edge_neighbours square)) squares
     (λ square among. open_at_square pieces square tiles
     (ap is_material (painted-tile pieces index piece square tiles there ((Lists-squares_of piece.area).2 square among))
     ∙ is_material-material piece.value (tile_is_material pieces index piece tiles there)))

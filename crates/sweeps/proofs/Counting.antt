@@ -7,12 +7,12 @@ use borrow.Author.Differences.{up, down}
 use Rattle.geo_core.specs.declared.squares.Square.{Square}
 use Rattle.geo_core.specs.declared.squares.Rect.{Rect}
 use Rattle.geo_core.specs.Covering.{is_covered, IsProper}
-use Rattle.totals.specs.Total.{sum_on}
+use Rattle.totals.specs.Total.{sum_on, one_if}
 use Rattle.totals.specs.Range.{extent, integers_from, integer_range, pairs_of}
 use Rattle.totals.proofs.Sums.{sum_on-append, sum_on-map, sum_on-scale, sum_on-same}
 use Rattle.totals.proofs.Ranges.{extent_up}
 use Rattle.sweeps.specs.Contacts.{overlap}
-use Rattle.sweeps.specs.Squares.{squares_of, one_if}
+use Rattle.sweeps.specs.Squares.{squares_of}
 
 passes : (lo hi z : ℤ) → lo ≤ℤ z → z <ℤ hi → (int_le lo z && int_lt z hi) ≡ true
 passes lo hi z from to = grind (arith, ints)

@@ -6,13 +6,13 @@ use Rattle.geo_core.specs.declared.squares.Square.{Square}
 use Rattle.geo_core.specs.declared.squares.Rect.{Rect}
 use Rattle.geo_core.specs.Covering.{Covers, is_covered, IsProper}
 use Rattle.geo_core.specs.Neighbours.{right_of, left_of, above, below}
-use Rattle.totals.specs.Total.{sum_on}
+use Rattle.totals.specs.Total.{sum_on, one_if}
 use Rattle.totals.specs.Range.{IsBetween, integer_range, pairs_of}
 use Rattle.totals.proofs.Listings.{Lists-iff, Lists-image}
 use Rattle.totals.proofs.Sums.{sum_on-add, sum_on-zero, sum_on-map, sum_on-count}
 use Rattle.totals.proofs.Ranges.{extent_up, length-integer_range, Lists-rectangle}
 use Rattle.sweeps.specs.Contacts.{overlap, shared_beside, shared_upon}
-use Rattle.sweeps.specs.Squares.{squares_of, one_if, edges_between}
+use Rattle.sweeps.specs.Squares.{squares_of, edges_between}
 use Rattle.sweeps.specs.EdgeLaws.{SquaresAreCovered, AreaCountsSquares, SharedLengthCountsEdges, PerimeterLeadsOut}
 use Rattle.sweeps.proofs.Apart.{AreApart, AreApart-sym, apart_from_disjoint}
 use Rattle.sweeps.proofs.Counting.{count_moved, sum_on-pairs_of}

@@ -8,12 +8,12 @@ use Rattle.geo_core.specs.Covering.{is_covered, IsProper}
 use Rattle.geo_core.specs.Neighbours.{edge_neighbours}
 use Rattle.geo_core.proofs.CoveringLaws.{Covers-is_covered}
 use Rattle.totals.specs.Lists.{In}
-use Rattle.totals.specs.Total.{sum_on}
+use Rattle.totals.specs.Total.{sum_on, one_if}
 use Rattle.totals.proofs.Members.{In-index}
 use Rattle.totals.proofs.Sums.{sum_on-same, sum_on-sub, sum_on-swap, sum_on-scale}
 use Rattle.sweeps.specs.Rects.{AreDisjoint}
 use Rattle.sweeps.specs.Contacts.{shared_length}
-use Rattle.sweeps.specs.Squares.{squares_of, area_of, perimeter_of, one_if, edges_between, is_covered_by_any, open_edges}
+use Rattle.sweeps.specs.Squares.{squares_of, area_of, perimeter_of, edges_between, is_covered_by_any, open_edges}
 use Rattle.sweeps.specs.EdgeLaws.{PerimeterIsOpenOrShared}
 use Rattle.sweeps.proofs.Shared.{shared_length-same}
 use Rattle.sweeps.proofs.Leading.{edges_between-disjoint, edges_between-same, sum_on-squares_of}

@@ -5,7 +5,7 @@ use Rattle.geo_core.specs.declared.squares.Square.{Square}
 use Rattle.geo_core.specs.declared.squares.Rect.{Rect}
 use Rattle.geo_core.specs.Covering.{is_covered}
 use Rattle.geo_core.specs.Neighbours.{edge_neighbours}
-use Rattle.totals.specs.Total.{sum_on}
+use Rattle.totals.specs.Total.{sum_on, one_if}
 use Rattle.totals.specs.Range.{integer_range, pairs_of}
 
 -- the squares that a rectangle covers, each once
@@ -19,10 +19,6 @@ area_of area = (area.xhi -ℤ area.xlo) *ℤ (area.yhi -ℤ area.ylo)
 
 abbrev pub perimeter_of : Rect → ℤ
 perimeter_of area = pos 2 *ℤ ((area.xhi -ℤ area.xlo) +ℤ (area.yhi -ℤ area.ylo))
-
--- 1 for what passes a test
-abbrev pub one_if : Bool → ℤ
-one_if passes = if passes then pos 1 else pos 0
 
 -- how many edges lead from a square of the first rectangle to a square of the second
 abbrev pub edges_between : Rect → Rect → ℤ
