@@ -12,11 +12,10 @@ use Rattle.layout_model.specs.Places.{Place}
 use Rattle.layout_model.specs.Layouts.{same_material}
 use Rattle.layout_model.specs.Links.{AreLinked, AreOneNode}
 use Rattle.flood_nodes.specs.Tiles.{AreTiles, layout_of, LiesIn}
-use Rattle.flood_nodes.specs.Alike.{TouchAlike}
 use Rattle.flood_nodes.specs.Regions.{AreRegions}
 use Rattle.flood_nodes.proofs.Numbers.{earlier_or_next}
 use Rattle.flood_nodes.proofs.TileLaws.{material_lies_in_tile, lies_in_one_tile}
-use Rattle.flood_nodes.proofs.TileLinks.{within_tile, crossing, link_touches, TouchAlike-sym}
+use Rattle.flood_nodes.proofs.TileLinks.{TouchAlike, TouchAlike-sym, within_tile, crossing, link_touches}
 
 -- Some links between pieces, numbered by their places in the list: each joins pieces of one value that touch, and each two such pieces have one.
 pub record JoinAlike (pieces : List Piece) (Link : ℕ → ℕ → Type 0) : Type 0 where
@@ -45,26 +44,17 @@ module _ (pieces : List Piece) (Link : ℕ → ℕ → Type 0) (tiles : AreTiles
       let lies = material_lies_in_tile pieces b link.there in
       Chain-append (linked_joined i lies.0 a b p lies.1 link) (joined_from_node rest lies.0 j lies.1 q)
 
-  -- pieces of a link have places of one node
-  node_from_link : (i j : ℕ) (a b : Place) → EitherWay Link i j → LiesIn pieces i a → LiesIn pieces j b → AreOneNode same_material (layout_of pieces) a b
-  node_from_link i j a b either p q =
-      let touch : TouchAlike pieces i j = elim either [ inl link ↦ join.sound i j link | inr link ↦ TouchAlike-sym pieces j i (join.sound j i link) ] in
-      let across = crossing pieces i j tiles touch in
-      Chain-append (within_tile pieces i a across.from tiles p across.in_first) (go across.link (within_tile pieces j across.to b tiles across.in_second q))
-
-  -- a place of the piece that a link leads to
-  stop_at : (i j : ℕ) → EitherWay Link i j → (b : Place) × LiesIn pieces j b
-  stop_at i j either =
-      let touch : TouchAlike pieces i j = elim either [ inl link ↦ join.sound i j link | inr link ↦ TouchAlike-sym pieces j i (join.sound j i link) ] in
-      let across = crossing pieces i j tiles touch in
-      (across.to, across.in_second)
+  -- pieces of a link touch, whichever comes first
+  either_touches : (i j : ℕ) → EitherWay Link i j → TouchAlike pieces i j
+  either_touches i j (inl link) = join.sound i j link
+  either_touches i j (inr link) = TouchAlike-sym pieces j i (join.sound j i link)
 
   -- places of pieces that are joined are of one node
   node_from_joined : {i j : ℕ} → IsJoined Link i j → (a b : Place) → LiesIn pieces i a → LiesIn pieces j b → AreOneNode same_material (layout_of pieces) a b
   node_from_joined (stay {a = i}) a b p q = within_tile pieces i a b tiles p q
   node_from_joined (go {a = i} {b = k} either rest) a b p q =
-      let stop = stop_at i k either in
-      Chain-append (node_from_link i k a stop.0 either p stop.1) (node_from_joined rest stop.0 b stop.1 q)
+      let across = crossing pieces i k tiles (either_touches i k either) in
+      Chain-append (within_tile pieces i a across.from tiles p across.in_first) (go across.link (node_from_joined rest across.to b across.in_second q))
 
   -- the numbers of the classes that the links make are right
   pub AreRegions-from_labels : (labels : List ℕ) (count : ℕ) → length labels ≡ length pieces → Divides labels Link → IsNumbered labels count → AreRegions pieces labels

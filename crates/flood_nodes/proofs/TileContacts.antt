@@ -15,7 +15,8 @@ use Rattle.sweeps.specs.Rects.{AreDisjoint, IsNear, rect_at}
 use Rattle.sweeps.specs.Contacts.{shared_length, IsContact}
 use Rattle.partition.specs.Divides.{IsPair}
 use Rattle.flood_nodes.specs.Tiles.{AreTiles}
-use Rattle.flood_nodes.specs.Alike.{areas_of, piece_at, is_alike, alike_pairs, TouchAlike}
+use Rattle.flood_nodes.specs.Alike.{areas_of, piece_at, is_alike, alike_pairs}
+use Rattle.flood_nodes.proofs.TileLinks.{TouchAlike}
 use Rattle.flood_nodes.proofs.RegionLaws.{JoinAlike}
 
 -- what `touching` asks of the areas of tiles

@@ -7,13 +7,13 @@ use Rattle.geo_core.specs.declared.squares.Square.{Square}
 use Rattle.geo_core.specs.declared.squares.Piece.{Piece}
 use Rattle.geo_core.specs.Covering.{Covers}
 use Rattle.geo_core.specs.Neighbours.{AreEdgeNeighbours}
+use Rattle.sweeps.specs.Contacts.{shared_length}
 use Rattle.sweeps.proofs.Shared.{shared_length-comm}
 use Rattle.totals.proofs.Chains.{Chain-one, Chain-append, Chain-map, Chain-same}
 use Rattle.layout_model.specs.Places.{Place}
 use Rattle.layout_model.specs.Layouts.{same_material}
 use Rattle.layout_model.specs.Links.{AreLinked, AreOneNode}
 use Rattle.flood_nodes.specs.Tiles.{AreTiles, layout_of, LiesIn}
-use Rattle.flood_nodes.specs.Alike.{TouchAlike}
 use Rattle.flood_nodes.proofs.TileLaws.{tile_is_proper, tiles_at_square, layout_of-tile, tile_has_material}
 use Rattle.flood_nodes.proofs.Abutting.{shared_abut, neighbours_share}
 use Rattle.flood_nodes.proofs.Walks.{walk}
@@ -59,6 +59,15 @@ within_tile pieces i a b tiles p q =
     (walk p.piece.area a.square b.square p.covers covers) in
     let Link = AreLinked same_material (layout_of pieces) in
     Chain-append (Chain-same Link a (place_of a.square) (sym (place_of-square a p.plane))) (Chain-append chain (Chain-same Link (place_of b.square) b (place_of-square b q.plane)))
+
+-- The pieces at the two places of the list have one value and share part of an edge.
+pub record TouchAlike (pieces : List Piece) (i j : ℕ) : Type 0 where
+  pub first : Piece
+  pub second : Piece
+  pub first_there : slice_get pieces i ≡ Some first
+  pub second_there : slice_get pieces j ≡ Some second
+  pub same_value : first.value ≡ second.value
+  pub touch : pos 0 <ℤ shared_length first.area second.area
 
 pub TouchAlike-sym : (pieces : List Piece) (i j : ℕ) → TouchAlike pieces i j → TouchAlike pieces j i
 TouchAlike-sym pieces i j touch = record {

@@ -1,9 +1,8 @@
 -- Contacts between pieces of one value.
-use Rattle.std.specs.Prelude.{◌≡◌, ◌==◌, ℕ, pos, ◌<ℤ◌, Bool, List, map, filter, slice_get, slice_index_or, Some}
+use Rattle.std.specs.Prelude.{◌==◌, ℕ, pos, Bool, List, map, filter, slice_index_or}
 use Rattle.geo_core.specs.declared.squares.Rect.{Rect}
 use Rattle.geo_core.specs.declared.squares.Piece.{Piece}
 use Rattle.sweeps.specs.declared.contacts.Contact.{Contact}
-use Rattle.sweeps.specs.Contacts.{shared_length}
 
 -- the rectangles of the pieces
 abbrev pub areas_of : List Piece → List Rect
@@ -20,12 +19,3 @@ is_alike pieces contact = (piece_at pieces contact.first).value == (piece_at pie
 -- the places in the list of the two pieces of each contact between pieces of one value
 abbrev pub alike_pairs : List Piece → List Contact → List (ℕ × ℕ)
 alike_pairs pieces contacts = map (λ contact. (contact.first, contact.second)) (filter (is_alike pieces) contacts)
-
--- The pieces at the two places of the list have one value and share part of an edge.
-pub record TouchAlike (pieces : List Piece) (i j : ℕ) : Type 0 where
-  pub first : Piece
-  pub second : Piece
-  pub first_there : slice_get pieces i ≡ Some first
-  pub second_there : slice_get pieces j ≡ Some second
-  pub same_value : first.value ≡ second.value
-  pub touch : pos 0 <ℤ shared_length first.area second.area

@@ -1,4 +1,4 @@
-//! The nodes of one plane of pieces.
+//! The nodes of one plane of pieces that lie apart: which pieces belong to one node.
 #![tactic(auto)]
 
 mod faults;

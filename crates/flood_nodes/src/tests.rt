@@ -8,75 +8,25 @@ use geo_core::{Piece, Rect};
 use std::alloc::{AllocError, Global};
 use std::test::Fail;
 
+fn piece(xlo: i64, ylo: i64, xhi: i64, yhi: i64, value: u8) -> Piece
+    ensures { result ≡ record { area = record { xlo = xlo; ylo = ylo; xhi = xhi; yhi = yhi }; value = value } }
+{
+    let area = Rect { xlo, ylo, xhi, yhi };
+    Piece { area, value }
+}
+
 #[test]
 fn two_pieces(rt: HostRuntime) -> Result<(), Fail> {
-    let abutting = [
-        Piece {
-            area: Rect {
-                xlo: 0,
-                ylo: 0,
-                xhi: 2,
-                yhi: 2,
-            },
-            value: 1,
-        },
-        Piece {
-            area: Rect {
-                xlo: 2,
-                ylo: 1,
-                xhi: 3,
-                yhi: 4,
-            },
-            value: 1,
-        },
-    ];
+    let abutting = [piece(0, 0, 2, 2, 1), piece(2, 1, 3, 4, 1)];
     assert_eq!(rt; flood(rt.alloc(), &abutting)?.as_slice(), [0, 0].as_slice());
 
-    let at_a_corner = [
-        Piece {
-            area: Rect {
-                xlo: 0,
-                ylo: 0,
-                xhi: 2,
-                yhi: 2,
-            },
-            value: 1,
-        },
-        Piece {
-            area: Rect {
-                xlo: 2,
-                ylo: 2,
-                xhi: 3,
-                yhi: 4,
-            },
-            value: 1,
-        },
-    ];
+    let at_a_corner = [piece(0, 0, 2, 2, 1), piece(2, 2, 3, 4, 1)];
     assert_eq!(rt;
         flood(rt.alloc(), &at_a_corner)?.as_slice(),
         [0, 1].as_slice()
     );
 
-    let of_two_values = [
-        Piece {
-            area: Rect {
-                xlo: 0,
-                ylo: 0,
-                xhi: 2,
-                yhi: 2,
-            },
-            value: 1,
-        },
-        Piece {
-            area: Rect {
-                xlo: 2,
-                ylo: 0,
-                xhi: 4,
-                yhi: 2,
-            },
-            value: 2,
-        },
-    ];
+    let of_two_values = [piece(0, 0, 2, 2, 1), piece(2, 0, 4, 2, 2)];
     assert_eq!(rt;
         flood(rt.alloc(), &of_two_values)?.as_slice(),
         [0, 1].as_slice()
@@ -87,51 +37,11 @@ fn two_pieces(rt: HostRuntime) -> Result<(), Fail> {
 #[test]
 fn a_ring_and_what_it_surrounds(rt: HostRuntime) -> Result<(), Fail> {
     let pieces = [
-        Piece {
-            area: Rect {
-                xlo: 0,
-                ylo: 1,
-                xhi: 1,
-                yhi: 2,
-            },
-            value: 1,
-        },
-        Piece {
-            area: Rect {
-                xlo: 1,
-                ylo: 1,
-                xhi: 2,
-                yhi: 2,
-            },
-            value: 2,
-        },
-        Piece {
-            area: Rect {
-                xlo: 2,
-                ylo: 1,
-                xhi: 3,
-                yhi: 2,
-            },
-            value: 1,
-        },
-        Piece {
-            area: Rect {
-                xlo: 0,
-                ylo: 2,
-                xhi: 3,
-                yhi: 3,
-            },
-            value: 1,
-        },
-        Piece {
-            area: Rect {
-                xlo: 0,
-                ylo: 0,
-                xhi: 3,
-                yhi: 1,
-            },
-            value: 1,
-        },
+        piece(0, 1, 1, 2, 1),
+        piece(1, 1, 2, 2, 2),
+        piece(2, 1, 3, 2, 1),
+        piece(0, 2, 3, 3, 1),
+        piece(0, 0, 3, 1, 1),
     ];
     assert_eq!(rt;
         flood(rt.alloc(), &pieces)?.as_slice(),
@@ -144,13 +54,8 @@ fn a_ring_and_what_it_surrounds(rt: HostRuntime) -> Result<(), Fail> {
 fn bar(left: u32, width: u32, row: u32) -> Piece
     ensures { result ≡ record { area = record { xlo = pos left; ylo = pos row; xhi = pos (left + width); yhi = pos (row + 1) }; value = 1 } }
 {
-    let area = Rect {
-        xlo: i64::from(left),
-        ylo: i64::from(row),
-        xhi: i64::from(left) + i64::from(width),
-        yhi: i64::from(row) + 1,
-    };
-    Piece { area, value: 1 }
+    let (xlo, ylo) = (i64::from(left), i64::from(row));
+    piece(xlo, ylo, xlo + i64::from(width), ylo + 1, 1)
 }
 
 /// So many teeth, and a back upon them.
