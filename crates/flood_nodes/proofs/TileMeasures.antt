@@ -27,12 +27,9 @@ use Rattle.layout_model.specs.Places.{Place, neighbours}
 use Rattle.layout_model.specs.Layouts.{is_material, painted}
 use Rattle.layout_model.specs.Measures.{area_at, perimeter_at}
 use Rattle.layout_model.proofs.PaintLaws.{painted_over-cases}
+use Rattle.flood_nodes.specs.Alike.{areas_of}
 use Rattle.flood_nodes.specs.Tiles.{AreTiles, layout_of, LiesIn}
 use Rattle.flood_nodes.proofs.TileLaws.{tile_is_material, tile_is_proper, painted-tile}
-
--- the areas of pieces
-abbrev pub areas_of : List Piece → List Rect
-areas_of pieces = map (λ (p : Piece). p.area) pieces
 
 pub areas_are_proper : (pieces : List Piece) → AreTiles pieces → All IsProper (areas_of pieces)
 areas_are_proper pieces tiles = All-map IsProper (λ (p : Piece). p.area) pieces tiles.proper
