@@ -15,9 +15,9 @@ sound_of net = record { switches_within = net.switches_within; one_size = net.on
 
 -- the switches are chained at each terminal
 pub chained : (net : Wiring) (terminal : Terminal) → IsChainedAt net.switches.now terminal (first_of terminal net) (next_of terminal net)
-chained net Gate = net.gates
-chained net (End Left) = net.left
-chained net (End Right) = net.right
+chained net Gate = net.chained.gates
+chained net (End Left) = net.chained.left
+chained net (End Right) = net.chained.right
 
 -- the switch at a place
 pub switch_at : (net : Wiring) (k : ℕ) (d : Switch) → k < length net.switches.now → IsSwitchOf (network_in net) (slice_index_or net.switches.now k d)

@@ -1,6 +1,7 @@
 -- The ends of switches, and the chains of the switches that end at one node.
 use Rattle.std.specs.Prelude.{◌≡◌, ℕ, ◌+◌, ◌<◌, List, slice_index, slice_index_or, length}
 use Rattle.switch_net.specs.declared.switches.Switch.{Switch}
+use Rattle.switch_net.specs.declared.arrays.Adjacency.{Adjacency}
 use Rattle.steady_state.specs.declared.ends.Side.{Side}
 use Rattle.steady_state.specs.declared.ends.Side.TheVariants.{Left, Right}
 use Rattle.steady_state.specs.declared.ends.Terminal.{Terminal}
@@ -32,3 +33,9 @@ pub record IsChained (switches : List Switch) (n : ℕ) (node : Switch → ℕ) 
 -- all switches are chained by their nodes at this terminal
 abbrev pub IsChainedAt : List Switch → Terminal → List ℕ → List ℕ → Type 0
 IsChainedAt switches terminal first next = IsChained switches (length switches) (node_at terminal) first next
+
+-- all switches are chained by their nodes at each terminal
+pub record AreChained (switches : List Switch) (adjacency : Adjacency) : Type 0 where
+  pub gates : IsChainedAt switches Gate adjacency.first_gate adjacency.next_gate
+  pub left : IsChainedAt switches (End Left) adjacency.first_left adjacency.next_left
+  pub right : IsChainedAt switches (End Right) adjacency.first_right adjacency.next_right

@@ -5,4 +5,5 @@ pub mod Kinds
 pub mod Marked
 pub mod Parts
 pub mod Spreading
+pub mod Passing
 pub mod Levels

@@ -4,7 +4,7 @@ ghost use Rattle.std.specs.Prelude.{◌≡◌, ◌≤◌, ◌<◌, ◌^◌, ℕ,
 ghost use Rattle.switch_net.specs.Network.{IsWithin};
 ghost use Rattle.switch_net.specs.Arrays.{IsAdjacencyFor};
 ghost use Rattle.switch_net.specs.Path.{root_strength};
-ghost use Rattle.steady_state.specs.Ends.{IsChainedAt};
+ghost use Rattle.steady_state.specs.Ends.{AreChained, IsChainedAt};
 ghost use Rattle.steady_state.specs.Wired.{network_in, first_of, next_of};
 
 use crate::ends::{Side, Terminal, node_of};
@@ -69,11 +69,11 @@ fn clear(entries: &mut [u32])
 pub(crate) fn chain_all(switches: &[Switch], adjacency: &mut Adjacency)
     requires within { All (IsWithin (length adjacency.old.first_gate)) switches.now }
     requires few { length switches.now ≤ 2 ^ 20 }
-    requires fits { IsAdjacencyFor (length adjacency.old.first_gate) (length switches.now) adjacency.old }
-    ensures fits { IsAdjacencyFor (length adjacency.old.first_gate) (length switches.now) adjacency.new }
-    ensures gates { IsChainedAt switches.now Terminal.Gate adjacency.new.first_gate adjacency.new.next_gate }
-    ensures left { IsChainedAt switches.now (Terminal.End Side.Left) adjacency.new.first_left adjacency.new.next_left }
-    ensures right { IsChainedAt switches.now (Terminal.End Side.Right) adjacency.new.first_right adjacency.new.next_right }
+    requires fits { let nodes = length adjacency.old.first_gate in
+        IsAdjacencyFor nodes (length switches.now) adjacency.old }
+    ensures fits { let nodes = length adjacency.old.first_gate in
+        IsAdjacencyFor nodes (length switches.now) adjacency.new }
+    ensures chained { AreChained switches.now adjacency.new }
 {
     chain(
         switches,

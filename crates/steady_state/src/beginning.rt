@@ -3,12 +3,13 @@
 ghost use Rattle.std.specs.Prelude.{◌≡◌, ◌<◌, ◌≤◌, ◌+◌, ◌*◌, ◌⊎◌, ℕ, length, slice_index, true};
 ghost use Rattle.switch_net.specs.Path.{is_input, switch_strength, root_strength};
 ghost use Rattle.steady_state.specs.Ends.{near_end, far_end};
-ghost use Rattle.steady_state.specs.Kinds.{goes_through, BeginsAt, HasPath, IsStrongestOfKind};
 ghost use Rattle.steady_state.specs.Levels.{AreLow};
 ghost use Rattle.steady_state.specs.Wired.{network_in, IsSwitchOf};
-ghost use Rattle.steady_state.specs.Marked.{IsInside, IsAmong};
+ghost use Rattle.steady_state.specs.Marked.{IsAmong};
 ghost use Rattle.steady_state.specs.Parts.{IsPassOver};
-ghost use Rattle.steady_state.specs.Spreading.{IsPulled, IsBegun, IsFilled};
+ghost use Rattle.steady_state.specs.Passing.{IsOver, Finds, FindsAtMost, GoesThrough};
+ghost use Rattle.steady_state.specs.Passing.{MayBeginAt, BeginsWith};
+ghost use Rattle.steady_state.specs.Passing.{HasBegun, InputsBringAtMost, floor_at};
 
 use crate::adjacent::{first, next, strength_at};
 use crate::ends::{Side, Terminal, far, near};
@@ -21,11 +22,11 @@ use switch_net::Switch;
 /// What a node of the part has by itself.
 fn alone(net: &Wiring<'_>, pass: &Pass<'_>, node: usize) -> u8
     requires pass { IsPassOver (network_in net.now) pass.now }
-    requires node { IsInside pass.now.part.inside.now node }
-    ensures attained { 0 < result → HasPath (network_in net.now) pass.now.part.state.now pass.now.kind node result }
+    requires node { IsOver pass.now node }
+    ensures attained { 0 < result → Finds (network_in net.now) pass.now node result }
     ensures low { result ≤ 6 }
-    ensures own { BeginsAt pass.now.part.state.now pass.now.kind node
-        → slice_index pass.now.floor.now node ≤ root_strength (network_in net.now) node
+    ensures own { MayBeginAt pass.now node
+        → floor_at pass.now node ≤ root_strength (network_in net.now) node
         → root_strength (network_in net.now) node ≤ result }
 {
     let own = strength_at(net, node);
@@ -40,16 +41,16 @@ fn alone(net: &Wiring<'_>, pass: &Pass<'_>, node: usize) -> u8
 fn pull_one(net: &Wiring<'_>, pass: &Pass<'_>, side: Side, switch: &Switch, so_far: u8) -> u8
     requires pass { IsPassOver (network_in net.now) pass.now }
     requires switch { IsSwitchOf (network_in net.now) switch.now }
-    requires near { IsInside pass.now.part.inside.now (near_end side switch.now) }
+    requires near { IsOver pass.now (near_end side switch.now) }
     requires low { so_far ≤ 6 }
     ensures attained { so_far < result
-        → HasPath (network_in net.now) pass.now.part.state.now pass.now.kind (near_end side switch.now) result }
+        → Finds (network_in net.now) pass.now (near_end side switch.now) result }
     ensures more { so_far ≤ result }
     ensures low { result ≤ 6 }
-    ensures pulled { goes_through pass.now.part.state.now pass.now.kind switch.now ≡ true
+    ensures pulled { GoesThrough pass.now switch.now
         → is_input (network_in net.now) (far_end side switch.now) ≡ true
-        → BeginsAt pass.now.part.state.now pass.now.kind (far_end side switch.now)
-        → slice_index pass.now.floor.now (near_end side switch.now) ≤ switch_strength switch.now.kind
+        → MayBeginAt pass.now (far_end side switch.now)
+        → floor_at pass.now (near_end side switch.now) ≤ switch_strength switch.now.kind
         → switch_strength switch.now.kind ≤ result }
 {
     let from = far(side, switch) as usize;
@@ -67,17 +68,17 @@ fn pull_one(net: &Wiring<'_>, pass: &Pass<'_>, side: Side, switch: &Switch, so_f
     }
 }
 
-/// The most that inputs bring to a node of the part through switches on this side, or what it has so far.
+/// The most that inputs bring to a node of the part through switches on this side, or what it has
+/// so far.
 fn pull(net: &Wiring<'_>, pass: &Pass<'_>, side: Side, node: usize, before: u8) -> u8
     requires pass { IsPassOver (network_in net.now) pass.now }
-    requires node { IsInside pass.now.part.inside.now node }
+    requires node { IsOver pass.now node }
     requires low { before ≤ 6 }
     ensures attained { before < result
-        → HasPath (network_in net.now) pass.now.part.state.now pass.now.kind node result }
+        → Finds (network_in net.now) pass.now node result }
     ensures more { before ≤ result }
     ensures low { result ≤ 6 }
-    ensures pulled { IsPulled (network_in net.now) pass.now.part.state.now pass.now.kind
-        pass.now.floor.now side node 0 result }
+    ensures pulled { InputsBringAtMost (network_in net.now) pass.now side node result }
 {
     let mut best = before;
     let mut cursor = first(net, Terminal::End(side), node);
@@ -93,8 +94,8 @@ fn pull(net: &Wiring<'_>, pass: &Pass<'_>, side: Side, node: usize, before: u8) 
 /// What a node of the part has by itself and from inputs.
 fn first_strength(net: &Wiring<'_>, pass: &Pass<'_>, node: usize) -> u8
     requires pass { IsPassOver (network_in net.now) pass.now }
-    requires node { IsInside pass.now.part.inside.now node }
-    ensures { IsBegun (network_in net.now) pass.now.part.state.now pass.now.kind pass.now.floor.now node result }
+    requires node { IsOver pass.now node }
+    ensures { BeginsWith (network_in net.now) pass.now node result }
 {
     let own = alone(net, pass, node);
     let left = pull(net, pass, Side::Left, node, own);
@@ -105,7 +106,8 @@ fn first_strength(net: &Wiring<'_>, pass: &Pass<'_>, node: usize) -> u8
 fn enqueue(stack: &mut [u32], waiting: usize, node: u32, strength: u8) -> usize
     requires { waiting < length stack.old }
     ensures stacked { (i : ℕ) → i < result
-        → ((i < waiting) × (slice_index stack.new i ≡ slice_index stack.old i)) ⊎ (slice_index stack.new i ≡ node) }
+        → ((i < waiting) × (slice_index stack.new i ≡ slice_index stack.old i))
+        ⊎ (slice_index stack.new i ≡ node) }
     ensures kept { (v : ℕ) → IsAmong stack.old waiting v → IsAmong stack.new result v }
     ensures waits { 0 < strength → IsAmong stack.new result node }
     ensures few { result ≤ waiting + 1 }
@@ -124,8 +126,7 @@ fn fill(net: &Wiring<'_>, pass: &Pass<'_>, best: &mut [u8], stack: &mut [u32]) -
     requires best { length best.old ≡ net.now.nodes }
     requires low { AreLow best.old }
     requires room { net.now.nodes ≤ length stack.old }
-    ensures filled { IsFilled (network_in net.now) pass.now.part.state.now pass.now.kind pass.now.part.inside.now
-        pass.now.floor.now pass.now.part.order.now (length pass.now.part.order.now) best.new stack.new result }
+    ensures filled { HasBegun (network_in net.now) pass.now best.new stack.new result }
     ensures few { result ≤ net.now.nodes }
 {
     let mut waiting = 0;
@@ -144,8 +145,8 @@ pub(crate) fn find_strongest(net: &Wiring<'_>, pass: &Pass<'_>, best: &mut [u8],
     requires best { length best.old ≡ net.now.nodes }
     requires low { AreLow best.old }
     requires room { net.now.nodes * 7 < length stack.old }
-    ensures strongest { (v : ℕ) → IsInside pass.now.part.inside.now v
-        → IsStrongestOfKind (network_in net.now) pass.now.part.state.now pass.now.kind v (slice_index best.new v) }
+    ensures strongest { (v : ℕ) → IsOver pass.now v
+        → FindsAtMost (network_in net.now) pass.now v (slice_index best.new v) }
     ensures low { AreLow best.new }
 {
     let waiting = fill(net, pass, best, stack);

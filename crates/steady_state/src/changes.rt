@@ -23,7 +23,8 @@ pub(crate) fn changes(order: &[u32], state: &[Level], next: &[Level], changed: &
         → IsAmong changed.new result (slice_index order.now i) }
     ensures below { (i : ℕ) → i < result → slice_index changed.new i < length state.now }
     ensures differ { (i : ℕ) → i < result
-        → state_of state.now (slice_index changed.new i) ≢ state_of next.now (slice_index changed.new i) }
+        → state_of state.now (slice_index changed.new i)
+        ≢ state_of next.now (slice_index changed.new i) }
 {
     let mut count = 0;
     for node in order {
@@ -39,7 +40,8 @@ pub(crate) fn changes(order: &[u32], state: &[Level], next: &[Level], changed: &
 pub(crate) fn commit(changed: &[u32], next: &[Level], state: &mut [Level])
     requires changed { All (λ v. v < length state.old) changed.now }
     requires next { length next.now ≡ length state.old }
-    requires found { (v : ℕ) → state_of state.old v ≢ state_of next.now v → IsAmong changed.now (length changed.now) v }
+    requires found { (v : ℕ) → state_of state.old v ≢ state_of next.now v
+        → IsAmong changed.now (length changed.now) v }
     ensures { state.new ≡ next.now }
 {
     for node in changed {
@@ -53,8 +55,10 @@ fn mark_ends(net: &Wiring<'_>, switch: &Switch, marks: &mut Marks, before: usize
     requires marks { AreMarked (network_in net.now) marks.old before }
     ensures marks { AreMarked (network_in net.now) marks.new result }
     ensures grown { (v : ℕ) → IsInside marks.old.inside v → IsInside marks.new.inside v }
-    ensures left { IsStorage (network_in net.now) switch.now.left → IsInside marks.new.inside switch.now.left }
-    ensures right { IsStorage (network_in net.now) switch.now.right → IsInside marks.new.inside switch.now.right }
+    ensures left { IsStorage (network_in net.now) switch.now.left
+        → IsInside marks.new.inside switch.now.left }
+    ensures right { IsStorage (network_in net.now) switch.now.right
+        → IsInside marks.new.inside switch.now.right }
 {
     let count = mark(net, switch.left, marks, before);
     mark(net, switch.right, marks, count)
@@ -79,14 +83,15 @@ fn mark_gated(net: &Wiring<'_>, node: usize, marks: &mut Marks, before: usize) -
     count
 }
 
-/// Marks the nodes that changed and the ends of the switches that they gate, where no node is marked yet, and says how many
-/// nodes are marked then.
+/// Marks the nodes that changed and the ends of the switches that they gate, where no node is
+/// marked yet, and says how many nodes are marked then.
 pub(crate) fn mark_changed(net: &Wiring<'_>, changed: &[u32], marks: &mut Marks) -> usize
     requires changed { All (λ v. v < net.now.nodes) changed.now }
     requires marks { AreMarked (network_in net.now) marks.old 0 }
     ensures marks { AreMarked (network_in net.now) marks.new result }
     ensures changed { (i : ℕ) → i < length changed.now
-        → IsStorage (network_in net.now) (slice_index changed.now i) → IsInside marks.new.inside (slice_index changed.now i) }
+        → IsStorage (network_in net.now) (slice_index changed.now i)
+        → IsInside marks.new.inside (slice_index changed.now i) }
     ensures gated { (i : ℕ) → i < length changed.now
         → IsGated (network_in net.now) marks.new.inside (slice_index changed.now i) 0 }
 {

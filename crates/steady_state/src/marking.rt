@@ -1,12 +1,14 @@
 //! The vicinities of nodes, marked and listed.
 
-ghost use Rattle.std.specs.Prelude.{◌≡◌, ◌<◌, ◌≤◌, ℕ, List, All, Contains, length, slice_index, slice_index_or, true, false};
+ghost use Rattle.std.specs.Prelude.{◌≡◌, ◌<◌, ◌≤◌, ℕ, List, All, Contains, true, false};
+ghost use Rattle.std.specs.Prelude.{length, slice_index, slice_index_or};
 ghost use Rattle.switch_net.specs.declared.switches.Level.{Level as IsLevel};
 ghost use Rattle.switch_net.specs.Path.{is_closed_or_unknown};
 ghost use Rattle.switch_net.specs.Vicinity.{IsStorage, IsReached};
 ghost use Rattle.steady_state.specs.Ends.{near_end, far_end};
 ghost use Rattle.steady_state.specs.Wired.{network_in, IsSwitchOf};
-ghost use Rattle.steady_state.specs.Marked.{IsInside, IsAmong, AreMarked, AddsMarks, AreReached, IsCovered};
+ghost use Rattle.steady_state.specs.Marked.{IsInside, IsAmong, IsCovered};
+ghost use Rattle.steady_state.specs.Marked.{AreMarked, AddsMarks, AreReached};
 
 use crate::adjacent::{first, next};
 use crate::ends::{Side, Terminal, far};
@@ -95,7 +97,8 @@ fn walk(
     count
 }
 
-/// Marks what closed or unknown switches join to the marked nodes, and says how many nodes are marked then.
+/// Marks what closed or unknown switches join to the marked nodes, and says how many nodes are
+/// marked then.
 pub(crate) fn close(net: &Wiring<'_>, state: &[Level], marks: &mut Marks, before: usize) -> usize
     requires state { length state.now ≡ net.now.nodes }
     requires marks { AreMarked (network_in net.now) marks.old before }
@@ -120,14 +123,16 @@ pub(crate) fn close(net: &Wiring<'_>, state: &[Level], marks: &mut Marks, before
     count
 }
 
-/// Marks the vicinities of the seeds, where no node is marked yet, and says how many nodes that are.
+/// Marks the vicinities of the seeds, where no node is marked yet, and says how many nodes that
+/// are.
 pub(crate) fn collect(net: &Wiring<'_>, state: &[Level], seeds: &[u32], marks: &mut Marks) -> usize
     requires state { length state.now ≡ net.now.nodes }
     requires seeds { All (λ v. v < net.now.nodes) seeds.now }
     requires marks { AreMarked (network_in net.now) marks.old 0 }
     ensures marks { AreMarked (network_in net.now) marks.new result }
     ensures reached { AreReached (network_in net.now) state.now seeds.now marks.new.inside }
-    ensures seeds { (v : ℕ) → Contains seeds.now v → IsStorage (network_in net.now) v → IsInside marks.new.inside v }
+    ensures seeds { (v : ℕ) → Contains seeds.now v
+        → IsStorage (network_in net.now) v → IsInside marks.new.inside v }
     ensures left { (v : ℕ) → IsInside marks.new.inside v
         → IsCovered (network_in net.now) state.now Side.Left marks.new.inside v 0 }
     ensures right { (v : ℕ) → IsInside marks.new.inside v
@@ -140,7 +145,8 @@ pub(crate) fn collect(net: &Wiring<'_>, state: &[Level], seeds: &[u32], marks: &
     close(net, state, marks, count)
 }
 
-/// Marks every node that stores charge, where no node is marked yet, and says how many nodes that are.
+/// Marks every node that stores charge, where no node is marked yet, and says how many nodes that
+/// are.
 pub(crate) fn mark_all(net: &Wiring<'_>, marks: &mut Marks) -> usize
     requires { AreMarked (network_in net.now) marks.old 0 }
     ensures marks { AreMarked (network_in net.now) marks.new result }
@@ -165,7 +171,8 @@ pub(crate) fn unmark_all(marks: &mut Marks)
 /// Takes the marks off the nodes that are listed, which are all that are marked.
 pub(crate) fn unmark(marks: &mut Marks, count: usize)
     requires few { count ≤ length marks.old.order }
-    requires listed { (i : ℕ) → i < count → IsInside marks.old.inside (slice_index marks.old.order i) }
+    requires listed { (i : ℕ) → i < count
+        → IsInside marks.old.inside (slice_index marks.old.order i) }
     requires known { (v : ℕ) → IsInside marks.old.inside v → IsAmong marks.old.order count v }
     ensures order { marks.new.order ≡ marks.old.order }
     ensures inside { length marks.new.inside ≡ length marks.old.inside }

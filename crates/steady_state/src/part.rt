@@ -3,7 +3,8 @@
 use crate::kinds::PathKind;
 use switch_net::Level;
 
-/// A part of a network: the states before the step, whether each node is of the part, and the list of those that are.
+/// A part of a network: the states before the step, whether each node is of the part, and the list
+/// of those that are.
 #[derive(Clone, Copy)]
 pub(crate) struct Part<'a> {
     pub state: &'a [Level],
@@ -11,8 +12,8 @@ pub(crate) struct Part<'a> {
     pub order: &'a [u32],
 }
 
-/// A search for the strongest paths of a kind to the nodes of a part. Paths that are weaker at a node than its floor do not
-/// count.
+/// A search for the strongest paths of a kind to the nodes of a part. Paths that are weaker at a
+/// node than its floor do not count.
 #[derive(Clone, Copy)]
 pub(crate) struct Pass<'a> {
     pub kind: PathKind,

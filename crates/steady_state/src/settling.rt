@@ -24,8 +24,8 @@ pub struct Settled {
     pub done: bool,
 }
 
-/// The states after one step: each node that stores charge has its steady value, and the inputs are as they were. It takes
-/// one state for each node.
+/// The states after one step: each node that stores charge has its steady value, and the inputs are
+/// as they were. It takes one state for each node.
 pub fn step(alloc: Global, net: &Net, state: &[Level]) -> Result<Vec<Level>, NetFault>
     requires { length state.now ≡ net.now.nodes }
     ensures { IfOk result (λ next. IsStep (network_of net.now) state.now next.items) }
@@ -50,11 +50,13 @@ pub fn step(alloc: Global, net: &Net, state: &[Level]) -> Result<Vec<Level>, Net
     Ok(next)
 }
 
-/// Takes steps until a step changes nothing, at most as many as the budget. The states are then those that it settled in, or
-/// those after as many steps as the budget. It takes one state for each node, and no memory.
+/// Takes steps until a step changes nothing, at most as many as the budget. The states are then
+/// those that it settled in, or those after as many steps as the budget. It takes one state for
+/// each node, and no memory.
 pub fn settle(net: &mut Net, state: &mut [Level], budget: u32) -> Settled
     requires { length state.old ≡ net.old.nodes }
-    ensures phase { IsPhase (network_of net.old) budget state.old result.done result.steps state.new }
+    ensures phase { IsPhase (network_of net.old) budget state.old
+        result.done result.steps state.new }
     ensures net { network_of net.new ≡ network_of net.old }
 {
     chain_all(net.switches.items(), &mut net.work.adjacency);
@@ -76,8 +78,9 @@ pub fn settle(net: &mut Net, state: &mut [Level], budget: u32) -> Settled
     )
 }
 
-/// Gives each node in the vicinity of a seed, by the old states, its steady value for these in the new states, and leaves
-/// every other new state. It takes one state for each node in both, and no memory.
+/// Gives each node in the vicinity of a seed, by the old states, its steady value for these in the
+/// new states, and leaves every other new state. It takes one state for each node in both, and no
+/// memory.
 pub fn step_within(net: &mut Net, old: &[Level], new: &mut [Level], seeds: &[u32])
     requires old { length old.now ≡ net.old.nodes }
     requires new { length new.old ≡ net.old.nodes }
@@ -106,8 +109,8 @@ pub fn step_within(net: &mut Net, old: &[Level], new: &mut [Level], seeds: &[u32
     );
 }
 
-/// Takes steps until a step changes nothing, at most as many as the budget, whatever the arrays hold. A step after the first
-/// works on the vicinities alone in which something may change.
+/// Takes steps until a step changes nothing, at most as many as the budget, whatever the arrays
+/// hold. A step after the first works on the vicinities alone in which something may change.
 fn take_steps(
     net: &Wiring<'_>,
     state: &mut [Level],
@@ -124,7 +127,8 @@ fn take_steps(
     requires changed { length changed.old ≡ net.now.nodes }
     ensures marks { AreMarksFor net.now.nodes marks.new }
     ensures strengths { AreStrengthsFor net.now.nodes strengths.new }
-    ensures phase { IsPhase (network_in net.now) budget state.old result.done result.steps state.new }
+    ensures phase { IsPhase (network_in net.now) budget state.old
+        result.done result.steps state.new }
 {
     clear_strengths(strengths);
     next.copy_from_slice(state);

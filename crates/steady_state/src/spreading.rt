@@ -3,9 +3,9 @@
 ghost use Rattle.std.specs.Prelude.{◌≡◌, ◌<◌, ◌≤◌, ◌+◌, ◌*◌, ℕ, length, slice_index};
 ghost use Rattle.steady_state.specs.Ends.{near_end};
 ghost use Rattle.steady_state.specs.Wired.{network_in, IsSwitchOf};
-ghost use Rattle.steady_state.specs.Marked.{IsInside};
 ghost use Rattle.steady_state.specs.Parts.{IsPassOver};
-ghost use Rattle.steady_state.specs.Spreading.{IsLift, IsRelaxed, IsWorking, IsRaised, of_side, total};
+ghost use Rattle.steady_state.specs.Passing.{IsOver, IsSpreading, BringsNoMore};
+ghost use Rattle.steady_state.specs.Spreading.{IsLift, IsRaised, of_side, total};
 
 use crate::adjacent::{first, next};
 use crate::ends::{Side, Terminal, far, near};
@@ -14,8 +14,8 @@ use crate::part::Pass;
 use crate::wiring::Wiring;
 use switch_net::Switch;
 
-/// Raises the entry of `to` to what a switch of this strength brings from `from`, where that is more and no less than the
-/// floor. Says whether it rose.
+/// Raises the entry of `to` to what a switch of this strength brings from `from`, where that is
+/// more and no less than the floor. Says whether it rose.
 fn lift(from: u32, to: u32, strength: u8, floor: &[u8], best: &mut [u8]) -> bool
     requires from { from < length best.old }
     requires to { to < length best.old }
@@ -44,15 +44,14 @@ fn relax(
     requires pass { IsPassOver (network_in net.now) pass.now }
     requires switch { IsSwitchOf (network_in net.now) switch.now }
     requires best { length best.old ≡ net.now.nodes }
-    requires near { IsInside pass.now.part.inside.now (near_end side switch.now) }
+    requires near { IsOver pass.now (near_end side switch.now) }
     requires room { waiting < length stack.old }
     ensures working { (l r : ℕ)
-        → IsWorking (network_in net.now) pass.now.part.state.now pass.now.kind pass.now.part.inside.now
-        pass.now.floor.now best.old stack.old waiting (near_end side switch.now) l r
-        → IsWorking (network_in net.now) pass.now.part.state.now pass.now.kind pass.now.part.inside.now
-        pass.now.floor.now best.new stack.new result (near_end side switch.now) l r }
-    ensures relaxed { IsRelaxed pass.now.part.state.now pass.now.kind pass.now.part.inside.now
-        pass.now.floor.now best.new side switch.now }
+        → IsSpreading (network_in net.now) pass.now best.old stack.old waiting
+        (near_end side switch.now) l r
+        → IsSpreading (network_in net.now) pass.now best.new stack.new result
+        (near_end side switch.now) l r }
+    ensures relaxed { BringsNoMore pass.now best.new side switch.now }
     ensures raised { IsRaised best.old best.new waiting result }
 {
     let to = far(side, switch);
@@ -73,7 +72,8 @@ fn relax(
     }
 }
 
-/// Lifts the nodes at the far ends of the switches that a node has on this side. Those that rose wait then.
+/// Lifts the nodes at the far ends of the switches that a node has on this side. Those that rose
+/// wait then.
 fn visit(
     net: &Wiring<'_>,
     pass: &Pass<'_>,
@@ -85,14 +85,14 @@ fn visit(
 ) -> usize
     requires pass { IsPassOver (network_in net.now) pass.now }
     requires best { length best.old ≡ net.now.nodes }
-    requires node { IsInside pass.now.part.inside.now node }
-    requires working { let m = length net.now.switches.now in
-        IsWorking (network_in net.now) pass.now.part.state.now pass.now.kind pass.now.part.inside.now
-        pass.now.floor.now best.old stack.old before node (of_side side m 0) m }
+    requires node { IsOver pass.now node }
+    requires working { let count = length net.now.switches.now in
+        IsSpreading (network_in net.now) pass.now best.old stack.old before node
+        (of_side side count 0) count }
     requires room { before + net.now.nodes * 6 < length stack.old + total best.old }
-    ensures working { let m = length net.now.switches.now in
-        IsWorking (network_in net.now) pass.now.part.state.now pass.now.kind pass.now.part.inside.now
-        pass.now.floor.now best.new stack.new result node (of_side side 0 0) (of_side side m 0) }
+    ensures working { let count = length net.now.switches.now in
+        IsSpreading (network_in net.now) pass.now best.new stack.new result node
+        (of_side side 0 0) (of_side side count 0) }
     ensures raised { IsRaised best.old best.new before result }
 {
     let mut waiting = before;
@@ -116,11 +116,9 @@ pub(crate) fn drain(
 )
     requires pass { IsPassOver (network_in net.now) pass.now }
     requires best { length best.old ≡ net.now.nodes }
-    requires working { IsWorking (network_in net.now) pass.now.part.state.now pass.now.kind pass.now.part.inside.now
-        pass.now.floor.now best.old stack.old before 0 0 0 }
+    requires working { IsSpreading (network_in net.now) pass.now best.old stack.old before 0 0 0 }
     requires room { before + net.now.nodes * 6 < length stack.old + total best.old }
-    ensures working { IsWorking (network_in net.now) pass.now.part.state.now pass.now.kind pass.now.part.inside.now
-        pass.now.floor.now best.new stack.new 0 0 0 0 }
+    ensures working { IsSpreading (network_in net.now) pass.now best.new stack.new 0 0 0 0 }
     ensures above { (v : ℕ) → slice_index best.old v ≤ slice_index best.new v }
 {
     let mut waiting = before;

@@ -1,12 +1,13 @@
 //! One step of a part of a network.
 
-ghost use Rattle.std.specs.Prelude.{◌≡◌, ◌<◌, ◌≤◌, ◌*◌, ℕ, List, All, length, slice_index, slice_index_or, false};
+ghost use Rattle.std.specs.Prelude.{◌≡◌, ◌<◌, ◌*◌, ℕ, List, All, length, slice_index};
 ghost use Rattle.switch_net.specs.declared.switches.Level.{Level as IsLevel};
 ghost use Rattle.switch_net.specs.Arrays.{AreMarksFor, AreStrengthsFor};
 ghost use Rattle.switch_net.specs.Path.{state_of};
 ghost use Rattle.switch_net.specs.Steady.{IsStep, IsSteadyValue};
 ghost use Rattle.switch_net.specs.Vicinity.{IsReached};
-ghost use Rattle.steady_state.specs.Levels.{AreLow, AreLowStrengths, IsLevelOf, IsWritten};
+ghost use Rattle.steady_state.specs.Levels.{AreLow, AreLowStrengths, AreSteady, KeepsOthers};
+ghost use Rattle.steady_state.specs.Levels.{IsLevelOf, IsWritten};
 ghost use Rattle.steady_state.specs.Marked.{AreMarked, IsInside, IsQuiet};
 ghost use Rattle.steady_state.specs.Parts.{IsPartOf};
 ghost use Rattle.steady_state.specs.Wired.{network_in};
@@ -18,7 +19,8 @@ use crate::part::{Part, Pass};
 use crate::wiring::Wiring;
 use switch_net::{Level, Marks, Strengths};
 
-/// The level of a node, by the strengths of the strongest unblocked paths from roots other than one and other than zero.
+/// The level of a node, by the strengths of the strongest unblocked paths from roots other than one
+/// and other than zero.
 fn level_of(other_than_one: u8, other_than_zero: u8) -> Level
     ensures { IsLevelOf other_than_one other_than_zero result }
 {
@@ -34,7 +36,8 @@ fn level_of(other_than_one: u8, other_than_zero: u8) -> Level
 /// Writes 0 at the nodes that are listed.
 fn clear_at(order: &[u32], entries: &mut [u8])
     requires { All (λ v. v < length entries.old) order.now }
-    ensures zero { (i : ℕ) → i < length order.now → slice_index entries.new (slice_index order.now i) ≡ 0 }
+    ensures zero { (i : ℕ) → i < length order.now
+        → slice_index entries.new (slice_index order.now i) ≡ 0 }
     ensures low { AreLow entries.old → AreLow entries.new }
 {
     for node in order {
@@ -47,8 +50,10 @@ fn write_levels(part: &Part<'_>, one: &[u8], zero: &[u8], next: &mut [Level])
     requires order { All (λ v. v < length next.old) part.now.order.now }
     requires one { length one.now ≡ length next.old }
     requires zero { length zero.now ≡ length next.old }
-    requires listed { (i : ℕ) → i < length part.now.order.now → IsInside part.now.inside.now (slice_index part.now.order.now i) }
-    ensures { IsWritten part.now.inside.now one.now zero.now part.now.order.now (length part.now.order.now) next.old next.new }
+    requires listed { (i : ℕ) → i < length part.now.order.now
+        → IsInside part.now.inside.now (slice_index part.now.order.now i) }
+    ensures { let order = part.now.order.now in
+        IsWritten part.now.inside.now one.now zero.now order (length order) next.old next.new }
 {
     for node in part.order {
         let at = *node as usize;
@@ -75,9 +80,8 @@ fn step_over(
     requires low_definite { AreLow definite.old }
     requires low_one { AreLow one.old }
     requires low_zero { AreLow zero.old }
-    ensures steady { (v : ℕ) → IsInside part.now.inside.now v
-        → IsSteadyValue (network_in net.now) part.now.state.now v (state_of next.new v) }
-    ensures kept { (v : ℕ) → slice_index_or part.now.inside.now v false ≡ false → state_of next.new v ≡ state_of next.old v }
+    ensures steady { AreSteady (network_in net.now) part.now.state.now part.now.inside.now next.new }
+    ensures kept { KeepsOthers part.now.inside.now next.old next.new }
     ensures low_definite { AreLow definite.new }
     ensures low_one { AreLow one.new }
     ensures low_zero { AreLow zero.new }
@@ -110,9 +114,8 @@ fn step_part(net: &Wiring<'_>, part: &Part<'_>, strengths: &mut Strengths, next:
     requires strengths { AreLowStrengths net.now.nodes strengths.old }
     requires next { length next.old ≡ net.now.nodes }
     ensures strengths { AreLowStrengths net.now.nodes strengths.new }
-    ensures steady { (v : ℕ) → IsInside part.now.inside.now v
-        → IsSteadyValue (network_in net.now) part.now.state.now v (state_of next.new v) }
-    ensures kept { (v : ℕ) → slice_index_or part.now.inside.now v false ≡ false → state_of next.new v ≡ state_of next.old v }
+    ensures steady { AreSteady (network_in net.now) part.now.state.now part.now.inside.now next.new }
+    ensures kept { KeepsOthers part.now.inside.now next.old next.new }
 {
     step_over(
         net,
@@ -127,7 +130,8 @@ fn step_part(net: &Wiring<'_>, part: &Part<'_>, strengths: &mut Strengths, next:
 
 /// Makes the strengths such that a step may begin, whatever they are.
 pub(crate) fn clear_strengths(strengths: &mut Strengths)
-    ensures fits { (nodes : ℕ) → AreStrengthsFor nodes strengths.old → AreLowStrengths nodes strengths.new }
+    ensures { (nodes : ℕ) → AreStrengthsFor nodes strengths.old
+        → AreLowStrengths nodes strengths.new }
 {
     clear(strengths.definite.items_mut());
     clear(strengths.other_than_one.items_mut());
@@ -140,8 +144,8 @@ fn clear(entries: &mut [u8])
     entries.fill(0);
 }
 
-/// A step of the vicinities of the marked nodes, where all other nodes keep their states. Says how many nodes are marked
-/// then.
+/// A step of the vicinities of the marked nodes, where all other nodes keep their states. Says how
+/// many nodes are marked then.
 pub(crate) fn step_marked(
     net: &Wiring<'_>,
     state: &[Level],
@@ -157,7 +161,7 @@ pub(crate) fn step_marked(
     requires strengths { AreLowStrengths net.now.nodes strengths.old }
     ensures step { IsStep (network_in net.now) state.now next.new }
     ensures marks { AreMarked (network_in net.now) marks.new result }
-    ensures kept { (v : ℕ) → slice_index_or marks.new.inside v false ≡ false → state_of next.new v ≡ state_of state.now v }
+    ensures kept { KeepsOthers marks.new.inside state.now next.new }
     ensures strengths { AreLowStrengths net.now.nodes strengths.new }
 {
     let count = close(net, state, marks, before);

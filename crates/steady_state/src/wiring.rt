@@ -1,13 +1,11 @@
-//! A network as the functions of a step see it: without the arrays that they change, and with its switches chained by their
-//! nodes.
+//! A network as the functions of a step see it: without the arrays that they change, and with its
+//! switches chained by their nodes.
 
 ghost use Rattle.std.specs.Prelude.{◌≡◌, ◌≤◌, ◌<◌, ◌^◌, All, length, slice_index};
 ghost use Rattle.std.proofs.Props.{props};
 ghost use Rattle.switch_net.specs.Network.{IsWithin, IsSize};
 ghost use Rattle.switch_net.specs.Arrays.{IsAdjacencyFor};
-ghost use Rattle.steady_state.specs.declared.ends.Side.TheVariants.{Left, Right};
-ghost use Rattle.steady_state.specs.declared.ends.Terminal.TheVariants.{Gate, End};
-ghost use Rattle.steady_state.specs.Ends.{IsChainedAt};
+ghost use Rattle.steady_state.specs.Ends.{AreChained};
 
 use switch_net::{Adjacency, Switch};
 
@@ -25,7 +23,5 @@ pub(crate) struct Wiring<'a> {
     pub ghost one_input: { length inputs.now ≡ nodes },
     pub ghost sizes_in_range: { All IsSize sizes.now } by { Prim.hlevel props },
     pub ghost adjacency_fits: { IsAdjacencyFor nodes (length switches.now) adjacency.now } by { Prim.hlevel props },
-    pub ghost gates: { IsChainedAt switches.now Gate adjacency.now.first_gate adjacency.now.next_gate } by { Prim.hlevel props },
-    pub ghost left: { IsChainedAt switches.now (End Left) adjacency.now.first_left adjacency.now.next_left } by { Prim.hlevel props },
-    pub ghost right: { IsChainedAt switches.now (End Right) adjacency.now.first_right adjacency.now.next_right } by { Prim.hlevel props },
+    pub ghost chained: { AreChained switches.now adjacency.now } by { Prim.hlevel props },
 }
