@@ -1,6 +1,6 @@
 //! The vicinities of nodes, marked and listed.
 
-ghost use Rattle.std.specs.Prelude.{◌≡◌, ◌<◌, ◌≤◌, ℕ, List, All, Contains, true, false};
+ghost use Rattle.std.specs.Prelude.{◌≡◌, ◌<◌, ◌≤◌, ◌↔◌, ℕ, List, All, Contains, IsTrue, true, false};
 ghost use Rattle.std.specs.Prelude.{length, slice_index, slice_index_or};
 ghost use Rattle.switch_net.specs.declared.switches.Level.{Level as IsLevel};
 ghost use Rattle.switch_net.specs.Path.{is_closed_or_unknown};
@@ -16,6 +16,14 @@ use crate::kinds::may_conduct;
 use crate::wiring::Wiring;
 use switch_net::{Level, Marks, Switch};
 
+/// Whether a node stores charge.
+fn stores_charge(net: &Wiring<'_>, node: u32) -> bool
+    requires { node < net.now.nodes }
+    ensures { IsTrue result ↔ IsStorage (network_in net.now) node }
+{
+    !net.inputs[node as usize]
+}
+
 /// Marks a node that stores charge and is not marked yet, and says how many are marked then.
 pub(crate) fn mark(net: &Wiring<'_>, node: u32, marks: &mut Marks, count: usize) -> usize
     requires node { node < net.now.nodes }
@@ -28,7 +36,7 @@ pub(crate) fn mark(net: &Wiring<'_>, node: u32, marks: &mut Marks, count: usize)
         → AreReached (network_in net.now) s seeds marks.new.inside }
     ensures marked { IsStorage (network_in net.now) node → IsInside marks.new.inside node }
 {
-    if !net.inputs[node as usize] && !marks.inside.items()[node as usize] {
+    if stores_charge(net, node) && !marks.inside.items()[node as usize] {
         marks.inside.items_mut()[node as usize] = true;
         marks.order.items_mut()[count] = node;
         count + 1

@@ -89,3 +89,24 @@ impl Net {
         self.sizes.items_mut()[node as usize] = size;
     }
 }
+
+#[cfg(test)]
+mod tests {
+    use super::*;
+    use crate::switches::SwitchKind;
+    use std::test::Fail;
+
+    #[test]
+    fn builds(rt: HostRuntime) -> Result<(), Fail> {
+        let switch = Switch {
+            kind: SwitchKind::N,
+            gate: 0,
+            left: 1,
+            right: 2,
+        };
+        let net = Net::build(rt.alloc(), 3, &[switch])?;
+        assert!(rt; net.nodes == 3 && net.switches.items().len() == 1);
+        assert!(rt; net.sizes.items()[2] == 1 && !net.inputs.items()[2]);
+        Ok(())
+    }
+}
