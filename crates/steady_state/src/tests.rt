@@ -48,92 +48,96 @@ fn inverter(input: u32, output: u32) -> [Switch; 2] {
     ]
 }
 
-/// The levels that a text spells.
-fn levels(alloc: Global, text: &str) -> Result<Vec<Level>, AllocError> {
-    let mut levels = Vec::new(alloc);
-    for byte in text.bytes() {
-        levels.push(match byte {
-            b'0' => Zero,
-            b'1' => One,
-            _ => X,
-        })?;
-    }
-    Ok(levels)
+/// Checks that a phase takes these states to those, within five steps.
+fn check_phase(rt: &impl Abort, net: &mut Net, state: &mut [Level], want: &[Level]) {
+    assert!(rt; state.len() == net.nodes as usize);
+    let settled = settle(net, state, 5);
+    assert!(rt; settled.done);
+    assert!(rt; *state == *want);
 }
 
-/// Checks that a phase of a network of these switches goes in one step from these states to those,
-/// where these nodes besides the rails are inputs and these have other sizes than 1.
-fn check_phase(
-    rt: &impl Abort,
-    alloc: Global,
-    switches: &[Switch],
-    inputs: &[u32],
-    sizes: &[(u32, u8)],
-    before: &str,
-    after: &str,
-) -> Result<(), NetFault> {
-    let mut state = levels(alloc, before)?;
-    let want = levels(alloc, after)?;
-    assert!(rt; state.len() >= 2 && state.len() < 100);
-    let mut net = network(rt, alloc, state.len() as u32, switches)?;
-    for input in inputs {
-        assert!(rt; *input < net.nodes);
-        net.set_input(*input);
-    }
-    for (node, size) in sizes {
-        assert!(rt; *node < net.nodes && *size >= 1 && *size <= 3);
-        net.set_size(*node, *size);
-    }
-    assert!(rt; state.len() == net.nodes as usize);
-    let changes = state.as_slice() != want.as_slice();
-    let next = step(alloc, &net, &state)?;
-    let settled = settle(&mut net, &mut state, 1);
-    assert!(rt; settled.done && settled.steps == u32::from(changes));
-    assert!(rt; next.as_slice() == want.as_slice(), "a step from {before}");
-    assert!(rt;
-        state.as_slice() == want.as_slice(),
-        "a phase from {before}"
-    );
+// Two nodes that are joined share their charge: the larger wins, and equal ones that disagree are
+// X.
+#[test]
+fn shares_charge(rt: HostRuntime) -> Result<(), Fail> {
+    let mut net = network(&rt, rt.alloc(), 5, &[switch(SwitchKind::N, 2, 3, 4)])?;
+    net.set_input(2);
+    let joined = [Zero, One, One, One, Zero];
+    let mut equal = joined;
+    check_phase(&rt, &mut net, &mut equal, &[Zero, One, One, X, X]);
+    assert!(rt; net.nodes == 5);
+    net.set_size(3, 2);
+    let mut larger = joined;
+    check_phase(&rt, &mut net, &mut larger, &[Zero, One, One, One, One]);
+    assert!(rt; net.nodes == 5);
+    let next = step(rt.alloc(), &net, &joined)?;
+    let want = [Zero, One, One, One, One];
+    assert!(rt; next.as_slice() == want.as_slice());
     Ok(())
 }
 
-// Nodes that are joined share their charge: the largest wins, over all others together.
+// Nodes of sizes 1, 2 and 3 in a row: the largest wins over both others together.
 #[test]
-fn shares_charge(rt: HostRuntime) -> Result<(), Fail> {
-    let pair = [switch(SwitchKind::N, 2, 3, 4)];
-    check_phase(&rt, rt.alloc(), &pair, &[2], &[], "01110", "011XX")?;
-    check_phase(&rt, rt.alloc(), &pair, &[2], &[(3, 2)], "01110", "01111")?;
-    check_phase(&rt, rt.alloc(), &pair, &[2, 3, 4], &[], "01010", "01010")?;
+fn largest_wins(rt: HostRuntime) -> Result<(), Fail> {
     let row = [
         switch(SwitchKind::D, 0, 2, 3),
         switch(SwitchKind::D, 0, 3, 4),
     ];
-    let sizes = [(3, 2), (4, 3)];
-    check_phase(&rt, rt.alloc(), &row, &[], &sizes, "01110", "01000")?;
-    check_phase(&rt, rt.alloc(), &row, &[], &sizes, "0111X", "01XXX")?;
+    let mut net = network(&rt, rt.alloc(), 5, &row)?;
+    net.set_size(3, 2);
+    net.set_size(4, 3);
+    let mut low = [Zero, One, One, One, Zero];
+    check_phase(&rt, &mut net, &mut low, &[Zero, One, Zero, Zero, Zero]);
+    let mut unknown = [Zero, One, One, One, X];
+    check_phase(&rt, &mut net, &mut unknown, &[Zero, One, X, X, X]);
     Ok(())
 }
 
-// The pull-down of an inverter is stronger than its load, and blocks it only where it is closed. A
-// p device conducts while its gate is low. Behind an unknown pass transistor a node is X, but where
-// it was at the level that is passed.
+// The pull-down of an inverter is stronger than its load, and blocks it only where it is closed.
 #[test]
-fn drives_nodes(rt: HostRuntime) -> Result<(), Fail> {
-    let inverter = inverter(2, 3);
-    check_phase(&rt, rt.alloc(), &inverter, &[2], &[], "010X", "0101")?;
-    check_phase(&rt, rt.alloc(), &inverter, &[2], &[], "011X", "0110")?;
-    check_phase(&rt, rt.alloc(), &inverter, &[2], &[], "01X0", "01XX")?;
-    let pulls_up = [switch(SwitchKind::P, 2, 1, 3)];
-    check_phase(&rt, rt.alloc(), &pulls_up, &[2], &[], "0100", "0101")?;
-    check_phase(&rt, rt.alloc(), &pulls_up, &[2], &[], "0110", "0110")?;
-    check_phase(&rt, rt.alloc(), &pulls_up, &[2], &[], "01X0", "01XX")?;
-    let passes = [
+fn inverts(rt: HostRuntime) -> Result<(), Fail> {
+    let mut net = network(&rt, rt.alloc(), 4, &inverter(2, 3))?;
+    net.set_input(2);
+    for (input, output) in [(Zero, One), (One, Zero), (X, X)] {
+        let mut state = [Zero, One, input, X];
+        check_phase(&rt, &mut net, &mut state, &[Zero, One, input, output]);
+    }
+    Ok(())
+}
+
+// A p device conducts while its gate is low. Where it may conduct, a node that it would change is
+// X.
+#[test]
+fn conducts_while_low(rt: HostRuntime) -> Result<(), Fail> {
+    let mut net = network(&rt, rt.alloc(), 4, &[switch(SwitchKind::P, 2, 1, 3)])?;
+    net.set_input(2);
+    for (gate, before, after) in [(Zero, Zero, One), (One, Zero, Zero), (X, Zero, X)] {
+        let mut state = [Zero, One, gate, before];
+        check_phase(&rt, &mut net, &mut state, &[Zero, One, gate, after]);
+    }
+    Ok(())
+}
+
+// A chain of pass transistors from power, whose second gate is X: behind it nodes are X, but where
+// they were at one.
+#[test]
+fn passes_unknown(rt: HostRuntime) -> Result<(), Fail> {
+    let chain = [
         switch(SwitchKind::N, 1, 1, 3),
         switch(SwitchKind::N, 2, 3, 4),
         switch(SwitchKind::N, 1, 4, 5),
     ];
-    check_phase(&rt, rt.alloc(), &passes, &[2], &[], "01X000", "01X1XX")?;
-    check_phase(&rt, rt.alloc(), &passes, &[2], &[], "01X011", "01X111")?;
+    let mut net = network(&rt, rt.alloc(), 6, &chain)?;
+    net.set_input(2);
+    for (before, after) in [(Zero, X), (One, One)] {
+        let mut state = [Zero, One, X, Zero, before, before];
+        check_phase(
+            &rt,
+            &mut net,
+            &mut state,
+            &[Zero, One, X, One, after, after],
+        );
+    }
     Ok(())
 }
 
@@ -176,26 +180,34 @@ fn oscillates(rt: HostRuntime) -> Result<(), Fail> {
 // The same ring beside a million nodes without a switch: a step costs what the ring costs.
 #[test]
 fn oscillates_beside_idle_nodes(rt: HostRuntime) -> Result<(), Fail> {
-    let mut net = network(&rt, rt.alloc(), 1_000_005, &ring())?;
     let mut state = vec![in rt.alloc(); X; 1_000_005]?;
     state[..5].copy_from_slice(&[Zero, One, Zero, Zero, Zero]);
+    let mut net = network(&rt, rt.alloc(), 1_000_005, &ring())?;
     let settled = settle(&mut net, &mut state, 200_000);
     assert!(rt; !settled.done && settled.steps == 200_000);
     assert!(rt; state[5..].iter().all(|level| *level == X));
     Ok(())
 }
 
+/// A chain of so many inverters, the first at node 2.
+fn inverters(alloc: Global, count: u32) -> Result<Vec<Switch>, AllocError>
+    requires { count < 1000000 }
+{
+    let mut switches = Vec::new(alloc);
+    for input in 2..count + 2 {
+        switches.extend_from_slice(&inverter(input, input + 1))?;
+    }
+    Ok(switches)
+}
+
 // A chain of 200,000 inverters from all X: each step settles one output more.
 #[test]
 fn settles_a_long_chain(rt: HostRuntime) -> Result<(), Fail> {
-    let mut switches = Vec::new(rt.alloc());
-    for input in 2..200_002 {
-        switches.extend_from_slice(&inverter(input, input + 1))?;
-    }
-    let mut net = network(&rt, rt.alloc(), 200_003, &switches)?;
-    net.set_input(2);
+    let switches = inverters(rt.alloc(), 200_000)?;
     let mut state = vec![in rt.alloc(); X; 200_003]?;
     state[..3].copy_from_slice(&[Zero, One, Zero]);
+    let mut net = network(&rt, rt.alloc(), 200_003, &switches)?;
+    net.set_input(2);
     let settled = settle(&mut net, &mut state, 200_000);
     assert!(rt; settled.done && settled.steps == 200_000);
     assert!(rt; state[200_002] == Zero);
