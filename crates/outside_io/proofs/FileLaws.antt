@@ -1,15 +1,16 @@
 -- Files: what a name has after a file is put under a name.
-use Rattle.std.proofs.Common.{◌≡◌, ◌≢◌, ℕ, List, [], ◌∷◌, Bool, true, false, cond, refl, sym, ap, subst, ◌∙◌}
-use Rattle.std.specs.Prelude.{Option, Some, None}
-use Rattle.std.specs.Ordering.{nat_cmp, eq_by_cmp}
+use Rattle.std.proofs.Common.{◌≡◌, ◌≢◌, ℕ, List, [], ◌∷◌, Option, Bool, true, false, cond, refl, sym, ap, ◌∙◌}
+use Rattle.std.specs.Prelude.{Some, None}
+use Rattle.std.specs.Ordering.{nat_cmp, eq_by_cmp, is_eq}
 use Rattle.std.specs.declared.cmp.Ordering.{Ordering}
-use Rattle.std.specs.Cmp.{IsTotalOrder, eq_by_cmp_equiv}
+use Rattle.std.specs.declared.cmp.Ordering.TheVariants.{Less, Equal, Greater}
+use Rattle.std.specs.Cmp.{eq_by_cmp_equiv}
 use Rattle.std.specs.Cmp.Lexicographic.{slice_cmp, nat_list_cmp_total}
 use Rattle.std.specs.FinMap as map
 use Rattle.std.specs.FinMap.Entries.{find}
 use Rattle.std.specs.BTreeMap.{is_at}
 use Rattle.std.specs.Map.{lookup}
-use Rattle.outside_io.specs.Files.{Files, no_files, bytes_of, with_file}
+use Rattle.outside_io.specs.Files.{Files, no_files, bytes_of, with_file, told_with_file, SameElsewhere, ToldSameElsewhere}
 
 -- names tie only where they are one
 names_apart : map.IsAntisymmetric (slice_cmp nat_cmp)
@@ -23,7 +24,7 @@ pub same_files : (old new : Files) → ((name : List ℕ) → bytes_of old name 
 same_files = map.same_map nat_list_cmp_total names_apart
 
 pub bytes_of-with_file : (files : Files) (name bytes other : List ℕ)
-  → bytes_of (with_file files name bytes) other ≡ cond (eq_by_cmp (slice_cmp nat_cmp) other name) (Some bytes) (bytes_of files other)
+    → bytes_of (with_file files name bytes) other ≡ cond (eq_by_cmp (slice_cmp nat_cmp) other name) (Some bytes) (bytes_of files other)
 bytes_of-with_file files name bytes other = map.get-insert nat_list_cmp_total files name bytes other
 
 pub bytes_of-with_file_same : (files : Files) (name bytes : List ℕ) → bytes_of (with_file files name bytes) name ≡ Some bytes
@@ -35,15 +36,40 @@ find-lookup name (entry ∷ entries) = ap (cond (eq_by_cmp (slice_cmp nat_cmp) n
 
 -- the bytes of a name are those of its entry
 pub bytes_of-from_entries : (entries : List (List ℕ × List ℕ)) (name : List ℕ)
-  → bytes_of (map.from_entries entries) name ≡ lookup (is_at (slice_cmp nat_cmp name)) entries
+    → bytes_of (map.from_entries entries) name ≡ lookup (is_at (slice_cmp nat_cmp name)) entries
 bytes_of-from_entries entries name = map.get-from_entries nat_list_cmp_total entries name ∙ find-lookup name entries
 
 -- entries that are updated at a name make the files with a file put under it
 pub from_entries-updated : (old new : List (List ℕ × List ℕ)) (name bytes : List ℕ)
-  → ((q : List ℕ) → lookup (is_at (slice_cmp nat_cmp q)) new ≡ cond (is_at (slice_cmp nat_cmp name) q) (Some bytes) (lookup (is_at (slice_cmp nat_cmp q)) old))
-  → ◌≡◌ {A = Files} (map.from_entries new) (with_file (map.from_entries old) name bytes)
+    → ((q : List ℕ) → lookup (is_at (slice_cmp nat_cmp q)) new ≡ cond (is_at (slice_cmp nat_cmp name) q) (Some bytes) (lookup (is_at (slice_cmp nat_cmp q)) old))
+    → ◌≡◌ {A = Files} (map.from_entries new) (with_file (map.from_entries old) name bytes)
 from_entries-updated old new name bytes updated = same_files _ _ (λ q.
     bytes_of-from_entries new q ∙ updated q
-      ∙ ap (λ (b : Bool). cond b (Some bytes) (lookup (is_at (slice_cmp nat_cmp q)) old)) ((eq_by_cmp_equiv nat_list_cmp_total).symm name q)
-      ∙ ap (cond (eq_by_cmp (slice_cmp nat_cmp) q name) (Some bytes)) (sym (bytes_of-from_entries old q))
-      ∙ sym (bytes_of-with_file (map.from_entries old) name bytes q))
+    ∙ ap (λ (b : Bool). cond b (Some bytes) (lookup (is_at (slice_cmp nat_cmp q)) old)) ((eq_by_cmp_equiv nat_list_cmp_total).symm name q)
+    ∙ ap (cond (eq_by_cmp (slice_cmp nat_cmp) q name) (Some bytes)) (sym (bytes_of-from_entries old q))
+    ∙ sym (bytes_of-with_file (map.from_entries old) name bytes q))
+
+-- names that the order ties are one
+tied_names : (r : Ordering) (one other : List ℕ) → slice_cmp nat_cmp one other ≡ r → is_eq r ≡ true → one ≡ other
+tied_names Less one other e tied = cc
+tied_names Equal one other e tied = names_apart one other e
+tied_names Greater one other e tied = cc
+
+pub bytes_of-with_file_other : (files : Files) (name bytes other : List ℕ) → other ≢ name → bytes_of (with_file files name bytes) other ≡ bytes_of files other
+bytes_of-with_file_other files name bytes other apart = bytes_of-with_file files name bytes other
+    ∙ elim (eq_by_cmp (slice_cmp nat_cmp) other name) as (λ b. eq_by_cmp (slice_cmp nat_cmp) other name ≡ b → cond b (Some bytes) (bytes_of files other) ≡ bytes_of files other) [
+      | true ↦ λ tied. absurd (apart (tied_names _ other name refl tied))
+      | false ↦ λ _. refl
+    ] refl
+
+-- a store changes one name alone
+pub SameElsewhere-with_file : (files : Files) (name bytes : List ℕ) → SameElsewhere name files (with_file files name bytes)
+SameElsewhere-with_file files name bytes other apart = bytes_of-with_file_other files name bytes other apart
+
+pub ToldSameElsewhere-with_file : (told : Option Files) (name bytes : List ℕ) → ToldSameElsewhere name told (told_with_file told name bytes)
+ToldSameElsewhere-with_file None name bytes = tt
+ToldSameElsewhere-with_file (Some files) name bytes = SameElsewhere-with_file files name bytes
+
+pub ToldSameElsewhere-refl : (told : Option Files) (name : List ℕ) → ToldSameElsewhere name told told
+ToldSameElsewhere-refl None name = tt
+ToldSameElsewhere-refl (Some files) name = λ _ _. refl

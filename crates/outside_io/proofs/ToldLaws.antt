@@ -3,7 +3,7 @@ use Rattle.std.proofs.Common.{◌≡◌, ℕ, ◌+◌, ◌≤◌, List, [], ◌+
 use Rattle.std.proofs.lemmas.List.{take-append-drop, take-take, drop-take}
 use Rattle.std.proofs.lemmas.Grind.{common_steps}
 use Rattle.std.specs.Prelude.{Some, None}
-use Rattle.outside_io.specs.Told.{Told, with_front, with_back}
+use Rattle.outside_io.specs.Told.{AppendsPrefix, Told, with_front, with_back}
 
 pub with_front-nil : (told : Told) → with_front [] told ≡ told
 with_front-nil None = refl
@@ -41,10 +41,14 @@ with_back-more first told told' bytes piece done count rest so_far more =
 
 -- what a source in memory hands out, and what is left then
 pub handed_out : (bytes filled buf : List ℕ) (taken count : ℕ)
-  → filled ≡ take count (drop taken bytes) → count ≤ length (drop taken bytes)
-  → drop taken bytes ≡ take count (filled ++ drop count buf) ++ drop (taken + count) bytes
+    → filled ≡ take count (drop taken bytes) → count ≤ length (drop taken bytes)
+    → drop taken bytes ≡ take count (filled ++ drop count buf) ++ drop (taken + count) bytes
 handed_out bytes filled buf taken count filled_is within =
     let whole : take count (drop taken bytes) ++ drop count (drop taken bytes) ≡ drop taken bytes = take-append-drop count (drop taken bytes) in
     let front : take count (filled ++ drop count buf) ≡ filled = grind (arith, common_steps) in
     let back : drop count (drop taken bytes) ≡ drop (taken + count) bytes = grind (arith, common_steps) in
     cc
+
+-- nothing appended yet
+pub AppendsPrefix-refl : (told : Told) (bytes : List ℕ) → AppendsPrefix told told bytes
+AppendsPrefix-refl told bytes = (0, sym (with_back-nil told))

@@ -27,3 +27,9 @@ UnlessReadFailed (Ok value) P = P
 UnlessReadFailed (Err read.TooLong) P = P
 UnlessReadFailed (Err read.Failed) P = Unit {0}
 UnlessReadFailed (Err read.Memory) P = P
+
+-- what a file's reading to its end answers of the file
+abbrev pub fetch_fault_of : ReadAllFault → ShelfFault
+fetch_fault_of read.TooLong = fetch.TooLong
+fetch_fault_of read.Failed = fetch.Failed
+fetch_fault_of read.Memory = fetch.Memory

@@ -1,8 +1,9 @@
 //! A source, a sink and a shelf in memory that never fail: each call is refused for want of memory at most.
-ghost use Rattle.std.specs.Prelude.{◌≡◌, ◌<◌, ◌≤◌, [], vec_len};
-ghost use Rattle.std.specs.Prelude.{Some};
-ghost use Rattle.outside_io.specs.Files.{no_files};
+ghost use Rattle.std.specs.Prelude.{◌≡◌, ◌<◌, ◌≤◌, [], vec_len, Some, IfSome};
+ghost use Rattle.std.specs.Option.{option_copied};
+ghost use Rattle.outside_io.specs.Files.{no_files, bytes_of};
 
+use crate::calls::raised;
 use crate::faults::{Failed, PutFault, ShelfFault};
 use crate::outside::{LONGEST_FILE, Shelf, Sink, Source};
 use geo_core::{List, Name};
@@ -126,6 +127,16 @@ impl FaultlessShelf {
             overlengths: 0,
         }
     }
+
+    /// The bytes of a file of any length. It counts as no call.
+    pub fn file(&self, name: &Name) -> Option<&[u8]>
+        ensures { IfSome (⟦<FaultlessShelf as Shelf>⟧.files self.now) (λ held. bytes_of held name.now ≡ option_copied result) }
+    {
+        match self.files.get(name) {
+            Some(bytes) => Some(bytes.items()),
+            None => None,
+        }
+    }
 }
 
 impl Shelf for FaultlessShelf {
@@ -143,15 +154,15 @@ impl Shelf for FaultlessShelf {
     ghost store_faults = { λ _. 0 };
 
     fn fetch(&mut self, alloc: Global, name: &Name) -> Result<Vec<u8>, ShelfFault> {
-        let Some(bytes) = self.files.get(name) else {
-            self.absences = self.absences.saturating_add(1);
+        let Some(bytes) = self.file(name) else {
+            self.absences = raised(self.absences);
             return Err(ShelfFault::Absent);
         };
-        if bytes.items().len() > LONGEST_FILE {
-            self.overlengths = self.overlengths.saturating_add(1);
+        if bytes.len() > LONGEST_FILE {
+            self.overlengths = raised(self.overlengths);
             return Err(ShelfFault::TooLong);
         }
-        Ok(Vec::from_slice(alloc, bytes.items())?)
+        Ok(Vec::from_slice(alloc, bytes)?)
     }
 
     fn store(&mut self, name: &Name, bytes: &[u8]) -> Result<(), PutFault> {

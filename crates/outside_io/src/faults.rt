@@ -113,6 +113,11 @@ impl From<Failed> for ReadAllFault {
 }
 
 impl From<ReadAllFault> for ShelfFault {
+    ghost use Rattle.std.specs.Prelude.{◌≡◌};
+    ghost use Rattle.outside_io.specs.Refusals.{fetch_fault_of};
+
+    ghost from_gives = { λ given fault. fault ≡ fetch_fault_of given };
+
     fn from(fault: ReadAllFault) -> ShelfFault {
         match fault {
             ReadAllFault::TooLong => ShelfFault::TooLong,

@@ -12,9 +12,9 @@
 //! Those in memory tell their content, those over the system do not.
 #![tactic(auto)]
 
-mod faults;
 mod calls;
 mod faultless;
+mod faults;
 mod memory;
 mod outside;
 mod system;

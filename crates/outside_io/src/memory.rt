@@ -1,8 +1,9 @@
 //! A source, a sink and a shelf in memory whose calls fail where their numbers are listed.
 //!
 //! They do what the forms that never fail do, and count their calls. A call that is to fail does nothing else.
-ghost use Rattle.std.specs.Prelude.{◌≡◌, [], Some};
-ghost use Rattle.outside_io.specs.Files.{no_files};
+ghost use Rattle.std.specs.Prelude.{◌≡◌, Some, IfSome};
+ghost use Rattle.std.specs.Option.{option_copied};
+ghost use Rattle.outside_io.specs.Files.{bytes_of};
 
 use crate::calls::{Calls, raised};
 use crate::faultless::{FaultlessShelf, FaultlessSink, FaultlessSource};
@@ -123,6 +124,13 @@ impl MemoryShelf {
             fetch_faults: 0,
             store_faults: 0,
         }
+    }
+
+    /// The bytes of a file of any length. It counts as no call.
+    pub fn file(&self, name: &Name) -> Option<&[u8]>
+        ensures { IfSome (⟦<MemoryShelf as Shelf>⟧.files self.now) (λ held. bytes_of held name.now ≡ option_copied result) }
+    {
+        self.shelf.file(name)
     }
 
     /// How many calls were made, fetches and stores together.

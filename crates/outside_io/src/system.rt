@@ -164,13 +164,7 @@ impl<R: Files> Shelf for FolderShelf<R> {
     }
 
     fn store(&mut self, name: &Name, bytes: &[u8]) -> Result<(), PutFault> {
-        let answer = store_file(
-            self.alloc,
-            &self.files,
-            self.folder.as_str(),
-            name,
-            bytes,
-        );
+        let answer = store_file(self.alloc, &self.files, self.folder.as_str(), name, bytes);
         if answer == Err(PutFault::Failed) {
             self.store_faults = raised(self.store_faults);
         }
