@@ -2,13 +2,19 @@
 #![tactic(auto)]
 
 mod faults;
+mod grids;
 mod lists;
 mod names;
+mod orients;
 mod squares;
 #[cfg(test)]
 mod tests;
+mod transforms;
 
 pub use faults::GeoFault;
+pub use grids::Grid;
 pub use lists::List;
 pub use names::Name;
+pub use orients::Orient;
 pub use squares::{Piece, Rect, Square};
+pub use transforms::Transform;
