@@ -1,3 +1,4 @@
+pub mod Bars
 pub mod Covering
 pub mod Elements
 pub mod Images
@@ -5,3 +6,4 @@ pub mod Neighbours
 pub mod Orientation
 pub mod Reach
 pub mod SquareOrder
+pub mod Strips
