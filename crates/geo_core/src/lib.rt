@@ -7,6 +7,8 @@ mod grids;
 mod lists;
 mod names;
 mod orients;
+#[cfg(test)]
+mod place_tests;
 mod squares;
 mod strip_lists;
 #[cfg(test)]
