@@ -14,3 +14,8 @@ pub record Covers (area : Rect) (square : Square) : Type 0 where
 abbrev pub is_covered : Rect → Square → Bool
 is_covered area square =
     int_le area.xlo square.x && int_lt square.x area.xhi && int_le area.ylo square.y && int_lt square.y area.yhi
+
+-- The rectangle covers some square.
+pub record IsProper (area : Rect) : Type 0 where
+  pub wide : area.xlo <ℤ area.xhi
+  pub high : area.ylo <ℤ area.yhi

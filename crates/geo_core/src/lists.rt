@@ -45,7 +45,9 @@ impl<T> List<T> {
 
     /// The items in order, to be changed in place. The list then has the changed items, as many as before.
     pub fn items_mut(&mut self) -> &mut [T]
-        ensures* writes_back { sem 𝓛 (Lends (the_row T.row) (Array T.row 0) self.entry result (refill (length self.old) self.old)) }
+        // `refill` writes the items over the old ones. A slice keeps its length, so the list ends as the slice does.
+        ensures* writes_back { sem 𝓛 (Lends (the_row T.row) (Array T.row 0) self.entry result
+            (refill (length self.old) self.old)) }
         ensures value { result.now ≡ self.old }
     {
         self.entries.as_mut_slice()

@@ -1,2 +1,4 @@
+pub mod Families
 pub mod NodeLaws
+pub mod PaintLaws
 pub mod PlaceLaws

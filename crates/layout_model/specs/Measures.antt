@@ -1,12 +1,8 @@
 -- Area and perimeter of a set of places in a class of tile types.
 use Rattle.std.specs.Prelude.{ℕ, ℤ, pos, Bool, not, if◌then◌else◌, List, [], ◌∷◌}
-use Rattle.totals.specs.Total.{sum_on, Total}
+use Rattle.totals.specs.Total.{sum_on, Total, one_if}
 use Rattle.layout_model.specs.Places.{Place, neighbours}
 use Rattle.layout_model.specs.Layouts.{Layout}
-
--- 1 where the test holds, else 0
-abbrev pub one_if : Bool → ℤ
-one_if holds = if holds then pos 1 else pos 0
 
 -- what a place counts for the area: 1 where its type is of the class
 abbrev pub area_at : (ℕ → Bool) → Layout → Place → ℤ

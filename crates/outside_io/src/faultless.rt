@@ -130,7 +130,8 @@ impl FaultlessShelf {
 
     /// The bytes of a file of any length. It counts as no call.
     pub fn file(&self, name: &Name) -> Option<&[u8]>
-        ensures { IfSome (⟦<FaultlessShelf as Shelf>⟧.files self.now) (λ held. bytes_of held name.now ≡ option_copied result) }
+        ensures { IfSome (⟦<FaultlessShelf as Shelf>⟧.files self.now) (λ held.
+            bytes_of held name.now ≡ option_copied result) }
     {
         match self.files.get(name) {
             Some(bytes) => Some(bytes.items()),

@@ -128,7 +128,8 @@ impl MemoryShelf {
 
     /// The bytes of a file of any length. It counts as no call.
     pub fn file(&self, name: &Name) -> Option<&[u8]>
-        ensures { IfSome (⟦<MemoryShelf as Shelf>⟧.files self.now) (λ held. bytes_of held name.now ≡ option_copied result) }
+        ensures { IfSome (⟦<MemoryShelf as Shelf>⟧.files self.now) (λ held.
+            bytes_of held name.now ≡ option_copied result) }
     {
         self.shelf.file(name)
     }

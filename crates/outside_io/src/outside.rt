@@ -27,7 +27,8 @@ pub trait Source {
 
         // What filled the buffer was the first of what was left, and is no longer left.
         ensures taken { IfOk result (λ count. left self.old ≡ with_front (take count buf.new) (left self.new)) }
-        ensures ended { 0 < length buf.new → IfOk result (λ count. IfSome (left self.old) (λ bytes. (count ≡ 0) ↔ (bytes ≡ []))) }
+        ensures ended { 0 < length buf.new →
+            IfOk result (λ count. IfSome (left self.old) (λ bytes. (count ≡ 0) ↔ (bytes ≡ []))) }
 
         ensures failed { OnErr result (Rose (faults self.old) (faults self.new)) }
         ensures calm { OnOk result (faults self.new ≡ faults self.old) }
@@ -46,7 +47,8 @@ pub trait Sink {
     fn write(&mut self, piece: &[u8]) -> Result<usize, PutFault>
         ensures within { IfOk result (λ count. count ≤ length piece.now) }
         ensures some { 0 < length piece.now → IfOk result (λ count. 0 < count) }
-        ensures appended { IfOk result (λ count. written self.new ≡ with_back (written self.old) (take count piece.now)) }
+        ensures appended { IfOk result (λ count.
+            written self.new ≡ with_back (written self.old) (take count piece.now)) }
         ensures refused { OnErr result (written self.new ≡ written self.old) }
 
         ensures failed { IsErrOf result PutFault.Failed → Rose (faults self.old) (faults self.new) }
@@ -75,14 +77,17 @@ pub trait Shelf {
     fn fetch(&mut self, alloc: Global, name: &Name) -> Result<Vec<u8>, ShelfFault>
         ensures unchanged { files self.new ≡ files self.old }
         ensures fits { IfOk result (λ bytes. vec_len bytes ≤ LONGEST_FILE) }
-        ensures found { IfOk result (λ bytes. IfSome (files self.old) (λ held. bytes_of held name.now ≡ Some bytes.items)) }
+        ensures found { IfOk result (λ bytes.
+            IfSome (files self.old) (λ held. bytes_of held name.now ≡ Some bytes.items)) }
 
         // Each refusal has its cause: a count that rose, and where the files are told also the name's bytes.
         ensures absent { IsErrOf result ShelfFault.Absent → Rose (absences self.old) (absences self.new) }
-        ensures absent_file { IsErrOf result ShelfFault.Absent → IfSome (files self.old) (λ held. bytes_of held name.now ≡ None) }
+        ensures absent_file { IsErrOf result ShelfFault.Absent →
+            IfSome (files self.old) (λ held. bytes_of held name.now ≡ None) }
         ensures too_long { IsErrOf result ShelfFault.TooLong → Rose (overlengths self.old) (overlengths self.new) }
         ensures too_long_file { IsErrOf result ShelfFault.TooLong →
-            IfSome (files self.old) (λ held. IsSomeAnd (bytes_of held name.now) (λ bytes. LONGEST_FILE < length bytes)) }
+            IfSome (files self.old) (λ held.
+            IsSomeAnd (bytes_of held name.now) (λ bytes. LONGEST_FILE < length bytes)) }
         ensures failed { IsErrOf result ShelfFault.Failed → Rose (fetch_faults self.old) (fetch_faults self.new) }
 
         ensures calm { UnlessFetchFailed result (fetch_faults self.new ≡ fetch_faults self.old) }
@@ -94,7 +99,8 @@ pub trait Shelf {
     /// Puts a file of these bytes under a name, in place of one that is there.
     fn store(&mut self, name: &Name, bytes: &[u8]) -> Result<(), PutFault>
         ensures stored { OnOk result (files self.new ≡ told_with_file (files self.old) name.now bytes.now) }
-        ensures unknown { IsErrOf result PutFault.Failed → ToldSameElsewhere name.now (files self.old) (files self.new) }
+        ensures unknown { IsErrOf result PutFault.Failed →
+            ToldSameElsewhere name.now (files self.old) (files self.new) }
         ensures refused { IsErrOf result PutFault.Memory → files self.new ≡ files self.old }
 
         ensures failed { IsErrOf result PutFault.Failed → Rose (store_faults self.old) (store_faults self.new) }

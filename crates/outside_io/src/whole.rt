@@ -20,7 +20,8 @@ pub fn read_all<S: Source>(
     ensures within { IfOk result (λ bytes. vec_len bytes ≤ limit) }
     ensures all { IfOk result (λ bytes. IfSome (S.left source.old) (λ left. bytes.items ≡ left)) }
     ensures ended { OnOk result (IfSome (S.left source.new) (λ left. left ≡ [])) }
-    ensures too_long { IsErrOf result ReadAllFault.TooLong → IfSome (S.left source.old) (λ left. limit < length left) }
+    ensures too_long { IsErrOf result ReadAllFault.TooLong →
+        IfSome (S.left source.old) (λ left. limit < length left) }
 
     ensures failed { IsErrOf result ReadAllFault.Failed → Rose (S.faults source.old) (S.faults source.new) }
     ensures calm { UnlessReadFailed result (S.faults source.new ≡ S.faults source.old) }

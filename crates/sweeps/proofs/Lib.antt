@@ -4,3 +4,8 @@ pub mod Sweep
 pub mod Sorting
 pub mod Shared
 pub mod Touches
+pub mod Counting
+pub mod Leading
+pub mod Opening
+pub mod BothWays
+pub mod Rows

@@ -5,6 +5,7 @@ use Rattle.std.proofs.lemmas.Bool.{false≢true}
 use Rattle.std.proofs.lemmas.Bool.Decides.{Decides-int_eq}
 use Rattle.std.proofs.lemmas.Int.{ints}
 use Rattle.geo_core.specs.declared.squares.Rect.{Rect}
+use Rattle.geo_core.specs.Covering.{IsProper}
 use Rattle.sweeps.specs.Contacts.{overlap, shared_beside, shared_upon, shared_length}
 use Rattle.sweeps.proofs.Overlaps.{overlap-not_negative, overlap-from_before_to, overlap-to_after_from}
 
@@ -65,3 +66,24 @@ upon_not_beside_back a b h = elim (shared_beside-cases b a) [
         absurd (omega (arith, ints))
   ]
 ]
+
+-- a rectangle shares nothing with itself
+shared_beside-same : (a : Rect) → IsProper a → shared_beside a a ≡ pos 0
+shared_beside-same a p = elim (shared_beside-cases a a) [
+  | inl k ↦ let wide : a.xlo <ℤ a.xhi = p.wide in let same : a.xhi ≡ a.xlo = k.0 in absurd (omega (arith, ints))
+  | inr k ↦ k.1
+]
+
+shared_upon-same : (a : Rect) → IsProper a → shared_upon a a ≡ pos 0
+shared_upon-same a p = elim (shared_upon-cases a a) [
+  | inl k ↦ let high : a.ylo <ℤ a.yhi = p.high in let same : a.yhi ≡ a.ylo = k.0 in absurd (omega (arith, ints))
+  | inr k ↦ k.1
+]
+
+pub shared_length-same : (a : Rect) → IsProper a → shared_length a a ≡ pos 0
+shared_length-same a p = let one = shared_beside-same a p in let other = shared_upon-same a p in omega (arith, ints)
+
+pub shared_length-not_negative : (a b : Rect) → pos 0 ≤ℤ shared_length a b
+shared_length-not_negative a b =
+    let m = shared_beside-not_negative a b in let n = shared_beside-not_negative b a in
+    let u = shared_upon-not_negative a b in let v = shared_upon-not_negative b a in omega (arith, ints)

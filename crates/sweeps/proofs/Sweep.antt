@@ -5,7 +5,7 @@ use Rattle.std.proofs.lemmas.Int.{ints, by_lt_z}
 use Rattle.std.proofs.lemmas.Bool.{cases_lt}
 use Rattle.std.proofs.Math.Seq.{drop-cons}
 use Rattle.std.proofs.lemmas.List.{get_or-drop}
-use Rattle.totals.specs.Lists.{In, Distinct, Lists}
+use Rattle.totals.specs.Lists.{In, Distinct}
 use Rattle.totals.proofs.Distincts.{Distinct-push}
 use Rattle.totals.proofs.Members.{In-append_left, In-push, In-push_cases, In-index, In-get_or}
 use Rattle.sweeps.specs.declared.contacts.Contact.{Contact}
@@ -158,21 +158,6 @@ module _ (lowers uppers : List Side) (opposite : AreOpposite lowers uppers) (x y
           (λ e. (g.first q inq).of_two (sym e)) k.1
     ];
   }
-
--- at the start everything is left
-pub swept_none : (lowers uppers : List Side) → Swept lowers uppers lowers uppers []
-swept_none lowers uppers = record { distinct = tt; known = λ c i. absurd i; found = λ a b i j m. inr (i, j); fresh = λ a b i j m h. h }
-
--- and the sweep ends where nothing of one list is left
-pub swept_all : (lowers uppers xs ys : List Side) (contacts : List Contact) → Swept lowers uppers xs ys contacts → (xs ≡ []) ⊎ (ys ≡ []) → Lists (IsMeeting lowers uppers) contacts
-swept_all lowers uppers xs ys contacts s e = (
-  s.distinct,
-  (λ c m. subst (λ (u : Contact). In u contacts) (sym m.is) (elim (s.found m.lower m.upper m.in_lowers m.in_uppers m.meet) [
-    | inl i ↦ i
-    | inr k ↦ elim e [ inl n ↦ absurd (subst (In m.lower) n k.0) | inr n ↦ absurd (subst (In m.upper) n k.1) ]
-  ])),
-  s.known,
-)
 
 -- what stands after an index stands at a greater one
 after_index : (sides : List Side) (k : ℕ) (d a : Side) → In a (drop (suc k) sides) → (j : ℕ) × (k < j) × (j < length sides) × (get_or sides j d ≡ a)

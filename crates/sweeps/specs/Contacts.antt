@@ -18,25 +18,26 @@ shared_beside a b = if int_eq a.xhi b.xlo then overlap a.ylo a.yhi b.ylo b.yhi e
 unfoldable pub shared_upon : Rect → Rect → ℤ
 shared_upon a b = if int_eq a.yhi b.ylo then overlap a.xlo a.xhi b.xlo b.xhi else pos 0
 
--- what the edges of two rectangles have in common of which one lies upon the other
+-- what two rectangles share where one lies upon the other
 abbrev pub shared_stacked : Rect → Rect → ℤ
 shared_stacked a b = shared_upon a b +ℤ shared_upon b a
 
--- what the edges of two rectangles have in common that stand side by side
+-- what two rectangles share where they stand side by side
 abbrev pub shared_abreast : Rect → Rect → ℤ
 shared_abreast a b = shared_beside a b +ℤ shared_beside b a
 
--- The length of the edge that two disjoint rectangles share. Of its four parts at most one is not 0.
+-- The length of the edge that two disjoint rectangles share: the second is on top of the first, or below it, to the right of it
+-- or to the left. Of the four parts at most one is not 0.
 abbrev pub shared_length : Rect → Rect → ℤ
 shared_length a b = shared_stacked a b +ℤ shared_abreast a b
 
--- Two rectangles of the list have this length in common, which is not 0, and the first comes first in the list.
+-- Two rectangles of the list share this length, which is not 0. The one that comes first in the list is named first.
 pub record IsContactBy (shared : Rect → Rect → ℤ) (rects : List Rect) (contact : Contact) : Type 0 where
   pub in_order : contact.first < contact.second
   pub in_list : contact.second < length rects
   pub length_is : contact.length ≡ shared (rect_at rects contact.first) (rect_at rects contact.second)
   pub not_none : pos 0 <ℤ contact.length
 
--- Two rectangles of the list share an edge of that length.
+-- Two rectangles of the list share an edge, of this length.
 abbrev pub IsContact : List Rect → Contact → Type 0
 IsContact rects contact = IsContactBy shared_length rects contact

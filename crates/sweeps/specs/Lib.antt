@@ -1,3 +1,5 @@
 pub mod Rects
 pub mod Contacts
 pub mod Sides
+pub mod Squares
+pub mod EdgeLaws

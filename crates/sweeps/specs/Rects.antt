@@ -1,5 +1,6 @@
 -- Rectangles of a list, and rectangles that lie apart.
-use Rattle.std.specs.Prelude.{ℕ, ◌^◌, ℤ, pos, neg_ℤ, ◌<ℤ◌, List, slice_index_or}
+use Rattle.std.specs.Prelude.{ℕ, ◌^◌, ℤ, pos, neg_ℤ, ◌<ℤ◌, List, length, slice_index_or}
+use Rattle.std.specs.List.{range_with_len}
 use Rattle.geo_core.specs.declared.squares.Square.{Square}
 use Rattle.geo_core.specs.declared.squares.Rect.{Rect}
 use Rattle.geo_core.specs.Covering.{Covers}
@@ -19,6 +20,14 @@ pub record IsNear (area : Rect) : Type 0 where
   pub xhi : IsSmall area.xhi
   pub yhi : IsSmall area.yhi
 
--- the rectangle at a place of a list, and an empty one past its end
+-- a rectangle without a square
+abbrev pub no_rect : Rect
+no_rect = record { xlo = pos 0; ylo = pos 0; xhi = pos 0; yhi = pos 0 }
+
+-- the rectangle at a place of a list, and one without a square past its end
 abbrev pub rect_at : List Rect → ℕ → Rect
-rect_at rects place = slice_index_or rects place (record { xlo = pos 0; ylo = pos 0; xhi = pos 0; yhi = pos 0 })
+rect_at rects place = slice_index_or rects place no_rect
+
+-- the places of a list, from 0 on
+abbrev pub places_of : List Rect → List ℕ
+places_of rects = range_with_len 0 (length rects)

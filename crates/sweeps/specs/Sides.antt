@@ -51,7 +51,7 @@ pub record Meet (a b : Side) : Type 0 where
 abbrev pub contact_of : Side → Side → Contact
 contact_of a b = record { first = min a.owner b.owner; second = max a.owner b.owner; length = overlap a.from a.to b.from b.to }
 
--- Where one rectangle has a side in each list, the side in the second list lies on a line before.
+-- Where one rectangle has a side in each list, that in the second list lies on a line before that in the first.
 abbrev pub AreOpposite : List Side → List Side → Type 0
 AreOpposite lowers uppers = (a b : Side) → In a lowers → In b uppers → a.owner ≡ b.owner → b.line <ℤ a.line
 

@@ -21,8 +21,11 @@ pub struct Contact {
     pub length: i64,
 }
 
-/// The contacts of disjoint rectangles, each once, in no order that callers may count on.
-/// Rectangles that have a corner alone in common don't touch. It takes time for a sort, and for each contact that it finds.
+/// The contacts of rectangles, each once, in no order that callers may count on.
+///
+/// Each rectangle has a square, no two have one in common, and each bound is below 2^28 in absolute value.
+/// Rectangles that have a corner alone in common don't touch, and two that touch share one edge.
+/// Want of memory alone is an error. It takes time for a sort, and for each contact that it finds.
 pub fn touching(alloc: Global, rects: &[Rect]) -> Result<Vec<Contact>, SweepFault>
     requires proper { All IsProper rects.now }
     requires near { All IsNear rects.now }
@@ -58,3 +61,6 @@ fn abreast(alloc: Global, rects: &[Rect]) -> Result<Vec<Contact>, AllocError>
     let lefts = sorted_sides(alloc, rects, Edge::Left)?;
     meetings(alloc, rights.as_slice(), lefts.as_slice())
 }
+
+#[cfg(test)]
+mod tests;

@@ -2,8 +2,10 @@
 #![tactic(auto)]
 
 mod contacts;
+mod edges;
 mod faults;
 mod sides;
 
 pub use contacts::{Contact, touching};
+pub use edges::lengths_count_edges;
 pub use faults::SweepFault;

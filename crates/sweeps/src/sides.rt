@@ -38,7 +38,7 @@ impl Side {
     }
 }
 
-/// The side that an edge of the rectangle at a place of a list is.
+/// An edge of the rectangle at a place of a list, as a side.
 fn side_at(rect: &Rect, edge: Edge, owner: usize) -> Side
     ensures { result ≡ side_of edge rect.now owner }
 {

@@ -6,3 +6,4 @@ pub mod Steady
 pub mod Phase
 pub mod Vicinity
 pub mod Laws
+pub mod SimRecords

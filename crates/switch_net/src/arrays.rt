@@ -1,5 +1,5 @@
-//! The arrays in which the steps of a network are worked out. They are made with the network, so that a phase takes no
-//! memory, and they hold nothing that lasts from one call to the next.
+//! The arrays in which the steps of a network are worked out. They are made with the network, so
+//! that a phase takes no memory, and they hold nothing that lasts from one call to the next.
 
 ghost use Rattle.std.specs.Prelude.{IfOk};
 
@@ -8,8 +8,9 @@ use crate::switches::Level;
 use geo_core::List;
 use std::alloc::Global;
 
-/// The switches by the nodes at their terminals. For each terminal the switches at one node are chained: `first` has an
-/// entry for each node and `next` one for each switch. An entry is the place of a switch and one, or 0 at the end.
+/// The switches by the nodes at their terminals. For each terminal the switches at one node are
+/// chained: `first` has an entry for each node and `next` one for each switch. An entry is the
+/// place of a switch and one, or 0 at the end.
 #[derive(Debug, Drop)]
 pub struct Adjacency {
     pub first_gate: List<u32>,
@@ -20,16 +21,17 @@ pub struct Adjacency {
     pub next_right: List<u32>,
 }
 
-/// The nodes that are marked: whether each is, and the marked ones in the order in which they were found.
+/// The nodes that are marked: whether each is, and the marked ones in the order in which they were
+/// found.
 #[derive(Debug, Drop)]
 pub struct Marks {
     pub inside: List<bool>,
     pub order: List<u32>,
 }
 
-/// The strengths of the strongest paths to each node: of definite paths, of unblocked paths from roots in another state
-/// than one, and of those from roots in another state than zero. The stack has the nodes whose neighbours are still to be
-/// looked at.
+/// The strengths of the strongest paths to each node: of definite paths, of unblocked paths from
+/// roots in another state than one, and of those from roots in another state than zero. The stack
+/// has the nodes whose neighbours are still to be looked at.
 #[derive(Debug, Drop)]
 pub struct Strengths {
     pub definite: List<u8>,

@@ -2,8 +2,8 @@
 
 ghost use Rattle.switch_net.specs.Laws.{EachHasSimplePath, EachHasOneSteadyValue};
 
-/// Each rooted path has one without a repeated node: with the same root and end, no less strong, definite and unblocked
-/// where the first was.
+/// Each rooted path has one without a repeated node: with the same root and end, no less strong,
+/// definite and unblocked where the first was.
 pub fn simple_path_law()
     ensures { EachHasSimplePath }
 {}

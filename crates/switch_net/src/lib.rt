@@ -1,5 +1,6 @@
-//! Networks of switches, as a switch-level simulator sees a circuit: nodes that store charge or are inputs, and
-//! transistors that join them. The definitions of this crate say what such a network does in a step and in a phase.
+//! Networks of switches, as a switch-level simulator sees a circuit: nodes that store charge or are
+//! inputs, and transistors that join them. The definitions of this crate say what such a network
+//! does in a step and in a phase.
 #![tactic(auto)]
 
 mod arrays;

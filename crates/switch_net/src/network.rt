@@ -11,8 +11,8 @@ use crate::switches::Switch;
 use geo_core::{List, Name};
 use std::alloc::Global;
 
-/// Nodes, numbered from 0, and the switches between them. Each node has a size, from 1 to 3, and is an input or stores
-/// charge.
+/// Nodes, numbered from 0, and the switches between them. Each node has a size, from 1 to 3, and is
+/// an input or stores charge.
 #[derive(Debug, Drop)]
 pub struct Net {
     pub nodes: u32,
@@ -40,7 +40,8 @@ impl Net {
     ghost use Rattle.std.specs.Prelude.{IfOk, true, false, slice_set};
     ghost use Rattle.switch_net.specs.Net.{network_of};
 
-    /// The network of these switches, in their order, in which every node stores charge and has size 1.
+    /// The network of these switches, in their order, in which every node stores charge and has
+    /// size 1.
     pub fn build(alloc: Global, nodes: u32, switches: &[Switch]) -> Result<Net, NetFault>
         requires few_nodes { nodes ≤ 2 ^ 20 }
         requires few_switches { length switches.now ≤ 2 ^ 20 }
@@ -86,5 +87,26 @@ impl Net {
             ≡ record (network_of self.old) { sizes = slice_set self.old.sizes node size } }
     {
         self.sizes.items_mut()[node as usize] = size;
+    }
+}
+
+#[cfg(test)]
+mod tests {
+    use super::*;
+    use crate::switches::SwitchKind;
+    use std::test::Fail;
+
+    #[test]
+    fn builds(rt: HostRuntime) -> Result<(), Fail> {
+        let switch = Switch {
+            kind: SwitchKind::N,
+            gate: 0,
+            left: 1,
+            right: 2,
+        };
+        let net = Net::build(rt.alloc(), 3, &[switch])?;
+        assert!(rt; net.nodes == 3 && net.switches.items().len() == 1);
+        assert!(rt; net.sizes.items()[2] == 1 && !net.inputs.items()[2]);
+        Ok(())
     }
 }

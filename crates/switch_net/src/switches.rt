@@ -8,7 +8,8 @@ pub enum Level {
     X,
 }
 
-/// What makes a switch conduct: `N` a gate at one, `P` a gate at zero, and `D` whatever its gate is at.
+/// What makes a switch conduct: `N` a gate at one, `P` a gate at zero, and `D` whatever its gate is
+/// at.
 #[derive(Clone, Copy, Debug, PartialEq, Eq)]
 pub enum SwitchKind {
     N,

@@ -1,5 +1,5 @@
 -- Sums of a weight over a finite set.
-use Rattle.std.specs.Prelude.{◌≡◌, ℤ, pos, ◌+ℤ◌, List, [], ◌∷◌}
+use Rattle.std.specs.Prelude.{◌≡◌, Bool, if◌then◌else◌, ℤ, pos, ◌+ℤ◌, List, [], ◌∷◌}
 use Rattle.totals.specs.Lists.{Lists}
 
 -- the sum of the weights of a list's things
@@ -10,3 +10,7 @@ sum_on w (x ∷ xs) = w x +ℤ sum_on w xs
 -- the things with P are finitely many, and n is the sum of their weights
 abbrev pub Total : {X : Type 0} → (X → Type 0) → (X → ℤ) → ℤ → Type 0
 Total {X} P w n = (xs : List X) × (Lists P xs × (sum_on w xs ≡ n))
+
+-- 1 where the test holds, else 0: the weight that counts
+abbrev pub one_if : Bool → ℤ
+one_if holds = if holds then pos 1 else pos 0

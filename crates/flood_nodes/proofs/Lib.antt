@@ -1,0 +1,10 @@
+pub mod Abutting
+pub mod Combs
+pub mod Numbers
+pub mod RegionLaws
+pub mod TileContacts
+pub mod TileLaws
+pub mod TileLinks
+pub mod TileLists
+pub mod TileMeasures
+pub mod Walks

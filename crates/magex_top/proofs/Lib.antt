@@ -1,0 +1,11 @@
+pub mod CornerLaws
+pub mod CutLaws
+pub mod FoundNodes
+pub mod GatherLaws
+pub mod Loads
+pub mod PlainDrawings
+pub mod PlainForms
+pub mod RectBounds
+pub mod RunLaws
+pub mod SessionLaws
+pub mod TakeOffLaws

@@ -1,0 +1,16 @@
+pub mod Answers
+pub mod BuiltIn
+pub mod Commands
+pub mod Cuts
+pub mod Drawings
+pub mod Gathering
+pub mod NodeText
+pub mod PieceOrder
+pub mod PlainLines
+pub mod PlainMag
+pub mod PlainNodes
+pub mod PlainSections
+pub mod Refusals
+pub mod Runs
+pub mod Sessions
+pub mod Statuses

@@ -1,0 +1,85 @@
+//! The command of a line.
+ghost use Rattle.std.specs.Prelude.{◌≡◌, IfOk};
+ghost use Rattle.std.specs.List.{list_all};
+ghost use Rattle.text_scan.specs.Words.{words_of};
+ghost use Rattle.magex_top.specs.Commands.{command_of, command_of_words, command_on, is_cell_name, is_name_byte};
+
+use geo_core::{GeoFault, Name};
+use std::alloc::Global;
+use text_scan::words;
+
+/// What a line asks for.
+#[derive(Debug, Drop)]
+pub enum Command {
+    /// Nothing: the line has no word, or is a comment.
+    Nothing,
+    /// Make the text of the cell's file a cell.
+    Load(Name),
+    /// Write the nodes of the cell.
+    Nodes(Name),
+    /// Something that the program does not have yet.
+    Unbuilt,
+}
+
+/// The command of a line.
+pub fn read_command(alloc: Global, line: &[u8]) -> Result<Command, GeoFault>
+    ensures { IfOk result (λ command. command ≡ command_of line.now) }
+{
+    match line {
+        [] | [b'#', ..] => Ok(Command::Nothing),
+        _ => command_of_words(alloc, line),
+    }
+}
+
+// The command of the words of a line.
+fn command_of_words(alloc: Global, line: &[u8]) -> Result<Command, GeoFault>
+    ensures { IfOk result (λ command. command ≡ command_of_words (words_of line.now)) }
+{
+    let mut rest = words(line);
+    let Some(verb) = rest.next() else {
+        return Ok(Command::Nothing);
+    };
+    let Some(cell) = rest.next() else {
+        return Ok(Command::Unbuilt);
+    };
+    match rest.next() {
+        Some(_) => Ok(Command::Unbuilt),
+        None => command_on(alloc, verb, cell),
+    }
+}
+
+// The command with this first word, of which the second is to be a cell's name.
+fn command_on(alloc: Global, verb: &[u8], cell: &[u8]) -> Result<Command, GeoFault>
+    ensures { IfOk result (λ command. command ≡ command_on verb.now cell.now) }
+{
+    if !is_cell_name(cell) {
+        return Ok(Command::Unbuilt);
+    }
+    if verb == b"load".as_slice() {
+        return Ok(Command::Load(Name::of(alloc, cell)?));
+    }
+    if verb == b"nodes".as_slice() {
+        return Ok(Command::Nodes(Name::of(alloc, cell)?));
+    }
+    Ok(Command::Unbuilt)
+}
+
+fn is_name_byte(byte: u8) -> bool
+    ensures { result ≡ is_name_byte byte }
+{
+    byte.is_ascii_alphanumeric() || byte == b'_' || byte == b'-'
+}
+
+fn has_name_bytes(word: &[u8]) -> bool
+    ensures { result ≡ list_all is_name_byte word.now }
+{
+    word.iter().all(|&byte| is_name_byte(byte))
+}
+
+// Whether a word is of the form of a cell's name: 1 to 64 letters, digits, `_` or `-`.
+fn is_cell_name(word: &[u8]) -> bool
+    ensures { result ≡ is_cell_name word.now }
+{
+    let length = word.len();
+    1 <= length && length <= 64 && has_name_bytes(word)
+}

@@ -1,0 +1,201 @@
+//! The top call.
+ghost use Rattle.std.specs.Prelude.{◌≡◌, ◌≢◌, ◌⊎◌, ◌<◌, ◌≤◌, [], ◌++◌, ℕ, List, Some, map, length, string_bytes, IfOk, IfSome, OnOk, OnErr, IsErrOf};
+ghost use Rattle.text_scan.specs.Lines.{lines_of};
+ghost use Rattle.outside_io.specs.Counts.{Rose};
+ghost use Rattle.outside_io.specs.Files.{Files};
+ghost use Rattle.outside_io.specs.Told.{AppendsPrefix, with_back};
+ghost use Rattle.magex_top.specs.declared.status.Status.{Status as IsStatus};
+ghost use Rattle.magex_top.specs.Answers.{AreDrawnCells, state_of};
+ghost use Rattle.magex_top.specs.Runs.{EndsByItself, IsEndOfScript, first_state, RunMeans, ScriptMeans, usage_line, ReportsBeginningOf};
+ghost use Rattle.magex_top.specs.Sessions.{Effect, LineMeans, LinesMean, most_bytes};
+
+use crate::cells::Cell;
+use crate::session::answer_line;
+use crate::status::{Halt, Status};
+use outside_io::{LONGEST_FILE, PutFault, ReadAllFault, Shelf, Sink, Source, read_all, write_all};
+use std::alloc::Global;
+use std::sync::ledger::Ledger;
+use step_count::Steps;
+use text_scan::lines;
+
+const USAGE_LINE: &[u8] = b"usage: magex [--budget N] [--quiet]\n";
+
+/// Runs a script: reads it to its end, does what its lines ask for in their order, and writes what answers each line to the
+/// report before it turns to the next. `words` are the words after the program's name.
+pub fn run<S: Source, K: Sink, F: Shelf, L: Ledger>(
+    alloc: Global,
+    words: &[String],
+    script: &mut S,
+    report: &mut K,
+    shelf: &mut F,
+    steps: &mut Steps<L>,
+) -> Status
+    // A run that ends by itself reports what the script means, and ends with the status that it means.
+    ensures meaning { (text before : List ℕ) (files : Files) →
+        S.left script.old ≡ Some text → K.written report.old ≡ Some before → F.files shelf.old ≡ Some files →
+        EndsByItself result → (reply : List ℕ) × (after : Files)
+        × RunMeans (map string_bytes words.now) text files reply after result
+        × (K.written report.new ≡ Some (before ++ reply)) × (F.files shelf.new ≡ Some after) }
+    ensures read_to_end { (result ≡ Status.Done) ⊎ (result ≡ Status.Told) → IfSome (S.left script.new) (λ left. left ≡ []) }
+
+    // However it ends, it has reported the beginning of what the script means, and changed no file.
+    ensures beginning { (text before reply : List ℕ) (files after : Files) (status : IsStatus) →
+        S.left script.old ≡ Some text → K.written report.old ≡ Some before → F.files shelf.old ≡ Some files →
+        RunMeans (map string_bytes words.now) text files reply after status →
+        ReportsBeginningOf (K.written report.new) before reply }
+    ensures files { F.files shelf.new ≡ F.files shelf.old }
+
+    // Each fault has its cause, and no count of faults rises in a run that ends by itself.
+    ensures read_fault { result ≡ Status.ReadFault →
+        Rose (S.faults script.old) (S.faults script.new) ⊎ Rose (F.fetch_faults shelf.old) (F.fetch_faults shelf.new) }
+    ensures write_fault { result ≡ Status.WriteFault →
+        Rose (K.faults report.old) (K.faults report.new) ⊎ Rose (F.store_faults shelf.old) (F.store_faults shelf.new) }
+    ensures calm_script { EndsByItself result → S.faults script.new ≡ S.faults script.old }
+    ensures calm_report { EndsByItself result → K.faults report.new ≡ K.faults report.old }
+    ensures calm_fetch { EndsByItself result → F.fetch_faults shelf.new ≡ F.fetch_faults shelf.old }
+    ensures calm_store { F.store_faults shelf.new ≡ F.store_faults shelf.old }
+
+    // When it ends with usage, and when with a script that is too long.
+    ensures usage { words.now ≢ [] → (result ≡ Status.Usage) ⊎ ((result ≡ Status.WriteFault) ⊎ (result ≡ Status.Memory)) }
+    ensures no_usage { words.now ≡ [] → result ≢ Status.Usage }
+    ensures too_long { result ≡ Status.ScriptTooLong → (words.now ≡ []) × IfSome (S.left script.old) (λ text. most_bytes < length text) }
+
+    ensures long { (text : List ℕ) → words.now ≡ [] → S.left script.old ≡ Some text → most_bytes < length text →
+        (result ≡ Status.ScriptTooLong) ⊎ ((result ≡ Status.ReadFault) ⊎ (result ≡ Status.Memory)) }
+
+    // A script that is not too long comes to its end, unless a fault or want of memory ends the run.
+    ensures complete { (text : List ℕ) → words.now ≡ [] → S.left script.old ≡ Some text → length text ≤ most_bytes →
+        (Rose (S.faults script.old) (S.faults script.new) → ⊥) → (Rose (K.faults report.old) (K.faults report.new) → ⊥) →
+        (Rose (F.fetch_faults shelf.old) (F.fetch_faults shelf.new) → ⊥) → (Rose (F.store_faults shelf.old) (F.store_faults shelf.new) → ⊥) →
+        (result ≡ Status.Done) ⊎ ((result ≡ Status.Told) ⊎ (result ≡ Status.Memory)) }
+    ensures steps { steps.old ≤ steps.new }
+{
+    if !words.is_empty() {
+        return write_usage(report);
+    }
+    match read_all(alloc, script, LONGEST_FILE) {
+        Ok(text) => run_script(alloc, &text, report, shelf),
+        Err(ReadAllFault::TooLong) => Status::ScriptTooLong,
+        Err(ReadAllFault::Failed) => Status::ReadFault,
+        Err(ReadAllFault::Memory) => Status::Memory,
+    }
+}
+
+// Writes the line that says which words there may be.
+fn write_usage<K: Sink>(report: &mut K) -> Status
+    ensures meaning { EndsByItself result → (result ≡ Status.Usage) × (K.written report.new ≡ with_back (K.written report.old) usage_line) }
+    ensures beginning { (before : List ℕ) → K.written report.old ≡ Some before → ReportsBeginningOf (K.written report.new) before usage_line }
+    ensures cases { (result ≡ Status.Usage) ⊎ ((result ≡ Status.WriteFault) ⊎ (result ≡ Status.Memory)) }
+    ensures write_fault { result ≡ Status.WriteFault → Rose (K.faults report.old) (K.faults report.new) }
+    ensures calm { EndsByItself result → K.faults report.new ≡ K.faults report.old }
+{
+    match write_reply(report, USAGE_LINE) {
+        Ok(()) => Status::Usage,
+        Err(halt) => halt.status(),
+    }
+}
+
+// Runs the lines of a script.
+fn run_script<K: Sink, F: Shelf>(
+    alloc: Global,
+    text: &[u8],
+    report: &mut K,
+    shelf: &mut F,
+) -> Status
+    ensures meaning { (before : List ℕ) (files : Files) →
+        K.written report.old ≡ Some before → F.files shelf.old ≡ Some files →
+        EndsByItself result → (reply : List ℕ) × (after : Files) × ScriptMeans text.now files reply after result
+        × (K.written report.new ≡ Some (before ++ reply)) × (F.files shelf.new ≡ Some after) }
+    ensures beginning { (before reply : List ℕ) (files after : Files) (status : IsStatus) →
+        K.written report.old ≡ Some before → F.files shelf.old ≡ Some files → ScriptMeans text.now files reply after status →
+        ReportsBeginningOf (K.written report.new) before reply }
+    ensures files { F.files shelf.new ≡ F.files shelf.old }
+    ensures cases { IsEndOfScript result }
+    ensures read_fault { result ≡ Status.ReadFault → Rose (F.fetch_faults shelf.old) (F.fetch_faults shelf.new) }
+    ensures write_fault { result ≡ Status.WriteFault → Rose (K.faults report.old) (K.faults report.new) }
+    ensures calm_report { EndsByItself result → K.faults report.new ≡ K.faults report.old }
+    ensures calm_fetch { EndsByItself result → F.fetch_faults shelf.new ≡ F.fetch_faults shelf.old }
+    ensures calm_store { F.store_faults shelf.new ≡ F.store_faults shelf.old }
+{
+    match run_lines(alloc, text, report, shelf) {
+        Ok(true) => Status::Told,
+        Ok(false) => Status::Done,
+        Err(halt) => halt.status(),
+    }
+}
+
+// Answers each line in turn, and says whether an answer told of something refused.
+fn run_lines<K: Sink, F: Shelf>(
+    alloc: Global,
+    text: &[u8],
+    report: &mut K,
+    shelf: &mut F,
+) -> Result<bool, Halt>
+    ensures effect { (files : Files) (before : List ℕ) → F.files shelf.old ≡ Some files → K.written report.old ≡ Some before →
+        IfOk result (λ told. (effect : Effect) × LinesMean 1 (first_state files) (lines_of text.now) effect
+        × (K.written report.new ≡ Some (before ++ effect.reply)) × (effect.state.files ≡ files) × (effect.told ≡ told)) }
+    ensures beginning { (files : Files) (before : List ℕ) (effect : Effect) →
+        F.files shelf.old ≡ Some files → K.written report.old ≡ Some before → LinesMean 1 (first_state files) (lines_of text.now) effect →
+        ReportsBeginningOf (K.written report.new) before effect.reply }
+    ensures files { F.files shelf.new ≡ F.files shelf.old }
+    ensures read_fault { IsErrOf result Halt.ReadFault → Rose (F.fetch_faults shelf.old) (F.fetch_faults shelf.new) }
+    ensures write_fault { IsErrOf result Halt.WriteFault → Rose (K.faults report.old) (K.faults report.new) }
+    ensures calm_report { OnOk result (K.faults report.new ≡ K.faults report.old) }
+    ensures calm_fetch { OnOk result (F.fetch_faults shelf.new ≡ F.fetch_faults shelf.old) }
+    ensures calm_store { F.store_faults shelf.new ≡ F.store_faults shelf.old }
+{
+    let mut cells = Vec::new(alloc);
+    let mut told = false;
+    let mut number = 0;
+    for line in lines(text) {
+        number += 1;
+        let tells = run_line(alloc, &mut cells, report, shelf, number, line)?;
+        told |= tells;
+    }
+    Ok(told)
+}
+
+// Answers a line, and says whether the answer tells of something refused.
+fn run_line<K: Sink, F: Shelf>(
+    alloc: Global,
+    cells: &mut Vec<Cell>,
+    report: &mut K,
+    shelf: &mut F,
+    number: usize,
+    line: &[u8],
+) -> Result<bool, Halt>
+    requires { AreDrawnCells cells.old.items }
+    ensures effect { (files : Files) (before : List ℕ) → F.files shelf.old ≡ Some files → K.written report.old ≡ Some before →
+        IfOk result (λ told. (text : List ℕ)
+        × LineMeans number (state_of cells.old.items files) line.now (record { state = state_of cells.new.items files; reply = text; told = told })
+        × (K.written report.new ≡ Some (before ++ text))) }
+    ensures interrupted { (files : Files) (before : List ℕ) (effect : Effect) →
+        F.files shelf.old ≡ Some files → K.written report.old ≡ Some before → LineMeans number (state_of cells.old.items files) line.now effect →
+        OnErr result (ReportsBeginningOf (K.written report.new) before effect.reply) }
+    ensures drawn { AreDrawnCells cells.new.items }
+    ensures files { F.files shelf.new ≡ F.files shelf.old }
+    ensures read_fault { IsErrOf result Halt.ReadFault → Rose (F.fetch_faults shelf.old) (F.fetch_faults shelf.new) }
+    ensures write_fault { IsErrOf result Halt.WriteFault → Rose (K.faults report.old) (K.faults report.new) }
+    ensures calm_report { OnOk result (K.faults report.new ≡ K.faults report.old) }
+    ensures calm_fetch { OnOk result (F.fetch_faults shelf.new ≡ F.fetch_faults shelf.old) }
+    ensures calm_store { F.store_faults shelf.new ≡ F.store_faults shelf.old }
+{
+    let answer = answer_line(alloc, cells, shelf, number, line)?;
+    write_reply(report, &answer.text)?;
+    Ok(answer.told)
+}
+
+// Writes a reply to the report.
+fn write_reply<K: Sink>(report: &mut K, text: &[u8]) -> Result<(), Halt>
+    ensures all { OnOk result (K.written report.new ≡ with_back (K.written report.old) text.now) }
+    ensures some { OnErr result (AppendsPrefix (K.written report.old) (K.written report.new) text.now) }
+    ensures cause { IsErrOf result Halt.WriteFault → Rose (K.faults report.old) (K.faults report.new) }
+    ensures never { IsErrOf result Halt.ReadFault → ⊥ }
+    ensures calm { OnOk result (K.faults report.new ≡ K.faults report.old) }
+{
+    match write_all(report, text) {
+        Ok(()) => Ok(()),
+        Err(PutFault::Failed) => Err(Halt::WriteFault),
+        Err(PutFault::Memory) => Err(Halt::Memory),
+    }
+}

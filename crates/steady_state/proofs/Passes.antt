@@ -1,0 +1,138 @@
+-- A kind over a part, from its start to its end.
+use Rattle.std.proofs.Common.{◌≡◌, ℕ, ◌<◌, ◌≤◌, List, [], Bool, true, ◌⊎◌, inl, inr, min, refl, ap, arith, length, slice_index, slice_index_or}
+use Rattle.std.specs.Prelude.{Contains, All}
+use Rattle.std.proofs.lemmas.List.{get_or_default}
+use Rattle.std.proofs.lemmas.Bool.{cases_lt, cases_Bool}
+use Rattle.switch_net.specs.declared.switches.Level.{Level}
+use Rattle.switch_net.specs.declared.switches.Switch.{Switch}
+use Rattle.switch_net.specs.declared.switches.Level.TheVariants.{Zero, One, X}
+use Rattle.steady_state.specs.declared.kinds.PathKind.{PathKind}
+use Rattle.steady_state.specs.declared.kinds.PathKind.TheVariants.{Definite, FromOther}
+use Rattle.steady_state.specs.Strongest.{IsStrongestDefinite}
+use Rattle.steady_state.specs.Levels.{IsLevelOf}
+use Rattle.switch_net.proofs.Ranges.{level_cases, root_strength-pos, strength-pos, ends_in_range}
+use Rattle.steady_state.specs.declared.ends.Side.{Side}
+use Rattle.steady_state.specs.declared.ends.Side.TheVariants.{Left, Right}
+use Rattle.switch_net.specs.Network.{Network, IsSound}
+use Rattle.switch_net.specs.Path.{Joins, switch_strength, root_strength, is_input, end_of, strength, state_of, is_closed_or_unknown}
+use Rattle.switch_net.specs.Steady.{AllRootsAre, IsSteadyValue}
+use Rattle.steady_state.specs.Kinds.{goes_through, BeginsAt, IsFloor, IsStrongestOfKind}
+use Rattle.steady_state.specs.Ends.{near_end}
+use Rattle.steady_state.specs.Marked.{IsAmong, IsInside, IsCovered}
+use Rattle.steady_state.specs.Spreading.{IsRelaxed, of_side, IsWorking, IsBegun, IsFilled}
+use Rattle.switch_net.specs.Vicinity.{IsStorage}
+use Rattle.steady_state.specs.declared.part.Part.{Part}
+use Rattle.steady_state.specs.declared.part.Pass.{Pass}
+use Rattle.steady_state.specs.Parts.{IsPartOf, IsPassOver}
+use Rattle.steady_state.proofs.Within.{IsSpread, bound, inside_range}
+
+module _ (net : Network) (s : List Level) (kind : PathKind) (inside : List Bool) (floor order : List ℕ) (known : (v : ℕ) → IsInside inside v → IsAmong order (length order) v) where
+  -- what has begun is under way
+  pub filled_working : (best stack : List ℕ) (waiting : ℕ) → IsFilled net s kind inside floor order (length order) best stack waiting → IsWorking net s kind inside floor best stack waiting 0 0 0
+  filled_working best stack waiting x = record {
+    attained = λ a ins pos. let q = known a ins in let at = q.2 in let p : 0 < slice_index best (slice_index order q.0) = rw at pos in rw at at ((x.begun q.0 q.1).attained p);
+    low = x.low;
+    stacked = x.stacked;
+    settled = λ side k d lt ins. inr (go side (slice_index_or net.switches k d) ins);
+  }
+    where
+      go : (side : Side) (w : Switch) → IsInside inside (near_end side w) → IsAmong stack waiting (near_end side w) ⊎ IsRelaxed s kind inside floor best side w
+      go side w ins = elim (cases_lt 0 (slice_index best (near_end side w))) [
+        | inl pos ↦ (let q = known (near_end side w) ins in let at = q.2 in
+            let p : 0 < slice_index best (slice_index order q.0) = rw at pos in inl (rw at at (x.waits q.0 q.1 p)))
+        | inr none ↦ inr (λ go' in_far le. omega arith)
+      ]
+
+  -- with none waiting, nothing more is brought
+  pub done : (start best stack stack' : List ℕ) (waiting : ℕ) → IsSound net → IsFilled net s kind inside floor order (length order) start stack' waiting → ((v : ℕ) → slice_index start v ≤ slice_index best v) →
+      ((v : ℕ) → IsInside inside v → IsFloor net s kind v (slice_index floor v)) → ((v : ℕ) → IsInside inside v → IsCovered net s Left inside v 0) → ((v : ℕ) → IsInside inside v → IsCovered net s Right inside v 0) →
+      IsWorking net s kind inside floor best stack 0 0 0 0 → IsSpread net s kind inside floor best
+  done start best stack stack' waiting sound x above floors left right k = record {
+    closed = λ w a b c j o ins. elim (cases_Bool (is_input net a)) [ inl e ↦ inr e | inr e ↦ inl (covers w a b c j o ins ((ends_in_range net sound w a b c j).0, e)) ];
+    floors = floors;
+    own = λ v ins adm fl. let r = (begun v ins).own adm fl in omega (arith, r, above v);
+    from_inputs = λ w a b c j go inp adm ins le. let r = pulls w a b c j go inp adm ins le in omega (arith, r, above b);
+    relaxed = λ w a b c j go in_a in_b le. relaxes w a b c j go in_a in_b le;
+  }
+    where
+      begun : (v : ℕ) → IsInside inside v → IsBegun net s kind floor v (slice_index start v)
+      begun v ins = let q = known v ins in let at = q.2 in rw at at (x.begun q.0 q.1)
+
+      covers : (w : Switch) (a b : ℕ) → Contains net.switches w → Joins w a b → is_closed_or_unknown s w ≡ true → IsInside inside b → IsStorage net a → IsInside inside a
+      covers w a b c (inl (p, q)) o ins st = let r = right b ins c.0 w (omega arith) c.1 (rw c.2 q) (rw c.2 o) in rw (c.2, p) at (r (rw (c.2, p) st))
+      covers w a b c (inr (p, q)) o ins st = let r = left b ins c.0 w (omega arith) c.1 (rw c.2 q) (rw c.2 o) in rw (c.2, p) at (r (rw (c.2, p) st))
+
+      pulls : (w : Switch) (a b : ℕ) → Contains net.switches w → Joins w a b → goes_through s kind w ≡ true → is_input net a ≡ true → BeginsAt s kind a → IsInside inside b → slice_index floor b ≤ switch_strength w.kind → switch_strength w.kind ≤ slice_index start b
+      pulls w a b c (inl (p, q)) go inp adm ins le = let r = (begun b ins).right c.0 w (omega arith) c.1 (rw c.2 q) (rw c.2 go) (rw (c.2, p) inp) (rw (c.2, p) adm) (rw c.2 le) in rw c.2 at r
+      pulls w a b c (inr (p, q)) go inp adm ins le = let r = (begun b ins).left c.0 w (omega arith) c.1 (rw c.2 q) (rw c.2 go) (rw (c.2, p) inp) (rw (c.2, p) adm) (rw c.2 le) in rw c.2 at r
+
+      settled_at : (side : Side) (w : Switch) → Contains net.switches w → IsInside inside (near_end side w) → IsRelaxed s kind inside floor best side w
+      settled_at side w c ins = elim (k.settled side c.0 w c.1 (rw c.2 ins)) [
+        | inl e ↦ absurd (nothing side c.0 e.1)
+        | inr y ↦ elim y [ inl q ↦ absurd (omega (arith, q.1)) | inr rel ↦ rw c.2 at rel ]
+      ]
+        where
+          nothing : (side : Side) (k : ℕ) → k < of_side side 0 0 → ⊥
+          nothing Left k lt = omega arith
+          nothing Right k lt = omega arith
+
+      relaxes : (w : Switch) (a b : ℕ) → Contains net.switches w → Joins w a b → goes_through s kind w ≡ true → IsInside inside a → IsInside inside b → slice_index floor b ≤ min (slice_index best a) (switch_strength w.kind) →
+          min (slice_index best a) (switch_strength w.kind) ≤ slice_index best b
+      relaxes w a b c (inl (p, q)) go in_a in_b le = let r = settled_at Left w c (rw p in_a) go (rw q in_b) (rw (p, q) le) in rw (p, q) at r
+      relaxes w a b c (inr (p, q)) go in_a in_b le = let r = settled_at Right w c (rw p in_a) go (rw q in_b) (rw (p, q) le) in rw (p, q) at r
+
+  -- so each entry is the strongest
+  pub strongest_of : (best stack : List ℕ) → IsSound net → IsSpread net s kind inside floor best → IsWorking net s kind inside floor best stack 0 0 0 0 → (v : ℕ) → IsInside inside v → IsStrongestOfKind net s kind v (slice_index best v)
+  strongest_of best stack sound x k v ins = record {
+    attained = λ pos. k.attained v ins pos;
+    bound = λ j p. let at = p.ends in let b = bound net s sound kind inside floor best x p.root p.path p.of_kind (rw at ins) in
+        let f : slice_index best (end_of p.root p.path) ≡ slice_index best v = ap (slice_index best) at in omega (arith, b, f, p.is_strength);
+  }
+
+-- the kind of definite paths gives the strongest
+pub definite_of : (net : Network) (s : List Level) → IsSound net → (v k : ℕ) → v < net.nodes → IsStrongestOfKind net s Definite v k → IsStrongestDefinite net s v k
+definite_of net s sound v k lt x = record {
+  attained =
+      let own = x.bound (root_strength net v) (record { root = v; path = []; of_kind = (lt, tt); ends = refl; is_strength = refl }) in
+      let pos = root_strength-pos net sound v lt in
+      let p = x.attained (omega arith) in
+      record { root = p.root; path = p.path; is_path = p.of_kind.0; is_definite = p.of_kind.1; ends = p.ends; is_strength = p.is_strength };
+  bound = λ j d. x.bound j (record { root = d.root; path = d.path; of_kind = (d.is_path, d.is_definite); ends = d.ends; is_strength = d.is_strength });
+}
+
+-- a kind from roots in another state than this finds nothing exactly where all roots are in this state
+none_other : (net : Network) (s : List Level) → IsSound net → (kept : Level) (v k : ℕ) → IsStrongestOfKind net s (FromOther kept) v k → k ≡ 0 → AllRootsAre net s v kept
+none_other net s sound kept v k x z root path u = elim (level_cases (state_of s root) kept) [
+  | inl e ↦ e
+  | inr ne ↦ (let b = x.bound (strength net root path) (record { root = root; path = path; of_kind = (u.is_path, u.is_unblocked, ne); ends = u.ends; is_strength = refl }) in
+      let pos = strength-pos net s sound root path u.is_path in absurd (omega arith))
+]
+
+some_other : (net : Network) (s : List Level) (kept : Level) (v k : ℕ) → IsStrongestOfKind net s (FromOther kept) v k → 0 < k → ¬ (AllRootsAre net s v kept)
+some_other net s kept v k x pos all = let p = x.attained pos in p.of_kind.2 (all p.root p.path (record { is_path = p.of_kind.0; ends = p.ends; is_unblocked = p.of_kind.1 }))
+
+pub steady_of : (net : Network) (s : List Level) → IsSound net → (v p q : ℕ) (x : Level) → IsStrongestOfKind net s (FromOther One) v p → IsStrongestOfKind net s (FromOther Zero) v q → IsLevelOf p q x → IsSteadyValue net s v x
+steady_of net s sound v p q One a b l = none_other net s sound One v p a l
+steady_of net s sound v p q Zero a b l = none_other net s sound Zero v q b l
+steady_of net s sound v p q X a b l = (some_other net s One v p a l.0, some_other net s Zero v q b l.1)
+
+-- what is 0 at each listed node is 0 in the part
+pub zero_inside : (inside : List Bool) (order floor : List ℕ) → ((v : ℕ) → IsInside inside v → IsAmong order (length order) v) → ((i : ℕ) → i < length order → slice_index floor (slice_index order i) ≡ 0) →
+    (v : ℕ) → IsInside inside v → slice_index floor v ≡ 0
+zero_inside inside order floor known zeros v ins = let q = known v ins in let at = q.2 in rw at at (zeros q.0 q.1)
+
+-- the nodes of a part's list are nodes of the network
+pub order_below : (net : Network) (part : Part) → IsPartOf net part → All (λ v. v < net.nodes) part.order.now
+order_below net part p k d lt =
+    let r = inside_range part.inside.now (slice_index part.order.now k) (p.listed k lt) in
+    let below : slice_index part.order.now k < net.nodes = omega (arith, r, p.inside) in
+    rw (get_or_default part.order.now k d 0 lt) below
+
+-- with the definite strengths as floors, a pass over the part for other roots may begin
+pub pass_from_other : (net : Network) (part : Part) (level : Level) (pass : Pass) → IsSound net → IsPartOf net part → pass.part ≡ part → pass.kind ≡ FromOther level → length pass.floor.now ≡ net.nodes →
+    ((v : ℕ) → IsInside part.inside.now v → IsStrongestOfKind net part.state.now Definite v (slice_index pass.floor.now v)) → IsPassOver net pass
+pass_from_other net part level pass sound p same_part same_kind fits strongest = record {
+  part = rw same_part p;
+  floor = fits;
+  floors = rw (same_part, same_kind) (λ v ins. let r = inside_range part.inside.now v ins in definite_of net part.state.now sound v (slice_index pass.floor.now v) (omega (arith, r, p.inside)) (strongest v ins));
+}

@@ -1,0 +1,79 @@
+-- A node outside the vicinities of the seeds keeps its value.
+use Rattle.std.proofs.Common.{◌≡◌, ◌≢◌, ℕ, List, [], ◌∷◌, true, inl, inr, refl, sym}
+use Rattle.std.specs.Prelude.{Contains}
+use Rattle.std.proofs.lemmas.Bool.{cases_Bool}
+use Rattle.switch_net.specs.declared.switches.Level.{Level}
+use Rattle.switch_net.specs.declared.switches.Switch.{Switch}
+use Rattle.switch_net.specs.Network.{Network, IsSound}
+use Rattle.switch_net.specs.Path.{Hop, Joins, is_input, state_of, end_of, is_closed_or_unknown}
+use Rattle.switch_net.specs.Steady.{IsStep, IsNextLevel}
+use Rattle.switch_net.specs.Vicinity.{IsStorage, IsChain, IsInVicinity}
+use Rattle.switch_net.proofs.Ranges.{level_cases, input_in_range, ends_in_range}
+use Rattle.switch_net.proofs.Locality.{AgreeOn, other_way, same_steady}
+
+-- the nodes that changed from the one state to the other, and the ends of the switches whose gates did, are seeds
+pub record HoldsSeeds (net : Network) (s t : List Level) (IsSeed : ℕ → Type 0) : Type 0 where
+  pub changed : (v : ℕ) → state_of s v ≢ state_of t v → IsSeed v
+  pub left : (w : Switch) → Contains net.switches w → state_of s w.gate ≢ state_of t w.gate → IsSeed w.left
+  pub right : (w : Switch) → Contains net.switches w → state_of s w.gate ≢ state_of t w.gate → IsSeed w.right
+
+module _ (net : Network) (s : List Level) where
+  pub chain_from : (n : ℕ) (p : List Hop) → IsChain net s n p → IsStorage net n
+  chain_from n [] i = i
+  chain_from n (h ∷ p) i = chain_from n p i.0
+
+  pub chain_to : (n : ℕ) (p : List Hop) → IsChain net s n p → IsStorage net (end_of n p)
+  chain_to n [] i = i
+  chain_to n (h ∷ p) i = i.4
+
+  pub in_self : (n : ℕ) → IsStorage net n → IsInVicinity net s n n
+  in_self n i = record { chain = []; is_chain = i; ends = refl }
+
+  pub in_more : (n a b : ℕ) (w : Switch) → IsInVicinity net s n a → Contains net.switches w → Joins w a b → is_closed_or_unknown s w ≡ true → IsStorage net b → IsInVicinity net s n b
+  in_more n a b w v c j o st = record { chain = record { through = w; to = b } ∷ v.chain; is_chain = (v.is_chain, c, rw v.ends j, o, st); ends = refl }
+
+  -- a chain goes on along another
+  along : (n a : ℕ) (p : List Hop) → IsInVicinity net s n a → IsChain net s a p → IsInVicinity net s n (end_of a p)
+  along n a [] v i = v
+  along n a (h ∷ p) v i = in_more n (end_of a p) h.to h.through (along n a p v i.0) i.1 i.2 i.3 i.4
+
+  turned : (w : Switch) (a b : ℕ) → Joins w a b → Joins w b a
+  turned w a b (inl (p, q)) = inr (q, p)
+  turned w a b (inr (p, q)) = inl (q, p)
+
+  -- a chain leads back
+  back : (a : ℕ) (p : List Hop) → IsChain net s a p → IsInVicinity net s (end_of a p) a
+  back a [] i = in_self a i
+  back a (h ∷ p) i =
+      let one = in_more h.to h.to (end_of a p) h.through (in_self h.to i.4) i.1 (turned h.through (end_of a p) h.to i.2) i.3 (chain_to a p i.0) in
+      let b = back a p i.0 in
+      let r = along h.to (end_of a p) b.chain one b.is_chain in rw b.ends at r
+
+  pub in_turn : (n v : ℕ) → IsInVicinity net s n v → IsInVicinity net s v n
+  in_turn n v i = let b = back n i.chain i.is_chain in rw i.ends at b
+
+module _ (net : Network) (sound : IsSound net) (s t : List Level) (step : IsStep net s t) (IsSeed : ℕ → Type 0) (seeds : HoldsSeeds net s t IsSeed) (v : ℕ) (storage : IsStorage net v)
+    (outside : (n : ℕ) → IsSeed n → IsInVicinity net t n v → ⊥) where
+  -- no node of its vicinity is a seed
+  none_seed : (u : ℕ) → IsInVicinity net t v u → IsSeed u → ⊥
+  none_seed u i sd = outside u sd (in_turn net t v u i)
+
+  quiet_part : AgreeOn net t s (IsInVicinity net t v)
+  quiet_part = record {
+    closed = λ w a b c j o i. elim (cases_Bool (is_input net a)) [
+      | inl e ↦ inr e
+      | inr e ↦ inl (in_more net t v b a w i c (turned net t w a b j) o ((ends_in_range net sound w a b c j).0, e))
+    ];
+    gates = λ w a b c j i. elim (level_cases (state_of s w.gate) (state_of t w.gate)) [
+      | inl e ↦ sym e
+      | inr ne ↦ absurd (none_seed b i (elim j [ inl x ↦ rw (← x.1) (seeds.right w c ne) | inr x ↦ rw (← x.1) (seeds.left w c ne) ]))
+    ];
+    inputs = λ u e. (step.each u (input_in_range net sound u e)).input e;
+    nodes = λ u i. elim (level_cases (state_of s u) (state_of t u)) [ inl e ↦ sym e | inr ne ↦ absurd (none_seed u i (seeds.changed u ne)) ];
+  }
+
+  pub keeps_value : IsNextLevel net t v (state_of t v)
+  keeps_value =
+      let st = (step.each v storage.0).storage storage.1 in
+      let moved = same_steady net s t (IsInVicinity net t v) sound (other_way net t s (IsInVicinity net t v) quiet_part) v (state_of t v) (in_self net t v storage) st in
+      record { input = λ e. absurd (let f = storage.1 in cc); storage = λ e. moved }

@@ -1,0 +1,20 @@
+use Rattle.std.proofs.Common.{◌≡◌, ◌≤◌, ◌-◌}
+use Rattle.switch_net.specs.Phase.{Steps, NoneRests}
+use Rattle.steady_state.specs.Levels.{AreLowStrengths}
+use Rattle.steady_state.specs.Marked.{AreMarked, IsQuiet}
+use Rattle.steady_state.specs.Wired.{network_in}
+use Rattle.steady_state.proofs.settling.take_steps.Given as goal
+
+abbrev pub invariant-steps : goal.invariant-steps
+invariant-steps l = record {
+  reached : Steps (network_in l.net) l.steps l.fn.state l.state;
+  none : NoneRests (network_in l.net) l.steps l.fn.state;
+  within : l.steps ≤ l.budget;
+  same : l.next ≡ l.state;
+  marks : AreMarked (network_in l.net) l.marks l.marked;
+  quiet : IsQuiet (network_in l.net) l.state l.marks.inside;
+  strengths : AreLowStrengths l.net.nodes l.strengths;
+}
+
+abbrev pub decreases-steps : goal.decreases-steps
+decreases-steps l = l.budget - l.steps

@@ -1,0 +1,53 @@
+-- A pass, and how far it has come.
+use Rattle.std.specs.Prelude.{◌≡◌, ℕ, List, true, slice_index, length}
+use Rattle.switch_net.specs.declared.switches.Switch.{Switch}
+use Rattle.switch_net.specs.Network.{Network}
+use Rattle.steady_state.specs.declared.ends.Side.{Side}
+use Rattle.steady_state.specs.declared.part.Pass.{Pass}
+use Rattle.steady_state.specs.Kinds.{goes_through, BeginsAt, HasPath, IsStrongestOfKind}
+use Rattle.steady_state.specs.Marked.{IsInside}
+use Rattle.steady_state.specs.Spreading.{IsRelaxed, IsWorking, IsPulled, IsBegun, IsFilled}
+
+-- the node is of the part
+abbrev pub IsOver : Pass → ℕ → Type 0
+IsOver pass v = IsInside pass.part.inside.now v
+
+abbrev pub floor_at : Pass → ℕ → ℕ
+floor_at pass v = slice_index pass.floor.now v
+
+-- its paths may begin at the node
+abbrev pub MayBeginAt : Pass → ℕ → Type 0
+MayBeginAt pass v = BeginsAt pass.part.state.now pass.kind v
+
+-- its paths go through the switch
+abbrev pub GoesThrough : Pass → Switch → Type 0
+GoesThrough pass switch = goes_through pass.part.state.now pass.kind switch ≡ true
+
+-- a path of its kind to the node has this strength
+abbrev pub Finds : Network → Pass → ℕ → ℕ → Type 0
+Finds net pass v k = HasPath net pass.part.state.now pass.kind v k
+
+-- the strongest one has this strength
+abbrev pub FindsAtMost : Network → Pass → ℕ → ℕ → Type 0
+FindsAtMost net pass v k = IsStrongestOfKind net pass.part.state.now pass.kind v k
+
+-- the strengths are under way, where the switches at v at places below l on the left and below r on the right are still to be gone by
+abbrev pub IsSpreading : Network → Pass → List ℕ → List ℕ → ℕ → ℕ → ℕ → ℕ → Type 0
+IsSpreading net pass best stack waiting v l r = IsWorking net pass.part.state.now pass.kind pass.part.inside.now pass.floor.now best stack waiting v l r
+
+-- the switch brings no more to its other end
+abbrev pub BringsNoMore : Pass → List ℕ → Side → Switch → Type 0
+BringsNoMore pass best side switch = IsRelaxed pass.part.state.now pass.kind pass.part.inside.now pass.floor.now best side switch
+
+-- the inputs on this side of the node bring no more than this
+abbrev pub InputsBringAtMost : Network → Pass → Side → ℕ → ℕ → Type 0
+InputsBringAtMost net pass side v best = IsPulled net pass.part.state.now pass.kind pass.floor.now side v 0 best
+
+-- what the node has by itself and from inputs
+abbrev pub BeginsWith : Network → Pass → ℕ → ℕ → Type 0
+BeginsWith net pass v best = IsBegun net pass.part.state.now pass.kind pass.floor.now v best
+
+-- each node of the part has that, and waits where it has some strength
+abbrev pub HasBegun : Network → Pass → List ℕ → List ℕ → ℕ → Type 0
+HasBegun net pass best stack waiting =
+    IsFilled net pass.part.state.now pass.kind pass.part.inside.now pass.floor.now pass.part.order.now (length pass.part.order.now) best stack waiting

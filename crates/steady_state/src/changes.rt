@@ -1,0 +1,104 @@
+//! What a step changed, and what may change in the next.
+
+ghost use Rattle.std.specs.Prelude.{◌≡◌, ◌≢◌, ◌<◌, ◌≤◌, ℕ, All, length, slice_index};
+ghost use Rattle.switch_net.specs.Path.{state_of};
+ghost use Rattle.switch_net.specs.Vicinity.{IsStorage};
+ghost use Rattle.steady_state.specs.Wired.{network_in, IsSwitchOf};
+ghost use Rattle.steady_state.specs.Marked.{IsInside, IsAmong, AreMarked, IsGated};
+
+use crate::adjacent::{first, next};
+use crate::ends::Terminal;
+use crate::marking::mark;
+use crate::wiring::Wiring;
+use switch_net::{Level, Marks, Switch};
+
+/// Lists the nodes of the list whose states differ, and says how many those are.
+pub(crate) fn changes(order: &[u32], state: &[Level], next: &[Level], changed: &mut [u32]) -> usize
+    requires order { All (λ v. v < length state.now) order.now }
+    requires next { length next.now ≡ length state.now }
+    requires changed { length order.now ≤ length changed.old }
+    ensures few { result ≤ length changed.new }
+    ensures found { (i : ℕ) → i < length order.now
+        → state_of state.now (slice_index order.now i) ≢ state_of next.now (slice_index order.now i)
+        → IsAmong changed.new result (slice_index order.now i) }
+    ensures below { (i : ℕ) → i < result → slice_index changed.new i < length state.now }
+    ensures differ { (i : ℕ) → i < result
+        → state_of state.now (slice_index changed.new i)
+        ≢ state_of next.now (slice_index changed.new i) }
+{
+    let mut count = 0;
+    for node in order {
+        if state[*node as usize] != next[*node as usize] {
+            changed[count] = *node;
+            count += 1;
+        }
+    }
+    count
+}
+
+/// Copies the states of the nodes that are listed, which are all that differ.
+pub(crate) fn commit(changed: &[u32], next: &[Level], state: &mut [Level])
+    requires changed { All (λ v. v < length state.old) changed.now }
+    requires next { length next.now ≡ length state.old }
+    requires found { (v : ℕ) → state_of state.old v ≢ state_of next.now v
+        → IsAmong changed.now (length changed.now) v }
+    ensures { state.new ≡ next.now }
+{
+    for node in changed {
+        state[*node as usize] = next[*node as usize];
+    }
+}
+
+/// Marks both ends of a switch.
+fn mark_ends(net: &Wiring<'_>, switch: &Switch, marks: &mut Marks, before: usize) -> usize
+    requires switch { IsSwitchOf (network_in net.now) switch.now }
+    requires marks { AreMarked (network_in net.now) marks.old before }
+    ensures marks { AreMarked (network_in net.now) marks.new result }
+    ensures grown { (v : ℕ) → IsInside marks.old.inside v → IsInside marks.new.inside v }
+    ensures left { IsStorage (network_in net.now) switch.now.left
+        → IsInside marks.new.inside switch.now.left }
+    ensures right { IsStorage (network_in net.now) switch.now.right
+        → IsInside marks.new.inside switch.now.right }
+{
+    let count = mark(net, switch.left, marks, before);
+    mark(net, switch.right, marks, count)
+}
+
+/// Marks the ends of the switches that a node gates.
+fn mark_gated(net: &Wiring<'_>, node: usize, marks: &mut Marks, before: usize) -> usize
+    requires node { node < net.now.nodes }
+    requires marks { AreMarked (network_in net.now) marks.old before }
+    ensures marks { AreMarked (network_in net.now) marks.new result }
+    ensures grown { (v : ℕ) → IsInside marks.old.inside v → IsInside marks.new.inside v }
+    ensures gated { IsGated (network_in net.now) marks.new.inside node 0 }
+{
+    let mut count = before;
+    let mut cursor = first(net, Terminal::Gate, node);
+    'gated: while cursor > 0 {
+        let place = (cursor - 1) as usize;
+        let switch = net.switches[place];
+        count = mark_ends(net, &switch, marks, count);
+        cursor = next(net, Terminal::Gate, place);
+    }
+    count
+}
+
+/// Marks the nodes that changed and the ends of the switches that they gate, where no node is
+/// marked yet, and says how many nodes are marked then.
+pub(crate) fn mark_changed(net: &Wiring<'_>, changed: &[u32], marks: &mut Marks) -> usize
+    requires changed { All (λ v. v < net.now.nodes) changed.now }
+    requires marks { AreMarked (network_in net.now) marks.old 0 }
+    ensures marks { AreMarked (network_in net.now) marks.new result }
+    ensures changed { (i : ℕ) → i < length changed.now
+        → IsStorage (network_in net.now) (slice_index changed.now i)
+        → IsInside marks.new.inside (slice_index changed.now i) }
+    ensures gated { (i : ℕ) → i < length changed.now
+        → IsGated (network_in net.now) marks.new.inside (slice_index changed.now i) 0 }
+{
+    let mut count = 0;
+    'changed: for node in changed {
+        count = mark(net, *node, marks, count);
+        count = mark_gated(net, *node as usize, marks, count);
+    }
+    count
+}

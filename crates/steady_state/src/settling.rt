@@ -1,0 +1,151 @@
+//! Steps and phases of a network.
+
+ghost use Rattle.std.specs.Prelude.{◌≡◌, ◌<◌, ℕ, All, IfOk, length};
+ghost use Rattle.switch_net.specs.Arrays.{AreMarksFor, AreStrengthsFor};
+ghost use Rattle.switch_net.specs.Net.{network_of};
+ghost use Rattle.switch_net.specs.Path.{state_of};
+ghost use Rattle.switch_net.specs.Steady.{IsStep, IsSteadyValue};
+ghost use Rattle.switch_net.specs.Phase.{IsPhase};
+ghost use Rattle.switch_net.specs.Vicinity.{IsReached};
+ghost use Rattle.steady_state.specs.Wired.{network_in};
+
+use crate::adjacent::chain_all;
+use crate::changes::{changes, commit, mark_changed};
+use crate::marking::unmark;
+use crate::stepping::{clear_strengths, mark_afresh, step_all, step_marked, step_seeds};
+use crate::wiring::Wiring;
+use std::alloc::Global;
+use switch_net::{Level, Marks, Net, NetFault, Strengths, Work};
+
+/// How a phase ended: after how many steps, and whether it had settled then.
+#[derive(Clone, Copy, Debug, PartialEq, Eq)]
+pub struct Settled {
+    pub steps: u32,
+    pub done: bool,
+}
+
+/// The states after one step: each node that stores charge has its steady value, and the inputs are
+/// as they were. It takes one state for each node.
+pub fn step(alloc: Global, net: &Net, state: &[Level]) -> Result<Vec<Level>, NetFault>
+    requires { length state.now ≡ net.now.nodes }
+    ensures { IfOk result (λ next. IsStep (network_of net.now) state.now next.items) }
+{
+    let mut work = Work::build(alloc, net.nodes, net.switches.items().len())?;
+    let mut next = Vec::from_slice(alloc, state)?;
+    chain_all(net.switches.items(), &mut work.adjacency);
+    let wiring = Wiring {
+        nodes: net.nodes,
+        switches: net.switches.items(),
+        sizes: net.sizes.items(),
+        inputs: net.inputs.items(),
+        adjacency: &work.adjacency,
+    };
+    step_all(
+        &wiring,
+        state,
+        &mut work.marks,
+        &mut work.strengths,
+        &mut next,
+    );
+    Ok(next)
+}
+
+/// Takes steps until a step changes nothing, at most as many as the budget. The states are then
+/// those that it settled in, or those after as many steps as the budget. It takes one state for
+/// each node, and no memory.
+pub fn settle(net: &mut Net, state: &mut [Level], budget: u32) -> Settled
+    requires { length state.old ≡ net.old.nodes }
+    ensures phase { IsPhase (network_of net.old) budget state.old
+        result.done result.steps state.new }
+    ensures net { network_of net.new ≡ network_of net.old }
+{
+    chain_all(net.switches.items(), &mut net.work.adjacency);
+    let wiring = Wiring {
+        nodes: net.nodes,
+        switches: net.switches.items(),
+        sizes: net.sizes.items(),
+        inputs: net.inputs.items(),
+        adjacency: &net.work.adjacency,
+    };
+    take_steps(
+        &wiring,
+        state,
+        budget,
+        &mut net.work.marks,
+        &mut net.work.strengths,
+        net.work.next.items_mut(),
+        net.work.changed.items_mut(),
+    )
+}
+
+/// Gives each node in the vicinity of a seed, by the old states, its steady value for these in the
+/// new states, and leaves every other new state. It takes one state for each node in both, and no
+/// memory.
+pub fn step_within(net: &mut Net, old: &[Level], new: &mut [Level], seeds: &[u32])
+    requires old { length old.now ≡ net.old.nodes }
+    requires new { length new.old ≡ net.old.nodes }
+    requires seeds { All (λ v. v < net.old.nodes) seeds.now }
+    ensures steady { (v : ℕ) → IsReached (network_of net.old) old.now seeds.now v
+        → IsSteadyValue (network_of net.old) old.now v (state_of new.new v) }
+    ensures kept { (v : ℕ) → ¬ (IsReached (network_of net.old) old.now seeds.now v)
+        → state_of new.new v ≡ state_of new.old v }
+    ensures net { network_of net.new ≡ network_of net.old }
+{
+    chain_all(net.switches.items(), &mut net.work.adjacency);
+    let wiring = Wiring {
+        nodes: net.nodes,
+        switches: net.switches.items(),
+        sizes: net.sizes.items(),
+        inputs: net.inputs.items(),
+        adjacency: &net.work.adjacency,
+    };
+    step_seeds(
+        &wiring,
+        old,
+        seeds,
+        &mut net.work.marks,
+        &mut net.work.strengths,
+        new,
+    );
+}
+
+/// Takes steps until a step changes nothing, at most as many as the budget, whatever the arrays
+/// hold. A step after the first works on the vicinities alone in which something may change.
+fn take_steps(
+    net: &Wiring<'_>,
+    state: &mut [Level],
+    budget: u32,
+    marks: &mut Marks,
+    strengths: &mut Strengths,
+    next: &mut [Level],
+    changed: &mut [u32],
+) -> Settled
+    requires state { length state.old ≡ net.now.nodes }
+    requires marks { AreMarksFor net.now.nodes marks.old }
+    requires strengths { AreStrengthsFor net.now.nodes strengths.old }
+    requires next { length next.old ≡ net.now.nodes }
+    requires changed { length changed.old ≡ net.now.nodes }
+    ensures marks { AreMarksFor net.now.nodes marks.new }
+    ensures strengths { AreStrengthsFor net.now.nodes strengths.new }
+    ensures phase { IsPhase (network_in net.now) budget state.old
+        result.done result.steps state.new }
+{
+    clear_strengths(strengths);
+    next.copy_from_slice(state);
+    let mut marked = mark_afresh(net, marks);
+    let mut steps = 0;
+    'steps: loop {
+        let part = step_marked(net, state, marks, marked, strengths, next);
+        let moved = changes(&marks.order.items()[..part], state, next, changed);
+        if moved == 0 {
+            return Settled { steps, done: true };
+        }
+        if steps == budget {
+            return Settled { steps, done: false };
+        }
+        commit(&changed[..moved], next, state);
+        unmark(marks, part);
+        marked = mark_changed(net, &changed[..moved], marks);
+        steps += 1;
+    }
+}

@@ -1,0 +1,27 @@
+//! A network as the functions of a step see it: without the arrays that they change, and with its
+//! switches chained by their nodes.
+
+ghost use Rattle.std.specs.Prelude.{◌≡◌, ◌≤◌, ◌<◌, ◌^◌, All, length, slice_index};
+ghost use Rattle.std.proofs.Props.{props};
+ghost use Rattle.switch_net.specs.Network.{IsWithin, IsSize};
+ghost use Rattle.switch_net.specs.Arrays.{IsAdjacencyFor};
+ghost use Rattle.steady_state.specs.Ends.{AreChained};
+
+use switch_net::{Adjacency, Switch};
+
+/// A network, and the chains of its switches.
+#[derive(Clone, Copy)]
+pub(crate) struct Wiring<'a> {
+    pub nodes: u32,
+    pub switches: &'a [Switch],
+    pub sizes: &'a [u8],
+    pub inputs: &'a [bool],
+    pub adjacency: &'a Adjacency,
+    pub ghost few_switches: { length switches.now ≤ 2 ^ 20 },
+    pub ghost switches_within: { All (IsWithin nodes) switches.now } by { Prim.hlevel props },
+    pub ghost one_size: { length sizes.now ≡ nodes },
+    pub ghost one_input: { length inputs.now ≡ nodes },
+    pub ghost sizes_in_range: { All IsSize sizes.now } by { Prim.hlevel props },
+    pub ghost adjacency_fits: { IsAdjacencyFor nodes (length switches.now) adjacency.now } by { Prim.hlevel props },
+    pub ghost chained: { AreChained switches.now adjacency.now } by { Prim.hlevel props },
+}
