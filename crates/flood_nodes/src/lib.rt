@@ -7,4 +7,4 @@ mod regions;
 mod tests;
 
 pub use faults::FloodFault;
-pub use regions::flood;
+pub use regions::{areas_of, flood};

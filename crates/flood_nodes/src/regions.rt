@@ -32,13 +32,13 @@ fn contacts_of(alloc: Global, pieces: &[Piece]) -> Result<Vec<Contact>, FloodFau
     requires { AreTiles pieces.now }
     ensures { IfOk result (λ contacts. Lists (IsContact (areas_of pieces.now)) contacts.items) }
 {
-    let areas = areas(alloc, pieces)?;
+    let areas = areas_of(alloc, pieces)?;
     let contacts = touching(alloc, areas.as_slice())?;
     Ok(contacts)
 }
 
-/// The rectangles of the pieces.
-fn areas(alloc: Global, pieces: &[Piece]) -> Result<Vec<Rect>, AllocError>
+/// The rectangles of pieces, in their order. Want of memory alone refuses.
+pub fn areas_of(alloc: Global, pieces: &[Piece]) -> Result<Vec<Rect>, AllocError>
     ensures { IfOk result (λ areas. areas.items ≡ areas_of pieces.now) }
 {
     pieces.iter().map(|piece| piece.area).collect(alloc)

@@ -1,3 +1,10 @@
 pub mod CoveringLaws
+pub mod ElementLaws
+pub mod ImageLaws
+pub mod JoinLaws
 pub mod NeighbourLaws
+pub mod PairLaws
+pub mod PartLaws
 pub mod SquareOrderLaws
+pub mod StripLaws
+pub mod StripListLaws

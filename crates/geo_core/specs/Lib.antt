@@ -1,3 +1,9 @@
+pub mod Bars
 pub mod Covering
+pub mod Elements
+pub mod Images
 pub mod Neighbours
+pub mod Orientation
+pub mod Reach
 pub mod SquareOrder
+pub mod Strips

@@ -1,14 +1,25 @@
 //! Squares, rectangles and pieces of a layout, and the names and lists that every layer hands to the next.
 #![tactic(auto)]
 
+mod bars;
 mod faults;
+mod grids;
 mod lists;
 mod names;
+mod orients;
+#[cfg(test)]
+mod place_tests;
 mod squares;
+mod strip_lists;
 #[cfg(test)]
 mod tests;
+mod transforms;
 
 pub use faults::GeoFault;
+pub use grids::Grid;
 pub use lists::List;
 pub use names::Name;
+pub use orients::Orient;
 pub use squares::{Piece, Rect, Square};
+pub use strip_lists::{SquareSet, strips, strips_are_unique};
+pub use transforms::Transform;

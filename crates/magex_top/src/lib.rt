@@ -1,6 +1,7 @@
 //! The top call of `magex`: a script, line by line, over cells, files and a report.
 #![tactic(auto)]
 
+mod built_in;
 mod cells;
 mod commands;
 mod faults;

@@ -5,10 +5,11 @@ ghost use Rattle.layout_model.specs.Layouts.{on_plane, painted};
 ghost use Rattle.layout_model.specs.Nodes.{Node, AreNodes};
 ghost use Rattle.layout_model.specs.Technologies.{capacitance};
 ghost use Rattle.magex_top.specs.Drawings.{AreDrawn};
-ghost use Rattle.magex_top.specs.BuiltIn.{two, two_classes, two_word};
+ghost use Rattle.magex_top.specs.BuiltIn.{two, two_classes};
 ghost use Rattle.magex_top.specs.NodeText.{coordinate, generated_name, node_line, node_lines, node_place, node_title, measures_text};
 ghost use Rattle.magex_top.specs.PlainNodes.{node_of, IsMeasured};
 
+use crate::built_in::word_of;
 use crate::nodes::{PlainNode, nodes_of};
 use crate::pieces::disjoint_pieces;
 use geo_core::Piece;
@@ -122,11 +123,4 @@ fn append_coordinate(text: &mut Vec<u8>, value: i64) -> Result<(), AllocError>
     } else {
         append_decimal(text, value)
     }
-}
-
-// The name of a tile type.
-fn word_of(kind: u8) -> &'static [u8]
-    ensures { result.now ≡ two_word kind }
-{
-    if kind == 1 { b"left" } else { b"right" }
 }

@@ -1,15 +1,14 @@
 //! The nodes of pieces.
 ghost use Rattle.std.specs.Prelude.{◌≡◌, IfOk, All, map};
 ghost use Rattle.layout_model.specs.Nodes.{AreNodes};
-ghost use Rattle.flood_nodes.specs.Alike.{areas_of};
 ghost use Rattle.flood_nodes.specs.Tiles.{AreTiles, layout_of};
 ghost use Rattle.magex_top.specs.BuiltIn.{two};
 ghost use Rattle.magex_top.specs.PieceOrder.{AreByCorner};
 ghost use Rattle.magex_top.specs.PlainNodes.{node_of, IsMeasured};
 
 use crate::measures::{gather, take_off};
-use flood_nodes::flood;
-use geo_core::{Piece, Rect, Square};
+use flood_nodes::{areas_of, flood};
+use geo_core::{Piece, Square};
 use std::alloc::{AllocError, Global};
 use sweeps::touching;
 
@@ -49,17 +48,11 @@ pub fn nodes_of(alloc: Global, pieces: &[Piece]) -> Result<Vec<PlainNode>, Alloc
     Ok(nodes)
 }
 
-/// The areas of the pieces.
-fn areas_of(alloc: Global, pieces: &[Piece]) -> Result<Vec<Rect>, AllocError>
-    ensures { IfOk result (λ areas. areas.items ≡ areas_of pieces.now) }
-{
-    pieces.iter().map(|piece| piece.area).collect(alloc)
-}
-
 #[cfg(test)]
 mod tests {
     use super::*;
     use crate::pieces::disjoint_pieces;
+    use geo_core::Rect;
     use std::test::Fail;
 
     const WIDE: Rect = Rect {

@@ -10,18 +10,13 @@ ghost use Rattle.magex_top.specs.PlainLines.{is_coordinate, coordinate_of, if_pr
 ghost use Rattle.magex_top.specs.PlainMag.{plain_lines, in_group, in_header, from_first_line, IsPlainForm, plain_cell};
 ghost use Rattle.magex_top.specs.PlainSections.{all_from};
 
+use crate::built_in::{LEFT, RIGHT};
 use geo_core::{Piece, Rect};
 use std::alloc::{AllocError, Global};
 use text_scan::{lines, number, words};
 
 #[cfg(test)]
 mod tests;
-
-/// The layer `left`.
-const LEFT: u8 = 1;
-
-/// The layer `right`.
-const RIGHT: u8 = 2;
 
 /// The least number that may stand as a coordinate.
 const LEAST_COORDINATE: i64 = -67_108_858;

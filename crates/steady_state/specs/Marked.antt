@@ -11,6 +11,10 @@ use Rattle.switch_net.specs.Vicinity.{IsStorage, IsInVicinity, IsReached}
 use Rattle.steady_state.specs.declared.ends.Side.{Side}
 use Rattle.steady_state.specs.Ends.{near_end, far_end}
 
+-- a state for each node
+abbrev pub States : Type 0
+States = List Level
+
 -- the node is marked
 abbrev pub IsInside : List Bool → ℕ → Type 0
 IsInside inside v = slice_index_or inside v false ≡ true

@@ -2,12 +2,11 @@
 
 ghost use Rattle.std.specs.Prelude.{◌≡◌, ◌<◌, ◌≤◌, ◌↔◌, ℕ, List, All, Contains, IsTrue, true, false};
 ghost use Rattle.std.specs.Prelude.{length, slice_index, slice_index_or};
-ghost use Rattle.switch_net.specs.declared.switches.Level.{Level as IsLevel};
 ghost use Rattle.switch_net.specs.Path.{is_closed_or_unknown};
 ghost use Rattle.switch_net.specs.Vicinity.{IsStorage, IsReached};
 ghost use Rattle.steady_state.specs.Ends.{near_end, far_end};
 ghost use Rattle.steady_state.specs.Wired.{network_in, IsSwitchOf};
-ghost use Rattle.steady_state.specs.Marked.{IsInside, IsAmong, IsCovered};
+ghost use Rattle.steady_state.specs.Marked.{IsInside, IsAmong, IsCovered, States};
 ghost use Rattle.steady_state.specs.Marked.{AreMarked, AddsMarks, AreReached};
 
 use crate::adjacent::{first, next};
@@ -30,7 +29,7 @@ pub(crate) fn mark(net: &Wiring<'_>, node: u32, marks: &mut Marks, count: usize)
     requires marks { AreMarked (network_in net.now) marks.old count }
     ensures marks { AreMarked (network_in net.now) marks.new result }
     ensures adds { AddsMarks marks.old marks.new count result }
-    ensures reached { (s : List IsLevel) (seeds : List ℕ)
+    ensures reached { (s : States) (seeds : List ℕ)
         → AreReached (network_in net.now) s seeds marks.old.inside
         → (IsStorage (network_in net.now) node → IsReached (network_in net.now) s seeds node)
         → AreReached (network_in net.now) s seeds marks.new.inside }

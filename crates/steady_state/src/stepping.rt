@@ -1,14 +1,13 @@
 //! One step of a part of a network.
 
-ghost use Rattle.std.specs.Prelude.{◌≡◌, ◌<◌, ◌*◌, ℕ, List, All, length, slice_index};
-ghost use Rattle.switch_net.specs.declared.switches.Level.{Level as IsLevel};
+ghost use Rattle.std.specs.Prelude.{◌≡◌, ◌<◌, ◌*◌, ℕ, All, length, slice_index};
 ghost use Rattle.switch_net.specs.Arrays.{AreMarksFor, AreStrengthsFor};
 ghost use Rattle.switch_net.specs.Path.{state_of};
 ghost use Rattle.switch_net.specs.Steady.{IsStep, IsSteadyValue};
 ghost use Rattle.switch_net.specs.Vicinity.{IsReached};
 ghost use Rattle.steady_state.specs.Levels.{AreLow, AreLowStrengths, AreSteady, KeepsOthers};
 ghost use Rattle.steady_state.specs.Levels.{IsLevelOf, IsWritten};
-ghost use Rattle.steady_state.specs.Marked.{AreMarked, IsInside, IsQuiet};
+ghost use Rattle.steady_state.specs.Marked.{AreMarked, IsInside, IsQuiet, States};
 ghost use Rattle.steady_state.specs.Parts.{IsPartOf};
 ghost use Rattle.steady_state.specs.Wired.{network_in};
 
@@ -178,7 +177,7 @@ pub(crate) fn step_marked(
 pub(crate) fn mark_afresh(net: &Wiring<'_>, marks: &mut Marks) -> usize
     requires { AreMarksFor net.now.nodes marks.old }
     ensures marks { AreMarked (network_in net.now) marks.new result }
-    ensures quiet { (s : List IsLevel) → IsQuiet (network_in net.now) s marks.new.inside }
+    ensures quiet { (s : States) → IsQuiet (network_in net.now) s marks.new.inside }
 {
     unmark_all(marks);
     mark_all(net, marks)

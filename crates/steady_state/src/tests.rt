@@ -1,6 +1,6 @@
 //! Networks worked by hand, and two large ones.
 
-ghost use Rattle.std.specs.Prelude.{◌≡◌, ◌≤◌, ◌<◌, ◌^◌, IfOk, length};
+ghost use Rattle.std.specs.Prelude.{◌≡◌, ◌≤◌, ◌<◌, ◌^◌, IfOk, length, vec_len};
 
 use super::*;
 use std::alloc::{AllocError, Global};
@@ -170,6 +170,7 @@ fn oscillates(rt: HostRuntime) -> Result<(), Fail> {
     let mut net = network(&rt, rt.alloc(), 5, &ring())?;
     for (budget, level) in [(0, Zero), (1, One), (10, Zero), (11, One)] {
         let mut state = [Zero, One, Zero, Zero, Zero];
+        assert!(rt; net.nodes == 5);
         let settled = settle(&mut net, &mut state, budget);
         assert!(rt; !settled.done && settled.steps == budget);
         assert!(rt; state[2] == level && state[3] == level && state[4] == level);
@@ -177,15 +178,43 @@ fn oscillates(rt: HostRuntime) -> Result<(), Fail> {
     Ok(())
 }
 
+/// States of so many nodes: these of the first ones, and X of the others.
+fn states(alloc: Global, nodes: u32, first: &[Level]) -> Result<Vec<Level>, AllocError>
+    requires { length first.now ≤ nodes }
+    ensures { IfOk result (λ states. vec_len states ≡ nodes) }
+{
+    let mut states = vec![in alloc; X; nodes as usize]?;
+    states[..first.len()].copy_from_slice(first);
+    Ok(states)
+}
+
+/// How a phase of a network of these switches ends after at most 200,000 steps. It begins with
+/// these states of the first nodes and X of the others, and the node behind the rails is an input
+/// where that is asked. The states are left in the vector.
+fn settle_large(
+    rt: &impl Abort,
+    alloc: Global,
+    switches: &[Switch],
+    is_driven: bool,
+    state: &mut Vec<Level>,
+) -> Result<Settled, NetFault> {
+    assert!(rt; state.len() >= 3 && state.len() <= 1_000_100);
+    let mut net = network(rt, alloc, state.len() as u32, switches)?;
+    if is_driven {
+        net.set_input(2);
+    }
+    assert!(rt; state.len() == net.nodes as usize);
+    Ok(settle(&mut net, state, 200_000))
+}
+
 // The same ring beside a million nodes without a switch: a step costs what the ring costs.
 #[test]
 fn oscillates_beside_idle_nodes(rt: HostRuntime) -> Result<(), Fail> {
-    let mut state = vec![in rt.alloc(); X; 1_000_005]?;
-    state[..5].copy_from_slice(&[Zero, One, Zero, Zero, Zero]);
-    let mut net = network(&rt, rt.alloc(), 1_000_005, &ring())?;
-    let settled = settle(&mut net, &mut state, 200_000);
+    let first = [Zero, One, Zero, Zero, Zero];
+    let mut state = states(rt.alloc(), 1_000_005, &first)?;
+    let settled = settle_large(&rt, rt.alloc(), &ring(), false, &mut state)?;
     assert!(rt; !settled.done && settled.steps == 200_000);
-    assert!(rt; state[5..].iter().all(|level| *level == X));
+    assert!(rt; state.iter().skip(5).all(|level| *level == X));
     Ok(())
 }
 
@@ -204,12 +233,9 @@ fn inverters(alloc: Global, count: u32) -> Result<Vec<Switch>, AllocError>
 #[test]
 fn settles_a_long_chain(rt: HostRuntime) -> Result<(), Fail> {
     let switches = inverters(rt.alloc(), 200_000)?;
-    let mut state = vec![in rt.alloc(); X; 200_003]?;
-    state[..3].copy_from_slice(&[Zero, One, Zero]);
-    let mut net = network(&rt, rt.alloc(), 200_003, &switches)?;
-    net.set_input(2);
-    let settled = settle(&mut net, &mut state, 200_000);
+    let mut state = states(rt.alloc(), 200_003, &[Zero, One, Zero])?;
+    let settled = settle_large(&rt, rt.alloc(), &switches, true, &mut state)?;
     assert!(rt; settled.done && settled.steps == 200_000);
-    assert!(rt; state[200_002] == Zero);
+    assert!(rt; state.last() == Some(&Zero));
     Ok(())
 }

@@ -4,7 +4,8 @@ use Rattle.std.proofs.lemmas.Bool.{cases_lt, cases_eq}
 use Rattle.switch_net.specs.declared.switches.Level.{Level}
 use Rattle.switch_net.specs.Network.{Network}
 use Rattle.switch_net.specs.Path.{Hop, IsPath, IsDefinite, IsBlocked, IsPrefix, DefiniteTo, strength, end_of, nodes_of}
-use Rattle.switch_net.specs.Laws.{IsMember, HasNoRepeat, HasSimplePath, EachHasSimplePath}
+use Rattle.totals.specs.Lists.{In, Distinct}
+use Rattle.switch_net.specs.Laws.{HasSimplePath, EachHasSimplePath}
 
 module _ (net : Network) (s : List Level) (root : ℕ) where
   drop_path : (rest q : List Hop) → IsPath net s root (rest ++ q) → IsPath net s root q
@@ -15,7 +16,7 @@ module _ (net : Network) (s : List Level) (root : ℕ) where
   drop_definite [] q i = i
   drop_definite (h ∷ rest) q i = drop_definite rest q i.0
 
-  drop_no_repeat : (rest q : List Hop) → HasNoRepeat (nodes_of root (rest ++ q)) → HasNoRepeat (nodes_of root q)
+  drop_no_repeat : (rest q : List Hop) → Distinct (nodes_of root (rest ++ q)) → Distinct (nodes_of root q)
   drop_no_repeat [] q i = i
   drop_no_repeat (h ∷ rest) q i = drop_no_repeat rest q i.1
 
@@ -71,13 +72,13 @@ module _ (net : Network) (s : List Level) (root : ℕ) where
       let lt : strength net root b.prefix < b.stronger = b.is_stronger in omega arith
 
   -- a prefix that ends at a node of the path
-  prefix_at : (v : ℕ) (p : List Hop) → IsMember v (nodes_of root p) → (q : List Hop) × IsPrefix q p × (end_of root q ≡ v)
+  prefix_at : (v : ℕ) (p : List Hop) → In v (nodes_of root p) → (q : List Hop) × IsPrefix q p × (end_of root q ≡ v)
   prefix_at v [] (inl e) = ([], ([], refl), e)
   prefix_at v [] (inr e) = absurd e
   prefix_at v (h ∷ p) (inl e) = (h ∷ p, ([], refl), e)
   prefix_at v (h ∷ p) (inr m) = let r = prefix_at v p m in (r.0, (h ∷ r.1.0, ap (λ l. h ∷ l) r.1.1), r.2)
 
-member_cases : (v : ℕ) (xs : List ℕ) → IsMember v xs ⊎ (¬ (IsMember v xs))
+member_cases : (v : ℕ) (xs : List ℕ) → In v xs ⊎ (¬ (In v xs))
 member_cases v [] = inr (λ e. e)
 member_cases v (x ∷ xs) = elim (cases_eq x v) [
   | inl e ↦ inl (inl e)
@@ -86,7 +87,7 @@ member_cases v (x ∷ xs) = elim (cases_eq x v) [
 
 -- a hop more on a simple path
 hop_more : (net : Network) (s : List Level) (root : ℕ) (h : Hop) (p : List Hop) → IsPath net s root (h ∷ p) → (r : HasSimplePath net s root p) →
-    IsMember h.to (nodes_of root r.simple) ⊎ (¬ (IsMember h.to (nodes_of root r.simple))) → HasSimplePath net s root (h ∷ p)
+    In h.to (nodes_of root r.simple) ⊎ (¬ (In h.to (nodes_of root r.simple))) → HasSimplePath net s root (h ∷ p)
 unfolding NotOvercome
 hop_more net s root h p i r (inl m) =
     let q = prefix_at net s root h.to r.simple m in

@@ -1,25 +1,16 @@
 -- Laws over the definitions alone.
-use Rattle.std.specs.Prelude.{◌≡◌, ℕ, ◌<◌, ◌≤◌, List, [], ◌∷◌, ◌⊎◌}
+use Rattle.std.specs.Prelude.{◌≡◌, ℕ, ◌<◌, ◌≤◌, List}
+use Rattle.totals.specs.Lists.{Distinct}
 use Rattle.switch_net.specs.declared.switches.Level.{Level}
 use Rattle.switch_net.specs.Network.{Network, IsSound}
 use Rattle.switch_net.specs.Path.{Hop, IsPath, IsDefinite, IsBlocked, strength, end_of, nodes_of}
 use Rattle.switch_net.specs.Steady.{IsSteadyValue}
 
--- the node stands in the list
-abbrev pub IsMember : ℕ → List ℕ → Type 0
-IsMember v [] = ⊥
-IsMember v (x ∷ xs) = (x ≡ v) ⊎ IsMember v xs
-
--- no node stands in the list twice
-abbrev pub HasNoRepeat : List ℕ → Type 0
-HasNoRepeat [] = Unit {0}
-HasNoRepeat (x ∷ xs) = (¬ (IsMember x xs)) × HasNoRepeat xs
-
 -- a path from the same root to the same end with no node twice, no less strong, and definite and unblocked where the first is
 pub record HasSimplePath (net : Network) (s : List Level) (root : ℕ) (path : List Hop) : Type 0 where
   pub simple : List Hop
   pub is_path : IsPath net s root simple
-  pub no_repeat : HasNoRepeat (nodes_of root simple)
+  pub no_repeat : Distinct (nodes_of root simple)
   pub same_end : end_of root simple ≡ end_of root path
   pub as_strong : strength net root path ≤ strength net root simple
   pub stays_definite : IsDefinite s path → IsDefinite s simple

@@ -1,0 +1,209 @@
+-- The list that the sorts and joins make has exactly the strips, in order; and a set has one list of strips.
+use Rattle.std.proofs.Common.{◌≡◌, ◌≢◌, ◌⊎◌, inl, inr, ℕ, zero, suc, ◌<◌, ℤ, pos, ◌≤ℤ◌, ◌<ℤ◌, false, List, [], ◌∷◌, length, map, get_or, refl, sym, ◌∙◌, ap, subst, arith}
+use Rattle.std.specs.Prelude.{AllPairs, IsSorted, IsPermutation}
+use Rattle.std.specs.Cmp.{IsTotalOrder}
+use Rattle.std.specs.declared.cmp.Ordering.{Ordering}
+use Rattle.std.specs.declared.cmp.Ordering.TheVariants.{Less, Equal, Greater}
+use Rattle.std.specs.Ordering.{is_lt, int_cmp, ordering_then}
+use Rattle.std.proofs.Math.ListN.{get_or-map}
+use Rattle.std.proofs.lemmas.Bool.{false≢true}
+use Rattle.std.proofs.lemmas.Cmp.{int_cmp_total, on_total, then_total, int_ranked}
+use Rattle.std.proofs.lemmas.Int.{ints, by_lt_z}
+use Rattle.std.proofs.lemmas.List.{length-map}
+use Rattle.std.proofs.lemmas.List.Sorted.{sorted_far, ranks_by, IsPermutation-sym}
+use Rattle.totals.specs.Lists.{In}
+use Rattle.totals.proofs.Members.{In-get_or, In-map, In-map_source}
+use Rattle.geo_core.specs.declared.squares.Square.{Square}
+use Rattle.geo_core.specs.declared.squares.Rect.{Rect}
+use Rattle.geo_core.specs.declared.bars.Bar.{Bar}
+use Rattle.geo_core.specs.declared.strip_lists.Strip.{Strip}
+use Rattle.geo_core.specs.Bars.{bar_cmp, strip_cmp, turned, joined, parts_of_all, heights_of, strip_of, area_of}
+use Rattle.geo_core.specs.Covering.{Covers}
+use Rattle.geo_core.specs.Strips.{IsRun, IsStrip, IsStrips, IsInUnion, StandsBefore, StripsAreUnique}
+use Rattle.geo_core.proofs.JoinLaws.{Pairwise, LieApart, IsLong, AreLong, AreJoined, joined-are}
+use Rattle.geo_core.proofs.PairLaws.{AllPairs-from_Pairwise, Pairwise-map, all_pairs_permutation}
+use Rattle.geo_core.proofs.PartLaws.{IsPart, IsPartOfSome, HasSquare, SomeHasSquare, In-permutation, Pairwise-from_places, bars_in_order, heights_in_order, parts_of_all-are, parts_of_all-have, heights_of-ylo, heights_of-yhi}
+use Rattle.geo_core.proofs.StripLaws.{MakeUp, AreColumns, columns_from_runs, joined_tall, same_right, area_of_column, column_is_strip, strip_is_column, at}
+
+equal_from_both : (a b : ℤ) → a ≤ℤ b → b ≤ℤ a → a ≡ b
+equal_from_both a b p q = omega (arith, ints)
+
+-- of two parts that share a row neither begins after the other
+begins_first : (areas : List Rect) (heights : List ℤ) (a b : Bar) → IsPartOfSome areas heights a → IsPartOfSome areas heights b
+    → (y : ℤ) → b.low ≤ℤ y → y <ℤ a.high → b.low ≤ℤ a.low
+begins_first areas heights a b p q y low high = elim (p.part.between b.low q.part.low_height) [ inl h ↦ h | inr h ↦ absurd (omega (arith, ints, h)) ]
+
+ends_last : (areas : List Rect) (heights : List ℤ) (a b : Bar) → IsPartOfSome areas heights a → IsPartOfSome areas heights b
+    → (y : ℤ) → a.low ≤ℤ y → y <ℤ b.high → a.high ≤ℤ b.high
+ends_last areas heights a b p q y low high = elim (p.part.between b.high q.part.high_height) [ inl h ↦ absurd (omega (arith, ints, h)) | inr h ↦ h ]
+
+covered_by_part : (areas : List Rect) (heights : List ℤ) (bar : Bar) → IsPartOfSome areas heights bar → (x y : ℤ) → HasSquare bar x y → IsInUnion areas (at x y)
+covered_by_part areas heights bar p x y h =
+    let left : bar.from ≡ p.area.xlo = p.part.left in
+    let right : bar.to ≡ p.area.xhi = p.part.right in
+    let bottom : p.area.ylo ≤ℤ bar.low = p.part.bottom in
+    let top : bar.high ≤ℤ p.area.yhi = p.part.top in
+    let y_low : bar.low ≤ℤ y = h.low in
+    let y_high : y <ℤ bar.high = h.high in
+    let x_from : bar.from ≤ℤ x = h.from in
+    let x_to : x <ℤ bar.to = h.to in
+    (p.area, (p.in_list, record { right_of_xlo = omega (arith, ints); left_of_xhi = omega (arith, ints); above_ylo = omega (arith, ints); below_yhi = omega (arith, ints) }))
+
+parts_make_up : (areas : List Rect) (heights : List ℤ) (bars : List Bar) → IsPermutation (heights_of areas) heights → IsSorted int_cmp heights
+    → IsPermutation (parts_of_all areas heights) bars → MakeUp (IsInUnion areas) bars
+parts_make_up areas heights bars moved sorted parts =
+    let ordered = heights_in_order heights sorted in
+    let part : (bar : Bar) → In bar bars → IsPartOfSome areas heights bar =
+    λ bar i. parts_of_all-are areas heights ordered bar (In-permutation bar bars (parts_of_all areas heights) (IsPermutation-sym (parts_of_all areas heights) bars parts) i) in
+    record {
+      tall = λ bar i. (part bar i).part.tall;
+      long = λ bar i. (part bar i).part.long;
+      sound = λ bar i x y h. covered_by_part areas heights bar (part bar i) x y h;
+      complete = λ x y s.
+          let found = parts_of_all-have areas heights x y ordered s.0 s.1.0 s.1.1
+          (In-permutation s.0.ylo (heights_of areas) heights moved (heights_of-ylo areas s.0 s.1.0))
+          (In-permutation s.0.yhi (heights_of areas) heights moved (heights_of-yhi areas s.0 s.1.0)) in
+          record { bar = found.bar; in_list = In-permutation found.bar (parts_of_all areas heights) bars parts found.in_list; has = found.has };
+      same_low = λ a b i j y a_low a_high b_low b_high. equal_from_both a.low b.low
+          (begins_first areas heights b a (part b j) (part a i) y a_low b_high)
+          (begins_first areas heights a b (part a i) (part b j) y b_low a_high);
+      same_high = λ a b i j y a_low a_high b_low b_high. equal_from_both a.high b.high
+          (ends_last areas heights a b (part a i) (part b j) y a_low b_high)
+          (ends_last areas heights b a (part b j) (part a i) y b_low a_high);
+    }
+
+strip_cmp_total : IsTotalOrder strip_cmp
+strip_cmp_total = then_total (on_total (λ s. s.ylo) int_cmp_total) (then_total (on_total (λ s. s.xlo) int_cmp_total) (then_total (on_total (λ s. s.xhi) int_cmp_total) (on_total (λ s. s.yhi) int_cmp_total)))
+
+not_less : (a b : Strip) → is_lt (strip_cmp b a) ≡ false → (a.ylo <ℤ b.ylo) ⊎ ((a.ylo ≡ b.ylo) × (a.xlo ≤ℤ b.xlo))
+not_less a b h = go (int_cmp b.ylo a.ylo) (int_cmp b.xlo a.xlo) (ordering_then (int_cmp b.xhi a.xhi) (int_cmp b.yhi a.yhi)) refl refl h
+  where
+    go : (o p q : Ordering) → o ≡ int_cmp b.ylo a.ylo → p ≡ int_cmp b.xlo a.xlo → is_lt (ordering_then o (ordering_then p q)) ≡ false
+        → (a.ylo <ℤ b.ylo) ⊎ ((a.ylo ≡ b.ylo) × (a.xlo ≤ℤ b.xlo))
+    go Less p q e f g = absurd (false≢true (sym g))
+    go Greater p q e f g = inl (int_ranked b.ylo a.ylo Greater e)
+    go Equal Less q e f g = absurd (false≢true (sym g))
+    go Equal Equal q e f g = let same : b.xlo ≡ a.xlo = int_ranked b.xlo a.xlo Equal f in inr (sym (int_ranked b.ylo a.ylo Equal e), omega (arith, ints))
+    go Equal Greater q e f g = let less : a.xlo <ℤ b.xlo = int_ranked b.xlo a.xlo Greater f in inr (sym (int_ranked b.ylo a.ylo Equal e), omega (arith, ints))
+
+abbrev StripsApart : Strip → Strip → Type 0
+StripsApart a b = a.xlo ≡ b.xlo → a.xhi ≡ b.xhi → (a.yhi <ℤ b.ylo) ⊎ (b.yhi <ℤ a.ylo)
+
+StripsApart-sym : (a b : Strip) → StripsApart a b → StripsApart b a
+StripsApart-sym a b h e f = elim (h (sym e) (sym f)) [ inl k ↦ inr k | inr k ↦ inl k ]
+
+-- of two strips of a list that is sorted the first stands before the second
+before_from_order : (S : Square → Type 0) (a b : Strip) → IsStrip S (area_of a) → IsStrip S (area_of b) → StripsApart a b → is_lt (strip_cmp b a) ≡ false → StandsBefore (area_of a) (area_of b)
+before_from_order S a b p q apart h = elim (not_less a b h) [
+  | inl less ↦ inl less
+  | inr k ↦ inr (
+    k.0,
+    by_lt_z a.xlo b.xlo (λ less. less) (λ not_less.
+        let left : a.xlo ≤ℤ b.xlo = k.1 in
+        let same_left : a.xlo ≡ b.xlo = equal_from_both a.xlo b.xlo left not_less in
+        let same_row : a.ylo ≡ b.ylo = k.0 in
+        let high : a.ylo <ℤ a.yhi = p.high in
+        let high' : b.ylo <ℤ b.yhi = q.high in
+        let row : b.ylo ≤ℤ a.ylo = omega (arith, ints) in
+        let run = p.runs a.ylo (omega (arith, ints)) high in
+        let run' = q.runs a.ylo row (omega (arith, ints)) in
+        let long : a.xlo <ℤ a.xhi = run.long in
+        let long' : b.xlo <ℤ b.xhi = run'.long in
+        let right = same_right S a.xlo a.xhi b.xlo b.xhi a.ylo a.xlo run run' (omega (arith, ints)) long (omega (arith, ints)) (omega (arith, ints)) in
+        elim (apart same_left right) [ inl g ↦ absurd (omega (arith, ints, g)) | inr g ↦ absurd (omega (arith, ints, g)) ]),
+  )
+]
+
+module _ (S : Square → Type 0) (columns : List Bar) (are : AreColumns S columns) (strips : List Strip)
+    (moved : IsPermutation (map strip_of columns) strips) (sorted : IsSorted strip_cmp strips) where
+  -- each of the rectangles is that of a column
+  from_column : (area : Rect) → In area (map area_of strips) → In area (map area_of_column columns)
+  from_column area i =
+      let s = In-map_source area_of area strips i in
+      let t = In-map_source strip_of s.0 columns (In-permutation s.0 strips (map strip_of columns) (IsPermutation-sym (map strip_of columns) strips moved) s.1.0) in
+      subst (λ r. In r (map area_of_column columns)) (ap area_of t.1.1 ∙ s.1.1) (In-map area_of_column t.0 columns t.1.0)
+
+  to_strip : (area : Rect) → In area (map area_of_column columns) → In area (map area_of strips)
+  to_strip area i =
+      let s = In-map_source area_of_column area columns i in
+      subst (λ r. In r (map area_of strips)) s.1.1 (In-map area_of (strip_of s.0) strips (In-permutation (strip_of s.0) (map strip_of columns) strips moved (In-map strip_of s.0 columns s.1.0)))
+
+  is_strip : (area : Rect) → In area (map area_of strips) → IsStrip S area
+  is_strip area i =
+      let s = In-map_source area_of_column area columns (from_column area i) in
+      subst (IsStrip S) s.1.1 (column_is_strip S columns are s.0 s.1.0)
+
+  in_order : AllPairs StandsBefore (map area_of strips)
+  in_order = λ i j d less below.
+      let e : Strip = record { ylo = d.ylo; xlo = d.xlo; xhi = d.xhi; yhi = d.yhi } in
+      let long : length (map area_of strips) ≡ length strips = length-map strips area_of in
+      let last : j < length strips = omega (arith, long, below) in
+      let first : i < length strips = omega arith in
+      let apart = all_pairs_permutation StripsApart StripsApart-sym (map strip_of columns) strips moved
+      (AllPairs-from_Pairwise StripsApart (map strip_of columns) (Pairwise-map strip_of StripsApart columns are.apart)) i j e less last in
+      let a = get_or strips i e in
+      let b = get_or strips j e in
+      let found = before_from_order S a b
+      (is_strip (area_of a) (In-map area_of a strips (In-get_or strips i e first)))
+      (is_strip (area_of b) (In-map area_of b strips (In-get_or strips j e last)))
+      apart (sorted_far (λ a b. is_lt (strip_cmp a b)) (ranks_by strip_cmp_total (λ s. s)) strips sorted i j e (omega arith) last) in
+      subst (λ (r : Rect). StandsBefore r (get_or (map area_of strips) j d)) (sym (get_or-map area_of strips i e))
+      (subst (λ (r : Rect). StandsBefore (area_of a) r) (sym (get_or-map area_of strips j e)) found)
+
+  pub sorted_columns : IsStrips S (map area_of strips)
+  sorted_columns = record { each = is_strip; every = λ area strip. to_strip area (strip_is_column S columns are area strip); ordered = in_order }
+
+-- from rectangles to their strips
+pub strips_found : (rects : List Rect) (heights : List ℤ) (parts pieces runs turns upright columns : List Bar) (strips ordered : List Strip) (areas : List Rect)
+    → IsPermutation (heights_of rects) heights → IsSorted int_cmp heights
+    → parts ≡ parts_of_all rects heights → IsPermutation parts pieces → IsSorted bar_cmp pieces → runs ≡ joined pieces
+    → turns ≡ map turned runs → IsPermutation turns upright → IsSorted bar_cmp upright → columns ≡ joined upright
+    → strips ≡ map strip_of columns → IsPermutation strips ordered → IsSorted strip_cmp ordered → areas ≡ map area_of ordered
+    → IsStrips (IsInUnion rects) areas
+strips_found rects heights parts pieces runs turns upright columns strips ordered areas heights_moved heights_sorted e-parts pieces_moved pieces_sorted e-runs e-turns upright_moved upright_sorted e-columns e-strips ordered_moved ordered_sorted e-areas =
+    let S : Square → Type 0 = IsInUnion rects in
+    let make = parts_make_up rects heights pieces heights_moved heights_sorted (subst (λ v. IsPermutation v pieces) e-parts pieces_moved) in
+    let first : AreJoined pieces runs = subst (AreJoined pieces) (sym e-runs) (joined-are pieces (bars_in_order pieces pieces_sorted) make.long) in
+    let moved : IsPermutation (map turned runs) upright = subst (λ v. IsPermutation v upright) e-turns upright_moved in
+    let there : (bar : Bar) → In bar upright → In bar (map turned runs) = λ bar i. In-permutation bar upright (map turned runs) (IsPermutation-sym (map turned runs) upright moved) i in
+    let back : (bar : Bar) → In bar (map turned runs) → In bar upright = λ bar i. In-permutation bar (map turned runs) upright moved i in
+    let long : AreLong upright = λ bar i. (let s = In-map_source turned bar runs (there bar i) in subst IsLong s.1.1 (joined_tall S pieces runs make first s.0 s.1.0)) in
+    let second : AreJoined upright columns = subst (AreJoined upright) (sym e-columns) (joined-are upright (bars_in_order upright upright_sorted) long) in
+    let are = columns_from_runs S pieces runs upright columns make first there back second in
+    subst (IsStrips S) (sym e-areas) (sorted_columns S columns are ordered (subst (λ v. IsPermutation v ordered) e-strips ordered_moved) ordered_sorted)
+
+StandsBefore-irreflexive : (a : Rect) → StandsBefore a a → ⊥
+StandsBefore-irreflexive a (inl h) = omega (arith, ints, h)
+StandsBefore-irreflexive a (inr h) = omega (arith, ints, h.1)
+
+StandsBefore-asymmetric : (a b : Rect) → StandsBefore a b → StandsBefore b a → ⊥
+StandsBefore-asymmetric a b (inl p) (inl q) = omega (arith, ints, p, q)
+StandsBefore-asymmetric a b (inl p) (inr q) = omega (arith, ints, p, q.0)
+StandsBefore-asymmetric a b (inr p) (inl q) = omega (arith, ints, p.0, q)
+StandsBefore-asymmetric a b (inr p) (inr q) = omega (arith, ints, p.1, q.1)
+
+-- lists in order with the same things are the same
+same_ordered : (xs ys : List Rect) → Pairwise StandsBefore xs → Pairwise StandsBefore ys → ((a : Rect) → In a xs → In a ys) → ((a : Rect) → In a ys → In a xs) → xs ≡ ys
+same_ordered [] [] p q there back = refl
+same_ordered [] (y ∷ ys) p q there back = absurd (back y (inl refl))
+same_ordered (x ∷ xs) [] p q there back = absurd (there x (inl refl))
+same_ordered (x ∷ xs) (y ∷ ys) p q there back =
+    let heads : x ≡ y = elim (there x (inl refl)) [
+      | inl e ↦ sym e
+      | inr i ↦ elim (back y (inl refl)) [ inl e ↦ e | inr j ↦ absurd (StandsBefore-asymmetric x y (p.0 y j) (q.0 x i)) ]
+    ] in
+    let there' : (a : Rect) → In a xs → In a ys = λ a i. elim (there a (inr i)) [
+      | inl e ↦ absurd (StandsBefore-irreflexive x (subst (StandsBefore x) (sym (heads ∙ e)) (p.0 a i)))
+      | inr j ↦ j
+    ] in
+    let back' : (a : Rect) → In a ys → In a xs = λ a i. elim (back a (inr i)) [
+      | inl e ↦ absurd (StandsBefore-irreflexive y (subst (StandsBefore y) (sym (sym heads ∙ e)) (q.0 a i)))
+      | inr j ↦ j
+    ] in
+    ap (λ v. v ∷ xs) heads ∙ ap (λ v. y ∷ v) (same_ordered xs ys p.1 q.1 there' back')
+
+-- a set has one list of strips
+pub one_list : (S : Square → Type 0) → StripsAreUnique S
+one_list S areas others p q =
+    same_ordered areas others (Pairwise-from_places StandsBefore areas p.ordered) (Pairwise-from_places StandsBefore others q.ordered)
+    (λ a i. q.every a (p.each a i)) (λ a i. p.every a (q.each a i))
