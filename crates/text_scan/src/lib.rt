@@ -11,12 +11,14 @@ pub use decimal_text::append_decimal;
 pub use laws::{reads_written_lines, reads_written_numbers, reads_written_words};
 pub use line::{Lines, split_line};
 pub use numeral::{NumFault, number, wide};
+pub use plain_name::{is_plain_byte, is_plain_name};
 pub use word::{Words, split_word};
 
 mod decimal_text;
 mod laws;
 mod line;
 mod numeral;
+mod plain_name;
 #[cfg(test)]
 mod tests;
 mod word;

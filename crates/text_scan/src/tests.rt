@@ -4,7 +4,7 @@ ghost use Rattle.std.specs.Prelude.{◌≡◌, length, map, IfOk};
 ghost use Rattle.text_scan.specs.Lines.{lines_of};
 ghost use Rattle.text_scan.specs.Words.{words_of};
 
-use crate::{NumFault, append_decimal, lines, number, wide, words};
+use crate::{NumFault, append_decimal, is_plain_name, lines, number, wide, words};
 use std::alloc::{AllocError, Global};
 use std::test::Fail;
 
@@ -156,4 +156,23 @@ fn writes_numbers(rt: HostRuntime) -> Result<(), Fail> {
         170141183460469231731687303715884105727 -170141183460469231731687303715884105728";
     assert_eq!(rt; out.as_slice(), want);
     Ok(())
+}
+
+#[test]
+fn tells_plain_names(rt: HostRuntime) {
+    let table: [(&[u8], bool); 7] = [
+        (b"poly", true),
+        (b"n-well_2", true),
+        (b"7", true),
+        (b"", false),
+        (b"pc/metal", false),
+        (b"GND!", false),
+        (
+            b"a_name_of_more_than_sixty-four_bytes_which_is_one_too_long_123456",
+            false,
+        ),
+    ];
+    for (word, want) in table {
+        assert_eq!(rt; is_plain_name(word), want);
+    }
 }
