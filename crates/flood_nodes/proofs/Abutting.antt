@@ -7,7 +7,7 @@ use Rattle.geo_core.specs.declared.squares.Rect.{Rect}
 use Rattle.geo_core.specs.Covering.{Covers, IsProper}
 use Rattle.geo_core.specs.Neighbours.{AreEdgeNeighbours}
 use Rattle.geo_core.proofs.NeighbourLaws.{AreEdgeNeighbours-sym}
-use Rattle.sweeps.specs.Rects.{AreDisjoint}
+use Rattle.geo_core.specs.Areas.{AreDisjoint}
 use Rattle.sweeps.specs.Contacts.{overlap, shared_beside, shared_upon, shared_length}
 use Rattle.sweeps.proofs.Shared.{shared_beside-cases, shared_upon-cases, shared_beside-not_negative, shared_upon-not_negative}
 

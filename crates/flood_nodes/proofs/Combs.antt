@@ -6,7 +6,7 @@ use Rattle.std.proofs.lemmas.List.Quantifiers.{all_pairs_push}
 use Rattle.geo_core.specs.declared.squares.Rect.{Rect}
 use Rattle.geo_core.specs.declared.squares.Piece.{Piece}
 use Rattle.geo_core.specs.Covering.{IsProper}
-use Rattle.sweeps.specs.Rects.{AreDisjoint, IsNear}
+use Rattle.geo_core.specs.Areas.{AreDisjoint, IsNear}
 use Rattle.sweeps.proofs.Apart.{AreApart}
 use Rattle.flood_nodes.specs.Tiles.{AreTiles}
 use Rattle.flood_nodes.proofs.TileLists.{no_tiles}

@@ -11,7 +11,8 @@ use Rattle.geo_core.specs.Covering.{IsProper}
 use Rattle.totals.specs.Lists.{Lists}
 use Rattle.totals.proofs.Members.{In-map, In-map_source, In-filter, In-filter_source, In-filter_passes, In-get_or}
 use Rattle.sweeps.specs.declared.contacts.Contact.{Contact}
-use Rattle.sweeps.specs.Rects.{AreDisjoint, IsNear, rect_at}
+use Rattle.geo_core.specs.Areas.{AreDisjoint, IsNear}
+use Rattle.sweeps.specs.Rects.{rect_at}
 use Rattle.sweeps.specs.Contacts.{shared_length, IsContact}
 use Rattle.partition.specs.Divides.{IsPair}
 use Rattle.flood_nodes.specs.Tiles.{AreTiles}

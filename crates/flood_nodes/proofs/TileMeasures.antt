@@ -18,7 +18,7 @@ use Rattle.totals.proofs.Members.{In-map, In-get_or}
 use Rattle.totals.proofs.Listings.{Lists-iff, Lists-map}
 use Rattle.totals.proofs.Sums.{sum_on-map, sum_on-same}
 use Rattle.totals.proofs.Totals.{Total-at, Total-from_list}
-use Rattle.sweeps.specs.Rects.{AreDisjoint, IsNear}
+use Rattle.geo_core.specs.Areas.{AreDisjoint, IsNear}
 use Rattle.sweeps.specs.Contacts.{shared_length}
 use Rattle.sweeps.specs.Squares.{squares_of, area_of, perimeter_of, is_covered_by_any}
 use Rattle.sweeps.proofs.Leading.{Lists-squares_of, sum_on-squares_of}

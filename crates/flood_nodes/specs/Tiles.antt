@@ -2,7 +2,7 @@
 use Rattle.std.specs.Prelude.{◌≡◌, ◌≢◌, ℕ, List, slice_get, Some, All, AllPairs}
 use Rattle.geo_core.specs.declared.squares.Piece.{Piece}
 use Rattle.geo_core.specs.Covering.{Covers, IsProper}
-use Rattle.sweeps.specs.Rects.{AreDisjoint, IsNear}
+use Rattle.geo_core.specs.Areas.{AreDisjoint, IsNear}
 use Rattle.layout_model.specs.Places.{Place}
 use Rattle.layout_model.specs.Layouts.{Layout, painted, on_plane}
 

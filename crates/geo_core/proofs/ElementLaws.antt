@@ -1,5 +1,5 @@
 -- The elements of a grid by their place in its list.
-use Rattle.std.proofs.Common.{◌≡◌, ◌≢◌, ◌⊎◌, inl, inr, ℕ, zero, suc, ◌+◌, ◌-◌, ◌*◌, ◌/◌, ◌%◌, ◌<◌, ◌≤◌, ℤ, pos, ◌+ℤ◌, ◌-ℤ◌, ◌*ℤ◌, Bool, true, false, cond, List, [], ◌∷◌, ◌++◌, map, length, get_or, Option, Some, refl, sym, ◌∙◌, ap, subst, arith}
+use Rattle.std.proofs.Common.{◌≡◌, inl, inr, ℕ, zero, suc, ◌+◌, ◌-◌, ◌*◌, ◌/◌, ◌%◌, ◌<◌, ◌≤◌, ℤ, pos, ◌+ℤ◌, ◌-ℤ◌, ◌*ℤ◌, Bool, true, false, cond, List, [], ◌∷◌, ◌++◌, map, length, get_or, Some, refl, sym, ◌∙◌, ap, arith}
 use Rattle.std.specs.Prelude.{slice_get, int_le}
 use Rattle.std.proofs.Common.{to_z, of_z}
 use Rattle.std.specs.Int.{w64}
@@ -12,7 +12,7 @@ use Rattle.std.proofs.lemmas.List.{length-map, get_or_default, get_or_append_lef
 use Rattle.std.proofs.lemmas.Nat.{mul-add-lt}
 use Rattle.std.proofs.lemmas.Option.{slice_get-map, slice_get-get_or, slice_get_within, get_or_from_slice_get}
 use Rattle.totals.specs.Lists.{Distinct}
-use Rattle.totals.specs.Range.{IsBetween, extent, integers_from, integer_range, pairs_of}
+use Rattle.totals.specs.Range.{extent, integers_from, integer_range, pairs_of}
 use Rattle.totals.proofs.Distincts.{Distinct-map, Distinct-places}
 use Rattle.totals.proofs.Ranges.{extent_up, length-integer_range, length-pairs_of, Lists-rectangle}
 use Rattle.geo_core.specs.declared.grids.Grid.{Grid}

@@ -1,5 +1,5 @@
 -- Transforms on squares and rectangles: what each orientation does, and that transforms follow and undo each other.
-use Rattle.std.proofs.Common.{◌≡◌, ◌⊎◌, inl, inr, ◌∙◌, arith, refl, sym, ap, ℤ, pos, negsuc, neg_ℤ, ◌+ℤ◌, ◌-ℤ◌, Bool, cond}
+use Rattle.std.proofs.Common.{◌≡◌, inl, inr, ◌∙◌, arith, refl, sym, ap, ℤ, pos, neg_ℤ, ◌+ℤ◌, ◌-ℤ◌, Bool, cond}
 use Rattle.std.proofs.lemmas.Int.{ints, clamps}
 use Rattle.std.specs.Int.{int_min}
 use Rattle.geo_core.specs.declared.orients.Orient.{Orient}
@@ -10,7 +10,7 @@ use Rattle.geo_core.specs.declared.transforms.Transform.{Transform}
 use Rattle.geo_core.specs.Orientation.{orient_then, orient_inverse}
 use Rattle.geo_core.specs.Covering.{Covers}
 use Rattle.geo_core.specs.Images.{point_x, point_y, turns_x, turns_y, image, area_image, composed, identity, inverted, CentreGoesTo}
-use Rattle.geo_core.specs.Neighbours.{AreEdgeNeighbours, AreOneApart}
+use Rattle.geo_core.specs.Neighbours.{AreEdgeNeighbours}
 
 square_is : (a b : Square) → a.x ≡ b.x → a.y ≡ b.y → a ≡ b
 square_is a b columns rows =

@@ -1,5 +1,5 @@
 -- Joined bars have the points of the bars they were joined from, and lie apart.
-use Rattle.std.proofs.Common.{◌≡◌, ◌⊎◌, inl, inr, ℕ, ℤ, pos, ◌≤ℤ◌, ◌<ℤ◌, Bool, true, false, cond, List, [], ◌∷◌, refl, sym, ◌∙◌, ap, subst, arith}
+use Rattle.std.proofs.Common.{◌≡◌, ◌⊎◌, inl, inr, ℤ, ◌≤ℤ◌, ◌<ℤ◌, true, false, cond, List, [], ◌∷◌, refl, sym, ◌∙◌, ap, subst, arith}
 use Rattle.std.proofs.lemmas.Bool.{cases_Bool}
 use Rattle.std.proofs.lemmas.Int.{ints, clamps, by_lt_z}
 use Rattle.totals.specs.Lists.{In}
@@ -67,10 +67,6 @@ step_meets a b rest t = ap (λ v. cond v (joined_from (reaching a b) rest) (a �
 
 step_ends : (a b : Bar) (rest : List Bar) → meets a b ≡ false → joined_from a (b ∷ rest) ≡ a ∷ joined_from b rest
 step_ends a b rest t = ap (λ v. cond v (joined_from (reaching a b) rest) (a ∷ joined_from b rest)) t
-
--- a longer bar begins where it began
-reaching_no_later : (a b c : Bar) → NoLater a c → NoLater (reaching a b) c
-reaching_no_later a b c h = h
 
 in_order_reaching : (a b : Bar) (rest : List Bar) → Pairwise NoLater (a ∷ b ∷ rest) → Pairwise NoLater (reaching a b ∷ rest)
 in_order_reaching a b rest h = ((λ c i. h.0 c (inr i)), h.1.1)
@@ -155,9 +151,6 @@ points_of_two a b low high z m p =
       from_no_later = omega (arith, ints);
       to_later = omega (arith, ints, clamps);
     }))
-
-keep_at : {xs ys : List Bar} {low high z : ℤ} → ((bar : Bar) → In bar xs → In bar ys) → HavePoint xs low high z → HavePoint ys low high z
-keep_at into p = record { bar = p.bar; in_list = into p.bar p.in_list; has = p.has }
 
 gathered : (a b : Bar) (rest : List Bar) (low high z : ℤ) → Meet a b → NoLater a b → HavePoint (a ∷ b ∷ rest) low high z → HavePoint (reaching a b ∷ rest) low high z
 gathered a b rest low high z m h p = elim p.in_list [

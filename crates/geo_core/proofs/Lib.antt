@@ -1,10 +1,16 @@
+pub mod BarOrderLaws
+pub mod CoverageLaws
+pub mod CornerLaws
 pub mod CoveringLaws
 pub mod ElementLaws
 pub mod ImageLaws
 pub mod JoinLaws
 pub mod NeighbourLaws
 pub mod PairLaws
-pub mod PartLaws
+pub mod RowEventLaws
+pub mod RowLaws
 pub mod SquareOrderLaws
 pub mod StripLaws
 pub mod StripListLaws
+pub mod SweepLaws
+pub mod StripSets

@@ -5,7 +5,6 @@ use Rattle.std.specs.List.{swap}
 use Rattle.std.proofs.lemmas.Bool.{cases_eq, cases_lt}
 use Rattle.std.proofs.lemmas.List.Edits.{swapped_from_swap, length-swap}
 use Rattle.std.proofs.lemmas.List.Sorted.{IsPermutation-keeps}
-use Rattle.totals.specs.Lists.{In}
 use Rattle.totals.proofs.Members.{In-get_or, In-map_source}
 use Rattle.geo_core.proofs.JoinLaws.{Pairwise}
 

@@ -1,28 +1,17 @@
 -- From bars of a set of squares to its strips.
-use Rattle.std.proofs.Common.{◌≡◌, ◌≢◌, ◌⊎◌, inl, inr, ℕ, zero, suc, ◌<◌, ℤ, pos, ◌+ℤ◌, ◌-ℤ◌, ◌≤ℤ◌, ◌<ℤ◌, List, [], ◌∷◌, length, map, get_or, refl, sym, ◌∙◌, ap, subst, arith}
+use Rattle.std.proofs.Common.{◌≡◌, ◌⊎◌, inl, inr, ℤ, pos, ◌-ℤ◌, ◌≤ℤ◌, ◌<ℤ◌, List, [], ◌∷◌, map, refl, sym, ◌∙◌, ap, subst, arith}
 use Rattle.std.proofs.lemmas.Int.{ints, by_lt_z}
 use Rattle.totals.specs.Lists.{In}
-use Rattle.totals.proofs.Members.{In-map, In-map_source}
+use Rattle.totals.proofs.Members.{In-map}
 use Rattle.geo_core.specs.declared.squares.Square.{Square}
 use Rattle.geo_core.specs.declared.squares.Rect.{Rect}
 use Rattle.geo_core.specs.declared.bars.Bar.{Bar}
-use Rattle.geo_core.specs.Bars.{turned, joined}
-use Rattle.geo_core.specs.Covering.{Covers}
 use Rattle.geo_core.specs.Strips.{IsRun, IsStrip}
-use Rattle.geo_core.proofs.JoinLaws.{Pairwise, HasPoint, HavePoint, LieApart, IsLong, AreLong, AreJoined}
-use Rattle.geo_core.proofs.PartLaws.{HasSquare, SomeHasSquare}
+use Rattle.geo_core.specs.Sweeping.{HaveSquare, AreRunBars}
+use Rattle.geo_core.proofs.JoinLaws.{Pairwise, LieApart, AreLong, AreJoined}
 
 abbrev pub at : ℤ → ℤ → Square
 at x y = record { x = x; y = y }
-
--- bars of rows that make up the set: two that share a row lie in the same rows
-pub record MakeUp (S : Square → Type 0) (bars : List Bar) : Type 0 where
-  pub tall : (bar : Bar) → In bar bars → bar.low <ℤ bar.high
-  pub long : AreLong bars
-  pub sound : (bar : Bar) → In bar bars → (x y : ℤ) → HasSquare bar x y → S (at x y)
-  pub complete : (x y : ℤ) → S (at x y) → SomeHasSquare bars x y
-  pub same_low : (a b : Bar) → In a bars → In b bars → (y : ℤ) → a.low ≤ℤ y → y <ℤ a.high → b.low ≤ℤ y → y <ℤ b.high → a.low ≡ b.low
-  pub same_high : (a b : Bar) → In a bars → In b bars → (y : ℤ) → a.low ≤ℤ y → y <ℤ a.high → b.low ≤ℤ y → y <ℤ b.high → a.high ≡ b.high
 
 -- two bars of a list that lies apart are the same, or lie apart
 pub one_or_apart : (bars : List Bar) → Pairwise LieApart bars → (a b : Bar) → In a bars → In b bars → (a ≡ b) ⊎ LieApart a b
@@ -34,123 +23,35 @@ one_or_apart (x ∷ xs) h a b (inr i) (inl f) =
     inr (λ e g. elim (other (sym e) (sym g)) [ inl k ↦ inr k | inr k ↦ inl k ])
 one_or_apart (x ∷ xs) h a b (inr i) (inr j) = one_or_apart xs h.1 a b i j
 
--- what a joined bar has, the bars had
-module _ (S : Square → Type 0) (bars runs : List Bar) (make : MakeUp S bars) (join : AreJoined bars runs) where
-  run_sound : (run : Bar) → In run runs → (x y : ℤ) → HasSquare run x y → S (at x y)
-  run_sound run i x y h =
-      let p = join.adds_none run.low run.high x (record { bar = run; in_list = i; has = record { low_is = refl; high_is = refl; from_no_later = h.from; to_later = h.to } }) in
-      let low : p.bar.low ≡ run.low = p.has.low_is in
-      let high : p.bar.high ≡ run.high = p.has.high_is in
-      let y_low : run.low ≤ℤ y = h.low in
-      let y_high : y <ℤ run.high = h.high in
-      make.sound p.bar p.in_list x y (record { low = omega (arith, ints); high = omega (arith, ints); from = p.has.from_no_later; to = p.has.to_later })
-
-  -- a square of the set in the rows of a run lies in a run of these rows
-  run_at : (run : Bar) → In run runs → (x y : ℤ) → run.low ≤ℤ y → y <ℤ run.high → S (at x y) → HavePoint runs run.low run.high x
-  run_at run i x y y_low y_high s =
-      let long : run.from <ℤ run.to = join.long run i in
-      let source = join.adds_none run.low run.high run.from (record { bar = run; in_list = i; has = record { low_is = refl; high_is = refl; from_no_later = omega (arith, ints); to_later = long } }) in
-      let source_low : source.bar.low ≡ run.low = source.has.low_is in
-      let source_high : source.bar.high ≡ run.high = source.has.high_is in
-      let found = make.complete x y s in
-      let found_low : found.bar.low ≤ℤ y = found.has.low in
-      let found_high : y <ℤ found.bar.high = found.has.high in
-      let low = make.same_low found.bar source.bar found.in_list source.in_list y found_low found_high (omega (arith, ints)) (omega (arith, ints)) in
-      let high = make.same_high found.bar source.bar found.in_list source.in_list y found_low found_high (omega (arith, ints)) (omega (arith, ints)) in
-      join.keeps run.low run.high x (record { bar = found.bar; in_list = found.in_list; has = record { low_is = low ∙ source_low; high_is = high ∙ source_high; from_no_later = found.has.from; to_later = found.has.to } })
-
-  -- a run goes on neither to the left nor to the right
-  not_beside : (run : Bar) → In run runs → (x : ℤ) → HavePoint runs run.low run.high x → (x ≡ run.to) ⊎ (x ≡ run.from -ℤ pos 1) → ⊥
-  not_beside run i x p beside =
-      let other_low : p.bar.low ≡ run.low = p.has.low_is in
-      let other_high : p.bar.high ≡ run.high = p.has.high_is in
-      let from : p.bar.from ≤ℤ x = p.has.from_no_later in
-      let to : x <ℤ p.bar.to = p.has.to_later in
-      let long : run.from <ℤ run.to = join.long run i in
-      elim (one_or_apart runs join.apart run p.bar i p.in_list) [
-        | inl e ↦ (let same_from : run.from ≡ p.bar.from = ap (λ b. b.from) e in
-            let same_to : run.to ≡ p.bar.to = ap (λ b. b.to) e in
-            elim beside [ inl f ↦ omega (arith, ints, f) | inr f ↦ omega (arith, ints, f) ])
-        | inr apart ↦ elim (apart (sym other_low) (sym other_high)) [
-          | inl before ↦ elim beside [ inl f ↦ omega (arith, ints, f, before) | inr f ↦ omega (arith, ints, f, before) ]
-          | inr after ↦ elim beside [ inl f ↦ omega (arith, ints, f, after) | inr f ↦ omega (arith, ints, f, after) ]
-        ]
-      ]
-
-  pub joined_runs : (run : Bar) → In run runs → (y : ℤ) → run.low ≤ℤ y → y <ℤ run.high → IsRun S run.from run.to y
-  joined_runs run i y low high = record {
-    long = join.long run i;
-    within = λ x from to. run_sound run i x y (record { low = low; high = high; from = from; to = to });
-    left = λ s. not_beside run i (run.from -ℤ pos 1) (run_at run i (run.from -ℤ pos 1) y low high s) (inr refl);
-    right = λ s. not_beside run i run.to (run_at run i run.to y low high s) (inl refl);
-  }
-
-  pub joined_complete : (x y : ℤ) → S (at x y) → SomeHasSquare runs x y
-  joined_complete x y s =
-      let found = make.complete x y s in
-      let p = join.keeps found.bar.low found.bar.high x (record { bar = found.bar; in_list = found.in_list; has = record { low_is = refl; high_is = refl; from_no_later = found.has.from; to_later = found.has.to } }) in
-      let low : p.bar.low ≡ found.bar.low = p.has.low_is in
-      let high : p.bar.high ≡ found.bar.high = p.has.high_is in
-      let y_low : found.bar.low ≤ℤ y = found.has.low in
-      let y_high : y <ℤ found.bar.high = found.has.high in
-      record { bar = p.bar; in_list = p.in_list; has = record { low = omega (arith, ints); high = omega (arith, ints); from = p.has.from_no_later; to = p.has.to_later } }
-
-  pub joined_tall : (run : Bar) → In run runs → run.low <ℤ run.high
-  joined_tall run i =
-      let long : run.from <ℤ run.to = join.long run i in
-      let source = join.adds_none run.low run.high run.from (record { bar = run; in_list = i; has = record { low_is = refl; high_is = refl; from_no_later = omega (arith, ints); to_later = long } }) in
-      let low : source.bar.low ≡ run.low = source.has.low_is in
-      let high : source.bar.high ≡ run.high = source.has.high_is in
-      let tall : source.bar.low <ℤ source.bar.high = make.tall source.bar source.in_list in
-      omega (arith, ints)
-
--- some column has the square
-pub record HavePointOf (columns : List Bar) (x y : ℤ) : Type 0 where
-  pub column : Bar
-  pub in_list : In column columns
-  pub left : column.low ≤ℤ x
-  pub right : x <ℤ column.high
-  pub from : column.from ≤ℤ y
-  pub to : y <ℤ column.to
-
 -- bars of columns, each of whose rows is a run of the set
 pub record AreColumns (S : Square → Type 0) (columns : List Bar) : Type 0 where
   pub long : AreLong columns
   pub runs : (column : Bar) → In column columns → (y : ℤ) → column.from ≤ℤ y → y <ℤ column.to → IsRun S column.low column.high y
-  pub complete : (x y : ℤ) → S (at x y) → HavePointOf columns x y
+  pub complete : (x y : ℤ) → S (at x y) → HaveSquare columns x y
   pub apart : Pairwise LieApart columns
 
-pub columns_from_runs : (S : Square → Type 0) (bars runs turned_runs columns : List Bar) → MakeUp S bars → AreJoined bars runs
-    → ((bar : Bar) → In bar turned_runs → In bar (map turned runs)) → ((bar : Bar) → In bar (map turned runs) → In bar turned_runs)
-    → AreJoined turned_runs columns → AreColumns S columns
-columns_from_runs S bars runs turned_runs columns make join there back second = record {
-  long = second.long;
+-- joining bars of one width makes columns of runs
+pub columns_from_bars : (S : Square → Type 0) (bars upright columns : List Bar) → AreRunBars S bars → ((bar : Bar) → In bar upright → In bar bars) → ((bar : Bar) → In bar bars → In bar upright)
+    → AreJoined upright columns → AreColumns S columns
+columns_from_bars S bars upright columns are there back join = record {
+  long = join.long;
   runs = λ column i y from to.
-      let p = second.adds_none column.low column.high y (record { bar = column; in_list = i; has = record { low_is = refl; high_is = refl; from_no_later = from; to_later = to } }) in
-      let source = In-map_source turned p.bar runs (there p.bar p.in_list) in
-      let run = source.0 in
-      let is : turned run ≡ p.bar = source.1.1 in
-      let low : run.from ≡ column.low = ap (λ b. b.low) is ∙ p.has.low_is in
-      let high : run.to ≡ column.high = ap (λ b. b.high) is ∙ p.has.high_is in
-      let starts : run.low ≡ p.bar.from = ap (λ b. b.from) is in
-      let stops : run.high ≡ p.bar.to = ap (λ b. b.to) is in
-      let after : p.bar.from ≤ℤ y = p.has.from_no_later in
-      let before : y <ℤ p.bar.to = p.has.to_later in
-      let found = joined_runs S bars runs make join run source.1.0 y (omega (arith, ints)) (omega (arith, ints)) in
-      subst (λ v. IsRun S v column.high y) low (subst (λ v. IsRun S run.from v y) high found);
+      let p = join.adds_none column.low column.high y (record { bar = column; in_list = i; has = record { low_is = refl; high_is = refl; from_no_later = from; to_later = to } }) in
+      let found = are.runs p.bar (there p.bar p.in_list) y p.has.from_no_later p.has.to_later in
+      subst (λ v. IsRun S v column.high y) p.has.low_is (subst (λ v. IsRun S p.bar.low v y) p.has.high_is found);
   complete = λ x y s.
-      let run = joined_complete S bars runs make join x y s in
-      let p = second.keeps run.bar.from run.bar.to y (record {
-        bar = turned run.bar;
-        in_list = back (turned run.bar) (In-map turned run.bar runs run.in_list);
-        has = record { low_is = refl; high_is = refl; from_no_later = run.has.low; to_later = run.has.high };
+      let one = are.complete x y s in
+      let p = join.keeps one.bar.low one.bar.high y (record {
+        bar = one.bar;
+        in_list = back one.bar one.in_list;
+        has = record { low_is = refl; high_is = refl; from_no_later = one.from; to_later = one.to };
       }) in
-      let low : p.bar.low ≡ run.bar.from = p.has.low_is in
-      let high : p.bar.high ≡ run.bar.to = p.has.high_is in
-      let left : run.bar.from ≤ℤ x = run.has.from in
-      let right : x <ℤ run.bar.to = run.has.to in
-      record { column = p.bar; in_list = p.in_list; left = omega (arith, ints); right = omega (arith, ints); from = p.has.from_no_later; to = p.has.to_later };
-  apart = second.apart;
+      let low : p.bar.low ≡ one.bar.low = p.has.low_is in
+      let high : p.bar.high ≡ one.bar.high = p.has.high_is in
+      let left : one.bar.low ≤ℤ x = one.left in
+      let right : x <ℤ one.bar.high = one.right in
+      record { bar = p.bar; in_list = p.in_list; left = omega (arith, ints); right = omega (arith, ints); from = p.has.from_no_later; to = p.has.to_later };
+  apart = join.apart;
 }
 
 -- two runs of one row that share a square are the same
@@ -191,12 +92,12 @@ module _ (S : Square → Type 0) (columns : List Bar) (are : AreColumns S column
   column_of_run xlo xhi y run =
       let long : xlo <ℤ xhi = run.long in
       let p = are.complete xlo y (run.within xlo (omega (arith, ints)) long) in
-      let other = are.runs p.column p.in_list y p.from p.to in
+      let other = are.runs p.bar p.in_list y p.from p.to in
       record {
-        column = p.column;
+        column = p.bar;
         in_list = p.in_list;
-        low = same_left S p.column.low p.column.high xlo xhi y xlo other run p.left p.right (omega (arith, ints)) long;
-        high = same_right S p.column.low p.column.high xlo xhi y xlo other run p.left p.right (omega (arith, ints)) long;
+        low = same_left S p.bar.low p.bar.high xlo xhi y xlo other run p.left p.right (omega (arith, ints)) long;
+        high = same_right S p.bar.low p.bar.high xlo xhi y xlo other run p.left p.right (omega (arith, ints)) long;
         from = p.from;
         to = p.to;
       }

@@ -1,5 +1,5 @@
 -- The list that the sorts and joins make has exactly the strips, in order; and a set has one list of strips.
-use Rattle.std.proofs.Common.{◌≡◌, ◌≢◌, ◌⊎◌, inl, inr, ℕ, zero, suc, ◌<◌, ℤ, pos, ◌≤ℤ◌, ◌<ℤ◌, false, List, [], ◌∷◌, length, map, get_or, refl, sym, ◌∙◌, ap, subst, arith}
+use Rattle.std.proofs.Common.{◌≡◌, ◌⊎◌, inl, inr, ◌<◌, ℤ, ◌≤ℤ◌, ◌<ℤ◌, false, List, [], ◌∷◌, length, map, get_or, refl, sym, ◌∙◌, ap, subst, arith}
 use Rattle.std.specs.Prelude.{AllPairs, IsSorted, IsPermutation}
 use Rattle.std.specs.Cmp.{IsTotalOrder}
 use Rattle.std.specs.declared.cmp.Ordering.{Ordering}
@@ -17,60 +17,16 @@ use Rattle.geo_core.specs.declared.squares.Square.{Square}
 use Rattle.geo_core.specs.declared.squares.Rect.{Rect}
 use Rattle.geo_core.specs.declared.bars.Bar.{Bar}
 use Rattle.geo_core.specs.declared.strip_lists.Strip.{Strip}
-use Rattle.geo_core.specs.Bars.{bar_cmp, strip_cmp, turned, joined, parts_of_all, heights_of, strip_of, area_of}
-use Rattle.geo_core.specs.Covering.{Covers}
-use Rattle.geo_core.specs.Strips.{IsRun, IsStrip, IsStrips, IsInUnion, StandsBefore, StripsAreUnique}
-use Rattle.geo_core.proofs.JoinLaws.{Pairwise, LieApart, IsLong, AreLong, AreJoined, joined-are}
+use Rattle.geo_core.specs.Bars.{bar_cmp, strip_cmp, joined, strip_of, area_of}
+use Rattle.geo_core.specs.Strips.{IsStrip, IsStrips, IsInUnion, StandsBefore, StripsAreUnique}
+use Rattle.geo_core.specs.Sweeping.{AreRunBars}
+use Rattle.geo_core.proofs.JoinLaws.{Pairwise, AreJoined, joined-are}
 use Rattle.geo_core.proofs.PairLaws.{AllPairs-from_Pairwise, Pairwise-map, all_pairs_permutation}
-use Rattle.geo_core.proofs.PartLaws.{IsPart, IsPartOfSome, HasSquare, SomeHasSquare, In-permutation, Pairwise-from_places, bars_in_order, heights_in_order, parts_of_all-are, parts_of_all-have, heights_of-ylo, heights_of-yhi}
-use Rattle.geo_core.proofs.StripLaws.{MakeUp, AreColumns, columns_from_runs, joined_tall, same_right, area_of_column, column_is_strip, strip_is_column, at}
+use Rattle.geo_core.proofs.BarOrderLaws.{In-permutation, Pairwise-from_places, bars_in_order}
+use Rattle.geo_core.proofs.StripLaws.{AreColumns, columns_from_bars, same_right, area_of_column, column_is_strip, strip_is_column}
 
 equal_from_both : (a b : ℤ) → a ≤ℤ b → b ≤ℤ a → a ≡ b
 equal_from_both a b p q = omega (arith, ints)
-
--- of two parts that share a row neither begins after the other
-begins_first : (areas : List Rect) (heights : List ℤ) (a b : Bar) → IsPartOfSome areas heights a → IsPartOfSome areas heights b
-    → (y : ℤ) → b.low ≤ℤ y → y <ℤ a.high → b.low ≤ℤ a.low
-begins_first areas heights a b p q y low high = elim (p.part.between b.low q.part.low_height) [ inl h ↦ h | inr h ↦ absurd (omega (arith, ints, h)) ]
-
-ends_last : (areas : List Rect) (heights : List ℤ) (a b : Bar) → IsPartOfSome areas heights a → IsPartOfSome areas heights b
-    → (y : ℤ) → a.low ≤ℤ y → y <ℤ b.high → a.high ≤ℤ b.high
-ends_last areas heights a b p q y low high = elim (p.part.between b.high q.part.high_height) [ inl h ↦ absurd (omega (arith, ints, h)) | inr h ↦ h ]
-
-covered_by_part : (areas : List Rect) (heights : List ℤ) (bar : Bar) → IsPartOfSome areas heights bar → (x y : ℤ) → HasSquare bar x y → IsInUnion areas (at x y)
-covered_by_part areas heights bar p x y h =
-    let left : bar.from ≡ p.area.xlo = p.part.left in
-    let right : bar.to ≡ p.area.xhi = p.part.right in
-    let bottom : p.area.ylo ≤ℤ bar.low = p.part.bottom in
-    let top : bar.high ≤ℤ p.area.yhi = p.part.top in
-    let y_low : bar.low ≤ℤ y = h.low in
-    let y_high : y <ℤ bar.high = h.high in
-    let x_from : bar.from ≤ℤ x = h.from in
-    let x_to : x <ℤ bar.to = h.to in
-    (p.area, (p.in_list, record { right_of_xlo = omega (arith, ints); left_of_xhi = omega (arith, ints); above_ylo = omega (arith, ints); below_yhi = omega (arith, ints) }))
-
-parts_make_up : (areas : List Rect) (heights : List ℤ) (bars : List Bar) → IsPermutation (heights_of areas) heights → IsSorted int_cmp heights
-    → IsPermutation (parts_of_all areas heights) bars → MakeUp (IsInUnion areas) bars
-parts_make_up areas heights bars moved sorted parts =
-    let ordered = heights_in_order heights sorted in
-    let part : (bar : Bar) → In bar bars → IsPartOfSome areas heights bar =
-    λ bar i. parts_of_all-are areas heights ordered bar (In-permutation bar bars (parts_of_all areas heights) (IsPermutation-sym (parts_of_all areas heights) bars parts) i) in
-    record {
-      tall = λ bar i. (part bar i).part.tall;
-      long = λ bar i. (part bar i).part.long;
-      sound = λ bar i x y h. covered_by_part areas heights bar (part bar i) x y h;
-      complete = λ x y s.
-          let found = parts_of_all-have areas heights x y ordered s.0 s.1.0 s.1.1
-          (In-permutation s.0.ylo (heights_of areas) heights moved (heights_of-ylo areas s.0 s.1.0))
-          (In-permutation s.0.yhi (heights_of areas) heights moved (heights_of-yhi areas s.0 s.1.0)) in
-          record { bar = found.bar; in_list = In-permutation found.bar (parts_of_all areas heights) bars parts found.in_list; has = found.has };
-      same_low = λ a b i j y a_low a_high b_low b_high. equal_from_both a.low b.low
-          (begins_first areas heights b a (part b j) (part a i) y a_low b_high)
-          (begins_first areas heights a b (part a i) (part b j) y b_low a_high);
-      same_high = λ a b i j y a_low a_high b_low b_high. equal_from_both a.high b.high
-          (ends_last areas heights a b (part a i) (part b j) y a_low b_high)
-          (ends_last areas heights b a (part b j) (part a i) y b_low a_high);
-    }
 
 strip_cmp_total : IsTotalOrder strip_cmp
 strip_cmp_total = then_total (on_total (λ s. s.ylo) int_cmp_total) (then_total (on_total (λ s. s.xlo) int_cmp_total) (then_total (on_total (λ s. s.xhi) int_cmp_total) (on_total (λ s. s.yhi) int_cmp_total)))
@@ -150,27 +106,31 @@ module _ (S : Square → Type 0) (columns : List Bar) (are : AreColumns S column
       subst (λ (r : Rect). StandsBefore r (get_or (map area_of strips) j d)) (sym (get_or-map area_of strips i e))
       (subst (λ (r : Rect). StandsBefore (area_of a) r) (sym (get_or-map area_of strips j e)) found)
 
-  pub sorted_columns : IsStrips S (map area_of strips)
-  sorted_columns = record { each = is_strip; every = λ area strip. to_strip area (strip_is_column S columns are area strip); ordered = in_order }
+  in_some_strip : (square : Square) → S square → IsInUnion (map area_of strips) square
+  in_some_strip square s =
+      let found = are.complete square.x square.y s in
+      let area = area_of_column found.bar in
+      (area, (to_strip area (In-map area_of_column found.bar columns found.in_list), record { right_of_xlo = found.left; left_of_xhi = found.right; above_ylo = found.from; below_yhi = found.to }))
 
--- from rectangles to their strips
-pub strips_found : (rects : List Rect) (heights : List ℤ) (parts pieces runs turns upright columns : List Bar) (strips ordered : List Strip) (areas : List Rect)
-    → IsPermutation (heights_of rects) heights → IsSorted int_cmp heights
-    → parts ≡ parts_of_all rects heights → IsPermutation parts pieces → IsSorted bar_cmp pieces → runs ≡ joined pieces
-    → turns ≡ map turned runs → IsPermutation turns upright → IsSorted bar_cmp upright → columns ≡ joined upright
+  pub sorted_columns : IsStrips S (map area_of strips)
+  sorted_columns = record {
+    each = is_strip;
+    every = λ area strip. to_strip area (strip_is_column S columns are area strip);
+    whole = in_some_strip;
+    ordered = in_order;
+  }
+
+-- from bars that are runs of a set to its strips
+pub strips_found : (S : Square → Type 0) (bars upright columns : List Bar) (strips ordered : List Strip) (areas : List Rect)
+    → AreRunBars S bars → IsPermutation bars upright → IsSorted bar_cmp upright → columns ≡ joined upright
     → strips ≡ map strip_of columns → IsPermutation strips ordered → IsSorted strip_cmp ordered → areas ≡ map area_of ordered
-    → IsStrips (IsInUnion rects) areas
-strips_found rects heights parts pieces runs turns upright columns strips ordered areas heights_moved heights_sorted e-parts pieces_moved pieces_sorted e-runs e-turns upright_moved upright_sorted e-columns e-strips ordered_moved ordered_sorted e-areas =
-    let S : Square → Type 0 = IsInUnion rects in
-    let make = parts_make_up rects heights pieces heights_moved heights_sorted (subst (λ v. IsPermutation v pieces) e-parts pieces_moved) in
-    let first : AreJoined pieces runs = subst (AreJoined pieces) (sym e-runs) (joined-are pieces (bars_in_order pieces pieces_sorted) make.long) in
-    let moved : IsPermutation (map turned runs) upright = subst (λ v. IsPermutation v upright) e-turns upright_moved in
-    let there : (bar : Bar) → In bar upright → In bar (map turned runs) = λ bar i. In-permutation bar upright (map turned runs) (IsPermutation-sym (map turned runs) upright moved) i in
-    let back : (bar : Bar) → In bar (map turned runs) → In bar upright = λ bar i. In-permutation bar (map turned runs) upright moved i in
-    let long : AreLong upright = λ bar i. (let s = In-map_source turned bar runs (there bar i) in subst IsLong s.1.1 (joined_tall S pieces runs make first s.0 s.1.0)) in
-    let second : AreJoined upright columns = subst (AreJoined upright) (sym e-columns) (joined-are upright (bars_in_order upright upright_sorted) long) in
-    let are = columns_from_runs S pieces runs upright columns make first there back second in
-    subst (IsStrips S) (sym e-areas) (sorted_columns S columns are ordered (subst (λ v. IsPermutation v ordered) e-strips ordered_moved) ordered_sorted)
+    → IsStrips S areas
+strips_found S bars upright columns strips ordered areas are upright_moved upright_sorted e-columns e-strips ordered_moved ordered_sorted e-areas =
+    let there : (bar : Bar) → In bar upright → In bar bars = λ bar i. In-permutation bar upright bars (IsPermutation-sym bars upright upright_moved) i in
+    let back : (bar : Bar) → In bar bars → In bar upright = λ bar i. In-permutation bar bars upright upright_moved i in
+    let join : AreJoined upright columns = subst (AreJoined upright) (sym e-columns) (joined-are upright (bars_in_order upright upright_sorted) (λ bar i. are.long bar (there bar i))) in
+    let made = columns_from_bars S bars upright columns are there back join in
+    subst (IsStrips S) (sym e-areas) (sorted_columns S columns made ordered (subst (λ v. IsPermutation v ordered) e-strips ordered_moved) ordered_sorted)
 
 StandsBefore-irreflexive : (a : Rect) → StandsBefore a a → ⊥
 StandsBefore-irreflexive a (inl h) = omega (arith, ints, h)

@@ -1,5 +1,5 @@
 -- Bars: stretches of parallel lines, and how bars that touch are joined.
-use Rattle.std.specs.Prelude.{◌≡◌, ℤ, pos, ◌≤ℤ◌, ◌<ℤ◌, Bool, ◌&&◌, int_le, int_lt, if◌then◌else◌, List, [], ◌∷◌, ◌++◌}
+use Rattle.std.specs.Prelude.{Bool, ◌&&◌, int_le, if◌then◌else◌, List, [], ◌∷◌}
 use Rattle.std.specs.Int.{int_max}
 use Rattle.std.specs.Ordering.{int_eq, int_cmp, ordering_then}
 use Rattle.geo_core.specs.declared.squares.Rect.{Rect}
@@ -23,35 +23,6 @@ joined_from bar (next ∷ rest) = if meets bar next then joined_from (reaching b
 abbrev pub joined : List Bar → List Bar
 joined [] = []
 joined (bar ∷ rest) = joined_from bar rest
-
--- The bar along the other axis.
-abbrev pub turned : Bar → Bar
-turned bar = record { low = bar.from; high = bar.to; from = bar.low; to = bar.high }
-
--- The part of a rectangle in the rows from low on and below high, if there are such rows and they lie in the rectangle.
-abbrev pub part_in : Rect → ℤ → ℤ → List Bar
-part_in area low high =
-    if int_lt low high && int_le area.ylo low && int_le high area.yhi && int_lt area.xlo area.xhi
-    then (record { low = low; high = high; from = area.xlo; to = area.xhi } ∷ [])
-    else []
-
--- Its parts between each of the heights and the next.
-abbrev pub parts_from : Rect → ℤ → List ℤ → List Bar
-parts_from area low [] = []
-parts_from area low (high ∷ rest) = part_in area low high ++ parts_from area high rest
-
-abbrev pub parts_of : Rect → List ℤ → List Bar
-parts_of area [] = []
-parts_of area (low ∷ rest) = parts_from area low rest
-
--- The heights at which rectangles begin and end.
-abbrev pub heights_of : List Rect → List ℤ
-heights_of [] = []
-heights_of (area ∷ rest) = area.ylo ∷ area.yhi ∷ heights_of rest
-
-abbrev pub parts_of_all : List Rect → List ℤ → List Bar
-parts_of_all [] heights = []
-parts_of_all (area ∷ rest) heights = parts_of area heights ++ parts_of_all rest heights
 
 -- Bars are in the order of their lines, and on one line in that of their beginnings.
 abbrev pub bar_cmp : Bar → Bar → Ordering

@@ -1,9 +1,15 @@
+pub mod Areas
 pub mod Bars
+pub mod Coverage
 pub mod Covering
 pub mod Elements
 pub mod Images
 pub mod Neighbours
 pub mod Orientation
+pub mod Planes
 pub mod Reach
+pub mod RowEvents
+pub mod RowRuns
 pub mod SquareOrder
 pub mod Strips
+pub mod Sweeping

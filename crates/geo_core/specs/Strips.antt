@@ -1,5 +1,5 @@
 -- The strips of a set of squares: its maximal horizontal strips, in order.
-use Rattle.std.specs.Prelude.{◌≡◌, ◌⊎◌, ℤ, pos, ◌+ℤ◌, ◌-ℤ◌, ◌≤ℤ◌, ◌<ℤ◌, List, AllPairs}
+use Rattle.std.specs.Prelude.{◌≡◌, ◌⊎◌, ℤ, pos, ◌-ℤ◌, ◌≤ℤ◌, ◌<ℤ◌, List, AllPairs}
 use Rattle.totals.specs.Lists.{In}
 use Rattle.geo_core.specs.declared.squares.Square.{Square}
 use Rattle.geo_core.specs.declared.squares.Rect.{Rect}
@@ -23,15 +23,16 @@ pub record IsStrip (S : Square → Type 0) (area : Rect) : Type 0 where
 abbrev pub StandsBefore : Rect → Rect → Type 0
 StandsBefore a b = (a.ylo <ℤ b.ylo) ⊎ ((a.ylo ≡ b.ylo) × (a.xlo <ℤ b.xlo))
 
--- The list has exactly the strips of the set, each once, in order.
-pub record IsStrips (S : Square → Type 0) (areas : List Rect) : Type 0 where
-  pub each : (area : Rect) → In area areas → IsStrip S area
-  pub every : (area : Rect) → IsStrip S area → In area areas
-  pub ordered : AllPairs StandsBefore areas
-
 -- Some rectangle of the list covers the square.
 abbrev pub IsInUnion : List Rect → Square → Type 0
 IsInUnion areas square = (area : Rect) × (In area areas × Covers area square)
+
+-- The list has exactly the strips of the set, each once, in order, and each square of the set lies in one.
+pub record IsStrips (S : Square → Type 0) (areas : List Rect) : Type 0 where
+  pub each : (area : Rect) → In area areas → IsStrip S area
+  pub every : (area : Rect) → IsStrip S area → In area areas
+  pub whole : (square : Square) → S square → IsInUnion areas square
+  pub ordered : AllPairs StandsBefore areas
 
 -- A set has one list of strips.
 abbrev pub StripsAreUnique : (Square → Type 0) → Type 0

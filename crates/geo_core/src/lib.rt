@@ -2,6 +2,7 @@
 #![tactic(auto)]
 
 mod bars;
+mod coverage;
 mod faults;
 mod grids;
 mod lists;
@@ -9,8 +10,14 @@ mod names;
 mod orients;
 #[cfg(test)]
 mod place_tests;
+mod planes;
+mod row_events;
+mod row_runs;
 mod squares;
 mod strip_lists;
+#[cfg(test)]
+mod strip_tests;
+mod sweeping;
 #[cfg(test)]
 mod tests;
 mod transforms;
@@ -20,6 +27,7 @@ pub use grids::Grid;
 pub use lists::List;
 pub use names::Name;
 pub use orients::Orient;
+pub use planes::{Plane, PlaneFault};
 pub use squares::{Piece, Rect, Square};
 pub use strip_lists::{SquareSet, strips, strips_are_unique};
 pub use transforms::Transform;

@@ -1,5 +1,5 @@
 //! Names: lists of bytes that are told apart by their bytes alone.
-ghost use Rattle.std.specs.Prelude.{◌≡◌, ◌↔◌, ◌==◌, IfOk, IsTrue};
+ghost use Rattle.std.specs.Prelude.{◌≡◌, ◌↔◌, ◌==◌, [], IfOk, IsTrue};
 ghost use lib.Pointwise.{pointwise};
 
 use crate::faults::GeoFault;
@@ -22,6 +22,15 @@ impl Model for Name {
 }
 
 impl Name {
+    /// The name without bytes. It takes no memory.
+    pub fn empty(alloc: Global) -> Name
+        ensures { result ≡ [] }
+    {
+        Name {
+            text: Vec::new(alloc),
+        }
+    }
+
     /// The name of these bytes.
     pub fn of(alloc: Global, bytes: &[u8]) -> Result<Name, GeoFault>
         ensures { IfOk result (λ name. name ≡ bytes.now) }

@@ -57,6 +57,21 @@ fn a_grid_steps_down_and_back(rt: HostRuntime) {
     assert!(rt; grid.element(1) == (0, 0, -5, 0));
     assert!(rt; grid.element(2) == (1, 1, 0, 7));
     assert!(rt; grid.element(3) == (0, 1, -5, 7));
+    let down = Grid {
+        xlo: 3,
+        xhi: 1,
+        xsep: -10,
+        ylo: 0,
+        yhi: -1,
+        ysep: -4,
+    };
+    assert!(rt; down.count() == 6);
+    assert!(rt; down.element(0) == (3, 0, 0, 0));
+    assert!(rt; down.element(1) == (2, 0, -10, 0));
+    assert!(rt; down.element(2) == (1, 0, -20, 0));
+    assert!(rt; down.element(3) == (3, -1, 0, -4));
+    assert!(rt; down.element(4) == (2, -1, -10, -4));
+    assert!(rt; down.element(5) == (1, -1, -20, -4));
 }
 
 #[test]
@@ -122,5 +137,25 @@ fn strips_of_small_shapes(rt: HostRuntime) -> Result<(), Fail> {
         ],
     )?;
     assert!(rt; whole.as_slice() == [rect(0, 0, 3, 3)].as_slice());
+    let equal = strips(
+        rt.alloc(),
+        &[rect(2, 3, 5, 7), rect(2, 3, 5, 7), rect(2, 3, 5, 7)],
+    )?;
+    assert!(rt; equal.as_slice() == [rect(2, 3, 5, 7)].as_slice());
+    let bridge = strips(
+        rt.alloc(),
+        &[rect(0, 0, 1, 3), rect(2, 0, 3, 3), rect(1, 1, 2, 2)],
+    )?;
+    assert!(rt;
+        bridge.as_slice()
+            == [
+                rect(0, 0, 1, 1),
+                rect(2, 0, 3, 1),
+                rect(0, 1, 3, 2),
+                rect(0, 2, 1, 3),
+                rect(2, 2, 3, 3)
+            ]
+            .as_slice()
+    );
     Ok(())
 }

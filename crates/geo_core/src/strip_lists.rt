@@ -4,9 +4,10 @@ ghost use Rattle.geo_core.specs.declared.squares.Square.{Square as IsSquare};
 ghost use Rattle.geo_core.specs.Bars.{strip_of, area_of, strip_cmp};
 ghost use Rattle.geo_core.specs.Strips.{IsStrips, IsInUnion, StripsAreUnique};
 
-use crate::bars::{Bar, heights, join, parts, sorted, turn};
+use crate::bars::{Bar, join, sorted};
 use crate::faults::GeoFault;
 use crate::squares::Rect;
+use crate::sweeping::runs;
 use std::alloc::{AllocError, Global};
 
 /// A rectangle in the order of strips.
@@ -33,10 +34,7 @@ pub fn strips_are_unique<S: SquareSet>()
 pub fn strips(alloc: Global, rects: &[Rect]) -> Result<Vec<Rect>, GeoFault>
     ensures { IfOk result (λ found. IsStrips (IsInUnion rects.now) found.items) }
 {
-    let rows = heights(alloc, rects)?;
-    let pieces = sorted(parts(alloc, rects, rows.as_slice())?);
-    let runs = join(alloc, pieces.as_slice())?;
-    let upright = sorted(turn(alloc, runs.as_slice())?);
+    let upright = sorted(runs(alloc, rects)?);
     let columns = join(alloc, upright.as_slice())?;
     let ordered = in_order(strips_of(alloc, columns.as_slice())?);
     Ok(areas_of(alloc, ordered.as_slice())?)

@@ -1,64 +1,10 @@
 -- Sorted tiles stand in the order of their lower left squares.
-use Rattle.std.proofs.Common.{◌≡◌, ℤ, pos, ◌<ℤ◌, ◌≤ℤ◌, false, List, get_or, Ordering, ◌⊎◌, inl, inr, refl, sym, arith}
-use Rattle.std.specs.Cmp.{IsTotalOrder}
+use Rattle.std.proofs.Common.{List}
 use Rattle.std.specs.List.Sorted.{IsSortedByKey}
-use Rattle.std.specs.declared.cmp.Ordering.TheVariants.{Less, Equal, Greater}
-use Rattle.std.specs.Ordering.{is_lt, int_cmp, ordering_then}
-use Rattle.std.proofs.lemmas.Bool.{false≢true}
-use Rattle.std.proofs.lemmas.Cmp.{int_cmp_total, on_total, then_total, int_ranked}
-use Rattle.std.proofs.lemmas.Int.{ints, by_lt_z}
-use Rattle.std.proofs.lemmas.List.Sorted.{sorted_far, ranks_by}
-use Rattle.geo_core.specs.declared.squares.Square.{Square}
-use Rattle.geo_core.specs.declared.squares.Rect.{Rect}
 use Rattle.geo_core.specs.declared.squares.Piece.{Piece}
-use Rattle.geo_core.specs.Covering.{Covers, IsProper}
+use Rattle.geo_core.proofs.CornerLaws.{corner_key, pair_cmp, sorted_by_corner}
 use Rattle.flood_nodes.specs.Tiles.{AreTiles}
-use Rattle.magex_top.specs.PieceOrder.{corner_of, AreByCorner}
-
--- what stands past the end of a list of pieces
-abbrev pub no_piece : Piece
-no_piece = record { area = record { xlo = pos 0; ylo = pos 0; xhi = pos 0; yhi = pos 0 }; value = 0 }
-
--- the key by which pieces are sorted, and its order
-abbrev pub corner_key : Piece → ℤ × ℤ
-corner_key piece = (piece.area.ylo, piece.area.xlo)
-
-abbrev pub pair_cmp : ℤ × ℤ → ℤ × ℤ → Ordering
-pair_cmp a b = ordering_then (int_cmp a.0 b.0) (int_cmp a.1 b.1)
-
-pair_cmp_total : IsTotalOrder pair_cmp
-pair_cmp_total = then_total (on_total (λ (k : ℤ × ℤ). k.0) int_cmp_total) (on_total (λ (k : ℤ × ℤ). k.1) int_cmp_total)
-
--- a key that is not less
-not_less : (a b : ℤ × ℤ) → is_lt (pair_cmp b a) ≡ false → (a.0 <ℤ b.0) ⊎ ((a.0 ≡ b.0) × (a.1 ≤ℤ b.1))
-not_less a b fails = by_order (int_cmp b.0 a.0) (int_cmp b.1 a.1) refl refl fails where
-  by_order : (rows columns : Ordering) → rows ≡ int_cmp b.0 a.0 → columns ≡ int_cmp b.1 a.1 → is_lt (ordering_then rows columns) ≡ false → (a.0 <ℤ b.0) ⊎ ((a.0 ≡ b.0) × (a.1 ≤ℤ b.1))
-  by_order Less columns row column test = absurd (false≢true (sym test))
-  by_order Greater columns row column test = inl (int_ranked b.0 a.0 Greater row)
-  by_order Equal Less row column test = absurd (false≢true (sym test))
-  by_order Equal Equal row column test = let same = int_ranked b.0 a.0 Equal row in let also = int_ranked b.1 a.1 Equal column in inr (sym same, omega (arith, ints, also))
-  by_order Equal Greater row column test = let same = int_ranked b.0 a.0 Equal row in let right = int_ranked b.1 a.1 Greater column in inr (sym same, omega (arith, ints, right))
-
-pub corner_covers : (area : Rect) (square : Square) → IsProper area → area.ylo ≡ square.y → area.xlo ≡ square.x → Covers area square
-corner_covers area square proper row column = record {
-  right_of_xlo = omega (arith, ints);
-  left_of_xhi = omega (arith, ints, proper.wide);
-  above_ylo = omega (arith, ints);
-  below_yhi = omega (arith, ints, proper.high);
-}
-
--- two tiles have two corners
-before_in_row : (a b : Rect) → IsProper a → IsProper b → ((square : Square) → Covers a square → Covers b square → ⊥) → a.ylo ≡ b.ylo → a.xlo ≤ℤ b.xlo → a.xlo <ℤ b.xlo
-before_in_row a b p q apart row no_later = by_lt_z a.xlo b.xlo (λ less. less)
-    (λ back. absurd (apart (corner_of b)
-    (corner_covers a (corner_of b) p row (omega (arith, ints)))
-    (corner_covers b (corner_of b) q refl refl)))
+use Rattle.magex_top.specs.PieceOrder.{AreByCorner}
 
 pub AreByCorner-sorted : (pieces : List Piece) → AreTiles pieces → IsSortedByKey corner_key pair_cmp pieces → AreByCorner pieces
-AreByCorner-sorted pieces tiles sorted = λ i j d less within.
-    let a = get_or pieces i d in
-    let b = get_or pieces j d in
-    elim (not_less (corner_key a) (corner_key b) (sorted_far (λ x y. is_lt (pair_cmp (corner_key x) (corner_key y))) (ranks_by pair_cmp_total corner_key) pieces sorted i j d (omega arith) within)) [
-      | inl lower ↦ inl lower
-      | inr (row, no_later) ↦ inr (row, before_in_row a.area b.area (tiles.proper i d (omega arith)) (tiles.proper j d within) (tiles.apart i j d less within) row no_later)
-    ]
+AreByCorner-sorted pieces tiles sorted = sorted_by_corner pieces tiles.proper tiles.apart sorted

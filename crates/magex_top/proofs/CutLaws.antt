@@ -9,12 +9,12 @@ use Rattle.geo_core.specs.declared.squares.Rect.{Rect}
 use Rattle.geo_core.specs.declared.squares.Piece.{Piece}
 use Rattle.geo_core.specs.Covering.{Covers, IsProper, is_covered}
 use Rattle.geo_core.proofs.CoveringLaws.{Covers-is_covered, is_covered-Covers}
-use Rattle.sweeps.specs.Rects.{IsNear}
+use Rattle.geo_core.specs.Areas.{IsNear, common_area, LiesWithin, has_square}
 use Rattle.layout_model.specs.Layouts.{painted, painted_over}
 use Rattle.layout_model.proofs.PaintLaws.{painted_over-append, painted_over-push}
 use Rattle.flood_nodes.specs.Tiles.{AreTiles}
 use Rattle.flood_nodes.proofs.TileLists.{no_tiles, one_tile, AreTiles-append, painted_over-tiles}
-use Rattle.magex_top.specs.Cuts.{common_area, LiesWithin, has_square, piece_if_proper, IsCutOut, AddsRest}
+use Rattle.magex_top.specs.Cuts.{piece_if_proper, IsCutOut, AddsRest}
 
 -- the test and the fact say the same
 pub IsProper-has_square : (area : Rect) → has_square area ≡ true → IsProper area

@@ -42,7 +42,7 @@ use Rattle.magex_top.specs.PieceOrder.{corner_of, AreByCorner}
 use Rattle.magex_top.specs.PlainNodes.{node_of, IsMeasured}
 use Rattle.magex_top.specs.Gathering.{total_of, length_for, shared_of, AreGathered, AreTakenOff}
 use Rattle.magex_top.proofs.TakeOffLaws.{contacts_are_short, shared_of-not_negative}
-use Rattle.magex_top.proofs.CornerLaws.{no_piece, corner_covers}
+use Rattle.geo_core.proofs.CornerLaws.{no_piece, corner_covers}
 
 -- the place lies in the piece at this index, which has the number
 abbrev HasNumber : List Piece → List ℕ → ℕ → ℕ → Place → Type 0

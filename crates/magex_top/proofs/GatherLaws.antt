@@ -14,7 +14,8 @@ use Rattle.geo_core.specs.Covering.{IsProper}
 use Rattle.totals.specs.Lists.{In}
 use Rattle.totals.specs.Total.{sum_on}
 use Rattle.totals.proofs.Sums.{sum_on-push, sum_on-same, sum_on-nothing}
-use Rattle.sweeps.specs.Rects.{IsNear, rect_at, places_of}
+use Rattle.geo_core.specs.Areas.{IsNear}
+use Rattle.sweeps.specs.Rects.{rect_at, places_of}
 use Rattle.sweeps.specs.Squares.{area_of, perimeter_of}
 use Rattle.sweeps.proofs.BothWays.{Lists-places_of}
 use Rattle.flood_nodes.specs.Alike.{areas_of}

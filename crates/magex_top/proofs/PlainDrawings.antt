@@ -9,7 +9,7 @@ use Rattle.std.proofs.lemmas.List.Elements.{All-nil, All-cons}
 use Rattle.geo_core.specs.declared.squares.Rect.{Rect}
 use Rattle.geo_core.specs.declared.squares.Piece.{Piece}
 use Rattle.geo_core.specs.Covering.{IsProper}
-use Rattle.sweeps.specs.Rects.{IsSmall, IsNear}
+use Rattle.geo_core.specs.Areas.{IsSmall, IsNear}
 use Rattle.text_scan.specs.Lines.{lines_of}
 use Rattle.text_scan.specs.Words.{words_of}
 use Rattle.text_scan.specs.Numbers.{number_of}

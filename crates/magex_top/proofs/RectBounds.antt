@@ -5,7 +5,7 @@ use Rattle.std.proofs.Math.Nat.{mul-le-mul_left}
 use Rattle.std.proofs.lemmas.Int.{ints, to_z-of_z}
 use Rattle.geo_core.specs.declared.squares.Rect.{Rect}
 use Rattle.geo_core.specs.Covering.{IsProper}
-use Rattle.sweeps.specs.Rects.{IsNear, IsSmall}
+use Rattle.geo_core.specs.Areas.{IsNear, IsSmall}
 use Rattle.magex_top.specs.PlainNodes.{IsModest}
 use Rattle.sweeps.specs.Squares.{area_of, perimeter_of}
 

@@ -11,7 +11,8 @@ use Rattle.totals.specs.Lists.{In, Lists}
 use Rattle.totals.proofs.Members.{In-get_or}
 use Rattle.totals.proofs.Sums.{sum_on-push}
 use Rattle.sweeps.specs.declared.contacts.Contact.{Contact}
-use Rattle.sweeps.specs.Rects.{IsNear, rect_at}
+use Rattle.geo_core.specs.Areas.{IsNear}
+use Rattle.sweeps.specs.Rects.{rect_at}
 use Rattle.sweeps.specs.Contacts.{overlap, shared_beside, shared_upon, shared_length, IsContact}
 use Rattle.sweeps.proofs.Shared.{shared_beside-cases, shared_upon-cases}
 use Rattle.magex_top.specs.declared.nodes.PlainNode.{PlainNode}

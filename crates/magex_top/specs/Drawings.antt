@@ -2,7 +2,7 @@
 use Rattle.std.specs.Prelude.{◌≢◌, List, All}
 use Rattle.geo_core.specs.declared.squares.Piece.{Piece}
 use Rattle.geo_core.specs.Covering.{IsProper}
-use Rattle.sweeps.specs.Rects.{IsNear}
+use Rattle.geo_core.specs.Areas.{IsNear}
 
 -- Rectangles as a cell's file has them: each has a square and is of a layer, and its bounds are below 2^28 in absolute value.
 -- They may overlap: of two that cover a square, the later one paints it.

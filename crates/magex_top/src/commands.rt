@@ -1,12 +1,11 @@
 //! The command of a line.
 ghost use Rattle.std.specs.Prelude.{◌≡◌, IfOk};
-ghost use Rattle.std.specs.List.{list_all};
 ghost use Rattle.text_scan.specs.Words.{words_of};
-ghost use Rattle.magex_top.specs.Commands.{command_of, command_of_words, command_on, is_cell_name, is_name_byte};
+ghost use Rattle.magex_top.specs.Commands.{command_of, command_of_words, command_on};
 
 use geo_core::{GeoFault, Name};
 use std::alloc::Global;
-use text_scan::words;
+use text_scan::{is_plain_name, words};
 
 /// What a line asks for.
 #[derive(Debug, Drop)]
@@ -52,7 +51,7 @@ fn command_of_words(alloc: Global, line: &[u8]) -> Result<Command, GeoFault>
 fn command_on(alloc: Global, verb: &[u8], cell: &[u8]) -> Result<Command, GeoFault>
     ensures { IfOk result (λ command. command ≡ command_on verb.now cell.now) }
 {
-    if !is_cell_name(cell) {
+    if !is_plain_name(cell) {
         return Ok(Command::Unbuilt);
     }
     if verb == b"load".as_slice() {
@@ -62,24 +61,4 @@ fn command_on(alloc: Global, verb: &[u8], cell: &[u8]) -> Result<Command, GeoFau
         return Ok(Command::Nodes(Name::of(alloc, cell)?));
     }
     Ok(Command::Unbuilt)
-}
-
-fn is_name_byte(byte: u8) -> bool
-    ensures { result ≡ is_name_byte byte }
-{
-    byte.is_ascii_alphanumeric() || byte == b'_' || byte == b'-'
-}
-
-fn has_name_bytes(word: &[u8]) -> bool
-    ensures { result ≡ list_all is_name_byte word.now }
-{
-    word.iter().all(|&byte| is_name_byte(byte))
-}
-
-// Whether a word is of the form of a cell's name: 1 to 64 letters, digits, `_` or `-`.
-fn is_cell_name(word: &[u8]) -> bool
-    ensures { result ≡ is_cell_name word.now }
-{
-    let length = word.len();
-    1 <= length && length <= 64 && has_name_bytes(word)
 }

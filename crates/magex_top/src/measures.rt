@@ -2,7 +2,7 @@
 ghost use Rattle.std.specs.Prelude.{◌≡◌, ◌<◌, ℤ, pos, ◌-ℤ◌, ◌≤ℤ◌, ◌<ℤ◌, ◌^◌, IfOk, OnOk, All, length, FitsSigned};
 ghost use Rattle.std.specs.Int.{w128};
 ghost use Rattle.geo_core.specs.Covering.{IsProper};
-ghost use Rattle.sweeps.specs.Rects.{IsNear};
+ghost use Rattle.geo_core.specs.Areas.{IsNear};
 ghost use Rattle.sweeps.specs.Squares.{area_of, perimeter_of};
 ghost use Rattle.flood_nodes.specs.Tiles.{AreTiles};
 ghost use Rattle.flood_nodes.specs.Regions.{AreRegions};

@@ -2,10 +2,10 @@
 ghost use Rattle.std.specs.Prelude.{◌≡◌, ◌≢◌, ◌++◌, [], ◌∷◌, IfOk, OnOk, All};
 ghost use Rattle.geo_core.specs.declared.squares.Square.{Square as Square'};
 ghost use Rattle.geo_core.specs.Covering.{IsProper};
-ghost use Rattle.sweeps.specs.Rects.{IsNear};
+ghost use Rattle.geo_core.specs.Areas.{IsNear, common_area, LiesWithin, has_square};
 ghost use Rattle.layout_model.specs.Layouts.{painted};
 ghost use Rattle.flood_nodes.specs.Tiles.{AreTiles};
-ghost use Rattle.magex_top.specs.Cuts.{common_area, LiesWithin, has_square, rect_of, piece_if_proper, IsCutOut, AddsRest};
+ghost use Rattle.magex_top.specs.Cuts.{rect_of, piece_if_proper, IsCutOut, AddsRest};
 ghost use Rattle.magex_top.specs.PieceOrder.{AreByCorner};
 
 use geo_core::{Piece, Rect};

@@ -4,7 +4,7 @@ use Rattle.std.specs.Int.{int_max}
 use Rattle.std.proofs.lemmas.Int.{ints, clamps, by_lt_z}
 use Rattle.geo_core.specs.declared.squares.Rect.{Rect}
 use Rattle.geo_core.specs.Covering.{IsProper}
-use Rattle.sweeps.specs.Rects.{AreDisjoint}
+use Rattle.geo_core.specs.Areas.{AreDisjoint}
 
 -- one of the rectangles ends before the other begins, in x or in y
 abbrev pub AreApart : Rect → Rect → Type 0

@@ -11,7 +11,7 @@ use Rattle.totals.specs.Lists.{In}
 use Rattle.totals.specs.Total.{sum_on, one_if}
 use Rattle.totals.proofs.Members.{In-index}
 use Rattle.totals.proofs.Sums.{sum_on-same, sum_on-sub, sum_on-swap, sum_on-scale}
-use Rattle.sweeps.specs.Rects.{AreDisjoint}
+use Rattle.geo_core.specs.Areas.{AreDisjoint}
 use Rattle.sweeps.specs.Contacts.{shared_length}
 use Rattle.sweeps.specs.Squares.{squares_of, area_of, perimeter_of, edges_between, is_covered_by_any, open_edges}
 use Rattle.sweeps.specs.EdgeLaws.{PerimeterIsOpenOrShared}

@@ -5,7 +5,7 @@ use Rattle.std.proofs.lemmas.Bool.{cases_lt}
 use Rattle.std.proofs.lemmas.Int.{ints}
 use Rattle.geo_core.specs.declared.squares.Rect.{Rect}
 use Rattle.geo_core.specs.Covering.{IsProper}
-use Rattle.sweeps.specs.Rects.{AreDisjoint}
+use Rattle.geo_core.specs.Areas.{AreDisjoint}
 
 abbrev pub GoesOn : Rect → Rect → Type 0
 GoesOn a b = (a.yhi ≤ℤ b.ylo) ⊎ ((a.ylo ≡ b.ylo) × (a.yhi ≡ b.yhi) × (a.xhi ≤ℤ b.xlo))

@@ -19,7 +19,8 @@ use Rattle.totals.proofs.Members.{In-get_or, In-index, In-from_Contains, Contain
 use Rattle.sweeps.specs.declared.sides.Edge.{Edge}
 use Rattle.sweeps.specs.declared.sides.Edge.TheVariants.{Left, Right, Bottom, Top}
 use Rattle.sweeps.specs.declared.sides.Side.{Side}
-use Rattle.sweeps.specs.Rects.{AreDisjoint, IsNear, rect_at}
+use Rattle.geo_core.specs.Areas.{AreDisjoint, IsNear}
+use Rattle.sweeps.specs.Rects.{rect_at}
 use Rattle.sweeps.specs.Sides.{side_of, IsSpan, StandsBefore, AreSidesOf}
 use Rattle.sweeps.proofs.Apart.{AreApart, apart_from_disjoint}
 

@@ -26,7 +26,7 @@ shared_stacked a b = shared_upon a b +ℤ shared_upon b a
 abbrev pub shared_abreast : Rect → Rect → ℤ
 shared_abreast a b = shared_beside a b +ℤ shared_beside b a
 
--- The length of the edge that two disjoint rectangles share: the second is on top of the first, or below it, to the right of it
+-- The length of the edge that two disjoint rectangles share, each of which covers a square: the second is on top of the first, or below it, to the right of it
 -- or to the left. Of the four parts at most one is not 0.
 abbrev pub shared_length : Rect → Rect → ℤ
 shared_length a b = shared_stacked a b +ℤ shared_abreast a b

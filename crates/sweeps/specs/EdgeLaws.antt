@@ -5,7 +5,8 @@ use Rattle.geo_core.specs.Covering.{Covers, IsProper}
 use Rattle.totals.specs.Lists.{In, Lists}
 use Rattle.totals.specs.Total.{sum_on}
 use Rattle.sweeps.specs.declared.contacts.Contact.{Contact}
-use Rattle.sweeps.specs.Rects.{AreDisjoint, rect_at, places_of}
+use Rattle.geo_core.specs.Areas.{AreDisjoint}
+use Rattle.sweeps.specs.Rects.{rect_at, places_of}
 use Rattle.sweeps.specs.Contacts.{shared_length, IsContact}
 use Rattle.sweeps.specs.Squares.{squares_of, area_of, perimeter_of, edges_between, open_edges}
 

@@ -6,7 +6,8 @@ use Rattle.sweeps.specs.declared.contacts.Contact.{Contact}
 use Rattle.sweeps.specs.declared.sides.Edge.{Edge}
 use Rattle.sweeps.specs.declared.sides.Edge.TheVariants.{Left, Right, Bottom, Top}
 use Rattle.sweeps.specs.declared.sides.Side.{Side}
-use Rattle.sweeps.specs.Rects.{rect_at, IsSmall}
+use Rattle.geo_core.specs.Areas.{IsSmall}
+use Rattle.sweeps.specs.Rects.{rect_at}
 use Rattle.sweeps.specs.Contacts.{overlap}
 
 -- an edge of the rectangle at a place of a list, as a side
@@ -22,7 +23,8 @@ pub record IsSpan (side : Side) : Type 0 where
   pub near_from : IsSmall side.from
   pub near_to : IsSmall side.to
 
--- The sides are those of two rectangles. The first lies on a line before that of the second, or ends before the second begins.
+-- The sides are those of two rectangles. The first lies on a line before that of the second, or on the same line and ends no
+-- farther than where the second begins.
 pub record StandsBefore (a b : Side) : Type 0 where
   pub of_two : a.owner ≢ b.owner
   pub before : (a.line <ℤ b.line) ⊎ ((a.line ≡ b.line) × (a.to ≤ℤ b.from))
@@ -31,7 +33,7 @@ pub record StandsBefore (a b : Side) : Type 0 where
 abbrev pub ReachesNoFarther : Side → Side → Type 0
 ReachesNoFarther a b = (a.line <ℤ b.line) ⊎ ((a.line ≡ b.line) × (a.to ≤ℤ b.to))
 
--- The sides of the list are spans, and each stands before the next.
+-- The sides of the list are spans, and each stands before every later one.
 pub record AreInOrder (sides : List Side) : Type 0 where
   pub spans : All IsSpan sides
   pub ascending : AllPairs StandsBefore sides

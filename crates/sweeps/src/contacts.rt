@@ -2,7 +2,7 @@
 ghost use Rattle.std.specs.Prelude.{IfOk, All, AllPairs};
 ghost use Rattle.geo_core.specs.Covering.{IsProper};
 ghost use Rattle.totals.specs.Lists.{Lists};
-ghost use Rattle.sweeps.specs.Rects.{AreDisjoint, IsNear};
+ghost use Rattle.geo_core.specs.Areas.{AreDisjoint, IsNear};
 ghost use Rattle.sweeps.specs.Contacts.{shared_stacked, shared_abreast, IsContactBy, IsContact};
 
 use crate::faults::SweepFault;

@@ -2,7 +2,7 @@
 ghost use Rattle.std.specs.Prelude.{◌≡◌, ◌↔◌, IfOk, OnOk, IsTrue, All, AllPairs};
 ghost use Rattle.geo_core.specs.Covering.{IsProper};
 ghost use Rattle.totals.specs.Lists.{Lists};
-ghost use Rattle.sweeps.specs.Rects.{AreDisjoint, IsNear};
+ghost use Rattle.geo_core.specs.Areas.{AreDisjoint, IsNear};
 ghost use Rattle.sweeps.specs.Sides.{side_of, AreSidesOf, ReachesNoFarther, AreInOrder, AreOpposite, IsSpan, AddsContact, IsMeeting};
 
 use crate::contacts::Contact;

@@ -1,7 +1,7 @@
 //! Contacts worked by hand, and lists of real size.
 ghost use Rattle.std.specs.Prelude.{◌≡◌, ◌⊎◌, ◌≤ℤ◌, IsTrue, All, AllPairs};
 ghost use Rattle.geo_core.specs.Covering.{IsProper};
-ghost use Rattle.sweeps.specs.Rects.{AreDisjoint, IsNear};
+ghost use Rattle.geo_core.specs.Areas.{AreDisjoint, IsNear};
 
 use super::*;
 use std::process::Abort;

@@ -3,9 +3,9 @@ use Rattle.std.proofs.lemmas.List.{take_more, length-take, length-take-le}
 use Rattle.std.proofs.lemmas.List.Elements.{All-take, All-map}
 use Rattle.geo_core.specs.declared.squares.Piece.{Piece}
 use Rattle.geo_core.specs.Covering.{IsProper}
-use Rattle.sweeps.specs.Rects.{IsNear}
+use Rattle.geo_core.specs.Areas.{IsNear}
 use Rattle.magex_top.specs.Gathering.{AreGathered}
-use Rattle.magex_top.proofs.CornerLaws.{no_piece}
+use Rattle.geo_core.proofs.CornerLaws.{no_piece}
 use Rattle.magex_top.proofs.GatherLaws.{gathered_none, gathered_more, gathered_is_measured}
 use Rattle.magex_top.proofs.measures.gather.Goals as goal
 

@@ -6,7 +6,7 @@ use Rattle.geo_core.specs.declared.squares.Piece.{Piece}
 use Rattle.geo_core.specs.Covering.{IsProper}
 use Rattle.totals.specs.Lists.{Lists}
 use Rattle.sweeps.specs.declared.contacts.Contact.{Contact}
-use Rattle.sweeps.specs.Rects.{AreDisjoint, IsNear}
+use Rattle.geo_core.specs.Areas.{AreDisjoint, IsNear}
 use Rattle.sweeps.specs.Contacts.{IsContact}
 use Rattle.layout_model.specs.Nodes.{AreNodes}
 use Rattle.flood_nodes.specs.Tiles.{layout_of}

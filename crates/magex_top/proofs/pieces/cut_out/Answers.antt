@@ -4,7 +4,7 @@ use Rattle.std.proofs.lemmas.Option.{slice_get-get_or}
 use Rattle.flood_nodes.proofs.TileLaws.{tile_is_material}
 use Rattle.flood_nodes.proofs.TileLists.{take_is_apart}
 use Rattle.magex_top.specs.Cuts.{IsCutOut}
-use Rattle.magex_top.proofs.CornerLaws.{no_piece}
+use Rattle.geo_core.proofs.CornerLaws.{no_piece}
 use Rattle.magex_top.proofs.CutLaws.{cut_out_more}
 use Rattle.magex_top.proofs.pieces.cut_out.Goals as goal
 

@@ -7,7 +7,8 @@ use Rattle.layout_model.specs.Layouts.{painted}
 use Rattle.flood_nodes.specs.Tiles.{AreTiles}
 use Rattle.flood_nodes.proofs.TileLists.{AreTiles-permutation, painted-permutation}
 use Rattle.magex_top.specs.Cuts.{IsCutOut}
-use Rattle.magex_top.proofs.CornerLaws.{no_piece, corner_key, AreByCorner-sorted}
+use Rattle.geo_core.proofs.CornerLaws.{no_piece, corner_key}
+use Rattle.magex_top.proofs.CornerLaws.{AreByCorner-sorted}
 use Rattle.magex_top.proofs.CutLaws.{painted_on_top}
 use Rattle.magex_top.proofs.pieces.disjoint_pieces.Goals as goal
 

@@ -1,8 +1,8 @@
 use Rattle.std.proofs.Common.{sym, subst, ◌∙◌, ap}
 use Rattle.std.proofs.lemmas.Result.{on_ok_weaker}
 use Rattle.geo_core.specs.declared.squares.Rect.{Rect}
-use Rattle.sweeps.specs.Rects.{IsNear}
-use Rattle.magex_top.specs.Cuts.{LiesWithin, AddsRest, has_square}
+use Rattle.geo_core.specs.Areas.{IsNear, LiesWithin, has_square}
+use Rattle.magex_top.specs.Cuts.{AddsRest}
 use Rattle.magex_top.proofs.CutLaws.{IsProper-has_square, core_is_near, core_lies_within, adds_rest_common, whole_is_cut_out}
 use Rattle.magex_top.proofs.pieces.push_rest.Goals as goal
 

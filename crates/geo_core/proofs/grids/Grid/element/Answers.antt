@@ -1,5 +1,5 @@
 -- The element has the indices and the displacement of its row and column, and none stands in the list twice.
-use Rattle.std.proofs.Common.{◌≡◌, Some, ap, ◌∙◌, arith, rules}
+use Rattle.std.proofs.Common.{Some, ap, ◌∙◌, arith, rules}
 use Rattle.std.proofs.lemmas.Int.{ints, to_z-of_z}
 use Rattle.std.specs.Int.{w64}
 use Rattle.std.specs.Int.RustNames.{FitsSigned}

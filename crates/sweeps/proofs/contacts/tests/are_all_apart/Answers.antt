@@ -2,7 +2,8 @@ use Rattle.std.proofs.Common.{◌≡◌, ℕ, get_or, inl, inr, refl, subst, bel
 use Rattle.std.proofs.lemmas.Bool.{cases_lt}
 use Rattle.std.proofs.lemmas.List.{get_or_default}
 use Rattle.geo_core.specs.declared.squares.Rect.{Rect}
-use Rattle.sweeps.specs.Rects.{AreDisjoint, no_rect}
+use Rattle.geo_core.specs.Areas.{AreDisjoint}
+use Rattle.sweeps.specs.Rects.{no_rect}
 use Rattle.sweeps.proofs.contacts.tests.are_all_apart.Goals as goal
 
 pub loop-earlier-preserved : goal.loop-earlier-preserved

@@ -1,6 +1,6 @@
 use Rattle.std.proofs.Common.{ℕ, ◌<◌, get_or}
 use Rattle.geo_core.specs.declared.squares.Rect.{Rect}
-use Rattle.sweeps.specs.Rects.{AreDisjoint}
+use Rattle.geo_core.specs.Areas.{AreDisjoint}
 use Rattle.sweeps.proofs.contacts.tests.are_all_apart.Given as goal
 
 abbrev pub invariant-loop-later : goal.invariant-loop-later

@@ -1,7 +1,7 @@
 use Rattle.std.proofs.Common.{ℕ, get_or, refl, subst, below_more, arith}
 use Rattle.std.proofs.lemmas.List.{get_or_default}
 use Rattle.geo_core.specs.Covering.{IsProper}
-use Rattle.sweeps.specs.Rects.{IsNear}
+use Rattle.geo_core.specs.Areas.{IsNear}
 use Rattle.sweeps.proofs.contacts.tests.are_sound.Goals as goal
 
 pub loop-area-preserved : goal.loop-area-preserved

@@ -1,7 +1,7 @@
 use Rattle.std.proofs.Common.{ℕ, ◌<◌, get_or}
 use Rattle.geo_core.specs.declared.squares.Rect.{Rect}
 use Rattle.geo_core.specs.Covering.{IsProper}
-use Rattle.sweeps.specs.Rects.{IsNear}
+use Rattle.geo_core.specs.Areas.{IsNear}
 use Rattle.sweeps.proofs.contacts.tests.are_sound.Given as goal
 
 abbrev pub invariant-loop-area : goal.invariant-loop-area

@@ -1,0 +1,36 @@
+-- Rectangles within bounds, rectangles that lie apart, and what two have in common.
+use Rattle.std.specs.Prelude.{◌^◌, ◌&&◌, Bool, ℤ, pos, neg_ℤ, ◌<ℤ◌, ◌≤ℤ◌, int_lt}
+use Rattle.std.specs.Int.{int_max, int_min}
+use Rattle.geo_core.specs.declared.squares.Square.{Square}
+use Rattle.geo_core.specs.declared.squares.Rect.{Rect}
+use Rattle.geo_core.specs.Covering.{Covers}
+
+-- no square lies in both rectangles
+abbrev pub AreDisjoint : Rect → Rect → Type 0
+AreDisjoint a b = (square : Square) → Covers a square → Covers b square → ⊥
+
+-- z is below 2^28 in absolute value
+abbrev pub IsSmall : ℤ → Type 0
+IsSmall z = (neg_ℤ (pos (2 ^ 28)) <ℤ z) × (z <ℤ pos (2 ^ 28))
+
+-- the test of a rectangle that has a square
+abbrev pub has_square : Rect → Bool
+has_square area = int_lt area.xlo area.xhi && int_lt area.ylo area.yhi
+
+-- each bound of the rectangle is below 2^28 in absolute value
+pub record IsNear (area : Rect) : Type 0 where
+  pub xlo : IsSmall area.xlo
+  pub ylo : IsSmall area.ylo
+  pub xhi : IsSmall area.xhi
+  pub yhi : IsSmall area.yhi
+
+-- the rectangle of the squares that two rectangles have in common
+abbrev pub common_area : Rect → Rect → Rect
+common_area a b = record { xlo = int_max a.xlo b.xlo; ylo = int_max a.ylo b.ylo; xhi = int_min a.xhi b.xhi; yhi = int_min a.yhi b.yhi }
+
+-- The first rectangle goes nowhere past an edge of the second.
+pub record LiesWithin (core area : Rect) : Type 0 where
+  pub right_of_xlo : area.xlo ≤ℤ core.xlo
+  pub above_ylo : area.ylo ≤ℤ core.ylo
+  pub left_of_xhi : core.xhi ≤ℤ area.xhi
+  pub below_yhi : core.yhi ≤ℤ area.yhi

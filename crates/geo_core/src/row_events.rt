@@ -1,0 +1,110 @@
+//! What happens at a row: rectangles begin there, and columns in which some ended.
+ghost use Rattle.std.specs.Prelude.{◌≡◌, ℤ, ◌≤ℤ◌, ◌++◌, IfOk, OnOk, map, filter, AllPairs};
+ghost use Rattle.totals.specs.Lists.{In};
+ghost use Rattle.geo_core.specs.RowEvents.{is_proper, begin_of, top_of, end_of, AreEvents, sides_of};
+
+use crate::bars::{Bar, join, sorted};
+use crate::squares::Rect;
+use std::alloc::{AllocError, Global};
+
+/// In the columns from `from` on and before `to` a rectangle begins at the row `row` and goes on until the row
+/// `top`, or rectangles end before the row. At one row the beginnings come first.
+#[derive(Clone, Copy, Debug, PartialEq, Eq, PartialOrd, Ord)]
+pub struct Event {
+    pub row: i64,
+    pub ends: bool,
+    pub from: i64,
+    pub to: i64,
+    pub top: i64,
+}
+
+/// Whether the rectangle covers some square.
+fn is_proper(rect: &Rect) -> bool
+    ensures { result ≡ is_proper rect.now }
+{
+    rect.xlo < rect.xhi && rect.ylo < rect.yhi
+}
+
+/// The beginnings of rectangles.
+fn begins(alloc: Global, rects: &[Rect]) -> Result<Vec<Event>, AllocError>
+    ensures { IfOk result (λ found. found.items ≡ map begin_of (filter is_proper rects.now)) }
+{
+    rects
+        .iter()
+        .filter(|rect| is_proper(rect))
+        .map(|rect| Event {
+            row: rect.ylo,
+            ends: false,
+            from: rect.xlo,
+            to: rect.xhi,
+            top: rect.yhi,
+        })
+        .collect(alloc)
+}
+
+/// The tops of rectangles.
+fn tops(alloc: Global, rects: &[Rect]) -> Result<Vec<Bar>, AllocError>
+    ensures { IfOk result (λ found. found.items ≡ map top_of (filter is_proper rects.now)) }
+{
+    rects
+        .iter()
+        .filter(|rect| is_proper(rect))
+        .map(|rect| Bar {
+            low: rect.yhi,
+            high: rect.yhi,
+            from: rect.xlo,
+            to: rect.xhi,
+        })
+        .collect(alloc)
+}
+
+/// Adds the ends that bars stand for.
+fn add_ends(events: &mut Vec<Event>, bars: &[Bar]) -> Result<(), AllocError>
+    ensures { OnOk result (events.new.items ≡ events.old.items ++ map end_of bars.now) }
+{
+    for bar in bars {
+        events.push(Event {
+            row: bar.low,
+            ends: true,
+            from: bar.from,
+            to: bar.to,
+            top: bar.low,
+        })?;
+    }
+    Ok(())
+}
+
+/// The events of rectangles in order.
+pub fn events(alloc: Global, rects: &[Rect]) -> Result<Vec<Event>, AllocError>
+    ensures { IfOk result (λ found. AreEvents rects.now found.items) }
+{
+    let mut found = begins(alloc, rects)?;
+    let upper = sorted(tops(alloc, rects)?);
+    let ends = join(alloc, upper.as_slice())?;
+    add_ends(&mut found, ends.as_slice())?;
+    found.sort_unstable();
+    Ok(found)
+}
+
+/// The columns where events begin and end.
+fn all_sides(alloc: Global, events: &[Event]) -> Result<Vec<i64>, AllocError>
+    ensures { IfOk result (λ found. found.items ≡ sides_of events.now) }
+{
+    let mut found = Vec::new(alloc);
+    for event in events {
+        found.push(event.from)?;
+        found.push(event.to)?;
+    }
+    Ok(found)
+}
+
+/// The columns where events begin and end, in order.
+pub fn sides(alloc: Global, events: &[Event]) -> Result<Vec<i64>, AllocError>
+    ensures all { IfOk result (λ found. (x : ℤ) → In x (sides_of events.now) → In x found.items) }
+    ensures ordered { IfOk result (λ found. AllPairs ◌≤ℤ◌ found.items) }
+{
+    let mut found = all_sides(alloc, events)?;
+    found.sort_unstable();
+    found.dedup();
+    Ok(found)
+}
