@@ -13,10 +13,14 @@ const GROUND: u32 = 0;
 
 const POWER: u32 = 1;
 
-/// A network of these switches, in which node 0 is the input for ground and node 1 that for power.
-fn network(rt: &impl Abort, alloc: Global, nodes: u32, switches: &[Switch]) -> Result<Net, NetFault>
-    requires few { nodes ≤ 2 ^ 20 }
-    requires rails { 2 ≤ nodes }
+/// A network of these switches, without an input.
+fn undriven(
+    rt: &impl Abort,
+    alloc: Global,
+    nodes: u32,
+    switches: &[Switch],
+) -> Result<Net, NetFault>
+    requires { nodes ≤ 2 ^ 20 }
     ensures { IfOk result (λ net. net.nodes ≡ nodes) }
 {
     assert!(rt; switches.len() <= 1_000_000);
@@ -25,7 +29,16 @@ fn network(rt: &impl Abort, alloc: Global, nodes: u32, switches: &[Switch]) -> R
             .iter()
             .all(|w| w.gate < nodes && w.left < nodes && w.right < nodes)
     );
-    let mut net = Net::build(alloc, nodes, switches)?;
+    Net::build(alloc, nodes, switches)
+}
+
+/// A network of these switches, in which node 0 is the input for ground and node 1 that for power.
+fn network(rt: &impl Abort, alloc: Global, nodes: u32, switches: &[Switch]) -> Result<Net, NetFault>
+    requires few { nodes ≤ 2 ^ 20 }
+    requires rails { 2 ≤ nodes }
+    ensures { IfOk result (λ net. net.nodes ≡ nodes) }
+{
+    let mut net = undriven(rt, alloc, nodes, switches)?;
     net.set_input(GROUND);
     net.set_input(POWER);
     Ok(net)
@@ -48,95 +61,184 @@ fn inverter(input: u32, output: u32) -> [Switch; 2] {
     ]
 }
 
-/// Checks that a phase takes these states to those, within five steps.
-fn check_phase(rt: &impl Abort, net: &mut Net, state: &mut [Level], want: &[Level]) {
+/// A network and a phase of it: the switches, each by its kind, its gate and its two sides; the nodes
+/// that are inputs beside the rails; the sizes that are not 1; the states before the phase and after.
+struct Case {
+    switches: &'static [(SwitchKind, u32, u32, u32)],
+    inputs: &'static [u32],
+    sizes: &'static [(u32, u8)],
+    before: &'static [Level],
+    after: &'static [Level],
+}
+
+/// An inverter from node 2 to node 3.
+const INVERTER: &[(SwitchKind, u32, u32, u32)] = &[
+    (SwitchKind::N, 2, GROUND, 3),
+    (SwitchKind::D, 3, POWER, 3),
+];
+
+/// A switch of node 2 that joins nodes 3 and 4.
+const JOINED: &[(SwitchKind, u32, u32, u32)] = &[(SwitchKind::N, 2, 3, 4)];
+
+/// Nodes 2, 3 and 4 in a row.
+const ROW: &[(SwitchKind, u32, u32, u32)] = &[(SwitchKind::D, 0, 2, 3), (SwitchKind::D, 0, 3, 4)];
+
+/// A p device from power to node 3.
+const PULL_UP: &[(SwitchKind, u32, u32, u32)] = &[(SwitchKind::P, 2, POWER, 3)];
+
+/// A chain of pass transistors from power, the second one's gate being node 2.
+const CHAIN: &[(SwitchKind, u32, u32, u32)] = &[
+    (SwitchKind::N, POWER, POWER, 3),
+    (SwitchKind::N, 2, 3, 4),
+    (SwitchKind::N, POWER, 4, 5),
+];
+
+const CASES: [Case; 12] = [
+    // Two nodes that are joined share their charge: equal ones that disagree are X, and the larger wins.
+    Case {
+        switches: JOINED,
+        inputs: &[2],
+        sizes: &[],
+        before: &[Zero, One, One, One, Zero],
+        after: &[Zero, One, One, X, X],
+    },
+    Case {
+        switches: JOINED,
+        inputs: &[2],
+        sizes: &[(3, 2)],
+        before: &[Zero, One, One, One, Zero],
+        after: &[Zero, One, One, One, One],
+    },
+    // Nodes of sizes 1, 2 and 3 in a row: the largest wins over both others together.
+    Case {
+        switches: ROW,
+        inputs: &[],
+        sizes: &[(3, 2), (4, 3)],
+        before: &[Zero, One, One, One, Zero],
+        after: &[Zero, One, Zero, Zero, Zero],
+    },
+    Case {
+        switches: ROW,
+        inputs: &[],
+        sizes: &[(3, 2), (4, 3)],
+        before: &[Zero, One, One, One, X],
+        after: &[Zero, One, X, X, X],
+    },
+    // The pull-down of an inverter is stronger than its load, and blocks it only where it is closed.
+    Case {
+        switches: INVERTER,
+        inputs: &[2],
+        sizes: &[],
+        before: &[Zero, One, Zero, X],
+        after: &[Zero, One, Zero, One],
+    },
+    Case {
+        switches: INVERTER,
+        inputs: &[2],
+        sizes: &[],
+        before: &[Zero, One, One, X],
+        after: &[Zero, One, One, Zero],
+    },
+    Case {
+        switches: INVERTER,
+        inputs: &[2],
+        sizes: &[],
+        before: &[Zero, One, X, X],
+        after: &[Zero, One, X, X],
+    },
+    // A p device conducts while its gate is low. Where it may conduct, a node that it would change is X.
+    Case {
+        switches: PULL_UP,
+        inputs: &[2],
+        sizes: &[],
+        before: &[Zero, One, Zero, Zero],
+        after: &[Zero, One, Zero, One],
+    },
+    Case {
+        switches: PULL_UP,
+        inputs: &[2],
+        sizes: &[],
+        before: &[Zero, One, One, Zero],
+        after: &[Zero, One, One, Zero],
+    },
+    Case {
+        switches: PULL_UP,
+        inputs: &[2],
+        sizes: &[],
+        before: &[Zero, One, X, Zero],
+        after: &[Zero, One, X, X],
+    },
+    // Behind a gate that is X nodes are X, but where they were at one.
+    Case {
+        switches: CHAIN,
+        inputs: &[2],
+        sizes: &[],
+        before: &[Zero, One, X, Zero, Zero, Zero],
+        after: &[Zero, One, X, One, X, X],
+    },
+    Case {
+        switches: CHAIN,
+        inputs: &[2],
+        sizes: &[],
+        before: &[Zero, One, X, Zero, One, One],
+        after: &[Zero, One, X, One, One, One],
+    },
+];
+
+fn switches_of(
+    alloc: Global,
+    kinds: &[(SwitchKind, u32, u32, u32)],
+) -> Result<Vec<Switch>, AllocError> {
+    kinds
+        .iter()
+        .map(|&(kind, gate, left, right)| switch(kind, gate, left, right))
+        .collect(alloc)
+}
+
+/// The network of a case.
+fn network_of_case(rt: &impl Abort, alloc: Global, case: &Case) -> Result<Net, NetFault> {
+    assert!(rt; case.before.len() >= 2 && case.before.len() <= 1_000);
+    let switches = switches_of(alloc, case.switches)?;
+    let mut net = network(rt, alloc, case.before.len() as u32, &switches)?;
+    for &node in case.inputs {
+        assert!(rt; node < net.nodes);
+        net.set_input(node);
+    }
+    for &(node, size) in case.sizes {
+        assert!(rt; node < net.nodes && size >= 1 && size <= 3);
+        net.set_size(node, size);
+    }
+    Ok(net)
+}
+
+/// Runs the phase of a case, which settles within five steps.
+fn run_case(rt: &impl Abort, alloc: Global, case: &Case) -> Result<(), NetFault> {
+    let mut net = network_of_case(rt, alloc, case)?;
+    let mut state = Vec::from_slice(alloc, case.before)?;
     assert!(rt; state.len() == net.nodes as usize);
-    let settled = settle(net, state, 5);
+    let settled = settle(&mut net, &mut state, 5);
     assert!(rt; settled.done);
-    assert!(rt; *state == *want);
-}
-
-// Two nodes that are joined share their charge: the larger wins, and equal ones that disagree are
-// X.
-#[test]
-fn shares_charge(rt: HostRuntime) -> Result<(), Fail> {
-    let mut net = network(&rt, rt.alloc(), 5, &[switch(SwitchKind::N, 2, 3, 4)])?;
-    net.set_input(2);
-    let joined = [Zero, One, One, One, Zero];
-    let mut equal = joined;
-    check_phase(&rt, &mut net, &mut equal, &[Zero, One, One, X, X]);
-    assert!(rt; net.nodes == 5);
-    net.set_size(3, 2);
-    let mut larger = joined;
-    check_phase(&rt, &mut net, &mut larger, &[Zero, One, One, One, One]);
-    assert!(rt; net.nodes == 5);
-    let next = step(rt.alloc(), &net, &joined)?;
-    let want = [Zero, One, One, One, One];
-    assert!(rt; next.as_slice() == want.as_slice());
+    assert!(rt; state.as_slice() == case.after);
     Ok(())
 }
 
-// Nodes of sizes 1, 2 and 3 in a row: the largest wins over both others together.
 #[test]
-fn largest_wins(rt: HostRuntime) -> Result<(), Fail> {
-    let row = [
-        switch(SwitchKind::D, 0, 2, 3),
-        switch(SwitchKind::D, 0, 3, 4),
-    ];
-    let mut net = network(&rt, rt.alloc(), 5, &row)?;
-    net.set_size(3, 2);
-    net.set_size(4, 3);
-    let mut low = [Zero, One, One, One, Zero];
-    check_phase(&rt, &mut net, &mut low, &[Zero, One, Zero, Zero, Zero]);
-    let mut unknown = [Zero, One, One, One, X];
-    check_phase(&rt, &mut net, &mut unknown, &[Zero, One, X, X, X]);
-    Ok(())
-}
-
-// The pull-down of an inverter is stronger than its load, and blocks it only where it is closed.
-#[test]
-fn inverts(rt: HostRuntime) -> Result<(), Fail> {
-    let mut net = network(&rt, rt.alloc(), 4, &inverter(2, 3))?;
-    net.set_input(2);
-    for (input, output) in [(Zero, One), (One, Zero), (X, X)] {
-        let mut state = [Zero, One, input, X];
-        check_phase(&rt, &mut net, &mut state, &[Zero, One, input, output]);
+fn phases_end_as_they_should(rt: HostRuntime) -> Result<(), Fail> {
+    for case in &CASES {
+        run_case(&rt, rt.alloc(), case)?;
     }
     Ok(())
 }
 
-// A p device conducts while its gate is low. Where it may conduct, a node that it would change is
-// X.
+// One step of two nodes that are joined: one of size 2 at 1 wins over one of size 1 at 0, and equal ones are X.
 #[test]
-fn conducts_while_low(rt: HostRuntime) -> Result<(), Fail> {
-    let mut net = network(&rt, rt.alloc(), 4, &[switch(SwitchKind::P, 2, 1, 3)])?;
-    net.set_input(2);
-    for (gate, before, after) in [(Zero, Zero, One), (One, Zero, Zero), (X, Zero, X)] {
-        let mut state = [Zero, One, gate, before];
-        check_phase(&rt, &mut net, &mut state, &[Zero, One, gate, after]);
-    }
-    Ok(())
-}
-
-// A chain of pass transistors from power, whose second gate is X: behind it nodes are X, but where
-// they were at one.
-#[test]
-fn passes_unknown(rt: HostRuntime) -> Result<(), Fail> {
-    let chain = [
-        switch(SwitchKind::N, 1, 1, 3),
-        switch(SwitchKind::N, 2, 3, 4),
-        switch(SwitchKind::N, 1, 4, 5),
-    ];
-    let mut net = network(&rt, rt.alloc(), 6, &chain)?;
-    net.set_input(2);
-    for (before, after) in [(Zero, X), (One, One)] {
-        let mut state = [Zero, One, X, Zero, before, before];
-        check_phase(
-            &rt,
-            &mut net,
-            &mut state,
-            &[Zero, One, X, One, after, after],
-        );
+fn a_step_shares_charge(rt: HostRuntime) -> Result<(), Fail> {
+    for (size, want) in [(2, [One, One, One]), (1, [One, X, X])] {
+        let mut net = undriven(&rt, rt.alloc(), 3, &[switch(SwitchKind::N, 0, 1, 2)])?;
+        net.set_input(0);
+        net.set_size(1, size);
+        let next = step(rt.alloc(), &net, &[One, One, Zero])?;
+        assert!(rt; next.as_slice() == want.as_slice());
     }
     Ok(())
 }

@@ -20,7 +20,6 @@ pub struct Net {
     pub sizes: List<u8>,
     pub inputs: List<bool>,
     pub work: Work,
-    pub ghost few_nodes: { nodes ≤ 2 ^ 20 },
     pub ghost few_switches: { length switches ≤ 2 ^ 20 },
     pub ghost switches_within: { All (IsWithin nodes) switches } by { Prim.hlevel props },
     pub ghost one_size: { length sizes ≡ nodes },
