@@ -1,0 +1,11 @@
+pub mod BandLaws
+pub mod BoxLaws
+pub mod ChangeLaws
+pub mod CommitLaws
+pub mod HeightLaws
+pub mod PieceLaws
+pub mod PlaneLaws
+pub mod RowLaws
+pub mod RunLaws
+pub mod SettingLaws
+pub mod TileLaws

@@ -1,0 +1,4 @@
+pub mod Changes
+pub mod Contents
+pub mod Listings
+pub mod Rows

@@ -1,0 +1,8 @@
+-- Images that a layer may get, so that it becomes a contact.
+use Rattle.std.specs.Prelude.{◌+◌, ◌<◌, ◌≤◌, ℕ, List, length}
+use Rattle.tech_model.specs.declared.raw.TypeId.{TypeId}
+use Rattle.tech_draft.specs.Drafts.{Drafted}
+
+pub record IsContactPlan (draft : Drafted) (layer : ℕ) (own : TypeId × TypeId) (more : List (TypeId × TypeId)) : Type 0 where
+  pub in_range : layer < 64
+  pub room : length draft.raw.types + length more ≤ 64

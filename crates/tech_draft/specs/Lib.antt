@@ -1,0 +1,12 @@
+pub mod ContactPlans
+pub mod Drafts
+pub mod Entries
+pub mod Finished
+pub mod Kept
+pub mod Lines
+pub mod ListLines
+pub mod Residues
+pub mod Room
+pub mod SetLines
+pub mod Sound
+pub mod TypeLines

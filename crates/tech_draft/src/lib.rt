@@ -1,0 +1,7 @@
+//! What each line of a technology's text adds to the technology.
+#![tactic(auto)]
+
+mod draft;
+mod words;
+
+pub use draft::Draft;

@@ -1,0 +1,2 @@
+pub mod SoundReading
+pub mod WholeLaws

@@ -1,0 +1,4 @@
+pub mod Outlines
+pub mod Places
+pub mod Reading
+pub mod Sections

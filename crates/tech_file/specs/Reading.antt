@@ -1,0 +1,120 @@
+-- The technology of a text, or its first faulty line with the first fault of that line.
+use Rattle.std.specs.Prelude.{◌≡◌, ◌==◌, ◌+◌, ◌&&◌, ℕ, Bool, if◌then◌else◌, List, [], ◌∷◌, length, Option, Some, None, Result, Ok, Err}
+use Rattle.std.specs.Option.{option_map, option_or}
+use Rattle.text_scan.specs.Lines.{lines_of}
+use Rattle.tech_model.specs.declared.raw.RawTech.{RawTech}
+use Rattle.tech_model.specs.declared.faults.Section.{Section}
+use Rattle.tech_model.specs.declared.faults.Section.TheVariants.{Tech}
+use Rattle.tech_model.specs.declared.faults.TechFault.{TechFault}
+use Rattle.tech_model.specs.declared.faults.TechFault.TheVariants.{NoSection, Twice, BadForm}
+use Rattle.tech_model.specs.Rules.{rule_fault}
+use Rattle.tech_draft.specs.Drafts.{Drafted, empty_draft}
+use Rattle.tech_draft.specs.Lines.{line_in}
+use Rattle.tech_draft.specs.Finished.{finished}
+use Rattle.tech_file.specs.declared.places.Place.{Place}
+use Rattle.tech_file.specs.declared.places.Place.TheVariants.{Between, Skipped, Within}
+use Rattle.tech_file.specs.declared.outline.Heading.{Heading}
+use Rattle.tech_file.specs.declared.reading.TechAt.{TechAt}
+use Rattle.tech_file.specs.Sections.{section_named, rank}
+use Rattle.tech_file.specs.Places.{content_of, says_nothing, is_end, name_alone, moved}
+use Rattle.tech_file.specs.Outlines.{headings_of, is_too_early, is_second, missing, ends_open, last_number}
+
+-- how the reading of a text stands: where the next line stands, and the technology as far as it was read
+pub record Reading : Type 0 where
+  pub place : Place
+  pub draft : Drafted
+
+abbrev pub standing : Place → Drafted → Reading
+standing place draft = record { place = place; draft = draft }
+
+-- A section begins: it may be neither too early nor a second one of its name. One that means nothing is skipped.
+abbrev pub begun : List Heading → ℕ → List ℕ → Option Section → Result Place TechFault
+begun headings number word None = Ok Skipped
+begun headings number word (Some section) =
+    if is_too_early headings number section
+    then Err BadForm
+    else if is_second headings number section then Err (Twice word) else Ok (Within section)
+
+-- between sections a line has a name alone
+abbrev pub read_between : List Heading → ℕ → Option (List ℕ) → Result Place TechFault
+read_between headings number None = Err BadForm
+read_between headings number (Some word) = begun headings number word (section_named word)
+
+abbrev pub with_draft : Drafted → Result Place TechFault → Result Reading TechFault
+with_draft draft (Ok place) = Ok (standing place draft)
+with_draft draft (Err fault) = Err fault
+
+-- A section ends. The section `tech` may not be empty.
+abbrev pub ended_with : Section → List ℕ → Drafted → Result Reading TechFault
+ended_with Tech [] draft = Err BadForm
+ended_with _ _ draft = Ok (standing Between draft)
+
+abbrev pub ended : Section → Drafted → Result Reading TechFault
+ended section draft = ended_with section draft.raw.name draft
+
+abbrev pub in_section : Section → Result Drafted TechFault → Result Reading TechFault
+in_section section (Ok draft) = Ok (standing (Within section) draft)
+in_section section (Err fault) = Err fault
+
+abbrev pub read_within : Section → Drafted → List (List ℕ) → Result Reading TechFault
+read_within section draft words =
+    if is_end words then ended section draft else in_section section (line_in section draft words)
+
+-- what a line that says these words does at a place
+abbrev pub read_words : List Heading → ℕ → Place → Drafted → List (List ℕ) → Result Reading TechFault
+read_words headings number Between draft words = with_draft draft (read_between headings number (name_alone words))
+read_words headings number Skipped draft words = Ok (standing (moved Skipped words) draft)
+read_words headings number (Within section) draft words = read_within section draft words
+
+abbrev pub read_line : List Heading → ℕ → Place → Drafted → List (List ℕ) → Result Reading TechFault
+read_line headings number place draft words =
+    if says_nothing words then Ok (standing place draft) else read_words headings number place draft words
+
+-- The same, but for the last line of a text whose last section has no `end`: there that is the fault.
+abbrev pub read_at : List (List ℕ) → ℕ → Reading → List (List ℕ) → Result Reading TechFault
+read_at text number reading words =
+    if ends_open text && number == last_number text
+    then Err BadForm
+    else read_line (headings_of text) number reading.place reading.draft words
+
+abbrev pub fault_at : ℕ → TechFault → TechAt
+fault_at number fault = record { line = number; fault = fault }
+
+-- what comes after a line, unless the line is faulty
+abbrev pub unless_faulty : ℕ → Result Reading TechFault → (Reading → Result Reading TechAt) → Result Reading TechAt
+unless_faulty number (Err fault) next = Err (fault_at number fault)
+unless_faulty number (Ok reading) next = next reading
+
+-- how the reading of a text of these lines ends, where the lines that are left are these and the first of them has the number
+abbrev pub read_lines : List (List ℕ) → ℕ → Reading → List (List ℕ) → Result Reading TechAt
+read_lines text number reading [] = Ok reading
+read_lines text number reading (line ∷ lines) =
+    unless_faulty number (read_at text number reading (content_of line)) (λ next. read_lines text (number + 1) next lines)
+
+-- what is wrong with the whole of a text whose lines are without fault: a section is missing, or a rule is broken
+abbrev pub whole_fault : List Heading → RawTech → Option TechFault
+whole_fault headings raw = option_or (option_map NoSection (missing headings raw.name)) (rule_fault raw)
+
+-- such a fault stands at the last line
+abbrev pub unless_broken : ℕ → RawTech → Option TechFault → Result RawTech TechAt
+unless_broken last raw None = Ok raw
+unless_broken last raw (Some fault) = Err (fault_at last fault)
+
+abbrev pub checked : List Heading → ℕ → RawTech → Result RawTech TechAt
+checked headings last raw = unless_broken last raw (whole_fault headings raw)
+
+abbrev pub checked_reading : List (List ℕ) → Result Reading TechAt → Result RawTech TechAt
+checked_reading text (Ok reading) = checked (headings_of text) (last_number text) (finished reading.draft)
+checked_reading text (Err at) = Err at
+
+-- how the reading of a text ends
+abbrev pub text_reading : List (List ℕ) → Result Reading TechAt
+text_reading lines = read_lines lines 1 (standing Between empty_draft) lines
+
+-- The technology of a text, or its first faulty line, counted from 1, and that line's first fault.
+unfoldable pub technology_of : List ℕ → Result RawTech TechAt
+technology_of text = checked_reading (lines_of text) (text_reading (lines_of text))
+
+-- Each line of the text is without fault, and together they give this draft.
+abbrev pub EndsWell : List (List ℕ) → Drafted → Type 0
+EndsWell lines draft = (place : Place) × (text_reading lines ≡ Ok (standing place draft))

@@ -1,0 +1,13 @@
+//! Reads the text of a technology.
+#![tactic(auto)]
+
+mod outline;
+mod places;
+mod reading;
+mod sections;
+#[cfg(test)]
+mod tests;
+mod whole;
+
+pub use reading::TechAt;
+pub use whole::read_tech;

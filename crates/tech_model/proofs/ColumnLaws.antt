@@ -1,0 +1,115 @@
+-- Columns: paint and erasing leave types of their planes, and contacts that stand whole.
+use Rattle.std.proofs.Common.{◌≡◌, ◌⊎◌, ◌+◌, ◌<◌, ◌≤◌, ℕ, zero, suc, true, Option, List, [], ◌∷◌, length, bit_or, refl, sym, ap, subst, ◌∙◌, arith, inl, inr, add-zero}
+use Rattle.std.specs.Prelude.{Some, None, IsTrue, nat_lt, unwrap_or}
+use Rattle.std.specs.Int.{bit_at}
+use Rattle.std.proofs.lemmas.Bool.{cases_Bool, eqb-true, ltb-true, ltb-false}
+use Rattle.std.proofs.lemmas.Nat.Bits.{bit_at-zero}
+use Rattle.tech_model.specs.declared.raw.TypeId.{TypeId}
+use Rattle.tech_model.specs.declared.raw.RawTech.{RawTech}
+use Rattle.tech_model.specs.Types.{is_type, plane_of, parts_of, images_of, is_on, image_on, joined, is_subset}
+use Rattle.tech_model.specs.WellFormed.{IsWellFormed}
+use Rattle.tech_model.specs.Columns.{painted_by, erased_by, where_image, on_planes_from, mark_of, type_on, has_mark_everywhere, without_mark, layer_mark_kept}
+use Rattle.tech_model.specs.ColumnForms.{IsOnPlane, IsColumn}
+use Rattle.tech_model.proofs.PairSearch.{find-In, find-passes}
+use Rattle.tech_model.proofs.WellFormedLaws.{All_In, layer_well_formed}
+use Rattle.tech_model.proofs.JoinedLaws.{joined-found}
+
+-- what a change does with the type on each plane holds of the column
+changed_from : (R : ℕ → ℕ → ℕ → Type 0) (f : ℕ → TypeId → TypeId) (p : ℕ) (column : List TypeId)
+    → ((plane : ℕ) (old : TypeId) → R plane old.0 (f plane old).0) → ((plane : ℕ) → R plane 0 0)
+    → (k : ℕ) → R (p + k) (type_on column k) (type_on (on_planes_from p f column) k)
+changed_from R f p [] each space k = space (p + k)
+changed_from R f p (old ∷ column) each space zero = subst (λ (n : ℕ). R n old.0 (f p old).0) (sym (add-zero p)) (each p old)
+changed_from R f p (old ∷ column) each space (suc k) =
+    let next : p + 1 + k ≡ p + suc k = omega arith in
+    subst (λ (n : ℕ). R n (type_on column k) (type_on (on_planes_from (p + 1) f column) k)) next (changed_from R f (p + 1) column each space k)
+
+pub changed : (R : ℕ → ℕ → ℕ → Type 0) (f : ℕ → TypeId → TypeId) (column : List TypeId)
+    → ((plane : ℕ) (old : TypeId) → R plane old.0 (f plane old).0) → ((plane : ℕ) → R plane 0 0)
+    → (plane : ℕ) → R plane (type_on column plane) (type_on (on_planes_from 0 f column) plane)
+changed R f column each space plane =
+    let same : 0 + plane ≡ plane = omega arith in
+    subst (λ (n : ℕ). R n (type_on column plane) (type_on (on_planes_from 0 f column) plane)) same (changed_from R f 0 column each space plane)
+
+-- ---- types of their planes
+
+joined_option : (raw : RawTech) (plane set other : ℕ) (o : Option ℕ) → joined raw plane set ≡ o → IsOnPlane raw plane other → IsOnPlane raw plane (unwrap_or o other)
+joined_option raw plane set other None is on = on
+joined_option raw plane set other (Some t) is on = (joined-found raw plane set t is).1
+
+joined_on_plane : (raw : RawTech) (plane set other : ℕ) → IsOnPlane raw plane other → IsOnPlane raw plane (unwrap_or (joined raw plane set) other)
+joined_on_plane raw plane set other on = joined_option raw plane set other (joined raw plane set) refl on
+
+image_on_plane : (raw : RawTech) (layer plane : ℕ) (image : TypeId) → IsWellFormed raw → layer < length raw.layers → image_on raw layer plane ≡ Some image → IsOnPlane raw plane image.0
+image_on_plane raw layer plane image w below is =
+    let image_in = find-In (is_on raw plane) (images_of raw layer) image is in
+    inr (
+      All_In (λ (t : TypeId). IsTrue (is_type raw t.0)) (images_of raw layer) image (layer_well_formed raw layer w below).images image_in,
+      eqb-true (plane_of raw image.0) plane (find-passes (is_on raw plane) (images_of raw layer) image is),
+    )
+
+erased_on_plane : (raw : RawTech) (plane : ℕ) (image old : TypeId) → IsOnPlane raw plane old.0 → IsOnPlane raw plane (erased_by raw plane image old).0
+erased_on_plane raw plane image old on = elim (cases_Bool (is_subset (parts_of raw image.0) (parts_of raw old.0))) [
+  | inl part ↦ rw part (joined_on_plane raw plane _ 0 (inl refl))
+  | inr none ↦ rw none on
+]
+
+unmarked_on_plane : (raw : RawTech) (mark plane : ℕ) (old : TypeId) → IsOnPlane raw plane old.0 → IsOnPlane raw plane (without_mark raw mark plane old).0
+unmarked_on_plane raw mark plane old on = elim (cases_Bool (is_subset mark (parts_of raw old.0))) [
+  | inl part ↦ rw part (joined_on_plane raw plane _ 0 (inl refl))
+  | inr none ↦ rw none on
+]
+
+where_on_plane : (raw : RawTech) (layer plane : ℕ) (change : TypeId → TypeId → TypeId) (old : TypeId) (image : Option TypeId) → image_on raw layer plane ≡ image
+    → ((image : TypeId) → image_on raw layer plane ≡ Some image → IsOnPlane raw plane (change image old).0) → IsOnPlane raw plane old.0
+    → IsOnPlane raw plane (where_image change image old).0
+where_on_plane raw layer plane change old None is each on = on
+where_on_plane raw layer plane change old (Some image) is each on = each image is
+
+pub painted_is_column : (raw : RawTech) (layer : ℕ) (column : List TypeId) → IsWellFormed raw → layer < length raw.layers → IsColumn raw column
+    → IsColumn raw (on_planes_from 0 (λ plane old. where_image (painted_by raw plane) (image_on raw layer plane) old) column)
+painted_is_column raw layer column w below is plane =
+    changed (λ plane old new. IsOnPlane raw plane old → IsOnPlane raw plane new)
+    (λ plane old. where_image (painted_by raw plane) (image_on raw layer plane) old) column
+    (λ plane old on. where_on_plane raw layer plane (painted_by raw plane) old (image_on raw layer plane) refl
+    (λ image found. joined_on_plane raw plane (bit_or (parts_of raw old.0) (parts_of raw image.0)) image.0 (image_on_plane raw layer plane image w below found)) on)
+    (λ plane on. on) plane (is plane)
+
+pub erased_is_column : (raw : RawTech) (layer : ℕ) (column : List TypeId) → IsColumn raw column
+    → IsColumn raw (on_planes_from 0 (λ plane old. where_image (erased_by raw plane) (image_on raw layer plane) old) column)
+erased_is_column raw layer column is plane =
+    changed (λ plane old new. IsOnPlane raw plane old → IsOnPlane raw plane new)
+    (λ plane old. where_image (erased_by raw plane) (image_on raw layer plane) old) column
+    (λ plane old on. where_on_plane raw layer plane (erased_by raw plane) old (image_on raw layer plane) refl (λ image found. erased_on_plane raw plane image old on) on)
+    (λ plane on. on) plane (is plane)
+
+unmarked_is_column : (raw : RawTech) (mark : ℕ) (column : List TypeId) → IsColumn raw column → IsColumn raw (on_planes_from 0 (without_mark raw mark) column)
+unmarked_is_column raw mark column is plane =
+    changed (λ plane old new. IsOnPlane raw plane old → IsOnPlane raw plane new) (without_mark raw mark) column
+    (λ plane old on. unmarked_on_plane raw mark plane old on) (λ plane on. on) plane (is plane)
+
+-- ---- one contact's mark
+
+-- what one step leaves is the column, or the column without the mark
+pub kept_cases : (raw : RawTech) (images column : List TypeId)
+    → ((layer_mark_kept raw images column ≡ column) × ((length images ≤ 1) ⊎ (has_mark_everywhere raw (mark_of raw images) images column ≡ true)))
+    ⊎ ((layer_mark_kept raw images column ≡ on_planes_from 0 (without_mark raw (mark_of raw images)) column) × (1 < length images))
+kept_cases raw images column = elim (cases_Bool (nat_lt 1 (length images))) [
+  | inr one ↦ inl (rw one refl, inl (ltb-false 1 (length images) one))
+  | inl many ↦ elim (cases_Bool (has_mark_everywhere raw (mark_of raw images) images column)) [
+    | inl everywhere ↦ inl (rw (many, everywhere) refl, inr everywhere)
+    | inr missing ↦ inr (rw (many, missing) refl, ltb-true 1 (length images) many)
+  ]
+]
+
+pub kept_is_column : (raw : RawTech) (images column : List TypeId) → IsColumn raw column → IsColumn raw (layer_mark_kept raw images column)
+kept_is_column raw images column is = elim (kept_cases raw images column) [
+  | inl same ↦ subst (IsColumn raw) (sym same.0) is
+  | inr taken ↦ subst (IsColumn raw) (sym taken.0) (unmarked_is_column raw (mark_of raw images) column is)
+]
+
+-- a type with a bit is no space
+pub bit_type : (raw : RawTech) (plane t k : ℕ) → IsOnPlane raw plane t → bit_at (parts_of raw t) k ≡ 1 → IsTrue (is_type raw t) × (plane_of raw t ≡ plane)
+bit_type raw plane t k (inr type) bit = type
+bit_type raw plane t k (inl space) bit =
+    let apart : ◌≡◌ {A = ℕ} 1 0 = sym bit ∙ ap (λ (n : ℕ). bit_at (parts_of raw n) k) space ∙ bit_at-zero k in absurd (omega arith)

@@ -1,0 +1,14 @@
+pub mod LayerWordLaws
+pub mod PairTableLaws
+pub mod WellFormedLaws
+pub mod PairSearch
+pub mod TypeLaws
+pub mod RuleLaws
+pub mod SetLaws
+pub mod JoinedLaws
+pub mod WithinLaws
+pub mod MarkLaws
+pub mod ColumnLaws
+pub mod WholeLaws
+pub mod NmRows
+pub mod NmWellFormed

@@ -1,0 +1,95 @@
+-- Marks of contacts: what the images of a contact have in common is its mark alone.
+use Rattle.std.proofs.Common.{◌≡◌, ◌≢◌, ◌+◌, ◌-◌, ◌^◌, ◌<◌, ℕ, List, [], ◌∷◌, length, map, get_or, fold, bit_and, min, refl, sym, ap, ◌∙◌, arith, inl, inr}
+use Rattle.std.specs.Int.{bit_at}
+use Rattle.std.proofs.lemmas.Bool.{cases_eq}
+use Rattle.std.proofs.lemmas.List.{get_or-map, length-map}
+use Rattle.std.proofs.lemmas.Nat.Bits.{bit_at_and, bit_at-pow_same, bit_at-pow_other, bit_at_ones, same_from_bits}
+use Rattle.totals.specs.Lists.{In}
+use Rattle.totals.proofs.Members.{In-get_or}
+use Rattle.totals.proofs.Distincts.{Distinct-places}
+use Rattle.tech_model.specs.declared.raw.TypeId.{TypeId}
+use Rattle.tech_model.specs.declared.raw.RawTech.{RawTech}
+use Rattle.tech_model.specs.Types.{plane_of, parts_of, images_of, type_number}
+use Rattle.tech_model.specs.WellFormed.{IsWellFormed, IsMarked, IsContact}
+use Rattle.tech_model.specs.Columns.{mark_of}
+use Rattle.tech_model.proofs.WellFormedLaws.{layer_well_formed}
+use Rattle.tech_model.proofs.SetLaws.{bit_cases, or_bit_cases, set_bits, image_mark}
+
+common : RawTech → ℕ → TypeId → ℕ
+common raw parts image = bit_and parts (parts_of raw image.0)
+
+min_ones : (x y : ℕ) → x ≡ 1 → y ≡ 1 → min x y ≡ 1
+min_ones x y x_is y_is = omega arith
+
+min_left_zero : (x y : ℕ) → x ≡ 0 → min x y ≡ 0
+min_left_zero x y is = omega arith
+
+min_right_zero : (x y : ℕ) → y ≡ 0 → min x y ≡ 0
+min_right_zero x y is = omega arith
+
+fold_has_bit : (raw : RawTech) (images : List TypeId) (a k : ℕ) → bit_at a k ≡ 1 → ((image : TypeId) → In image images → bit_at (parts_of raw image.0) k ≡ 1)
+    → bit_at (fold (common raw) a images) k ≡ 1
+unfolding common
+fold_has_bit raw [] a k start each = start
+fold_has_bit raw (image ∷ images) a k start each =
+    fold_has_bit raw images (bit_and a (parts_of raw image.0)) k
+    (bit_at_and a (parts_of raw image.0) k ∙ min_ones (bit_at a k) (bit_at (parts_of raw image.0) k) start (each image (inl refl))) (λ other later. each other (inr later))
+
+fold_stays_clear : (raw : RawTech) (images : List TypeId) (a k : ℕ) → bit_at a k ≡ 0 → bit_at (fold (common raw) a images) k ≡ 0
+unfolding common
+fold_stays_clear raw [] a k start = start
+fold_stays_clear raw (image ∷ images) a k start =
+    fold_stays_clear raw images (bit_and a (parts_of raw image.0)) k
+    (bit_at_and a (parts_of raw image.0) k ∙ min_left_zero (bit_at a k) (bit_at (parts_of raw image.0) k) start)
+
+fold_clears : (raw : RawTech) (images : List TypeId) (a k : ℕ) (image : TypeId) → In image images → bit_at (parts_of raw image.0) k ≡ 0 → bit_at (fold (common raw) a images) k ≡ 0
+unfolding common
+fold_clears raw [] a k image none clear = absurd none
+fold_clears raw (x ∷ xs) a k image (inl same) clear =
+    fold_stays_clear raw xs (bit_and a (parts_of raw x.0)) k
+    (bit_at_and a (parts_of raw x.0) k ∙ min_right_zero (bit_at a k) (bit_at (parts_of raw x.0) k) (ap (λ (t : TypeId). bit_at (parts_of raw t.0) k) same ∙ clear))
+fold_clears raw (x ∷ xs) a k image (inr later) clear = fold_clears raw xs (bit_and a (parts_of raw x.0)) k image later clear
+
+-- a bit of an image other than the mark's is that of an atom of its plane
+atom_plane : (raw : RawTech) (bit image k : ℕ) → IsWellFormed raw → IsMarked raw bit image → k ≢ bit → bit_at (parts_of raw image) k ≡ 1 → plane_of raw (k + 1) ≡ plane_of raw image
+atom_plane raw bit image k w marked other set =
+    elim (or_bit_cases (parts_of raw marked.residue) (2 ^ bit) k (sym (ap (λ (x : ℕ). bit_at x k) marked.set) ∙ set)) [
+      | inl here ↦ (set_bits raw marked.residue k w (w.sets.simple marked.residue marked.residue_type marked.residue_simple) marked.residue_type here).1 ∙ marked.residue_plane
+      | inr there ↦ let apart : ◌≡◌ {A = ℕ} 1 0 = sym there ∙ bit_at-pow_other bit k other in absurd (omega arith)
+    ]
+
+-- one of the first two images lacks the bit
+lacking : (raw : RawTech) (layer k : ℕ) → IsWellFormed raw → layer < length raw.layers → 1 < length (images_of raw layer) → (contact : IsContact raw layer) → k ≢ contact.bit
+    → (image : TypeId) × (In image (images_of raw layer) × (bit_at (parts_of raw image.0) k ≡ 0))
+lacking raw layer k w below many contact other =
+    let images : List TypeId = images_of raw layer in
+    let first = get_or images 0 (type_number 0) in
+    let second = get_or images 1 (type_number 0) in
+    elim (bit_cases (parts_of raw first.0) k) [
+      | inl clear ↦ (first, (In-get_or images 0 (type_number 0) (omega arith), clear))
+      | inr set ↦ elim (bit_cases (parts_of raw second.0) k) [
+        | inl clear ↦ (second, (In-get_or images 1 (type_number 0) many, clear))
+        | inr too ↦
+            let planes : List ℕ = map (λ (t : TypeId). plane_of raw t.0) images in
+            let long : length planes ≡ length images = length-map images (λ (t : TypeId). plane_of raw t.0) in
+            let apart = Distinct-places planes 0 1 0 (layer_well_formed raw layer w below).planes (omega arith) (omega arith) in
+            let one = atom_plane raw contact.bit first.0 k w (contact.images 0 (type_number 0) (omega arith)) other set in
+            let two = atom_plane raw contact.bit second.0 k w (contact.images 1 (type_number 0) many) other too in
+            absurd (apart (get_or-map (λ (t : TypeId). plane_of raw t.0) images 0 (type_number 0) 0 (omega arith) ∙ sym one ∙ two
+            ∙ sym (get_or-map (λ (t : TypeId). plane_of raw t.0) images 1 (type_number 0) 0 many)))
+      ]
+    ]
+
+-- the mark of a contact is its bit alone
+pub mark_of-contact : (raw : RawTech) (layer : ℕ) → IsWellFormed raw → layer < length raw.layers → 1 < length (images_of raw layer) → (contact : IsContact raw layer)
+    → mark_of raw (images_of raw layer) ≡ 2 ^ contact.bit
+unfolding common
+mark_of-contact raw layer w below many contact = same_from_bits (mark_of raw (images_of raw layer)) (2 ^ contact.bit) (λ k.
+    elim (cases_eq k contact.bit) [
+      | inl same ↦ ap (bit_at (mark_of raw (images_of raw layer))) same
+          ∙ fold_has_bit raw (images_of raw layer) (2 ^ 128 - 1) contact.bit (bit_at_ones 128 contact.bit contact.below_limit) (λ image is. image_mark raw layer image.0 contact is)
+          ∙ sym (ap (bit_at (2 ^ contact.bit)) same ∙ bit_at-pow_same contact.bit)
+      | inr other ↦
+          let found = lacking raw layer k w below many contact other in
+          fold_clears raw (images_of raw layer) (2 ^ 128 - 1) k found.0 found.1.0 found.1.1 ∙ sym (bit_at-pow_other contact.bit k other)
+    ])

@@ -1,0 +1,8 @@
+use Rattle.std.proofs.Common.{◌≡◌, ℕ, List, take}
+use Rattle.std.specs.List.{position_from}
+use Rattle.tech_model.specs.LayerWords.{layer_in}
+use Rattle.tech_model.specs.Types.{has_name}
+use Rattle.tech_model.proofs.indexed.index_words.Given as goal
+
+abbrev pub invariant-loop-place : goal.invariant-loop-place
+invariant-loop-place l = (word : List ℕ) → layer_in l.words word ≡ position_from (has_name word) 0 (take l.place l.layers)

@@ -1,0 +1,8 @@
+use Rattle.std.proofs.Common.{◌≡◌, drop}
+use Rattle.std.specs.Prelude.{find, not}
+use Rattle.tech_model.specs.Forms.{is_fet_name}
+use Rattle.tech_model.proofs.rules.check_fet_names.Given as goal
+
+abbrev pub invariant-loop-fet : goal.invariant-loop-fet
+invariant-loop-fet l =
+    find (λ fet. not (is_fet_name fet.name)) l.tech.fets ≡ find (λ fet. not (is_fet_name fet.name)) (drop l.fet-index l.tech.fets)

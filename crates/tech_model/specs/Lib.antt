@@ -1,0 +1,12 @@
+pub mod ColumnForms
+pub mod Columns
+pub mod Forms
+pub mod Indexes
+pub mod Laws
+pub mod LayerTiles
+pub mod LayerWords
+pub mod Nm
+pub mod PairTables
+pub mod Rules
+pub mod Types
+pub mod WellFormed

@@ -1,0 +1,52 @@
+//! Which types the pairs of a technology join, a bit for each two types.
+ghost use Rattle.std.specs.Prelude.{◌≡◌, ◌<◌, ◌==◌, ◌||◌, ◌&&◌, ℕ, length, All, IfOk};
+ghost use Rattle.tech_model.specs.PairTables.{has_pair, HasPairs};
+
+use crate::raw::TypeId;
+use std::alloc::{AllocError, Global};
+
+// Type numbers go up to 64, and 0 is space.
+const ROWS: usize = 65;
+
+/// Pairs of type numbers up to 64.
+#[derive(Debug, Drop)]
+pub(crate) struct PairTable {
+    rows: Vec<u128>,
+    ghost full: { length rows.items ≡ 65 },
+}
+
+impl PairTable {
+    /// The pairs, each both ways.
+    pub(crate) fn of(alloc: Global, pairs: &[(TypeId, TypeId)]) -> Result<PairTable, AllocError>
+        requires { All (λ pair. (pair.0.0 < 65) × (pair.1.0 < 65)) pairs.now }
+        ensures { IfOk result (λ table. HasPairs table.rows.items pairs.now) }
+    {
+        let mut table = PairTable {
+            rows: vec![in alloc; 0u128; ROWS]?,
+        };
+        for &(s, t) in pairs {
+            table.put(s, t);
+            table.put(t, s);
+        }
+        Ok(table)
+    }
+
+    fn put(&mut self, s: TypeId, t: TypeId)
+        requires s { s.0 < 65 }
+        requires t { t.0 < 65 }
+        ensures { (x y : ℕ) → y < 65 → has_pair self.new.rows.items x y
+            ≡ (has_pair self.old.rows.items x y || (x == s.0 && y == t.0)) }
+    {
+        let row = self.rows[usize::from(s.0)];
+        self.rows[usize::from(s.0)] = row | 1 << t.0;
+    }
+
+    /// Whether a pair joins the two.
+    pub(crate) fn has(&self, s: TypeId, t: TypeId) -> bool
+        requires s { s.0 < 65 }
+        requires t { t.0 < 65 }
+        ensures { result ≡ has_pair self.now.rows.items s.0 t.0 }
+    {
+        self.rows[usize::from(s.0)] >> t.0 & 1 == 1
+    }
+}

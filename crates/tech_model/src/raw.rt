@@ -1,0 +1,79 @@
+//! The lists of a technology, with all names resolved.
+
+use geo_core::{List, Name, Rect};
+
+/// The number of a tile type: 0 is space, and the others count from 1 in the order of their records.
+#[derive(Clone, Copy, Debug, PartialEq, Eq)]
+pub struct TypeId(pub u8);
+
+/// The number of a layer, from 0 in the order of their records.
+#[derive(Clone, Copy, Debug, PartialEq, Eq)]
+pub struct LayerId(pub u8);
+
+/// A set of parts: atoms of material and marks of contacts, a bit for each.
+///
+/// The bit of the atom with type number `t` is `t - 1`, and the mark of a contact has a bit from 64 on.
+#[derive(Clone, Copy, Debug, PartialEq, Eq)]
+pub struct PartSet(pub u128);
+
+/// A label of a cell: its layer, where no layer means space, the area that it touches, the position of
+/// its text from 0 (centre) to 8 (north, then clockwise), and the text.
+#[derive(Debug, Drop)]
+pub struct Label {
+    pub layer: Option<LayerId>,
+    pub area: Rect,
+    pub position: u8,
+    pub text: Name,
+}
+
+/// A layer: its name and then its aliases, and its images, the one on its own plane first.
+///
+/// A layer with one image is an atom or composed. One with more is a contact.
+#[derive(Debug, Drop)]
+pub struct LayerRec {
+    pub names: List<Name>,
+    pub images: List<TypeId>,
+}
+
+/// A tile type: its plane, the layer that it is an image of, and its set.
+#[derive(Clone, Copy, Debug, PartialEq, Eq)]
+pub struct TypeRec {
+    pub plane: u8,
+    pub layer: LayerId,
+    pub parts: PartSet,
+}
+
+/// A class of tile types that are measured together: its resistance in milliohms per square, and its
+/// capacitance in attofarads for each unit of area and of perimeter.
+#[derive(Debug, Drop)]
+pub struct ClassRec {
+    pub value: u64,
+    pub per_area: u64,
+    pub per_perimeter: u64,
+    pub types: List<TypeId>,
+}
+
+/// A transistor type: the tile type of its channel, the types of its terminals, its name and the name of
+/// its substrate.
+#[derive(Debug, Drop)]
+pub struct FetRule {
+    pub kind: TypeId,
+    pub terminals: List<TypeId>,
+    pub name: Name,
+    pub substrate: Name,
+}
+
+/// The lists of a technology file, in its order.
+///
+/// Planes count from 0. A pair says that its two types connect: each pair stands once, where a `connect`
+/// line first gave it, and so does each type in a list of a class or of terminals.
+#[derive(Debug, Drop)]
+pub struct RawTech {
+    pub name: Name,
+    pub planes: List<Name>,
+    pub layers: List<LayerRec>,
+    pub types: List<TypeRec>,
+    pub pairs: List<(TypeId, TypeId)>,
+    pub classes: List<ClassRec>,
+    pub fets: List<FetRule>,
+}

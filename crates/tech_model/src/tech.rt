@@ -1,0 +1,108 @@
+//! Technologies that keep the rules.
+ghost use Rattle.std.specs.Prelude.{◌≡◌, ◌<◌, ◌⊎◌, None, Some, length, IfOk, IfErr};
+ghost use Rattle.std.specs.Option.{option_map};
+ghost use Rattle.tech_model.specs.Columns.{painted_column, erased_column};
+ghost use Rattle.tech_model.specs.Rules.{KeepsRules, rule_fault};
+ghost use Rattle.tech_model.specs.Types.{layer_number, type_number, layer_named, image_on, joined, connects, is_within};
+ghost use Rattle.tech_model.specs.WellFormed.{IsWellFormed};
+
+use crate::faults::TechFault;
+use crate::indexed::Indexed;
+use crate::raw::{LayerId, PartSet, RawTech, TypeId};
+use crate::{columns, rules};
+use std::alloc::Global;
+use std::marker::Model;
+
+/// A technology whose lists fit together and that keeps the rules. Contracts see it as its lists.
+#[derive(Drop)]
+pub struct Tech {
+    lists: Indexed,
+}
+
+impl Model for Tech {
+    ghost use Rattle.tech_model.specs.declared.raw.RawTech.{RawTech as Lists};
+    ghost use Rattle.tech_model.specs.Rules.{KeepsRules};
+
+    ghost Value = { Lists };
+
+    ghost view = { λ tech. tech.lists };
+
+    ghost invariant = { λ tech. KeepsRules tech.lists };
+}
+
+impl Tech {
+    /// The technology of these lists, unless they break a rule: two types of one plane with one set, a
+    /// transistor that connects to its terminal, a transistor's name, the law of what connects. The first
+    /// in this order is told.
+    pub fn check(alloc: Global, raw: RawTech) -> Result<Tech, TechFault>
+        requires { IsWellFormed raw }
+        ensures lists { IfOk result (λ tech. tech ≡ raw) }
+        ensures kept { IfOk result (λ _. rule_fault raw ≡ None) }
+        ensures broken { IfErr result (λ fault. (fault ≡ TechFault.Memory) ⊎ (rule_fault raw ≡ Some fault)) }
+    {
+        let lists = Indexed::new(alloc, raw)?;
+        rules::check(alloc, &lists)?;
+        Ok(Tech { lists })
+    }
+
+    /// The lists that were checked.
+    pub fn raw(&self) -> &RawTech
+        ensures value { result.now ≡ self.now }
+        ensures well_formed { IsWellFormed self.now }
+        ensures rules { KeepsRules self.now }
+    {
+        self.lists.raw()
+    }
+
+    /// The layer that has this name or alias.
+    pub fn layer(&self, name: &[u8]) -> Option<LayerId>
+        ensures { result ≡ option_map layer_number (layer_named self.now name.now) }
+    {
+        self.lists.layer(name)
+    }
+
+    /// The image of the layer on the plane.
+    pub fn image(&self, layer: LayerId, plane: u8) -> Option<TypeId>
+        requires { layer.0 < length self.now.layers }
+        ensures { result ≡ image_on self.now layer.0 plane }
+    {
+        self.lists.image(layer, plane)
+    }
+
+    /// The type of the plane that has the set: space for the empty set.
+    pub fn joined(&self, plane: u8, set: PartSet) -> Option<TypeId>
+        ensures { result ≡ option_map type_number (joined self.now plane set.0) }
+    {
+        self.lists.joined(plane, set)
+    }
+
+    /// Whether the two types connect. Space connects to nothing.
+    pub fn connects(&self, s: TypeId, t: TypeId) -> bool
+        ensures { result ≡ connects self.now s.0 t.0 }
+    {
+        self.lists.connects(s, t)
+    }
+
+    /// Whether s is within t: it is t, or it has a part of t's set and connects to t.
+    pub fn within(&self, s: TypeId, t: TypeId) -> bool
+        ensures { result ≡ is_within self.now s.0 t.0 }
+    {
+        self.lists.within(s, t)
+    }
+    /// Paints the layer at one square. A column has a type for each plane: one of that plane or space, and
+    /// space past the last plane.
+    pub fn paint_column(&self, column: &mut [TypeId; 8], layer: LayerId)
+        requires { layer.0 < length self.now.layers }
+        ensures { column.new ≡ painted_column self.now layer.0 column.old }
+    {
+        columns::paint(&self.lists, column, layer)
+    }
+
+    /// Erases the layer at one square.
+    pub fn erase_column(&self, column: &mut [TypeId; 8], layer: LayerId)
+        requires { layer.0 < length self.now.layers }
+        ensures { column.new ≡ erased_column self.now layer.0 column.old }
+    {
+        columns::erase(&self.lists, column, layer)
+    }
+}
