@@ -54,7 +54,7 @@ const NM: [&[u8]; 38] = [
 type Row = (usize, &'static [u8], &'static [u8]);
 
 /// One line changed. A text may be of several lines.
-const ROWS: [Row; 62] = [
+const ROWS: [Row; 67] = [
     (1, b"tech", b"9 types 3 classes 2 fets"),
     (1, b"# a comment\n\n\t\ntech\r", b"9 types 3 classes 2 fets"),
     (
@@ -152,6 +152,12 @@ const ROWS: [Row; 62] = [
     (36, b" fet pc diff efet GND!", b"36 T11"),
     (36, b" fet efet diff efet GND#", b"36 T11"),
     (38, b"# no end", b"38 T11"),
+    // Words that are no names.
+    (25, b" po.ly poly", b"25 T11"),
+    (25, b" poly/active/metal poly", b"25 T11"),
+    (9, b" act*ive poly,p,red", b"9 T11"),
+    (18, b" pc po.ly metal", b"18 T11"),
+    (36, b" fet efet po.ly efet GND!", b"36 T11"),
     // Type expressions.
     (18, b" pc poly/active metal", b"18 T12 poly/active"),
     (22, b" compose efet (poly) diff", b"22 T12 (poly)"),
@@ -388,5 +394,29 @@ fn limits_are_kept(rt: HostRuntime) -> Result<(), Fail> {
         answer(rt.alloc(), &fets)?.as_slice(),
         b"108 T10 fets".as_slice()
     );
+    Ok(())
+}
+
+// A text with 64 types, of which one is on a plane of its own, and this line of the section `contact`.
+fn full_with_contact(alloc: Global, line: &[u8]) -> Result<Vec<u8>, AllocError> {
+    let mut text = Vec::new(alloc);
+    text.extend_from_slice(b"tech\nfull\nend\nplanes\np\nq\nend\ntypes\n")?;
+    one_of_each(&mut text, 63, b"p t", b"\n")?;
+    text.extend_from_slice(b"q u\nend\ncontact\n")?;
+    text.extend_from_slice(line)?;
+    text.extend_from_slice(b"\nend\nconnect\nend\nextract\nend\n")?;
+    Ok(text)
+}
+
+// The images of a contact count as types, and a contact that is a part comes before that.
+#[test]
+fn a_contact_needs_room(rt: HostRuntime) -> Result<(), Fail> {
+    for (line, expected) in [
+        (b"t0 t1 u".as_slice(), b"75 T10 types".as_slice()),
+        (b"t0 t0 u".as_slice(), b"75 T6 t0".as_slice()),
+    ] {
+        let text = full_with_contact(rt.alloc(), line)?;
+        assert_eq!(rt; answer(rt.alloc(), &text)?.as_slice(), expected);
+    }
     Ok(())
 }
