@@ -13,4 +13,5 @@ pub mod SquareOrderLaws
 pub mod StripLaws
 pub mod StripListLaws
 pub mod SweepLaws
+pub mod TileSets
 pub mod StripSets

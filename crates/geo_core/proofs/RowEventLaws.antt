@@ -20,15 +20,11 @@ use Rattle.geo_core.specs.declared.bars.Bar.{Bar}
 use Rattle.geo_core.specs.declared.row_events.Event.{Event}
 use Rattle.geo_core.specs.Bars.{bar_cmp, joined}
 use Rattle.geo_core.specs.Covering.{IsProper}
-use Rattle.geo_core.specs.RowEvents.{is_proper, begin_of, top_of, end_of, event_cmp, IsAtNoLaterRow, IsBegin, AreEvents}
+use Rattle.geo_core.specs.Areas.{has_square}
+use Rattle.geo_core.proofs.CoveringLaws.{IsProper-has_square, has_square-IsProper}
+use Rattle.geo_core.specs.RowEvents.{begin_of, top_of, end_of, event_cmp, IsAtNoLaterRow, IsBegin, AreEvents}
 use Rattle.geo_core.proofs.JoinLaws.{IsLong, AreLong, joined-are}
 use Rattle.geo_core.proofs.BarOrderLaws.{In-permutation, bars_in_order}
-
-proper_from_test : (area : Rect) → is_proper area ≡ true → IsProper area
-proper_from_test area t = record { wide = grind (arith, ints); high = grind (arith, ints) }
-
-test_from_proper : (area : Rect) → IsProper area → is_proper area ≡ true
-test_from_proper area p = grind (arith, ints)
 
 bool_cmp_antisymm : (x y : Bool) → bool_cmp x y ≡ ordering_reverse (bool_cmp y x)
 bool_cmp_antisymm false false = refl
@@ -70,18 +66,18 @@ events_in_order events sorted = λ i j d less below. not_less (get_or events i d
     (sorted_far (λ a b. is_lt (event_cmp a b)) (ranks_by event_cmp_total (λ s. s)) events sorted i j d (omega arith) below)
 
 -- what stands in the list of the tests' passes
-begins_are : (areas : List Rect) (event : Event) → In event (map begin_of (filter is_proper areas)) → IsBegin areas event
+begins_are : (areas : List Rect) (event : Event) → In event (map begin_of (filter has_square areas)) → IsBegin areas event
 begins_are areas event i =
-    let s = In-map_source begin_of event (filter is_proper areas) i in
-    record { area = s.0; in_list = In-filter_source is_proper s.0 areas s.1.0; proper = proper_from_test s.0 (In-filter_passes is_proper s.0 areas s.1.0); is = s.1.1 }
+    let s = In-map_source begin_of event (filter has_square areas) i in
+    record { area = s.0; in_list = In-filter_source has_square s.0 areas s.1.0; proper = IsProper-has_square s.0 (In-filter_passes has_square s.0 areas s.1.0); is = s.1.1 }
 
-tops_are_long : (areas : List Rect) → AreLong (map top_of (filter is_proper areas))
+tops_are_long : (areas : List Rect) → AreLong (map top_of (filter has_square areas))
 tops_are_long areas bar i =
-    let s = In-map_source top_of bar (filter is_proper areas) i in
-    subst IsLong s.1.1 (proper_from_test s.0 (In-filter_passes is_proper s.0 areas s.1.0)).wide
+    let s = In-map_source top_of bar (filter has_square areas) i in
+    subst IsLong s.1.1 (IsProper-has_square s.0 (In-filter_passes has_square s.0 areas s.1.0)).wide
 
 pub events_are : (areas : List Rect) (begins all events : List Event) (tops upper ends : List Bar)
-    → begins ≡ map begin_of (filter is_proper areas) → tops ≡ map top_of (filter is_proper areas) → IsPermutation tops upper → IsSorted bar_cmp upper → ends ≡ joined upper
+    → begins ≡ map begin_of (filter has_square areas) → tops ≡ map top_of (filter has_square areas) → IsPermutation tops upper → IsSorted bar_cmp upper → ends ≡ joined upper
     → all ≡ begins ++ map end_of ends → IsPermutation all events → IsSorted event_cmp events → AreEvents areas events
 events_are areas begins all events tops upper ends e-begins e-tops tops_moved tops_sorted e-ends e-all moved sorted =
     let there : (event : Event) → In event all → In event events = λ event i. In-permutation event all events moved i in
@@ -94,10 +90,10 @@ events_are areas begins all events tops upper ends e-begins e-tops tops_moved to
         | inr k ↦ absurd (let s = In-map_source end_of event ends k in false≢true (sym no_end ∙ sym (ap (λ e. e.ends) s.1.1)))
       ];
       begun = λ area i proper. there (begin_of area) (subst (In (begin_of area)) (sym e-all) (In-append_left (begin_of area) begins (map end_of ends)
-          (subst (In (begin_of area)) (sym e-begins) (In-map begin_of area (filter is_proper areas) (In-filter is_proper area areas i (test_from_proper area proper))))));
+          (subst (In (begin_of area)) (sym e-begins) (In-map begin_of area (filter has_square areas) (In-filter has_square area areas i (has_square-IsProper area proper))))));
       ended = λ area x i proper after before.
           let top : In (top_of area) upper = In-permutation (top_of area) tops upper tops_moved (subst (In (top_of area)) (sym e-tops)
-          (In-map top_of area (filter is_proper areas) (In-filter is_proper area areas i (test_from_proper area proper)))) in
+          (In-map top_of area (filter has_square areas) (In-filter has_square area areas i (has_square-IsProper area proper)))) in
           let p = join.keeps area.yhi area.yhi x (record { bar = top_of area; in_list = top; has = record { low_is = refl; high_is = refl; from_no_later = after; to_later = before } }) in
           record {
             event = end_of p.bar;

@@ -28,6 +28,14 @@ pub record IsNear (area : Rect) : Type 0 where
 abbrev pub common_area : Rect → Rect → Rect
 common_area a b = record { xlo = int_max a.xlo b.xlo; ylo = int_max a.ylo b.ylo; xhi = int_min a.xhi b.xhi; yhi = int_min a.yhi b.yhi }
 
+-- the smallest rectangle that goes round both
+abbrev pub joined_area : Rect → Rect → Rect
+joined_area a b = record { xlo = int_min a.xlo b.xlo; ylo = int_min a.ylo b.ylo; xhi = int_max a.xhi b.xhi; yhi = int_max a.yhi b.yhi }
+
+-- the lower left square of a rectangle
+abbrev pub corner_of : Rect → Square
+corner_of area = record { x = area.xlo; y = area.ylo }
+
 -- The first rectangle goes nowhere past an edge of the second.
 pub record LiesWithin (core area : Rect) : Type 0 where
   pub right_of_xlo : area.xlo ≤ℤ core.xlo

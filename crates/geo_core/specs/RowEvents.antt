@@ -8,10 +8,6 @@ use Rattle.geo_core.specs.declared.bars.Bar.{Bar}
 use Rattle.geo_core.specs.declared.row_events.Event.{Event}
 use Rattle.geo_core.specs.Covering.{IsProper}
 
--- the test that a rectangle covers some square
-abbrev pub is_proper : Rect → Bool
-is_proper area = int_lt area.xlo area.xhi && int_lt area.ylo area.yhi
-
 -- the rectangle begins
 abbrev pub begin_of : Rect → Event
 begin_of area = record { row = area.ylo; ends = false; from = area.xlo; to = area.xhi; top = area.yhi }

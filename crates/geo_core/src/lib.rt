@@ -5,6 +5,7 @@ mod bars;
 mod coverage;
 mod faults;
 mod grids;
+mod limits;
 mod lists;
 mod names;
 mod orients;
@@ -24,6 +25,7 @@ mod transforms;
 
 pub use faults::GeoFault;
 pub use grids::Grid;
+pub use limits::Limit;
 pub use lists::List;
 pub use names::Name;
 pub use orients::Orient;

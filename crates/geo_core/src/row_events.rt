@@ -1,7 +1,8 @@
 //! What happens at a row: rectangles begin there, and columns in which some ended.
 ghost use Rattle.std.specs.Prelude.{◌≡◌, ℤ, ◌≤ℤ◌, ◌++◌, IfOk, OnOk, map, filter, AllPairs};
 ghost use Rattle.totals.specs.Lists.{In};
-ghost use Rattle.geo_core.specs.RowEvents.{is_proper, begin_of, top_of, end_of, AreEvents, sides_of};
+ghost use Rattle.geo_core.specs.Areas.{has_square};
+ghost use Rattle.geo_core.specs.RowEvents.{begin_of, top_of, end_of, AreEvents, sides_of};
 
 use crate::bars::{Bar, join, sorted};
 use crate::squares::Rect;
@@ -18,20 +19,13 @@ pub struct Event {
     pub top: i64,
 }
 
-/// Whether the rectangle covers some square.
-fn is_proper(rect: &Rect) -> bool
-    ensures { result ≡ is_proper rect.now }
-{
-    rect.xlo < rect.xhi && rect.ylo < rect.yhi
-}
-
 /// The beginnings of rectangles.
 fn begins(alloc: Global, rects: &[Rect]) -> Result<Vec<Event>, AllocError>
-    ensures { IfOk result (λ found. found.items ≡ map begin_of (filter is_proper rects.now)) }
+    ensures { IfOk result (λ found. found.items ≡ map begin_of (filter has_square rects.now)) }
 {
     rects
         .iter()
-        .filter(|rect| is_proper(rect))
+        .filter(|rect| rect.has_square())
         .map(|rect| Event {
             row: rect.ylo,
             ends: false,
@@ -44,11 +38,11 @@ fn begins(alloc: Global, rects: &[Rect]) -> Result<Vec<Event>, AllocError>
 
 /// The tops of rectangles.
 fn tops(alloc: Global, rects: &[Rect]) -> Result<Vec<Bar>, AllocError>
-    ensures { IfOk result (λ found. found.items ≡ map top_of (filter is_proper rects.now)) }
+    ensures { IfOk result (λ found. found.items ≡ map top_of (filter has_square rects.now)) }
 {
     rects
         .iter()
-        .filter(|rect| is_proper(rect))
+        .filter(|rect| rect.has_square())
         .map(|rect| Bar {
             low: rect.yhi,
             high: rect.yhi,

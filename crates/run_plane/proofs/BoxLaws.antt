@@ -2,7 +2,7 @@
 use Rattle.std.proofs.Common.{◌≡◌, ◌≢◌, ◌⊎◌, inl, inr, ℕ, zero, suc, ◌+◌, ◌-◌, ◌<◌, ◌≤◌, ℤ, pos, ◌+ℤ◌, ◌-ℤ◌, ◌≤ℤ◌, ◌<ℤ◌, List, [], ◌∷◌, length, get_or, refl, sym, ◌∙◌, ap, subst, arith, ◌^◌, Option, Some, None}
 use Rattle.std.specs.Prelude.{MatchOption, slice_get}
 use Rattle.std.proofs.lemmas.Bool.{cases_lt}
-use Rattle.std.proofs.lemmas.Int.{ints, clamps}
+use Rattle.std.proofs.lemmas.Int.{ints}
 use Rattle.std.proofs.lemmas.Option.{slice_get_within, get_or_from_slice_get}
 use Rattle.totals.specs.Lists.{In}
 use Rattle.totals.proofs.Members.{In-get_or}
@@ -16,7 +16,9 @@ use Rattle.run_plane.specs.declared.runs.Run.{Run}
 use Rattle.run_plane.specs.declared.rows.Row.{Row}
 use Rattle.run_plane.specs.Rows.{value_at, runs_from, number_at, edge, AreRuns, AreRows}
 use Rattle.run_plane.specs.Changes.{square_at}
-use Rattle.run_plane.specs.Listings.{no_row, IsRowBox, joined}
+use Rattle.geo_core.specs.Areas.{joined_area}
+use Rattle.geo_core.proofs.CoveringLaws.{covers_joined_left, covers_joined_right, joined_within}
+use Rattle.run_plane.specs.Listings.{no_row, IsRowBox}
 use Rattle.run_plane.proofs.RunLaws.{le_or_lt, value_of_run, run_of_value, run_facts}
 use Rattle.run_plane.proofs.BandLaws.{number_high}
 use Rattle.run_plane.proofs.RowLaws.{runs_stop, runs_top, runs_ordered, row_above, row_facts, rising_next, all_above}
@@ -118,34 +120,6 @@ pub record IsBoxUpTo (rows : List Row) (k : ℕ) (box : Rect) : Type 0 where
 abbrev pub BoxUpTo : List Row → ℕ → Option Rect → Type 0
 BoxUpTo rows k found = MatchOption found ((square : Square) → IsBelowRow rows k square.y → number_at rows square ≡ 0) (IsBoxUpTo rows k)
 
-covers_joined_left : (a b : Rect) (square : Square) → Covers a square → Covers (joined a b) square
-covers_joined_left a b square c =
-    let left : a.xlo ≤ℤ square.x = c.right_of_xlo in
-    let right : square.x <ℤ a.xhi = c.left_of_xhi in
-    let low : a.ylo ≤ℤ square.y = c.above_ylo in
-    let high : square.y <ℤ a.yhi = c.below_yhi in
-    record { right_of_xlo = omega (arith, ints, clamps); left_of_xhi = omega (arith, ints, clamps); above_ylo = omega (arith, ints, clamps); below_yhi = omega (arith, ints, clamps) }
-
-covers_joined_right : (a b : Rect) (square : Square) → Covers b square → Covers (joined a b) square
-covers_joined_right a b square c =
-    let left : b.xlo ≤ℤ square.x = c.right_of_xlo in
-    let right : square.x <ℤ b.xhi = c.left_of_xhi in
-    let low : b.ylo ≤ℤ square.y = c.above_ylo in
-    let high : square.y <ℤ b.yhi = c.below_yhi in
-    record { right_of_xlo = omega (arith, ints, clamps); left_of_xhi = omega (arith, ints, clamps); above_ylo = omega (arith, ints, clamps); below_yhi = omega (arith, ints, clamps) }
-
-joined_within : (a b area : Rect) → LiesWithin a area → LiesWithin b area → LiesWithin (joined a b) area
-joined_within a b area p q =
-    let p0 : area.xlo ≤ℤ a.xlo = p.right_of_xlo in
-    let p1 : area.ylo ≤ℤ a.ylo = p.above_ylo in
-    let p2 : a.xhi ≤ℤ area.xhi = p.left_of_xhi in
-    let p3 : a.yhi ≤ℤ area.yhi = p.below_yhi in
-    let q0 : area.xlo ≤ℤ b.xlo = q.right_of_xlo in
-    let q1 : area.ylo ≤ℤ b.ylo = q.above_ylo in
-    let q2 : b.xhi ≤ℤ area.xhi = q.left_of_xhi in
-    let q3 : b.yhi ≤ℤ area.yhi = q.below_yhi in
-    record { right_of_xlo = omega (arith, ints, clamps); above_ylo = omega (arith, ints, clamps); left_of_xhi = omega (arith, ints, clamps); below_yhi = omega (arith, ints, clamps) }
-
 module _ (rows : List Row) (are : AreRows rows) where
   own : (k : ℕ) (p : k + 1 < length rows) (x y : ℤ) → (get_or rows k no_row).ylo ≤ℤ y → y <ℤ (get_or rows (k + 1) no_row).ylo
       → number_at rows (square_at x y) ≡ value_at (get_or rows k no_row).runs x
@@ -238,7 +212,7 @@ module _ (rows : List Row) (are : AreRows rows) where
 
   -- one more rectangle
   pub box_grown : (k : ℕ) (old area : Rect) → k + 1 < length rows → IsRowBox (get_or rows k no_row).runs (get_or rows k no_row).ylo (get_or rows (k + 1) no_row).ylo area
-      → BoxUpTo rows k (Some old) → BoxUpTo rows (k + 1) (Some (joined old area))
+      → BoxUpTo rows k (Some old) → BoxUpTo rows (k + 1) (Some (joined_area old area))
   box_grown k old area p is some =
       let box = row_box_is k p area is (next_above k p) in
       record {

@@ -1,9 +1,11 @@
 -- The number of a row at x, and the runs that setting a piece leaves.
-use Rattle.std.proofs.Common.{◌≡◌, ◌≢◌, ◌⊎◌, inl, inr, ℤ, ◌≤ℤ◌, ◌<ℤ◌, true, false, cond, List, [], ◌∷◌, ◌++◌, map, append_assoc, refl, sym, ◌∙◌, ap, subst, arith}
-use Rattle.std.specs.Prelude.{filter, int_lt}
+use Rattle.std.proofs.Common.{◌≡◌, ◌≢◌, ◌⊎◌, inl, inr, ℕ, zero, suc, ◌≤◌, ◌<◌, ℤ, ◌≤ℤ◌, ◌<ℤ◌, true, false, cond, List, [], ◌∷◌, ◌++◌, map, length, get_or, drop, drop-cons, append_assoc, refl, sym, ◌∙◌, ap, subst, arith}
+use Rattle.std.specs.Prelude.{filter, int_le, int_lt}
 use Rattle.std.specs.Int.{int_min, int_max}
 use Rattle.std.proofs.lemmas.Int.{ints, clamps}
+use Rattle.std.proofs.lemmas.List.{drop_all}
 use Rattle.totals.specs.Lists.{In}
+use Rattle.totals.proofs.Members.{In-get_or}
 use Rattle.run_plane.specs.declared.runs.Run.{Run}
 use Rattle.run_plane.specs.Rows.{value_at, edge, IsRunFrom, AreRuns}
 use Rattle.geo_core.specs.declared.squares.Piece.{Piece}
@@ -221,16 +223,16 @@ set_runs piece runs middle proper near are middle_is =
     let last_ordered : AreRuns hi last = after_ordered edge hi runs near.xhi are in
     let assoc : (parts_before lo runs ++ middle) ++ last ≡ parts_before lo runs ++ (middle ++ last) = append_assoc (parts_before lo runs) middle last in
     let tail : AreRuns lo (middle ++ last) = elim middle_is [
-      | inl (zero, e) ↦ subst (λ (m : List Run). AreRuns lo (m ++ last)) (sym e) (runs_earlier hi lo last (omega (arith, ints)) last_ordered)
+      | inl (none, e) ↦ subst (λ (m : List Run). AreRuns lo (m ++ last)) (sym e) (runs_earlier hi lo last (omega (arith, ints)) last_ordered)
       | inr (some, e) ↦ subst (λ (m : List Run). AreRuns lo (m ++ last)) (sym e) (record { from = omega (arith, ints); long = wide; left = near.xlo; right = near.xhi; material = some }, last_ordered)
     ] in
     let middle_left : (x : ℤ) → x <ℤ lo → value_at (middle ++ last) x ≡ 0 = λ x p. value_below lo (middle ++ last) x tail p in
     let middle_in : (x : ℤ) → lo ≤ℤ x → x <ℤ hi → value_at (middle ++ last) x ≡ piece.value = λ x p q. elim middle_is [
-      | inl (zero, e) ↦ ap (λ (m : List Run). value_at (m ++ last) x) e ∙ value_below hi last x last_ordered q ∙ sym zero
+      | inl (none, e) ↦ ap (λ (m : List Run). value_at (m ++ last) x) e ∙ value_below hi last x last_ordered q ∙ sym none
       | inr (some, e) ↦ ap (λ (m : List Run). value_at (m ++ last) x) e ∙ value_here (record { xlo = lo; xhi = hi; value = piece.value }) last x p q
     ] in
     let middle_right : (x : ℤ) → hi ≤ℤ x → value_at (middle ++ last) x ≡ value_at runs x = λ x p. elim middle_is [
-      | inl (zero, e) ↦ ap (λ (m : List Run). value_at (m ++ last) x) e ∙ value_right hi runs x p
+      | inl (none, e) ↦ ap (λ (m : List Run). value_at (m ++ last) x) e ∙ value_right hi runs x p
       | inr (some, e) ↦ ap (λ (m : List Run). value_at (m ++ last) x) e ∙ value_after (record { xlo = lo; xhi = hi; value = piece.value }) last x p ∙ value_right hi runs x p
     ] in
     let whole : AreRunsWith piece runs (parts_before lo runs ++ (middle ++ last)) = record {
@@ -242,3 +244,57 @@ set_runs piece runs middle proper near are middle_is =
       ];
     } in
     subst (AreRunsWith piece runs) (sym assoc) whole
+
+-- a run ends after the column where the runs begin
+run_ends_after : (low : ℤ) (runs : List Run) → AreRuns low runs → (run : Run) → In run runs → low <ℤ run.xhi
+run_ends_after low [] are run none = absurd none
+run_ends_after low (first ∷ runs) are run (inl same) =
+    let from : low ≤ℤ first.xlo = are.0.from in
+    let long : first.xlo <ℤ first.xhi = are.0.long in
+    let first_ends : low <ℤ first.xhi = omega (arith, ints) in
+    subst (λ (r : Run). low <ℤ r.xhi) same first_ends
+run_ends_after low (first ∷ runs) are run (inr later) =
+    let from : low ≤ℤ first.xlo = are.0.from in
+    let long : first.xlo <ℤ first.xhi = are.0.long in
+    let next : first.xhi <ℤ run.xhi = run_ends_after first.xhi runs are.1 run later in
+    omega (arith, ints)
+
+-- of two runs the one further on ends no earlier
+pub run_ends_rise : (low : ℤ) (runs : List Run) → AreRuns low runs → (i j : ℕ) (d : Run) → i ≤ j → j < length runs → (get_or runs i d).xhi ≤ℤ (get_or runs j d).xhi
+run_ends_rise low [] are i j d p q = absurd (omega arith)
+run_ends_rise low (run ∷ runs) are zero zero d p q = omega (arith, ints)
+run_ends_rise low (run ∷ runs) are zero (suc j) d p q =
+    let later : run.xhi <ℤ (get_or runs j d).xhi = run_ends_after run.xhi runs are.1 (get_or runs j d) (In-get_or runs j d (omega arith)) in
+    omega (arith, ints)
+run_ends_rise low (run ∷ runs) are (suc i) zero d p q = absurd (omega arith)
+run_ends_rise low (run ∷ runs) are (suc i) (suc j) d p q = run_ends_rise run.xhi runs are.1 i j d (omega arith) (omega arith)
+
+-- runs that end at x or before say nothing of x
+value_past : (low : ℤ) (runs : List Run) (x : ℤ) (n : ℕ) → AreRuns low runs → ((k : ℕ) (d : Run) → k < length runs → k < n → (get_or runs k d).xhi ≤ℤ x)
+    → (value_at runs x ≡ value_at (drop n runs) x) × ((start : ℤ) × AreRuns start (drop n runs))
+value_past low [] x zero are past = (refl, (low, tt))
+value_past low [] x (suc n) are past = (refl, (low, tt))
+value_past low (run ∷ runs) x zero are past = (refl, (low, are))
+value_past low (run ∷ runs) x (suc n) are past =
+    let rest = value_past run.xhi runs x n are.1 (λ k d p q. past (suc k) d (omega arith) (omega arith)) in
+    (value_after run runs x (past zero run (omega arith) (omega arith)) ∙ rest.0, rest.1)
+
+-- the value at x, where the run at a place is the first that ends after x
+pub value_found : (runs : List Run) (x : ℤ) (n : ℕ) (run : Run) → AreRuns edge runs → ((k : ℕ) (d : Run) → k < length runs → k < n → (get_or runs k d).xhi ≤ℤ x)
+    → n < length runs → get_or runs n run ≡ run → x <ℤ run.xhi → value_at runs x ≡ cond (int_le run.xlo x) run.value 0
+value_found runs x n run are past below is ends =
+    let rest = value_past edge runs x n are past in
+    let cut : drop n runs ≡ run ∷ drop (suc n) runs = drop-cons runs n run below ∙ ap (λ (r : Run). r ∷ drop (suc n) runs) is in
+    let ordered : AreRuns rest.1.0 (run ∷ drop (suc n) runs) = subst (AreRuns rest.1.0) cut rest.1.1 in
+    rest.0 ∙ ap (λ (rs : List Run). value_at rs x) cut ∙ (elim (le_or_lt run.xlo x) [
+      | inl p ↦ let test : int_le run.xlo x ≡ true = grind (arith, ints) in value_here run (drop (suc n) runs) x p ends ∙ sym (ap (λ b. cond b run.value 0) test)
+      | inr p ↦
+          let test : int_le run.xlo x ≡ false = grind (arith, ints) in
+          value_before run (drop (suc n) runs) x p ∙ value_below run.xhi (drop (suc n) runs) x ordered.1 ends ∙ sym (ap (λ b. cond b run.value 0) test)
+    ])
+
+-- there is no value at x where all runs end at x or before
+pub value_none : (runs : List Run) (x : ℤ) (n : ℕ) → AreRuns edge runs → ((k : ℕ) (d : Run) → k < length runs → k < n → (get_or runs k d).xhi ≤ℤ x)
+    → length runs ≤ n → value_at runs x ≡ 0
+value_none runs x n are past all =
+    (value_past edge runs x n are past).0 ∙ ap (λ (rs : List Run). value_at rs x) (drop_all n runs all)

@@ -3,7 +3,7 @@ use Rattle.std.proofs.Common.{◌≡◌, ◌≢◌, ◌⊎◌, inl, inr, ℕ, �
 use Rattle.std.specs.Prelude.{All, AllPairs, IsPermutation, filter, ◌==◌}
 use Rattle.std.specs.List.Sorted.{IsSortedByKey}
 use Rattle.std.proofs.lemmas.Bool.{cases_lt}
-use Rattle.std.proofs.lemmas.Int.{ints, clamps}
+use Rattle.std.proofs.lemmas.Int.{ints}
 use Rattle.std.proofs.lemmas.List.Sorted.{Contains-permutation, IsPermutation-sym}
 use Rattle.totals.specs.Lists.{In, Distinct}
 use Rattle.totals.proofs.Distincts.{Distinct-append, Distinct-map, Distinct-filter, Distinct-places, Distinct-from_places}
@@ -14,6 +14,7 @@ use Rattle.geo_core.specs.declared.squares.Piece.{Piece}
 use Rattle.geo_core.specs.Areas.{AreDisjoint, common_area, has_square}
 use Rattle.geo_core.specs.Covering.{Covers, IsProper}
 use Rattle.geo_core.specs.Strips.{IsStrip, IsStrips, IsInUnion, StandsBefore}
+use Rattle.geo_core.proofs.CoveringLaws.{IsProper-has_square, has_square-IsProper, covers_first, covers_both}
 use Rattle.geo_core.proofs.CornerLaws.{corner_key, pair_cmp, sorted_by_corner}
 use Rattle.geo_core.proofs.PairLaws.{all_pairs_permutation}
 use Rattle.geo_core.proofs.StripSets.{one_strip_at, strip_within, strips_same}
@@ -38,35 +39,6 @@ strips_of_pieces pieces value found strips = strips_same (IsInUnion (areas_of pi
     let piece = covered.0 in
     (piece.area, (In-map (λ (piece : Piece). piece.area) piece (filter (λ piece. piece.value == value) pieces) (In-filter (λ (piece : Piece). piece.value == value) piece pieces covered.1 (number_same piece.value value covered.2)), covered.3)))
     found strips
-
--- what passes the test has a square
-pub IsProper-has_square : (area : Rect) → has_square area ≡ true → IsProper area
-IsProper-has_square area test = record { wide = grind (arith, ints); high = grind (arith, ints) }
-
-pub has_square-IsProper : (area : Rect) → IsProper area → has_square area ≡ true
-has_square-IsProper area proper = grind (arith, ints)
-
--- a square of the common part lies in the first rectangle
-covers_first : (a b : Rect) (square : Square) → Covers (common_area a b) square → Covers a square
-covers_first a b square c =
-    let left : (common_area a b).xlo ≤ℤ square.x = c.right_of_xlo in
-    let right : square.x <ℤ (common_area a b).xhi = c.left_of_xhi in
-    let low : (common_area a b).ylo ≤ℤ square.y = c.above_ylo in
-    let high : square.y <ℤ (common_area a b).yhi = c.below_yhi in
-    record { right_of_xlo = omega (arith, ints, clamps); left_of_xhi = omega (arith, ints, clamps); above_ylo = omega (arith, ints, clamps); below_yhi = omega (arith, ints, clamps) }
-
--- a square of both rectangles lies in the common part
-covers_both : (a b : Rect) (square : Square) → Covers a square → Covers b square → Covers (common_area a b) square
-covers_both a b square c d =
-    let left : a.xlo ≤ℤ square.x = c.right_of_xlo in
-    let right : square.x <ℤ a.xhi = c.left_of_xhi in
-    let low : a.ylo ≤ℤ square.y = c.above_ylo in
-    let high : square.y <ℤ a.yhi = c.below_yhi in
-    let left' : b.xlo ≤ℤ square.x = d.right_of_xlo in
-    let right' : square.x <ℤ b.xhi = d.left_of_xhi in
-    let low' : b.ylo ≤ℤ square.y = d.above_ylo in
-    let high' : square.y <ℤ b.yhi = d.below_yhi in
-    record { right_of_xlo = omega (arith, ints, clamps); left_of_xhi = omega (arith, ints, clamps); above_ylo = omega (arith, ints, clamps); below_yhi = omega (arith, ints, clamps) }
 
 proper_with_square : (area : Rect) (square : Square) → Covers area square → IsProper area
 proper_with_square area square c =

@@ -1,6 +1,5 @@
 -- Rows as pieces, and strips and tiles of pieces.
 use Rattle.std.specs.Prelude.{◌≡◌, ◌≢◌, ℕ, ℤ, pos, ◌≤ℤ◌, ◌<ℤ◌, List, [], map, filter, ◌==◌, AllPairs}
-use Rattle.std.specs.Int.{int_max, int_min}
 use Rattle.totals.specs.Lists.{In}
 use Rattle.geo_core.specs.declared.squares.Square.{Square}
 use Rattle.geo_core.specs.declared.squares.Rect.{Rect}
@@ -70,7 +69,3 @@ pub record IsRowBox (runs : List Run) (ylo yhi : ℤ) (area : Rect) : Type 0 whe
   pub first : (run : Run) × In run runs × (run.xlo ≡ area.xlo)
   pub last : (run : Run) × In run runs × (run.xhi ≡ area.xhi)
   pub covers : (run : Run) → In run runs → (area.xlo ≤ℤ run.xlo) × (run.xhi ≤ℤ area.xhi)
-
--- the smallest rectangle that covers both
-abbrev pub joined : Rect → Rect → Rect
-joined a b = record { xlo = int_min a.xlo b.xlo; ylo = int_min a.ylo b.ylo; xhi = int_max a.xhi b.xhi; yhi = int_max a.yhi b.yhi }

@@ -1,10 +1,9 @@
 //! What rows hold, as rectangles.
 ghost use Rattle.std.specs.Prelude.{◌≡◌, ◌+◌, ◌<◌, ◌≤◌, ◌≤ℤ◌, ◌<ℤ◌, ◌++◌, pos, length, map, slice_index_or, All, [], IfOk, OnOk, IfSome, IfNone, MatchOption};
-ghost use Rattle.geo_core.specs.Areas.{common_area, has_square};
 ghost use Rattle.geo_core.specs.Planes.{IsBox};
 ghost use Rattle.geo_core.specs.Strips.{IsStrips};
 ghost use Rattle.geo_core.specs.declared.squares.Square.{Square as OneSquare};
-ghost use Rattle.run_plane.specs.Listings.{no_row, piece_of, AreBetween, areas_of, IsInPieces, AgreeOnSquares, parts_in, AreTilesOf, IsRowBox, joined};
+ghost use Rattle.run_plane.specs.Listings.{no_row, piece_of, AreBetween, areas_of, IsInPieces, AgreeOnSquares, parts_in, AreTilesOf, IsRowBox};
 ghost use Rattle.run_plane.specs.Rows.{edge, number_at, AreRuns, AreRising, AreRows};
 
 use crate::rows::{Row, rows_up_to};
@@ -128,31 +127,12 @@ fn parts_in(
 {
     strips
         .iter()
-        .filter(|strip| has_square(&common_area(strip, area)))
+        .filter(|strip| strip.common(area).has_square())
         .map(|strip| Piece {
-            area: common_area(strip, area),
+            area: strip.common(area),
             value,
         })
         .collect(alloc)
-}
-
-/// The rectangle of the squares that two rectangles have in common. It has none if they have none.
-fn common_area(a: &Rect, b: &Rect) -> Rect
-    ensures { result ≡ common_area a.now b.now }
-{
-    Rect {
-        xlo: a.xlo.max(b.xlo),
-        ylo: a.ylo.max(b.ylo),
-        xhi: a.xhi.min(b.xhi),
-        yhi: a.yhi.min(b.yhi),
-    }
-}
-
-/// Whether the rectangle has a square.
-fn has_square(area: &Rect) -> bool
-    ensures { result ≡ has_square area.now }
-{
-    area.xlo < area.xhi && area.ylo < area.yhi
 }
 
 /// The smallest rectangle that covers all squares with a number other than 0.
@@ -165,7 +145,7 @@ pub fn box_of(rows: &[Row]) -> Option<Rect>
         let row = &rows[index];
         if let Some(area) = row_box(row.runs.items(), row.ylo, rows[index + 1].ylo) {
             found = Some(match found {
-                Some(old) => joined(&old, &area),
+                Some(old) => old.joined(&area),
                 None => area,
             });
         }
@@ -187,16 +167,4 @@ fn row_box(runs: &[Run], ylo: i64, yhi: i64) -> Option<Rect>
         xhi: last.xhi,
         yhi,
     })
-}
-
-/// The smallest rectangle that covers both.
-fn joined(a: &Rect, b: &Rect) -> Rect
-    ensures { result ≡ joined a.now b.now }
-{
-    Rect {
-        xlo: a.xlo.min(b.xlo),
-        ylo: a.ylo.min(b.ylo),
-        xhi: a.xhi.max(b.xhi),
-        yhi: a.yhi.max(b.yhi),
-    }
 }

@@ -16,16 +16,16 @@ pub struct Run {
     pub value: u8,
 }
 
-/// The value at x.
+/// The value at x, by a search for the first run that ends after it.
 pub fn value_at(runs: &[Run], x: i64) -> u8
+    requires { AreRuns edge runs.now }
     ensures { result ≡ value_at runs.now x }
 {
-    for run in runs {
-        if run.xlo <= x && x < run.xhi {
-            return run.value;
-        }
-    }
-    0
+    let first = runs.partition_point(|run| run.xhi <= x);
+    let Some(run) = runs.get(first) else {
+        return 0;
+    };
+    if run.xlo <= x { run.value } else { 0 }
 }
 
 /// The runs after the squares of the piece in this row are set.

@@ -1,10 +1,11 @@
 use Rattle.std.proofs.Common.{◌≡◌, ◌+◌, ◌<◌, ℕ, List, [], length, get_or, sym, ◌∙◌, ap, subst, arith, rules, Option, Some}
 use Rattle.std.proofs.lemmas.List.{get_or_default}
 use Rattle.geo_core.specs.declared.squares.Rect.{Rect}
+use Rattle.geo_core.specs.Areas.{joined_area}
 use Rattle.run_plane.specs.declared.runs.Run.{Run}
 use Rattle.run_plane.specs.declared.rows.Row.{Row}
 use Rattle.run_plane.specs.Rows.{edge, AreRuns}
-use Rattle.run_plane.specs.Listings.{no_row, IsRowBox, joined}
+use Rattle.run_plane.specs.Listings.{no_row, IsRowBox}
 use Rattle.run_plane.proofs.BoxLaws.{BoxUpTo, box_kept, box_begun, box_grown, box_whole, ordered}
 use Rattle.run_plane.proofs.listings.box_of.Goals as goal
 use Rattle.run_plane.proofs.listings.box_of.Goals.{in-Some+in-Some-found, in-Some+in-None, in_default}
@@ -36,7 +37,7 @@ loop-index-preserved c =
       | in-Some+in-Some-found w ↦ (
           let area = w.in-Some.area in
           let old = w.in-Some-found.old in
-          let is : c.match-row_box.found ≡ Some (joined old area) = search rules in
+          let is : c.match-row_box.found ≡ Some (joined_area old area) = search rules in
           let box : IsRowBox c.items.result.now c.index-rows-index.result.ylo c.index-rows-index-in-loop-index.result.ylo area = search rules in
           subst (Holds (k + 1)) (sym is) (box_grown rows c.requires k old area q (row_is area box) (subst (Holds k) w.in-Some-found.is c.loop-index.invariant)))
       | in-Some+in-None w ↦ (
