@@ -10,5 +10,6 @@ pub mod WithinLaws
 pub mod MarkLaws
 pub mod ColumnLaws
 pub mod WholeLaws
+pub mod LocalLaws
 pub mod NmRows
 pub mod NmWellFormed

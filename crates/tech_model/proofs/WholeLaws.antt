@@ -64,7 +64,8 @@ left_option : (raw : RawTech) (plane set : ℕ) (o : Option ℕ) → joined raw 
 left_option raw plane set None is = inl refl
 left_option raw plane set (Some t) is = inr (joined-found raw plane set t is).0
 
-left_set : (raw : RawTech) (mark plane : ℕ) (old : TypeId) → is_subset mark (parts_of raw old.0) ≡ true
+-- a type without the mark is space, or has the set without the mark
+pub left_set : (raw : RawTech) (mark plane : ℕ) (old : TypeId) → is_subset mark (parts_of raw old.0) ≡ true
     → ((without_mark raw mark plane old).0 ≡ 0) ⊎ (parts_of raw (without_mark raw mark plane old).0 ≡ without (parts_of raw old.0) mark)
 left_set raw mark plane old part = rw part (left_option raw plane (without (parts_of raw old.0) mark) (joined raw plane (without (parts_of raw old.0) mark)) refl)
 
@@ -82,7 +83,7 @@ unmarked_clear raw bit plane old = elim (cases_Bool (is_subset (2 ^ bit) (parts_
 ]
 
 -- a type without the mark stays
-unmarked_keeps : (raw : RawTech) (bit plane t : ℕ) (old : TypeId) → bit_at (parts_of raw t) bit ≢ 1 → old.0 ≡ t → (without_mark raw (2 ^ bit) plane old).0 ≡ t
+pub unmarked_keeps : (raw : RawTech) (bit plane t : ℕ) (old : TypeId) → bit_at (parts_of raw t) bit ≢ 1 → old.0 ≡ t → (without_mark raw (2 ^ bit) plane old).0 ≡ t
 unmarked_keeps raw bit plane t old clear same = elim (cases_Bool (is_subset (2 ^ bit) (parts_of raw old.0))) [
   | inl part ↦ absurd (clear (ap (λ (n : ℕ). bit_at (parts_of raw n) bit) (sym same) ∙ mark_part_bit (parts_of raw old.0) bit part))
   | inr none ↦ rw none same

@@ -7,7 +7,7 @@ use Rattle.tech_model.specs.declared.raw.RawTech.{RawTech}
 use Rattle.tech_model.specs.Types.{is_type, plane_of, layer_of, parts_of, joined, connects, is_within}
 use Rattle.tech_model.specs.WellFormed.{IsWellFormed}
 use Rattle.tech_model.specs.Rules.{IsMonotone, KeepsRules, rule_fault}
-use Rattle.tech_model.specs.Columns.{painted_column, erased_column}
+use Rattle.tech_model.specs.Columns.{type_on, painted_column, erased_column}
 use Rattle.tech_model.specs.ColumnForms.{IsColumn, HasWholeContacts}
 
 -- Exactly where no rule is broken, the rules are kept.
@@ -65,3 +65,11 @@ ColumnsStayWhole =
     (raw : RawTech) → IsWellFormed raw → (layer : ℕ) (column : List TypeId) → layer < length raw.layers → IsColumn raw column
     → (IsColumn raw (painted_column raw layer column) × HasWholeContacts raw (painted_column raw layer column))
     × (IsColumn raw (erased_column raw layer column) × HasWholeContacts raw (erased_column raw layer column))
+
+-- What paint and erasing leave on a plane depends on that plane alone, where contacts stand whole.
+abbrev pub ColumnsAreLocal : Type 0
+ColumnsAreLocal =
+    (raw : RawTech) → IsWellFormed raw → (layer plane : ℕ) (a b : List TypeId) → layer < length raw.layers → length a ≡ length b
+    → IsColumn raw a → IsColumn raw b → HasWholeContacts raw a → HasWholeContacts raw b → type_on a plane ≡ type_on b plane
+    → (type_on (painted_column raw layer a) plane ≡ type_on (painted_column raw layer b) plane)
+    × (type_on (erased_column raw layer a) plane ≡ type_on (erased_column raw layer b) plane)

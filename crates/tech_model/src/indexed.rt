@@ -162,8 +162,8 @@ impl Indexed {
         Ok(text)
     }
 
-    // The first name of the layer of a type.
-    fn layer_name(&self, t: TypeId) -> &[u8]
+    /// The first name of the layer of a type.
+    pub(crate) fn layer_name(&self, t: TypeId) -> &[u8]
         requires { IsTrue (is_type self.now t.0) }
         ensures { result.now ≡ first_name (layer_at self.now (layer_of self.now t.0)) }
     {

@@ -1,6 +1,6 @@
 //! Laws of technologies, as the contracts of calls that do nothing.
 ghost use Rattle.tech_model.specs.Laws.{RulesAreExact, ConnectsBothWays, ConnectsTypes, WithinIsAnOrder, SpaceIsAlone};
-ghost use Rattle.tech_model.specs.Laws.{SetsNameTypes, JoinedHasSet, FetsAreNoTerminals, LayersAreLinked, ColumnsStayWhole};
+ghost use Rattle.tech_model.specs.Laws.{SetsNameTypes, JoinedHasSet, FetsAreNoTerminals, LayersAreLinked, ColumnsStayWhole, ColumnsAreLocal};
 
 /// The first broken rule is none exactly where all rules are kept.
 pub fn rules_are_exact()
@@ -50,4 +50,9 @@ pub fn layers_are_linked()
 /// Paint and erasing leave columns in which each contact stands whole.
 pub fn columns_stay_whole()
     ensures { ColumnsStayWhole }
+{}
+
+/// What paint and erasing leave on a plane depends on that plane alone.
+pub fn columns_are_local()
+    ensures { ColumnsAreLocal }
 {}

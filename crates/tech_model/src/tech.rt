@@ -1,9 +1,9 @@
 //! Technologies that keep the rules.
-ghost use Rattle.std.specs.Prelude.{◌≡◌, ◌<◌, ◌⊎◌, None, Some, length, IfOk, IfErr};
+ghost use Rattle.std.specs.Prelude.{◌≡◌, ◌<◌, ◌⊎◌, None, Some, length, IfOk, IfErr, IsTrue};
 ghost use Rattle.std.specs.Option.{option_map};
 ghost use Rattle.tech_model.specs.Columns.{painted_column, erased_column};
 ghost use Rattle.tech_model.specs.Rules.{KeepsRules, rule_fault};
-ghost use Rattle.tech_model.specs.Types.{layer_number, type_number, layer_named, image_on, joined, connects, is_within};
+ghost use Rattle.tech_model.specs.Types.{first_name, is_type, layer_at, layer_of, layer_number, type_number, layer_named, image_on, joined, connects, is_within};
 ghost use Rattle.tech_model.specs.WellFormed.{IsWellFormed};
 
 use crate::faults::TechFault;
@@ -89,6 +89,15 @@ impl Tech {
     {
         self.lists.within(s, t)
     }
+
+    /// The word by which a type other than space is written: the first name of its layer.
+    pub fn word(&self, t: TypeId) -> &[u8]
+        requires { IsTrue (is_type self.now t.0) }
+        ensures { result.now ≡ first_name (layer_at self.now (layer_of self.now t.0)) }
+    {
+        self.lists.layer_name(t)
+    }
+
     /// Paints the layer at one square. A column has a type for each plane: one of that plane or space, and
     /// space past the last plane.
     pub fn paint_column(&self, column: &mut [TypeId; 8], layer: LayerId)
