@@ -14,7 +14,7 @@ draft_of inside = record {
     planes = inside.planes.items;
     layers = inside.layers.items;
     types = inside.types.items;
-    pairs = inside.pairs.items;
+    pairs = inside.pairs;
     classes = inside.classes.items;
     fets = inside.fets.items;
   };

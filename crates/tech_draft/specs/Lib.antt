@@ -5,6 +5,7 @@ pub mod Finished
 pub mod Kept
 pub mod Lines
 pub mod ListLines
+pub mod PairMarks
 pub mod Residues
 pub mod Room
 pub mod SetLines

@@ -10,6 +10,7 @@ ghost use Rattle.tech_model.specs.WellFormed.{IsWellFormed};
 ghost use Rattle.tech_draft.specs.Finished.{finished, with_residue};
 ghost use Rattle.tech_draft.specs.Sound.{IsSound};
 
+use self::pair_list::PairList;
 use crate::words::words_of;
 use geo_core::{List, Name};
 use std::alloc::Global;
@@ -20,6 +21,7 @@ use tech_model::{
 
 mod list_lines;
 mod lookups;
+mod pair_list;
 mod set_lines;
 mod type_lines;
 
@@ -32,7 +34,7 @@ pub struct Draft {
     planes: Vec<Name>,
     layers: Vec<LayerRec>,
     types: Vec<TypeRec>,
-    pairs: Vec<(TypeId, TypeId)>,
+    pairs: PairList,
     classes: Vec<ClassRec>,
     fets: Vec<FetRule>,
     residues: Vec<(TypeId, TypeId)>,
@@ -65,7 +67,7 @@ impl Draft {
             planes: Vec::new(alloc),
             layers: Vec::new(alloc),
             types: Vec::new(alloc),
-            pairs: Vec::new(alloc),
+            pairs: PairList::new(alloc),
             classes: Vec::new(alloc),
             fets: Vec::new(alloc),
             residues: Vec::new(alloc),
@@ -140,7 +142,7 @@ impl Draft {
             planes: List::of(planes),
             layers: List::of(layers),
             types: List::of(types),
-            pairs: List::of(pairs),
+            pairs: List::of(pairs.into_items()),
             classes: List::of(classes),
             fets: List::of(fets),
         };

@@ -397,6 +397,49 @@ fn limits_are_kept(rt: HostRuntime) -> Result<(), Fail> {
     Ok(())
 }
 
+// Names of 64 types, in turn, with a comma after each but the last.
+fn names_in_turn(alloc: Global, count: usize) -> Result<Vec<u8>, AllocError> {
+    let mut names = Vec::new(alloc);
+    for number in 0..count {
+        if number > 0 {
+            names.push(b',')?;
+        }
+        names.push(b't')?;
+        append_decimal(&mut names, (number % 64) as i128)?;
+    }
+    Ok(names)
+}
+
+// A text with 64 types, and this many lines of the section `connect`, with this many entries on each side.
+fn connected(alloc: Global, lines: usize, entries: usize) -> Result<Vec<u8>, AllocError> {
+    let names = names_in_turn(alloc, entries)?;
+    let mut text = Vec::new(alloc);
+    text.extend_from_slice(b"tech\nfull\nend\nplanes\np\nend\ntypes\n")?;
+    one_of_each(&mut text, 64, b"p t", b"\n")?;
+    text.extend_from_slice(b"end\nconnect\n")?;
+    for _ in 0..lines {
+        for end in [b' ', b'\n'] {
+            text.extend_from_slice(&names)?;
+            text.push(end)?;
+        }
+    }
+    text.extend_from_slice(b"end\nextract\nend\n")?;
+    Ok(text)
+}
+
+// Neither many entries nor many pairs take long: the first text names 10^8 pairs, the second 4,096 in each line.
+#[test]
+fn many_pairs_are_read(rt: HostRuntime) -> Result<(), Fail> {
+    for (lines, entries) in [(1, 10_000), (100, 64)] {
+        let text = connected(rt.alloc(), lines, entries)?;
+        assert_eq!(rt;
+            answer(rt.alloc(), &text)?.as_slice(),
+            b"64 types 0 classes 0 fets".as_slice()
+        );
+    }
+    Ok(())
+}
+
 // A text with 64 types, of which one is on a plane of its own, and this line of the section `contact`.
 fn full_with_contact(alloc: Global, line: &[u8]) -> Result<Vec<u8>, AllocError> {
     let mut text = Vec::new(alloc);

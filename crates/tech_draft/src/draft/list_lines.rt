@@ -4,7 +4,7 @@ ghost use Rattle.std.specs.List.{list_any, list_all};
 ghost use Rattle.tech_model.specs.declared.faults.TechFault.TheVariants.{Memory, Twice};
 ghost use Rattle.tech_draft.specs.Entries.{has_type, pieces_of, name_part, types_of_list, first_where};
 ghost use Rattle.tech_model.specs.Types.{type_number};
-ghost use Rattle.tech_draft.specs.ListLines.{pairs_fault, connect_fault, has_pair, with_pair, with_partners, with_pairs, with_pair_list, with_connect, class_of, has_class, new_class_fault, resist_fault, with_types_class, with_class, class_at, shared_class, if_holding, class_of_list, capped_fault, capacitance_fault, cap_fault, with_capacitance, with_cap, fet_type, is_fet_form, fet_type_fault, new_fet_fault, fet_fault, with_rule, fet_with, with_fet, extract_fault, with_extract};
+ghost use Rattle.tech_draft.specs.ListLines.{pairs_fault, connect_fault, with_pair, with_partners, with_pairs, with_pair_list, with_connect, class_of, has_class, new_class_fault, resist_fault, with_types_class, with_class, class_at, shared_class, if_holding, class_of_list, capped_fault, capacitance_fault, cap_fault, with_capacitance, with_cap, fet_type, is_fet_form, fet_type_fault, new_fet_fault, fet_fault, with_rule, fet_with, with_fet, extract_fault, with_extract};
 
 use super::Draft;
 use super::lookups::has_type;
@@ -49,22 +49,14 @@ fn is_fet_form(kind: &Name, entries: &[Name], name: &Name, substrate: &Name) -> 
 }
 
 impl Draft {
-    fn has_pair(&self, first: TypeId, second: TypeId) -> bool
-        ensures { result ≡ has_pair self.now.raw.pairs first second }
-    {
-        self.pairs
-            .iter()
-            .any(|pair| pair.0.0 == first.0 && pair.1.0 == second.0)
-    }
-
     // Lets two types of one plane connect, where they don't yet.
     fn add_pair(&mut self, first: TypeId, second: TypeId) -> Result<(), TechFault>
         ensures read { OnOk result (self.new
             ≡ with_pair_list self.old (with_pair self.old.raw first self.old.raw.pairs second)) }
         ensures only_memory { IfErr result (λ fault. fault ≡ Memory) }
     {
-        if self.plane_of(first) == self.plane_of(second) && !self.has_pair(first, second) {
-            push(&mut self.pairs, (first, second))?;
+        if self.plane_of(first) == self.plane_of(second) && !self.pairs.has(first, second) {
+            self.pairs.push(first, second)?;
         }
         Ok(())
     }
@@ -80,6 +72,7 @@ impl Draft {
         Ok(())
     }
 
+    // The lists of a line have each type once, so they have at most 64 types and make at most 4,096 pairs.
     fn add_pairs(&mut self, firsts: &[TypeId], seconds: &[TypeId]) -> Result<(), TechFault>
         ensures read { OnOk result (self.new
             ≡ with_pair_list self.old (with_pairs self.old.raw firsts.now seconds.now)) }
