@@ -1,0 +1,11 @@
+-- There are so many planes, and all is space.
+use Rattle.std.proofs.Common.{◌≡◌, length}
+use Rattle.layout_model.specs.Places.{Place}
+use Rattle.cell_paint.specs.Paints.{layout_on}
+use Rattle.cell_paint.proofs.paints.empty_planes.Given as goal
+
+abbrev pub invariant-loop : goal.invariant-loop
+invariant-loop l = record {
+  long : length l.planes.items ≡ l.counter;
+  empty : (place : Place) → layout_on l.planes.items place ≡ 0;
+}

@@ -1,0 +1,4 @@
+pub mod Changes
+pub mod Painting
+pub mod Paints
+pub mod Settings

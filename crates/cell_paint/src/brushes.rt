@@ -1,0 +1,41 @@
+//! What is done to the squares of an area.
+ghost use Rattle.std.specs.Prelude.{◌≡◌, ◌<◌, ◌≤◌, length};
+ghost use Rattle.tech_model.specs.Columns.{type_on};
+ghost use Rattle.tech_model.specs.ColumnForms.{IsColumn, HasWholeContacts};
+ghost use Rattle.cell_paint.specs.Changes.{brushed};
+
+use tech_model::{LayerId, Tech, TypeId};
+
+/// Whether a layer is painted or erased.
+#[derive(Clone, Copy, Debug, PartialEq, Eq)]
+pub enum Brush {
+    Paint,
+    Erase,
+}
+
+/// What is done with which layer of which technology.
+#[derive(Drop)]
+pub struct Stroke<'a> {
+    pub tech: &'a Tech,
+    pub brush: Brush,
+    pub layer: LayerId,
+}
+
+impl Stroke<'_> {
+    /// The type that comes to stand on the plane of a square with this column.
+    pub fn kind_after(&self, plane: usize, mut column: [TypeId; 8]) -> u8
+        requires plane { plane < 8 }
+        requires layer { self.now.layer.0 < length self.now.tech.now.layers }
+        requires types { IsColumn self.now.tech.now column }
+        ensures kind { result ≡ type_on (brushed self.now.brush self.now.tech.now self.now.layer.0 column) plane }
+        ensures few { result ≤ 64 }
+    {
+        // The proof takes from this call that the technology is well formed.
+        let _ = self.tech.raw();
+        match self.brush {
+            Brush::Paint => self.tech.paint_column(&mut column, self.layer),
+            Brush::Erase => self.tech.erase_column(&mut column, self.layer),
+        }
+        column[plane].0
+    }
+}

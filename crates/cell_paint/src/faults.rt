@@ -1,0 +1,33 @@
+//! Why a call of this crate is refused.
+
+use geo_core::PlaneFault;
+use std::alloc::AllocError;
+use thiserror::Error;
+
+/// Why paint is refused.
+#[derive(Clone, Copy, Debug, PartialEq, Eq, Error)]
+pub enum PaintFault {
+    /// The area has no square.
+    #[error("empty rectangle")]
+    EmptyRect,
+    /// A coordinate of the area is outside of the range -67108858 to 67108858.
+    #[error("out of range")]
+    OutOfRange,
+    /// A plane would need more tiles than there may be.
+    #[error("too many tiles")]
+    TooManyTiles,
+    /// There was not enough memory.
+    #[error("out of memory")]
+    Memory,
+}
+
+impl From<AllocError> for PaintFault {
+    ghost use Rattle.std.specs.Prelude.{◌≡◌};
+    ghost use Rattle.cell_paint.specs.declared.faults.PaintFault.TheVariants.{Memory};
+
+    ghost from_gives = { λ _ fault. fault ≡ Memory };
+
+    fn from(_error: AllocError) -> PaintFault {
+        PaintFault::Memory
+    }
+}

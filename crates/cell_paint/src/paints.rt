@@ -1,0 +1,323 @@
+//! The paint of a cell.
+ghost use Rattle.std.specs.Prelude.{◌≡◌, ◌≢◌, ◌<◌, ◌↔◌, ◌&&◌, false, true, length, IfOk, IfSome, IsNone, OnOk, OnErr, IsErrOf, IsOkUnless, Some, map, All, vec_len, [], ◌∷◌, ◌++◌};
+ghost use Rattle.geo_core.specs.declared.squares.Square.{Square as OneSquare};
+ghost use Rattle.geo_core.specs.Areas.{has_square, IsNear};
+ghost use Rattle.geo_core.specs.Covering.{IsProper};
+ghost use Rattle.geo_core.specs.Planes.{HasValue, AreTilesIn};
+ghost use Rattle.geo_core.specs.Strips.{IsStrips};
+ghost use Rattle.tech_model.specs.LayerTiles.{AreTilesOf};
+ghost use Rattle.layout_model.specs.Places.{Place};
+ghost use Rattle.cell_paint.specs.Changes.{brushed};
+ghost use Rattle.cell_paint.specs.Painting.{kinds_on, with_columns, with_paint, with_erased, is_coordinate, is_in_range, PassesPaintLimit};
+ghost use Rattle.cell_paint.specs.Paints.{layout_of, layout_on, IsPaintBox, IsSoundPaint, IsWhole};
+ghost use Rattle.cell_paint.specs.Settings.{AreAllChanges};
+
+use crate::brushes::{Brush, Stroke};
+use crate::changes::changes_on;
+use crate::faults::PaintFault;
+use crate::planes::{PaintPlane, box_of, commit_all, kind_at, reserve_all};
+use geo_core::{List, Piece, Plane, Rect, Square};
+use std::alloc::{AllocError, Global};
+use std::marker::Model;
+use tech_model::{LayerId, Layers, Tech, TechFault, TypeId, TypeRec};
+
+/// The largest coordinate that paint may have. The least is its negative.
+const MOST: i64 = 67_108_858;
+
+/// All squares that may have paint.
+pub const PAINT_RANGE: Rect = Rect {
+    xlo: -MOST,
+    ylo: -MOST,
+    xhi: MOST,
+    yhi: MOST,
+};
+
+/// The paint of a cell: the tile type at each square of each plane of a technology.
+///
+/// Each plane has types of its own and space alone, all paint lies within -67108858..67108858, and where one
+/// image of a contact stands, all of them stand. A call that is handed a technology asks for the one that the
+/// paint was made for, which it knows by its tile types.
+#[derive(Drop)]
+pub struct CellPaint {
+    alloc: Global,
+    kinds: List<TypeRec>,
+    planes: Vec<PaintPlane>,
+}
+
+impl Model for CellPaint {
+    ghost use Rattle.cell_paint.specs.Paints.{Paint, IsWhole};
+
+    ghost Value = { Paint };
+
+    ghost view = { λ paint. record { kinds = paint.kinds; planes = paint.planes.items } };
+
+    ghost invariant = { λ paint. IsWhole paint.kinds paint.planes.items };
+}
+
+impl CellPaint {
+    /// No paint, for this technology. Want of memory alone refuses.
+    pub fn new(alloc: Global, tech: &Tech) -> Result<CellPaint, PaintFault>
+        ensures kinds { IfOk result (λ paint. paint.kinds ≡ tech.now.types) }
+        ensures planes { IfOk result (λ paint. length paint.planes ≡ length tech.now.planes) }
+        ensures empty { IfOk result (λ paint. (place : Place) → layout_of paint place ≡ 0) }
+        ensures memory { IsOkUnless result PaintFault.Memory }
+    {
+        let raw = tech.raw();
+        let kinds = List::of(Vec::from_slice(alloc, raw.types.items())?);
+        let planes = empty_planes(alloc, raw.planes.items().len())?;
+        Ok(CellPaint {
+            alloc,
+            kinds,
+            planes,
+        })
+    }
+
+    /// Paints the layer over the area: on each plane of the layer a square gets the type with the parts of what stood
+    /// there and of the layer's image, where there is one, and else the image.
+    ///
+    /// An area without a square is refused, then one that goes past the range, then a change for which a plane would
+    /// need too many tiles. A refusal changes nothing.
+    pub fn paint(&mut self, tech: &Tech, layer: LayerId, area: Rect) -> Result<(), PaintFault>
+        requires kinds { self.old.kinds ≡ tech.now.types }
+        requires layer { layer.0 < length tech.now.layers }
+        ensures painted { OnOk result ((place : Place) → layout_of self.new place ≡ with_paint tech.now layer.0 area (layout_of self.old) place) }
+        ensures refused { OnErr result ((place : Place) → layout_of self.new place ≡ layout_of self.old place) }
+        ensures kinds { self.new.kinds ≡ self.old.kinds }
+        ensures planes { length self.new.planes ≡ length self.old.planes }
+        ensures empty { IsErrOf result PaintFault.EmptyRect ↔ (has_square area ≡ false) }
+        ensures range { IsErrOf result PaintFault.OutOfRange ↔ ((has_square area ≡ true) × (is_in_range area ≡ false)) }
+        ensures tiles { IsErrOf result PaintFault.TooManyTiles →
+            PassesPaintLimit (layout_of self.old) (with_paint tech.now layer.0 area (layout_of self.old)) }
+    {
+        let stroke = Stroke {
+            tech,
+            brush: Brush::Paint,
+            layer,
+        };
+        self.change(&stroke, area)
+    }
+
+    /// Erases the layer from the area: on each plane of the layer the parts of its image are taken away where all of
+    /// them stand.
+    ///
+    /// It is refused as `paint` is, and a refusal changes nothing.
+    pub fn erase(&mut self, tech: &Tech, layer: LayerId, area: Rect) -> Result<(), PaintFault>
+        requires kinds { self.old.kinds ≡ tech.now.types }
+        requires layer { layer.0 < length tech.now.layers }
+        ensures erased { OnOk result ((place : Place) → layout_of self.new place ≡ with_erased tech.now layer.0 area (layout_of self.old) place) }
+        ensures refused { OnErr result ((place : Place) → layout_of self.new place ≡ layout_of self.old place) }
+        ensures kinds { self.new.kinds ≡ self.old.kinds }
+        ensures planes { length self.new.planes ≡ length self.old.planes }
+        ensures empty { IsErrOf result PaintFault.EmptyRect ↔ (has_square area ≡ false) }
+        ensures range { IsErrOf result PaintFault.OutOfRange ↔ ((has_square area ≡ true) × (is_in_range area ≡ false)) }
+        ensures tiles { IsErrOf result PaintFault.TooManyTiles →
+            PassesPaintLimit (layout_of self.old) (with_erased tech.now layer.0 area (layout_of self.old)) }
+    {
+        let stroke = Stroke {
+            tech,
+            brush: Brush::Erase,
+            layer,
+        };
+        self.change(&stroke, area)
+    }
+
+    // What `paint` and `erase` do.
+    fn change(&mut self, stroke: &Stroke, area: Rect) -> Result<(), PaintFault>
+        requires kinds { self.old.kinds ≡ stroke.now.tech.now.types }
+        requires layer { stroke.now.layer.0 < length stroke.now.tech.now.layers }
+        ensures changed { OnOk result ((place : Place) → layout_of self.new place
+            ≡ with_columns (brushed stroke.now.brush stroke.now.tech.now stroke.now.layer.0) area (layout_of self.old) place) }
+        ensures refused { OnErr result ((place : Place) → layout_of self.new place ≡ layout_of self.old place) }
+        ensures kinds { self.new.kinds ≡ self.old.kinds }
+        ensures planes { length self.new.planes ≡ length self.old.planes }
+        ensures empty { IsErrOf result PaintFault.EmptyRect ↔ (has_square area ≡ false) }
+        ensures range { IsErrOf result PaintFault.OutOfRange ↔ ((has_square area ≡ true) × (is_in_range area ≡ false)) }
+        ensures tiles { IsErrOf result PaintFault.TooManyTiles →
+            PassesPaintLimit (layout_of self.old) (with_columns (brushed stroke.now.brush stroke.now.tech.now stroke.now.layer.0) area (layout_of self.old)) }
+    {
+        check_area(&area)?;
+        change_planes(self.alloc, stroke, self.planes.as_mut_slice(), area)
+    }
+
+    /// The strips of every type of the plane that meet the area, each cut to it, by the `ylo` and then the `xlo` of the
+    /// cut pieces. Want of memory alone refuses.
+    pub fn tiles_in(&self, plane: u8, area: Rect) -> Result<Vec<Piece>, PaintFault>
+        requires plane { plane < length self.now.planes }
+        requires proper { IsProper area }
+        requires near { IsNear area }
+        ensures tiles { IfOk result (λ tiles. AreTilesIn (kinds_on (layout_of self.now) plane) area tiles.items) }
+        ensures sound { IsSoundPaint self.now.kinds (layout_of self.now) }
+        ensures memory { IsOkUnless result PaintFault.Memory }
+    {
+        match self.planes[usize::from(plane)].tiles_in(area) {
+            Ok(tiles) => Ok(tiles),
+            Err(_) => Err(PaintFault::Memory),
+        }
+    }
+
+    /// The strips of a type other than space on the plane. Want of memory alone refuses.
+    pub fn strips(&self, plane: u8, kind: TypeId) -> Result<Vec<Rect>, PaintFault>
+        requires plane { plane < length self.now.planes }
+        requires kind { kind.0 ≢ 0 }
+        ensures strips { IfOk result (λ strips. IsStrips (HasValue (kinds_on (layout_of self.now) plane) kind.0) strips.items) }
+        ensures near { IfOk result (λ strips. All IsNear strips.items) }
+        ensures memory { IsOkUnless result PaintFault.Memory }
+    {
+        match self.planes[usize::from(plane)].strips(kind.0) {
+            Ok(strips) => Ok(strips),
+            Err(_) => Err(PaintFault::Memory),
+        }
+    }
+
+    /// The smallest rectangle that holds all paint. It takes no memory.
+    pub fn box_of(&self) -> Option<Rect>
+        ensures none { IsNone result ↔ ((place : Place) → layout_of self.now place ≡ 0) }
+        ensures smallest { IfSome result (IsPaintBox (layout_of self.now)) }
+        ensures sound { IsSoundPaint self.now.kinds (layout_of self.now) }
+    {
+        box_of(self.planes.as_slice())
+    }
+}
+
+impl Layers for CellPaint {
+    ghost use Rattle.cell_paint.specs.Paints.{seen_kind};
+
+    ghost kind = { seen_kind };
+
+    fn kind_at(&self, plane: u8, square: Square) -> Option<TypeId> {
+        Some(kind_at(self.planes.as_slice(), usize::from(plane), square))
+    }
+
+    fn tiles(
+        &self,
+        alloc: Global,
+        plane: u8,
+        area: Rect,
+    ) -> Result<Vec<(Rect, TypeId)>, TechFault> {
+        let Some(plane) = self.planes.get(usize::from(plane)) else {
+            return Ok(Vec::new(alloc));
+        };
+        let Ok(tiles) = plane.tiles_in(area) else {
+            return Err(TechFault::Memory);
+        };
+        Ok(with_types(alloc, tiles.as_slice())?)
+    }
+}
+
+// So many planes without paint.
+fn empty_planes(alloc: Global, count: usize) -> Result<Vec<PaintPlane>, AllocError>
+    ensures count { IfOk result (λ planes. vec_len planes ≡ count) }
+    ensures empty { IfOk result (λ planes. (place : Place) → layout_on planes.items place ≡ 0) }
+{
+    let mut planes = Vec::with_capacity(alloc, count)?;
+    for _ in 0..count {
+        planes.push(PaintPlane::new(alloc))?;
+    }
+    Ok(planes)
+}
+
+// Changes the planes as the stroke goes over the area, which paint may.
+fn change_planes(
+    alloc: Global,
+    stroke: &Stroke,
+    planes: &mut [PaintPlane],
+    area: Rect,
+) -> Result<(), PaintFault>
+    requires layer { stroke.now.layer.0 < length stroke.now.tech.now.layers }
+    requires whole { IsWhole stroke.now.tech.now.types planes.old }
+    requires proper { has_square area ≡ true }
+    requires range { is_in_range area ≡ true }
+    ensures changed { OnOk result ((place : Place) → layout_on planes.new place
+        ≡ with_columns (brushed stroke.now.brush stroke.now.tech.now stroke.now.layer.0) area (layout_on planes.old) place) }
+    ensures refused { OnErr result ((place : Place) → layout_on planes.new place ≡ layout_on planes.old place) }
+    ensures whole { IsWhole stroke.now.tech.now.types planes.new }
+    ensures tiles { IsErrOf result PaintFault.TooManyTiles →
+        PassesPaintLimit (layout_on planes.old) (with_columns (brushed stroke.now.brush stroke.now.tech.now stroke.now.layer.0) area (layout_on planes.old)) }
+    ensures never { (IsErrOf result PaintFault.EmptyRect → ⊥) × (IsErrOf result PaintFault.OutOfRange → ⊥) }
+{
+    // The contract of this call says that the lists of the technology fit together.
+    let _ = stroke.tech.raw();
+    let changes = all_changes(alloc, stroke, planes, area)?;
+    reserve_all(planes, changes.as_slice())?;
+    commit_all(planes, changes.as_slice());
+    Ok(())
+}
+
+// The changes of each plane.
+fn all_changes(
+    alloc: Global,
+    stroke: &Stroke,
+    planes: &[PaintPlane],
+    area: Rect,
+) -> Result<Vec<Vec<Piece>>, PaintFault>
+    requires layer { stroke.now.layer.0 < length stroke.now.tech.now.layers }
+    requires whole { IsWhole stroke.now.tech.now.types planes.now }
+    requires proper { IsProper area }
+    requires near { IsNear area }
+    ensures one_each { IfOk result (λ changes. vec_len changes ≡ length planes.now) }
+    ensures changes { IfOk result (λ changes. AreAllChanges (layout_on planes.now)
+        (with_columns (brushed stroke.now.brush stroke.now.tech.now stroke.now.layer.0) area (layout_on planes.now)) changes.items) }
+    ensures memory { IsOkUnless result PaintFault.Memory }
+{
+    let mut changes = Vec::with_capacity(alloc, planes.len())?;
+    for plane in 0..planes.len() {
+        add_changes(
+            &mut changes,
+            changes_on(alloc, stroke, planes, plane, area)?,
+        )?;
+    }
+    Ok(changes)
+}
+
+// Adds the changes of the next plane.
+fn add_changes(changes: &mut Vec<Vec<Piece>>, more: Vec<Piece>) -> Result<(), AllocError>
+    ensures { OnOk result (changes.new.items ≡ changes.old.items ++ more ∷ []) }
+{
+    changes.push(more)?;
+    Ok(())
+}
+
+// The areas of tiles with their types.
+fn with_types(alloc: Global, tiles: &[Piece]) -> Result<Vec<(Rect, TypeId)>, AllocError>
+    ensures { IfOk result (λ found. found.items ≡ map (λ tile. (tile.area, record { 0 = tile.value })) tiles.now) }
+{
+    tiles
+        .iter()
+        .map(|tile| (tile.area, TypeId(tile.value)))
+        .collect(alloc)
+}
+
+// Whether paint may go over the area.
+fn check_area(area: &Rect) -> Result<(), PaintFault>
+    ensures empty { IsErrOf result PaintFault.EmptyRect ↔ (has_square area.now ≡ false) }
+    ensures range { IsErrOf result PaintFault.OutOfRange ↔ ((has_square area.now ≡ true) × (is_in_range area.now ≡ false)) }
+    ensures never { (IsErrOf result PaintFault.TooManyTiles → ⊥) × (IsErrOf result PaintFault.Memory → ⊥) }
+    ensures fits { OnOk result ((has_square area.now ≡ true) × (is_in_range area.now ≡ true)) }
+{
+    if !area.has_square() {
+        return Err(PaintFault::EmptyRect);
+    }
+    if !is_in_range(area) {
+        return Err(PaintFault::OutOfRange);
+    }
+    Ok(())
+}
+
+fn is_in_range(area: &Rect) -> bool
+    ensures { result ≡ is_in_range area.now }
+{
+    are_coordinates(area.xlo, area.ylo) && are_coordinates(area.xhi, area.yhi)
+}
+
+fn are_coordinates(first: i64, second: i64) -> bool
+    ensures { result ≡ (is_coordinate first && is_coordinate second) }
+{
+    is_coordinate(first) && is_coordinate(second)
+}
+
+/// Whether paint may have the coordinate.
+pub fn is_coordinate(value: i64) -> bool
+    ensures { result ≡ is_coordinate value }
+{
+    -MOST <= value && value <= MOST
+}
