@@ -37,8 +37,9 @@ use Rattle.flood_nodes.specs.Regions.{AreRegions}
 use Rattle.flood_nodes.proofs.TileLaws.{tile_is_proper, tile_has_material, material_lies_in_tile, lies_in_one_tile, layout_of-tile}
 use Rattle.flood_nodes.proofs.TileMeasures.{areas_are_proper, areas_are_near, on_plane_0, tile_area, tile_perimeter}
 use Rattle.magex_top.specs.declared.nodes.PlainNode.{PlainNode}
-use Rattle.magex_top.specs.BuiltIn.{two}
-use Rattle.magex_top.specs.PieceOrder.{corner_of, AreByCorner}
+use Rattle.magex_top.specs.Uniform.{uniform}
+use Rattle.geo_core.specs.Areas.{corner_of}
+use Rattle.magex_top.specs.PieceOrder.{AreByCorner}
 use Rattle.magex_top.specs.PlainNodes.{node_of, IsMeasured}
 use Rattle.magex_top.specs.Gathering.{total_of, length_for, shared_of, AreGathered, AreTakenOff}
 use Rattle.magex_top.proofs.TakeOffLaws.{contacts_are_short, shared_of-not_negative}
@@ -249,7 +250,7 @@ lies_in_first pieces first piece tiles there = record {
 
 -- the node of a list of pieces, by its least place, type, area and perimeter
 node_at : (pieces : List Piece) (numbers : List ℕ) (contacts : List Contact) (number : ℕ) (node : PlainNode) → AreTiles pieces → AreByCorner pieces → AreRegions pieces numbers
-    → Lists (IsContact (areas_of pieces)) contacts → IsFound pieces numbers contacts number node → IsNode two (layout_of pieces) (node_of node)
+    → Lists (IsContact (areas_of pieces)) contacts → IsFound pieces numbers contacts number node → IsNode uniform (layout_of pieces) (node_of node)
 unfolding lies_in_first
 node_at pieces numbers contacts number node tiles in_order regions listed found =
     let layout = layout_of pieces in
@@ -263,7 +264,7 @@ node_at pieces numbers contacts number node tiles in_order regions listed found 
     let area = Total-iff (IsNumbered pieces numbers number) Class (area_at is_material layout) (total_of area_of numbers (areas_of pieces) number) chained numbered (area_numbered pieces numbers number tiles) in
     let perimeter = Total-iff (IsNumbered pieces numbers number) Class (perimeter_at is_material layout) (total_of perimeter_of numbers (areas_of pieces) number -ℤ shared_of numbers contacts number) chained numbered
     (perimeter_numbered pieces numbers contacts number tiles listed) in
-    let here : IsNode two layout (record { least = corner; kind = found.piece.value; measures = (total_of area_of numbers (areas_of pieces) number, total_of perimeter_of numbers (areas_of pieces) number -ℤ shared_of numbers contacts number) ∷ [] }) = record {
+    let here : IsNode uniform layout (record { least = corner; kind = found.piece.value; measures = (total_of area_of numbers (areas_of pieces) number, total_of perimeter_of numbers (areas_of pieces) number -ℤ shared_of numbers contacts number) ∷ [] }) = record {
       material = tile_has_material pieces found.first corner tiles lies;
       least = (stay, (λ place chain. first_is_least pieces numbers number found.first found.piece place in_order found.there found.earlier (numbered place chain)));
       kind = sym (layout_of-tile pieces found.first corner tiles lies);
@@ -271,7 +272,7 @@ node_at pieces numbers contacts number node tiles in_order regions listed found 
     } in
     let whole : record { least = corner; kind = found.piece.value; measures = (total_of area_of numbers (areas_of pieces) number, total_of perimeter_of numbers (areas_of pieces) number -ℤ shared_of numbers contacts number) ∷ [] } ≡ node_of node =
     rw (found.least, found.kind, found.area, found.perimeter) refl in
-    subst (λ (n : Node). IsNode two layout n) whole here
+    subst (λ (n : Node). IsNode uniform layout n) whole here
 
 -- what stands past the end of a list of nodes
 abbrev pub no_node : PlainNode
@@ -323,7 +324,7 @@ one_before_next pieces numbers contacts k m n in_order p q = elim (cases_lt p.fi
 
 -- what is gathered by numbers, with what the contacts take off, are the nodes
 pub nodes_are_found : (pieces : List Piece) (numbers : List ℕ) (contacts : List Contact) (before after : List PlainNode) → AreTiles pieces → AreByCorner pieces → AreRegions pieces numbers
-    → Lists (IsContact (areas_of pieces)) contacts → AreGathered pieces numbers before → AreTakenOff numbers contacts before after → AreNodes two (layout_of pieces) (map node_of after)
+    → Lists (IsContact (areas_of pieces)) contacts → AreGathered pieces numbers before → AreTakenOff numbers contacts before after → AreNodes uniform (layout_of pieces) (map node_of after)
 unfolding lies_in_first
 nodes_are_found pieces numbers contacts before after tiles in_order regions listed gathered taken =
     let layout = layout_of pieces in
@@ -333,7 +334,7 @@ nodes_are_found pieces numbers contacts before after tiles in_order regions list
           let source = In-map_source node_of node after among in
           let place = In-index source.0 after source.1.0 in
           let here : IsFound pieces numbers contacts place.0 source.0 = subst (λ (n : PlainNode). IsFound pieces numbers contacts place.0 n) (place.1.1 no_node) (found place.0 no_node place.1.0) in
-          subst (λ (n : Node). IsNode two layout n) source.1.1 (node_at pieces numbers contacts place.0 source.0 tiles in_order regions listed here);
+          subst (λ (n : Node). IsNode uniform layout n) source.1.1 (node_at pieces numbers contacts place.0 source.0 tiles in_order regions listed here);
       whole = λ place material.
           let there = material_lies_in_tile pieces place material in
           let number = get_or numbers there.0 0 in

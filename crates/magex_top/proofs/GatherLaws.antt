@@ -8,13 +8,14 @@ use Rattle.std.proofs.lemmas.List.FromFn.{length-range_with_len}
 use Rattle.std.proofs.lemmas.Option.{slice_get_within, slice_get-get_or, get_or_from_slice_get}
 use Rattle.std.specs.Prelude.{slice_get, All}
 use Rattle.std.specs.List.{range_with_len}
+use Rattle.geo_core.specs.declared.squares.Square.{Square}
 use Rattle.geo_core.specs.declared.squares.Rect.{Rect}
 use Rattle.geo_core.specs.declared.squares.Piece.{Piece}
 use Rattle.geo_core.specs.Covering.{IsProper}
 use Rattle.totals.specs.Lists.{In}
 use Rattle.totals.specs.Total.{sum_on}
 use Rattle.totals.proofs.Sums.{sum_on-push, sum_on-same, sum_on-nothing}
-use Rattle.geo_core.specs.Areas.{IsNear}
+use Rattle.geo_core.specs.Areas.{corner_of, IsNear}
 use Rattle.sweeps.specs.Rects.{rect_at, places_of}
 use Rattle.sweeps.specs.Squares.{area_of, perimeter_of}
 use Rattle.sweeps.proofs.BothWays.{Lists-places_of}
@@ -291,9 +292,10 @@ adds_as_new number piece before after node past added is = record {
   new = λ _. added ∙ ap (λ (n : PlainNode). before ++ n ∷ []) is;
 }
 
-pub started_is : (piece : Piece) (x y area perimeter : ℤ) → x ≡ piece.area.xlo → y ≡ piece.area.ylo → area ≡ area_of piece.area → perimeter ≡ perimeter_of piece.area
-    → record { least = record { x = x; y = y }; kind = piece.value; area = area; perimeter = perimeter } ≡ started piece
-started_is piece x y area perimeter left low is_area is_perimeter = rw (left, low, is_area, is_perimeter) refl
+-- a node with what its piece has is the one that is started
+pub started_is : (piece : Piece) (least : Square) (area perimeter : ℤ) → least ≡ corner_of piece.area → area ≡ area_of piece.area → perimeter ≡ perimeter_of piece.area
+    → record { least = least; kind = piece.value; area = area; perimeter = perimeter } ≡ started piece
+started_is piece least area perimeter corner is_area is_perimeter = rw (corner, is_area, is_perimeter) refl
 
 -- each number is that of a node
 pub numbers_have_nodes : (pieces : List Piece) (numbers : List ℕ) (nodes : List PlainNode) → length numbers ≡ length pieces → AreGathered pieces numbers nodes → All (λ (number : ℕ). number < length nodes) numbers

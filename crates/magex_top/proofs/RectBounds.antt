@@ -1,11 +1,11 @@
 -- How large the area and the perimeter of a near rectangle are.
-use Rattle.std.proofs.Common.{◌≡◌, ◌^◌, ◌<◌, ◌≤◌, ℤ, pos, negsuc, ◌+ℤ◌, ◌-ℤ◌, ◌*ℤ◌, ◌≤ℤ◌, ◌<ℤ◌, FitsSigned, to_z, of_z, arith, w64, sym, ◌∙◌, ap, subst}
+use Rattle.std.proofs.Common.{◌≡◌, ◌^◌, ◌<◌, ◌≤◌, ℤ, pos, negsuc, ◌+ℤ◌, ◌-ℤ◌, ◌*ℤ◌, ◌≤ℤ◌, ◌<ℤ◌, FitsSigned, to_z, of_z, arith, sym, ◌∙◌, ap, subst}
 use Rattle.std.specs.Int.{w128}
 use Rattle.std.proofs.Math.Nat.{mul-le-mul_left}
 use Rattle.std.proofs.lemmas.Int.{ints, to_z-of_z}
 use Rattle.geo_core.specs.declared.squares.Rect.{Rect}
 use Rattle.geo_core.specs.Covering.{IsProper}
-use Rattle.geo_core.specs.Areas.{IsNear, IsSmall}
+use Rattle.geo_core.specs.Areas.{IsNear}
 use Rattle.magex_top.specs.PlainNodes.{IsModest}
 use Rattle.sweeps.specs.Squares.{area_of, perimeter_of}
 
@@ -53,6 +53,3 @@ sum_as_read a x m modest not_negative small same = let read : to_z w128 (of_z w1
 
 pub count_as_read : (x m : ℤ) → pos 0 ≤ℤ x → x <ℤ pos (2 ^ 58) → x ≡ m → to_z w128 (of_z w128 x) ≡ m
 count_as_read x m low high same = let read : to_z w128 (of_z w128 x) ≡ x = omega (arith, ints) in read ∙ same
-
-pub near_as_read : (z : ℤ) → IsSmall z → to_z w64 (of_z w64 z) ≡ z
-near_as_read z small = omega (arith, ints, small.0, small.1)

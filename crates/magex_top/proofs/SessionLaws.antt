@@ -1,136 +1,139 @@
--- What the lines of a script mean is determined, and how a session goes on from line to line.
-use Rattle.std.proofs.Common.{◌≡◌, ◌+◌, ◌||◌, ◌&&◌, ◌==◌, ℕ, Bool, true, false, List, [], ◌∷◌, ◌++◌, Option, Some, None, MatchOption, refl, sym, ◌∙◌, ap, subst, append_assoc, arith, take, drop, take-append-drop}
-use Rattle.std.proofs.lemmas.Bool.Decides.{nat_tests}
+-- How a session goes on from line to line.
+use Rattle.std.proofs.Common.{◌≡◌, ◌⊎◌, inl, inr, ◌+◌, ◌||◌, ℕ, suc, Bool, true, false, List, [], ◌∷◌, ◌++◌, length, Some, refl, sym, ◌∙◌, ap, subst, append_assoc, arith, take, drop, take-append-drop}
 use Rattle.std.proofs.lemmas.List.{append-nil}
+use Rattle.std.proofs.Common.{length-append}
 use Rattle.text_scan.specs.Lines.{lines_of}
 use Rattle.outside_io.specs.Files.{Files}
 use Rattle.outside_io.specs.Told.{Told, AppendsPrefix, with_back}
-use Rattle.layout_model.specs.Layouts.{same_material}
-use Rattle.layout_model.specs.Nodes.{Node, AreNodes}
-use Rattle.layout_model.specs.Laws.{ConnectsBothWays}
-use Rattle.layout_model.proofs.NodeLaws.{has_one_node_list}
-use Rattle.magex_top.specs.declared.cells.Cell.{Cell}
-use Rattle.magex_top.specs.declared.commands.Command.{Command}
-use Rattle.magex_top.specs.declared.commands.Command.TheVariants.{Nothing, Load, Nodes, Unbuilt}
-use Rattle.magex_top.specs.declared.faults.TopFault.TheVariants.{NoCell}
+use Rattle.magex_top.specs.declared.cells.Session.{Session}
 use Rattle.magex_top.specs.Answers.{state_of}
-use Rattle.magex_top.specs.BuiltIn.{two}
-use Rattle.magex_top.specs.Commands.{command_of}
-use Rattle.magex_top.specs.NodeText.{node_lines}
-use Rattle.magex_top.specs.Runs.{first_state, IsPrefixOf, ReportsBeginningOf}
-use Rattle.magex_top.specs.Sessions.{State, Effect, accepted, refused, own_paint, cell_named, NodesMeans, CommandMeans, LineMeans, LinesMean, and_then}
-
--- in the built-in technology types connect both ways
-same_material-sym : ConnectsBothWays same_material
-same_material-sym a b = grind (arith, nat_tests)
-
-nodes_unique : (number : ℕ) (state : State) (name : List ℕ) (found : Option Cell) (e f : Effect)
-    → MatchOption found (e ≡ refused number state (NoCell name)) (λ cell. (nodes : List Node) × AreNodes two (own_paint cell) nodes × (e ≡ accepted state (node_lines two nodes)))
-    → MatchOption found (f ≡ refused number state (NoCell name)) (λ cell. (nodes : List Node) × AreNodes two (own_paint cell) nodes × (f ≡ accepted state (node_lines two nodes)))
-    → e ≡ f
-nodes_unique number state name None e f p q = p ∙ sym q
-nodes_unique number state name (Some cell) e f p q =
-    let same = has_one_node_list two (own_paint cell) p.0 q.0 same_material-sym p.1 q.1 in
-    p.2 ∙ ap (λ (nodes : List Node). accepted state (node_lines two nodes)) same ∙ sym q.2
-
-command_unique : (number : ℕ) (state : State) (command : Command) (e f : Effect) → CommandMeans number state command e → CommandMeans number state command f → e ≡ f
-command_unique number state Nothing e f p q = p ∙ sym q
-command_unique number state (Load cell) e f p q = p ∙ sym q
-command_unique number state (Nodes name) e f p q = nodes_unique number state name (cell_named name state.cells) e f p q
-command_unique number state Unbuilt e f p q = p ∙ sym q
-
--- a line does one thing
-pub LineMeans-unique : (number : ℕ) (state : State) (line : List ℕ) (e f : Effect) → LineMeans number state line e → LineMeans number state line f → e ≡ f
-LineMeans-unique number state line e f p q = command_unique number state (command_of line) e f p q
-
--- The script's lines up to a number were answered: what was reported, and how the meaning of the whole script and that of
--- the lines that are left lead to each other.
-pub record IsUnderWay (text : List ℕ) (files : Files) (before : List ℕ) (written : Told) (number : ℕ) (cells : List Cell) (told : Bool) (left : List (List ℕ)) : Type 0 where
-  pub so_far : List ℕ
-  pub reported : written ≡ Some (before ++ so_far)
-  pub goes_on : (rest : Effect) → LinesMean (number + 1) (state_of cells files) left rest
-      → LinesMean 1 (first_state files) (lines_of text) (record { state = rest.state; reply = so_far ++ rest.reply; told = told || rest.told })
-  pub comes_from : (effect : Effect) → LinesMean 1 (first_state files) (lines_of text) effect
-      → (rest : Effect) × LinesMean (number + 1) (state_of cells files) left rest × (effect.reply ≡ so_far ++ rest.reply)
-
--- before the first line
-pub IsUnderWay-start : (text : List ℕ) (files : Files) (before : List ℕ) (written : Told) → written ≡ Some before → IsUnderWay text files before written 0 [] false (lines_of text)
-IsUnderWay-start text files before written is = record {
-  so_far = [];
-  reported = is ∙ ap (λ (xs : List ℕ). Some xs) (sym (append-nil before));
-  goes_on = λ rest means. means;
-  comes_from = λ effect means. (effect, means, refl);
-}
+use Rattle.magex_top.specs.Runs.{first_state, ReportsBeginningOf, BeginsReply, IsBegun}
+use Rattle.magex_top.specs.Sessions.{State, Effect, accepted, LineMeans, LinesMean, and_then}
 
 or_assoc : (a b c : Bool) → ((a || b) || c) ≡ (a || (b || c))
 or_assoc true b c = refl
 or_assoc false b c = refl
 
-regroup : (before so_far reply : List ℕ) → (before ++ so_far) ++ reply ≡ before ++ (so_far ++ reply)
-regroup before so_far reply = append_assoc before so_far reply
-
--- after one more
-pub IsUnderWay-next : (text : List ℕ) (files : Files) (before : List ℕ) (written later : Told) (number : ℕ) (cells after : List Cell) (told tells : Bool) (line : List ℕ) (left : List (List ℕ)) (reply : List ℕ)
-    → (way : IsUnderWay text files before written number cells told (line ∷ left))
-    → LineMeans (number + 1) (state_of cells files) line (record { state = state_of after files; reply = reply; told = tells })
-    → later ≡ Some ((before ++ way.so_far) ++ reply)
-    → IsUnderWay text files before later (number + 1) after (told || tells) left
-IsUnderWay-next text files before written later number cells after told tells line left reply way means is =
-    let first : Effect = record { state = state_of after files; reply = reply; told = tells } in
-    record {
-      so_far = way.so_far ++ reply;
-      reported = is ∙ ap (λ (xs : List ℕ). Some xs) (regroup before way.so_far reply);
-      goes_on = λ rest rest_means.
-          let whole = way.goes_on (and_then first rest) (first, rest, means, rest_means, refl) in
-          rw (regroup way.so_far reply rest.reply, or_assoc told tells rest.told) whole;
-      comes_from = λ effect effect_means.
-          let found = way.comes_from effect effect_means in
-          let parts = found.1 in
-          let same = LineMeans-unique (number + 1) (state_of cells files) line parts.0 first parts.2 means in
-          let rest_means = subst (λ (e : Effect). LinesMean (number + 1 + 1) e.state left parts.1) same parts.3 in
-          let reply_is = ap (λ (e : Effect). e.reply) parts.4 ∙ ap (λ (e : Effect). e.reply ++ parts.1.reply) same in
-          (parts.1, rest_means, found.2 ∙ ap (λ (xs : List ℕ). way.so_far ++ xs) reply_is ∙ sym (regroup way.so_far reply parts.1.reply));
-    }
-
--- a line that is not answered to its end leaves the beginning of the script's reply
-pub begun_in_line : (text : List ℕ) (files : Files) (before : List ℕ) (written later : Told) (number : ℕ) (cells : List Cell) (told : Bool) (line : List ℕ) (left : List (List ℕ))
-    → (way : IsUnderWay text files before written number cells told (line ∷ left))
-    → ((effect : Effect) → LineMeans (number + 1) (state_of cells files) line effect → ReportsBeginningOf later (before ++ way.so_far) effect.reply)
-    → (effect : Effect) → LinesMean 1 (first_state files) (lines_of text) effect → ReportsBeginningOf later before effect.reply
-begun_in_line text files before written later number cells told line left way begun effect means =
-    let found = way.comes_from effect means in
-    let here = begun found.1.0 found.1.2 in
-    let reply_is = ap (λ (e : Effect). e.reply) found.1.4 in
-    let rest = here.1.0 ++ found.1.1.reply in
-    let whole : effect.reply ≡ (way.so_far ++ here.0) ++ rest =
-    found.2 ∙ ap (λ (xs : List ℕ). way.so_far ++ xs) (reply_is ∙ ap (λ (xs : List ℕ). xs ++ found.1.1.reply) here.1.1 ∙ regroup here.0 here.1.0 found.1.1.reply)
-    ∙ sym (regroup way.so_far here.0 rest) in
-    (way.so_far ++ here.0, (rest, whole), here.2 ∙ ap (λ (xs : List ℕ). Some xs) (regroup before way.so_far here.0))
-
--- after the last line all is reported
-pub begun_at_end : (text : List ℕ) (files : Files) (before : List ℕ) (written : Told) (number : ℕ) (cells : List Cell) (told : Bool)
-    → IsUnderWay text files before written number cells told []
-    → (effect : Effect) → LinesMean 1 (first_state files) (lines_of text) effect → ReportsBeginningOf written before effect.reply
-begun_at_end text files before written number cells told way effect means =
-    let found = way.comes_from effect means in
-    (way.so_far, (found.0.reply, found.2), way.reported)
-
 or_nothing : (a : Bool) → (a || false) ≡ a
 or_nothing true = refl
 or_nothing false = refl
 
--- after the last line the report is that of the whole script
-pub reported_at_end : (text : List ℕ) (files : Files) (before : List ℕ) (written : Told) (number : ℕ) (cells : List Cell) (told : Bool)
-    → IsUnderWay text files before written number cells told []
-    → (effect : Effect) × LinesMean 1 (first_state files) (lines_of text) effect × (written ≡ Some (before ++ effect.reply)) × (effect.state.files ≡ files) × (effect.told ≡ told)
-reported_at_end text files before written number cells told way =
-    let rest = accepted (state_of cells files) [] in (
-      record { state = state_of cells files; reply = way.so_far ++ []; told = told || false },
-      way.goes_on rest refl,
-      way.reported ∙ ap (λ (xs : List ℕ). Some (before ++ xs)) (sym (append-nil way.so_far)),
-      refl,
-      or_nothing told,
+and_then-assoc : (a b c : Effect) → and_then (and_then a b) c ≡ and_then a (and_then b c)
+and_then-assoc a b c = rw (append_assoc a.reply b.reply c.reply, or_assoc a.told b.told c.told) refl
+
+and_then-nothing : (a : Effect) → and_then a (accepted a.state []) ≡ a
+and_then-nothing a = rw (append-nil a.reply, or_nothing a.told) refl
+
+-- lines, and one more
+pub lines_and_one : (number : ℕ) (state : State) (past : List (List ℕ)) (line : List ℕ) (done next : Effect) → LinesMean number state past done
+    → LineMeans (number + length past) done.state line next → LinesMean number state (past ++ line ∷ []) (and_then done next)
+lines_and_one number state [] line done next means one =
+    let same : number + 0 ≡ number = omega arith in
+    let here = subst (λ (n : ℕ). LineMeans n done.state line next) same one in
+    let there = subst (λ (s : State). LineMeans number s line next) (ap (λ (e : Effect). e.state) means) here in
+    (next, accepted next.state [], there, refl, ap (λ (e : Effect). and_then e next) means ∙ sym (and_then-nothing next))
+lines_and_one number state (first ∷ past) line done next means one =
+    let same : number + suc (length past) ≡ number + 1 + length past = omega arith in
+    let here = subst (λ (n : ℕ). LineMeans n done.state line next) same one in
+    let there = subst (λ (s : State). LineMeans (number + 1 + length past) s line next) (ap (λ (e : Effect). e.state) means.4) here in
+    let rest = lines_and_one (number + 1) means.0.state past line means.1 next means.3 there in
+    (means.0, and_then means.1 next, means.2, rest, ap (λ (e : Effect). and_then e next) means.4 ∙ and_then-assoc means.0 means.1 next)
+
+-- The script's lines up to a number were answered, which did this, and these lines are left.
+pub record IsUnderWay (text : List ℕ) (files : Files) (before : List ℕ) (written : Told) (number : ℕ) (session : Session) (told : Bool) (left : List (List ℕ)) : Type 0 where
+  pub past : List (List ℕ)
+  pub split : lines_of text ≡ past ++ left
+  pub count : length past ≡ number
+  pub done : Effect
+  pub means : LinesMean 1 (first_state files) past done
+  pub state : done.state ≡ state_of session files
+  pub tells : done.told ≡ told
+  pub reported : written ≡ Some (before ++ done.reply)
+
+-- before the first line
+pub under_way_start : (text : List ℕ) (files : Files) (before : List ℕ) (written : Told) (session : Session) → written ≡ Some before → state_of session files ≡ first_state files
+    → IsUnderWay text files before written 0 session false (lines_of text)
+under_way_start text files before written session is empty = record {
+  past = [];
+  split = refl;
+  count = refl;
+  done = accepted (first_state files) [];
+  means = refl;
+  state = sym empty;
+  tells = refl;
+  reported = is ∙ ap (λ (xs : List ℕ). Some xs) (sym (append-nil before));
+}
+
+-- after one more
+pub under_way_next : (text : List ℕ) (files : Files) (before : List ℕ) (written later : Told) (number : ℕ) (session after : Session) (told tells : Bool) (line : List ℕ) (left : List (List ℕ)) (reply : List ℕ)
+    → (way : IsUnderWay text files before written number session told (line ∷ left))
+    → LineMeans (number + 1) (state_of session files) line (record { state = state_of after files; reply = reply; told = tells })
+    → later ≡ Some ((before ++ way.done.reply) ++ reply)
+    → IsUnderWay text files before later (number + 1) after (told || tells) left
+under_way_next text files before written later number session after told tells line left reply way means is =
+    let next : Effect = record { state = state_of after files; reply = reply; told = tells } in
+    let here = subst (λ (state : State). LineMeans (number + 1) state line next) (sym way.state) means in
+    let number_is : number + 1 ≡ 1 + length way.past = omega (arith, way.count) in
+    record {
+      past = way.past ++ line ∷ [];
+      split = way.split ∙ sym (append_assoc way.past (line ∷ []) left);
+      count = simp length-append (omega (arith, way.count));
+      done = and_then way.done next;
+      means = lines_and_one 1 (first_state files) way.past line way.done next way.means (subst (λ (n : ℕ). LineMeans n way.done.state line next) number_is here);
+      state = refl;
+      tells = ap (λ (b : Bool). b || tells) way.tells;
+      reported = is ∙ ap (λ (xs : List ℕ). Some xs) (append_assoc before way.done.reply reply);
+    }
+
+-- a line that is not answered to its end leaves the beginning of its reply, or nothing
+pub begun_in_line : (text : List ℕ) (files : Files) (before : List ℕ) (written later : Told) (number : ℕ) (session : Session) (told : Bool) (line : List ℕ) (left : List (List ℕ)) (front : List ℕ)
+    → (way : IsUnderWay text files before written number session told (line ∷ left))
+    → (front ≡ []) ⊎ BeginsReply (number + 1) (state_of session files) (line ∷ []) front
+    → later ≡ Some ((before ++ way.done.reply) ++ front)
+    → IsBegun text files before later
+begun_in_line text files before written later number session told line left front way next is = record {
+  past = way.past;
+  left = line ∷ left;
+  split = way.split;
+  done = way.done;
+  means = way.means;
+  front = front;
+  next = elim next [
+    | inl nothing ↦ inl nothing
+    | inr begins ↦ inr (
+      begins.0,
+      subst (λ (n : ℕ). LineMeans n way.done.state line begins.0) (ap (λ (n : ℕ). n + 1) (sym way.count)) (subst (λ (state : State). LineMeans (number + 1) state line begins.0) (sym way.state) begins.1),
+      begins.2,
     )
+  ];
+  reported = is ∙ ap (λ (xs : List ℕ). Some xs) (append_assoc before way.done.reply front);
+}
+
+-- after the last line all is reported
+pub begun_at_end : (text : List ℕ) (files : Files) (before : List ℕ) (written : Told) (number : ℕ) (session : Session) (told : Bool)
+    → IsUnderWay text files before written number session told [] → IsBegun text files before written
+begun_at_end text files before written number session told way = record {
+  past = way.past;
+  left = [];
+  split = way.split;
+  done = way.done;
+  means = way.means;
+  front = [];
+  next = inl refl;
+  reported = way.reported ∙ ap (λ (xs : List ℕ). Some (before ++ xs)) (sym (append-nil way.done.reply));
+}
+
+-- after the last line the report is that of the whole script
+pub reported_at_end : (text : List ℕ) (files : Files) (before : List ℕ) (written : Told) (number : ℕ) (session : Session) (told : Bool)
+    → IsUnderWay text files before written number session told []
+    → (effect : Effect) × LinesMean 1 (first_state files) (lines_of text) effect × (written ≡ Some (before ++ effect.reply)) × (effect.state.files ≡ files) × (effect.told ≡ told)
+reported_at_end text files before written number session told way = (
+  way.done,
+  subst (λ (lines : List (List ℕ)). LinesMean 1 (first_state files) lines way.done) (sym (way.split ∙ append-nil way.past)) way.means,
+  way.reported,
+  ap (λ (state : State). state.files) way.state,
+  way.tells,
+)
 
 -- what a sink has of a reply after a refusal is the beginning of it
 pub begun_by_prefix : (old new : Told) (before reply : List ℕ) → old ≡ Some before → AppendsPrefix old new reply → ReportsBeginningOf new before reply

@@ -8,7 +8,7 @@ use Rattle.sweeps.specs.Rects.{rect_at, places_of}
 use Rattle.sweeps.specs.Squares.{area_of, perimeter_of}
 use Rattle.flood_nodes.specs.Alike.{areas_of}
 use Rattle.magex_top.specs.declared.nodes.PlainNode.{PlainNode}
-use Rattle.magex_top.specs.PieceOrder.{corner_of}
+use Rattle.geo_core.specs.Areas.{corner_of}
 
 -- what the rectangles with this number measure together, each by itself
 abbrev pub total_of : (Rect → ℤ) → List ℕ → List Rect → ℕ → ℤ

@@ -1,8 +1,7 @@
 pub mod Answers
-pub mod BuiltIn
 pub mod Commands
-pub mod Cuts
 pub mod Drawings
+pub mod Fetches
 pub mod Gathering
 pub mod NodeText
 pub mod PieceOrder
@@ -10,7 +9,9 @@ pub mod PlainLines
 pub mod PlainMag
 pub mod PlainNodes
 pub mod PlainSections
+pub mod PlainTechs
 pub mod Refusals
 pub mod Runs
 pub mod Sessions
 pub mod Statuses
+pub mod Uniform

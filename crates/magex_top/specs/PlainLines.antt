@@ -2,22 +2,21 @@
 --     magic                       Magic
 --     tech NAME                   Tech, any name
 --     timestamp NUMBER            Timestamp, any number of 64 bits
---     << left >>                  Group 1
---     << right >>                 Group 2
+--     << LAYER >>                 Group, any name or alias of a layer of the technology
 --     << end >>                   End
 --     rect XBOT YBOT XTOP YTOP    Area, of coordinates with XBOT below XTOP and YBOT below YTOP
-use Rattle.std.specs.Prelude.{◌&&◌, ℕ, ℤ, pos, neg_ℤ, int_le, int_lt, Bool, is_ok, if◌then◌else◌, List, [], ◌∷◌, Option, Some, None, Result, Ok, Err, codes}
+use Rattle.std.specs.Prelude.{◌&&◌, ℕ, ℤ, is_ok, if◌then◌else◌, List, [], ◌∷◌, Option, Some, None, Result, Ok, Err, codes}
 use Rattle.std.specs.Option.{option_map_or}
 use Rattle.std.specs.Str.{bytes_eq}
 use Rattle.geo_core.specs.declared.squares.Rect.{Rect}
+use Rattle.geo_core.specs.Areas.{has_square}
 use Rattle.text_scan.specs.Numbers.{number_of}
 use Rattle.text_scan.specs.declared.numeral.NumFault.{NumFault}
+use Rattle.tech_model.specs.declared.raw.RawTech.{RawTech}
+use Rattle.tech_model.specs.Types.{layer_named, layer_number}
+use Rattle.cell_paint.specs.Painting.{is_coordinate}
 use Rattle.magex_top.specs.declared.plain_mag.PlainLine.{PlainLine}
 use Rattle.magex_top.specs.declared.plain_mag.PlainLine.TheVariants.{Magic, Tech, Timestamp, Group, Area, End, Other}
-
--- the numbers that may stand as coordinates: those of at most 2^26 - 6 in absolute value
-abbrev pub is_coordinate : ℤ → Bool
-is_coordinate z = int_le (neg_ℤ (pos 67108858)) z && int_le z (pos 67108858)
 
 abbrev pub if_coordinate : Result ℤ NumFault → Option ℤ
 if_coordinate (Ok z) = if is_coordinate z then Some z else None
@@ -29,7 +28,7 @@ coordinate_of word = if_coordinate (number_of word)
 
 -- the rectangle, where it has a square
 abbrev pub if_proper : Rect → Option Rect
-if_proper area = if int_lt area.xlo area.xhi && int_lt area.ylo area.yhi then Some area else None
+if_proper area = if has_square area then Some area else None
 
 -- the rectangle with these edges: left, lower, right and upper
 abbrev pub rect_of : Option ℤ → Option ℤ → Option ℤ → Option ℤ → Option Rect
@@ -46,16 +45,13 @@ header_line key value =
     else Other
 
 -- the line `<< NAME >>`
-abbrev pub named_line : List ℕ → PlainLine
-named_line name =
-    if bytes_eq name (codes "left") then Group 1
-    else if bytes_eq name (codes "right") then Group 2
-    else if bytes_eq name (codes "end") then End
-    else Other
+abbrev pub named_line : RawTech → List ℕ → PlainLine
+named_line raw name =
+    if bytes_eq name (codes "end") then End else option_map_or (λ layer. Group (layer_number layer)) (layer_named raw name) Other
 
-abbrev pub bracket_line : List ℕ → List ℕ → List ℕ → PlainLine
-bracket_line opening name closing =
-    if bytes_eq opening (codes "<<") && bytes_eq closing (codes ">>") then named_line name else Other
+abbrev pub bracket_line : RawTech → List ℕ → List ℕ → List ℕ → PlainLine
+bracket_line raw opening name closing =
+    if bytes_eq opening (codes "<<") && bytes_eq closing (codes ">>") then named_line raw name else Other
 
 abbrev pub area_line : List ℕ → List ℕ → List ℕ → List ℕ → List ℕ → PlainLine
 area_line key xbot ybot xtop ytop =
@@ -64,9 +60,9 @@ area_line key xbot ybot xtop ytop =
     else Other
 
 -- what a line of these words says
-abbrev pub plain_line : List (List ℕ) → PlainLine
-plain_line (word ∷ []) = magic_line word
-plain_line (key ∷ value ∷ []) = header_line key value
-plain_line (opening ∷ name ∷ closing ∷ []) = bracket_line opening name closing
-plain_line (key ∷ xbot ∷ ybot ∷ xtop ∷ ytop ∷ []) = area_line key xbot ybot xtop ytop
-plain_line _ = Other
+abbrev pub plain_line : RawTech → List (List ℕ) → PlainLine
+plain_line raw (word ∷ []) = magic_line word
+plain_line raw (key ∷ value ∷ []) = header_line key value
+plain_line raw (opening ∷ name ∷ closing ∷ []) = bracket_line raw opening name closing
+plain_line raw (key ∷ xbot ∷ ybot ∷ xtop ∷ ytop ∷ []) = area_line key xbot ybot xtop ytop
+plain_line raw _ = Other

@@ -1,24 +1,37 @@
 -- What the lines of a script do, one after the other.
-use Rattle.std.specs.Prelude.{◌≡◌, ◌+◌, ◌||◌, nat_lt, ℕ, pos, Bool, true, false, if◌then◌else◌, List, [], ◌∷◌, ◌++◌, length, Option, Some, None, MatchOption, codes, find}
+use Rattle.std.specs.Prelude.{◌≡◌, ◌⊎◌, ◌+◌, ◌||◌, nat_lt, ℕ, pos, Bool, true, false, List, [], ◌∷◌, ◌++◌, length, Option, Some, None, Result, Ok, Err, MatchOption, MatchBool, codes, find}
 use Rattle.std.specs.Str.{bytes_eq}
-use Rattle.geo_core.specs.declared.squares.Piece.{Piece}
+use Rattle.text_scan.specs.Decimal.{decimal}
+use Rattle.geo_core.specs.declared.limits.Limit.TheVariants.{Bytes, Tiles}
 use Rattle.outside_io.specs.Files.{Files, bytes_of}
-use Rattle.layout_model.specs.Layouts.{Layout, painted, on_plane}
+use Rattle.tech_model.specs.declared.raw.RawTech.{RawTech}
+use Rattle.tech_file.specs.declared.reading.TechAt.{TechAt}
+use Rattle.tech_file.specs.Reading.{technology_of}
+use Rattle.layout_model.specs.Layouts.{Layout}
 use Rattle.layout_model.specs.Nodes.{Node, AreNodes}
+use Rattle.layout_model.specs.Technologies.{rules_of}
 use Rattle.magex_top.specs.declared.faults.TopFault.{TopFault}
-use Rattle.magex_top.specs.declared.faults.TopFault.TheVariants.{NoFile, NoCell, NotBuilt}
+use Rattle.magex_top.specs.declared.faults.TopFault.TheVariants.{NoTech, NoFile, NoCell, TooMany, TechAgain, NotBuilt}
+use Rattle.magex_top.specs.declared.faults.TopFault.TheVariants as faults
 use Rattle.magex_top.specs.declared.commands.Command.{Command}
-use Rattle.magex_top.specs.declared.commands.Command.TheVariants.{Nothing, Load, Nodes, Unbuilt}
-use Rattle.magex_top.specs.declared.cells.Cell.{Cell}
-use Rattle.magex_top.specs.BuiltIn.{two}
+use Rattle.magex_top.specs.declared.commands.Command.TheVariants.{Nothing, Tech, Load, Nodes, Unbuilt}
+use Rattle.magex_top.specs.declared.plain_mag.Drawn.{Drawn}
 use Rattle.magex_top.specs.Commands.{command_of}
+use Rattle.magex_top.specs.Drawings.{painted_all, PassesLimit}
 use Rattle.magex_top.specs.NodeText.{node_lines}
 use Rattle.magex_top.specs.PlainMag.{plain_cell}
+use Rattle.magex_top.specs.PlainTechs.{is_plain}
 use Rattle.magex_top.specs.Refusals.{refusal_line}
 
--- The state between two lines: the cells in the order in which they came, and the files.
+-- A cell: its name, and its own paint.
+pub record CellState : Type 0 where
+  pub name : List ℕ
+  pub own : Layout
+
+-- The state between two lines: the technology, once one was read, the cells in the order in which they came, and the files.
 pub record State : Type 0 where
-  pub cells : List Cell
+  pub technology : Option RawTech
+  pub cells : List CellState
   pub files : Files
 
 -- What a line does: the state that it leaves, its reply, and whether the reply tells of something refused.
@@ -38,52 +51,84 @@ refused number state fault = record { state = state; reply = refusal_line number
 abbrev pub most_bytes : ℕ
 most_bytes = 16777216
 
--- the cell file of a cell
-abbrev pub file_of : List ℕ → List ℕ
-file_of cell = cell ++ codes ".mag"
+-- the file of a cell
+abbrev pub cell_file : List ℕ → List ℕ
+cell_file cell = cell ++ codes ".mag"
 
--- the own paint of a cell: its rectangles in order, on the one plane
-abbrev pub own_paint : Cell → Layout
-own_paint cell = on_plane 0 (painted cell.pieces)
+-- the file of a technology
+abbrev pub tech_file : List ℕ → List ℕ
+tech_file name = name ++ codes ".tech"
 
-abbrev pub cell_named : List ℕ → List Cell → Option Cell
-cell_named name cells = find (λ cell. bytes_eq cell.name name) cells
+-- A command reads a file: it is refused where there is none, and where it is too long, and else the text decides.
+abbrev pub FileMeans : ℕ → State → List ℕ → (List ℕ → Effect → Type 0) → Effect → Type 0
+FileMeans number state file TextMeans effect =
+    MatchOption (bytes_of state.files file)
+    (effect ≡ refused number state (NoFile file))
+    (λ text. MatchBool (nat_lt most_bytes (length text)) (effect ≡ refused number state (TooMany Bytes)) (TextMeans text effect))
+
+-- `tech NAME: T types C classes F fets`, where the name is the technology's
+abbrev pub tech_text : RawTech → List ℕ
+tech_text raw =
+    codes "tech " ++ raw.name ++ codes ": " ++ decimal (pos (length raw.types)) ++ codes " types "
+    ++ decimal (pos (length raw.classes)) ++ codes " classes " ++ decimal (pos (length raw.fets)) ++ codes " fets\n"
+
+abbrev pub with_technology : State → RawTech → State
+with_technology state raw = record { technology = Some raw; cells = state.cells; files = state.files }
+
+-- what a technology's text does: its technology is that of the session from now on
+abbrev pub tech_effect : ℕ → State → List ℕ → Result RawTech TechAt → Effect
+tech_effect number state file (Ok raw) = accepted (with_technology state raw) (tech_text raw)
+tech_effect number state file (Err at) = refused number state (faults.Tech file at)
+
+-- `tech f`: reads the technology of f.tech. One technology is read.
+abbrev pub TechMeans : ℕ → State → List ℕ → Effect → Type 0
+TechMeans number state name effect =
+    MatchOption state.technology
+    (FileMeans number state (tech_file name) (λ text done. done ≡ tech_effect number state (tech_file name) (technology_of text)) effect)
+    (λ raw. effect ≡ refused number state TechAgain)
 
 -- the reply to a load
 abbrev pub loaded_text : List ℕ → List ℕ
 loaded_text cell = codes "load " ++ cell ++ codes ": 1 cells\n"
 
-abbrev pub load_pieces : ℕ → State → List ℕ → Option (List Piece) → Effect
-load_pieces number state cell None = refused number state NotBuilt
-load_pieces number state cell (Some pieces) =
-    accepted
-    (record { cells = state.cells ++ record { name = cell; pieces = pieces } ∷ []; files = state.files })
-    (loaded_text cell)
+abbrev pub with_cell : State → List ℕ → Layout → State
+with_cell state name own = record { technology = state.technology; cells = state.cells ++ record { name = name; own = own } ∷ []; files = state.files }
 
-abbrev pub load_text : ℕ → State → List ℕ → Option (List ℕ) → Effect
-load_text number state cell None = refused number state (NoFile (file_of cell))
-load_text number state cell (Some text) =
-    if nat_lt most_bytes (length text)
-    then refused number state NotBuilt
-    else load_pieces number state cell (plain_cell text)
+-- What a cell's text does: a cell with the paint of its rectangles in order. Where painting some rectangle passes the limit of
+-- tiles, it may be refused in place of that.
+abbrev pub DrawnMeans : ℕ → State → RawTech → List ℕ → Option (List Drawn) → Effect → Type 0
+DrawnMeans number state raw cell None effect = effect ≡ refused number state NotBuilt
+DrawnMeans number state raw cell (Some drawn) effect =
+    (effect ≡ accepted (with_cell state cell (painted_all raw drawn)) (loaded_text cell))
+    ⊎ (PassesLimit raw drawn × (effect ≡ refused number state (TooMany Tiles)))
 
--- `load c`: makes the text of c.mag a cell. Only one cell is loaded, and only a plain text.
-abbrev pub load_effect : ℕ → State → List ℕ → Effect
-load_effect number state cell =
-    if nat_lt 0 (length state.cells)
-    then refused number state NotBuilt
-    else load_text number state cell (bytes_of state.files (file_of cell))
+-- `load c`: makes the text of c.mag a cell. It needs a technology. Only one cell is loaded, and only a plain text.
+abbrev pub LoadMeans : ℕ → State → List ℕ → Effect → Type 0
+LoadMeans number state cell effect =
+    MatchOption state.technology
+    (effect ≡ refused number state NoTech)
+    (λ raw. MatchBool (nat_lt 0 (length state.cells))
+    (effect ≡ refused number state NotBuilt)
+    (FileMeans number state (cell_file cell) (λ text done. DrawnMeans number state raw cell (plain_cell raw text) done) effect))
 
--- `nodes c`: replies the lines of the nodes of the own paint of c.
+abbrev pub cell_named : List ℕ → List CellState → Option CellState
+cell_named name cells = find (λ cell. bytes_eq cell.name name) cells
+
+-- `nodes c`: replies the lines of the nodes of the own paint of c, in a plain technology.
 abbrev pub NodesMeans : ℕ → State → List ℕ → Effect → Type 0
 NodesMeans number state name effect =
-    MatchOption (cell_named name state.cells)
+    MatchOption state.technology
+    (effect ≡ refused number state NoTech)
+    (λ raw. MatchOption (cell_named name state.cells)
     (effect ≡ refused number state (NoCell name))
-    (λ cell. (nodes : List Node) × AreNodes two (own_paint cell) nodes × (effect ≡ accepted state (node_lines two nodes)))
+    (λ cell. MatchBool (is_plain raw)
+    ((nodes : List Node) × AreNodes (rules_of raw) cell.own nodes × (effect ≡ accepted state (node_lines (rules_of raw) nodes)))
+    (effect ≡ refused number state NotBuilt)))
 
 abbrev pub CommandMeans : ℕ → State → Command → Effect → Type 0
 CommandMeans number state Nothing effect = effect ≡ accepted state []
-CommandMeans number state (Load cell) effect = effect ≡ load_effect number state cell
+CommandMeans number state (Tech name) effect = TechMeans number state name effect
+CommandMeans number state (Load cell) effect = LoadMeans number state cell effect
 CommandMeans number state (Nodes cell) effect = NodesMeans number state cell effect
 CommandMeans number state Unbuilt effect = effect ≡ refused number state NotBuilt
 

@@ -1,21 +1,31 @@
-//! The cells of a session.
+//! The technology and the cells of a session.
 ghost use Rattle.std.specs.Prelude.{◌≡◌, IfSome, Contains};
 ghost use Rattle.std.specs.Option.{option_copied};
-ghost use Rattle.magex_top.specs.Sessions.{cell_named};
+ghost use Rattle.magex_top.specs.Answers.{kept_cell_named};
 
-use geo_core::{List, Name, Piece};
+use cell_paint::CellPaint;
+use geo_core::Name;
+use tech_model::Tech;
 
-/// A cell of plain rectangles.
-#[derive(Debug, Drop)]
+/// A cell and its own paint.
+#[derive(Drop)]
 pub struct Cell {
     pub name: Name,
-    /// Its rectangles, each with the tile type that it paints, in the order in which they are painted.
-    pub pieces: List<Piece>,
+    pub paint: CellPaint,
+}
+
+/// What a session keeps between two lines.
+#[derive(Drop)]
+pub struct Session {
+    /// The technology, once one was read.
+    pub tech: Option<Tech>,
+    /// The cells in the order in which they came.
+    pub cells: Vec<Cell>,
 }
 
 /// The cell of this name.
 pub fn find_cell<'a>(cells: &'a [Cell], name: &Name) -> Option<&'a Cell>
-    ensures first { option_copied result ≡ cell_named name.now cells.now }
+    ensures first { option_copied result ≡ kept_cell_named name.now cells.now }
     ensures member { IfSome result (λ cell. Contains cells.now cell.now) }
 {
     let wanted = name.bytes();

@@ -12,6 +12,8 @@ use text_scan::{is_plain_name, words};
 pub enum Command {
     /// Nothing: the line has no word, or is a comment.
     Nothing,
+    /// Read the technology of the file.
+    Tech(Name),
     /// Make the text of the cell's file a cell.
     Load(Name),
     /// Write the nodes of the cell.
@@ -38,27 +40,30 @@ fn command_of_words(alloc: Global, line: &[u8]) -> Result<Command, GeoFault>
     let Some(verb) = rest.next() else {
         return Ok(Command::Nothing);
     };
-    let Some(cell) = rest.next() else {
+    let Some(name) = rest.next() else {
         return Ok(Command::Unbuilt);
     };
     match rest.next() {
         Some(_) => Ok(Command::Unbuilt),
-        None => command_on(alloc, verb, cell),
+        None => command_on(alloc, verb, name),
     }
 }
 
-// The command with this first word, of which the second is to be a cell's name.
-fn command_on(alloc: Global, verb: &[u8], cell: &[u8]) -> Result<Command, GeoFault>
-    ensures { IfOk result (λ command. command ≡ command_on verb.now cell.now) }
+// The command with this first word, of which the second is to be the name of a cell or of a file.
+fn command_on(alloc: Global, verb: &[u8], name: &[u8]) -> Result<Command, GeoFault>
+    ensures { IfOk result (λ command. command ≡ command_on verb.now name.now) }
 {
-    if !is_plain_name(cell) {
+    if !is_plain_name(name) {
         return Ok(Command::Unbuilt);
     }
+    if verb == b"tech".as_slice() {
+        return Ok(Command::Tech(Name::of(alloc, name)?));
+    }
     if verb == b"load".as_slice() {
-        return Ok(Command::Load(Name::of(alloc, cell)?));
+        return Ok(Command::Load(Name::of(alloc, name)?));
     }
     if verb == b"nodes".as_slice() {
-        return Ok(Command::Nodes(Name::of(alloc, cell)?));
+        return Ok(Command::Nodes(Name::of(alloc, name)?));
     }
     Ok(Command::Unbuilt)
 }

@@ -1,15 +1,17 @@
-//! The top call of `magex`: a script, line by line, over cells, files and a report.
+//! The top call of `magex`: a script, line by line, over a technology, cells, files and a report.
 #![tactic(auto)]
 
-mod built_in;
 mod cells;
 mod commands;
 mod faults;
+mod fetching;
 mod measures;
 mod node_text;
 mod nodes;
-mod pieces;
+mod painting;
 mod plain_mag;
+mod plain_techs;
+mod refusals;
 mod replies;
 mod session;
 mod status;

@@ -10,7 +10,7 @@ ghost use Rattle.magex_top.specs.PlainNodes.{IsMeasured};
 ghost use Rattle.magex_top.specs.Gathering.{AreGathered, AddsPiece, AreTakenOff, Shortens, IsShort};
 
 use crate::nodes::PlainNode;
-use geo_core::{Piece, Rect, Square};
+use geo_core::{Piece, Rect};
 use std::alloc::{AllocError, Global};
 use sweeps::Contact;
 
@@ -46,10 +46,7 @@ fn add_piece(nodes: &mut Vec<PlainNode>, piece: &Piece, number: usize) -> Result
         node.perimeter += perimeter_of(&area);
     } else {
         nodes.push(PlainNode {
-            least: Square {
-                x: area.xlo,
-                y: area.ylo,
-            },
+            least: area.corner(),
             kind: value,
             area: area_of(&area),
             perimeter: perimeter_of(&area),

@@ -1,51 +1,59 @@
 //! The lines by which nodes are written.
-ghost use Rattle.std.specs.Prelude.{◌≡◌, ◌++◌, List, ℤ, pos, ◌+ℤ◌, ◌*ℤ◌, map, codes, All, IfOk, OnOk, IsOkUnless};
+ghost use Rattle.std.specs.Prelude.{◌≡◌, ◌++◌, List, ℤ, true, map, length, codes, All, IfOk, OnOk, IsTrue};
 ghost use Rattle.text_scan.specs.Decimal.{decimal};
-ghost use Rattle.layout_model.specs.Layouts.{on_plane, painted};
+ghost use Rattle.tech_model.specs.Types.{is_type};
 ghost use Rattle.layout_model.specs.Nodes.{Node, AreNodes};
-ghost use Rattle.layout_model.specs.Technologies.{capacitance};
-ghost use Rattle.magex_top.specs.Drawings.{AreDrawn};
-ghost use Rattle.magex_top.specs.BuiltIn.{two, two_classes};
+ghost use Rattle.layout_model.specs.Technologies.{capacitance, rules_of};
+ghost use Rattle.cell_paint.specs.Paints.{layout_of};
 ghost use Rattle.magex_top.specs.NodeText.{coordinate, generated_name, node_line, node_lines, node_place, node_title, measures_text};
-ghost use Rattle.magex_top.specs.PlainNodes.{node_of, IsMeasured};
+ghost use Rattle.magex_top.specs.PlainNodes.{node_of};
+ghost use Rattle.magex_top.specs.PlainTechs.{is_plain};
 
-use crate::built_in::word_of;
 use crate::nodes::{PlainNode, nodes_of};
-use crate::pieces::disjoint_pieces;
-use geo_core::Piece;
+use cell_paint::{CellPaint, PAINT_RANGE};
 use std::alloc::{AllocError, Global};
+use tech_model::{Tech, TypeId};
 use text_scan::append_decimal;
 
-/// The lines of the nodes of what painting these rectangles in order shows.
-pub fn node_text(alloc: Global, drawn: &[Piece]) -> Result<Vec<u8>, AllocError>
-    requires { AreDrawn drawn.now }
-    ensures { IfOk result (λ text. (nodes : List Node) × AreNodes two (on_plane 0 (painted drawn.now)) nodes × (text.items ≡ node_lines two nodes)) }
+/// The lines of the nodes of a cell's paint, in a plain technology. Want of memory alone refuses.
+pub fn node_text(alloc: Global, tech: &Tech, paint: &CellPaint) -> Result<Vec<u8>, AllocError>
+    requires kinds { paint.now.kinds ≡ tech.now.types }
+    requires planes { length paint.now.planes ≡ length tech.now.planes }
+    requires plain { is_plain tech.now ≡ true }
+    ensures { IfOk result (λ text. (nodes : List Node) × AreNodes (rules_of tech.now) (layout_of paint.now) nodes
+        × (text.items ≡ node_lines (rules_of tech.now) nodes)) }
 {
-    let pieces = disjoint_pieces(alloc, drawn)?;
+    // The contract of this call says that the lists of the technology fit together.
+    let _ = tech.raw();
+    let Ok(pieces) = paint.tiles_in(0, PAINT_RANGE) else {
+        return Err(AllocError);
+    };
     let nodes = nodes_of(alloc, &pieces)?;
-    append_nodes(alloc, &nodes)
+    append_nodes(alloc, tech, &nodes)
 }
 
 // The lines of these nodes.
-fn append_nodes(alloc: Global, nodes: &[PlainNode]) -> Result<Vec<u8>, AllocError>
-    requires { All IsMeasured nodes.now }
-    ensures { IfOk result (λ text. text.items ≡ node_lines two (map node_of nodes.now)) }
+fn append_nodes(alloc: Global, tech: &Tech, nodes: &[PlainNode]) -> Result<Vec<u8>, AllocError>
+    requires types { All (λ node. IsTrue (is_type tech.now node.kind)) nodes.now }
+    requires one_class { length tech.now.classes ≡ 1 }
+    ensures { IfOk result (λ text. text.items ≡ node_lines (rules_of tech.now) (map node_of nodes.now)) }
 {
     let mut text = Vec::new(alloc);
     for node in nodes {
-        append_node(&mut text, node)?;
+        append_node(&mut text, tech, node)?;
     }
     Ok(text)
 }
 
 // Writes the line of a node.
 #[tactic(auto, unfolding(crate::specs::NodeText::node_line))]
-fn append_node(text: &mut Vec<u8>, node: &PlainNode) -> Result<(), AllocError>
-    requires { IsMeasured node.now }
-    ensures { OnOk result (text.new.items ≡ text.old.items ++ node_line two (node_of node.now)) }
+fn append_node(text: &mut Vec<u8>, tech: &Tech, node: &PlainNode) -> Result<(), AllocError>
+    requires kind { IsTrue (is_type tech.now node.now.kind) }
+    requires one_class { length tech.now.classes ≡ 1 }
+    ensures { OnOk result (text.new.items ≡ text.old.items ++ node_line (rules_of tech.now) (node_of node.now)) }
 {
-    append_title(text, node)?;
-    append_place(text, node)?;
+    append_title(text, tech, node)?;
+    append_place(text, tech, node)?;
     append_measures(text, node)?;
     text.push(b'\n')?;
     Ok(())
@@ -53,13 +61,14 @@ fn append_node(text: &mut Vec<u8>, node: &PlainNode) -> Result<(), AllocError>
 
 // Writes the least place of a node and its type.
 #[tactic(auto, unfolding(crate::specs::NodeText::node_place))]
-fn append_place(text: &mut Vec<u8>, node: &PlainNode) -> Result<(), AllocError>
-    ensures { OnOk result (text.new.items ≡ text.old.items ++ node_place two (node_of node.now)) }
+fn append_place(text: &mut Vec<u8>, tech: &Tech, node: &PlainNode) -> Result<(), AllocError>
+    requires { IsTrue (is_type tech.now node.now.kind) }
+    ensures { OnOk result (text.new.items ≡ text.old.items ++ node_place (rules_of tech.now) (node_of node.now)) }
 {
     append_field(text, i128::from(node.least.x))?;
     append_field(text, i128::from(node.least.y))?;
     text.push(b' ')?;
-    text.extend_from_slice(word_of(node.kind))
+    text.extend_from_slice(tech.word(TypeId(node.kind)))
 }
 
 // Writes the area and the perimeter of a node.
@@ -72,22 +81,30 @@ fn append_measures(text: &mut Vec<u8>, node: &PlainNode) -> Result<(), AllocErro
 
 // Writes `node`, the name, the resistance 0 and the capacitance.
 #[tactic(auto, unfolding(crate::specs::NodeText::node_title))]
-fn append_title(text: &mut Vec<u8>, node: &PlainNode) -> Result<(), AllocError>
-    requires { IsMeasured node.now }
-    ensures { OnOk result (text.new.items ≡ text.old.items ++ node_title two (node_of node.now)) }
+fn append_title(text: &mut Vec<u8>, tech: &Tech, node: &PlainNode) -> Result<(), AllocError>
+    requires kind { IsTrue (is_type tech.now node.now.kind) }
+    requires one_class { length tech.now.classes ≡ 1 }
+    ensures { OnOk result (text.new.items ≡ text.old.items ++ node_title (rules_of tech.now) (node_of node.now)) }
 {
     text.extend_from_slice(b"node \"")?;
-    append_name(text, node)?;
+    append_name(text, tech, node)?;
     text.extend_from_slice(b"\" 0 ")?;
-    append_decimal(text, capacitance_of(node))
+    append_decimal(text, capacitance_of(tech, node)?)
 }
 
-// The capacitance of a node, in attofarads.
-fn capacitance_of(node: &PlainNode) -> i128
-    requires { IsMeasured node.now }
-    ensures { result ≡ capacitance two_classes ((node_of node.now).measures) }
+// The capacitance of a node, in attofarads. One that does not fit in 128 bits counts as want of memory; no paint
+// within the range has so many squares.
+fn capacitance_of(tech: &Tech, node: &PlainNode) -> Result<i128, AllocError>
+    requires { length tech.now.classes ≡ 1 }
+    ensures { IfOk result (λ value. value ≡ capacitance (rules_of tech.now).classes ((node_of node.now).measures)) }
 {
-    node.area * 10 + node.perimeter
+    let class = &tech.raw().classes.items()[0];
+    let of_area = node.area.checked_mul(i128::from(class.per_area));
+    let of_edges = node.perimeter.checked_mul(i128::from(class.per_perimeter));
+    let (Some(of_area), Some(of_edges)) = (of_area, of_edges) else {
+        return Err(AllocError);
+    };
+    of_area.checked_add(of_edges).ok_or(AllocError)
 }
 
 // Writes a blank and a number.
@@ -100,10 +117,11 @@ fn append_field(text: &mut Vec<u8>, value: i128) -> Result<(), AllocError>
 
 // Writes the name of a node without a label.
 #[tactic(auto, unfolding(crate::specs::NodeText::generated_name))]
-fn append_name(text: &mut Vec<u8>, node: &PlainNode) -> Result<(), AllocError>
-    ensures { OnOk result (text.new.items ≡ text.old.items ++ generated_name two (node_of node.now)) }
+fn append_name(text: &mut Vec<u8>, tech: &Tech, node: &PlainNode) -> Result<(), AllocError>
+    requires { IsTrue (is_type tech.now node.now.kind) }
+    ensures { OnOk result (text.new.items ≡ text.old.items ++ generated_name (rules_of tech.now) (node_of node.now)) }
 {
-    text.extend_from_slice(word_of(node.kind))?;
+    text.extend_from_slice(tech.word(TypeId(node.kind)))?;
     text.push(b'_')?;
     append_coordinate(text, node.least.x)?;
     text.push(b'_')?;

@@ -1,28 +1,29 @@
-//! The plain form of a mag text: one cell of rectangles of the layers `left` and `right`.
+//! The plain form of a mag text: one cell of rectangles.
 ghost use Rattle.std.specs.Prelude.{◌≡◌, ◌↔◌, ℕ, ◌∷◌, ◌++◌, List, IfOk, IfSome};
 ghost use Rattle.std.specs.Option.{option_map};
 ghost use Rattle.text_scan.specs.Lines.{lines_of};
 ghost use Rattle.text_scan.specs.Words.{words_of};
 ghost use Rattle.magex_top.specs.declared.plain_mag.PlainLine.{PlainLine as LineValue};
-ghost use Rattle.geo_core.specs.declared.squares.Piece.{Piece as PieceValue};
+ghost use Rattle.tech_model.specs.declared.raw.LayerId.{LayerId as LayerValue};
+ghost use Rattle.tech_model.specs.declared.raw.RawTech.{RawTech as Lists};
+ghost use Rattle.magex_top.specs.declared.plain_mag.Drawn.{Drawn as DrawnValue};
 ghost use Rattle.magex_top.specs.Drawings.{AreDrawn};
-ghost use Rattle.magex_top.specs.PlainLines.{is_coordinate, coordinate_of, if_proper, rect_of, magic_line, header_line, named_line, bracket_line, area_line, plain_line};
+ghost use Rattle.magex_top.specs.PlainLines.{coordinate_of, if_proper, rect_of, magic_line, header_line, named_line, bracket_line, area_line, plain_line};
 ghost use Rattle.magex_top.specs.PlainMag.{plain_lines, in_group, in_header, from_first_line, IsPlainForm, plain_cell};
 ghost use Rattle.magex_top.specs.PlainSections.{all_from};
 
-use crate::built_in::{LEFT, RIGHT};
-use geo_core::{Piece, Rect};
+use cell_paint::is_coordinate;
+use geo_core::Rect;
 use std::alloc::{AllocError, Global};
+use tech_model::{LayerId, Tech};
 use text_scan::{lines, number, words};
 
-#[cfg(test)]
-mod tests;
-
-/// The least number that may stand as a coordinate.
-const LEAST_COORDINATE: i64 = -67_108_858;
-
-/// The largest number that may stand as a coordinate.
-const MOST_COORDINATE: i64 = 67_108_858;
+/// A rectangle of a cell's file: the area over which a layer is painted.
+#[derive(Clone, Copy, Debug, PartialEq, Eq)]
+pub struct Drawn {
+    pub layer: LayerId,
+    pub area: Rect,
+}
 
 /// What a line of the plain form says.
 #[derive(Clone, Copy, Debug, PartialEq, Eq)]
@@ -34,7 +35,7 @@ pub enum PlainLine {
     /// The time of the last change, which is not kept.
     Timestamp,
     /// The rectangles that follow are of this layer.
-    Group(u8),
+    Group(LayerId),
     /// A rectangle.
     Area(Rect),
     /// The last line that is read.
@@ -51,7 +52,7 @@ enum Section {
     /// Before the first group, where a `tech` or a `timestamp` line may have been already.
     Header { tech: bool, timestamp: bool },
     /// The group of this layer.
-    Paint(u8),
+    Paint(LayerId),
 }
 
 /// How the reading of a text stands after a line.
@@ -65,21 +66,21 @@ enum Progress {
     NotPlain,
 }
 
-/// The rectangles of a text of the plain form, in its order, each with its layer: 1 for `left` and 2
-/// for `right`. `None` is for a text that is not of the form, and the only error is want of memory.
+/// The rectangles of a text of the plain form, in its order, each with its layer. `None` is for a text that
+/// is not of the form, and the only error is want of memory.
 ///
 /// What follows the line `<< end >>` is not read.
-pub fn plain_pieces(alloc: Global, text: &[u8]) -> Result<Option<Vec<Piece>>, AllocError>
+pub fn plain_cell(alloc: Global, tech: &Tech, text: &[u8]) -> Result<Option<Vec<Drawn>>, AllocError>
     ensures cell { IfOk result
-        (λ found. option_map (λ pieces. pieces.items) found ≡ plain_cell text.now) }
-    ensures drawn { IfOk result (λ found. IfSome found (λ pieces. AreDrawn pieces.items)) }
+        (λ found. option_map (λ drawn. drawn.items) found ≡ plain_cell tech.now text.now) }
+    ensures drawn { IfOk result (λ found. IfSome found (λ drawn. AreDrawn tech.now drawn.items)) }
 {
-    let mut pieces = Vec::new(alloc);
+    let mut drawn = Vec::new(alloc);
     let mut section = Section::Start;
     for line in lines(text) {
-        match read_line(&mut pieces, section, plain_line(line))? {
+        match read_line(&mut drawn, section, plain_line(tech, line))? {
             Progress::Open(next) => section = next,
-            Progress::Ended => return Ok(Some(pieces)),
+            Progress::Ended => return Ok(Some(drawn)),
             Progress::NotPlain => return Ok(None),
         }
     }
@@ -89,31 +90,31 @@ pub fn plain_pieces(alloc: Global, text: &[u8]) -> Result<Option<Vec<Piece>>, Al
 /// A law: a text is a plain cell exactly where its lines are `magic`, a header, groups and
 /// `<< end >>`, and then its rectangles are those of its groups.
 pub fn plain_cells_are_their_groups()
-    ensures { (text : List ℕ) (pieces : List PieceValue)
-        → (plain_cell text ≡ Some pieces) ↔ IsPlainForm (plain_lines (lines_of text)) pieces }
+    ensures { (raw : Lists) (text : List ℕ) (drawn : List DrawnValue)
+        → (plain_cell raw text ≡ Some drawn) ↔ IsPlainForm (plain_lines raw (lines_of text)) drawn }
 {}
 
-// Reads a line that stands in this section: a rectangle is put at the end of the pieces.
+// Reads a line that stands in this section: a rectangle is put at the end of those before it.
 fn read_line(
-    pieces: &mut Vec<Piece>,
+    drawn: &mut Vec<Drawn>,
     section: Section,
     line: PlainLine,
 ) -> Result<Progress, AllocError>
     ensures { IfOk result (λ progress. (rest : List LineValue)
-        → all_from progress pieces.new.items rest
-        ≡ all_from (Progress.Open section) pieces.old.items (line ∷ rest)) }
+        → all_from progress drawn.new.items rest
+        ≡ all_from (Progress.Open section) drawn.old.items (line ∷ rest)) }
 {
     match section {
         Section::Start => Ok(after_start(line)),
         Section::Header { tech, timestamp } => Ok(after_header(tech, timestamp, line)),
-        Section::Paint(layer) => after_paint(pieces, layer, line),
+        Section::Paint(layer) => after_paint(drawn, layer, line),
     }
 }
 
 fn after_start(line: PlainLine) -> Progress
-    ensures { (pieces : List PieceValue) (rest : List LineValue)
-        → all_from result pieces rest
-        ≡ option_map (λ more. pieces ++ more) (from_first_line (line ∷ rest)) }
+    ensures { (drawn : List DrawnValue) (rest : List LineValue)
+        → all_from result drawn rest
+        ≡ option_map (λ more. drawn ++ more) (from_first_line (line ∷ rest)) }
 {
     match line {
         PlainLine::Magic => Progress::Open(Section::Header {
@@ -125,9 +126,9 @@ fn after_start(line: PlainLine) -> Progress
 }
 
 fn after_header(tech: bool, timestamp: bool, line: PlainLine) -> Progress
-    ensures { (pieces : List PieceValue) (rest : List LineValue)
-        → all_from result pieces rest
-        ≡ option_map (λ more. pieces ++ more) (in_header tech timestamp (line ∷ rest)) }
+    ensures { (drawn : List DrawnValue) (rest : List LineValue)
+        → all_from result drawn rest
+        ≡ option_map (λ more. drawn ++ more) (in_header tech timestamp (line ∷ rest)) }
 {
     match line {
         PlainLine::Tech if !tech => Progress::Open(Section::Header {
@@ -144,14 +145,18 @@ fn after_header(tech: bool, timestamp: bool, line: PlainLine) -> Progress
     }
 }
 
-fn after_paint(pieces: &mut Vec<Piece>, layer: u8, line: PlainLine) -> Result<Progress, AllocError>
+fn after_paint(
+    drawn: &mut Vec<Drawn>,
+    layer: LayerId,
+    line: PlainLine,
+) -> Result<Progress, AllocError>
     ensures { IfOk result (λ progress. (rest : List LineValue)
-        → all_from progress pieces.new.items rest
-        ≡ option_map (λ more. pieces.old.items ++ more) (in_group layer (line ∷ rest))) }
+        → all_from progress drawn.new.items rest
+        ≡ option_map (λ more. drawn.old.items ++ more) (in_group layer (line ∷ rest))) }
 {
     match line {
         PlainLine::Area(area) => {
-            pieces.push(Piece { area, value: layer })?;
+            drawn.push(Drawn { layer, area })?;
             Ok(Progress::Open(Section::Paint(layer)))
         }
         PlainLine::Group(next) => Ok(Progress::Open(Section::Paint(next))),
@@ -161,8 +166,8 @@ fn after_paint(pieces: &mut Vec<Piece>, layer: u8, line: PlainLine) -> Result<Pr
 }
 
 // What a line says.
-fn plain_line(line: &[u8]) -> PlainLine
-    ensures { result ≡ plain_line (words_of line.now) }
+fn plain_line(tech: &Tech, line: &[u8]) -> PlainLine
+    ensures { result ≡ plain_line tech.now (words_of line.now) }
 {
     let mut rest = words(line);
     let Some(first) = rest.next() else {
@@ -175,7 +180,7 @@ fn plain_line(line: &[u8]) -> PlainLine
         return header_line(first, second);
     };
     let Some(fourth) = rest.next() else {
-        return bracket_line(first, second, third);
+        return bracket_line(tech, first, second, third);
     };
     let Some(fifth) = rest.next() else {
         return PlainLine::Other;
@@ -208,30 +213,27 @@ fn header_line(key: &[u8], value: &[u8]) -> PlainLine
     PlainLine::Other
 }
 
-fn bracket_line(opening: &[u8], name: &[u8], closing: &[u8]) -> PlainLine
-    ensures { result ≡ bracket_line opening.now name.now closing.now }
+fn bracket_line(tech: &Tech, opening: &[u8], name: &[u8], closing: &[u8]) -> PlainLine
+    ensures { result ≡ bracket_line tech.now opening.now name.now closing.now }
 {
     if opening == b"<<".as_slice() && closing == b">>".as_slice() {
-        named_line(name)
+        named_line(tech, name)
     } else {
         PlainLine::Other
     }
 }
 
 // The line of this name between brackets.
-fn named_line(name: &[u8]) -> PlainLine
-    ensures { result ≡ named_line name.now }
+fn named_line(tech: &Tech, name: &[u8]) -> PlainLine
+    ensures { result ≡ named_line tech.now name.now }
 {
-    if name == b"left".as_slice() {
-        return PlainLine::Group(LEFT);
-    }
-    if name == b"right".as_slice() {
-        return PlainLine::Group(RIGHT);
-    }
     if name == b"end".as_slice() {
         return PlainLine::End;
     }
-    PlainLine::Other
+    match tech.layer(name) {
+        Some(layer) => PlainLine::Group(layer),
+        None => PlainLine::Other,
+    }
 }
 
 fn area_line(key: &[u8], xbot: &[u8], ybot: &[u8], xtop: &[u8], ytop: &[u8]) -> PlainLine
@@ -263,8 +265,7 @@ fn rect_of(xbot: &[u8], ybot: &[u8], xtop: &[u8], ytop: &[u8]) -> Option<Rect>
 fn if_proper(area: Rect) -> Option<Rect>
     ensures { result ≡ if_proper area }
 {
-    let has_square = area.xlo < area.xhi && area.ylo < area.yhi;
-    has_square.then_some(area)
+    area.has_square().then_some(area)
 }
 
 fn coordinate_of(word: &[u8]) -> Option<i64>
@@ -274,10 +275,4 @@ fn coordinate_of(word: &[u8]) -> Option<i64>
         Ok(value) if is_coordinate(value) => Some(value),
         _ => None,
     }
-}
-
-fn is_coordinate(value: i64) -> bool
-    ensures { result ≡ is_coordinate value }
-{
-    LEAST_COORDINATE <= value && value <= MOST_COORDINATE
 }

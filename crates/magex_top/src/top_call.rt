@@ -1,19 +1,20 @@
 //! The top call.
-ghost use Rattle.std.specs.Prelude.{◌≡◌, ◌≢◌, ◌⊎◌, ◌<◌, ◌≤◌, [], ◌++◌, ℕ, List, Some, map, length, string_bytes, IfOk, IfSome, OnOk, OnErr, IsErrOf};
+ghost use Rattle.std.specs.Prelude.{◌≡◌, ◌≢◌, ◌⊎◌, ◌<◌, ◌≤◌, [], ◌∷◌, ◌++◌, ℕ, List, Some, map, length, string_bytes, IfOk, IfSome, OnOk, OnErr, IsErrOf};
 ghost use Rattle.text_scan.specs.Lines.{lines_of};
 ghost use Rattle.outside_io.specs.Counts.{Rose};
 ghost use Rattle.outside_io.specs.Files.{Files};
 ghost use Rattle.outside_io.specs.Told.{AppendsPrefix, with_back};
-ghost use Rattle.magex_top.specs.declared.status.Status.{Status as IsStatus};
-ghost use Rattle.magex_top.specs.Answers.{AreDrawnCells, state_of};
-ghost use Rattle.magex_top.specs.Runs.{EndsByItself, IsEndOfScript, first_state, RunMeans, ScriptMeans, usage_line, ReportsBeginningOf};
+ghost use Rattle.magex_top.specs.Answers.{state_of, answer_bytes, answer_tells, IsSession};
+ghost use Rattle.magex_top.specs.Runs.{EndsByItself, IsEndOfScript, first_state, RunMeans, RunBegins, IsBegun, BeginsReply, ScriptMeans, usage_line, ReportsBeginningOf};
 ghost use Rattle.magex_top.specs.Sessions.{Effect, LineMeans, LinesMean, most_bytes};
 
-use crate::cells::Cell;
+use crate::cells::Session;
+use crate::refusals::refusal_line;
+use crate::replies::Answer;
 use crate::session::answer_line;
 use crate::status::{Halt, Status};
 use outside_io::{LONGEST_FILE, PutFault, ReadAllFault, Shelf, Sink, Source, read_all, write_all};
-use std::alloc::Global;
+use std::alloc::{AllocError, Global};
 use std::sync::ledger::Ledger;
 use step_count::Steps;
 use text_scan::lines;
@@ -38,12 +39,15 @@ pub fn run<S: Source, K: Sink, F: Shelf, L: Ledger>(
         × (K.written report.new ≡ Some (before ++ reply)) × (F.files shelf.new ≡ Some after) }
     ensures read_to_end { (result ≡ Status.Done) ⊎ (result ≡ Status.Told) → IfSome (S.left script.new) (λ left. left ≡ []) }
 
-    // However it ends, it has reported the beginning of what the script means, and changed no file.
-    ensures beginning { (text before reply : List ℕ) (files after : Files) (status : IsStatus) →
+    // However it ends, it has reported the whole replies to some of the script's first lines and the beginning of the next
+    // line's reply, or of the usage line, and changed no file.
+    ensures beginning { (text before : List ℕ) (files : Files) →
         S.left script.old ≡ Some text → K.written report.old ≡ Some before → F.files shelf.old ≡ Some files →
-        RunMeans (map string_bytes words.now) text files reply after status →
-        ReportsBeginningOf (K.written report.new) before reply }
+        RunBegins (map string_bytes words.now) text files before (K.written report.new) }
     ensures files { F.files shelf.new ≡ F.files shelf.old }
+
+    // A script that could not be read runs no line: the report and the shelf are as they were.
+    ensures unread { (S.faults script.new ≡ S.faults script.old → ⊥) → (report.new ≡ report.old) × (shelf.new ≡ shelf.old) }
 
     // Each fault has its cause, and no count of faults rises in a run that ends by itself.
     ensures read_fault { result ≡ Status.ReadFault →
@@ -57,8 +61,11 @@ pub fn run<S: Source, K: Sink, F: Shelf, L: Ledger>(
 
     // When it ends with usage, and when with a script that is too long.
     ensures usage { words.now ≢ [] → (result ≡ Status.Usage) ⊎ ((result ≡ Status.WriteFault) ⊎ (result ≡ Status.Memory)) }
+    ensures told_usage { words.now ≢ [] → EndsByItself result → K.written report.new ≡ with_back (K.written report.old) usage_line }
+    ensures untouched { words.now ≢ [] → (script.new ≡ script.old) × (shelf.new ≡ shelf.old) }
     ensures no_usage { words.now ≡ [] → result ≢ Status.Usage }
     ensures too_long { result ≡ Status.ScriptTooLong → (words.now ≡ []) × IfSome (S.left script.old) (λ text. most_bytes < length text) }
+    ensures silent { result ≡ Status.ScriptTooLong → (report.new ≡ report.old) × (shelf.new ≡ shelf.old) }
 
     ensures long { (text : List ℕ) → words.now ≡ [] → S.left script.old ≡ Some text → most_bytes < length text →
         (result ≡ Status.ScriptTooLong) ⊎ ((result ≡ Status.ReadFault) ⊎ (result ≡ Status.Memory)) }
@@ -106,9 +113,8 @@ fn run_script<K: Sink, F: Shelf>(
         K.written report.old ≡ Some before → F.files shelf.old ≡ Some files →
         EndsByItself result → (reply : List ℕ) × (after : Files) × ScriptMeans text.now files reply after result
         × (K.written report.new ≡ Some (before ++ reply)) × (F.files shelf.new ≡ Some after) }
-    ensures beginning { (before reply : List ℕ) (files after : Files) (status : IsStatus) →
-        K.written report.old ≡ Some before → F.files shelf.old ≡ Some files → ScriptMeans text.now files reply after status →
-        ReportsBeginningOf (K.written report.new) before reply }
+    ensures beginning { (before : List ℕ) (files : Files) →
+        K.written report.old ≡ Some before → F.files shelf.old ≡ Some files → IsBegun text.now files before (K.written report.new) }
     ensures files { F.files shelf.new ≡ F.files shelf.old }
     ensures cases { IsEndOfScript result }
     ensures read_fault { result ≡ Status.ReadFault → Rose (F.fetch_faults shelf.old) (F.fetch_faults shelf.new) }
@@ -134,9 +140,8 @@ fn run_lines<K: Sink, F: Shelf>(
     ensures effect { (files : Files) (before : List ℕ) → F.files shelf.old ≡ Some files → K.written report.old ≡ Some before →
         IfOk result (λ told. (effect : Effect) × LinesMean 1 (first_state files) (lines_of text.now) effect
         × (K.written report.new ≡ Some (before ++ effect.reply)) × (effect.state.files ≡ files) × (effect.told ≡ told)) }
-    ensures beginning { (files : Files) (before : List ℕ) (effect : Effect) →
-        F.files shelf.old ≡ Some files → K.written report.old ≡ Some before → LinesMean 1 (first_state files) (lines_of text.now) effect →
-        ReportsBeginningOf (K.written report.new) before effect.reply }
+    ensures beginning { (before : List ℕ) (files : Files) →
+        K.written report.old ≡ Some before → F.files shelf.old ≡ Some files → IsBegun text.now files before (K.written report.new) }
     ensures files { F.files shelf.new ≡ F.files shelf.old }
     ensures read_fault { IsErrOf result Halt.ReadFault → Rose (F.fetch_faults shelf.old) (F.fetch_faults shelf.new) }
     ensures write_fault { IsErrOf result Halt.WriteFault → Rose (K.faults report.old) (K.faults report.new) }
@@ -144,12 +149,15 @@ fn run_lines<K: Sink, F: Shelf>(
     ensures calm_fetch { OnOk result (F.fetch_faults shelf.new ≡ F.fetch_faults shelf.old) }
     ensures calm_store { F.store_faults shelf.new ≡ F.store_faults shelf.old }
 {
-    let mut cells = Vec::new(alloc);
+    let mut session = Session {
+        tech: None,
+        cells: Vec::new(alloc),
+    };
     let mut told = false;
     let mut number = 0;
     for line in lines(text) {
         number += 1;
-        let tells = run_line(alloc, &mut cells, report, shelf, number, line)?;
+        let tells = run_line(alloc, &mut session, report, shelf, number, line)?;
         told |= tells;
     }
     Ok(told)
@@ -158,21 +166,21 @@ fn run_lines<K: Sink, F: Shelf>(
 // Answers a line, and says whether the answer tells of something refused.
 fn run_line<K: Sink, F: Shelf>(
     alloc: Global,
-    cells: &mut Vec<Cell>,
+    session: &mut Session,
     report: &mut K,
     shelf: &mut F,
     number: usize,
     line: &[u8],
 ) -> Result<bool, Halt>
-    requires { AreDrawnCells cells.old.items }
+    requires { IsSession session.old }
     ensures effect { (files : Files) (before : List ℕ) → F.files shelf.old ≡ Some files → K.written report.old ≡ Some before →
         IfOk result (λ told. (text : List ℕ)
-        × LineMeans number (state_of cells.old.items files) line.now (record { state = state_of cells.new.items files; reply = text; told = told })
+        × LineMeans number (state_of session.old files) line.now (record { state = state_of session.new files; reply = text; told = told })
         × (K.written report.new ≡ Some (before ++ text))) }
-    ensures interrupted { (files : Files) (before : List ℕ) (effect : Effect) →
-        F.files shelf.old ≡ Some files → K.written report.old ≡ Some before → LineMeans number (state_of cells.old.items files) line.now effect →
-        OnErr result (ReportsBeginningOf (K.written report.new) before effect.reply) }
-    ensures drawn { AreDrawnCells cells.new.items }
+    ensures interrupted { (files : Files) (before : List ℕ) → F.files shelf.old ≡ Some files → K.written report.old ≡ Some before →
+        OnErr result ((front : List ℕ) × ((front ≡ []) ⊎ BeginsReply number (state_of session.old files) (line.now ∷ []) front)
+        × (K.written report.new ≡ Some (before ++ front))) }
+    ensures kept { IsSession session.new }
     ensures files { F.files shelf.new ≡ F.files shelf.old }
     ensures read_fault { IsErrOf result Halt.ReadFault → Rose (F.fetch_faults shelf.old) (F.fetch_faults shelf.new) }
     ensures write_fault { IsErrOf result Halt.WriteFault → Rose (K.faults report.old) (K.faults report.new) }
@@ -180,9 +188,21 @@ fn run_line<K: Sink, F: Shelf>(
     ensures calm_fetch { OnOk result (F.fetch_faults shelf.new ≡ F.fetch_faults shelf.old) }
     ensures calm_store { F.store_faults shelf.new ≡ F.store_faults shelf.old }
 {
-    let answer = answer_line(alloc, cells, shelf, number, line)?;
-    write_reply(report, &answer.text)?;
-    Ok(answer.told)
+    let answer = answer_line(alloc, session, shelf, line)?;
+    let (text, told) = answer_text(alloc, number, answer)?;
+    write_reply(report, &text)?;
+    Ok(told)
+}
+
+// What is written of an answer, and whether it tells of something refused.
+fn answer_text(alloc: Global, number: usize, answer: Answer) -> Result<(Vec<u8>, bool), AllocError>
+    ensures text { IfOk result (λ written. written.0.items ≡ answer_bytes number answer) }
+    ensures told { IfOk result (λ written. written.1 ≡ answer_tells answer) }
+{
+    match answer {
+        Answer::Reply(text) => Ok((text, false)),
+        Answer::Refused(fault) => Ok((refusal_line(alloc, number, &fault)?, true)),
+    }
 }
 
 // Writes a reply to the report.

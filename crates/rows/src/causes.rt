@@ -1,22 +1,27 @@
 //! What stands after a call outside has failed, and what small pieces change: nothing.
 
 use crate::outside::{CALM, Files, Outside, run_script};
+use crate::techs::TWO;
 use magex_top::Status;
 use std::test::Fail;
 
-const FILES: Files<'static> = &[(b"a.mag", b"magic\n<< left >>\nrect 0 0 1 1\n<< end >>\n")];
+const FILES: Files<'static> = &[
+    (b"two.tech", TWO),
+    (b"a.mag", b"magic\n<< left >>\nrect 0 0 1 1\n<< end >>\n"),
+];
 
-const SCRIPT: &[u8] = b"nodes b\nload a\nnodes a\n";
+const SCRIPT: &[u8] = b"tech two\nnodes b\nload a\nnodes a\n";
 
 /// The replies to the lines of the script.
-const REPLIES: [&[u8]; 3] = [
-    b"line 1: E8 no cell b\n",
+const REPLIES: [&[u8]; 4] = [
+    b"tech two: 2 types 1 classes 0 fets\n",
+    b"line 2: E8 no cell b\n",
     b"load a: 1 cells\n",
     b"node \"left_0_0#\" 0 14 0 0 left 1 4\n",
 ];
 
 const REPORT: &[u8] =
-    b"line 1: E8 no cell b\nload a: 1 cells\nnode \"left_0_0#\" 0 14 0 0 left 1 4\n";
+    b"tech two: 2 types 1 classes 0 fets\nline 2: E8 no cell b\nload a: 1 cells\nnode \"left_0_0#\" 0 14 0 0 left 1 4\n";
 
 #[test]
 fn pieces_of_one_byte_change_nothing(rt: HostRuntime) -> Result<(), Fail> {
@@ -49,21 +54,28 @@ fn a_failed_read_runs_no_line(rt: HostRuntime) -> Result<(), Fail> {
 
 #[test]
 fn a_failed_fetch_ends_the_run(rt: HostRuntime) -> Result<(), Fail> {
-    let outside = Outside {
-        fetches: &[1],
-        ..CALM
-    };
-    let outcome = run_script(rt.alloc(), SCRIPT, FILES, &outside)?;
-    assert_eq!(rt; outcome.report.as_slice(), REPLIES[0]);
-    assert_eq!(rt; outcome.status, Status::ReadFault);
-    assert_eq!(rt; outcome.shelf_calls, 1);
-    assert_eq!(rt; outcome.writes, 1);
+    let before = [
+        b"".as_slice(),
+        &REPORT[..REPLIES[0].len() + REPLIES[1].len()],
+    ];
+    for (place, report) in before.iter().enumerate() {
+        let number = place as u64 + 1;
+        let outside = Outside {
+            fetches: &[number],
+            ..CALM
+        };
+        let outcome = run_script(rt.alloc(), SCRIPT, FILES, &outside)?;
+        assert_eq!(rt; outcome.report.as_slice(), *report);
+        assert_eq!(rt; outcome.status, Status::ReadFault);
+        assert_eq!(rt; outcome.shelf_calls, number);
+        assert_eq!(rt; outcome.writes, 2 * (number - 1));
+    }
     Ok(())
 }
 
 #[test]
 fn a_failed_write_ends_the_run(rt: HostRuntime) -> Result<(), Fail> {
-    for number in 1u64..4 {
+    for number in 1u64..5 {
         let outside = Outside {
             writes: &[number],
             ..CALM
@@ -83,7 +95,7 @@ fn a_failed_write_ends_the_run(rt: HostRuntime) -> Result<(), Fail> {
 
 #[test]
 fn a_failed_write_leaves_the_beginning_of_the_report(rt: HostRuntime) -> Result<(), Fail> {
-    for number in 1u64..73 {
+    for number in 1u64..108 {
         let outside = Outside {
             writes: &[number],
             largest: 1,

@@ -1,4 +1,5 @@
-//! Whole runs of the top call, as tables: what a script over files in memory reports, and with which status it ends.
+//! Whole runs of the top call, as tables: what a script over files in memory reports, and with which status it ends. Beside
+//! them what painting does in a technology with contacts.
 #![tactic(auto)]
 
 #[cfg(test)]
@@ -6,6 +7,10 @@ mod causes;
 #[cfg(test)]
 mod outside;
 #[cfg(test)]
+mod painting;
+#[cfg(test)]
 mod plain_texts;
 #[cfg(test)]
 mod reports;
+#[cfg(test)]
+mod techs;

@@ -1,10 +1,13 @@
 //! Which mag texts are plain.
 
-use crate::outside::{CALM, run_script};
+use crate::outside::{CALM, Files, run_script};
 use std::test::Fail;
 
+const TWO: &[u8] =
+    b"tech\n two\nend\nplanes\n wire\nend\ntypes\n wire left,l\n wire right\nend\nconnect\nend\nextract\n resist left,right 100\nend\n";
+
 /// Texts that are plain, though they look odd.
-const PLAIN: [&[u8]; 8] = [
+const PLAIN: [&[u8]; 10] = [
     b"magic\n<< end >>\n",
     b"magic\r\ntech anything\r\ntimestamp 7\r\n<< left >>\r\nrect 0 0 1 1\r\n<< end >>\r\n",
     b"magic\ntimestamp -5\ntech x\n<< right >>\n<< left >>\n<< right >>\nrect 0 0 1 1\n<< end >>",
@@ -13,10 +16,12 @@ const PLAIN: [&[u8]; 8] = [
     b"magic\n<< left >>\nrect 0 0 1 1\nrect 0 0 1 1\nrect 0 0 2 2\n<< end >>\n",
     b"magic\n<< left >>\nrect 007 -0 8 01\n<< end >>\n",
     b"magic\n<< end >>\ntech\nrect 1\nuse x\n",
+    b"magic\n<< l >>\nrect 0 0 1 1\n<< left >>\n<< end >>\n",
+    b"magic\n<< right >>\nrect -67108858 -4 -1 67108858\n<< left >>\nrect -3 -67108858 67108858 0\n<< end >>",
 ];
 
 /// Texts that are not.
-const OTHER: [&[u8]; 34] = [
+const OTHER: [&[u8]; 37] = [
     b"",
     b"\n",
     b"magi\n<< end >>\n",
@@ -51,13 +56,20 @@ const OTHER: [&[u8]; 34] = [
     b"magic\n<< left >>\nrect -67108859 0 1 1\n<< end >>\n",
     b"magic\nuse a b\ntransform 1 0 0 0 1 0\nbox 0 0 1 1\n<< end >>\n",
     b"magic\n<< left >>\ntri 0 0 1 1 e\n<< end >>\n",
+    b"magic\n<< Left >>\n<< end >>\n",
+    b"magic\n<< left,l >>\n<< end >>\n",
+    b"magic\n<< wire >>\n<< end >>\n",
 ];
 
 #[test]
 fn plain_texts_are_loaded(rt: HostRuntime) -> Result<(), Fail> {
     for text in PLAIN {
-        let outcome = run_script(rt.alloc(), b"load a\n", &[(b"a.mag", text)], &CALM)?;
-        assert_eq!(rt; outcome.report.as_slice(), b"load a: 1 cells\n".as_slice());
+        let files: Files<'_> = &[(b"two.tech", TWO), (b"a.mag", text)];
+        let outcome = run_script(rt.alloc(), b"tech two\nload a\n", files, &CALM)?;
+        assert_eq!(rt;
+            outcome.report.as_slice(),
+            b"tech two: 2 types 1 classes 0 fets\nload a: 1 cells\n".as_slice()
+        );
     }
     Ok(())
 }
@@ -65,10 +77,11 @@ fn plain_texts_are_loaded(rt: HostRuntime) -> Result<(), Fail> {
 #[test]
 fn other_texts_are_refused(rt: HostRuntime) -> Result<(), Fail> {
     for text in OTHER {
-        let outcome = run_script(rt.alloc(), b"load a\nnodes a\n", &[(b"a.mag", text)], &CALM)?;
+        let files: Files<'_> = &[(b"two.tech", TWO), (b"a.mag", text)];
+        let outcome = run_script(rt.alloc(), b"tech two\nload a\nnodes a\n", files, &CALM)?;
         assert_eq!(rt;
             outcome.report.as_slice(),
-            b"line 1: E26 not built\nline 2: E8 no cell a\n".as_slice()
+            b"tech two: 2 types 1 classes 0 fets\nline 2: E26 not built\nline 3: E8 no cell a\n".as_slice()
         );
     }
     Ok(())

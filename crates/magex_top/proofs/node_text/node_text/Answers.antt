@@ -1,22 +1,49 @@
-use Rattle.std.proofs.Common.{◌≡◌, List, map, ap, subst, sym, ◌∙◌}
+use Rattle.std.proofs.Common.{◌∙◌, List, map, sym, subst, ap, arith}
+use Rattle.std.specs.Prelude.{IsTrue, All}
 use Rattle.std.proofs.lemmas.Result.{IfOk-weaker}
 use Rattle.geo_core.specs.declared.squares.Piece.{Piece}
-use Rattle.geo_core.specs.declared.squares.Square.{Square}
-use Rattle.layout_model.specs.Layouts.{Layout, painted, on_plane}
+use Rattle.tech_model.specs.Types.{is_type}
 use Rattle.layout_model.specs.Nodes.{AreNodes}
-use Rattle.magex_top.specs.BuiltIn.{two}
+use Rattle.layout_model.specs.Technologies.{rules_of}
+use Rattle.cell_paint.specs.Painting.{kinds_on, paint_range}
+use Rattle.cell_paint.specs.Paints.{layout_of}
+use Rattle.flood_nodes.specs.Tiles as tiles
+use Rattle.magex_top.specs.declared.nodes.PlainNode.{PlainNode}
+use Rattle.magex_top.specs.NodeText.{node_lines}
 use Rattle.magex_top.specs.PlainNodes.{node_of}
+use Rattle.magex_top.specs.Uniform.{uniform}
+use Rattle.magex_top.proofs.PlainTechLaws.{plain_parts}
+use Rattle.magex_top.proofs.PlainTechTiles.{range_is_near, tiles_are_pieces}
+use Rattle.magex_top.proofs.UniformNodes.{nodes_of_paint, nodes_have_types}
 use Rattle.magex_top.proofs.node_text.node_text.Goals as goal
 
--- what shows the same on each square is one layout
-same_layout : (a b : List Piece) → ((square : Square) → painted a square ≡ painted b square) → on_plane 0 (painted a) ≡ on_plane 0 (painted b)
-same_layout a b same = ap (on_plane 0) (λ i square. same square i)
+pub tiles_in-requires-clause-plane : goal.tiles_in-requires-clause-plane
+tiles_in-requires-clause-plane c = let one = (plain_parts c.args.tech.now c.requires.plain).one_plane in omega arith
+
+pub nodes_of-requires-clause-tiles : goal.nodes_of-requires-clause-tiles
+nodes_of-requires-clause-tiles c =
+    subst (λ (l : List Piece). tiles.AreTiles l) (sym c.deref.ensures.value)
+    (tiles_are_pieces (kinds_on (layout_of c.args.paint.now) 0) paint_range c.in-Ok.pieces.items range_is_near c.in-Ok.ensures.tiles)
+
+pub append_nodes-requires-clause-types : goal.append_nodes-requires-clause-types
+append_nodes-requires-clause-types c =
+    let raw = c.args.tech.now in
+    let paint = c.args.paint.now in
+    let nodes = c.in_ok-nodes.nodes.items in
+    let found = subst (λ (l : List Piece). AreNodes uniform (tiles.layout_of l) (map node_of nodes)) c.deref.ensures.value c.in_ok-nodes.ensures.nodes in
+    let are = nodes_of_paint raw paint c.in-Ok.pieces.items (map node_of nodes) c.raw.ensures.well_formed c.requires.kinds c.requires.planes c.requires.plain c.in-Ok.ensures.tiles c.in-Ok.ensures.sound found in
+    subst (λ (l : List PlainNode). All (λ (node : PlainNode). IsTrue (is_type raw node.kind)) l) (sym c.deref-2.ensures.value)
+    (nodes_have_types raw paint nodes c.requires.kinds c.requires.planes c.requires.plain c.in-Ok.ensures.sound are)
+
+pub append_nodes-requires-clause-one_class : goal.append_nodes-requires-clause-one_class
+append_nodes-requires-clause-one_class c = (plain_parts c.args.tech.now c.requires.plain).one_class
 
 pub returns : goal.returns
 returns c =
-    let nodes = map node_of c.in_ok-nodes.nodes.items in
-    let of_pieces = rw c.deref.ensures.value at c.in_ok-nodes.ensures.nodes in
-    let same = same_layout c.in_ok-pieces.pieces.items c.args.drawn.now c.in_ok-pieces.ensures.shows in
-    IfOk-weaker c.append_nodes.result _ _
-    (λ text is. (nodes, subst (λ (layout : Layout). AreNodes two layout nodes) same of_pieces, is))
-    (rw c.deref-2.ensures.value at c.append_nodes.ensures)
+    let raw = c.args.tech.now in
+    let paint = c.args.paint.now in
+    let nodes = c.in_ok-nodes.nodes.items in
+    let found = subst (λ (l : List Piece). AreNodes uniform (tiles.layout_of l) (map node_of nodes)) c.deref.ensures.value c.in_ok-nodes.ensures.nodes in
+    let are = nodes_of_paint raw paint c.in-Ok.pieces.items (map node_of nodes) c.raw.ensures.well_formed c.requires.kinds c.requires.planes c.requires.plain c.in-Ok.ensures.tiles c.in-Ok.ensures.sound found in
+    let same = ap (λ (l : List PlainNode). node_lines (rules_of raw) (map node_of l)) c.deref-2.ensures.value in
+    IfOk-weaker c.append_nodes.result _ _ (λ text is. (map node_of nodes, are, is ∙ same)) c.append_nodes.ensures

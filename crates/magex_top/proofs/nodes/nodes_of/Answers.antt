@@ -13,7 +13,7 @@ use Rattle.flood_nodes.specs.Tiles.{layout_of}
 use Rattle.flood_nodes.specs.Alike.{areas_of}
 use Rattle.flood_nodes.proofs.TileMeasures.{areas_are_proper, areas_are_near, areas_are_disjoint}
 use Rattle.magex_top.specs.declared.nodes.PlainNode.{PlainNode}
-use Rattle.magex_top.specs.BuiltIn.{two}
+use Rattle.magex_top.specs.Uniform.{uniform}
 use Rattle.magex_top.specs.PlainNodes.{node_of, IsMeasured}
 use Rattle.magex_top.specs.Gathering.{AreGathered, AreTakenOff, IsShort}
 use Rattle.magex_top.proofs.FoundNodes.{nodes_are_found, taken_off_is_measured}
@@ -99,7 +99,7 @@ returns-clause-nodes c =
     let gathered = subst (λ (ns : List ℕ). AreGathered pieces ns nodes) c.deref.ensures.value c.in_ok-nodes.ensures in
     let listed = subst (λ (rects : List Rect). Lists (IsContact rects) contacts) (c.deref-2.ensures.value ∙ c.in_ok-areas.ensures) c.in-Ok-touching.ensures in
     let taken = taken_off numbers c.deref-3.result.now contacts c.deref-4.result.now nodes c.deref_mut.result.now after c.deref-3.ensures.value c.deref-4.ensures.value c.deref_mut.ensures.value c.take_off.ensures in
-    subst (λ (ns : List PlainNode). AreNodes two (layout_of pieces) (map node_of ns)) (sym (after_write nodes after c.in_ok-nodes.nodes.len (omega arith)))
+    subst (λ (ns : List PlainNode). AreNodes uniform (layout_of pieces) (map node_of ns)) (sym (after_write nodes after c.in_ok-nodes.nodes.len (omega arith)))
     (nodes_are_found pieces numbers contacts nodes after c.requires.tiles c.requires.in_order c.in-Ok.ensures listed gathered taken)
 
 pub returns-clause-measured : goal.returns-clause-measured

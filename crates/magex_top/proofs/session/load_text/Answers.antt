@@ -1,15 +1,32 @@
-use Rattle.std.proofs.Common.{rules}
+use Rattle.std.proofs.Common.{◌≡◌, ◌++◌, [], ◌∷◌, Some, length, rules}
 use Rattle.std.proofs.lemmas.List.Elements.{All-push}
-use Rattle.magex_top.specs.Drawings.{AreDrawn}
+use Rattle.layout_model.specs.Places.{Place}
+use Rattle.cell_paint.specs.Paints.{layout_of}
 use Rattle.magex_top.specs.declared.cells.Cell.{Cell}
-use Rattle.magex_top.proofs.Loads.{not_built-not_absent}
+use Rattle.magex_top.specs.Answers.{IsCellOf}
+use Rattle.magex_top.specs.Drawings.{painted_all}
+use Rattle.magex_top.specs.PlainMag.{plain_cell}
+use Rattle.magex_top.specs.Sessions.{loaded_text}
+use Rattle.magex_top.proofs.LoadLaws.{load_done}
 use Rattle.magex_top.proofs.session.load_text.Goals as goal
 
-pub returns-in_ok-add_cell-in-Some-clause-drawn : goal.returns-in_ok-add_cell-in-Some-clause-drawn
-returns-in_ok-add_cell-in-Some-clause-drawn c =
-    let drawn = rw c.in-Some.is at c.in_ok-plain_pieces.ensures.drawn in
-    rw c.in_ok-add_cell-in-Some.ensures.added (All-push (λ (cell : Cell). AreDrawn cell.pieces) _ _ c.requires (rw c.of-pieces.ensures drawn))
+pub returns-clause-effect : goal.returns-clause-effect
+returns-clause-effect c number files =
+    let raw = c.args.tech.now in
+    let drawn = c.in-Some.drawn.items in
+    let one : Cell = record { name = c.in_ok-name.name; paint = c.in-Some-2.paint } in
+    let plain : plain_cell raw c.args.text.now ≡ Some drawn = search rules in
+    let added : c.add_cell.new.cells.items ≡ c.args.cells.now.items ++ one ∷ [] = c.in_ok-add_cell.ensures.added in
+    let named : one.name ≡ c.args.cell.now = search rules in
+    let replied : c.in_ok-reply.reply.items ≡ loaded_text c.args.cell.now = search rules in
+    let shown : (place : Place) → layout_of one.paint place ≡ painted_all raw c.deref.result.now place = rw c.in-Some-2.is at c.in_ok-paint.ensures.painted in
+    let painted = rw c.deref.ensures.value at shown in
+    load_done number raw c.args.cell.now c.args.text.now c.args.cells.now.items c.add_cell.new.cells.items files drawn one c.in_ok-reply.reply.items plain added named painted replied
 
-pub returns-in_ok-refusal-in-None-clause-present : goal.returns-in_ok-refusal-in-None-clause-present
-returns-in_ok-refusal-in-None-clause-present c absent =
-    not_built-not_absent c.args.number c.in_ok-refusal-in-None.field-0.text.items c.in_ok-refusal-in-None.ensures.text absent
+pub returns-clause-kept : goal.returns-clause-kept
+returns-clause-kept c =
+    let raw = c.args.tech.now in
+    let one : Cell = record { name = c.in_ok-name.name; paint = c.in-Some-2.paint } in
+    let kinds : one.paint.kinds ≡ raw.types = rw c.in-Some-2.is at c.in_ok-paint.ensures.kinds in
+    let planes : length one.paint.planes ≡ length raw.planes = rw c.in-Some-2.is at c.in_ok-paint.ensures.planes in
+    rw c.in_ok-add_cell.ensures.added (All-push (IsCellOf raw) c.args.cells.now.items one c.requires (record { kinds = kinds; planes = planes }))

@@ -1,8 +1,6 @@
-use Rattle.std.proofs.Common.{◌≡◌, ◌∙◌, sym, ap, subst, refl, List, ℕ, Bool, true, false, Some, if◌then◌else◌}
+use Rattle.std.proofs.Common.{◌≡◌, ◌∙◌, sym, ap, refl, Bool, true, false, Some, if◌then◌else◌}
 use Rattle.outside_io.specs.Files.{Files}
-use Rattle.magex_top.specs.declared.status.Status.{Status}
 use Rattle.magex_top.specs.declared.status.Status.TheVariants.{Done, Told}
-use Rattle.magex_top.specs.Runs.{ReportsBeginningOf}
 use Rattle.magex_top.proofs.top_call.run_script.Goals as goal
 
 told_status : (told holds : Bool) → told ≡ holds → holds ≡ true → Told ≡ (if told then Told else Done)
@@ -30,15 +28,3 @@ returns-in-Ok-false-clause-meaning g c before files told files_told ends =
       h.2,
       c.in-Ok-false.ensures.files ∙ files_told ∙ ap (λ (f : Files). Some f) (sym h.3),
     )
-
-pub returns-in-Ok-true-clause-beginning : goal.returns-in-Ok-true-clause-beginning
-returns-in-Ok-true-clause-beginning g c before reply files after status told files_told means =
-    subst (λ (r : List ℕ). ReportsBeginningOf (g.K.Sink.written c.run_lines.new.report) before r) (sym means.2) (c.in-Ok-true.ensures.beginning files before means.0 files_told told means.1)
-
-pub returns-in-Ok-false-clause-beginning : goal.returns-in-Ok-false-clause-beginning
-returns-in-Ok-false-clause-beginning g c before reply files after status told files_told means =
-    subst (λ (r : List ℕ). ReportsBeginningOf (g.K.Sink.written c.run_lines.new.report) before r) (sym means.2) (c.in-Ok-false.ensures.beginning files before means.0 files_told told means.1)
-
-pub returns-in-Err-clause-beginning : goal.returns-in-Err-clause-beginning
-returns-in-Err-clause-beginning g c before reply files after status told files_told means =
-    subst (λ (r : List ℕ). ReportsBeginningOf (g.K.Sink.written c.run_lines.new.report) before r) (sym means.2) (c.in-Err.ensures.beginning files before means.0 files_told told means.1)
