@@ -1,12 +1,12 @@
 -- What is gathered by the numbers of pieces are the nodes of their layout.
-use Rattle.std.proofs.Common.{◌≡◌, ◌≢◌, ℕ, suc, ◌<◌, ℤ, pos, ◌+ℤ◌, ◌-ℤ◌, ◌*ℤ◌, ◌≤ℤ◌, Bool, true, false, not, cond, eqb, List, [], ◌∷◌, map, length, get_or, Some, inl, inr, refl, sym, ◌∙◌, ap, subst, arith}
+use Rattle.std.proofs.Common.{◌≡◌, ◌≢◌, ℕ, suc, ◌<◌, ℤ, pos, ◌+ℤ◌, ◌-ℤ◌, ◌*ℤ◌, Bool, true, false, cond, eqb, List, [], ◌∷◌, map, length, get_or, Some, inl, inr, refl, sym, ◌∙◌, ap, subst, arith}
 use Rattle.std.proofs.lemmas.Bool.{cases_lt}
 use Rattle.std.proofs.lemmas.Bool.Decides.{nat_tests}
 use Rattle.std.proofs.lemmas.Int.{ints, by_lt_z}
 use Rattle.std.proofs.lemmas.List.{get_or-map, length-map, same_lists, get_or_default}
 use Rattle.std.proofs.lemmas.List.FromFn.{length-map-range_with_len, get_or-map-range_with_len}
 use Rattle.std.proofs.lemmas.Option.{slice_get_within, slice_get-get_or, get_or_from_slice_get, same_Some}
-use Rattle.std.specs.Prelude.{slice_get, All}
+use Rattle.std.specs.Prelude.{slice_get}
 use Rattle.geo_core.specs.declared.squares.Square.{Square}
 use Rattle.geo_core.specs.declared.squares.Rect.{Rect}
 use Rattle.geo_core.specs.declared.squares.Piece.{Piece}
@@ -15,18 +15,18 @@ use Rattle.geo_core.specs.SquareOrder.{ComesBefore, ComesNoLater}
 use Rattle.geo_core.proofs.SquareOrderLaws.{ComesBefore-trans}
 use Rattle.totals.specs.Chain.Chain.{stay}
 use Rattle.totals.specs.Lists.{In, Lists}
-use Rattle.totals.specs.Total.{sum_on, Total, one_if}
+use Rattle.totals.specs.Total.{sum_on, Total}
 use Rattle.totals.proofs.Chains.{Chain-carries}
 use Rattle.totals.proofs.Members.{In-map_source, In-index, In-map, In-get_or}
-use Rattle.totals.proofs.Sums.{sum_on-same, sum_on-sub, sum_on-map, sum_on-scale, sum_on-le, sum_on-zero}
+use Rattle.totals.proofs.Sums.{sum_on-same, sum_on-sub, sum_on-map, sum_on-scale}
 use Rattle.totals.proofs.Totals.{Total-iff, Total-at}
 use Rattle.sweeps.specs.declared.contacts.Contact.{Contact}
 use Rattle.sweeps.specs.Rects.{rect_at, places_of}
 use Rattle.sweeps.specs.Contacts.{shared_length, IsContact}
 use Rattle.sweeps.specs.Squares.{area_of, perimeter_of}
 use Rattle.sweeps.proofs.BothWays.{Lists-places_of, contacts_both_ways}
-use Rattle.layout_model.specs.Places.{Place, neighbours, IsBefore, IsNoLater}
-use Rattle.layout_model.specs.Layouts.{Layout, is_material, same_material}
+use Rattle.layout_model.specs.Places.{Place, IsBefore, IsNoLater}
+use Rattle.layout_model.specs.Layouts.{is_material, same_material}
 use Rattle.layout_model.specs.Links.{AreLinked, AreOneNode}
 use Rattle.layout_model.specs.Measures.{area_at, perimeter_at}
 use Rattle.layout_model.specs.Nodes.{Node, IsNode, AreInOrder, AreNodes}
@@ -35,14 +35,13 @@ use Rattle.flood_nodes.specs.Alike.{areas_of}
 use Rattle.flood_nodes.specs.Tiles.{AreTiles, layout_of, LiesIn}
 use Rattle.flood_nodes.specs.Regions.{AreRegions}
 use Rattle.flood_nodes.proofs.TileLaws.{tile_is_proper, tile_has_material, material_lies_in_tile, lies_in_one_tile, layout_of-tile}
-use Rattle.flood_nodes.proofs.TileMeasures.{areas_are_proper, areas_are_near, on_plane_0, tile_area, tile_perimeter}
+use Rattle.flood_nodes.proofs.TileMeasures.{areas_are_proper, on_plane_0, tile_area, tile_perimeter}
 use Rattle.magex_top.specs.declared.nodes.PlainNode.{PlainNode}
 use Rattle.magex_top.specs.Uniform.{uniform}
 use Rattle.geo_core.specs.Areas.{corner_of}
 use Rattle.magex_top.specs.PieceOrder.{AreByCorner}
-use Rattle.magex_top.specs.PlainNodes.{node_of, IsMeasured}
+use Rattle.magex_top.specs.PlainNodes.{node_of}
 use Rattle.magex_top.specs.Gathering.{total_of, length_for, shared_of, AreGathered, AreTakenOff}
-use Rattle.magex_top.proofs.TakeOffLaws.{contacts_are_short, shared_of-not_negative}
 use Rattle.geo_core.proofs.CornerLaws.{no_piece, corner_covers}
 
 -- the place lies in the piece at this index, which has the number
@@ -348,39 +347,3 @@ nodes_are_found pieces numbers contacts before after tiles in_order regions list
           (node_of node, In-map node_of node after (In-get_or after number no_node inside), subst (λ (s : Square). AreOneNode same_material layout (on_plane_0 s) place) (sym here.least) chain);
       in_order = in_order_by_pairs after (λ k d inside. one_before_next pieces numbers contacts k (get_or after k d) (get_or after (suc k) d) in_order (found k d (omega arith)) (found (suc k) d inside));
     }
-
--- nothing that is counted is negative
-Total-not_negative : {X : Type 0} (P : X → Type 0) (w : X → ℤ) (n : ℤ) → ((x : X) → pos 0 ≤ℤ w x) → Total P w n → pos 0 ≤ℤ n
-Total-not_negative P w n each total =
-    let sum = sum_on-le (λ x. pos 0) w total.0 (λ x among. each x) in
-    let zero = sum_on-zero total.0 in
-    omega (arith, ints, sum, zero, total.1.1)
-
-one_if-not_negative : (test : Bool) → pos 0 ≤ℤ one_if test
-one_if-not_negative true = omega (arith, ints)
-one_if-not_negative false = omega (arith, ints)
-
-perimeter_at-not_negative : (in_class : ℕ → Bool) (layout : Layout) (place : Place) → pos 0 ≤ℤ perimeter_at in_class layout place
-perimeter_at-not_negative in_class layout place = gate (in_class (layout place)) where
-  gate : (test : Bool) → pos 0 ≤ℤ cond test (sum_on (λ (neighbour : Place). one_if (not (in_class (layout neighbour)))) (neighbours place)) (pos 0)
-  gate true =
-      let sum = sum_on-le (λ (neighbour : Place). pos 0) (λ (neighbour : Place). one_if (not (in_class (layout neighbour)))) (neighbours place) (λ neighbour among. one_if-not_negative (not (in_class (layout neighbour)))) in
-      let zero = sum_on-zero (neighbours place) in
-      omega (arith, ints, sum, zero)
-  gate false = omega (arith, ints)
-
--- the measures stay small
-pub taken_off_is_measured : (pieces : List Piece) (numbers : List ℕ) (contacts : List Contact) (before after : List PlainNode) → AreTiles pieces → Lists (IsContact (areas_of pieces)) contacts
-    → AreGathered pieces numbers before → All IsMeasured before → AreTakenOff numbers contacts before after → All IsMeasured after
-taken_off_is_measured pieces numbers contacts before after tiles listed gathered modest taken = λ number d inside.
-    let within : number < length before = omega (arith, taken.so_many) in
-    let node = modest number d within in
-    let shared = shared_of-not_negative numbers contacts number (contacts_are_short (areas_of pieces) contacts (areas_are_near pieces tiles) listed) in
-    let count = Total-not_negative (IsNumbered pieces numbers number) (perimeter_at is_material (layout_of pieces)) (total_of perimeter_of numbers (areas_of pieces) number -ℤ shared_of numbers contacts number)
-    (perimeter_at-not_negative is_material (layout_of pieces)) (perimeter_numbered pieces numbers contacts number tiles listed) in
-    let read = gathered.each_node number d within in
-    let perimeter = subst (λ (z : ℤ). pos 0 ≤ℤ (z -ℤ shared_of numbers contacts number)) (sym read.perimeter) count in
-    subst IsMeasured (sym (taken.each number d within)) (record {
-      area = node.area;
-      perimeter = (omega (arith, ints, perimeter), omega (arith, ints, node.perimeter.1, shared));
-    })

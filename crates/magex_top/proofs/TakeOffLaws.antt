@@ -98,9 +98,6 @@ each_short [] short c among = absurd among
 each_short (x ∷ contacts) short c (inl same) = subst IsShort same (short 0 x (omega arith))
 each_short (x ∷ contacts) short c (inr among) = each_short contacts (λ k d inside. short (suc k) d (omega arith)) c among
 
-pub shared_of-not_negative : (numbers : List ℕ) (contacts : List Contact) (number : ℕ) → All IsShort contacts → pos 0 ≤ℤ shared_of numbers contacts number
-shared_of-not_negative numbers contacts number short = (length_sum numbers number contacts (each_short contacts short)).not_negative
-
 -- the perimeters stay far from the limits of their type
 pub record IsRoomy (node : PlainNode) : Type 0 where
   pub low : neg_ℤ (pos (2 ^ 121)) ≤ℤ node.perimeter

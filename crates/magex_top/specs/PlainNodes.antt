@@ -15,7 +15,7 @@ node_of node = record {
 abbrev pub IsModest : ℤ → Type 0
 IsModest z = (neg_ℤ (pos (2 ^ 120)) <ℤ z) × (z <ℤ pos (2 ^ 120))
 
--- Area and perimeter are so small that ten times the one and once the other fit in 128 bits.
+-- Area and perimeter are so small that those of more pieces can be added in 128 bits.
 pub record IsMeasured (node : PlainNode) : Type 0 where
   pub area : IsModest node.area
   pub perimeter : IsModest node.perimeter

@@ -1,10 +1,10 @@
 //! The nodes of pieces.
-ghost use Rattle.std.specs.Prelude.{◌≡◌, IfOk, All, map};
+ghost use Rattle.std.specs.Prelude.{◌≡◌, IfOk, map};
 ghost use Rattle.layout_model.specs.Nodes.{AreNodes};
 ghost use Rattle.flood_nodes.specs.Tiles.{AreTiles, layout_of};
 ghost use Rattle.magex_top.specs.Uniform.{uniform};
 ghost use Rattle.magex_top.specs.PieceOrder.{AreByCorner};
-ghost use Rattle.magex_top.specs.PlainNodes.{node_of, IsMeasured};
+ghost use Rattle.magex_top.specs.PlainNodes.{node_of};
 
 use crate::measures::{gather, take_off};
 use flood_nodes::{areas_of, flood};
@@ -33,8 +33,7 @@ pub struct PlainNode {
 pub fn nodes_of(alloc: Global, pieces: &[Piece]) -> Result<Vec<PlainNode>, AllocError>
     requires tiles { AreTiles pieces.now }
     requires in_order { AreByCorner pieces.now }
-    ensures nodes { IfOk result (λ nodes. AreNodes uniform (layout_of pieces.now) (map node_of nodes.items)) }
-    ensures measured { IfOk result (λ nodes. All IsMeasured nodes.items) }
+    ensures { IfOk result (λ nodes. AreNodes uniform (layout_of pieces.now) (map node_of nodes.items)) }
 {
     let Ok(numbers) = flood(alloc, pieces) else {
         return Err(AllocError);

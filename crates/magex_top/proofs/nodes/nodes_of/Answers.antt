@@ -16,7 +16,7 @@ use Rattle.magex_top.specs.declared.nodes.PlainNode.{PlainNode}
 use Rattle.magex_top.specs.Uniform.{uniform}
 use Rattle.magex_top.specs.PlainNodes.{node_of, IsMeasured}
 use Rattle.magex_top.specs.Gathering.{AreGathered, AreTakenOff, IsShort}
-use Rattle.magex_top.proofs.FoundNodes.{nodes_are_found, taken_off_is_measured}
+use Rattle.magex_top.proofs.FoundNodes.{nodes_are_found}
 use Rattle.magex_top.proofs.GatherLaws.{gathered_is_measured, numbers_have_nodes}
 use Rattle.magex_top.proofs.TakeOffLaws.{contacts_are_short, contacts_first, contacts_second}
 use Rattle.magex_top.proofs.nodes.nodes_of.Goals as goal
@@ -89,8 +89,8 @@ taken_off numbers numbers' contacts contacts' before before' after same_numbers 
     (subst (λ (cs : List Contact). AreTakenOff numbers' cs before after) same_contacts
     (subst (λ (ns : List PlainNode). AreTakenOff numbers' contacts' ns after) same_before taken))
 
-pub returns-clause-nodes : goal.returns-clause-nodes
-returns-clause-nodes c =
+pub returns : goal.returns
+returns c =
     let pieces = c.args.pieces.now in
     let numbers = c.in-Ok.numbers.items in
     let nodes = c.in_ok-nodes.nodes.items in
@@ -101,18 +101,3 @@ returns-clause-nodes c =
     let taken = taken_off numbers c.deref-3.result.now contacts c.deref-4.result.now nodes c.deref_mut.result.now after c.deref-3.ensures.value c.deref-4.ensures.value c.deref_mut.ensures.value c.take_off.ensures in
     subst (λ (ns : List PlainNode). AreNodes uniform (layout_of pieces) (map node_of ns)) (sym (after_write nodes after c.in_ok-nodes.nodes.len (omega arith)))
     (nodes_are_found pieces numbers contacts nodes after c.requires.tiles c.requires.in_order c.in-Ok.ensures listed gathered taken)
-
-pub returns-clause-measured : goal.returns-clause-measured
-returns-clause-measured c =
-    let pieces = c.args.pieces.now in
-    let numbers = c.in-Ok.numbers.items in
-    let nodes = c.in_ok-nodes.nodes.items in
-    let contacts = c.in-Ok-touching.contacts.items in
-    let after = c.take_off.new.nodes in
-    let few : length pieces < 2 ^ 58 = omega arith in
-    let gathered = subst (λ (ns : List ℕ). AreGathered pieces ns nodes) c.deref.ensures.value c.in_ok-nodes.ensures in
-    let listed = subst (λ (rects : List Rect). Lists (IsContact rects) contacts) (c.deref-2.ensures.value ∙ c.in_ok-areas.ensures) c.in-Ok-touching.ensures in
-    let taken = taken_off numbers c.deref-3.result.now contacts c.deref-4.result.now nodes c.deref_mut.result.now after c.deref-3.ensures.value c.deref-4.ensures.value c.deref_mut.ensures.value c.take_off.ensures in
-    let measured = gathered_is_measured pieces numbers nodes (areas_are_proper pieces c.requires.tiles) (areas_are_near pieces c.requires.tiles) few gathered in
-    subst (λ (ns : List PlainNode). All IsMeasured ns) (sym (after_write nodes after c.in_ok-nodes.nodes.len (omega arith)))
-    (taken_off_is_measured pieces numbers contacts nodes after c.requires.tiles listed gathered measured taken)
