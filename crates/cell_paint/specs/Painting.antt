@@ -1,6 +1,6 @@
 -- What painting and erasing do to a layout, square by square, and the limit that they may pass.
 use Rattle.std.specs.Prelude.{◌≡◌, ◌≢◌, ◌&&◌, ℕ, ℤ, pos, neg_ℤ, int_le, Bool, if◌then◌else◌, List, [], ◌∷◌, map, AllPairs}
-use Rattle.totals.specs.Lists.{In}
+use Rattle.finite_sets.specs.Lists.{In}
 use Rattle.geo_core.specs.declared.squares.Square.{Square}
 use Rattle.geo_core.specs.declared.squares.Rect.{Rect}
 use Rattle.geo_core.specs.declared.squares.Piece.{Piece}

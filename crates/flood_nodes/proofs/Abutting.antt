@@ -8,8 +8,8 @@ use Rattle.geo_core.specs.Covering.{Covers, IsProper}
 use Rattle.geo_core.specs.Neighbours.{AreEdgeNeighbours}
 use Rattle.geo_core.proofs.NeighbourLaws.{AreEdgeNeighbours-sym}
 use Rattle.geo_core.specs.Areas.{AreDisjoint}
-use Rattle.sweeps.specs.Contacts.{overlap, shared_beside, shared_upon, shared_length}
-use Rattle.sweeps.proofs.Shared.{shared_beside-cases, shared_upon-cases, shared_beside-not_negative, shared_upon-not_negative}
+use Rattle.rect_contacts.specs.Contacts.{overlap, shared_beside, shared_upon, shared_length}
+use Rattle.rect_contacts.proofs.Shared.{shared_beside-cases, shared_upon-cases, shared_beside-not_negative, shared_upon-not_negative}
 
 -- a square of the one and a square of the other that share an edge
 pub record Abut (a b : Rect) : Type 0 where

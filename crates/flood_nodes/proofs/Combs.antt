@@ -7,7 +7,7 @@ use Rattle.geo_core.specs.declared.squares.Rect.{Rect}
 use Rattle.geo_core.specs.declared.squares.Piece.{Piece}
 use Rattle.geo_core.specs.Covering.{IsProper}
 use Rattle.geo_core.specs.Areas.{AreDisjoint, IsNear}
-use Rattle.sweeps.proofs.Apart.{AreApart}
+use Rattle.rect_contacts.proofs.Apart.{AreApart}
 use Rattle.flood_nodes.specs.Tiles.{AreTiles}
 use Rattle.flood_nodes.proofs.TileLists.{no_tiles}
 

@@ -1,7 +1,7 @@
 -- The numbers of classes come in the order of their first members.
 use Rattle.std.proofs.Common.{◌≡◌, ℕ, ◌<◌, ◌≤◌, ◌⊎◌, inl, inr, List, length, get_or, refl, subst, sym, arith}
 use Rattle.std.proofs.lemmas.Bool.{cases_lt, cases_eq}
-use Rattle.totals.specs.Least.{IsLeast}
+use Rattle.finite_sets.specs.Least.{IsLeast}
 use Rattle.partition.specs.Marks.{HasMark, IsNumbered}
 
 -- no number before the first that has a mark has that mark or a greater one

@@ -3,9 +3,9 @@ use Rattle.std.proofs.Common.{◌≡◌, ◌≢◌, ℕ, ◌<◌, List, length, 
 use Rattle.std.proofs.lemmas.Bool.{cases_lt, cases_eq}
 use Rattle.std.proofs.lemmas.Option.{slice_get_within}
 use Rattle.geo_core.specs.declared.squares.Piece.{Piece}
-use Rattle.totals.specs.Chain.{EitherWay}
-use Rattle.totals.specs.Chain.Chain.{stay, go}
-use Rattle.totals.proofs.Chains.{Chain-append, Chain-same}
+use Rattle.finite_sets.specs.Chain.{EitherWay}
+use Rattle.finite_sets.specs.Chain.Chain.{stay, go}
+use Rattle.finite_sets.proofs.Chains.{Chain-append, Chain-same}
 use Rattle.partition.specs.Divides.{IsJoined, Divides}
 use Rattle.partition.specs.Marks.{IsNumbered}
 use Rattle.layout_model.specs.Places.{Place}

@@ -8,12 +8,12 @@ use Rattle.std.proofs.lemmas.Option.{slice_get-get_or, slice_get_within, get_or_
 use Rattle.geo_core.specs.declared.squares.Rect.{Rect}
 use Rattle.geo_core.specs.declared.squares.Piece.{Piece}
 use Rattle.geo_core.specs.Covering.{IsProper}
-use Rattle.totals.specs.Lists.{Lists}
-use Rattle.totals.proofs.Members.{In-map, In-map_source, In-filter, In-filter_source, In-filter_passes, In-get_or}
-use Rattle.sweeps.specs.declared.contacts.Contact.{Contact}
+use Rattle.finite_sets.specs.Lists.{Lists}
+use Rattle.finite_sets.proofs.Members.{In-map, In-map_source, In-filter, In-filter_source, In-filter_passes, In-get_or}
+use Rattle.rect_contacts.specs.declared.contacts.Contact.{Contact}
 use Rattle.geo_core.specs.Areas.{AreDisjoint, IsNear}
-use Rattle.sweeps.specs.Rects.{rect_at}
-use Rattle.sweeps.specs.Contacts.{shared_length, IsContact}
+use Rattle.rect_contacts.specs.Rects.{rect_at}
+use Rattle.rect_contacts.specs.Contacts.{shared_length, IsContact}
 use Rattle.partition.specs.Divides.{IsPair}
 use Rattle.flood_nodes.specs.Tiles.{AreTiles}
 use Rattle.flood_nodes.specs.Alike.{areas_of, piece_at, is_alike, alike_pairs}

@@ -7,9 +7,9 @@ use Rattle.geo_core.specs.declared.squares.Square.{Square}
 use Rattle.geo_core.specs.declared.squares.Piece.{Piece}
 use Rattle.geo_core.specs.Covering.{Covers}
 use Rattle.geo_core.specs.Neighbours.{AreEdgeNeighbours}
-use Rattle.sweeps.specs.Contacts.{shared_length}
-use Rattle.sweeps.proofs.Shared.{shared_length-comm}
-use Rattle.totals.proofs.Chains.{Chain-one, Chain-append, Chain-map, Chain-same}
+use Rattle.rect_contacts.specs.Contacts.{shared_length}
+use Rattle.rect_contacts.proofs.Shared.{shared_length-comm}
+use Rattle.finite_sets.proofs.Chains.{Chain-one, Chain-append, Chain-map, Chain-same}
 use Rattle.layout_model.specs.Places.{Place}
 use Rattle.layout_model.specs.Layouts.{same_material}
 use Rattle.layout_model.specs.Links.{AreLinked, AreOneNode}

@@ -10,7 +10,7 @@ use Rattle.geo_core.specs.declared.squares.Square.{Square}
 use Rattle.geo_core.specs.declared.squares.Piece.{Piece}
 use Rattle.geo_core.specs.Covering.{Covers, IsProper}
 use Rattle.geo_core.specs.Areas.{AreDisjoint, IsNear}
-use Rattle.sweeps.proofs.Sorting.{all_pairs_permutation}
+use Rattle.rect_contacts.proofs.Sorting.{all_pairs_permutation}
 use Rattle.layout_model.specs.Layouts.{painted, painted_over}
 use Rattle.layout_model.proofs.PaintLaws.{painted_over-cases, painted_over-material}
 use Rattle.flood_nodes.specs.Tiles.{AreTiles}

@@ -12,17 +12,17 @@ use Rattle.geo_core.specs.declared.squares.Piece.{Piece}
 use Rattle.geo_core.specs.Covering.{Covers, IsProper, is_covered}
 use Rattle.geo_core.specs.Neighbours.{edge_neighbours}
 use Rattle.geo_core.proofs.CoveringLaws.{Covers-is_covered, is_covered-Covers}
-use Rattle.totals.specs.Lists.{In, Lists}
-use Rattle.totals.specs.Total.{sum_on, Total, one_if}
-use Rattle.totals.proofs.Members.{In-map, In-get_or}
-use Rattle.totals.proofs.Listings.{Lists-iff, Lists-map}
-use Rattle.totals.proofs.Sums.{sum_on-map, sum_on-same}
-use Rattle.totals.proofs.Totals.{Total-at, Total-from_list}
+use Rattle.finite_sets.specs.Lists.{In, Lists}
+use Rattle.finite_sets.specs.Total.{sum_on, Total, one_if}
+use Rattle.finite_sets.proofs.Members.{In-map, In-get_or}
+use Rattle.finite_sets.proofs.Listings.{Lists-iff, Lists-map}
+use Rattle.finite_sets.proofs.Sums.{sum_on-map, sum_on-same}
+use Rattle.finite_sets.proofs.Totals.{Total-at, Total-from_list}
 use Rattle.geo_core.specs.Areas.{AreDisjoint, IsNear}
-use Rattle.sweeps.specs.Contacts.{shared_length}
-use Rattle.sweeps.specs.Squares.{squares_of, area_of, perimeter_of, is_covered_by_any}
-use Rattle.sweeps.proofs.Leading.{Lists-squares_of, sum_on-squares_of}
-use Rattle.sweeps.proofs.Opening.{open_edges-disjoint}
+use Rattle.rect_contacts.specs.Contacts.{shared_length}
+use Rattle.rect_contacts.specs.Squares.{squares_of, area_of, perimeter_of, is_covered_by_any}
+use Rattle.rect_contacts.proofs.Leading.{Lists-squares_of, sum_on-squares_of}
+use Rattle.rect_contacts.proofs.Opening.{open_edges-disjoint}
 use Rattle.layout_model.specs.Places.{Place, neighbours}
 use Rattle.layout_model.specs.Layouts.{is_material, painted}
 use Rattle.layout_model.specs.Measures.{area_at, perimeter_at}

@@ -6,11 +6,11 @@ use Rattle.geo_core.specs.declared.squares.Rect.{Rect}
 use Rattle.geo_core.specs.Covering.{Covers}
 use Rattle.geo_core.specs.Neighbours.{AreEdgeNeighbours, right_of, above}
 use Rattle.geo_core.proofs.NeighbourLaws.{AreEdgeNeighbours-sym, AreEdgeNeighbours-right_of, AreEdgeNeighbours-above}
-use Rattle.totals.specs.Chain.{Chain}
-use Rattle.totals.specs.Chain.Chain.{go}
-use Rattle.totals.specs.Range.{extent}
-use Rattle.totals.proofs.Chains.{Chain-append, Chain-back, Chain-same}
-use Rattle.totals.proofs.Ranges.{extent_up}
+use Rattle.finite_sets.specs.Chain.{Chain}
+use Rattle.finite_sets.specs.Chain.Chain.{go}
+use Rattle.finite_sets.specs.Range.{extent}
+use Rattle.finite_sets.proofs.Chains.{Chain-append, Chain-back, Chain-same}
+use Rattle.finite_sets.proofs.Ranges.{extent_up}
 
 -- a step from a square of the rectangle to a neighbour in it
 pub record StepsIn (area : Rect) (a b : Square) : Type 0 where

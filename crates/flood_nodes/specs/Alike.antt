@@ -2,7 +2,7 @@
 use Rattle.std.specs.Prelude.{◌==◌, ℕ, pos, Bool, List, map, filter, slice_index_or}
 use Rattle.geo_core.specs.declared.squares.Rect.{Rect}
 use Rattle.geo_core.specs.declared.squares.Piece.{Piece}
-use Rattle.sweeps.specs.declared.contacts.Contact.{Contact}
+use Rattle.rect_contacts.specs.declared.contacts.Contact.{Contact}
 
 -- the rectangles of the pieces
 abbrev pub areas_of : List Piece → List Rect

@@ -1,8 +1,8 @@
 //! Why a call of this crate is refused.
 
 use partition::PartitionFault;
+use rect_contacts::SweepFault;
 use std::alloc::AllocError;
-use sweeps::SweepFault;
 use thiserror::Error;
 
 /// Want of memory alone refuses a call of this crate.

@@ -1,7 +1,7 @@
 //! A number for each piece, by the node that its squares belong to.
 ghost use Rattle.std.specs.Prelude.{◌≡◌, ◌<◌, ◌++◌, ◌∷◌, [], ℕ, List, length, vec_len, All, IfOk};
-ghost use Rattle.totals.specs.Lists.{Lists};
-ghost use Rattle.sweeps.specs.Contacts.{IsContact};
+ghost use Rattle.finite_sets.specs.Lists.{Lists};
+ghost use Rattle.rect_contacts.specs.Contacts.{IsContact};
 ghost use Rattle.partition.specs.Divides.{Divides, IsPair};
 ghost use Rattle.partition.specs.Marks.{IsNumbered};
 ghost use Rattle.flood_nodes.specs.Alike.{areas_of, alike_pairs};
@@ -11,8 +11,8 @@ ghost use Rattle.flood_nodes.specs.Regions.{AreRegions};
 use crate::faults::FloodFault;
 use geo_core::{Piece, Rect};
 use partition::{Labelling, Partition};
+use rect_contacts::{Contact, touching};
 use std::alloc::{AllocError, Global};
-use sweeps::{Contact, touching};
 
 /// A number for each piece: pieces of one node have one number, and the numbers are 0, 1, 2 ..
 /// by the first piece of each node. A node is made of the squares of one value that are linked

@@ -9,8 +9,8 @@ use Rattle.std.proofs.lemmas.Bool.{false≢true}
 use Rattle.std.proofs.lemmas.Cmp.{int_cmp_total, on_total, then_total, int_ranked}
 use Rattle.std.proofs.lemmas.Int.{ints}
 use Rattle.std.proofs.lemmas.List.Sorted.{sorted_far, ranks_by, Contains-permutation}
-use Rattle.totals.specs.Lists.{In}
-use Rattle.totals.proofs.Members.{In-index, In-from_Contains, Contains-from_In}
+use Rattle.finite_sets.specs.Lists.{In}
+use Rattle.finite_sets.proofs.Members.{In-index, In-from_Contains, Contains-from_In}
 use Rattle.geo_core.specs.declared.bars.Bar.{Bar}
 use Rattle.geo_core.specs.Bars.{bar_cmp}
 use Rattle.geo_core.proofs.JoinLaws.{Pairwise, NoLater}

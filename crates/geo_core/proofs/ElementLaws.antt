@@ -11,10 +11,10 @@ use Rattle.std.proofs.lemmas.Int.{ints}
 use Rattle.std.proofs.lemmas.List.{length-map, get_or_default, get_or_append_left, get_or-append_right}
 use Rattle.std.proofs.lemmas.Nat.{mul-add-lt}
 use Rattle.std.proofs.lemmas.Option.{slice_get-map, slice_get-get_or, slice_get_within, get_or_from_slice_get}
-use Rattle.totals.specs.Lists.{Distinct}
-use Rattle.totals.specs.Range.{extent, integers_from, integer_range, pairs_of}
-use Rattle.totals.proofs.Distincts.{Distinct-map, Distinct-places}
-use Rattle.totals.proofs.Ranges.{extent_up, length-integer_range, length-pairs_of, Lists-rectangle}
+use Rattle.finite_sets.specs.Lists.{Distinct}
+use Rattle.finite_sets.specs.Range.{extent, integers_from, integer_range, pairs_of}
+use Rattle.finite_sets.proofs.Distincts.{Distinct-map, Distinct-places}
+use Rattle.finite_sets.proofs.Ranges.{extent_up, length-integer_range, length-pairs_of, Lists-rectangle}
 use Rattle.geo_core.specs.declared.grids.Grid.{Grid}
 use Rattle.geo_core.specs.Elements.{indices, nth_index, element_of, elements_of, IsLawful}
 

@@ -2,7 +2,7 @@
 use Rattle.std.proofs.Common.{◌≡◌, ◌⊎◌, inl, inr, ℤ, ◌≤ℤ◌, ◌<ℤ◌, true, false, cond, List, [], ◌∷◌, refl, sym, ◌∙◌, ap, subst, arith}
 use Rattle.std.proofs.lemmas.Bool.{cases_Bool}
 use Rattle.std.proofs.lemmas.Int.{ints, clamps, by_lt_z}
-use Rattle.totals.specs.Lists.{In}
+use Rattle.finite_sets.specs.Lists.{In}
 use Rattle.geo_core.specs.declared.bars.Bar.{Bar}
 use Rattle.geo_core.specs.Bars.{meets, reaching, joined_from, joined}
 

@@ -13,8 +13,8 @@ use Rattle.std.proofs.lemmas.Int.{ints}
 use Rattle.std.proofs.lemmas.List.Kept.{Contains-dedup, IsStrictlySortedBy-dedup}
 use Rattle.std.proofs.lemmas.List.Sorted.{sorted_far, ranks_by, IsPermutation-sym}
 use Rattle.std.proofs.lemmas.Map.Keys.{Less-from_sorted}
-use Rattle.totals.specs.Lists.{In}
-use Rattle.totals.proofs.Members.{In-append_cases, In-append_left, In-append_right, In-map, In-map_source, In-filter, In-filter_source, In-filter_passes, In-from_Contains, Contains-from_In}
+use Rattle.finite_sets.specs.Lists.{In}
+use Rattle.finite_sets.proofs.Members.{In-append_cases, In-append_left, In-append_right, In-map, In-map_source, In-filter, In-filter_source, In-filter_passes, In-from_Contains, Contains-from_In}
 use Rattle.geo_core.specs.declared.squares.Rect.{Rect}
 use Rattle.geo_core.specs.declared.bars.Bar.{Bar}
 use Rattle.geo_core.specs.declared.row_events.Event.{Event}

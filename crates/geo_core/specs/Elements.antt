@@ -2,7 +2,7 @@
 use Rattle.std.specs.Prelude.{ℕ, suc, ◌*◌, ◌≤◌, ℤ, pos, ◌+ℤ◌, ◌-ℤ◌, ◌*ℤ◌, int_le, if◌then◌else◌, List, map}
 use Rattle.std.specs.Int.RustNames.{FitsSigned, unsigned_abs}
 use Rattle.std.specs.Int.{w32}
-use Rattle.totals.specs.Range.{integer_range, pairs_of}
+use Rattle.finite_sets.specs.Range.{integer_range, pairs_of}
 use Rattle.geo_core.specs.declared.grids.Grid.{Grid}
 
 -- An index runs from one end to the other in steps of one, upward or downward: so many values it has, both ends among

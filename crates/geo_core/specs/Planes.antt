@@ -1,6 +1,6 @@
 -- Planes: a number for each square, what setting pieces does to it, and the lists that a plane gives of itself.
 use Rattle.std.specs.Prelude.{◌≡◌, ◌≢◌, ℕ, ◌+◌, ◌*◌, ◌^◌, ◌<◌, neg_ℤ, pos, List, length, take, AllPairs}
-use Rattle.totals.specs.Lists.{In, Lists}
+use Rattle.finite_sets.specs.Lists.{In, Lists}
 use Rattle.geo_core.specs.declared.squares.Square.{Square}
 use Rattle.geo_core.specs.declared.squares.Rect.{Rect}
 use Rattle.geo_core.specs.declared.squares.Piece.{Piece}

@@ -1,7 +1,7 @@
 //! Up to which row each column is covered.
 ghost use Rattle.std.specs.Prelude.{◌≡◌, ℤ, ◌≤ℤ◌, ◌<ℤ◌, AllPairs, IfOk, OnOk};
 ghost use Rattle.std.specs.Int.{int_max, int_min};
-ghost use Rattle.totals.specs.Lists.{In};
+ghost use Rattle.finite_sets.specs.Lists.{In};
 ghost use Rattle.geo_core.specs.Coverage.{until, least_of, most_of, IsTopped, IsCut, IsCutAt, IsRaised, begins_before, ends_after, begin_after, end_before, AddsColumns, IsGap};
 
 use std::alloc::{AllocError, Global};

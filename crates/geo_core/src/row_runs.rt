@@ -2,7 +2,7 @@
 ghost use Rattle.std.specs.Prelude.{◌≡◌, ◌⊎◌, ℤ, ◌≤ℤ◌, ◌<ℤ◌, Some, IfSome, IfNone, IfOk, OnOk, IsTrue};
 ghost use Rattle.std.specs.Ordering.{int_cmp};
 ghost use Rattle.std.specs.BTreeMap.{get};
-ghost use Rattle.totals.specs.Lists.{In};
+ghost use Rattle.finite_sets.specs.Lists.{In};
 ghost use Rattle.geo_core.specs.declared.bars.Bar.{Bar as IsBar};
 ghost use Rattle.geo_core.specs.declared.row_runs.Run.{Run as IsRun};
 ghost use Rattle.geo_core.specs.RowRuns.{AreRuns, IsInRow, bar_of, IsLastRun, Touches, IsTaken, Changes, LiesClear, IsPlaced, IsCovered, IsUncovered};

@@ -1,7 +1,7 @@
 -- The nodes of a layout, as a list.
 use Rattle.std.specs.Prelude.{◌≡◌, ℕ, ℤ, List, [], ◌∷◌}
-use Rattle.totals.specs.Lists.{In}
-use Rattle.totals.specs.Least.{IsLeast}
+use Rattle.finite_sets.specs.Lists.{In}
+use Rattle.finite_sets.specs.Least.{IsLeast}
 use Rattle.layout_model.specs.Places.{Place, IsBefore, IsNoLater}
 use Rattle.layout_model.specs.Layouts.{Layout, IsMaterial}
 use Rattle.layout_model.specs.Links.{AreOneNode}

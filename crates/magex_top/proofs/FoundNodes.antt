@@ -13,18 +13,18 @@ use Rattle.geo_core.specs.declared.squares.Piece.{Piece}
 use Rattle.geo_core.specs.Covering.{Covers}
 use Rattle.geo_core.specs.SquareOrder.{ComesBefore, ComesNoLater}
 use Rattle.geo_core.proofs.SquareOrderLaws.{ComesBefore-trans}
-use Rattle.totals.specs.Chain.Chain.{stay}
-use Rattle.totals.specs.Lists.{In, Lists}
-use Rattle.totals.specs.Total.{sum_on, Total}
-use Rattle.totals.proofs.Chains.{Chain-carries}
-use Rattle.totals.proofs.Members.{In-map_source, In-index, In-map, In-get_or}
-use Rattle.totals.proofs.Sums.{sum_on-same, sum_on-sub, sum_on-map, sum_on-scale}
-use Rattle.totals.proofs.Totals.{Total-iff, Total-at}
-use Rattle.sweeps.specs.declared.contacts.Contact.{Contact}
-use Rattle.sweeps.specs.Rects.{rect_at, places_of}
-use Rattle.sweeps.specs.Contacts.{shared_length, IsContact}
-use Rattle.sweeps.specs.Squares.{area_of, perimeter_of}
-use Rattle.sweeps.proofs.BothWays.{Lists-places_of, contacts_both_ways}
+use Rattle.finite_sets.specs.Chain.Chain.{stay}
+use Rattle.finite_sets.specs.Lists.{In, Lists}
+use Rattle.finite_sets.specs.Total.{sum_on, Total}
+use Rattle.finite_sets.proofs.Chains.{Chain-carries}
+use Rattle.finite_sets.proofs.Members.{In-map_source, In-index, In-map, In-get_or}
+use Rattle.finite_sets.proofs.Sums.{sum_on-same, sum_on-sub, sum_on-map, sum_on-scale}
+use Rattle.finite_sets.proofs.Totals.{Total-iff, Total-at}
+use Rattle.rect_contacts.specs.declared.contacts.Contact.{Contact}
+use Rattle.rect_contacts.specs.Rects.{rect_at, places_of}
+use Rattle.rect_contacts.specs.Contacts.{shared_length, IsContact}
+use Rattle.rect_contacts.specs.Squares.{area_of, perimeter_of}
+use Rattle.rect_contacts.proofs.BothWays.{Lists-places_of, contacts_both_ways}
 use Rattle.layout_model.specs.Places.{Place, IsBefore, IsNoLater}
 use Rattle.layout_model.specs.Layouts.{is_material, same_material}
 use Rattle.layout_model.specs.Links.{AreLinked, AreOneNode}

@@ -12,13 +12,13 @@ use Rattle.geo_core.specs.declared.squares.Square.{Square}
 use Rattle.geo_core.specs.declared.squares.Rect.{Rect}
 use Rattle.geo_core.specs.declared.squares.Piece.{Piece}
 use Rattle.geo_core.specs.Covering.{IsProper}
-use Rattle.totals.specs.Lists.{In}
-use Rattle.totals.specs.Total.{sum_on}
-use Rattle.totals.proofs.Sums.{sum_on-push, sum_on-same, sum_on-nothing}
+use Rattle.finite_sets.specs.Lists.{In}
+use Rattle.finite_sets.specs.Total.{sum_on}
+use Rattle.finite_sets.proofs.Sums.{sum_on-push, sum_on-same, sum_on-nothing}
 use Rattle.geo_core.specs.Areas.{corner_of, IsNear}
-use Rattle.sweeps.specs.Rects.{rect_at, places_of}
-use Rattle.sweeps.specs.Squares.{area_of, perimeter_of}
-use Rattle.sweeps.proofs.BothWays.{Lists-places_of}
+use Rattle.rect_contacts.specs.Rects.{rect_at, places_of}
+use Rattle.rect_contacts.specs.Squares.{area_of, perimeter_of}
+use Rattle.rect_contacts.proofs.BothWays.{Lists-places_of}
 use Rattle.flood_nodes.specs.Alike.{areas_of}
 use Rattle.magex_top.specs.declared.nodes.PlainNode.{PlainNode}
 use Rattle.magex_top.specs.PlainNodes.{IsModest, IsMeasured}

@@ -12,8 +12,8 @@ use Rattle.geo_core.specs.Areas.{IsNear, LiesWithin}
 use Rattle.geo_core.specs.Covering.{Covers, IsProper}
 use Rattle.geo_core.specs.Planes.{AreTilesIn}
 use Rattle.geo_core.proofs.TileSets.{tile_value, tile_inside, tiles_apart}
-use Rattle.totals.specs.Lists.{In}
-use Rattle.totals.proofs.Members.{In-get_or, In-index}
+use Rattle.finite_sets.specs.Lists.{In}
+use Rattle.finite_sets.proofs.Members.{In-get_or, In-index}
 use Rattle.layout_model.specs.Places.{Place}
 use Rattle.layout_model.specs.Layouts.{IsMaterial, painted}
 use Rattle.layout_model.proofs.PaintLaws.{IsBare, painted_over-cases}

@@ -7,7 +7,7 @@ use Rattle.geo_core.specs.declared.squares.Rect.{Rect}
 use Rattle.geo_core.specs.Covering.{IsProper}
 use Rattle.geo_core.specs.Areas.{IsNear}
 use Rattle.magex_top.specs.PlainNodes.{IsModest}
-use Rattle.sweeps.specs.Squares.{area_of, perimeter_of}
+use Rattle.rect_contacts.specs.Squares.{area_of, perimeter_of}
 
 -- a number from 0 on and below 2^58
 pub record IsCount (z : ℤ) : Type 0 where

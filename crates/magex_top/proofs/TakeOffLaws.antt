@@ -7,14 +7,14 @@ use Rattle.std.proofs.lemmas.Bool.Decides.{nat_tests}
 use Rattle.std.proofs.lemmas.Int.{ints, clamps}
 use Rattle.std.proofs.lemmas.List.{get_or-set_same, get_or-set_other, get_or_default, length-set}
 use Rattle.geo_core.specs.declared.squares.Rect.{Rect}
-use Rattle.totals.specs.Lists.{In, Lists}
-use Rattle.totals.proofs.Members.{In-get_or}
-use Rattle.totals.proofs.Sums.{sum_on-push}
-use Rattle.sweeps.specs.declared.contacts.Contact.{Contact}
+use Rattle.finite_sets.specs.Lists.{In, Lists}
+use Rattle.finite_sets.proofs.Members.{In-get_or}
+use Rattle.finite_sets.proofs.Sums.{sum_on-push}
+use Rattle.rect_contacts.specs.declared.contacts.Contact.{Contact}
 use Rattle.geo_core.specs.Areas.{IsNear}
-use Rattle.sweeps.specs.Rects.{rect_at}
-use Rattle.sweeps.specs.Contacts.{overlap, shared_beside, shared_upon, shared_length, IsContact}
-use Rattle.sweeps.proofs.Shared.{shared_beside-cases, shared_upon-cases}
+use Rattle.rect_contacts.specs.Rects.{rect_at}
+use Rattle.rect_contacts.specs.Contacts.{overlap, shared_beside, shared_upon, shared_length, IsContact}
+use Rattle.rect_contacts.proofs.Shared.{shared_beside-cases, shared_upon-cases}
 use Rattle.magex_top.specs.declared.nodes.PlainNode.{PlainNode}
 use Rattle.magex_top.specs.PlainNodes.{IsMeasured}
 use Rattle.magex_top.specs.Gathering.{length_for, shared_of, AreTakenOff, Shortens, IsShort}

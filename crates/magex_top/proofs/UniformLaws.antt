@@ -4,11 +4,11 @@ use Rattle.std.specs.Prelude.{IsTrue}
 use Rattle.std.specs.List.{list_any}
 use Rattle.std.proofs.lemmas.Bool.{and_parts, and_from, eqb-true, eq-eqb}
 use Rattle.std.proofs.lemmas.Bool.Decides.{nat_tests}
-use Rattle.totals.specs.Chain.Chain.{stay}
-use Rattle.totals.specs.Total.{sum_on, one_if}
-use Rattle.totals.proofs.Chains.{Chain-weaker}
-use Rattle.totals.proofs.Sums.{sum_on-same}
-use Rattle.totals.proofs.Totals.{Total-iff, Total-same}
+use Rattle.finite_sets.specs.Chain.Chain.{stay}
+use Rattle.finite_sets.specs.Total.{sum_on, one_if}
+use Rattle.finite_sets.proofs.Chains.{Chain-weaker}
+use Rattle.finite_sets.proofs.Sums.{sum_on-same}
+use Rattle.finite_sets.proofs.Totals.{Total-iff, Total-same}
 use Rattle.tech_model.specs.declared.raw.RawTech.{RawTech}
 use Rattle.tech_model.specs.declared.raw.ClassRec.{ClassRec}
 use Rattle.tech_model.specs.declared.raw.TypeId.{TypeId}

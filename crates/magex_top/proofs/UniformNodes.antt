@@ -3,7 +3,7 @@ use Rattle.std.proofs.Common.{◌≡◌, ◌∙◌, ℕ, true, List, length, map
 use Rattle.std.specs.Prelude.{IsTrue, All}
 use Rattle.geo_core.specs.declared.squares.Piece.{Piece}
 use Rattle.geo_core.specs.Planes.{AreTilesIn}
-use Rattle.totals.proofs.Members.{In-map, In-get_or}
+use Rattle.finite_sets.proofs.Members.{In-map, In-get_or}
 use Rattle.tech_model.specs.declared.raw.RawTech.{RawTech}
 use Rattle.tech_model.specs.declared.raw.TypeRec.{TypeRec}
 use Rattle.tech_model.specs.Types.{is_type}

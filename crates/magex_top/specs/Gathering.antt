@@ -2,10 +2,10 @@
 use Rattle.std.specs.Prelude.{◌≡◌, ◌<◌, ◌≤◌, ◌==◌, ℕ, ℤ, pos, ◌+ℤ◌, ◌-ℤ◌, ◌≤ℤ◌, ◌<ℤ◌, ◌^◌, if◌then◌else◌, List, [], ◌∷◌, ◌++◌, length, slice_get, slice_set, slice_index, slice_index_or, Some}
 use Rattle.geo_core.specs.declared.squares.Rect.{Rect}
 use Rattle.geo_core.specs.declared.squares.Piece.{Piece}
-use Rattle.totals.specs.Total.{sum_on}
-use Rattle.sweeps.specs.declared.contacts.Contact.{Contact}
-use Rattle.sweeps.specs.Rects.{rect_at, places_of}
-use Rattle.sweeps.specs.Squares.{area_of, perimeter_of}
+use Rattle.finite_sets.specs.Total.{sum_on}
+use Rattle.rect_contacts.specs.declared.contacts.Contact.{Contact}
+use Rattle.rect_contacts.specs.Rects.{rect_at, places_of}
+use Rattle.rect_contacts.specs.Squares.{area_of, perimeter_of}
 use Rattle.flood_nodes.specs.Alike.{areas_of}
 use Rattle.magex_top.specs.declared.nodes.PlainNode.{PlainNode}
 use Rattle.geo_core.specs.Areas.{corner_of}

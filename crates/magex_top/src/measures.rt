@@ -3,7 +3,7 @@ ghost use Rattle.std.specs.Prelude.{◌≡◌, ◌<◌, ℤ, pos, ◌-ℤ◌, �
 ghost use Rattle.std.specs.Int.{w128};
 ghost use Rattle.geo_core.specs.Covering.{IsProper};
 ghost use Rattle.geo_core.specs.Areas.{IsNear};
-ghost use Rattle.sweeps.specs.Squares.{area_of, perimeter_of};
+ghost use Rattle.rect_contacts.specs.Squares.{area_of, perimeter_of};
 ghost use Rattle.flood_nodes.specs.Tiles.{AreTiles};
 ghost use Rattle.flood_nodes.specs.Regions.{AreRegions};
 ghost use Rattle.magex_top.specs.PlainNodes.{IsMeasured};
@@ -11,8 +11,8 @@ ghost use Rattle.magex_top.specs.Gathering.{AreGathered, AddsPiece, AreTakenOff,
 
 use crate::nodes::PlainNode;
 use geo_core::{Piece, Rect};
+use rect_contacts::Contact;
 use std::alloc::{AllocError, Global};
-use sweeps::Contact;
 
 /// The nodes of pieces, by the number of each piece. What a node measures is what its pieces measure
 /// together, each by itself.

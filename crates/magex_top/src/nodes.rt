@@ -9,8 +9,8 @@ ghost use Rattle.magex_top.specs.PlainNodes.{node_of};
 use crate::measures::{gather, take_off};
 use flood_nodes::{areas_of, flood};
 use geo_core::{Piece, Square};
+use rect_contacts::touching;
 use std::alloc::{AllocError, Global};
-use sweeps::touching;
 
 /// A node of pieces on one plane, in which all material is measured together.
 #[derive(Clone, Copy, Debug, PartialEq, Eq)]

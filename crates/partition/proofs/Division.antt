@@ -3,10 +3,10 @@ use Rattle.std.proofs.Common.{◌≡◌, ℕ, ◌<◌, min, max, cond, eqb, List
 use Rattle.std.proofs.lemmas.Bool.{cases_eq, cases_lt}
 use Rattle.std.proofs.lemmas.Bool.Decides.{nat_tests}
 use Rattle.std.proofs.lemmas.List.{length-map, get_or-map}
-use Rattle.totals.specs.Chain.{Chain, EitherWay}
-use Rattle.totals.specs.Chain.Chain.{stay, go}
-use Rattle.totals.proofs.Members.{In-append_left, In-push, In-push_cases}
-use Rattle.totals.proofs.Chains.{Chain-append, Chain-push, Chain-same, Chain-weaker, Chain-either_through}
+use Rattle.finite_sets.specs.Chain.{Chain, EitherWay}
+use Rattle.finite_sets.specs.Chain.Chain.{stay, go}
+use Rattle.finite_sets.proofs.Members.{In-append_left, In-push, In-push_cases}
+use Rattle.finite_sets.proofs.Chains.{Chain-append, Chain-push, Chain-same, Chain-weaker, Chain-either_through}
 use Rattle.partition.specs.Marks.{SameClasses}
 use Rattle.partition.specs.Divides.{IsJoined, Divides, IsPair}
 use Rattle.partition.specs.Leaders.{numbers_below, joined_leaders}

@@ -4,7 +4,7 @@ use Rattle.std.proofs.lemmas.Bool.{cases_eq, cases_lt}
 use Rattle.std.proofs.lemmas.Bool.Decides.{nat_tests}
 use Rattle.std.proofs.lemmas.List.{length-map, get_or-map, ext_get_or}
 use Rattle.std.proofs.lemmas.List.Elements.{All-from_get_or}
-use Rattle.totals.specs.Least.{IsLeast}
+use Rattle.finite_sets.specs.Least.{IsLeast}
 use Rattle.partition.specs.Marks.{HasMark, SameClasses, IsNumbered}
 use Rattle.partition.specs.Leaders.{classes_below, labels_of}
 use Rattle.partition.specs.Parents.{PointDown, leaders_of}

@@ -2,7 +2,7 @@
 use Rattle.std.proofs.Common.{◌≡◌, ℕ, zero, suc, ◌<◌, ◌≤◌, List, inl, inr, length, get_or, refl, sym, ◌∙◌, ap, arith}
 use Rattle.std.proofs.lemmas.Bool.{cases_eq, cases_lt}
 use Rattle.std.proofs.lemmas.List.{ext_get_or}
-use Rattle.totals.specs.Least.{IsLeast}
+use Rattle.finite_sets.specs.Least.{IsLeast}
 use Rattle.partition.specs.Marks.{HasMark, SameClasses, IsNumbered}
 use Rattle.partition.specs.Divides.{Divides}
 

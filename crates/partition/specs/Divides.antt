@@ -1,7 +1,7 @@
 -- The classes that links between numbers make.
 use Rattle.std.specs.Prelude.{◌≡◌, ◌↔◌, ℕ, ◌<◌, List, [], ◌∷◌, ◌++◌, length, slice_index}
-use Rattle.totals.specs.Lists.{In}
-use Rattle.totals.specs.Chain.{Chain, EitherWay}
+use Rattle.finite_sets.specs.Lists.{In}
+use Rattle.finite_sets.specs.Chain.{Chain, EitherWay}
 
 -- a chain of links, each of them taken either way, leads from the one number to the other
 abbrev pub IsJoined : (ℕ → ℕ → Type 0) → ℕ → ℕ → Type 0

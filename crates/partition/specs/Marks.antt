@@ -1,6 +1,6 @@
 -- The numbers below n, each with a mark: those of one mark are a class.
 use Rattle.std.specs.Prelude.{◌≡◌, ◌↔◌, ℕ, ◌<◌, ◌≤◌, List, length, slice_index, All}
-use Rattle.totals.specs.Least.{IsLeast}
+use Rattle.finite_sets.specs.Least.{IsLeast}
 
 -- the number is one of those with the mark
 abbrev pub HasMark : List ℕ → ℕ → ℕ → Type 0

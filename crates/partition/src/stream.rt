@@ -1,7 +1,7 @@
 //! The classes of pairs that come one at a time.
 
 ghost use Rattle.std.specs.Prelude.{◌≡◌, ◌↔◌, ◌≤◌, ◌<◌, [], length, slice_index, vec_len, All, IfOk, IsTrue};
-ghost use Rattle.totals.specs.Least.{IsLeast};
+ghost use Rattle.finite_sets.specs.Least.{IsLeast};
 ghost use Rattle.partition.specs.Divides.{Divides, IsPair, AddsPair, KeepsPairs};
 ghost use Rattle.partition.specs.Laws.{LabelsAreUnique};
 ghost use Rattle.partition.specs.Leaders.{numbers_below, joined_leaders, classes_below, labels_of};

@@ -5,8 +5,8 @@ use Rattle.std.specs.declared.ops.Range.{Range}
 use Rattle.std.proofs.lemmas.Bool.{cases_lt}
 use Rattle.std.proofs.lemmas.Int.{ints}
 use Rattle.std.proofs.lemmas.List.{take-append-drop, drop-drop, drop-take, get_or-take, get_or-drop, length-take, length-drop}
-use Rattle.totals.specs.Lists.{In}
-use Rattle.totals.proofs.Members.{In-get_or, In-append_left, In-append_right, In-append_cases}
+use Rattle.finite_sets.specs.Lists.{In}
+use Rattle.finite_sets.proofs.Members.{In-get_or, In-append_left, In-append_right, In-append_cases}
 use Rattle.geo_core.specs.declared.squares.Square.{Square}
 use Rattle.geo_core.specs.declared.squares.Piece.{Piece}
 use Rattle.geo_core.specs.Areas.{IsNear, IsSmall}

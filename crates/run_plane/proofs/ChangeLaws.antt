@@ -1,7 +1,7 @@
 -- Rows that are right at each height where something begins or ends are right everywhere.
 use Rattle.std.proofs.Common.{◌≡◌, ◌⊎◌, inl, inr, ℕ, ℤ, ◌≤ℤ◌, ◌<ℤ◌, List, [], ◌∷◌, refl, sym, ◌∙◌, ap, subst, arith}
 use Rattle.std.proofs.lemmas.Int.{ints}
-use Rattle.totals.specs.Lists.{In}
+use Rattle.finite_sets.specs.Lists.{In}
 use Rattle.geo_core.specs.declared.squares.Piece.{Piece}
 use Rattle.geo_core.specs.Covering.{Covers}
 use Rattle.run_plane.specs.declared.runs.Run.{Run}

@@ -9,8 +9,8 @@ use Rattle.std.proofs.lemmas.Cmp.{int_cmp_total, int_eq_equiv, int_ranked}
 use Rattle.std.proofs.lemmas.Int.{ints}
 use Rattle.std.proofs.lemmas.List.Kept.{Contains-dedup, Contains-from_dedup, IsStrictlySortedBy-dedup}
 use Rattle.std.proofs.lemmas.List.Sorted.{Contains-permutation, IsPermutation-sym}
-use Rattle.totals.specs.Lists.{In}
-use Rattle.totals.proofs.Members.{Contains-from_In, In-from_Contains, In-map, In-map_source, In-append_left, In-append_right, In-append_cases}
+use Rattle.finite_sets.specs.Lists.{In}
+use Rattle.finite_sets.proofs.Members.{Contains-from_In, In-from_Contains, In-map, In-map_source, In-append_left, In-append_right, In-append_cases}
 use Rattle.geo_core.specs.declared.squares.Piece.{Piece}
 use Rattle.run_plane.specs.declared.rows.Row.{Row}
 use Rattle.run_plane.specs.Changes.{AreAbove, all_heights, AreHeights}

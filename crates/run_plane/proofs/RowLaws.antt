@@ -3,8 +3,8 @@ use Rattle.std.proofs.Common.{◌≡◌, ◌⊎◌, inl, inr, ℕ, zero, suc, �
 use Rattle.std.specs.Prelude.{All, int_le}
 use Rattle.std.proofs.lemmas.Int.{ints}
 use Rattle.std.proofs.lemmas.List.{take-append-drop}
-use Rattle.totals.specs.Lists.{In}
-use Rattle.totals.proofs.Members.{In-index, In-get_or}
+use Rattle.finite_sets.specs.Lists.{In}
+use Rattle.finite_sets.proofs.Members.{In-index, In-get_or}
 use Rattle.run_plane.specs.declared.runs.Run.{Run}
 use Rattle.run_plane.specs.declared.rows.Row.{Row}
 use Rattle.run_plane.specs.Rows.{edge, AreRuns, runs_from, top_runs, IsRowAbove, AreRising}

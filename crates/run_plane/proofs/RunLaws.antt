@@ -4,8 +4,8 @@ use Rattle.std.specs.Prelude.{filter, int_le, int_lt}
 use Rattle.std.specs.Int.{int_min, int_max}
 use Rattle.std.proofs.lemmas.Int.{ints, clamps}
 use Rattle.std.proofs.lemmas.List.{drop_all}
-use Rattle.totals.specs.Lists.{In}
-use Rattle.totals.proofs.Members.{In-get_or}
+use Rattle.finite_sets.specs.Lists.{In}
+use Rattle.finite_sets.proofs.Members.{In-get_or}
 use Rattle.run_plane.specs.declared.runs.Run.{Run}
 use Rattle.run_plane.specs.Rows.{value_at, edge, IsRunFrom, AreRuns}
 use Rattle.geo_core.specs.declared.squares.Piece.{Piece}

@@ -5,9 +5,9 @@ use Rattle.std.specs.List.Sorted.{IsSortedByKey}
 use Rattle.std.proofs.lemmas.Bool.{cases_lt}
 use Rattle.std.proofs.lemmas.Int.{ints}
 use Rattle.std.proofs.lemmas.List.Sorted.{Contains-permutation, IsPermutation-sym}
-use Rattle.totals.specs.Lists.{In, Distinct}
-use Rattle.totals.proofs.Distincts.{Distinct-append, Distinct-map, Distinct-filter, Distinct-places, Distinct-from_places}
-use Rattle.totals.proofs.Members.{In-get_or, In-append_left, In-append_right, In-append_cases, In-map, In-map_source, In-filter, In-filter_source, In-filter_passes, Contains-from_In, In-from_Contains}
+use Rattle.finite_sets.specs.Lists.{In, Distinct}
+use Rattle.finite_sets.proofs.Distincts.{Distinct-append, Distinct-map, Distinct-filter, Distinct-places, Distinct-from_places}
+use Rattle.finite_sets.proofs.Members.{In-get_or, In-append_left, In-append_right, In-append_cases, In-map, In-map_source, In-filter, In-filter_source, In-filter_passes, Contains-from_In, In-from_Contains}
 use Rattle.geo_core.specs.declared.squares.Square.{Square}
 use Rattle.geo_core.specs.declared.squares.Rect.{Rect}
 use Rattle.geo_core.specs.declared.squares.Piece.{Piece}

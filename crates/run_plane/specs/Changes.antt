@@ -2,7 +2,7 @@
 use Rattle.std.specs.Prelude.{◌≡◌, ◌⊎◌, ℕ, ◌≤◌, length, take, drop, slice_range, ℤ, ◌≤ℤ◌, ◌<ℤ◌, int_lt, List, [], ◌∷◌, ◌++◌, map, filter}
 use Rattle.std.specs.declared.ops.Range.{Range}
 use Rattle.std.specs.Int.{int_max, int_min}
-use Rattle.totals.specs.Lists.{In}
+use Rattle.finite_sets.specs.Lists.{In}
 use Rattle.geo_core.specs.declared.squares.Square.{Square}
 use Rattle.geo_core.specs.declared.squares.Piece.{Piece}
 use Rattle.geo_core.specs.Areas.{IsSmall}

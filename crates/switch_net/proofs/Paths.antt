@@ -4,7 +4,7 @@ use Rattle.std.proofs.lemmas.Bool.{cases_lt, cases_eq}
 use Rattle.switch_net.specs.declared.switches.Level.{Level}
 use Rattle.switch_net.specs.Network.{Network}
 use Rattle.switch_net.specs.Path.{Hop, IsPath, IsDefinite, IsBlocked, IsPrefix, DefiniteTo, strength, end_of, nodes_of}
-use Rattle.totals.specs.Lists.{In, Distinct}
+use Rattle.finite_sets.specs.Lists.{In, Distinct}
 use Rattle.switch_net.specs.Laws.{HasSimplePath, EachHasSimplePath}
 
 module _ (net : Network) (s : List Level) (root : ℕ) where

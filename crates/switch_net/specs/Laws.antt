@@ -1,6 +1,6 @@
 -- Laws over the definitions alone.
 use Rattle.std.specs.Prelude.{◌≡◌, ℕ, ◌<◌, ◌≤◌, List}
-use Rattle.totals.specs.Lists.{Distinct}
+use Rattle.finite_sets.specs.Lists.{Distinct}
 use Rattle.switch_net.specs.declared.switches.Level.{Level}
 use Rattle.switch_net.specs.Network.{Network, IsSound}
 use Rattle.switch_net.specs.Path.{Hop, IsPath, IsDefinite, IsBlocked, strength, end_of, nodes_of}

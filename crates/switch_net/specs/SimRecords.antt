@@ -1,7 +1,7 @@
 -- The network that the records of a sim file make.
 use Rattle.std.specs.Prelude.{◌≡◌, ℕ, ◌<◌, List, [], ◌∷◌, ◌++◌, ◌⊎◌, ◌↔◌, true, All, length, codes}
-use Rattle.totals.specs.Lists.{In}
-use Rattle.totals.specs.Chain.{Chain, EitherWay}
+use Rattle.finite_sets.specs.Lists.{In}
+use Rattle.finite_sets.specs.Chain.{Chain, EitherWay}
 use Rattle.switch_net.specs.declared.switches.Level.{Level}
 use Rattle.switch_net.specs.declared.switches.Level.TheVariants.{Zero, One, X}
 use Rattle.switch_net.specs.declared.switches.SwitchKind.{SwitchKind}

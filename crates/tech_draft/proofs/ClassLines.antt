@@ -6,8 +6,8 @@ use Rattle.std.proofs.lemmas.List.{length_push, length-set, get_or_past}
 use Rattle.std.proofs.lemmas.List.Elements.{All-push, All-set, All-nil}
 use Rattle.std.proofs.lemmas.List.Quantifiers.{all_pairs_push}
 use Rattle.std.proofs.lemmas.Iterator.Adapters.{position_from-zero}
-use Rattle.totals.specs.Lists.{In}
-use Rattle.totals.proofs.Members.{In-get_or}
+use Rattle.finite_sets.specs.Lists.{In}
+use Rattle.finite_sets.proofs.Members.{In-get_or}
 use Rattle.text_scan.specs.Numbers.{number_of}
 use Rattle.text_scan.specs.declared.numeral.NumFault.{NumFault}
 use Rattle.tech_model.specs.declared.raw.TypeId.{TypeId}

@@ -3,8 +3,8 @@ use Rattle.std.proofs.Common.{◌≡◌, ◌+◌, ◌-◌, ◌<◌, ◌≤◌, �
 use Rattle.std.specs.Prelude.{All, IsTrue, None, not, nat_lt, is_none}
 use Rattle.std.proofs.lemmas.Bool.{or_parts, not-false, not-true, ltb-false, eqb-false}
 use Rattle.std.proofs.lemmas.List.{length-map}
-use Rattle.totals.specs.Lists.{In, Distinct}
-use Rattle.totals.proofs.Members.{In-push, In-append_left, In-map_source, In-filter_source, In-filter_passes}
+use Rattle.finite_sets.specs.Lists.{In, Distinct}
+use Rattle.finite_sets.proofs.Members.{In-push, In-append_left, In-map_source, In-filter_source, In-filter_passes}
 use Rattle.tech_model.specs.declared.raw.TypeId.{TypeId}
 use Rattle.tech_model.specs.declared.raw.RawTech.{RawTech}
 use Rattle.tech_model.specs.declared.faults.TechFault.TheVariants.{BadForm, NoType, Twice, TooMany, TypeExpression}

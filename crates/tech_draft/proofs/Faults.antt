@@ -5,7 +5,7 @@ use Rattle.std.specs.Option.{option_map}
 use Rattle.std.proofs.Common.{refl, ap, sym, ◌∙◌, inl, inr}
 use Rattle.std.proofs.lemmas.Bool.{cases_Bool}
 use Rattle.std.proofs.lemmas.Result.{err_from_is_err_and}
-use Rattle.totals.specs.Lists.{In}
+use Rattle.finite_sets.specs.Lists.{In}
 use Rattle.tech_model.specs.declared.faults.Section.{Section}
 use Rattle.tech_model.specs.declared.faults.TechFault.{TechFault}
 use Rattle.tech_model.specs.declared.faults.TechFault.TheVariants.{Memory}

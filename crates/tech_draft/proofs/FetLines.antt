@@ -5,9 +5,9 @@ use Rattle.std.specs.List.{list_any}
 use Rattle.std.proofs.lemmas.Bool.{and_parts, not-false, leb-false, eqb-false}
 use Rattle.std.proofs.lemmas.List.{length_push, map_push}
 use Rattle.std.proofs.lemmas.List.Elements.{All-push}
-use Rattle.totals.specs.Lists.{In, Distinct}
-use Rattle.totals.proofs.Members.{In-get_or, In-map_source}
-use Rattle.totals.proofs.Distincts.{Distinct-push}
+use Rattle.finite_sets.specs.Lists.{In, Distinct}
+use Rattle.finite_sets.proofs.Members.{In-get_or, In-map_source}
+use Rattle.finite_sets.proofs.Distincts.{Distinct-push}
 use Rattle.text_scan.specs.PlainNames.{is_plain_name}
 use Rattle.tech_model.specs.declared.raw.TypeId.{TypeId}
 use Rattle.tech_model.specs.declared.raw.FetRule.{FetRule}

@@ -4,9 +4,9 @@ use Rattle.std.specs.Prelude.{All, Some, None, not, find}
 use Rattle.std.specs.List.{list_any, position_from}
 use Rattle.std.proofs.lemmas.Bool.{cases_Bool, cases_eq, cases_lt, or_parts, true≢false}
 use Rattle.std.proofs.lemmas.List.{get_or-set_same, get_or-set_other, set_past, length-set, get_or_default}
-use Rattle.totals.specs.Lists.{In, Distinct}
+use Rattle.finite_sets.specs.Lists.{In, Distinct}
 use Rattle.tech_model.specs.WellFormed.{AreApart}
-use Rattle.totals.proofs.Members.{In-get_or, In-map_source, In-map, In-filter_source}
+use Rattle.finite_sets.proofs.Members.{In-get_or, In-map_source, In-map, In-filter_source}
 
 -- what holds of each thing in a list holds of all of it
 pub All_from_In : {X : Type 0} (P : X → Type 0) (xs : List X) → ((x : X) → In x xs → P x) → All P xs

@@ -6,7 +6,7 @@ use Rattle.std.specs.List.{list_any}
 use Rattle.std.specs.Str.{bytes_eq}
 use Rattle.std.proofs.lemmas.Bool.{true≢false}
 use Rattle.std.proofs.lemmas.Slice.Eq.{bytes_eq-Decides}
-use Rattle.totals.specs.Lists.{In}
+use Rattle.finite_sets.specs.Lists.{In}
 use Rattle.tech_model.specs.declared.faults.Section.{Section}
 use Rattle.tech_model.specs.declared.faults.TechFault.{TechFault}
 use Rattle.tech_draft.specs.Drafts.{Drafted}

@@ -3,8 +3,8 @@ use Rattle.std.proofs.Common.{◌≡◌, ◌≢◌, ◌<◌, ◌-◌, ◌==◌, 
 use Rattle.std.specs.Prelude.{IsTrue, not, None, is_none}
 use Rattle.std.proofs.lemmas.Bool.{cases_eq, eqb-true, eqb-false, not-true, not-false, and_parts, or_parts}
 use Rattle.std.proofs.lemmas.List.{length-set, get_or-set_same, get_or-set_other}
-use Rattle.totals.specs.Lists.{In}
-use Rattle.totals.proofs.Members.{In-append_cases, In-append_left, In-append_right}
+use Rattle.finite_sets.specs.Lists.{In}
+use Rattle.finite_sets.proofs.Members.{In-append_cases, In-append_left, In-append_right}
 use Rattle.tech_model.specs.declared.raw.TypeId.{TypeId}
 use Rattle.tech_model.specs.declared.raw.TypeRec.{TypeRec}
 use Rattle.tech_model.specs.declared.raw.RawTech.{RawTech}

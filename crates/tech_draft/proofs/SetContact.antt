@@ -5,9 +5,9 @@ use Rattle.std.specs.Option.{option_or}
 use Rattle.std.proofs.lemmas.Bool.{cases_eq, cases_lt, eq-eqb, ne_eqb}
 use Rattle.std.proofs.lemmas.List.{get_or-map, length-map, length-set, map-append, get_or-set_same, get_or-set_other, get_or_append_left, get_or-append-add}
 use Rattle.std.proofs.lemmas.List.Folds.{find-append}
-use Rattle.totals.specs.Lists.{In, Distinct}
-use Rattle.totals.proofs.Distincts.{Distinct-append}
-use Rattle.totals.proofs.Members.{In-map_source, In-append_cases, In-get_or}
+use Rattle.finite_sets.specs.Lists.{In, Distinct}
+use Rattle.finite_sets.proofs.Distincts.{Distinct-append}
+use Rattle.finite_sets.proofs.Members.{In-map_source, In-append_cases, In-get_or}
 use Rattle.tech_model.specs.declared.raw.TypeId.{TypeId}
 use Rattle.tech_model.specs.declared.raw.TypeRec.{TypeRec}
 use Rattle.tech_model.specs.declared.raw.RawTech.{RawTech}

@@ -4,8 +4,8 @@ use Rattle.std.specs.Prelude.{IsTrue, not, find, Option, Some, None, is_none, un
 use Rattle.std.specs.List.{list_any}
 use Rattle.std.proofs.lemmas.Bool.{cases_Bool, cases_lt, le-ltb, cases_eq, eqb-true, eqb-false, ne_eqb, not-false, or_parts, true≢false}
 use Rattle.std.proofs.lemmas.List.{length-map}
-use Rattle.totals.specs.Lists.{In}
-use Rattle.totals.proofs.Members.{In-map_source, In-filter, In-filter_source, In-index}
+use Rattle.finite_sets.specs.Lists.{In}
+use Rattle.finite_sets.proofs.Members.{In-map_source, In-filter, In-filter_source, In-index}
 use Rattle.tech_model.specs.declared.raw.TypeId.{TypeId}
 use Rattle.tech_model.specs.declared.raw.RawTech.{RawTech}
 use Rattle.tech_model.specs.declared.faults.TechFault.TheVariants.{BadForm, NoType, Twice, ContactPart}

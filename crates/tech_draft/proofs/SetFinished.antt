@@ -6,7 +6,7 @@ use Rattle.std.specs.Int.Bits.{or_zero_r}
 use Rattle.std.proofs.lemmas.Bool.{cases_eq, eqb-true}
 use Rattle.std.proofs.lemmas.Nat.{or_comm}
 use Rattle.std.proofs.lemmas.Nat.Bits.{bit_at-pow_other, and_pow}
-use Rattle.totals.proofs.Members.{In-get_or}
+use Rattle.finite_sets.proofs.Members.{In-get_or}
 use Rattle.tech_model.specs.declared.raw.TypeId.{TypeId}
 use Rattle.tech_model.specs.declared.raw.TypeRec.{TypeRec}
 use Rattle.tech_model.specs.Types.{is_type, type_at, no_type, no_layer, layer_of, parts_of, images_of}

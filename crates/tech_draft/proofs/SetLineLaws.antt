@@ -2,7 +2,7 @@
 use Rattle.std.proofs.Common.{◌≡◌, ◌-◌, ◌==◌, ℕ, Bool, true, false, cond, List, map, [], ◌∷◌, length, get_or, refl, sym, ap, subst, ◌∙◌, arith}
 use Rattle.std.specs.Prelude.{IsTrue, find, None, Ok, codes}
 use Rattle.std.specs.Str.{bytes_eq}
-use Rattle.totals.specs.Lists.{In, Distinct}
+use Rattle.finite_sets.specs.Lists.{In, Distinct}
 use Rattle.tech_model.specs.declared.raw.TypeId.{TypeId}
 use Rattle.tech_model.specs.declared.raw.TypeRec.{TypeRec}
 use Rattle.tech_model.specs.declared.raw.LayerRec.{LayerRec}

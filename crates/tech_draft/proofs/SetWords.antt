@@ -3,7 +3,7 @@ use Rattle.std.proofs.Common.{◌≡◌, ◌<◌, ◌+◌, ℕ, Bool, false, con
 use Rattle.std.specs.Prelude.{IsTrue, Option, Some, None, is_none, unwrap_or}
 use Rattle.std.specs.List.{position_from}
 use Rattle.std.proofs.lemmas.Bool.{cases_Bool, ltb-false, true≢false}
-use Rattle.totals.proofs.Members.{In-get_or}
+use Rattle.finite_sets.proofs.Members.{In-get_or}
 use Rattle.tech_model.specs.Types.{is_type, no_layer, layer_of, images_of, layer_named, has_name, type_number}
 use Rattle.tech_model.specs.WellFormed.{IsSimple}
 use Rattle.tech_draft.specs.Drafts.{Drafted}

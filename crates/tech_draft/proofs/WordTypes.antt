@@ -1,8 +1,8 @@
 -- What the words of a line name: planes, layers and types of the technology.
 use Rattle.std.proofs.Common.{◌≡◌, ◌<◌, ℕ, false, List, length, arith}
 use Rattle.std.specs.Prelude.{IsTrue, Some, is_none}
-use Rattle.totals.specs.Lists.{In}
-use Rattle.totals.proofs.Members.{In-get_or}
+use Rattle.finite_sets.specs.Lists.{In}
+use Rattle.finite_sets.proofs.Members.{In-get_or}
 use Rattle.tech_model.specs.declared.raw.TypeId.{TypeId}
 use Rattle.tech_model.specs.declared.raw.RawTech.{RawTech}
 use Rattle.tech_model.specs.Types.{type_number, is_type, layer_at, images_of, layer_named, no_layer, has_name}

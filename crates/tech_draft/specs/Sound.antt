@@ -1,6 +1,6 @@
 -- Drafts whose lists fit together.
 use Rattle.std.specs.Prelude.{◌≡◌, ◌≢◌, ◌⊎◌, ◌<◌, ◌≤◌, ◌+◌, ◌-◌, ◌^◌, ℕ, IsTrue, List, [], length, All, map, Some, None}
-use Rattle.totals.specs.Lists.{In, Distinct}
+use Rattle.finite_sets.specs.Lists.{In, Distinct}
 use Rattle.text_scan.specs.PlainNames.{is_plain_name}
 use Rattle.tech_model.specs.declared.raw.TypeId.{TypeId}
 use Rattle.tech_model.specs.declared.raw.RawTech.{RawTech}

@@ -6,8 +6,8 @@ use Rattle.std.specs.List.{range_with_len, flat_map}
 use Rattle.std.specs.Option.{option_map, option_or}
 use Rattle.std.proofs.lemmas.Bool.{cases_Bool}
 use Rattle.std.proofs.lemmas.List.Folds.{find-append}
-use Rattle.totals.specs.Lists.{In}
-use Rattle.totals.specs.Range.{pairs_of}
+use Rattle.finite_sets.specs.Lists.{In}
+use Rattle.finite_sets.specs.Range.{pairs_of}
 
 pub find-map : {X Y : Type 0} (f : X → Y) (p : Y → Bool) (xs : List X) → find p (map f xs) ≡ option_map f (find (λ x. p (f x)) xs)
 find-map f p [] = refl

@@ -2,7 +2,7 @@
 use Rattle.std.specs.Prelude.{◌≡◌, ◌==◌, ◌&&◌, not, nat_lt, ℕ, Bool, false, IsTrue, List, length, filter, find, Option, Some, None, Result, Ok, Err, All, map, ◌⊎◌}
 use Rattle.std.specs.List.{flat_map, range_with_len}
 use Rattle.std.specs.Option.{option_map, option_or}
-use Rattle.totals.specs.Range.{pairs_of}
+use Rattle.finite_sets.specs.Range.{pairs_of}
 use Rattle.tech_model.specs.declared.raw.RawTech.{RawTech}
 use Rattle.tech_model.specs.declared.raw.TypeId.{TypeId}
 use Rattle.tech_model.specs.declared.faults.TechFault.{TechFault}

@@ -3,9 +3,9 @@ use Rattle.std.proofs.Common.{List, All, sym, ◌∙◌, subst}
 use Rattle.std.specs.Prelude.{AllPairs}
 use Rattle.geo_core.specs.declared.squares.Rect.{Rect}
 use Rattle.geo_core.specs.Covering.{IsProper}
-use Rattle.totals.specs.Lists.{Lists}
+use Rattle.finite_sets.specs.Lists.{Lists}
 use Rattle.geo_core.specs.Areas.{AreDisjoint, IsNear}
-use Rattle.sweeps.specs.Contacts.{IsContact}
+use Rattle.rect_contacts.specs.Contacts.{IsContact}
 use Rattle.flood_nodes.proofs.TileContacts.{areas_proper, areas_near, areas_disjoint}
 use Rattle.flood_nodes.proofs.regions.contacts_of.Goals as goal
 

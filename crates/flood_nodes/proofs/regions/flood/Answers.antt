@@ -1,9 +1,9 @@
 -- What is known of the contacts of tiles serves the labels, and the labels of the pairs of one value are the numbers of regions.
 use Rattle.std.proofs.Common.{◌<◌, ◌∙◌, List, length, sym, subst}
 use Rattle.std.specs.Prelude.{All}
-use Rattle.totals.specs.Lists.{Lists}
-use Rattle.sweeps.specs.declared.contacts.Contact.{Contact}
-use Rattle.sweeps.specs.Contacts.{IsContact}
+use Rattle.finite_sets.specs.Lists.{Lists}
+use Rattle.rect_contacts.specs.declared.contacts.Contact.{Contact}
+use Rattle.rect_contacts.specs.Contacts.{IsContact}
 use Rattle.partition.specs.Divides.{IsPair}
 use Rattle.flood_nodes.specs.Alike.{areas_of, alike_pairs}
 use Rattle.flood_nodes.proofs.RegionLaws.{AreRegions-from_labels}

@@ -1,7 +1,7 @@
 -- The pairs of the contacts so far and the next are those of one contact more.
 use Rattle.std.proofs.Common.{◌≡◌, ◌+◌, ◌∷◌, [], ◌++◌, ℕ, List, take, get_or, ap, subst, sym, ◌∙◌, arith}
 use Rattle.std.proofs.lemmas.List.{take_more, take_all}
-use Rattle.sweeps.specs.declared.contacts.Contact.{Contact}
+use Rattle.rect_contacts.specs.declared.contacts.Contact.{Contact}
 use Rattle.partition.specs.Divides.{Divides, IsPair}
 use Rattle.flood_nodes.specs.Alike.{alike_pairs}
 use Rattle.flood_nodes.proofs.TileContacts.{alike_pairs-push, no_contact}

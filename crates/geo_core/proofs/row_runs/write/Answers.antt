@@ -1,8 +1,8 @@
 use Rattle.std.proofs.Common.{sym, subst, inl, inr, arith, rules}
 use Rattle.std.specs.Int.{w64}
 use Rattle.std.proofs.lemmas.Int.{ints, to_z-of_z}
-use Rattle.totals.specs.Lists.{In}
-use Rattle.totals.proofs.Members.{In-append_left, In-push, In-push_cases}
+use Rattle.finite_sets.specs.Lists.{In}
+use Rattle.finite_sets.proofs.Members.{In-append_left, In-push, In-push_cases}
 use Rattle.geo_core.specs.RowRuns.{bar_of}
 use Rattle.geo_core.proofs.row_runs.write.Goals as goal
 

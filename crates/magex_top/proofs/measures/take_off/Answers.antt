@@ -3,7 +3,7 @@ use Rattle.std.specs.Prelude.{All}
 use Rattle.std.specs.Int.{w128}
 use Rattle.std.proofs.lemmas.List.{take_more, length-take}
 use Rattle.std.proofs.lemmas.List.Elements.{All-take}
-use Rattle.sweeps.specs.declared.contacts.Contact.{Contact}
+use Rattle.rect_contacts.specs.declared.contacts.Contact.{Contact}
 use Rattle.magex_top.specs.declared.nodes.PlainNode.{PlainNode}
 use Rattle.magex_top.specs.Gathering.{IsShort, AreTakenOff, Shortens}
 use Rattle.magex_top.proofs.TakeOffLaws.{taken_off_none, taken_off_more, taken_off_is_roomy, roomy_has_room, shorter_has_room, short_as_read}

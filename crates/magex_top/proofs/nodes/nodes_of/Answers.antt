@@ -4,10 +4,10 @@ use Rattle.std.proofs.lemmas.List.{length-map, take_at}
 use Rattle.geo_core.specs.declared.squares.Rect.{Rect}
 use Rattle.geo_core.specs.declared.squares.Piece.{Piece}
 use Rattle.geo_core.specs.Covering.{IsProper}
-use Rattle.totals.specs.Lists.{Lists}
-use Rattle.sweeps.specs.declared.contacts.Contact.{Contact}
+use Rattle.finite_sets.specs.Lists.{Lists}
+use Rattle.rect_contacts.specs.declared.contacts.Contact.{Contact}
 use Rattle.geo_core.specs.Areas.{AreDisjoint, IsNear}
-use Rattle.sweeps.specs.Contacts.{IsContact}
+use Rattle.rect_contacts.specs.Contacts.{IsContact}
 use Rattle.layout_model.specs.Nodes.{AreNodes}
 use Rattle.flood_nodes.specs.Tiles.{layout_of}
 use Rattle.flood_nodes.specs.Alike.{areas_of}

@@ -1,5 +1,5 @@
 use Rattle.std.proofs.Common.{◌≡◌, ◌≤◌, ℕ, List, length, get_or, sym, ◌∙◌, ap, subst, arith}
-use Rattle.totals.specs.Least.{IsLeast}
+use Rattle.finite_sets.specs.Least.{IsLeast}
 use Rattle.partition.specs.Marks.{HasMark}
 use Rattle.partition.specs.Parents.{leaders_of}
 use Rattle.partition.proofs.Ancestors.{length-leaders_of}

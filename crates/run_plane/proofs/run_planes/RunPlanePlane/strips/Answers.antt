@@ -1,5 +1,5 @@
 use Rattle.std.proofs.Common.{◌^◌, pos, List, get_or, subst}
-use Rattle.totals.proofs.Members.{In-get_or}
+use Rattle.finite_sets.proofs.Members.{In-get_or}
 use Rattle.geo_core.specs.declared.squares.Piece.{Piece}
 use Rattle.geo_core.specs.Planes.{HasValue}
 use Rattle.geo_core.specs.Strips.{IsStrips}

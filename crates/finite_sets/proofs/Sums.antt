@@ -1,0 +1,94 @@
+-- Sums over lists: laws of `sum_on`.
+use Rattle.std.proofs.Common.{◌≡◌, ◌+◌, ◌*◌, ℤ, pos, ◌+ℤ◌, ◌-ℤ◌, ◌*ℤ◌, ◌≤ℤ◌, Bool, true, false, cond, List, [], ◌∷◌, ◌++◌, inl, inr, map, filter, length, refl, sym, ◌∙◌, ap, subst, arith}
+use Rattle.std.proofs.lemmas.Int.{ints}
+use borrow.Author.Differences.{up, down}
+use Rattle.finite_sets.specs.Lists.{In, Distinct}
+use Rattle.finite_sets.specs.Total.{sum_on}
+use Rattle.finite_sets.proofs.Distincts.{cut_at, In-cut_cases, In-cut_rest, Distinct-cut}
+
+pub sum_on-append : {X : Type 0} (w : X → ℤ) (xs ys : List X) → sum_on w (xs ++ ys) ≡ sum_on w xs +ℤ sum_on w ys
+sum_on-append w [] ys = omega (arith, ints)
+sum_on-append w (x ∷ xs) ys = ap (λ z. w x +ℤ z) (sum_on-append w xs ys) ∙ omega (arith, ints)
+
+pub sum_on-push : {X : Type 0} (w : X → ℤ) (xs : List X) (y : X) → sum_on w (xs ++ y ∷ []) ≡ sum_on w xs +ℤ w y
+sum_on-push w xs y = sum_on-append w xs (y ∷ []) ∙ omega (arith, ints)
+
+pub sum_on-map : {X Y : Type 0} (f : X → Y) (w : Y → ℤ) (xs : List X) → sum_on w (map f xs) ≡ sum_on (λ x. w (f x)) xs
+sum_on-map f w [] = refl
+sum_on-map f w (x ∷ xs) = ap (λ z. w (f x) +ℤ z) (sum_on-map f w xs)
+
+-- weights that agree on what stands in the list
+pub sum_on-same : {X : Type 0} (v w : X → ℤ) (xs : List X) → ((x : X) → In x xs → v x ≡ w x) → sum_on v xs ≡ sum_on w xs
+sum_on-same v w [] h = refl
+sum_on-same v w (x ∷ xs) h = ap (λ z. z +ℤ sum_on v xs) (h x (inl refl)) ∙ ap (λ z. w x +ℤ z) (sum_on-same v w xs (λ y i. h y (inr i)))
+
+pub sum_on-zero : {X : Type 0} (xs : List X) → sum_on (λ x. pos 0) xs ≡ pos 0
+sum_on-zero [] = refl
+sum_on-zero (x ∷ xs) = ap (λ z. pos 0 +ℤ z) (sum_on-zero xs) ∙ omega (arith, ints)
+
+-- a weight that is zero on what stands in the list
+pub sum_on-nothing : {X : Type 0} (w : X → ℤ) (xs : List X) → ((x : X) → In x xs → w x ≡ pos 0) → sum_on w xs ≡ pos 0
+sum_on-nothing w xs h = sum_on-same w (λ x. pos 0) xs h ∙ sum_on-zero xs
+
+pub sum_on-add : {X : Type 0} (v w : X → ℤ) (xs : List X) → sum_on (λ x. v x +ℤ w x) xs ≡ sum_on v xs +ℤ sum_on w xs
+sum_on-add v w [] = omega (arith, ints)
+sum_on-add v w (x ∷ xs) = ap (λ z. (v x +ℤ w x) +ℤ z) (sum_on-add v w xs) ∙ omega (arith, ints)
+
+pub sum_on-sub : {X : Type 0} (v w : X → ℤ) (xs : List X) → sum_on (λ x. v x -ℤ w x) xs ≡ sum_on v xs -ℤ sum_on w xs
+sum_on-sub v w [] = omega (arith, ints)
+sum_on-sub v w (x ∷ xs) = ap (λ z. (v x -ℤ w x) +ℤ z) (sum_on-sub v w xs) ∙ omega (arith, ints)
+
+-- sums over two lists change places
+pub sum_on-swap : {X Y : Type 0} (w : X → Y → ℤ) (xs : List X) (ys : List Y) → sum_on (λ x. sum_on (w x) ys) xs ≡ sum_on (λ y. sum_on (λ x. w x y) xs) ys
+sum_on-swap w [] ys = sym (sum_on-zero ys)
+sum_on-swap w (x ∷ xs) ys = ap (λ z. sum_on (w x) ys +ℤ z) (sum_on-swap w xs ys) ∙ sym (sum_on-add (w x) (λ y. sum_on (λ a. w a y) xs) ys)
+
+-- the weight of one counts the places
+pub sum_on-count : {X : Type 0} (xs : List X) → sum_on (λ x. pos 1) xs ≡ pos (length xs)
+sum_on-count [] = refl
+sum_on-count (x ∷ xs) = ap (λ z. pos 1 +ℤ z) (sum_on-count xs) ∙ omega (arith, ints)
+
+-- what a filter keeps counts, and the rest counts nothing
+pub sum_on-filter : {X : Type 0} (test : X → Bool) (w : X → ℤ) (xs : List X) → sum_on w (filter test xs) ≡ sum_on (λ x. cond (test x) (w x) (pos 0)) xs
+sum_on-filter test w [] = refl
+sum_on-filter {X} test w (x ∷ xs) =
+    let rest = sum_on-filter test w xs in
+    let after = sum_on (λ y. cond (test y) (w y) (pos 0)) xs in
+    elim (test x) as (λ b. sum_on w (cond b (x ∷ filter test xs) (filter test xs)) ≡ cond b (w x) (pos 0) +ℤ after)
+    [ true ↦ ap (λ z. w x +ℤ z) rest | false ↦ rest ∙ omega (arith, ints) ]
+
+sum_on-cut : {X : Type 0} (w : X → ℤ) (front back : List X) (x : X) → sum_on w (front ++ (x ∷ back)) ≡ w x +ℤ sum_on w (front ++ back)
+sum_on-cut w [] back x = refl
+sum_on-cut w (y ∷ ys) back x = ap (λ z. w y +ℤ z) (sum_on-cut w ys back x) ∙ omega (arith, ints)
+
+-- a sum over the same things, each once, is the same
+pub sum_on-same_things : {X : Type 0} (w : X → ℤ) (xs ys : List X) → Distinct xs → Distinct ys
+    → ((a : X) → In a xs → In a ys) → ((a : X) → In a ys → In a xs) → sum_on w xs ≡ sum_on w ys
+sum_on-same_things w [] [] d e there back = refl
+sum_on-same_things w [] (y ∷ ys) d e there back = absurd (back y (inl refl))
+sum_on-same_things {X} w (x ∷ xs) ys d e there back =
+    let c = cut_at x ys (there x (inl refl)) in
+    let front = c.0 in let rear = c.1.0 in
+    let parts = Distinct-cut front rear x (subst Distinct c.1.1.whole e) in
+    let there_rest : (a : X) → In a xs → In a (front ++ rear) = λ a h.
+    elim (In-cut_cases front rear x a (subst (In a) c.1.1.whole (there a (inr h))))
+    [ inl q ↦ absurd (d.0 (subst (λ z. In z xs) (sym q) h)) | inr k ↦ k ] in
+    let back_rest : (a : X) → In a (front ++ rear) → In a xs = λ a h.
+    elim (back a (subst (In a) (sym c.1.1.whole) (In-cut_rest front rear x a h)))
+    [ inl q ↦ absurd (parts.0 (subst (λ z. In z (front ++ rear)) (sym q) h)) | inr k ↦ k ] in
+    ap (λ z. w x +ℤ z) (sum_on-same_things w xs (front ++ rear) d.1 parts.1 there_rest back_rest)
+    ∙ sym (sum_on-cut w front rear x) ∙ ap (sum_on w) (sym c.1.1.whole)
+
+-- a weight that is nowhere less has no less a sum
+pub sum_on-le : {X : Type 0} (v w : X → ℤ) (xs : List X) → ((x : X) → In x xs → v x ≤ℤ w x) → sum_on v xs ≤ℤ sum_on w xs
+sum_on-le v w [] h = omega (arith, ints)
+sum_on-le v w (x ∷ xs) h = let first = h x (inl refl) in let rest = sum_on-le v w xs (λ y i. h y (inr i)) in omega (arith, ints)
+
+distributes : (k a b : ℤ) → (k *ℤ a) +ℤ (k *ℤ b) ≡ k *ℤ (a +ℤ b)
+distributes k a b =
+    let sum : up (a +ℤ b) + (down a + down b) ≡ down (a +ℤ b) + (up a + up b) = omega (arith, ints) in
+    omega (arith, ints, ap (λ z. up k * z) sum, ap (λ z. down k * z) sum)
+
+pub sum_on-scale : {X : Type 0} (k : ℤ) (w : X → ℤ) (xs : List X) → sum_on (λ x. k *ℤ w x) xs ≡ k *ℤ sum_on w xs
+sum_on-scale k w [] = omega (arith, ints)
+sum_on-scale k w (x ∷ xs) = ap (λ z. (k *ℤ w x) +ℤ z) (sum_on-scale k w xs) ∙ distributes k (w x) (sum_on w xs)

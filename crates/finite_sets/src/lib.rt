@@ -1,0 +1,34 @@
+//! The forms in which the crates above speak of finite sets, of sums over them, of ways from one
+//! thing to another and of the least of a set. The definitions stand in `specs/`, their laws in
+//! `proofs/`, as `Rattle.finite_sets.proofs.Totals.{Total-unique}`. The functions here do nothing: the
+//! contract of each is a law that the definitions have to keep to be worth believing.
+#![tactic(auto)]
+
+ghost use Rattle.finite_sets.specs.Chain.{Chain, EitherWay};
+ghost use Rattle.finite_sets.specs.Laws.{TotalsAreUnique, TotalsAdd, IsReflexive, IsSymmetric, IsTransitive};
+
+/// Any two sets of things, and any steps between these: what the laws are said of.
+pub trait Things {
+    ghost first: { Self → Type 0 };
+
+    ghost second: { Self → Type 0 };
+
+    ghost step: { Self → Self → Type 0 };
+}
+
+/// A set has one sum of a weight.
+pub fn total_is_unique<T: Things>()
+    ensures { TotalsAreUnique T.first }
+{}
+
+/// The sums of two sets with nothing in common add up to that of their union.
+pub fn totals_add<T: Things>()
+    ensures { TotalsAdd T.first T.second }
+{}
+
+/// To be joined by steps that may be taken either way is an equivalence.
+pub fn chains_are_an_equivalence<T: Things>()
+    ensures reflexive { IsReflexive (Chain (EitherWay T.step)) }
+    ensures symmetric { IsSymmetric (Chain (EitherWay T.step)) }
+    ensures transitive { IsTransitive (Chain (EitherWay T.step)) }
+{}

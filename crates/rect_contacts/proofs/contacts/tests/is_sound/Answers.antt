@@ -1,0 +1,11 @@
+use Rattle.std.proofs.Common.{arith}
+use Rattle.std.proofs.lemmas.Int.{ints}
+use Rattle.rect_contacts.proofs.contacts.tests.is_sound.Goals as goal
+
+pub returns-then-area-limit-clause-near : goal.returns-then-area-limit-clause-near
+returns-then-area-limit-clause-near c = λ t. record {
+  xlo = (grind (arith, ints), grind (arith, ints));
+  ylo = (grind (arith, ints), grind (arith, ints));
+  xhi = (grind (arith, ints), grind (arith, ints));
+  yhi = (grind (arith, ints), grind (arith, ints));
+}

@@ -1,9 +1,0 @@
-use Rattle.std.proofs.Common.{◌+◌, ◌-◌, length, drop}
-use Rattle.sweeps.proofs.Sweep.{Swept}
-use Rattle.sweeps.proofs.sides.meetings.Given as goal
-
-abbrev pub invariant-loop-below : goal.invariant-loop-below
-invariant-loop-below l = Swept l.lowers l.uppers (drop l.below l.lowers) (drop l.above l.uppers) l.contacts.items
-
-abbrev pub decreases-loop-below : goal.decreases-loop-below
-decreases-loop-below l = (length l.lowers - l.below) + (length l.uppers - l.above)

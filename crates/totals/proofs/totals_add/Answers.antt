@@ -1,5 +1,0 @@
-use Rattle.totals.proofs.Totals.{Total-union}
-use Rattle.totals.proofs.totals_add.Goals as goal
-
-pub returns : goal.returns
-returns g c = λ apart w m n s t. Total-union g.T.Things.first g.T.Things.second w m n apart s t
