@@ -1,0 +1,3 @@
+pub mod Folds
+pub mod FirstFaults
+pub mod SaidLines

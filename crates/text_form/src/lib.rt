@@ -1,0 +1,21 @@
+//! Texts that are read line by line up to their first faulty line.
+//!
+//! A reader of a format says what one line does to what was read so far, or which fault the line has, and what the end of the
+//! text does. [`read_text`] does the rest: it numbers the lines from 1 and stops at the first fault. What it answers is one
+//! definition, `text_state`, for every format.
+//!
+//! # How the proof goes
+//!
+//! The loop keeps one equation: what the rest of the lines makes of the present state is what all lines make of the first one.
+//! The laws of that fold are inductions over the lines (`proofs/FoldLaws.antt`): what stands before a line may be read first, the
+//! first faulty line decides, what each line keeps the text keeps; and where lines say things by themselves, written lines
+//! are read back (`proofs/SaidLaws.antt`).
+#![tactic(auto)]
+
+mod laws;
+mod reading;
+#[cfg(test)]
+mod tests;
+
+pub use laws::{lines_are_refused_at_the_first_faulty_one, lines_say_what_they_give};
+pub use reading::{At, LineReader, read_lines, read_text};
