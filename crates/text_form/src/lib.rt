@@ -14,8 +14,6 @@
 
 mod laws;
 mod reading;
-#[cfg(test)]
-mod tests;
 
 pub use laws::{lines_are_refused_at_the_first_faulty_one, lines_say_what_they_give};
 pub use reading::{At, LineReader, read_lines, read_text};

@@ -19,8 +19,6 @@ mod laws;
 mod line;
 mod numeral;
 mod plain_name;
-#[cfg(test)]
-mod tests;
 mod word;
 
 /// The lines of a text, without the line feeds that end them.

@@ -1,8 +1,8 @@
 // A reader of a small form: no line is longer than the context says, and there is some line. What it keeps is the last line's number.
 ghost use Rattle.std.specs.Prelude.{Err, Ok, ◌==◌, nat_lt, length, if◌then◌else◌};
 
-use crate::reading::{At, LineReader, read_text};
 use std::test::Fail;
+use text_form::{At, LineReader, read_text};
 
 #[derive(Clone, Copy, Debug, Drop, PartialEq, Eq)]
 enum Lapse {
@@ -17,7 +17,7 @@ struct LastLine {
 }
 
 impl LineReader for LastLine {
-    ghost use Rattle.text_form.specs.declared.tests.Lapse.TheVariants.{TooLong, Empty, Memory};
+    ghost use Rattle.text_tests.specs.declared.last_lines.Lapse.TheVariants.{TooLong, Empty, Memory};
 
     type Context = usize;
 
