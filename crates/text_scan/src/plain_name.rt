@@ -3,6 +3,9 @@ ghost use Rattle.std.specs.Prelude.{◌≡◌};
 ghost use Rattle.std.specs.List.{list_all};
 ghost use Rattle.text_scan.specs.PlainNames.{is_plain_byte, is_plain_name};
 
+/// The greatest number of bytes of a plain name.
+pub const LONGEST_NAME: usize = 64;
+
 /// Whether a byte is a letter, a digit, `_` or `-`.
 pub fn is_plain_byte(byte: u8) -> bool
     ensures { result ≡ is_plain_byte byte }
@@ -16,10 +19,10 @@ fn has_plain_bytes(word: &[u8]) -> bool
     word.iter().all(|&byte| is_plain_byte(byte))
 }
 
-/// Whether a word is a plain name: 1 to 64 letters, digits, `_` or `-`.
+/// Whether a word is a plain name: 1 to [`LONGEST_NAME`] letters, digits, `_` or `-`.
 pub fn is_plain_name(word: &[u8]) -> bool
     ensures { result ≡ is_plain_name word.now }
 {
     let length = word.len();
-    1 <= length && length <= 64 && has_plain_bytes(word)
+    1 <= length && length <= LONGEST_NAME && has_plain_bytes(word)
 }
