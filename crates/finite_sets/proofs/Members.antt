@@ -1,7 +1,10 @@
 -- What stands in a list: laws of `In`.
-use Rattle.std.proofs.Common.{◌≡◌, ℕ, zero, suc, ◌<◌, Bool, true, false, cond, List, [], ◌∷◌, ◌++◌, ◌⊎◌, inl, inr, map, filter, length, get_or, refl, sym, ◌∙◌, ap, subst, arith}
+use Rattle.std.proofs.Common.{◌≡◌, ℕ, zero, suc, ◌<◌, Bool, true, false, cond, List, [], ◌∷◌, ◌++◌, ◌⊎◌}
+use Rattle.std.proofs.Common.{inl, inr, map, filter, length, get_or, refl, sym, ◌∙◌, ap, subst, arith}
 use Rattle.std.proofs.lemmas.Bool.{cases_Bool}
+use Rattle.std.specs.Prelude.{IsPermutation}
 use Rattle.std.specs.List.{Contains}
+use Rattle.std.proofs.lemmas.List.Sorted.{Contains-permutation}
 use Rattle.finite_sets.specs.Lists.{In}
 
 pub In-append_left : {X : Type 0} (x : X) (xs ys : List X) → In x xs → In x (xs ++ ys)
@@ -80,3 +83,7 @@ Contains-from_In x xs h = let r = In-index x xs h in (r.0, r.1.0, r.1.1 x)
 
 pub In-from_Contains : {X : Type 0} (x : X) (xs : List X) → Contains xs x → In x xs
 In-from_Contains {X} x xs h = let P : X → Type 0 = λ y. In y xs in subst P h.2 (In-get_or xs h.0 x h.1)
+
+-- a permutation of a list has the same things
+pub In-permutation : {X : Type 0} (x : X) (xs ys : List X) → IsPermutation xs ys → In x xs → In x ys
+In-permutation x xs ys moved here = In-from_Contains x ys (Contains-permutation xs ys x moved (Contains-from_In x xs here))

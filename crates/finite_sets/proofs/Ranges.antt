@@ -1,5 +1,6 @@
 -- The integers of a range, and the pairs of two lists.
-use Rattle.std.proofs.Common.{◌≡◌, ℕ, zero, suc, ◌+◌, ◌*◌, ℤ, pos, negsuc, ◌+ℤ◌, ◌-ℤ◌, ◌≤ℤ◌, ◌<ℤ◌, List, [], ◌∷◌, ◌⊎◌, inl, inr, map, length, refl, sym, ◌∙◌, ap, subst, arith, length-append}
+use Rattle.std.proofs.Common.{◌≡◌, ℕ, zero, suc, ◌+◌, ◌*◌, ℤ, pos, negsuc, ◌+ℤ◌, ◌-ℤ◌, ◌≤ℤ◌, ◌<ℤ◌, List, [], ◌∷◌}
+use Rattle.std.proofs.Common.{◌⊎◌, inl, inr, map, length, refl, sym, ◌∙◌, ap, subst, arith, length-append}
 use Rattle.std.proofs.lemmas.Int.{ints, by_lt_z}
 use Rattle.std.proofs.lemmas.List.{length-map}
 use Rattle.finite_sets.specs.Lists.{In, Distinct, Lists}
@@ -103,7 +104,8 @@ Distinct-pairs_of {X} {Y} (a ∷ xs) ys d e =
     d.0 (subst P (sym (ap (λ q. q.0) s.1.1)) (In-pairs_of_first p xs ys k)))
 
 -- the pairs of two sets
-pub Lists-pairs_of : {X Y : Type 0} (P : X → Type 0) (Q : Y → Type 0) (xs : List X) (ys : List Y) → Lists P xs → Lists Q ys → Lists {X = X × Y} (λ p. P p.0 × Q p.1) (pairs_of xs ys)
+pub Lists-pairs_of : {X Y : Type 0} (P : X → Type 0) (Q : Y → Type 0) (xs : List X) (ys : List Y) → Lists P xs → Lists Q ys
+    → Lists {X = X × Y} (λ p. P p.0 × Q p.1) (pairs_of xs ys)
 Lists-pairs_of P Q xs ys l m = (
   Distinct-pairs_of xs ys l.0 m.0,
   (λ p h. In-pairs_of p.0 p.1 xs ys (l.1 p.0 h.0) (m.1 p.1 h.1)),
@@ -117,12 +119,14 @@ length-pairs_of (a ∷ xs) ys =
     ∙ ap (λ n. length ys + n) (length-pairs_of xs ys) ∙ omega arith
 
 -- the integer points of a rectangle
-pub Lists-rectangle : (xlo xhi ylo yhi : ℤ) → Lists {X = ℤ × ℤ} (λ p. IsBetween xlo xhi p.0 × IsBetween ylo yhi p.1) (pairs_of (integer_range xlo xhi) (integer_range ylo yhi))
+pub Lists-rectangle : (xlo xhi ylo yhi : ℤ)
+    → Lists {X = ℤ × ℤ} (λ p. IsBetween xlo xhi p.0 × IsBetween ylo yhi p.1) (pairs_of (integer_range xlo xhi) (integer_range ylo yhi))
 Lists-rectangle xlo xhi ylo yhi =
     Lists-pairs_of (IsBetween xlo xhi) (IsBetween ylo yhi) (integer_range xlo xhi) (integer_range ylo yhi) (Lists-integer_range xlo xhi) (Lists-integer_range ylo yhi)
 
 -- they are as many as its width times its height
-pub Total-rectangle : (xlo xhi ylo yhi : ℤ) → Total {X = ℤ × ℤ} (λ p. IsBetween xlo xhi p.0 × IsBetween ylo yhi p.1) (λ p. pos 1) (pos (extent xlo xhi * extent ylo yhi))
+pub Total-rectangle : (xlo xhi ylo yhi : ℤ)
+    → Total {X = ℤ × ℤ} (λ p. IsBetween xlo xhi p.0 × IsBetween ylo yhi p.1) (λ p. pos 1) (pos (extent xlo xhi * extent ylo yhi))
 Total-rectangle xlo xhi ylo yhi =
     let xs = integer_range xlo xhi in
     let ys = integer_range ylo yhi in

@@ -1,5 +1,7 @@
 -- Columns that are cut in two: what is known of the whole from its sides.
-use Rattle.std.proofs.Common.{◌≡◌, ◌⊎◌, inl, inr, ℕ, suc, ◌+◌, ◌-◌, ◌<◌, length, take, drop, get_or, length-drop, ℤ, ◌≤ℤ◌, ◌<ℤ◌, Bool, true, false, cond, List, [], ◌∷◌, ◌++◌, Box, Global, Option, Some, None, Result, Ok, Err, refl, sym, ◌∙◌, ap, subst, arith, to_z, of_z}
+use Rattle.std.proofs.Common.{◌≡◌, ◌⊎◌, inl, inr, ℕ, suc, ◌+◌, ◌-◌, ◌<◌, length, take, drop, get_or, length-drop}
+use Rattle.std.proofs.Common.{ℤ, ◌≤ℤ◌, ◌<ℤ◌, Bool, true, false, cond, List, [], ◌∷◌, ◌++◌, Box, Global, Option}
+use Rattle.std.proofs.Common.{Some, None, Result, Ok, Err, refl, sym, ◌∙◌, ap, subst, arith, to_z, of_z}
 use Rattle.std.specs.Prelude.{◌&&◌, int_le, int_lt, AllPairs}
 use Rattle.std.specs.Result.{OnOk}
 use Rattle.std.specs.Int.{int_max, int_min, w64}
@@ -12,10 +14,12 @@ use Rattle.finite_sets.specs.Lists.{In}
 use Rattle.finite_sets.proofs.Members.{In-append_left, In-push, In-push_cases, In-index, In-get_or}
 use Rattle.geo_core.specs.declared.coverage.Gap.{Gap}
 use Rattle.geo_core.specs.declared.coverage.Coverage.{Coverage, Even, Cut'}
-use Rattle.geo_core.specs.Coverage.{until, least_of, most_of, IsTopped, IsCut, IsCutAt, is_from, is_before, raised, begins_before, ends_after, begin_after, end_before, IsRaised, AddsColumns, IsGap}
+use Rattle.geo_core.specs.Coverage.{until, least_of, most_of, IsTopped, IsCut, IsCutAt, is_from, is_before, raised, begins_before}
+use Rattle.geo_core.specs.Coverage.{ends_after, begin_after, end_before, IsRaised, AddsColumns, IsGap}
 
 -- numbers that are kept in 64 bits
-pub stored_max : (out a b : ℤ) → FitsSigned w64 out → FitsSigned w64 a → FitsSigned w64 b → out ≡ int_max (to_z w64 (of_z w64 a)) (to_z w64 (of_z w64 b)) → to_z w64 (of_z w64 out) ≡ int_max a b
+pub stored_max : (out a b : ℤ) → FitsSigned w64 out → FitsSigned w64 a → FitsSigned w64 b
+    → out ≡ int_max (to_z w64 (of_z w64 a)) (to_z w64 (of_z w64 b)) → to_z w64 (of_z w64 out) ≡ int_max a b
 stored_max out a b f g h e = to_z-of_z w64 out f ∙ e ∙ ap (λ v. int_max v (to_z w64 (of_z w64 b))) (to_z-of_z w64 a g) ∙ ap (int_max a) (to_z-of_z w64 b h)
 
 pub stored_min : (out a b : ℤ) → FitsSigned w64 a → FitsSigned w64 b → out ≡ int_min (to_z w64 (of_z w64 a)) (to_z w64 (of_z w64 b)) → out ≡ int_min a b
@@ -94,14 +98,16 @@ pub record SideIsRaised (IsHere : ℤ → Type 0) (from to : Option ℤ) (top : 
   pub cuts : (v : ℤ) → IsCut old v → IsCut new v
   pub topped : IsTopped new
 
-pub left_raised : (from to : Option ℤ) (top at : ℤ) (old new : Coverage) → IsRaised from (end_before to at) top old new → SideIsRaised (λ x. x <ℤ at) from to top old new
+pub left_raised : (from to : Option ℤ) (top at : ℤ) (old new : Coverage) → IsRaised from (end_before to at) top old new
+    → SideIsRaised (λ x. x <ℤ at) from to top old new
 left_raised from to top at old new h = record {
   rows = λ x here. h.rows x ∙ ap (λ v. cond (is_from from x && v) (int_max (until old x) top) (until old x)) (before_on_left to at x here);
   cuts = h.cuts;
   topped = h.topped;
 }
 
-pub right_raised : (from to : Option ℤ) (top at : ℤ) (old new : Coverage) → IsRaised (begin_after from at) to top old new → SideIsRaised (λ x. at ≤ℤ x) from to top old new
+pub right_raised : (from to : Option ℤ) (top at : ℤ) (old new : Coverage) → IsRaised (begin_after from at) to top old new
+    → SideIsRaised (λ x. at ≤ℤ x) from to top old new
 right_raised from to top at old new h = record {
   rows = λ x here. h.rows x ∙ ap (λ v. cond (v && is_before to x) (int_max (until old x) top) (until old x)) (from_on_right from at x here);
   cuts = h.cuts;
@@ -112,7 +118,8 @@ and_false : (b : Bool) → (b && false) ≡ false
 and_false true = refl
 and_false false = refl
 
-pub left_stays : (from to : Option ℤ) (top at : ℤ) (old : Coverage) → begins_before from at ≡ false → IsTopped old → SideIsRaised (λ x. x <ℤ at) from to top old old
+pub left_stays : (from to : Option ℤ) (top at : ℤ) (old : Coverage) → begins_before from at ≡ false → IsTopped old
+    → SideIsRaised (λ x. x <ℤ at) from to top old old
 left_stays from to top at old e h = record {
   rows = λ x here. sym (ap (λ v. cond (v && is_before to x) (int_max (until old x) top) (until old x)) (not_from from at x e here));
   cuts = λ v c. c;
@@ -185,26 +192,30 @@ cut_lifted top p q at at' least least' most most' left left' right right' same_a
     rw (same_at, same_left, same_right) made
 
 -- what a side must be cut at
-pub left_from_cut : (p : Box (Unit {0}) Global) (at least most : ℤ) (left right : Coverage) (from : Option ℤ) → begins_before from at ≡ true → IsCutAt (Cut' p at least most left right) from → IsCutAt left from
+pub left_from_cut : (p : Box (Unit {0}) Global) (at least most : ℤ) (left right : Coverage) (from : Option ℤ) → begins_before from at ≡ true
+    → IsCutAt (Cut' p at least most left right) from → IsCutAt left from
 left_from_cut p at least most left right None e c = tt
 left_from_cut p at least most left right (Some from) e (inl same) = let before = from_lt_true from at e in absurd (omega (arith, ints, before, same))
 left_from_cut p at least most left right (Some from) e (inr (inl h)) = h.1
 left_from_cut p at least most left right (Some from) e (inr (inr h)) = let before = from_lt_true from at e in absurd (omega (arith, ints, before, h.0))
 
-pub right_to_cut : (p : Box (Unit {0}) Global) (at least most : ℤ) (left right : Coverage) (to : Option ℤ) → ends_after to at ≡ true → IsCutAt (Cut' p at least most left right) to → IsCutAt right to
+pub right_to_cut : (p : Box (Unit {0}) Global) (at least most : ℤ) (left right : Coverage) (to : Option ℤ) → ends_after to at ≡ true
+    → IsCutAt (Cut' p at least most left right) to → IsCutAt right to
 right_to_cut p at least most left right None e c = tt
 right_to_cut p at least most left right (Some to) e (inl same) = let after = from_lt_true at to e in absurd (omega (arith, ints, after, same))
 right_to_cut p at least most left right (Some to) e (inr (inl h)) = let after = from_lt_true at to e in absurd (omega (arith, ints, after, h.0))
 right_to_cut p at least most left right (Some to) e (inr (inr h)) = h.1
 
-pub left_to_cut : (p : Box (Unit {0}) Global) (at least most : ℤ) (left right : Coverage) (to : Option ℤ) → IsCutAt (Cut' p at least most left right) to → IsCutAt left (end_before to at)
+pub left_to_cut : (p : Box (Unit {0}) Global) (at least most : ℤ) (left right : Coverage) (to : Option ℤ)
+    → IsCutAt (Cut' p at least most left right) to → IsCutAt left (end_before to at)
 left_to_cut p at least most left right None c = tt
 left_to_cut p at least most left right (Some to) c = elim (cases_Bool (int_lt to at)) [
   | inl t ↦ subst (λ v. IsCutAt left (cond v (Some to) None)) (sym t) (left_from_cut p at least most left right (Some to) t c)
   | inr t ↦ subst (λ v. IsCutAt left (cond v (Some to) None)) (sym t) tt
 ]
 
-pub right_from_cut : (p : Box (Unit {0}) Global) (at least most : ℤ) (left right : Coverage) (from : Option ℤ) → IsCutAt (Cut' p at least most left right) from → IsCutAt right (begin_after from at)
+pub right_from_cut : (p : Box (Unit {0}) Global) (at least most : ℤ) (left right : Coverage) (from : Option ℤ)
+    → IsCutAt (Cut' p at least most left right) from → IsCutAt right (begin_after from at)
 right_from_cut p at least most left right None c = tt
 right_from_cut p at least most left right (Some from) c = elim (cases_Bool (int_lt at from)) [
   | inl t ↦ subst (λ v. IsCutAt right (cond v (Some from) None)) (sym t) (right_to_cut p at least most left right (Some from) t c)
@@ -308,11 +319,13 @@ module _ (p : Box (Unit {0}) Global) (at least most : ℤ) (left right : Coverag
       (λ here. inr (let open_there = subst (λ v. v ≤ℤ row) (until_right p at least most left right x here) h.uncovered in
       record { after = omega (arith, ints, clamps, first, here); before = last; uncovered = omega (arith, ints, clamps, open_there) }))
 
-  pub cut_gaps : (old mid new : List Gap) → least ≤ℤ row → AddsColumns OnLeft old mid → AddsColumns OnRight mid new → AddsColumns (IsGap whole from to row) old new
+  pub cut_gaps : (old mid new : List Gap) → least ≤ℤ row → AddsColumns OnLeft old mid → AddsColumns OnRight mid new
+      → AddsColumns (IsGap whole from to row) old new
   cut_gaps old mid new low g h = adds_both OnLeft OnRight (IsGap whole from to row) old mid new gap_on_side (gap_on_left low) (gap_on_right low) g h
 
 -- no column is a gap, or all are
-pub no_gap : (coverage : Coverage) (from to row : ℤ) (gaps : List Gap) → (to ≤ℤ from) ⊎ (row <ℤ least_of coverage) → AddsColumns (IsGap coverage from to row) gaps gaps
+pub no_gap : (coverage : Coverage) (from to row : ℤ) (gaps : List Gap) → (to ≤ℤ from) ⊎ (row <ℤ least_of coverage)
+    → AddsColumns (IsGap coverage from to row) gaps gaps
 no_gap coverage from to row gaps (inl h) = adds_none (IsGap coverage from to row) gaps (λ x u. let first = u.after in let last = u.before in omega (arith, ints, h, first, last))
 no_gap coverage from to row gaps (inr h) =
     adds_none (IsGap coverage from to row) gaps (λ x u. let open_there = u.uncovered in let low = least_bounds coverage x in omega (arith, ints, h, open_there, low))
@@ -328,7 +341,8 @@ on_ok (Ok x) f h = f h
 on_ok (Err e) f h = h
 
 -- each side in order is a cut, if those before the middle one are cuts on the left and those after it on the right
-pub cuts_from_sides : (left right : Coverage) (sides : List ℤ) (middle : ℕ) (at : ℤ) → AllPairs ◌≤ℤ◌ sides → middle < length sides → ((d : ℤ) → get_or sides middle d ≡ at)
+pub cuts_from_sides : (left right : Coverage) (sides : List ℤ) (middle : ℕ) (at : ℤ) → AllPairs ◌≤ℤ◌ sides → middle < length sides
+    → ((d : ℤ) → get_or sides middle d ≡ at)
     → ((v : ℤ) → In v (take middle sides) → IsCut left v) → ((v : ℤ) → In v (take (length sides - (middle + 1)) (drop (middle + 1) sides)) → IsCut right v)
     → (v : ℤ) → In v sides → (v ≡ at) ⊎ (((v <ℤ at) × IsCut left v) ⊎ ((at <ℤ v) × IsCut right v))
 cuts_from_sides left right sides middle at ordered inside is on_left on_right v i =

@@ -9,12 +9,9 @@ use Rattle.geo_core.specs.declared.squares.Rect.{Rect}
 use Rattle.geo_core.specs.declared.transforms.Transform.{Transform}
 use Rattle.geo_core.specs.Orientation.{orient_then, orient_inverse}
 use Rattle.geo_core.specs.Covering.{Covers}
-use Rattle.geo_core.specs.Images.{point_x, point_y, turns_x, turns_y, image, area_image, composed, identity, inverted, CentreGoesTo}
+use Rattle.geo_core.specs.Images.{point_x, point_y, turns_x, turns_y, image, rect_image, composed, identity, inverted, CentreGoesTo}
 use Rattle.geo_core.specs.Neighbours.{AreEdgeNeighbours}
-
-square_is : (a b : Square) → a.x ≡ b.x → a.y ≡ b.y → a ≡ b
-square_is a b columns rows =
-    let whole : record { x = a.x; y = a.y } ≡ b = rw (columns, rows) refl in whole
+use Rattle.geo_core.proofs.SquareLaws.{square_is, rect_is}
 
 abbrev pub transform_of : Orient → ℤ → ℤ → Transform
 transform_of o dx dy = record { orient = o; dx = dx; dy = dy }
@@ -146,23 +143,23 @@ neighbours-image t a b h = rw (image-moved t a, image-moved t b) (neighbours-by_
 pub image-neighbours : (t : Transform) (a b : Square) → AreEdgeNeighbours (image t a) (image t b) → AreEdgeNeighbours a b
 image-neighbours t a b h = rw (image-back t a, image-back t b) at (neighbours-image (inverted t) (image t a) (image t b) h)
 
-covers-by_orient : (o : Orient) (dx dy : ℤ) (area : Rect) (s : Square) → Covers area s → Covers (area_image (transform_of o dx dy) area) (moved o dx dy s)
-unfolding area_image
+covers-by_orient : (o : Orient) (dx dy : ℤ) (area : Rect) (s : Square) → Covers area s → Covers (rect_image (transform_of o dx dy) area) (moved o dx dy s)
+unfolding rect_image
 covers-by_orient R0 dx dy area s c = record { right_of_xlo = omega (arith, ints); left_of_xhi = omega (arith, ints); above_ylo = omega (arith, ints); below_yhi = omega (arith, ints) }
 covers-by_orient _ dx dy area s c = record { right_of_xlo = omega (arith, ints); left_of_xhi = omega (arith, ints); above_ylo = omega (arith, ints); below_yhi = omega (arith, ints) }
 
-covered-by_orient : (o : Orient) (dx dy : ℤ) (area : Rect) (s : Square) → Covers (area_image (transform_of o dx dy) area) (moved o dx dy s) → Covers area s
-unfolding area_image
+covered-by_orient : (o : Orient) (dx dy : ℤ) (area : Rect) (s : Square) → Covers (rect_image (transform_of o dx dy) area) (moved o dx dy s) → Covers area s
+unfolding rect_image
 covered-by_orient R0 dx dy area s c = record { right_of_xlo = omega (arith, ints); left_of_xhi = omega (arith, ints); above_ylo = omega (arith, ints); below_yhi = omega (arith, ints) }
 covered-by_orient _ dx dy area s c = record { right_of_xlo = omega (arith, ints); left_of_xhi = omega (arith, ints); above_ylo = omega (arith, ints); below_yhi = omega (arith, ints) }
 
 -- the image of a rectangle has the images of its squares
-pub area_image-covers : (t : Transform) (area : Rect) (s : Square) → Covers area s → Covers (area_image t area) (image t s)
-area_image-covers t area s c = rw (image-moved t s) (covers-by_orient t.orient t.dx t.dy area s c)
+pub rect_image-covers : (t : Transform) (area : Rect) (s : Square) → Covers area s → Covers (rect_image t area) (image t s)
+rect_image-covers t area s c = rw (image-moved t s) (covers-by_orient t.orient t.dx t.dy area s c)
 
 -- and no others
-pub area_image-covered : (t : Transform) (area : Rect) (s : Square) → Covers (area_image t area) (image t s) → Covers area s
-area_image-covered t area s c = covered-by_orient t.orient t.dx t.dy area s (rw (image-moved t s) at c)
+pub rect_image-covered : (t : Transform) (area : Rect) (s : Square) → Covers (rect_image t area) (image t s) → Covers area s
+rect_image-covered t area s c = covered-by_orient t.orient t.dx t.dy area s (rw (image-moved t s) at c)
 
 -- where a point goes, by orientation
 abbrev pub across : Orient → ℤ → ℤ → ℤ → ℤ
@@ -203,10 +200,6 @@ pub transform_is : (t u : Transform) → t.orient ≡ u.orient → t.dx ≡ u.dx
 transform_is t u orients across up =
     let whole : record { orient = t.orient; dx = t.dx; dy = t.dy } ≡ u = rw (orients, across, up) refl in whole
 
-rect_is : (a b : Rect) → a.xlo ≡ b.xlo → a.ylo ≡ b.ylo → a.xhi ≡ b.xhi → a.yhi ≡ b.yhi → a ≡ b
-rect_is a b left bottom right top =
-    let whole : record { xlo = a.xlo; ylo = a.ylo; xhi = a.xhi; yhi = a.yhi } ≡ b = rw (left, bottom, right, top) refl in whole
-
 along_x : (t : Transform) (x y x' y' : ℤ) → x' ≡ x → y' ≡ y → point_x t x' y' ≡ point_x t x y
 along_x t x y x' y' e f = ap (λ v. point_x t v y') e ∙ ap (point_x t x) f
 
@@ -229,15 +222,15 @@ chosen : (b b' : Bool) (p p' q q' r : ℤ) → b ≡ b' → p ≡ p' → q ≡ q
 chosen b b' p p' q q' r same first second e = rw (← same, ← first, ← second) e
 
 -- the rectangle between the images of two opposite corners
-pub area_image-from_corners : (t : Transform) (area : Rect) (turned_x turned_y : Bool) (left bottom right top left' bottom' right' top' xlo ylo xhi yhi : ℤ)
+pub rect_image-from_corners : (t : Transform) (area : Rect) (turned_x turned_y : Bool) (left bottom right top left' bottom' right' top' xlo ylo xhi yhi : ℤ)
     → turned_x ≡ turns_x t.orient → turned_y ≡ turns_y t.orient
     → left ≡ area.xlo → bottom ≡ area.ylo → right ≡ area.xhi → top ≡ area.yhi
     → left' ≡ point_x t left bottom → bottom' ≡ point_y t left bottom → right' ≡ point_x t right top → top' ≡ point_y t right top
     → xlo ≡ cond turned_x right' left' → xhi ≡ cond turned_x left' right'
     → ylo ≡ cond turned_y top' bottom' → yhi ≡ cond turned_y bottom' top'
-    → record { xlo = xlo; ylo = ylo; xhi = xhi; yhi = yhi } ≡ area_image t area
-unfolding area_image
-area_image-from_corners t area turned_x turned_y left bottom right top left' bottom' right' top' xlo ylo xhi yhi e-x e-y e-left e-bottom e-right e-top e-left' e-bottom' e-right' e-top' e-xlo e-xhi e-ylo e-yhi =
+    → record { xlo = xlo; ylo = ylo; xhi = xhi; yhi = yhi } ≡ rect_image t area
+unfolding rect_image
+rect_image-from_corners t area turned_x turned_y left bottom right top left' bottom' right' top' xlo ylo xhi yhi e-x e-y e-left e-bottom e-right e-top e-left' e-bottom' e-right' e-top' e-xlo e-xhi e-ylo e-yhi =
     let l = e-left' ∙ along_x t _ _ _ _ e-left e-bottom in
     let b = e-bottom' ∙ along_y t _ _ _ _ e-left e-bottom in
     let r = e-right' ∙ along_x t _ _ _ _ e-right e-top in

@@ -3,6 +3,9 @@ use Rattle.std.proofs.Common.{◌≡◌, ◌⊎◌, inl, inr, ℤ, ◌≤ℤ◌,
 use Rattle.std.proofs.lemmas.Bool.{cases_Bool}
 use Rattle.std.proofs.lemmas.Int.{ints, clamps, by_lt_z}
 use Rattle.finite_sets.specs.Lists.{In}
+use Rattle.finite_sets.specs.Order.{Lexicographic}
+use Rattle.finite_sets.proofs.Orders.{Lexicographic-trans, at_most-trans}
+use Rattle.finite_sets.proofs.Pairs.{Pairwise}
 use Rattle.geo_core.specs.declared.bars.Bar.{Bar}
 use Rattle.geo_core.specs.Bars.{meets, reaching, joined_from, joined}
 
@@ -21,16 +24,11 @@ pub record HavePoint (bars : List Bar) (low high z : ℤ) : Type 0 where
 
 -- the first bar begins no later than the second on its lines, or lies on lines before
 abbrev pub NoLater : Bar → Bar → Type 0
-NoLater a b = (a.low <ℤ b.low) ⊎ ((a.low ≡ b.low) × ((a.high <ℤ b.high) ⊎ ((a.high ≡ b.high) × (a.from ≤ℤ b.from))))
+NoLater a b = Lexicographic a.low b.low (Lexicographic a.high b.high (a.from ≤ℤ b.from))
 
 -- bars on the same lines do not touch
 abbrev pub LieApart : Bar → Bar → Type 0
 LieApart a b = a.low ≡ b.low → a.high ≡ b.high → (a.to <ℤ b.from) ⊎ (b.to <ℤ a.from)
-
--- R holds of each thing of a list and each later one
-abbrev pub Pairwise : {X : Type 0} → (X → X → Type 0) → List X → Type 0
-Pairwise R [] = Unit {0}
-Pairwise {X} R (x ∷ xs) = ((y : X) → In y xs → R x y) × Pairwise R xs
 
 abbrev pub IsLong : Bar → Type 0
 IsLong bar = bar.from <ℤ bar.to
@@ -42,13 +40,8 @@ NoLater-refl : (a : Bar) → NoLater a a
 NoLater-refl a = inr (refl, inr (refl, omega (arith, ints)))
 
 NoLater-trans : (a b c : Bar) → NoLater a b → NoLater b c → NoLater a c
-NoLater-trans a b c (inl p) (inl q) = inl (omega (arith, ints, p, q))
-NoLater-trans a b c (inl p) (inr q) = inl (omega (arith, ints, p, q.0))
-NoLater-trans a b c (inr p) (inl q) = inl (omega (arith, ints, p.0, q))
-NoLater-trans a b c (inr (e, inl p)) (inr (f, inl q)) = inr (e ∙ f, inl (omega (arith, ints, p, q)))
-NoLater-trans a b c (inr (e, inl p)) (inr (f, inr q)) = inr (e ∙ f, inl (omega (arith, ints, p, q.0)))
-NoLater-trans a b c (inr (e, inr p)) (inr (f, inl q)) = inr (e ∙ f, inl (omega (arith, ints, p.0, q)))
-NoLater-trans a b c (inr (e, inr (g, p))) (inr (f, inr (h, q))) = inr (e ∙ f, inr (g ∙ h, omega (arith, ints, p, q)))
+NoLater-trans a b c =
+    Lexicographic-trans a.low b.low c.low (Lexicographic-trans a.high b.high c.high (at_most-trans a.from b.from c.from))
 
 -- what `meets` says
 record Meet (a b : Bar) : Type 0 where
@@ -152,14 +145,16 @@ points_of_two a b low high z m p =
       to_later = omega (arith, ints, clamps);
     }))
 
-gathered : (a b : Bar) (rest : List Bar) (low high z : ℤ) → Meet a b → NoLater a b → HavePoint (a ∷ b ∷ rest) low high z → HavePoint (reaching a b ∷ rest) low high z
+gathered : (a b : Bar) (rest : List Bar) (low high z : ℤ) → Meet a b → NoLater a b → HavePoint (a ∷ b ∷ rest) low high z
+    → HavePoint (reaching a b ∷ rest) low high z
 gathered a b rest low high z m h p = elim p.in_list [
   | inl e ↦ record { bar = reaching a b; in_list = inl refl; has = points_reaching a b low high z m h (inl (subst (λ c. HasPoint c low high z) (sym e) p.has)) }
   | inr (inl e) ↦ record { bar = reaching a b; in_list = inl refl; has = points_reaching a b low high z m h (inr (subst (λ c. HasPoint c low high z) (sym e) p.has)) }
   | inr (inr i) ↦ record { bar = p.bar; in_list = inr i; has = p.has }
 ]
 
-pub joined_keeps : (a : Bar) (rest : List Bar) → Pairwise NoLater (a ∷ rest) → (low high z : ℤ) → HavePoint (a ∷ rest) low high z → HavePoint (joined_from a rest) low high z
+pub joined_keeps : (a : Bar) (rest : List Bar) → Pairwise NoLater (a ∷ rest) → (low high z : ℤ) → HavePoint (a ∷ rest) low high z
+    → HavePoint (joined_from a rest) low high z
 joined_keeps a [] h low high z p = p
 joined_keeps a (b ∷ rest) h low high z p = elim (cases_Bool (meets a b)) [
   | inl t ↦ subst (λ bars. HavePoint bars low high z) (sym (step_meets a b rest t))

@@ -2,29 +2,29 @@
 use Rattle.std.proofs.Common.{◌≡◌, inl, inr, ℤ, ◌≤ℤ◌, ◌<ℤ◌, Bool, true, false, List, ◌++◌, map, get_or, refl, sym, ◌∙◌, ap, subst, arith}
 use Rattle.std.specs.Prelude.{filter, AllPairs, IsSorted, IsPermutation}
 use Rattle.std.specs.Cmp.{IsTotalOrder}
-use Rattle.std.specs.declared.cmp.Ordering.{Ordering}
-use Rattle.std.specs.declared.cmp.Ordering.TheVariants.{Less, Equal, Greater}
-use Rattle.std.specs.Ordering.{is_lt, int_cmp, int_eq, eq_by_cmp, bool_cmp, ordering_then, ordering_reverse}
+use Rattle.std.specs.declared.cmp.Ordering.TheVariants.{Less, Equal}
+use Rattle.std.specs.Ordering.{int_cmp, int_eq, eq_by_cmp, bool_cmp, ordering_then, ordering_reverse}
 use Rattle.std.specs.List.{dedup}
 use Rattle.std.specs.List.Sorted.{IsStrictlySortedBy}
 use Rattle.std.proofs.lemmas.Bool.{false≢true}
 use Rattle.std.proofs.lemmas.Cmp.{int_cmp_total, int_eq_equiv, on_total, then_total, int_ranked}
 use Rattle.std.proofs.lemmas.Int.{ints}
 use Rattle.std.proofs.lemmas.List.Kept.{Contains-dedup, IsStrictlySortedBy-dedup}
-use Rattle.std.proofs.lemmas.List.Sorted.{sorted_far, ranks_by, IsPermutation-sym}
+use Rattle.std.proofs.lemmas.List.Sorted.{IsPermutation-sym}
 use Rattle.std.proofs.lemmas.Map.Keys.{Less-from_sorted}
 use Rattle.finite_sets.specs.Lists.{In}
-use Rattle.finite_sets.proofs.Members.{In-append_cases, In-append_left, In-append_right, In-map, In-map_source, In-filter, In-filter_source, In-filter_passes, In-from_Contains, Contains-from_In}
+use Rattle.finite_sets.proofs.Members.{In-append_cases, In-append_left, In-append_right, In-map, In-map_source, In-filter, In-filter_source}
+use Rattle.finite_sets.proofs.Members.{In-filter_passes, In-from_Contains, Contains-from_In, In-permutation}
+use Rattle.finite_sets.proofs.Orders.{int_then-not_less, IsSorted-pairs}
 use Rattle.geo_core.specs.declared.squares.Rect.{Rect}
 use Rattle.geo_core.specs.declared.bars.Bar.{Bar}
 use Rattle.geo_core.specs.declared.row_events.Event.{Event}
 use Rattle.geo_core.specs.Bars.{bar_cmp, joined}
-use Rattle.geo_core.specs.Covering.{IsProper}
 use Rattle.geo_core.specs.Areas.{has_square}
 use Rattle.geo_core.proofs.CoveringLaws.{IsProper-has_square, has_square-IsProper}
 use Rattle.geo_core.specs.RowEvents.{begin_of, top_of, end_of, event_cmp, IsAtNoLaterRow, IsBegin, AreEvents}
 use Rattle.geo_core.proofs.JoinLaws.{IsLong, AreLong, joined-are}
-use Rattle.geo_core.proofs.BarOrderLaws.{In-permutation, bars_in_order}
+use Rattle.geo_core.proofs.BarOrderLaws.{bars_in_order}
 
 bool_cmp_antisymm : (x y : Bool) → bool_cmp x y ≡ ordering_reverse (bool_cmp y x)
 bool_cmp_antisymm false false = refl
@@ -52,18 +52,13 @@ event_cmp_total : IsTotalOrder event_cmp
 event_cmp_total = then_total (on_total (λ e. e.row) int_cmp_total) (then_total (on_total (λ e. e.ends) bool_cmp_total)
     (then_total (on_total (λ e. e.from) int_cmp_total) (then_total (on_total (λ e. e.to) int_cmp_total) (on_total (λ e. e.top) int_cmp_total))))
 
--- an event that the next is not before comes no later
-not_less : (a b : Event) → is_lt (event_cmp b a) ≡ false → IsAtNoLaterRow a b
-not_less a b h = go (int_cmp b.row a.row) (ordering_then (bool_cmp b.ends a.ends) (ordering_then (int_cmp b.from a.from) (ordering_then (int_cmp b.to a.to) (int_cmp b.top a.top)))) refl h
-  where
-    go : (o p : Ordering) → o ≡ int_cmp b.row a.row → is_lt (ordering_then o p) ≡ false → IsAtNoLaterRow a b
-    go Less p e g = absurd (false≢true (sym g))
-    go Greater p e g = let less : a.row <ℤ b.row = int_ranked b.row a.row Greater e in omega (arith, ints)
-    go Equal p e g = let same : b.row ≡ a.row = int_ranked b.row a.row Equal e in omega (arith, ints)
-
+-- an event comes no later than one that is not before it
 events_in_order : (events : List Event) → IsSorted event_cmp events → AllPairs IsAtNoLaterRow events
-events_in_order events sorted = λ i j d less below. not_less (get_or events i d) (get_or events j d)
-    (sorted_far (λ a b. is_lt (event_cmp a b)) (ranks_by event_cmp_total (λ s. s)) events sorted i j d (omega arith) below)
+events_in_order events sorted = λ i j d less below.
+    let a = get_or events i d in
+    let b = get_or events j d in
+    let rest = ordering_then (bool_cmp b.ends a.ends) (ordering_then (int_cmp b.from a.from) (ordering_then (int_cmp b.to a.to) (int_cmp b.top a.top))) in
+    int_then-not_less a.row b.row rest (IsSorted-pairs event_cmp event_cmp_total events sorted i j d less below)
 
 -- what stands in the list of the tests' passes
 begins_are : (areas : List Rect) (event : Event) → In event (map begin_of (filter has_square areas)) → IsBegin areas event

@@ -67,7 +67,8 @@ pub record IsTaking (from to left right : ℤ) (old new : Row) : Type 0 where
   pub left_run : (left ≡ from) ⊎ ((run : Run) × ((old left ≡ Some run) × (from ≤ℤ run.to)))
   pub right_run : (right ≡ to) ⊎ ((a : ℤ) × ((run : Run) × ((old a ≡ Some run) × (run.to ≡ right) × (a ≤ℤ to))))
 
-pub taking_more : (from to left right start : ℤ) (run : Run) (old mid new : Row) → IsTaking from to left right old mid → Touches mid from to start run → IsWithout start mid new
+pub taking_more : (from to left right start : ℤ) (run : Run) (old mid new : Row) → IsTaking from to left right old mid → Touches mid from to start run
+    → IsWithout start mid new
     → IsTaking from to (int_min left start) (int_max right run.to) old new
 taking_more from to left right start run old mid new h t w =
     let first = h.first in let last = h.last in
@@ -145,7 +146,8 @@ written_before y old mid before after bar h w = elim (h.fresh w.from w.run w.beg
   | inr e ↦ absurd (let high = w.high in omega (arith, ints, e, high))
 ]
 
-pub changes_both : (y : ℤ) (old mid new : Row) (before between after : List Bar) → Changes y old mid before between → Changes y mid new between after → Changes y old new before after
+pub changes_both : (y : ℤ) (old mid new : Row) (before between after : List Bar) → Changes y old mid before between → Changes y mid new between after
+    → Changes y old new before after
 changes_both y old mid new before between after g h = record {
   fresh = λ a r e. elim (h.fresh a r e) [ inl m ↦ g.fresh a r m | inr s ↦ inr s ];
   ended = λ a r e. elim (g.ended a r e) [
@@ -253,7 +255,8 @@ module _ (from to left right : ℤ) (old mid : Row) (t : IsTaken from to left ri
       (λ less. inl (t.on_left x after less))
       (λ not_less. by_lt_z x to (λ inside. inr (not_less, inside)) (λ beyond. inl (t.on_right x beyond before)))
 
-  pub covered : (y : ℤ) (new : Row) (before after : List Bar) → Changes y old mid before after → IsPlaced left right y mid new → IsCovered from to y old new before after
+  pub covered : (y : ℤ) (new : Row) (before after : List Bar) → Changes y old mid before after → IsPlaced left right y mid new
+      → IsCovered from to y old new before after
   covered y new before after c p = record {
     apart = p.apart;
     changes = changes_both y old mid new before after after c (changes_placed left right y mid new after p);
@@ -272,7 +275,8 @@ module _ (from to left right : ℤ) (old mid : Row) (t : IsTaken from to left ri
     | inr f ↦ inl (let s = f.1 in omega (arith, ints, s, order))
   ]
 
-  pub uncovered : (y : ℤ) (next new : Row) (before after : List Bar) → from <ℤ to → Changes y old mid before after → IsPlaced left from y mid next → IsPlaced to right y next new
+  pub uncovered : (y : ℤ) (next new : Row) (before after : List Bar) → from <ℤ to → Changes y old mid before after → IsPlaced left from y mid next
+      → IsPlaced to right y next new
       → IsUncovered from to y old new before after
   uncovered y next new before after order c p q = record {
     apart = q.apart;

@@ -1,6 +1,7 @@
 -- The sweep keeps track of what rectangles cover, row by row.
-use Rattle.std.proofs.Common.{◌≡◌, ◌⊎◌, inl, inr, ℕ, zero, suc, ◌+◌, ◌<◌, ℤ, pos, ◌-ℤ◌, ◌≤ℤ◌, ◌<ℤ◌, true, false, cond, List, [], ◌∷◌, ◌++◌, length, length-drop, take, drop, drop-cons, add-one, get_or, Some, None, refl, sym, ◌∙◌, ap, subst, arith}
-use Rattle.std.specs.Prelude.{◌&&◌, int_le, int_lt}
+use Rattle.std.proofs.Common.{◌≡◌, ◌⊎◌, inl, inr, ℕ, zero, suc, ◌+◌, ◌<◌, ℤ, pos, ◌-ℤ◌, ◌≤ℤ◌, ◌<ℤ◌, true, false, cond, List, [], ◌∷◌, ◌++◌}
+use Rattle.std.proofs.Common.{length, length-drop, take, drop, drop-cons, add-one, get_or, Some, None, refl, sym, ◌∙◌, ap, subst, arith}
+use Rattle.std.specs.Prelude.{◌&&◌, ◌^◌, neg_ℤ, int_le, int_lt}
 use Rattle.std.specs.Int.{int_max}
 use Rattle.std.proofs.lemmas.Bool.{cases_Bool, false≢true}
 use Rattle.std.proofs.lemmas.Int.{ints, clamps, by_lt_z}
@@ -19,8 +20,12 @@ use Rattle.geo_core.specs.RowEvents.{begin_of, HaveEnd, AreEvents, sides_of}
 use Rattle.geo_core.specs.RowRuns.{Row, IsInRow, AreRuns, bar_of, IsWritten, Changes, IsCovered, IsUncovered}
 use Rattle.geo_core.specs.Strips.{IsRun, IsInUnion}
 use Rattle.geo_core.specs.declared.sweeping.Sweep.{Sweep}
-use Rattle.geo_core.specs.Sweeping.{row_of, IsBegun, IsEnded, HaveSquare, AreRunBars}
+use Rattle.geo_core.specs.Sweeping.{row_of, RectBegins, RectsEnd, HaveSquare, AreRunBars}
 use Rattle.geo_core.proofs.RowLaws.{changes_both, same_run}
+
+-- below all rows: the least signed number of 64 bits
+abbrev pub lowest : ℤ
+lowest = neg_ℤ (pos (2 ^ 63))
 
 -- what the gaps so far took out of the runs
 pub record IsEnding (y : ℤ) (done : List Gap) (old new : Row) (before after : List Bar) : Type 0 where
@@ -48,7 +53,7 @@ ending_more y done gap old mid new before between after h u = record {
 
 -- all gaps were taken out
 pub sweep_ended : (event : Event) (old new : Sweep) (gaps : List Gap) → AddsColumns (IsGap old.coverage event.from event.to event.row) [] gaps
-    → IsEnding event.row gaps (row_of old) (row_of new) old.found.items new.found.items → new.coverage ≡ old.coverage → IsEnded event old new
+    → IsEnding event.row gaps (row_of old) (row_of new) old.found.items new.found.items → new.coverage ≡ old.coverage → RectsEnd event old new
 sweep_ended event old new gaps adds e same = record {
   apart = e.apart;
   changes = e.changes;
@@ -77,12 +82,14 @@ module _ (S : Square → Type 0) where
     pub standing : (a : ℤ) (run : Run) → row a ≡ Some run → (y : ℤ) → run.since ≤ℤ y → y <ℤ h → IsRun S a run.to y
     pub long : (bar : Bar) → In bar found → bar.from <ℤ bar.to
     pub runs : (bar : Bar) → In bar found → (y : ℤ) → bar.from ≤ℤ y → y <ℤ bar.to → IsRun S bar.low bar.high y
-    pub whole : (x y : ℤ) → S (at x y) → y <ℤ h → HaveSquare found x y ⊎ ((a : ℤ) × ((run : Run) × ((row a ≡ Some run) × (a ≤ℤ x) × (x <ℤ run.to) × (run.since ≤ℤ y))))
+    pub whole : (x y : ℤ) → S (at x y) → y <ℤ h
+        → HaveSquare found x y ⊎ ((a : ℤ) × ((run : Run) × ((row a ≡ Some run) × (a ≤ℤ x) × (x <ℤ run.to) × (run.since ≤ℤ y))))
 
   written_long : (h : ℤ) (row : Row) (found : List Bar) (bar : Bar) → AreBooked h row found → IsWritten row h bar → bar.from <ℤ bar.to
   written_long h row found bar b w = subst (λ (v : Bar). v.from <ℤ v.to) w.is w.high
 
-  written_runs : (h : ℤ) (row : Row) (found : List Bar) (bar : Bar) → AreBooked h row found → IsWritten row h bar → (y : ℤ) → bar.from ≤ℤ y → y <ℤ bar.to → IsRun S bar.low bar.high y
+  written_runs : (h : ℤ) (row : Row) (found : List Bar) (bar : Bar) → AreBooked h row found → IsWritten row h bar → (y : ℤ) → bar.from ≤ℤ y
+      → y <ℤ bar.to → IsRun S bar.low bar.high y
   written_runs h row found bar b w = subst (λ (v : Bar). (y : ℤ) → v.from ≤ℤ y → y <ℤ v.to → IsRun S v.low v.high y) w.is (b.standing w.from w.run w.begins)
 
   booked_changed : (h : ℤ) (row row' : Row) (found found' : List Bar) → AreBooked h row found → Changes h row row' found found' → AreBooked h row' found'
@@ -107,7 +114,8 @@ module _ (S : Square → Type 0) where
     pub back : (x y : ℤ) → h ≤ℤ y → y <ℤ h' → S (at x y) → IsInRow row x
 
   -- a run of the row is a run of the set where the row is as the runs say
-  run_of_row : (row : Row) (a y : ℤ) (run : Run) → AreRuns row → ((x : ℤ) → IsInRow row x → S (at x y)) → ((x : ℤ) → S (at x y) → IsInRow row x) → row a ≡ Some run → IsRun S a run.to y
+  run_of_row : (row : Row) (a y : ℤ) (run : Run) → AreRuns row → ((x : ℤ) → IsInRow row x → S (at x y)) → ((x : ℤ) → S (at x y) → IsInRow row x)
+      → row a ≡ Some run → IsRun S a run.to y
   run_of_row row a y run runs there back begins = record {
     long = runs.long a run begins;
     within = λ x from to. there x (record { from = a; run = run; begins = begins; after = from; before = to });
@@ -257,7 +265,8 @@ module _ (areas : List Rect) (events : List Event) (are : AreEvents areas events
       | inr f ↦ inr (f.0, (In-append_left f.0 done (e ∷ []) f.1.0, f.1.1, f.1.2, f.1.3, (let below = f.1.4 in omega (arith, ints, same, below))))
     ]
 
-    reach_more : (x : ℤ) → (until' x ≡ lowest) ⊎ ((f : Event) × ((In f (done ++ e ∷ [])) × (f.ends ≡ false) × (f.from ≤ℤ x) × (x <ℤ f.to) × (until' x ≤ℤ f.top)))
+    reach_more : (x : ℤ)
+        → (until' x ≡ lowest) ⊎ ((f : Event) × ((In f (done ++ e ∷ [])) × (f.ends ≡ false) × (f.from ≤ℤ x) × (x <ℤ f.to) × (until' x ≤ℤ f.top)))
     reach_more x = elim (cases_Bool (int_le e.from x && int_lt x e.to)) [
       | inl t ↦ (let is = r x ∙ ap (λ v. cond v (int_max (until x) e.top) (until x)) t in by_lt_z (until x) e.top
           (λ less. inr (e, (In-push done e, no_end, (let w = within x t in w.0), (let w = within x t in w.1), omega (arith, ints, clamps, is, less))))
@@ -390,7 +399,8 @@ pub record IsSwept (areas : List Rect) (done rest : List Event) (lowest : ℤ) (
   pub to : IsSweptTo areas h done rest lowest row until found
 
 -- on to the row of the next event, if it is not there
-pub at_next : (areas : List Rect) (events : List Event) → AreEvents areas events → (done : List Event) (e : Event) (rest : List Event) (lowest : ℤ) (row : Row) (until : ℤ → ℤ) (found : List Bar)
+pub at_next : (areas : List Rect) (events : List Event) → AreEvents areas events
+    → (done : List Event) (e : Event) (rest : List Event) (lowest : ℤ) (row : Row) (until : ℤ → ℤ) (found : List Bar)
     → ((f : Event) → In f events → In f done ⊎ In f (e ∷ rest)) → ((f : Event) → In f (e ∷ rest) → e.row ≤ℤ f.row)
     → IsSwept areas done (e ∷ rest) lowest row until found → IsSweptTo areas e.row done (e ∷ rest) lowest row until found
 at_next areas events are done e rest lowest row until found split later s =
@@ -400,7 +410,8 @@ at_next areas events are done e rest lowest row until found split later s =
     (λ not_less. subst (λ v. IsSweptTo areas v done (e ∷ rest) lowest row until found) (let same : s.h ≡ e.row = omega (arith, ints, first, not_less) in same) s.to)
 
 -- before the first event
-pub swept_first : (areas : List Rect) (events : List Event) (lowest h : ℤ) (row : Row) (until : ℤ → ℤ) → AreEvents areas events → ((e : Event) → In e events → h ≤ℤ e.row)
+pub swept_first : (areas : List Rect) (events : List Event) (lowest h : ℤ) (row : Row) (until : ℤ → ℤ) → AreEvents areas events
+    → ((e : Event) → In e events → h ≤ℤ e.row)
     → ((a : ℤ) → row a ≡ None) → ((x : ℤ) → until x ≡ lowest) → IsSweptTo areas h [] events lowest row until []
 swept_first areas events lowest h row until are coming empty lows = record {
   past = λ e i. absurd i;
@@ -487,7 +498,8 @@ module _ (areas : List Rect) (events : List Event) (are : AreEvents areas events
     here : IsSweptTo areas next.row (take i events) (next ∷ later) lowest row until found
     here = at_next areas events are (take i events) next later lowest row until found split_at rest_later (subst (λ v. IsSwept areas (take i events) v lowest row until found) cut s)
 
-    pub begun_at : (until' : ℤ → ℤ) → next.ends ≡ false → IsCovered next.from next.to next.row row row' found found' → ((x : ℤ) → until' x ≡ raised (Some next.from) (Some next.to) next.top x (until x))
+    pub begun_at : (until' : ℤ → ℤ) → next.ends ≡ false → IsCovered next.from next.to next.row row row' found found'
+        → ((x : ℤ) → until' x ≡ raised (Some next.from) (Some next.to) next.top x (until x))
         → IsSwept areas (take (i + 1) events) (drop (i + 1) events) lowest row' until' found'
     begun_at until' no_end c r = record {
       h = next.row;
@@ -543,7 +555,7 @@ pub record IsUnderWay (areas : List Rect) (events : List Event) (i : ℕ) (lowes
   pub to_cut : (e : Event) → In e events → IsCut sweep.coverage e.to
 
 module _ (areas : List Rect) (events : List Event) (i : ℕ) (lowest : ℤ) (old new : Sweep) (u : IsUnderWay areas events i lowest old) (below : i < length events) (d : Event) where
-  pub begun_under_way : (get_or events i d).ends ≡ false → IsBegun (get_or events i d) old new → IsUnderWay areas events (i + 1) lowest new
+  pub begun_under_way : (get_or events i d).ends ≡ false → RectBegins (get_or events i d) old new → IsUnderWay areas events (i + 1) lowest new
   begun_under_way no_end b = record {
     are = u.are;
     swept = begun_at areas events u.are i below d lowest (row_of old) (row_of new) (until old.coverage) old.found.items new.found.items u.swept (until new.coverage) no_end b.covered b.raised.rows;
@@ -552,7 +564,8 @@ module _ (areas : List Rect) (events : List Event) (i : ℕ) (lowest : ℤ) (old
     to_cut = λ e k. b.raised.cuts e.to (u.to_cut e k);
   }
 
-  pub ended_under_way : (get_or events i d).ends ≡ true → lowest ≤ℤ (get_or events i d).row → IsEnded (get_or events i d) old new → IsUnderWay areas events (i + 1) lowest new
+  pub ended_under_way : (get_or events i d).ends ≡ true → lowest ≤ℤ (get_or events i d).row → RectsEnd (get_or events i d) old new
+      → IsUnderWay areas events (i + 1) lowest new
   ended_under_way is_end low e =
       let swept = ended_at areas events u.are i below d lowest (row_of old) (row_of new) (until old.coverage) old.found.items new.found.items u.swept is_end low e.apart e.changes e.stayed
       (λ x from to short. e.none x (record { after = from; before = to; uncovered = short }))

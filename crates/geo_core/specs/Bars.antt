@@ -31,8 +31,8 @@ bar_cmp a b = ordering_then (int_cmp a.low b.low) (ordering_then (int_cmp a.high
 abbrev pub strip_of : Bar → Strip
 strip_of bar = record { ylo = bar.from; xlo = bar.low; xhi = bar.high; yhi = bar.to }
 
-abbrev pub area_of : Strip → Rect
-area_of strip = record { xlo = strip.xlo; ylo = strip.ylo; xhi = strip.xhi; yhi = strip.yhi }
+abbrev pub rect_of : Strip → Rect
+rect_of strip = record { xlo = strip.xlo; ylo = strip.ylo; xhi = strip.xhi; yhi = strip.yhi }
 
 -- Strips are in the order of their lowest rows, and from left to right in one row.
 abbrev pub strip_cmp : Strip → Strip → Ordering

@@ -42,8 +42,8 @@ abbrev pub turns_y : Orient → Bool
 turns_y o = int_lt ((matrix o).d +ℤ (matrix o).e) (pos 0)
 
 -- The image of a rectangle is the one whose corners are where its corners go.
-unfoldable pub area_image : Transform → Rect → Rect
-area_image t area =
+unfoldable pub rect_image : Transform → Rect → Rect
+rect_image t area =
     let left = point_x t area.xlo area.ylo in
     let right = point_x t area.xhi area.yhi in
     let bottom = point_y t area.xlo area.ylo in

@@ -1,5 +1,5 @@
 -- What happens at the rows where rectangles begin and end.
-use Rattle.std.specs.Prelude.{◌≡◌, ℤ, ◌≤ℤ◌, ◌<ℤ◌, Bool, true, false, ◌&&◌, int_lt, List, [], ◌∷◌, AllPairs}
+use Rattle.std.specs.Prelude.{◌≡◌, ℤ, ◌≤ℤ◌, ◌<ℤ◌, true, false, List, [], ◌∷◌, AllPairs}
 use Rattle.std.specs.Ordering.{int_cmp, bool_cmp, ordering_then}
 use Rattle.std.specs.declared.cmp.Ordering.{Ordering}
 use Rattle.finite_sets.specs.Lists.{In}

@@ -9,23 +9,17 @@ mod limits;
 mod lists;
 mod names;
 mod orients;
-#[cfg(test)]
-mod place_tests;
 mod planes;
 mod row_events;
 mod row_runs;
 mod squares;
 mod strip_lists;
-#[cfg(test)]
-mod strip_tests;
 mod sweeping;
-#[cfg(test)]
-mod tests;
 mod transforms;
 
 pub use faults::GeoFault;
 pub use grids::Grid;
-pub use limits::Limit;
+pub use limits::{Limit, MOST_TILES, PAINT_EDGE, PLANE_EDGE, REACH, TILES_FOR_A_STRIP};
 pub use lists::List;
 pub use names::Name;
 pub use orients::Orient;

@@ -1,5 +1,6 @@
 -- Parents and the leaders above them.
-use Rattle.std.proofs.Common.{◌≡◌, ℕ, zero, suc, ◌<◌, ◌≤◌, min, max, cond, eqb, List, inl, inr, map, length, get_or, set, refl, sym, ◌∙◌, ap, subst, arith, length-set, get_or-set_same, get_or-set_other}
+use Rattle.std.proofs.Common.{◌≡◌, ℕ, zero, suc, ◌<◌, ◌≤◌, min, max, cond, eqb, List, inl, inr, map, length, get_or}
+use Rattle.std.proofs.Common.{set, refl, sym, ◌∙◌, ap, subst, arith, length-set, get_or-set_same, get_or-set_other}
 use Rattle.std.proofs.lemmas.Bool.{cases_eq}
 use Rattle.std.proofs.lemmas.Bool.Decides.{nat_tests}
 use Rattle.std.proofs.lemmas.List.{length-map, get_or-map, ext_get_or}
@@ -168,7 +169,8 @@ moved_target : (x y : ℕ) → moved x y x ≡ x
 unfolding moved
 moved_target x y = grind (arith, nat_tests)
 
-link_by : (p l : List ℕ) → Leads p l → (x y : ℕ) → x < length p → y < length p → get_or l x 0 ≡ x → get_or l y 0 ≡ y → ((k : ℕ) → k < length p → get_or p k 0 < length p) → Leads (set p y x) (map (moved x y) l)
+link_by : (p l : List ℕ) → Leads p l → (x y : ℕ) → x < length p → y < length p → get_or l x 0 ≡ x → get_or l y 0 ≡ y
+    → ((k : ℕ) → k < length p → get_or p k 0 < length p) → Leads (set p y x) (map (moved x y) l)
 link_by p l L x y x_in y_in x_leads y_leads in_range =
     let m = map (moved x y) l in
     let at_y : get_or (set p y x) y 0 ≡ x = get_or-set_same p y x 0 y_in in
@@ -200,7 +202,8 @@ Leads-link p l d L x y x_in y_in x_leads y_leads = link_by p l L x y x_in y_in x
 link_of : ℕ → ℕ → List ℕ → List ℕ
 link_of low high leaders = map (λ k. cond (eqb k high) low k) leaders
 
-linked : (p leaders : List ℕ) → PointDown p → leaders_of p ≡ leaders → (x y : ℕ) → x < length p → y < length p → x ≤ y → get_or leaders x 0 ≡ x → get_or leaders y 0 ≡ y
+linked : (p leaders : List ℕ) → PointDown p → leaders_of p ≡ leaders → (x y : ℕ) → x < length p → y < length p → x ≤ y → get_or leaders x 0 ≡ x
+    → get_or leaders y 0 ≡ y
     → leaders_of (set p y x) ≡ link_of x y leaders
 unfolding link_of
 linked p leaders d same x y x_in y_in le x_leads y_leads =

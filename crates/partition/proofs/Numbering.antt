@@ -1,5 +1,6 @@
 -- The labels of classes: how many classes have a lesser leader.
-use Rattle.std.proofs.Common.{◌≡◌, ◌≢◌, ℕ, zero, suc, ◌+◌, ◌-◌, ◌<◌, ◌≤◌, cond, eqb, List, inl, inr, length, get_or, set, All, refl, sym, ◌∙◌, ap, subst, arith, add-zero, add-one, add-suc, get_or-set_same, get_or-set_other}
+use Rattle.std.proofs.Common.{◌≡◌, ◌≢◌, ℕ, zero, suc, ◌+◌, ◌-◌, ◌<◌, ◌≤◌, cond, eqb, List, inl, inr, length, get_or, set, All}
+use Rattle.std.proofs.Common.{sym, ◌∙◌, ap, subst, arith, add-zero, add-one, add-suc, get_or-set_same, get_or-set_other}
 use Rattle.std.proofs.lemmas.Bool.{cases_eq, cases_lt}
 use Rattle.std.proofs.lemmas.Bool.Decides.{nat_tests}
 use Rattle.std.proofs.lemmas.List.{length-map, get_or-map, ext_get_or}
@@ -41,9 +42,6 @@ pub record Numbered (parents labels : List ℕ) (i count : ℕ) : Type 0 where
   pub rest : (k : ℕ) → i ≤ k → k < length parents → get_or labels k 0 ≡ get_or parents k 0
   pub counted : count ≡ classes_below (leaders_of parents) i
 
-pub numbered_none : (p : List ℕ) → Numbered p p 0 0
-numbered_none p = record { done = λ k h. absurd (omega arith); rest = λ k h w. refl; counted = refl }
-
 one_written : (p labels : List ℕ) (i count label : ℕ) → Numbered p labels i count → i < length labels
     → label ≡ classes_below (leaders_of p) (get_or (leaders_of p) i 0) → (more : ℕ) → more ≡ classes_below (leaders_of p) (i + 1) → Numbered p (set labels i label) (i + 1) more
 one_written p labels i count label n within is more counts =
@@ -81,7 +79,8 @@ numbered_child p labels i count d n within long child =
     count
     (n.counted ∙ sym (classes_below-other (leaders_of p) i (λ e. child (parent ∙ Leads-root p (leaders_of p) d L i within e))))
 
-pub numbered_all : (p labels : List ℕ) (count : ℕ) → PointDown p → Numbered p labels (length p) count → length labels ≡ length p → labels ≡ labels_of (leaders_of p)
+pub numbered_all : (p labels : List ℕ) (count : ℕ) → PointDown p → Numbered p labels (length p) count → length labels ≡ length p
+    → labels ≡ labels_of (leaders_of p)
 numbered_all p labels count d n long =
     let leaders = leaders_of p in
     let L = Leads-leaders_of p d in
@@ -144,7 +143,8 @@ labels_below leaders lead =
     omega (arith, labels_at leaders k k_in))
 
 -- the leader that has so many before it
-found_below : (leaders : List ℕ) (n label : ℕ) → label < classes_below leaders n → (k : ℕ) × ((k < n) × ((get_or leaders k 0 ≡ k) × (classes_below leaders k ≡ label)))
+found_below : (leaders : List ℕ) (n label : ℕ) → label < classes_below leaders n
+    → (k : ℕ) × ((k < n) × ((get_or leaders k 0 ≡ k) × (classes_below leaders k ≡ label)))
 found_below leaders zero label h = absurd (omega arith)
 found_below leaders (suc n) label h = elim (cases_lt label (classes_below leaders n)) [
   | inl less ↦ (let r = found_below leaders n label less in (r.0, (omega (arith, r.1.0), r.1.1)))
@@ -155,7 +155,8 @@ found_below leaders (suc n) label h = elim (cases_lt label (classes_below leader
 ]
 
 -- each label is that of a leader, which is the least number that has it
-labels_used : (leaders : List ℕ) → Lead leaders → (label : ℕ) → label < classes_below leaders (length leaders) → (least : ℕ) × IsLeast ◌≤◌ (HasMark (labels_of leaders) label) least
+labels_used : (leaders : List ℕ) → Lead leaders → (label : ℕ) → label < classes_below leaders (length leaders)
+    → (least : ℕ) × IsLeast ◌≤◌ (HasMark (labels_of leaders) label) least
 labels_used leaders lead = λ label h.
     let r = found_below leaders (length leaders) label h in
     let k = r.0 in (
@@ -170,7 +171,8 @@ labels_used leaders lead = λ label h.
     )
 
 -- the least number of a class is its leader
-least_leads : (leaders : List ℕ) → Lead leaders → (label k : ℕ) → IsLeast ◌≤◌ (HasMark (labels_of leaders) label) k → (k < length leaders) × ((get_or leaders k 0 ≡ k) × (classes_below leaders k ≡ label))
+least_leads : (leaders : List ℕ) → Lead leaders → (label k : ℕ) → IsLeast ◌≤◌ (HasMark (labels_of leaders) label) k
+    → (k < length leaders) × ((get_or leaders k 0 ≡ k) × (classes_below leaders k ≡ label))
 least_leads leaders lead label k l =
     let k_in : k < length leaders = omega (arith, labels_long leaders, l.0.0) in
     let u = get_or leaders k 0 in

@@ -5,11 +5,7 @@
 //! average over all pairs: a walk to the root of a class halves the way that it took.
 #![tactic(auto)]
 
-mod faults;
 mod forest;
 mod stream;
-#[cfg(test)]
-mod tests;
 
-pub use faults::PartitionFault;
 pub use stream::{Labelling, Partition, classes, labels_are_unique};

@@ -1,5 +1,6 @@
 -- Sums over contacts are sums over pairs of places.
-use Rattle.std.proofs.Common.{◌≡◌, ℕ, ◌<◌, ◌≤◌, ℤ, pos, ◌+ℤ◌, ◌*ℤ◌, ◌≤ℤ◌, ◌<ℤ◌, Bool, true, false, cond, ◌&&◌, List, [], ◌∷◌, inl, inr, map, filter, length, get_or, refl, sym, ◌∙◌, ap, subst, arith}
+use Rattle.std.proofs.Common.{◌≡◌, ℕ, ◌<◌, ◌≤◌, ℤ, pos, ◌+ℤ◌, ◌*ℤ◌, ◌≤ℤ◌, ◌<ℤ◌, Bool, true, false, cond, ◌&&◌, List}
+use Rattle.std.proofs.Common.{[], ◌∷◌, inl, inr, map, filter, length, get_or, refl, sym, ◌∙◌, ap, subst, arith}
 use Rattle.std.specs.Prelude.{All, nat_lt, int_lt}
 use Rattle.std.specs.List.{range_with_len}
 use Rattle.std.proofs.Math.IntN.{*ℤ-zero}
@@ -18,7 +19,7 @@ use Rattle.finite_sets.proofs.Sums.{sum_on-append, sum_on-map, sum_on-same, sum_
 use Rattle.finite_sets.proofs.Ranges.{Lists-pairs_of}
 use Rattle.rect_contacts.specs.declared.contacts.Contact.{Contact}
 use Rattle.rect_contacts.specs.Rects.{rect_at, places_of}
-use Rattle.rect_contacts.specs.Contacts.{shared_length, IsContact}
+use Rattle.rect_contacts.specs.Contacts.{shared_length, IsSharedEdge}
 use Rattle.rect_contacts.specs.EdgeLaws.{ContactsCountBothWays}
 use Rattle.rect_contacts.proofs.Counting.{distributes_right}
 use Rattle.rect_contacts.proofs.Shared.{shared_length-same, shared_length-not_negative, shared_length-comm}
@@ -120,7 +121,8 @@ module _ (rects : List Rect) (proper : All IsProper rects) (weight : ℕ → ℕ
       ∙ ap (only_if (nat_lt i j)) (ap (λ (z : ℤ). (weight i j *ℤ shared_at i j) +ℤ (weight j i *ℤ z)) (shared_length-comm (rect_at rects j) (rect_at rects i))
       ∙ distributes_right (weight i j) (weight j i) (shared_at i j))
 
-  split : (i j : ℕ) → i < length rects → weight i j *ℤ shared_at i j ≡ only_if (nat_lt i j) (weight i j *ℤ shared_at i j) +ℤ only_if (nat_lt j i) (weight i j *ℤ shared_at i j)
+  split : (i j : ℕ) → i < length rects
+      → weight i j *ℤ shared_at i j ≡ only_if (nat_lt i j) (weight i j *ℤ shared_at i j) +ℤ only_if (nat_lt j i) (weight i j *ℤ shared_at i j)
   split i j below = one_order i j (weight i j *ℤ shared_at i j) (λ e.
       ap (λ (z : ℤ). weight i j *ℤ z) (ap (λ (k : ℕ). shared_at i k) (sym e) ∙ shared_length-same (rect_at rects i) (proper i _ below)) ∙ *ℤ-zero (weight i j))
 
@@ -148,7 +150,7 @@ module _ (rects : List Rect) (proper : All IsProper rects) (weight : ℕ → ℕ
       (λ f. ap (λ (z : ℤ). (weight i j +ℤ weight j i) *ℤ z) (none_from_test (shared_at i j) (shared_length-not_negative (rect_at rects i) (rect_at rects j)) f)
       ∙ *ℤ-zero (weight i j +ℤ weight j i))
 
-  module _ (contacts : List Contact) (lists : Lists (IsContact rects) contacts) where
+  module _ (contacts : List Contact) (lists : Lists (IsSharedEdge rects) contacts) where
     abbrev places_in : Contact → ℕ × ℕ
     places_in c = (c.first, c.second)
 

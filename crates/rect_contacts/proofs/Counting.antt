@@ -1,5 +1,6 @@
 -- How many integers of one range lie in another, and how many squares of one rectangle in another that is moved.
-use Rattle.std.proofs.Common.{◌≡◌, ℕ, zero, suc, ◌+◌, ◌*◌, ℤ, pos, ◌+ℤ◌, ◌*ℤ◌, ◌≤ℤ◌, ◌<ℤ◌, Bool, true, false, ◌&&◌, List, [], ◌∷◌, ◌⊎◌, inl, inr, map, refl, sym, ◌∙◌, ap, arith}
+use Rattle.std.proofs.Common.{◌≡◌, ℕ, zero, suc, ◌+◌, ◌*◌, ℤ, pos, ◌+ℤ◌, ◌*ℤ◌, ◌≤ℤ◌, ◌<ℤ◌, Bool, true, false}
+use Rattle.std.proofs.Common.{◌&&◌, List, [], ◌∷◌, ◌⊎◌, inl, inr, map, refl, sym, ◌∙◌, ap, arith}
 use Rattle.std.specs.Prelude.{int_le, int_lt}
 use Rattle.std.proofs.Math.IntN.{zero-*ℤ}
 use Rattle.std.proofs.lemmas.Int.{ints, clamps, by_lt_z}
@@ -24,7 +25,8 @@ fails_above : (lo hi z : ℤ) → hi ≤ℤ z → (int_le lo z && int_lt z hi) �
 fails_above lo hi z above = grind (arith, ints)
 
 -- an integer lies in the range, or outside it
-in_or_out : (lo hi z : ℤ) → ((lo ≤ℤ z) × (z <ℤ hi) × (one_if (int_le lo z && int_lt z hi) ≡ pos 1)) ⊎ (((z <ℤ lo) ⊎ (hi ≤ℤ z)) × (one_if (int_le lo z && int_lt z hi) ≡ pos 0))
+in_or_out : (lo hi z : ℤ)
+    → ((lo ≤ℤ z) × (z <ℤ hi) × (one_if (int_le lo z && int_lt z hi) ≡ pos 1)) ⊎ (((z <ℤ lo) ⊎ (hi ≤ℤ z)) × (one_if (int_le lo z && int_lt z hi) ≡ pos 0))
 in_or_out lo hi z =
     by_lt_z z lo
     (λ below. inr (inl below, ap one_if (fails_below lo hi z below)))
@@ -80,7 +82,8 @@ distributes_right a b k =
     omega (arith, ints, ap (λ z. z * up k) sum, ap (λ z. z * down k) sum)
 
 -- a sum over pairs of products is the product of the sums
-pub sum_on-pairs_of : {X Y : Type 0} (u : X → ℤ) (v : Y → ℤ) (xs : List X) (ys : List Y) → sum_on {X = X × Y} (λ p. u p.0 *ℤ v p.1) (pairs_of xs ys) ≡ sum_on u xs *ℤ sum_on v ys
+pub sum_on-pairs_of : {X Y : Type 0} (u : X → ℤ) (v : Y → ℤ) (xs : List X) (ys : List Y)
+    → sum_on {X = X × Y} (λ p. u p.0 *ℤ v p.1) (pairs_of xs ys) ≡ sum_on u xs *ℤ sum_on v ys
 sum_on-pairs_of u v [] ys = sym (zero-*ℤ (sum_on v ys))
 sum_on-pairs_of {X} {Y} u v (x ∷ xs) ys =
     let w : X × Y → ℤ = λ p. u p.0 *ℤ v p.1 in

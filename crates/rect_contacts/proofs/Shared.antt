@@ -17,7 +17,8 @@ chosen m n v = go (int_eq m n) (Decides-int_eq m n)
     go true d = inl (d.0 refl, refl)
     go false d = inr ((λ e. false≢true (d.1 e)), refl)
 
-pub shared_beside-cases : (a b : Rect) → ((a.xhi ≡ b.xlo) × (shared_beside a b ≡ overlap a.ylo a.yhi b.ylo b.yhi)) ⊎ ((a.xhi ≢ b.xlo) × (shared_beside a b ≡ pos 0))
+pub shared_beside-cases : (a b : Rect)
+    → ((a.xhi ≡ b.xlo) × (shared_beside a b ≡ overlap a.ylo a.yhi b.ylo b.yhi)) ⊎ ((a.xhi ≢ b.xlo) × (shared_beside a b ≡ pos 0))
 unfolding shared_beside
 shared_beside-cases a b = chosen a.xhi b.xlo (overlap a.ylo a.yhi b.ylo b.yhi)
 

@@ -1,5 +1,5 @@
 -- The squares of rectangles, and the edges of these squares.
-use Rattle.std.specs.Prelude.{Bool, not, ℤ, pos, ◌+ℤ◌, ◌-ℤ◌, ◌*ℤ◌, List, map, if◌then◌else◌}
+use Rattle.std.specs.Prelude.{Bool, not, ℤ, pos, ◌+ℤ◌, ◌-ℤ◌, ◌*ℤ◌, List, map}
 use Rattle.std.specs.List.{list_any}
 use Rattle.geo_core.specs.declared.squares.Square.{Square}
 use Rattle.geo_core.specs.declared.squares.Rect.{Rect}

@@ -3,9 +3,7 @@
 
 mod contacts;
 mod edges;
-mod faults;
 mod sides;
 
 pub use contacts::{Contact, touching};
 pub use edges::lengths_count_edges;
-pub use faults::SweepFault;

@@ -1,5 +1,5 @@
 -- The sweep before the first event, one event more, and after the last.
-use Rattle.std.proofs.Common.{◌+◌, ℤ, pos, neg_ℤ, ◌^◌, false, get_or, take_all, sym, ap, ◌∙◌, subst, arith, rules, w64}
+use Rattle.std.proofs.Common.{◌+◌, ℤ, pos, false, get_or, take_all, sym, ap, ◌∙◌, subst, arith, rules, w64}
 use Rattle.std.specs.Int.RustNames.{FitsSigned}
 use Rattle.std.specs.Ordering.{int_cmp}
 use Rattle.std.specs.BTreeMap.{get, is_at}
@@ -12,7 +12,7 @@ use Rattle.geo_core.specs.declared.row_events.Event.{Event}
 use Rattle.geo_core.specs.Coverage.{until, IsCut}
 use Rattle.geo_core.specs.RowEvents.{AreEvents, sides_of}
 use Rattle.geo_core.specs.Sweeping.{row_of}
-use Rattle.geo_core.proofs.SweepLaws.{IsUnderWay, begun_under_way, ended_under_way, swept_begins, swept_all, from_in_sides, to_in_sides, begin_long}
+use Rattle.geo_core.proofs.SweepLaws.{IsUnderWay, lowest, begun_under_way, ended_under_way, swept_begins, swept_all, from_in_sides, to_in_sides, begin_long}
 use Rattle.geo_core.proofs.sweeping.runs.Goals as goal
 use Rattle.geo_core.proofs.sweeping.runs.Goals.{then-event+in_ok-end, else-event+in_ok-begin}
 
@@ -48,7 +48,6 @@ loop-event-preserved c =
     let i = c.loop-event.event-index in
     let none : Event = record { row = pos 0; ends = false; from = pos 0; to = pos 0; top = pos 0 } in
     let event : Event = get_or items i none in
-    let lowest = neg_ℤ (pos (2 ^ 63)) in
     let inside = c.loop-event-test.true in
     elim c.if-event.branch [
       | then-event+in_ok-end w ↦ (let fits : FitsSigned w64 event.row = search rules in

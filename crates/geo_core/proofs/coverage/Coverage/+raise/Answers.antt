@@ -2,7 +2,8 @@ use Rattle.std.proofs.Common.{◌≡◌, ◌<ℤ◌, ◌≤ℤ◌, Box, Global, 
 use Rattle.std.specs.Int.{int_max, int_min}
 use Rattle.std.proofs.lemmas.Int.{ints, to_z-of_z}
 use Rattle.geo_core.specs.Coverage.{least_of, most_of, begins_before, ends_after, begin_after, end_before, IsTopped, IsCutAt}
-use Rattle.geo_core.proofs.CoverageLaws.{forks, LeftIsDone, SideIsRaised, cut_raised, left_raised, right_raised, left_stays, right_stays, left_from_cut, left_to_cut, right_from_cut, right_to_cut}
+use Rattle.geo_core.proofs.CoverageLaws.{forks, LeftIsDone, SideIsRaised, cut_raised, left_raised, right_raised, left_stays}
+use Rattle.geo_core.proofs.CoverageLaws.{right_stays, left_from_cut, left_to_cut, right_from_cut, right_to_cut}
 use Rattle.geo_core.proofs.coverage.Coverage.+raise.Goals as goal
 use Rattle.geo_core.proofs.coverage.Coverage.+raise.Goals.{then-begins_before, else-begins_before, then-ends_after, else-ends_after}
 

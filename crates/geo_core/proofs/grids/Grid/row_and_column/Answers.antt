@@ -6,7 +6,8 @@ use Rattle.geo_core.specs.Elements.{indices, elements_of, IsLawful}
 use Rattle.geo_core.proofs.ElementLaws.{elements_of-at, element_of-same, stands_at, StandsAt, indices-same, kept}
 use Rattle.geo_core.proofs.grids.Grid.row_and_column.Goals as goal
 
-stands : (grid : Grid) (k c : ℕ) → IsLawful grid → k < length (elements_of grid) → (xlo xhi : ℤ) → c ≡ indices xlo xhi → xlo ≡ grid.xlo → xhi ≡ grid.xhi → StandsAt grid k (k / c) (k % c)
+stands : (grid : Grid) (k c : ℕ) → IsLawful grid → k < length (elements_of grid) → (xlo xhi : ℤ) → c ≡ indices xlo xhi → xlo ≡ grid.xlo
+    → xhi ≡ grid.xhi → StandsAt grid k (k / c) (k % c)
 stands grid k c lawful below xlo xhi same e f = stands_at grid k c lawful below (indices-same c xlo xhi grid.xlo grid.xhi same e f)
 
 pub overflow_cast-result : goal.overflow_cast-result
