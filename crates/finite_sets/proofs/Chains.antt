@@ -3,9 +3,11 @@ use Rattle.std.proofs.Common.{◌≡◌, inl, inr, refl, ◌∙◌, subst}
 use Rattle.finite_sets.specs.Chain.{Chain, EitherWay}
 use Rattle.finite_sets.specs.Chain.Chain.{stay, go}
 
+-- one step
 pub Chain-one : {X : Type 0} {R : X → X → Type 0} {a b : X} → R a b → Chain R a b
 Chain-one r = go r stay
 
+-- one chain and then another
 pub Chain-append : {X : Type 0} {R : X → X → Type 0} {a b c : X} → Chain R a b → Chain R b c → Chain R a c
 Chain-append stay d = d
 Chain-append (go r c) d = go r (Chain-append c d)

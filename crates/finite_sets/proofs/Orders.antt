@@ -16,9 +16,11 @@ use Rattle.finite_sets.specs.Order.{Lexicographic}
 pub less_equal_or_greater : (m n : ℤ) → (m <ℤ n) ⊎ ((m ≡ n) ⊎ (n <ℤ m))
 less_equal_or_greater m n = grind (arith, ints)
 
+-- the same, told in two
 pub at_most_or_greater : (m n : ℤ) → (m ≤ℤ n) ⊎ (n <ℤ m)
 at_most_or_greater m n = grind (arith, ints)
 
+-- neither of two equal integers is the greater
 pub equal_from_both : (m n : ℤ) → m ≤ℤ n → n ≤ℤ m → m ≡ n
 equal_from_both m n p q = omega (arith, ints)
 
@@ -27,6 +29,7 @@ pub Lexicographic-irreflexive : (x : ℤ) {rest : Type 0} → (rest → ⊥) →
 Lexicographic-irreflexive x none (inl less) = omega (arith, ints, less)
 Lexicographic-irreflexive x none (inr (same, more)) = none more
 
+-- where the rests follow one another, the orders do
 pub Lexicographic-trans : (x y z : ℤ) {P Q R : Type 0} → (P → Q → R) → Lexicographic x y P → Lexicographic y z Q → Lexicographic x z R
 Lexicographic-trans x y z join (inl p) (inl q) = inl (omega (arith, ints, p, q))
 Lexicographic-trans x y z join (inl p) (inr (same, q)) = inl (omega (arith, ints, p, same))
@@ -45,16 +48,20 @@ Lexicographic-total x y rest = elim (less_equal_or_greater x y) [
   | inr (inr greater) ↦ inr (inr (inl greater))
 ]
 
+-- a rest that the other implies
 pub Lexicographic-map : (x y : ℤ) {P Q : Type 0} → (P → Q) → Lexicographic x y P → Lexicographic x y Q
 Lexicographic-map x y f (inl less) = inl less
 Lexicographic-map x y f (inr (same, p)) = inr (same, f p)
 
+-- no integer is less than itself
 pub less-irreflexive : (x : ℤ) → x <ℤ x → ⊥
 less-irreflexive x less = omega (arith, ints)
 
+-- of three integers in order the first is the least
 pub less-trans : (x y z : ℤ) → x <ℤ y → y <ℤ z → x <ℤ z
 less-trans x y z p q = omega (arith, ints)
 
+-- the same of integers that may be equal
 pub at_most-trans : (x y z : ℤ) → x ≤ℤ y → y ≤ℤ z → x ≤ℤ z
 at_most-trans x y z p q = omega (arith, ints)
 
@@ -78,7 +85,10 @@ ordering_then-not_less x y rest fails = by_order (int_cmp y x) refl fails
 
 -- the first of two keys alone
 pub int_then-not_less : (x y : ℤ) (rest : Ordering) → is_lt (ordering_then (int_cmp y x) rest) ≡ false → x ≤ℤ y
-int_then-not_less x y rest fails = elim (ordering_then-not_less x y rest fails) [ inl less ↦ omega (arith, ints, less) | inr both ↦ omega (arith, ints, both.0) ]
+int_then-not_less x y rest fails = elim (ordering_then-not_less x y rest fails) [
+  | inl less ↦ omega (arith, ints, less)
+  | inr both ↦ omega (arith, ints, both.0)
+]
 
 -- in a list sorted by a key no later thing compares as less
 pub IsSortedByKey-pairs : {X K : Type 0} (key : X → K) (cmp : K → K → Ordering) → IsTotalOrder cmp → (xs : List X)
@@ -86,5 +96,6 @@ pub IsSortedByKey-pairs : {X K : Type 0} (key : X → K) (cmp : K → K → Orde
 IsSortedByKey-pairs key cmp total xs sorted = λ i j d less below.
     sorted_far (λ a b. is_lt (cmp (key a) (key b))) (ranks_by total key) xs sorted i j d (omega arith) below
 
+-- the same of a list sorted by the things themselves
 pub IsSorted-pairs : {X : Type 0} (cmp : X → X → Ordering) → IsTotalOrder cmp → (xs : List X) → IsSorted cmp xs → AllPairs (λ a b. is_lt (cmp b a) ≡ false) xs
 IsSorted-pairs cmp total xs sorted = IsSortedByKey-pairs (λ x. x) cmp total xs sorted

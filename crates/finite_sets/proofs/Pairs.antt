@@ -13,6 +13,7 @@ abbrev pub Pairwise : {X : Type 0} → (X → X → Type 0) → List X → Type 
 Pairwise R [] = Unit {0}
 Pairwise {X} R (x ∷ xs) = ((y : X) → In y xs → R x y) × Pairwise R xs
 
+-- by recursion, and so by places
 pub AllPairs-from_Pairwise : {X : Type 0} (R : X → X → Type 0) (xs : List X) → Pairwise R xs → AllPairs R xs
 AllPairs-from_Pairwise R [] h i j d less below = absurd (omega arith)
 AllPairs-from_Pairwise R (x ∷ xs) h zero zero d less below = absurd (omega arith)
@@ -20,6 +21,7 @@ AllPairs-from_Pairwise R (x ∷ xs) h zero (suc j) d less below = h.0 (get_or xs
 AllPairs-from_Pairwise R (x ∷ xs) h (suc i) zero d less below = absurd (omega arith)
 AllPairs-from_Pairwise R (x ∷ xs) h (suc i) (suc j) d less below = AllPairs-from_Pairwise R xs h.1 i j d (omega arith) (omega arith)
 
+-- and back
 pub Pairwise-from_AllPairs : {X : Type 0} (R : X → X → Type 0) (xs : List X) → AllPairs R xs → Pairwise R xs
 Pairwise-from_AllPairs R [] all = tt
 Pairwise-from_AllPairs {X} R (x ∷ xs) all = (
@@ -41,9 +43,11 @@ ComesFrom i j k from = ((k ≡ i) × (from ≡ j)) ⊎ (((k ≡ j) × (from ≡ 
 
 from_two_places : (i j k l from from' : ℕ) → ComesFrom i j k from → ComesFrom i j l from' → k < l → from ≢ from'
 from_two_places i j k l from from' (inl p) (inl q) h e = let p0 : k ≡ i = p.0 in let q0 : l ≡ i = q.0 in omega arith
-from_two_places i j k l from from' (inl p) (inr (inl q)) h e = let p0 : k ≡ i = p.0 in let p1 : from ≡ j = p.1 in let q0 : l ≡ j = q.0 in let q1 : from' ≡ i = q.1 in omega arith
+from_two_places i j k l from from' (inl p) (inr (inl q)) h e = let p0 : k ≡ i = p.0 in let p1 : from ≡ j = p.1 in let q0 : l ≡ j = q.0 in
+    let q1 : from' ≡ i = q.1 in omega arith
 from_two_places i j k l from from' (inl p) (inr (inr q)) h e = q.1 (sym q.2 ∙ sym e ∙ p.1)
-from_two_places i j k l from from' (inr (inl p)) (inl q) h e = let p0 : k ≡ j = p.0 in let p1 : from ≡ i = p.1 in let q0 : l ≡ i = q.0 in let q1 : from' ≡ j = q.1 in omega arith
+from_two_places i j k l from from' (inr (inl p)) (inl q) h e = let p0 : k ≡ j = p.0 in let p1 : from ≡ i = p.1 in let q0 : l ≡ i = q.0 in
+    let q1 : from' ≡ j = q.1 in omega arith
 from_two_places i j k l from from' (inr (inl p)) (inr (inl q)) h e = let p0 : k ≡ j = p.0 in let q0 : l ≡ j = q.0 in omega arith
 from_two_places i j k l from from' (inr (inl p)) (inr (inr q)) h e = q.0 (sym q.2 ∙ sym e ∙ p.1)
 from_two_places i j k l from from' (inr (inr p)) (inl q) h e = p.1 (sym p.2 ∙ e ∙ q.1)
@@ -83,6 +87,7 @@ AllPairs-swap {X} R symmetric xs i j p q all = λ k l d h m.
     ] in
     subst (λ (x : X). R x (get_or (swap xs i j) l d)) (sym a.value) (subst (λ (y : X). R (get_or xs a.from d) y) (sym b.value) related)
 
+-- and in any other order of the list
 pub AllPairs-permutation : {X : Type 0} (R : X → X → Type 0) → ((a b : X) → R a b → R b a) → (xs ys : List X) → IsPermutation xs ys → AllPairs R xs
     → AllPairs R ys
 AllPairs-permutation R symmetric xs ys p all = IsPermutation-keeps xs (AllPairs R) all (AllPairs-swap R symmetric) ys p

@@ -10,6 +10,7 @@ use Rattle.finite_sets.proofs.Members.{In-append_cases, In-append_left, In-appen
 use Rattle.finite_sets.proofs.Distincts.{Distinct-append, Distinct-map}
 use Rattle.finite_sets.proofs.Totals.{Total-count, Total-at}
 
+-- they are so many
 pub length-integers_from : (lo : ℤ) (n : ℕ) → length (integers_from lo n) ≡ n
 length-integers_from lo zero = refl
 length-integers_from lo (suc n) = omega (arith, length-integers_from (lo +ℤ pos 1) n)
@@ -51,9 +52,11 @@ nonnegative_part_none (negsuc n) h = refl
 pub extent_up : (lo hi : ℤ) → lo ≤ℤ hi → lo +ℤ pos (extent lo hi) ≡ hi
 extent_up lo hi h = let e = nonnegative_part_is (hi -ℤ lo) (omega (arith, ints)) in ap (λ z. lo +ℤ z) e ∙ omega (arith, ints)
 
+-- a range that ends before it begins has none
 pub extent_none : (lo hi : ℤ) → hi ≤ℤ lo → extent lo hi ≡ 0
 extent_none lo hi h = nonnegative_part_none (hi -ℤ lo) (omega (arith, ints))
 
+-- a range has as many integers as its extent says
 pub length-integer_range : (lo hi : ℤ) → length (integer_range lo hi) ≡ extent lo hi
 length-integer_range lo hi = length-integers_from lo (extent lo hi)
 
@@ -80,6 +83,7 @@ In-pairs_of {X} {Y} x y (a ∷ xs) ys (inl e) k =
 In-pairs_of x y (a ∷ xs) ys (inr h) k =
     In-append_right (x, y) (map (λ v. (a, v)) ys) (pairs_of xs ys) (In-pairs_of x y xs ys h k)
 
+-- the first of a pair stands in the first list
 pub In-pairs_of_first : {X Y : Type 0} (p : X × Y) (xs : List X) (ys : List Y) → In p (pairs_of xs ys) → In p.0 xs
 In-pairs_of_first p [] ys h = absurd h
 In-pairs_of_first p (a ∷ xs) ys h = elim (In-append_cases p (map (λ v. (a, v)) ys) (pairs_of xs ys) h) [
@@ -87,6 +91,7 @@ In-pairs_of_first p (a ∷ xs) ys h = elim (In-append_cases p (map (λ v. (a, v)
   | inr k ↦ inr (In-pairs_of_first p xs ys k)
 ]
 
+-- the second of a pair stands in the second list
 pub In-pairs_of_second : {X Y : Type 0} (p : X × Y) (xs : List X) (ys : List Y) → In p (pairs_of xs ys) → In p.1 ys
 In-pairs_of_second p [] ys h = absurd h
 In-pairs_of_second {X} {Y} p (a ∷ xs) ys h = elim (In-append_cases p (map (λ v. (a, v)) ys) (pairs_of xs ys) h) [
@@ -112,6 +117,7 @@ Lists-pairs_of P Q xs ys l m = (
   (λ p h. (l.2 p.0 (In-pairs_of_first p xs ys h), m.2 p.1 (In-pairs_of_second p xs ys h))),
 )
 
+-- there are as many pairs as the product of the lengths
 pub length-pairs_of : {X Y : Type 0} (xs : List X) (ys : List Y) → length (pairs_of xs ys) ≡ length xs * length ys
 length-pairs_of [] ys = omega arith
 length-pairs_of (a ∷ xs) ys =
@@ -122,7 +128,8 @@ length-pairs_of (a ∷ xs) ys =
 pub Lists-rectangle : (xlo xhi ylo yhi : ℤ)
     → Lists {X = ℤ × ℤ} (λ p. IsBetween xlo xhi p.0 × IsBetween ylo yhi p.1) (pairs_of (integer_range xlo xhi) (integer_range ylo yhi))
 Lists-rectangle xlo xhi ylo yhi =
-    Lists-pairs_of (IsBetween xlo xhi) (IsBetween ylo yhi) (integer_range xlo xhi) (integer_range ylo yhi) (Lists-integer_range xlo xhi) (Lists-integer_range ylo yhi)
+    Lists-pairs_of (IsBetween xlo xhi) (IsBetween ylo yhi) (integer_range xlo xhi) (integer_range ylo yhi) (Lists-integer_range xlo xhi)
+    (Lists-integer_range ylo yhi)
 
 -- they are as many as its width times its height
 pub Total-rectangle : (xlo xhi ylo yhi : ℤ)

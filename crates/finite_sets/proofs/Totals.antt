@@ -18,6 +18,7 @@ Total-unique P w m n s t =
 pub Total-of_list : {X : Type 0} (P : X → Type 0) (w : X → ℤ) (n : ℤ) (xs : List X) → Total P w n → Lists P xs → sum_on w xs ≡ n
 Total-of_list P w n xs t l = Total-unique P w (sum_on w xs) n (xs, (l, refl)) t
 
+-- a list of the set has its total
 pub Total-from_list : {X : Type 0} (P : X → Type 0) (w : X → ℤ) (xs : List X) → Lists P xs → Total P w (sum_on w xs)
 Total-from_list P w xs l = (xs, (l, refl))
 
@@ -25,9 +26,11 @@ Total-from_list P w xs l = (xs, (l, refl))
 pub Total-at : {X : Type 0} (P : X → Type 0) (w : X → ℤ) (m n : ℤ) → m ≡ n → Total P w m → Total P w n
 Total-at P w m n e t = (t.0, (t.1.0, t.1.1 ∙ e))
 
+-- the empty set
 pub Total-none : {X : Type 0} (P : X → Type 0) (w : X → ℤ) → ((x : X) → P x → ⊥) → Total P w (pos 0)
 Total-none P w none = ([], (Lists-none P none, refl))
 
+-- the set of one thing
 pub Total-one : {X : Type 0} (x : X) (w : X → ℤ) → Total (λ y. x ≡ y) w (w x)
 Total-one x w = (x ∷ [], (Lists-one x, omega (arith, ints)))
 
@@ -60,6 +63,7 @@ pub Total-add : {X : Type 0} (P : X → Type 0) (v w : X → ℤ) (m n : ℤ) �
 Total-add P v w m n s t =
     (s.0, (s.1.0, sum_on-add v w s.0 ∙ ap (λ z. z +ℤ sum_on w s.0) s.1.1 ∙ ap (λ z. m +ℤ z) (Total-of_list P w n s.0 t s.1.0)))
 
+-- and of a difference the difference
 pub Total-sub : {X : Type 0} (P : X → Type 0) (v w : X → ℤ) (m n : ℤ) → Total P v m → Total P w n → Total P (λ x. v x -ℤ w x) (m -ℤ n)
 Total-sub P v w m n s t =
     (s.0, (s.1.0, sum_on-sub v w s.0 ∙ ap (λ z. z -ℤ sum_on w s.0) s.1.1 ∙ ap (λ z. m -ℤ z) (Total-of_list P w n s.0 t s.1.0)))
@@ -122,6 +126,7 @@ Total-le P v w m n h s t =
     let other = Total-of_list P w n s.0 t s.1.0 in
     omega (arith, ints, s.1.1)
 
+-- the total of a weight so many times
 pub Total-scale : {X : Type 0} (P : X → Type 0) (k : ℤ) (w : X → ℤ) (n : ℤ) → Total P w n → Total P (λ x. k *ℤ w x) (k *ℤ n)
 Total-scale P k w n t = (t.0, (t.1.0, sum_on-scale k w t.0 ∙ ap (λ z. k *ℤ z) t.1.1))
 

@@ -22,6 +22,7 @@ begins_no_later a b fails =
     (ordering_then-not_less a.high b.high begins columns))
     (ordering_then-not_less a.low b.low (ordering_then (int_cmp b.high a.high) begins) fails)
 
+-- sorted bars begin one after another
 pub bars_in_order : (bars : List Bar) → IsSorted bar_cmp bars → Pairwise NoLater bars
 bars_in_order bars sorted = Pairwise-from_AllPairs NoLater bars (λ i j d less below.
     begins_no_later (get_or bars i d) (get_or bars j d) (IsSorted-pairs bar_cmp bar_cmp_total bars sorted i j d less below))

@@ -22,12 +22,14 @@ no_piece = record { area = record { xlo = pos 0; ylo = pos 0; xhi = pos 0; yhi =
 abbrev pub corner_key : Piece → ℤ × ℤ
 corner_key piece = (piece.area.ylo, piece.area.xlo)
 
+-- by the row and then by the column
 abbrev pub pair_cmp : ℤ × ℤ → ℤ × ℤ → Ordering
 pair_cmp a b = ordering_then (int_cmp a.0 b.0) (int_cmp a.1 b.1)
 
 pair_cmp_total : IsTotalOrder pair_cmp
 pair_cmp_total = then_total (on_total (λ (k : ℤ × ℤ). k.0) int_cmp_total) (on_total (λ (k : ℤ × ℤ). k.1) int_cmp_total)
 
+-- a rectangle with a square covers its corner
 pub corner_covers : (area : Rect) (square : Square) → IsProper area → area.ylo ≡ square.y → area.xlo ≡ square.x → Covers area square
 corner_covers area square proper row column = record {
   right_of_xlo = omega (arith, ints);
@@ -52,5 +54,9 @@ sorted_by_corner pieces proper apart sorted = λ i j d less within.
     let not_less = IsSortedByKey-pairs corner_key pair_cmp pair_cmp_total pieces sorted i j d less within in
     elim (ordering_then-not_less a.ylo b.ylo (int_cmp b.xlo a.xlo) not_less) [
       | inl lower ↦ inl lower
-      | inr (row, no_later) ↦ inr (row, before_in_row a b (proper i d (omega arith)) (proper j d within) (apart i j d less within) row (int_cmp-not_less a.xlo b.xlo no_later))
+      | inr (row, no_later) ↦ inr (
+        row,
+        before_in_row a b (proper i d (omega arith)) (proper j d within) (apart i j d less within) row
+            (int_cmp-not_less a.xlo b.xlo no_later),
+      )
     ]

@@ -23,6 +23,7 @@ is_covered-Covers area square covers = grind (arith, ints)
 pub IsProper-has_square : (area : Rect) → has_square area ≡ true → IsProper area
 IsProper-has_square area test = record { wide = grind (arith, ints); high = grind (arith, ints) }
 
+-- and a rectangle with a square passes it
 pub has_square-IsProper : (area : Rect) → IsProper area → has_square area ≡ true
 has_square-IsProper area proper = grind (arith, ints)
 
@@ -33,7 +34,12 @@ covers_first a b square c =
     let right : square.x <ℤ (common_rect a b).xhi = c.left_of_xhi in
     let low : (common_rect a b).ylo ≤ℤ square.y = c.above_ylo in
     let high : square.y <ℤ (common_rect a b).yhi = c.below_yhi in
-    record { right_of_xlo = omega (arith, ints, clamps); left_of_xhi = omega (arith, ints, clamps); above_ylo = omega (arith, ints, clamps); below_yhi = omega (arith, ints, clamps) }
+    record {
+      right_of_xlo = omega (arith, ints, clamps);
+      left_of_xhi = omega (arith, ints, clamps);
+      above_ylo = omega (arith, ints, clamps);
+      below_yhi = omega (arith, ints, clamps);
+    }
 
 -- a square of the common part lies in the second rectangle
 pub covers_second : (a b : Rect) (square : Square) → Covers (common_rect a b) square → Covers b square
@@ -42,7 +48,12 @@ covers_second a b square c =
     let right : square.x <ℤ (common_rect a b).xhi = c.left_of_xhi in
     let low : (common_rect a b).ylo ≤ℤ square.y = c.above_ylo in
     let high : square.y <ℤ (common_rect a b).yhi = c.below_yhi in
-    record { right_of_xlo = omega (arith, ints, clamps); left_of_xhi = omega (arith, ints, clamps); above_ylo = omega (arith, ints, clamps); below_yhi = omega (arith, ints, clamps) }
+    record {
+      right_of_xlo = omega (arith, ints, clamps);
+      left_of_xhi = omega (arith, ints, clamps);
+      above_ylo = omega (arith, ints, clamps);
+      below_yhi = omega (arith, ints, clamps);
+    }
 
 -- a square of both rectangles lies in the common part
 pub covers_both : (a b : Rect) (square : Square) → Covers a square → Covers b square → Covers (common_rect a b) square
@@ -55,7 +66,12 @@ covers_both a b square c d =
     let right' : square.x <ℤ b.xhi = d.left_of_xhi in
     let low' : b.ylo ≤ℤ square.y = d.above_ylo in
     let high' : square.y <ℤ b.yhi = d.below_yhi in
-    record { right_of_xlo = omega (arith, ints, clamps); left_of_xhi = omega (arith, ints, clamps); above_ylo = omega (arith, ints, clamps); below_yhi = omega (arith, ints, clamps) }
+    record {
+      right_of_xlo = omega (arith, ints, clamps);
+      left_of_xhi = omega (arith, ints, clamps);
+      above_ylo = omega (arith, ints, clamps);
+      below_yhi = omega (arith, ints, clamps);
+    }
 
 -- a square of either rectangle lies in the one round both
 pub covers_joined_left : (a b : Rect) (square : Square) → Covers a square → Covers (joined_rect a b) square
@@ -64,15 +80,26 @@ covers_joined_left a b square c =
     let right : square.x <ℤ a.xhi = c.left_of_xhi in
     let low : a.ylo ≤ℤ square.y = c.above_ylo in
     let high : square.y <ℤ a.yhi = c.below_yhi in
-    record { right_of_xlo = omega (arith, ints, clamps); left_of_xhi = omega (arith, ints, clamps); above_ylo = omega (arith, ints, clamps); below_yhi = omega (arith, ints, clamps) }
+    record {
+      right_of_xlo = omega (arith, ints, clamps);
+      left_of_xhi = omega (arith, ints, clamps);
+      above_ylo = omega (arith, ints, clamps);
+      below_yhi = omega (arith, ints, clamps);
+    }
 
+-- and what the second
 pub covers_joined_right : (a b : Rect) (square : Square) → Covers b square → Covers (joined_rect a b) square
 covers_joined_right a b square c =
     let left : b.xlo ≤ℤ square.x = c.right_of_xlo in
     let right : square.x <ℤ b.xhi = c.left_of_xhi in
     let low : b.ylo ≤ℤ square.y = c.above_ylo in
     let high : square.y <ℤ b.yhi = c.below_yhi in
-    record { right_of_xlo = omega (arith, ints, clamps); left_of_xhi = omega (arith, ints, clamps); above_ylo = omega (arith, ints, clamps); below_yhi = omega (arith, ints, clamps) }
+    record {
+      right_of_xlo = omega (arith, ints, clamps);
+      left_of_xhi = omega (arith, ints, clamps);
+      above_ylo = omega (arith, ints, clamps);
+      below_yhi = omega (arith, ints, clamps);
+    }
 
 -- where neither of two goes past an edge, the one round both does not
 pub joined_within : (a b area : Rect) → LiesWithin a area → LiesWithin b area → LiesWithin (joined_rect a b) area
@@ -85,4 +112,9 @@ joined_within a b area p q =
     let q1 : area.ylo ≤ℤ b.ylo = q.above_ylo in
     let q2 : b.xhi ≤ℤ area.xhi = q.left_of_xhi in
     let q3 : b.yhi ≤ℤ area.yhi = q.below_yhi in
-    record { right_of_xlo = omega (arith, ints, clamps); above_ylo = omega (arith, ints, clamps); left_of_xhi = omega (arith, ints, clamps); below_yhi = omega (arith, ints, clamps) }
+    record {
+      right_of_xlo = omega (arith, ints, clamps);
+      above_ylo = omega (arith, ints, clamps);
+      left_of_xhi = omega (arith, ints, clamps);
+      below_yhi = omega (arith, ints, clamps);
+    }

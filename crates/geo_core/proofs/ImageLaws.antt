@@ -13,6 +13,7 @@ use Rattle.geo_core.specs.Images.{point_x, point_y, turns_x, turns_y, image, rec
 use Rattle.geo_core.specs.Neighbours.{AreEdgeNeighbours}
 use Rattle.geo_core.proofs.SquareLaws.{square_is, rect_is}
 
+-- the transform of these parts
 abbrev pub transform_of : Orient → ℤ → ℤ → Transform
 transform_of o dx dy = record { orient = o; dx = dx; dy = dy }
 
@@ -32,6 +33,7 @@ unfolding image
 image-by_orient R0 dx dy s = square_is _ _ (omega (arith, ints, clamps)) (omega (arith, ints, clamps))
 image-by_orient _ dx dy s = square_is _ _ (omega (arith, ints, clamps)) (omega (arith, ints, clamps))
 
+-- that is the image
 pub image-moved : (t : Transform) (s : Square) → image t s ≡ moved t.orient t.dx t.dy s
 image-moved t s = image-by_orient t.orient t.dx t.dy s
 
@@ -69,9 +71,6 @@ image-composed inner outer s =
     ∙ composed-by_orient inner.orient outer.orient inner.dx inner.dy outer.dx outer.dy s
     ∙ ap (moved outer.orient outer.dx outer.dy) (sym (image-moved inner s))
     ∙ sym (image-moved outer (image inner s))
-
-pub image-identity : (s : Square) → image identity s ≡ s
-image-identity s = image-moved identity s ∙ square_is _ _ (omega (arith, ints)) (omega (arith, ints))
 
 inverted-by_orient : (o : Orient) (dx dy : ℤ) (s : Square)
     → (let t = inverted (transform_of o dx dy) in moved t.orient t.dx t.dy (moved o dx dy s)) ≡ s
@@ -145,13 +144,33 @@ image-neighbours t a b h = rw (image-back t a, image-back t b) at (neighbours-im
 
 covers-by_orient : (o : Orient) (dx dy : ℤ) (area : Rect) (s : Square) → Covers area s → Covers (rect_image (transform_of o dx dy) area) (moved o dx dy s)
 unfolding rect_image
-covers-by_orient R0 dx dy area s c = record { right_of_xlo = omega (arith, ints); left_of_xhi = omega (arith, ints); above_ylo = omega (arith, ints); below_yhi = omega (arith, ints) }
-covers-by_orient _ dx dy area s c = record { right_of_xlo = omega (arith, ints); left_of_xhi = omega (arith, ints); above_ylo = omega (arith, ints); below_yhi = omega (arith, ints) }
+covers-by_orient R0 dx dy area s c = record {
+  right_of_xlo = omega (arith, ints);
+  left_of_xhi = omega (arith, ints);
+  above_ylo = omega (arith, ints);
+  below_yhi = omega (arith, ints);
+}
+covers-by_orient _ dx dy area s c = record {
+  right_of_xlo = omega (arith, ints);
+  left_of_xhi = omega (arith, ints);
+  above_ylo = omega (arith, ints);
+  below_yhi = omega (arith, ints);
+}
 
 covered-by_orient : (o : Orient) (dx dy : ℤ) (area : Rect) (s : Square) → Covers (rect_image (transform_of o dx dy) area) (moved o dx dy s) → Covers area s
 unfolding rect_image
-covered-by_orient R0 dx dy area s c = record { right_of_xlo = omega (arith, ints); left_of_xhi = omega (arith, ints); above_ylo = omega (arith, ints); below_yhi = omega (arith, ints) }
-covered-by_orient _ dx dy area s c = record { right_of_xlo = omega (arith, ints); left_of_xhi = omega (arith, ints); above_ylo = omega (arith, ints); below_yhi = omega (arith, ints) }
+covered-by_orient R0 dx dy area s c = record {
+  right_of_xlo = omega (arith, ints);
+  left_of_xhi = omega (arith, ints);
+  above_ylo = omega (arith, ints);
+  below_yhi = omega (arith, ints);
+}
+covered-by_orient _ dx dy area s c = record {
+  right_of_xlo = omega (arith, ints);
+  left_of_xhi = omega (arith, ints);
+  above_ylo = omega (arith, ints);
+  below_yhi = omega (arith, ints);
+}
 
 -- the image of a rectangle has the images of its squares
 pub rect_image-covers : (t : Transform) (area : Rect) (s : Square) → Covers area s → Covers (rect_image t area) (image t s)
@@ -172,6 +191,7 @@ across My dx x y = dx -ℤ x
 across Mx90 dx x y = dx +ℤ y
 across My90 dx x y = dx -ℤ y
 
+-- the y of an image by orientation
 abbrev pub upward : Orient → ℤ → ℤ → ℤ → ℤ
 upward R0 dy x y = dy +ℤ y
 upward R90 dy x y = dy +ℤ x
@@ -190,12 +210,15 @@ upward-point_y : (o : Orient) (dx dy x y : ℤ) → upward o dy x y ≡ point_y 
 upward-point_y R0 dx dy x y = omega (arith, ints)
 upward-point_y _ dx dy x y = omega (arith, ints)
 
+-- what the arm of an orientation computes is the x of the image
 pub point_x_at : (t : Transform) (o : Orient) (r x y : ℤ) → t.orient ≡ o → r ≡ across o t.dx x y → r ≡ point_x t x y
 point_x_at t o r x y is e = e ∙ ap (λ p. across p t.dx x y) (sym is) ∙ across-point_x t.orient t.dx t.dy x y
 
+-- and its y
 pub point_y_at : (t : Transform) (o : Orient) (r x y : ℤ) → t.orient ≡ o → r ≡ upward o t.dy x y → r ≡ point_y t x y
 point_y_at t o r x y is e = e ∙ ap (λ p. upward p t.dy x y) (sym is) ∙ upward-point_y t.orient t.dx t.dy x y
 
+-- transforms of equal parts are equal
 pub transform_is : (t u : Transform) → t.orient ≡ u.orient → t.dx ≡ u.dx → t.dy ≡ u.dy → t ≡ u
 transform_is t u orients across up =
     let whole : record { orient = t.orient; dx = t.dx; dy = t.dy } ≡ u = rw (orients, across, up) refl in whole
@@ -215,8 +238,10 @@ pub image-from_corners : (t : Transform) (s : Square) (left bottom right top lef
 unfolding image
 image-from_corners t s left bottom right top left' bottom' right' top' x y e-left e-bottom e-right e-top e-left' e-bottom' e-right' e-top' e-x e-y =
     square_is _ _
-    (e-x ∙ ap (λ v. int_min v right') (e-left' ∙ along_x t _ _ _ _ e-left e-bottom) ∙ ap (int_min (point_x t s.x s.y)) (e-right' ∙ along_x t _ _ _ _ e-right e-top))
-    (e-y ∙ ap (λ v. int_min v top') (e-bottom' ∙ along_y t _ _ _ _ e-left e-bottom) ∙ ap (int_min (point_y t s.x s.y)) (e-top' ∙ along_y t _ _ _ _ e-right e-top))
+    (e-x ∙ ap (λ v. int_min v right') (e-left' ∙ along_x t _ _ _ _ e-left e-bottom) ∙ ap (int_min (point_x t s.x s.y))
+    (e-right' ∙ along_x t _ _ _ _ e-right e-top))
+    (e-y ∙ ap (λ v. int_min v top') (e-bottom' ∙ along_y t _ _ _ _ e-left e-bottom) ∙ ap (int_min (point_y t s.x s.y))
+    (e-top' ∙ along_y t _ _ _ _ e-right e-top))
 
 chosen : (b b' : Bool) (p p' q q' r : ℤ) → b ≡ b' → p ≡ p' → q ≡ q' → r ≡ cond b p q → r ≡ cond b' p' q'
 chosen b b' p p' q q' r same first second e = rw (← same, ← first, ← second) e
@@ -230,7 +255,8 @@ pub rect_image-from_corners : (t : Transform) (area : Rect) (turned_x turned_y :
     → ylo ≡ cond turned_y top' bottom' → yhi ≡ cond turned_y bottom' top'
     → record { xlo = xlo; ylo = ylo; xhi = xhi; yhi = yhi } ≡ rect_image t area
 unfolding rect_image
-rect_image-from_corners t area turned_x turned_y left bottom right top left' bottom' right' top' xlo ylo xhi yhi e-x e-y e-left e-bottom e-right e-top e-left' e-bottom' e-right' e-top' e-xlo e-xhi e-ylo e-yhi =
+rect_image-from_corners t area turned_x turned_y left bottom right top left' bottom' right' top' xlo ylo xhi yhi e-x e-y e-left e-bottom e-right e-top
+    e-left' e-bottom' e-right' e-top' e-xlo e-xhi e-ylo e-yhi =
     let l = e-left' ∙ along_x t _ _ _ _ e-left e-bottom in
     let b = e-bottom' ∙ along_y t _ _ _ _ e-left e-bottom in
     let r = e-right' ∙ along_x t _ _ _ _ e-right e-top in

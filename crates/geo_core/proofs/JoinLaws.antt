@@ -30,9 +30,11 @@ NoLater a b = Lexicographic a.low b.low (Lexicographic a.high b.high (a.from ≤
 abbrev pub LieApart : Bar → Bar → Type 0
 LieApart a b = a.low ≡ b.low → a.high ≡ b.high → (a.to <ℤ b.from) ⊎ (b.to <ℤ a.from)
 
+-- the bar has a point
 abbrev pub IsLong : Bar → Type 0
 IsLong bar = bar.from <ℤ bar.to
 
+-- each bar of the list has one
 abbrev pub AreLong : List Bar → Type 0
 AreLong bars = (bar : Bar) → In bar bars → IsLong bar
 
@@ -85,6 +87,7 @@ same_lines a b c (inr (g, inl p)) (inr (h, inr q)) e f = absurd (omega (arith, i
 same_lines a b c (inr (g, inr p)) (inr (h, inl q)) e f = absurd (omega (arith, ints, p.0, q, f))
 same_lines a b c (inr (g, inr p)) (inr (h, inr q)) e f = (g, (p.0, q.1))
 
+-- joined bars lie apart
 pub joined_apart : (a : Bar) (rest : List Bar) → Pairwise NoLater (a ∷ rest) → Pairwise LieApart (joined_from a rest)
 joined_apart a [] h = ((λ y n. absurd n), tt)
 joined_apart a (b ∷ rest) h = elim (cases_Bool (meets a b)) [
@@ -100,6 +103,7 @@ joined_apart a (b ∷ rest) h = elim (cases_Bool (meets a b)) [
   )
 ]
 
+-- joined bars have points
 pub joined_long : (a : Bar) (rest : List Bar) → AreLong (a ∷ rest) → AreLong (joined_from a rest)
 joined_long a [] h = h
 joined_long a (b ∷ rest) h = elim (cases_Bool (meets a b)) [
@@ -121,7 +125,12 @@ begins_no_later a b e f (inr (g, inr p)) = p.1
 -- a joined bar has the points of the two, and no others
 points_reaching : (a b : Bar) (low high z : ℤ) → Meet a b → NoLater a b → HasPoint a low high z ⊎ HasPoint b low high z → HasPoint (reaching a b) low high z
 points_reaching a b low high z m h (inl p) =
-    record { low_is = p.low_is; high_is = p.high_is; from_no_later = p.from_no_later; to_later = (let l : z <ℤ a.to = p.to_later in omega (arith, ints, clamps)) }
+    record {
+      low_is = p.low_is;
+      high_is = p.high_is;
+      from_no_later = p.from_no_later;
+      to_later = (let l : z <ℤ a.to = p.to_later in omega (arith, ints, clamps));
+    }
 points_reaching a b low high z m h (inr p) =
     let begins : a.from ≤ℤ b.from = begins_no_later a b m.low m.high h in
     record {
@@ -149,10 +158,16 @@ gathered : (a b : Bar) (rest : List Bar) (low high z : ℤ) → Meet a b → NoL
     → HavePoint (reaching a b ∷ rest) low high z
 gathered a b rest low high z m h p = elim p.in_list [
   | inl e ↦ record { bar = reaching a b; in_list = inl refl; has = points_reaching a b low high z m h (inl (subst (λ c. HasPoint c low high z) (sym e) p.has)) }
-  | inr (inl e) ↦ record { bar = reaching a b; in_list = inl refl; has = points_reaching a b low high z m h (inr (subst (λ c. HasPoint c low high z) (sym e) p.has)) }
+  | inr (inl e) ↦ record {
+    bar = reaching a b;
+    in_list = inl refl;
+    has = points_reaching a b low high z m h
+        (inr (subst (λ c. HasPoint c low high z) (sym e) p.has));
+  }
   | inr (inr i) ↦ record { bar = p.bar; in_list = inr i; has = p.has }
 ]
 
+-- no point is lost by joining
 pub joined_keeps : (a : Bar) (rest : List Bar) → Pairwise NoLater (a ∷ rest) → (low high z : ℤ) → HavePoint (a ∷ rest) low high z
     → HavePoint (joined_from a rest) low high z
 joined_keeps a [] h low high z p = p
@@ -175,10 +190,12 @@ scattered a b rest low high z m p = elim p.in_list [
   | inr i ↦ record { bar = p.bar; in_list = inr (inr i); has = p.has }
 ]
 
+-- and none is added
 pub joined_adds_none : (a : Bar) (rest : List Bar) (low high z : ℤ) → HavePoint (joined_from a rest) low high z → HavePoint (a ∷ rest) low high z
 joined_adds_none a [] low high z p = p
 joined_adds_none a (b ∷ rest) low high z p = elim (cases_Bool (meets a b)) [
-  | inl t ↦ scattered a b rest low high z (meet_true a b t) (joined_adds_none (reaching a b) rest low high z (subst (λ bars. HavePoint bars low high z) (step_meets a b rest t) p))
+  | inl t ↦ scattered a b rest low high z (meet_true a b t) (joined_adds_none (reaching a b) rest low high z
+      (subst (λ bars. HavePoint bars low high z) (step_meets a b rest t) p))
   | inr t ↦ (let q = subst (λ bars. HavePoint bars low high z) (step_ends a b rest t) p in elim q.in_list [
     | inl e ↦ record { bar = q.bar; in_list = inl e; has = q.has }
     | inr i ↦ (let r = joined_adds_none b rest low high z (record { bar = q.bar; in_list = i; has = q.has }) in
@@ -193,6 +210,7 @@ pub record AreJoined (bars found : List Bar) : Type 0 where
   pub adds_none : (low high z : ℤ) → HavePoint found low high z → HavePoint bars low high z
   pub apart : Pairwise LieApart found
 
+-- bars in order, joined
 pub joined-are : (bars : List Bar) → Pairwise NoLater bars → AreLong bars → AreJoined bars (joined bars)
 joined-are [] h l = record { long = l; keeps = λ low high z p. p; adds_none = λ low high z p. p; apart = tt }
 joined-are (a ∷ rest) h l = record {

@@ -64,20 +64,29 @@ events_in_order events sorted = λ i j d less below.
 begins_are : (areas : List Rect) (event : Event) → In event (map begin_of (filter has_square areas)) → IsBegin areas event
 begins_are areas event i =
     let s = In-map_source begin_of event (filter has_square areas) i in
-    record { area = s.0; in_list = In-filter_source has_square s.0 areas s.1.0; proper = IsProper-has_square s.0 (In-filter_passes has_square s.0 areas s.1.0); is = s.1.1 }
+    record {
+      area = s.0;
+      in_list = In-filter_source has_square s.0 areas s.1.0;
+      proper = IsProper-has_square s.0
+          (In-filter_passes has_square s.0 areas s.1.0);
+      is = s.1.1;
+    }
 
 tops_are_long : (areas : List Rect) → AreLong (map top_of (filter has_square areas))
 tops_are_long areas bar i =
     let s = In-map_source top_of bar (filter has_square areas) i in
     subst IsLong s.1.1 (IsProper-has_square s.0 (In-filter_passes has_square s.0 areas s.1.0)).wide
 
+-- the sorted list has the events of the rectangles
 pub events_are : (areas : List Rect) (begins all events : List Event) (tops upper ends : List Bar)
-    → begins ≡ map begin_of (filter has_square areas) → tops ≡ map top_of (filter has_square areas) → IsPermutation tops upper → IsSorted bar_cmp upper → ends ≡ joined upper
+    → begins ≡ map begin_of (filter has_square areas) → tops ≡ map top_of (filter has_square areas) → IsPermutation tops upper → IsSorted bar_cmp
+    upper → ends ≡ joined upper
     → all ≡ begins ++ map end_of ends → IsPermutation all events → IsSorted event_cmp events → AreEvents areas events
 events_are areas begins all events tops upper ends e-begins e-tops tops_moved tops_sorted e-ends e-all moved sorted =
     let there : (event : Event) → In event all → In event events = λ event i. In-permutation event all events moved i in
     let back : (event : Event) → In event events → In event all = λ event i. In-permutation event events all (IsPermutation-sym all events moved) i in
-    let long : AreLong upper = λ bar i. tops_are_long areas bar (subst (In bar) e-tops (In-permutation bar upper tops (IsPermutation-sym tops upper tops_moved) i)) in
+    let long : AreLong upper = λ bar i. tops_are_long areas bar (subst (In bar) e-tops
+    (In-permutation bar upper tops (IsPermutation-sym tops upper tops_moved) i)) in
     let join = joined-are upper (bars_in_order upper tops_sorted) long in
     record {
       begins = λ event i no_end. elim (In-append_cases event begins (map end_of ends) (subst (In event) e-all (back event i))) [
@@ -85,11 +94,16 @@ events_are areas begins all events tops upper ends e-begins e-tops tops_moved to
         | inr k ↦ absurd (let s = In-map_source end_of event ends k in false≢true (sym no_end ∙ sym (ap (λ e. e.ends) s.1.1)))
       ];
       begun = λ area i proper. there (begin_of area) (subst (In (begin_of area)) (sym e-all) (In-append_left (begin_of area) begins (map end_of ends)
-          (subst (In (begin_of area)) (sym e-begins) (In-map begin_of area (filter has_square areas) (In-filter has_square area areas i (has_square-IsProper area proper))))));
+          (subst (In (begin_of area)) (sym e-begins) (In-map begin_of area (filter has_square areas)
+          (In-filter has_square area areas i (has_square-IsProper area proper))))));
       ended = λ area x i proper after before.
           let top : In (top_of area) upper = In-permutation (top_of area) tops upper tops_moved (subst (In (top_of area)) (sym e-tops)
           (In-map top_of area (filter has_square areas) (In-filter has_square area areas i (has_square-IsProper area proper)))) in
-          let p = join.keeps area.yhi area.yhi x (record { bar = top_of area; in_list = top; has = record { low_is = refl; high_is = refl; from_no_later = after; to_later = before } }) in
+          let p = join.keeps area.yhi area.yhi x (record {
+            bar = top_of area;
+            in_list = top;
+            has = record { low_is = refl; high_is = refl; from_no_later = after; to_later = before };
+          }) in
           record {
             event = end_of p.bar;
             in_list = there (end_of p.bar) (subst (In (end_of p.bar)) (sym e-all) (In-append_right (end_of p.bar) begins (map end_of ends)
@@ -106,6 +120,7 @@ events_are areas begins all events tops upper ends e-begins e-tops tops_moved to
 less_no_later : (a b : ℤ) → int_cmp a b ≡ Less → a ≤ℤ b
 less_no_later a b e = let less : a <ℤ b = int_ranked a b Less (sym e) in omega (arith, ints)
 
+-- what is sorted and has each once rises
 pub sides_in_order : (sorted found : List ℤ) → IsSorted int_cmp sorted → found ≡ dedup int_eq sorted → AllPairs ◌≤ℤ◌ found
 sides_in_order sorted found up is = λ i j d less below.
     let strict = subst (IsStrictlySortedBy int_cmp) (sym is) (IsStrictlySortedBy-dedup int_cmp_total {E = int_eq} int_eq_ties sorted up) in
@@ -114,9 +129,11 @@ sides_in_order sorted found up is = λ i j d less below.
     int_eq_ties : (x y : ℤ) → int_eq x y ≡ eq_by_cmp int_cmp x y
     int_eq_ties x y = refl
 
+-- and has what was there
 pub sides_kept : (sides sorted found : List ℤ) (x : ℤ) → IsPermutation sides sorted → found ≡ dedup int_eq sorted → In x sides → In x found
 sides_kept sides sorted found x moved is i =
-    subst (In x) (sym is) (In-from_Contains x (dedup int_eq sorted) (Contains-dedup int_eq_equiv same sorted x (Contains-from_In x sorted (In-permutation x sides sorted moved i))))
+    subst (In x) (sym is) (In-from_Contains x (dedup int_eq sorted) (Contains-dedup int_eq_equiv same sorted x
+    (Contains-from_In x sorted (In-permutation x sides sorted moved i))))
   where
     same : (x y : ℤ) → int_eq x y ≡ true → x ≡ y
     same x y h = grind (arith, ints)

@@ -7,5 +7,6 @@ use Rattle.geo_core.specs.SquareOrder.{ComesBefore}
 pub ComesBefore-irreflexive : (a : Square) → ComesBefore a a → ⊥
 ComesBefore-irreflexive a = Lexicographic-irreflexive a.y (less-irreflexive a.x)
 
+-- what comes before a square comes before all after it
 pub ComesBefore-trans : (a b c : Square) → ComesBefore a b → ComesBefore b c → ComesBefore a c
 ComesBefore-trans a b c = Lexicographic-trans a.y b.y c.y (less-trans a.x b.x c.x)

@@ -12,6 +12,7 @@ use Rattle.finite_sets.proofs.Pairs.{Pairwise}
 use Rattle.geo_core.proofs.SquareLaws.{rect_is}
 use Rattle.geo_core.proofs.JoinLaws.{LieApart, AreLong, AreJoined}
 
+-- the square in this column and row
 abbrev pub at : ℤ → ℤ → Square
 at x y = record { x = x; y = y }
 
@@ -39,7 +40,11 @@ pub columns_from_bars : (S : Square → Type 0) (bars upright columns : List Bar
 columns_from_bars S bars upright columns are there back join = record {
   long = join.long;
   runs = λ column i y from to.
-      let p = join.adds_none column.low column.high y (record { bar = column; in_list = i; has = record { low_is = refl; high_is = refl; from_no_later = from; to_later = to } }) in
+      let p = join.adds_none column.low column.high y (record {
+        bar = column;
+        in_list = i;
+        has = record { low_is = refl; high_is = refl; from_no_later = from; to_later = to };
+      }) in
       let found = are.runs p.bar (there p.bar p.in_list) y p.has.from_no_later p.has.to_later in
       subst (λ v. IsRun S v column.high y) p.has.low_is (subst (λ v. IsRun S p.bar.low v y) p.has.high_is found);
   complete = λ x y s.
@@ -67,12 +72,15 @@ run_right S a b c d y p q x h i j k less = q.right (p.within d (omega (arith, in
 equal_from_neither : (a b : ℤ) → (a <ℤ b → ⊥) → (b <ℤ a → ⊥) → a ≡ b
 equal_from_neither a b p q = by_lt_z a b (λ h. absurd (p h)) (λ h. by_lt_z b a (λ k. absurd (q k)) (λ k. omega (arith, ints)))
 
+-- runs of one row that share a square begin together
 pub same_left : (S : Square → Type 0) (a b c d y x : ℤ) → IsRun S a b y → IsRun S c d y → a ≤ℤ x → x <ℤ b → c ≤ℤ x → x <ℤ d → a ≡ c
 same_left S a b c d y x p q h i j k = equal_from_neither a c (run_left S a b c d y p q x h i j k) (run_left S c d a b y q p x j k h i)
 
+-- and end together
 pub same_right : (S : Square → Type 0) (a b c d y x : ℤ) → IsRun S a b y → IsRun S c d y → a ≤ℤ x → x <ℤ b → c ≤ℤ x → x <ℤ d → b ≡ d
 same_right S a b c d y x p q h i j k = equal_from_neither b d (run_right S c d a b y q p x j k h i) (run_right S a b c d y p q x h i j k)
 
+-- the rectangle of a column
 abbrev pub rect_of_column : Bar → Rect
 rect_of_column column = record { xlo = column.low; ylo = column.from; xhi = column.high; yhi = column.to }
 
@@ -130,7 +138,8 @@ module _ (S : Square → Type 0) (columns : List Bar) (are : AreColumns S column
   strip_from : (a b : Rect) → IsStrip S a → IsStrip S b → a.xlo ≡ b.xlo → a.xhi ≡ b.xhi → (y : ℤ) → a.ylo ≤ℤ y → y <ℤ a.yhi → b.ylo ≤ℤ y → y <ℤ b.yhi
       → a.ylo <ℤ b.ylo → ⊥
   strip_from a b p q e f y h i j k less =
-      q.below (subst (λ v. IsRun S v b.xhi (b.ylo -ℤ pos 1)) e (subst (λ v. IsRun S a.xlo v (b.ylo -ℤ pos 1)) f (p.runs (b.ylo -ℤ pos 1) (omega (arith, ints)) (omega (arith, ints)))))
+      q.below (subst (λ v. IsRun S v b.xhi (b.ylo -ℤ pos 1)) e (subst (λ v. IsRun S a.xlo v (b.ylo -ℤ pos 1)) f
+      (p.runs (b.ylo -ℤ pos 1) (omega (arith, ints)) (omega (arith, ints)))))
 
   strip_to : (a b : Rect) → IsStrip S a → IsStrip S b → a.xlo ≡ b.xlo → a.xhi ≡ b.xhi → (y : ℤ) → a.ylo ≤ℤ y → y <ℤ a.yhi → b.ylo ≤ℤ y → y <ℤ b.yhi
       → b.yhi <ℤ a.yhi → ⊥

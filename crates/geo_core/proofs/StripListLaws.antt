@@ -25,7 +25,8 @@ use Rattle.geo_core.proofs.BarOrderLaws.{bars_in_order}
 use Rattle.geo_core.proofs.StripLaws.{AreColumns, columns_from_bars, same_right, rect_of_column, column_is_strip, strip_is_column}
 
 strip_cmp_total : IsTotalOrder strip_cmp
-strip_cmp_total = then_total (on_total (λ s. s.ylo) int_cmp_total) (then_total (on_total (λ s. s.xlo) int_cmp_total) (then_total (on_total (λ s. s.xhi) int_cmp_total) (on_total (λ s. s.yhi) int_cmp_total)))
+strip_cmp_total = then_total (on_total (λ s. s.ylo) int_cmp_total) (then_total (on_total (λ s. s.xlo) int_cmp_total)
+    (then_total (on_total (λ s. s.xhi) int_cmp_total) (on_total (λ s. s.yhi) int_cmp_total)))
 
 abbrev StripsApart : Strip → Strip → Type 0
 StripsApart a b = a.xlo ≡ b.xlo → a.xhi ≡ b.xhi → (a.yhi <ℤ b.ylo) ⊎ (b.yhi <ℤ a.ylo)
@@ -36,25 +37,26 @@ StripsApart-sym a b h e f = elim (h (sym e) (sym f)) [ inl k ↦ inr k | inr k �
 -- of two strips of a list that is sorted the first stands before the second
 before_from_order : (S : Square → Type 0) (a b : Strip) → IsStrip S (rect_of a) → IsStrip S (rect_of b) → StripsApart a b
     → is_lt (strip_cmp b a) ≡ false → StandsBefore (rect_of a) (rect_of b)
-before_from_order S a b p q apart h = elim (ordering_then-not_less a.ylo b.ylo (ordering_then (int_cmp b.xlo a.xlo) (ordering_then (int_cmp b.xhi a.xhi) (int_cmp b.yhi a.yhi))) h) [
-  | inl less ↦ inl less
-  | inr k ↦ inr (
-    k.0,
-    by_lt_z a.xlo b.xlo (λ less. less) (λ not_less.
-        let left : a.xlo ≤ℤ b.xlo = int_then-not_less a.xlo b.xlo (ordering_then (int_cmp b.xhi a.xhi) (int_cmp b.yhi a.yhi)) k.1 in
-        let same_left : a.xlo ≡ b.xlo = equal_from_both a.xlo b.xlo left not_less in
-        let same_row : a.ylo ≡ b.ylo = k.0 in
-        let high : a.ylo <ℤ a.yhi = p.high in
-        let high' : b.ylo <ℤ b.yhi = q.high in
-        let row : b.ylo ≤ℤ a.ylo = omega (arith, ints) in
-        let run = p.runs a.ylo (omega (arith, ints)) high in
-        let run' = q.runs a.ylo row (omega (arith, ints)) in
-        let long : a.xlo <ℤ a.xhi = run.long in
-        let long' : b.xlo <ℤ b.xhi = run'.long in
-        let right = same_right S a.xlo a.xhi b.xlo b.xhi a.ylo a.xlo run run' (omega (arith, ints)) long (omega (arith, ints)) (omega (arith, ints)) in
-        elim (apart same_left right) [ inl g ↦ absurd (omega (arith, ints, g)) | inr g ↦ absurd (omega (arith, ints, g)) ]),
-  )
-]
+before_from_order S a b p q apart h = elim (ordering_then-not_less a.ylo b.ylo (ordering_then (int_cmp b.xlo a.xlo)
+    (ordering_then (int_cmp b.xhi a.xhi) (int_cmp b.yhi a.yhi))) h) [
+      | inl less ↦ inl less
+      | inr k ↦ inr (
+        k.0,
+        by_lt_z a.xlo b.xlo (λ less. less) (λ not_less.
+            let left : a.xlo ≤ℤ b.xlo = int_then-not_less a.xlo b.xlo (ordering_then (int_cmp b.xhi a.xhi) (int_cmp b.yhi a.yhi)) k.1 in
+            let same_left : a.xlo ≡ b.xlo = equal_from_both a.xlo b.xlo left not_less in
+            let same_row : a.ylo ≡ b.ylo = k.0 in
+            let high : a.ylo <ℤ a.yhi = p.high in
+            let high' : b.ylo <ℤ b.yhi = q.high in
+            let row : b.ylo ≤ℤ a.ylo = omega (arith, ints) in
+            let run = p.runs a.ylo (omega (arith, ints)) high in
+            let run' = q.runs a.ylo row (omega (arith, ints)) in
+            let long : a.xlo <ℤ a.xhi = run.long in
+            let long' : b.xlo <ℤ b.xhi = run'.long in
+            let right = same_right S a.xlo a.xhi b.xlo b.xhi a.ylo a.xlo run run' (omega (arith, ints)) long (omega (arith, ints)) (omega (arith, ints)) in
+            elim (apart same_left right) [ inl g ↦ absurd (omega (arith, ints, g)) | inr g ↦ absurd (omega (arith, ints, g)) ]),
+      )
+    ]
 
 module _ (S : Square → Type 0) (columns : List Bar) (are : AreColumns S columns) (strips : List Strip)
     (moved : IsPermutation (map strip_of columns) strips) (sorted : IsSorted strip_cmp strips) where
@@ -62,13 +64,15 @@ module _ (S : Square → Type 0) (columns : List Bar) (are : AreColumns S column
   from_column : (area : Rect) → In area (map rect_of strips) → In area (map rect_of_column columns)
   from_column area i =
       let s = In-map_source rect_of area strips i in
-      let t = In-map_source strip_of s.0 columns (In-permutation s.0 strips (map strip_of columns) (IsPermutation-sym (map strip_of columns) strips moved) s.1.0) in
+      let t = In-map_source strip_of s.0 columns (In-permutation s.0 strips (map strip_of columns)
+      (IsPermutation-sym (map strip_of columns) strips moved) s.1.0) in
       subst (λ r. In r (map rect_of_column columns)) (ap rect_of t.1.1 ∙ s.1.1) (In-map rect_of_column t.0 columns t.1.0)
 
   to_strip : (area : Rect) → In area (map rect_of_column columns) → In area (map rect_of strips)
   to_strip area i =
       let s = In-map_source rect_of_column area columns i in
-      subst (λ r. In r (map rect_of strips)) s.1.1 (In-map rect_of (strip_of s.0) strips (In-permutation (strip_of s.0) (map strip_of columns) strips moved (In-map strip_of s.0 columns s.1.0)))
+      subst (λ r. In r (map rect_of strips)) s.1.1 (In-map rect_of (strip_of s.0) strips
+      (In-permutation (strip_of s.0) (map strip_of columns) strips moved (In-map strip_of s.0 columns s.1.0)))
 
   is_strip : (area : Rect) → In area (map rect_of strips) → IsStrip S area
   is_strip area i =
@@ -95,8 +99,13 @@ module _ (S : Square → Type 0) (columns : List Bar) (are : AreColumns S column
   in_some_strip : (square : Square) → S square → IsInUnion (map rect_of strips) square
   in_some_strip square s =
       let found = are.complete square.x square.y s in
-      let area = rect_of_column found.bar in
-      (area, (to_strip area (In-map rect_of_column found.bar columns found.in_list), record { right_of_xlo = found.left; left_of_xhi = found.right; above_ylo = found.from; below_yhi = found.to }))
+      let area = rect_of_column found.bar in (
+        area,
+        (
+          to_strip area (In-map rect_of_column found.bar columns found.in_list),
+          record { right_of_xlo = found.left; left_of_xhi = found.right; above_ylo = found.from; below_yhi = found.to },
+        ),
+      )
 
   pub sorted_columns : IsStrips S (map rect_of strips)
   sorted_columns = record {
@@ -114,7 +123,8 @@ pub strips_found : (S : Square → Type 0) (bars upright columns : List Bar) (st
 strips_found S bars upright columns strips ordered areas are upright_moved upright_sorted e-columns e-strips ordered_moved ordered_sorted e-areas =
     let there : (bar : Bar) → In bar upright → In bar bars = λ bar i. In-permutation bar upright bars (IsPermutation-sym bars upright upright_moved) i in
     let back : (bar : Bar) → In bar bars → In bar upright = λ bar i. In-permutation bar bars upright upright_moved i in
-    let join : AreJoined upright columns = subst (AreJoined upright) (sym e-columns) (joined-are upright (bars_in_order upright upright_sorted) (λ bar i. are.long bar (there bar i))) in
+    let join : AreJoined upright columns = subst (AreJoined upright) (sym e-columns)
+    (joined-are upright (bars_in_order upright upright_sorted) (λ bar i. are.long bar (there bar i))) in
     let made = columns_from_bars S bars upright columns are there back join in
     subst (IsStrips S) (sym e-areas) (sorted_columns S columns made ordered (subst (λ v. IsPermutation v ordered) e-strips ordered_moved) ordered_sorted)
 

@@ -18,6 +18,7 @@ run_same S T to back xlo xhi y run = record {
   right = λ t. run.right (back (record { x = xhi; y = y }) t);
 }
 
+-- a strip of a set is a strip of a set with the same squares
 pub strip_same : (S T : Square → Type 0) → ((s : Square) → S s → T s) → ((s : Square) → T s → S s) → (area : Rect) → IsStrip S area → IsStrip T area
 strip_same S T to back area strip = record {
   high = strip.high;
@@ -40,23 +41,27 @@ begins_together : (S : Square → Type 0) (a b : Rect) → IsStrip S a → IsStr
     → b.ylo ≤ℤ y → y <ℤ b.yhi → b.ylo ≤ℤ a.ylo
 begins_together S a b p q left right y a_low a_high b_low b_high = elim (at_most_or_greater b.ylo a.ylo) [
   | inl h ↦ h
-  | inr less ↦ absurd (q.below (subst (λ (x : ℤ). IsRun S b.xlo x (b.ylo -ℤ pos 1)) right (subst (λ (x : ℤ). IsRun S x a.xhi (b.ylo -ℤ pos 1)) left (p.runs (b.ylo -ℤ pos 1) (omega (arith, ints, less)) (omega (arith, ints))))))
+  | inr less ↦ absurd (q.below (subst (λ (x : ℤ). IsRun S b.xlo x (b.ylo -ℤ pos 1)) right
+      (subst (λ (x : ℤ). IsRun S x a.xhi (b.ylo -ℤ pos 1)) left (p.runs (b.ylo -ℤ pos 1) (omega (arith, ints, less)) (omega (arith, ints))))))
 ]
 
 ends_together : (S : Square → Type 0) (a b : Rect) → IsStrip S a → IsStrip S b → a.xlo ≡ b.xlo → a.xhi ≡ b.xhi → (y : ℤ) → a.ylo ≤ℤ y → y <ℤ a.yhi
     → b.ylo ≤ℤ y → y <ℤ b.yhi → a.yhi ≤ℤ b.yhi
 ends_together S a b p q left right y a_low a_high b_low b_high = elim (at_most_or_greater a.yhi b.yhi) [
   | inl h ↦ h
-  | inr less ↦ absurd (q.above (subst (λ (x : ℤ). IsRun S b.xlo x b.yhi) right (subst (λ (x : ℤ). IsRun S x a.xhi b.yhi) left (p.runs b.yhi (omega (arith, ints)) less))))
+  | inr less ↦ absurd (q.above (subst (λ (x : ℤ). IsRun S b.xlo x b.yhi) right (subst (λ (x : ℤ). IsRun S x a.xhi b.yhi) left
+      (p.runs b.yhi (omega (arith, ints)) less))))
 ]
 
 -- strips on the same columns that share a row are one
 pub one_strip : (S : Square → Type 0) (a b : Rect) → IsStrip S a → IsStrip S b → a.xlo ≡ b.xlo → a.xhi ≡ b.xhi → (y : ℤ) → a.ylo ≤ℤ y → y <ℤ a.yhi
     → b.ylo ≤ℤ y → y <ℤ b.yhi → a ≡ b
 one_strip S a b p q left right y a_low a_high b_low b_high = rect_is a b left
-    (equal_from_both a.ylo b.ylo (begins_together S b a q p (sym left) (sym right) y b_low b_high a_low a_high) (begins_together S a b p q left right y a_low a_high b_low b_high))
+    (equal_from_both a.ylo b.ylo (begins_together S b a q p (sym left) (sym right) y b_low b_high a_low a_high)
+    (begins_together S a b p q left right y a_low a_high b_low b_high))
     right
-    (equal_from_both a.yhi b.yhi (ends_together S a b p q left right y a_low a_high b_low b_high) (ends_together S b a q p (sym left) (sym right) y b_low b_high a_low a_high))
+    (equal_from_both a.yhi b.yhi (ends_together S a b p q left right y a_low a_high b_low b_high)
+    (ends_together S b a q p (sym left) (sym right) y b_low b_high a_low a_high))
 
 -- two runs of a row that share a square begin together
 runs_begin : (S : Square → Type 0) (a b c d x y : ℤ) → IsRun S a b y → IsRun S c d y → a ≤ℤ x → x <ℤ b → c ≤ℤ x → x <ℤ d → c ≤ℤ a
@@ -147,7 +152,13 @@ module _ (S : Square → Type 0) (decide : (s : Square) → S s ⊎ (S s → ⊥
     here y z p q run = subst (IsRun S xlo xhi) (equal_from_both y z p q) run
 
     down : (n : ℕ) (bottom y : ℤ) → y ≡ bottom +ℤ pos n → ((z : ℤ) → z <ℤ bottom → IsRun S xlo xhi z → ⊥) → IsRun S xlo xhi y → Below y
-    down zero bottom y e none run = record { first = y; no_higher = omega (arith, ints); runs = λ z p q. here y z p q run; end = none (y -ℤ pos 1) (omega (arith, ints)) }
+    down zero bottom y e none run = record {
+      first = y;
+      no_higher = omega (arith, ints);
+      runs = λ z p q. here y z p q run;
+      end = none (y -ℤ pos 1)
+          (omega (arith, ints));
+    }
     down (suc n) bottom y e none run = elim (run_or_not xlo xhi (y -ℤ pos 1)) [
       | inr fails ↦ record { first = y; no_higher = omega (arith, ints); runs = λ z p q. here y z p q run; end = fails }
       | inl more ↦ (let rest = down n bottom (y -ℤ pos 1) (omega (arith, ints)) none more in
@@ -187,11 +198,14 @@ module _ (S : Square → Type 0) (decide : (s : Square) → S s ⊎ (S s → ⊥
   pub strip_of_run : (bottom top xlo xhi y : ℤ) → bottom ≤ℤ y → y <ℤ top → ((s : Square) → S s → (bottom ≤ℤ s.y) × (s.y <ℤ top)) → IsRun S xlo xhi y
       → StripThrough xlo xhi y
   strip_of_run bottom top xlo xhi y p q bounded run =
-      let first_square : (z : ℤ) → IsRun S xlo xhi z → S (record { x = xlo; y = z }) = λ z r. let long : xlo <ℤ xhi = r.long in r.within xlo (omega (arith, ints)) long in
+      let first_square : (z : ℤ) → IsRun S xlo xhi z → S (record { x = xlo; y = z }) = λ z r. let long : xlo <ℤ xhi = r.long in r.within xlo
+      (omega (arith, ints)) long in
       let lower = distance bottom y p in
       let upper = distance y top (omega (arith, ints)) in
-      let b = down xlo xhi lower.0 bottom y lower.1 (λ z less r. let at : bottom ≤ℤ z = (bounded (record { x = xlo; y = z }) (first_square z r)).0 in omega (arith, ints)) run in
-      let a = up xlo xhi upper.0 top y upper.1 (λ z more r. let at : z <ℤ top = (bounded (record { x = xlo; y = z }) (first_square z r)).1 in omega (arith, ints)) run in
+      let b = down xlo xhi lower.0 bottom y lower.1 (λ z less r. let at : bottom ≤ℤ z = (bounded (record { x = xlo; y = z }) (first_square z r)).0 in
+      omega (arith, ints)) run in
+      let a = up xlo xhi upper.0 top y upper.1 (λ z more r. let at : z <ℤ top = (bounded (record { x = xlo; y = z }) (first_square z r)).1 in
+      omega (arith, ints)) run in
       let low : b.first ≤ℤ y = b.no_higher in
       let high : y <ℤ a.last = a.higher in
       record {
@@ -232,7 +246,8 @@ module _ (S : Square → Type 0) (low high : ℤ) where
   pub strip_clipped : (area : Rect) → IsStrip S area → int_max area.ylo low <ℤ int_min area.yhi high → IsStrip (InBand S low high) (clipped low high area)
   strip_clipped area strip tall = record {
     high = tall;
-    runs = λ y p q. run_to_band area.xlo area.xhi y (omega (arith, ints, clamps)) (omega (arith, ints, clamps)) (strip.runs y (omega (arith, ints, clamps)) (omega (arith, ints, clamps)));
+    runs = λ y p q. run_to_band area.xlo area.xhi y (omega (arith, ints, clamps)) (omega (arith, ints, clamps))
+        (strip.runs y (omega (arith, ints, clamps)) (omega (arith, ints, clamps)));
     below = λ run. let at = (run_in_band area.xlo area.xhi (int_max area.ylo low -ℤ pos 1) run).0 in
         let same : int_max area.ylo low -ℤ pos 1 ≡ area.ylo -ℤ pos 1 = omega (arith, ints, clamps) in
         strip.below (subst (IsRun S area.xlo area.xhi) same (run_from_band area.xlo area.xhi (int_max area.ylo low -ℤ pos 1) run));

@@ -25,7 +25,12 @@ pub tile_inside : (values : Square → ℕ) (area : Rect) (tile : Piece) → IsT
 tile_inside values area tile is = subst (λ (a : Rect). LiesWithin a area) (sym is.cut) (common_inside is.strip area)
   where
     common_inside : (a b : Rect) → LiesWithin (common_rect a b) b
-    common_inside a b = record { right_of_xlo = omega (arith, ints, clamps); above_ylo = omega (arith, ints, clamps); left_of_xhi = omega (arith, ints, clamps); below_yhi = omega (arith, ints, clamps) }
+    common_inside a b = record {
+      right_of_xlo = omega (arith, ints, clamps);
+      above_ylo = omega (arith, ints, clamps);
+      left_of_xhi = omega (arith, ints, clamps);
+      below_yhi = omega (arith, ints, clamps);
+    }
 
 -- tiles that share a square have one area
 pub one_tile_at : (values : Square → ℕ) (area : Rect) (a b : Piece) → IsTileIn values area a → IsTileIn values area b → (square : Square)

@@ -83,8 +83,14 @@ merged_marks u v = elim (cases_lt u v) [
 merged_marks_cases : (u v p q : ℕ) → merged (min u v) (max u v) p ≡ merged (min u v) (max u v) q → (p ≡ q) ⊎ ((p ≡ u) × (q ≡ v)) ⊎ ((p ≡ v) × (q ≡ u))
 merged_marks_cases u v p q e = elim (merged_cases (min u v) (max u v) p q e) [
   | inl same ↦ inl same
-  | inr (inl h) ↦ elim (cases_lt u v) [ inl less ↦ inr (inl (omega (arith, h.0), omega (arith, h.1))) | inr more ↦ inr (inr (omega (arith, h.0), omega (arith, h.1))) ]
-  | inr (inr h) ↦ elim (cases_lt u v) [ inl less ↦ inr (inr (omega (arith, h.0), omega (arith, h.1))) | inr more ↦ inr (inl (omega (arith, h.0), omega (arith, h.1))) ]
+  | inr (inl h) ↦ elim (cases_lt u v) [
+    | inl less ↦ inr (inl (omega (arith, h.0), omega (arith, h.1)))
+    | inr more ↦ inr (inr (omega (arith, h.0), omega (arith, h.1)))
+  ]
+  | inr (inr h) ↦ elim (cases_lt u v) [
+    | inl less ↦ inr (inr (omega (arith, h.0), omega (arith, h.1)))
+    | inr more ↦ inr (inl (omega (arith, h.0), omega (arith, h.1)))
+  ]
 ]
 
 -- the links and one more
@@ -94,7 +100,8 @@ WithLink Link a b x y = Link x y ⊎ ((x ≡ a) × (y ≡ b))
 -- a way that goes on from one by the old links meets numbers of one merged mark
 walk : (marks : List ℕ) (Link : ℕ → ℕ → Type 0) → Divides marks Link → (a b : ℕ) → a < length marks → b < length marks
     → (f : ℕ → ℕ) → f (get_or marks a 0) ≡ f (get_or marks b 0)
-    → (i c j : ℕ) → i < length marks → IsJoined Link i c → Chain (EitherWay (WithLink Link a b)) c j → j < length marks → f (get_or marks i 0) ≡ f (get_or marks j 0)
+    → (i c j : ℕ) → i < length marks → IsJoined Link i c → Chain (EitherWay (WithLink Link a b)) c j → j < length marks → f (get_or marks i 0) ≡ f
+    (get_or marks j 0)
 walk marks Link d a b a_in b_in f one i c j i_in begun stay j_in = ap f ((d i c i_in j_in).1 begun)
 walk marks Link d a b a_in b_in f one i c j i_in begun (go {b = next} step rest) j_in =
     let P : ℕ → ℕ → Type 0 = λ x y. IsJoined Link x y in

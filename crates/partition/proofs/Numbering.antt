@@ -24,9 +24,11 @@ none_if_other a b ne = grind (arith, nat_tests)
 at_most_one : (a b : ℕ) → counted_at a b ≤ 1
 at_most_one a b = grind (arith, nat_tests)
 
+-- a number that leads itself is one class more
 pub classes_below-leader : (leaders : List ℕ) (k : ℕ) → get_or leaders k 0 ≡ k → classes_below leaders (k + 1) ≡ classes_below leaders k + 1
 classes_below-leader leaders k e = ap (classes_below leaders) (add-one k) ∙ ap (λ z. classes_below leaders k + z) (one_if_same (get_or leaders k 0) k e)
 
+-- any other number is none
 pub classes_below-other : (leaders : List ℕ) (k : ℕ) → (get_or leaders k 0 ≡ k → ⊥) → classes_below leaders (k + 1) ≡ classes_below leaders k
 classes_below-other leaders k ne =
     ap (classes_below leaders) (add-one k) ∙ ap (λ z. classes_below leaders k + z) (none_if_other (get_or leaders k 0) k ne) ∙ omega arith
@@ -43,12 +45,14 @@ pub record Numbered (parents labels : List ℕ) (i count : ℕ) : Type 0 where
   pub counted : count ≡ classes_below (leaders_of parents) i
 
 one_written : (p labels : List ℕ) (i count label : ℕ) → Numbered p labels i count → i < length labels
-    → label ≡ classes_below (leaders_of p) (get_or (leaders_of p) i 0) → (more : ℕ) → more ≡ classes_below (leaders_of p) (i + 1) → Numbered p (set labels i label) (i + 1) more
+    → label ≡ classes_below (leaders_of p) (get_or (leaders_of p) i 0) → (more : ℕ) → more ≡ classes_below (leaders_of p) (i + 1) → Numbered p
+    (set labels i label) (i + 1) more
 one_written p labels i count label n within is more counts =
     let at_i : get_or (set labels i label) i 0 ≡ label = get_or-set_same labels i label 0 within in
     record {
       done = λ k h. elim (cases_eq k i) [
-        | inl e ↦ (let P : ℕ → Type 0 = λ z. get_or (set labels i label) z 0 ≡ classes_below (leaders_of p) (get_or (leaders_of p) z 0) in subst P (sym e) (at_i ∙ is))
+        | inl e ↦ (let P : ℕ → Type 0 = λ z. get_or (set labels i label) z 0 ≡ classes_below (leaders_of p) (get_or (leaders_of p) z 0) in subst P
+            (sym e) (at_i ∙ is))
         | inr other ↦ get_or-set_other labels i k label 0 other ∙ n.done k (omega arith)
       ];
       rest = λ k h w. (let other : k ≢ i = omega arith in get_or-set_other labels i k label 0 other ∙ n.rest k (omega arith) w);
@@ -79,6 +83,7 @@ numbered_child p labels i count d n within long child =
     count
     (n.counted ∙ sym (classes_below-other (leaders_of p) i (λ e. child (parent ∙ Leads-root p (leaders_of p) d L i within e))))
 
+-- when all places are written, the labels are those of the leaders
 pub numbered_all : (p labels : List ℕ) (count : ℕ) → PointDown p → Numbered p labels (length p) count → length labels ≡ length p
     → labels ≡ labels_of (leaders_of p)
 numbered_all p labels count d n long =
@@ -92,6 +97,7 @@ pub record Lead (leaders : List ℕ) : Type 0 where
   pub le : (k : ℕ) → k < length leaders → get_or leaders k 0 ≤ k
   pub itself : (k : ℕ) → k < length leaders → get_or leaders (get_or leaders k 0) 0 ≡ get_or leaders k 0
 
+-- the roots above numbers are such leaders
 pub Lead-leaders_of : (p : List ℕ) → PointDown p → Lead (leaders_of p)
 Lead-leaders_of p d =
     let L = Leads-leaders_of p d in
@@ -120,9 +126,11 @@ same_leader leaders a b u v e = elim (cases_lt a b) [
   ]
 ]
 
+-- the label at a place counts the classes before
 pub labels_at : (leaders : List ℕ) (k : ℕ) → k < length leaders → get_or (labels_of leaders) k 0 ≡ classes_below leaders (get_or leaders k 0)
 labels_at leaders k h = get_or-map (classes_below leaders) leaders k 0 0 h
 
+-- there is a label for each number
 pub labels_long : (leaders : List ℕ) → length (labels_of leaders) ≡ length leaders
 labels_long leaders = length-map leaders (classes_below leaders)
 
@@ -192,6 +200,7 @@ labels_in_order leaders lead = λ label greater i j less l m.
     let b = least_leads leaders lead greater j m in
     elim (cases_lt i j) [ inl before ↦ before | inr after ↦ absurd (omega (arith, rises leaders j i after, a.1.1, b.1.1)) ]
 
+-- so the labels are numbered in the order of least members
 pub IsNumbered-labels : (leaders : List ℕ) → Lead leaders → IsNumbered (labels_of leaders) (classes_below leaders (length leaders))
 IsNumbered-labels leaders lead = record {
   below = labels_below leaders lead;

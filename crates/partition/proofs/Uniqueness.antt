@@ -51,7 +51,8 @@ one_more_agrees labels others count number long same n m k k_in agree =
             | inl less ↦ absurd (none_is_less labels others count number long n m k k_in agree new other_new less)
             | inr more ↦ elim (cases_eq (get_or labels k 0) (get_or others k 0)) [
               | inl equal ↦ equal
-              | inr differ ↦ absurd (none_is_less others labels number count (sym long) m n k (omega arith) (λ i h. sym (agree i h)) other_new new (omega arith))
+              | inr differ ↦ absurd (none_is_less others labels number count (sym long) m n k (omega arith) (λ i h. sym (agree i h)) other_new new
+                  (omega arith))
             ]
           ])
       | inr earlier ↦ sym least.1.0.1 ∙ agree j (omega arith) ∙ (same j k least.1.0.0 k_in).0 least.1.0.1
@@ -76,6 +77,7 @@ no_fewer labels others count number long agree n m less =
     let i_in : last.0 < length labels = omega (arith, last.1.0.0) in
     omega (arith, n.below last.0 0 i_in, agree last.0 i_in, last.1.0.1)
 
+-- numbered lists that make the same classes are one
 pub IsNumbered-unique : (labels others : List ℕ) (count number : ℕ) → length labels ≡ length others → SameClasses labels others
     → IsNumbered labels count → IsNumbered others number
     → (labels ≡ others) × (count ≡ number)

@@ -54,7 +54,8 @@ one_more_above lo hi lo' hi' h = omega (arith, ints, clamps)
 one_more : (lo hi lo' hi' : ℤ) → lo <ℤ hi → one_if (int_le lo' lo && int_lt lo hi') +ℤ overlap (lo +ℤ pos 1) hi lo' hi' ≡ overlap lo hi lo' hi'
 one_more lo hi lo' hi' h = elim (in_or_out lo' hi' lo) [
   | inl k ↦ ap (λ (z : ℤ). z +ℤ overlap (lo +ℤ pos 1) hi lo' hi') k.2 ∙ one_more_in lo hi lo' hi' h k.0 k.1
-  | inr k ↦ ap (λ (z : ℤ). z +ℤ overlap (lo +ℤ pos 1) hi lo' hi') k.1 ∙ omega (arith, ints) ∙ (elim k.0 [ inl l ↦ one_more_below lo hi lo' hi' l | inr l ↦ one_more_above lo hi lo' hi' l ])
+  | inr k ↦ ap (λ (z : ℤ). z +ℤ overlap (lo +ℤ pos 1) hi lo' hi') k.1 ∙ omega (arith, ints)
+      ∙ (elim k.0 [ inl l ↦ one_more_below lo hi lo' hi' l | inr l ↦ one_more_above lo hi lo' hi' l ])
 ]
 
 -- the integers of a range that lie in another when they are moved by d
@@ -76,6 +77,7 @@ count_range f d moved lo hi lo' hi' h =
     let ends : (lo +ℤ d) +ℤ pos (extent lo hi) ≡ hi +ℤ d = omega (arith, ints, top) in
     count_from f d moved lo (extent lo hi) lo' hi' ∙ ap (λ (z : ℤ). overlap (lo +ℤ d) z lo' hi') ends
 
+-- a product of a sum, the sum on the left
 pub distributes_right : (a b k : ℤ) → (a *ℤ k) +ℤ (b *ℤ k) ≡ (a +ℤ b) *ℤ k
 distributes_right a b k =
     let sum : up (a +ℤ b) + (down a + down b) ≡ down (a +ℤ b) + (up a + up b) = omega (arith, ints) in

@@ -37,6 +37,7 @@ LieApart-sym a b h = record {
   apart = λ e. elim (h.apart (sym e)) [ inl k ↦ inr k | inr k ↦ inl k ];
 }
 
+-- a side of a rectangle with a square has a length
 pub side_long : (edge : Edge) (a : Rect) (place : ℕ) → IsProper a → (side_of edge a place).from <ℤ (side_of edge a place).to
 side_long Left a place p = p.high
 side_long Right a place p = p.high
@@ -80,7 +81,8 @@ abbrev pub side_cmp : Side → Side → Ordering
 side_cmp a b = ordering_then (int_cmp a.line b.line) (ordering_then (int_cmp a.from b.from) (ordering_then (int_cmp a.to b.to) (nat_cmp a.owner b.owner)))
 
 side_cmp_total : IsTotalOrder side_cmp
-side_cmp_total = then_total (on_total (λ s. s.line) int_cmp_total) (then_total (on_total (λ s. s.from) int_cmp_total) (then_total (on_total (λ s. s.to) int_cmp_total) (on_total (λ s. s.owner) nat_cmp_total)))
+side_cmp_total = then_total (on_total (λ s. s.line) int_cmp_total) (then_total (on_total (λ s. s.from) int_cmp_total)
+    (then_total (on_total (λ s. s.to) int_cmp_total) (on_total (λ s. s.owner) nat_cmp_total)))
 
 -- of sides that lie apart, one that is not greater ends before the other begins
 before_from_order : (a b : Side) → LieApart a b → is_lt (side_cmp b a) ≡ false → EndsBefore a b
@@ -101,6 +103,7 @@ before_from_order a b s h =
       ];
     }
 
+-- a side's owner is the place of its rectangle
 pub side_owner : (edge : Edge) (a : Rect) (place : ℕ) → (side_of edge a place).owner ≡ place
 side_owner Left a place = refl
 side_owner Right a place = refl
@@ -124,7 +127,8 @@ lie_apart edge a b i j p q disjoint less = record {
   apart = on_one_line edge a b i j p q (apart_from_disjoint a b p q disjoint);
 }
 
-module _ (edge : Edge) (rects : List Rect) (xs ys : List Side) (d : Side) (proper : All IsProper rects) (near : All IsNear rects) (disjoint : AllPairs AreDisjoint rects)
+module _ (edge : Edge) (rects : List Rect) (xs ys : List Side) (d : Side) (proper : All IsProper rects) (near : All IsNear rects)
+    (disjoint : AllPairs AreDisjoint rects)
     (has : HasSides edge rects xs d) (moved : IsPermutation xs ys) (sorted : IsSorted side_cmp ys) where
   all_apart : AllPairs LieApart xs
   all_apart = λ i j e less below.

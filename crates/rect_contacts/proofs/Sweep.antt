@@ -100,7 +100,8 @@ noted lowers uppers x y xs ys before after f g (inr same) s =
 -- what was added is the contact of the first two or was there before
 added_cases : (x y : Side) (before after : List Contact) → AddsContact x y before after → (c : Contact) → In c after
     → In c before ⊎ (Meet x y × (contact_of x y ≡ c))
-added_cases x y before after (inl added) c i = elim (In-push_cases c before (contact_of x y) (subst (In c) added.1 i)) [ inl k ↦ inl k | inr e ↦ inr (added.0, e) ]
+added_cases x y before after (inl added) c i = elim (In-push_cases c before (contact_of x y) (subst (In c) added.1 i))
+    [ inl k ↦ inl k | inr e ↦ inr (added.0, e) ]
 added_cases x y before after (inr same) c i = inl (subst (In c) same.1 i)
 
 stays : (x y : Side) (before after : List Contact) → AddsContact x y before after → (c : Contact) → In c before → In c after
@@ -184,7 +185,8 @@ reaches_back a b n =
     (λ ge. let same : a.line ≡ b.line = omega (arith, ints) in
     inr (sym same, by_lt_z a.to b.to (λ l. absurd (n (inr (same, omega (arith, ints))))) (λ h. h))))
 
-module _ (lowers uppers : List Side) (opposite : AreOpposite lowers uppers) (lower_order : AllPairs EndsBefore lowers) (upper_order : AllPairs EndsBefore uppers)
+module _ (lowers uppers : List Side) (opposite : AreOpposite lowers uppers) (lower_order : AllPairs EndsBefore lowers)
+    (upper_order : AllPairs EndsBefore uppers)
     (below above : ℕ) (d : Side) (before after : List Contact) (p : below < length lowers) (q : above < length uppers)
     (a : AddsContact (get_or lowers below d) (get_or uppers above d) before after)
     (s : Swept lowers uppers (drop below lowers) (drop above uppers) before) where
@@ -206,4 +208,5 @@ module _ (lowers uppers : List Side) (opposite : AreOpposite lowers uppers) (low
   upper_turn n =
       rw (add-one above) (subst (λ (xs : List Side). Swept lowers uppers xs (drop (suc above) uppers) after) (sym (drop-cons lowers below d p))
       (swept_upper lowers uppers opposite (get_or lowers below d) (get_or uppers above d) (drop (suc below) lowers) (drop (suc above) uppers) before after
-      (front_at lowers below d lower_order p) (front_at uppers above d upper_order q) a both_fronts (reaches_back (get_or lowers below d) (get_or uppers above d) n)))
+      (front_at lowers below d lower_order p) (front_at uppers above d upper_order q) a both_fronts
+      (reaches_back (get_or lowers below d) (get_or uppers above d) n)))

@@ -21,13 +21,16 @@ use Rattle.rect_contacts.proofs.Sorting.{side_owner}
 -- The number says how much of the one edge of a rectangle meets the other edge of another, which is opposite.
 pub record Touches (high low : Edge) (touch : Rect → Rect → ℤ) : Type 0 where
   pub cases : (a b : Rect) (i j : ℕ)
-      → (((side_of high a i).line ≡ (side_of low b j).line) × (touch a b ≡ overlap (side_of high a i).from (side_of high a i).to (side_of low b j).from (side_of low b j).to))
+      → (((side_of high a i).line ≡ (side_of low b j).line) × (touch a b ≡ overlap (side_of high a i).from (side_of high a i).to (side_of low b j).from
+      (side_of low b j).to))
       ⊎ (((side_of high a i).line ≢ (side_of low b j).line) × (touch a b ≡ pos 0))
   pub opposite : (a : Rect) (i j : ℕ) → IsProper a → (side_of low a j).line <ℤ (side_of high a i).line
 
+-- tops and bottoms meet where one rectangle lies upon another
 pub upon_touches : Touches Top Bottom shared_upon
 upon_touches = record { cases = λ a b i j. shared_upon-cases a b; opposite = λ a i j p. p.high }
 
+-- right and left edges meet where they stand side by side
 pub beside_touches : Touches Right Left shared_beside
 beside_touches = record { cases = λ a b i j. shared_beside-cases a b; opposite = λ a i j p. p.wide }
 
@@ -38,7 +41,8 @@ either_way touch a b = touch a b +ℤ touch b a
 module _ (high low : Edge) (touch : Rect → Rect → ℤ) (t : Touches high low touch) where
   touch-not_negative : (a b : Rect) → pos 0 ≤ℤ touch a b
   touch-not_negative a b = elim (t.cases a b 0 0) [
-    | inl k ↦ subst (λ (z : ℤ). pos 0 ≤ℤ z) (sym k.1) (overlap-not_negative (side_of high a 0).from (side_of high a 0).to (side_of low b 0).from (side_of low b 0).to)
+    | inl k ↦ subst (λ (z : ℤ). pos 0 ≤ℤ z) (sym k.1) (overlap-not_negative (side_of high a 0).from (side_of high a 0).to (side_of low b 0).from
+        (side_of low b 0).to)
     | inr k ↦ let none : touch a b ≡ pos 0 = k.1 in omega (arith, ints)
   ]
 
@@ -69,13 +73,15 @@ module _ (high low : Edge) (touch : Rect → Rect → ℤ) (t : Touches high low
   -- the contact of two places in whichever order
   contact_at : (rects : List Rect) (contact : Contact) (i j : ℕ) (n : ℤ) → contact ≡ record { first = min i j; second = max i j; length = n } → i ≢ j
       → i < length rects → j < length rects
-      → n ≡ touch (rect_at rects i) (rect_at rects j) → pos 0 <ℤ n → touch (rect_at rects j) (rect_at rects i) ≡ pos 0 → IsSharedEdgeBy (either_way touch) rects contact
+      → n ≡ touch (rect_at rects i) (rect_at rects j) → pos 0 <ℤ n → touch (rect_at rects j) (rect_at rects i) ≡ pos 0 → IsSharedEdgeBy
+      (either_way touch) rects contact
   contact_at rects contact i j n e differ below above there long back =
       let first : contact.first ≡ min i j = ap (λ (c : Contact). c.first) e in
       let second : contact.second ≡ max i j = ap (λ (c : Contact). c.second) e in
       let size : contact.length ≡ n = ap (λ (c : Contact). c.length) e in
       let same : (k l : ℕ) → contact.first ≡ k → contact.second ≡ l → n ≡ touch (rect_at rects k) (rect_at rects l) +ℤ touch (rect_at rects l) (rect_at rects k)
-      → contact.length ≡ touch (rect_at rects contact.first) (rect_at rects contact.second) +ℤ touch (rect_at rects contact.second) (rect_at rects contact.first) =
+      → contact.length ≡ touch (rect_at rects contact.first) (rect_at rects contact.second) +ℤ touch (rect_at rects contact.second)
+      (rect_at rects contact.first) =
       λ k l p q r. size ∙ r ∙ (λ x. touch (rect_at rects (sym p x)) (rect_at rects (sym q x)) +ℤ touch (rect_at rects (sym q x)) (rect_at rects (sym p x))) in
       record {
         in_order = omega arith;
@@ -87,16 +93,19 @@ module _ (high low : Edge) (touch : Rect → Rect → ℤ) (t : Touches high low
         not_none = omega (arith, ints);
       }
 
-  module _ (rects : List Rect) (proper : All IsProper rects) (highs lows : List Side) (of_high : AreSidesOf high rects highs) (of_low : AreSidesOf low rects lows) where
+  module _ (rects : List Rect) (proper : All IsProper rects) (highs lows : List Side) (of_high : AreSidesOf high rects highs)
+      (of_low : AreSidesOf low rects lows) where
     -- the sides of one rectangle are opposite
     pub sides_opposite : AreOpposite highs lows
     sides_opposite a b i j e =
         let x = of_high.others a i in
         let y = of_low.others b j in
         let p : IsProper (rect_at rects b.owner) = proper b.owner _ y.0 in
-        let line : a.line ≡ (side_of high (rect_at rects b.owner) a.owner).line = ap (λ (s : Side). s.line) x.1 ∙ ap (λ (k : ℕ). (side_of high (rect_at rects k) a.owner).line) e in
+        let line : a.line ≡ (side_of high (rect_at rects b.owner) a.owner).line = ap (λ (s : Side). s.line) x.1
+        ∙ ap (λ (k : ℕ). (side_of high (rect_at rects k) a.owner).line) e in
         let other : b.line ≡ (side_of low (rect_at rects b.owner) b.owner).line = ap (λ (s : Side). s.line) y.1 in
-        let up : (side_of low (rect_at rects b.owner) b.owner).line <ℤ (side_of high (rect_at rects b.owner) a.owner).line = t.opposite (rect_at rects b.owner) a.owner b.owner p in
+        let up : (side_of low (rect_at rects b.owner) b.owner).line <ℤ (side_of high (rect_at rects b.owner) a.owner).line = t.opposite
+        (rect_at rects b.owner) a.owner b.owner p in
         omega (arith, ints)
 
     -- a meeting of sides is a contact
@@ -162,8 +171,10 @@ module _ (high low : Edge) (touch : Rect → Rect → ℤ) (t : Touches high low
         (λ h. let there : touch a b ≡ pos 0 = omega (arith, ints) in
         meeting_at contact contact.second contact.first last below (omega (arith, ints)) (omega arith) (omega arith) (omega (arith, ints)))
 
+    -- the meetings of the sides are the contacts
     pub touches_from_meetings : (contacts : List Contact) → Lists (IsMeeting highs lows) contacts → Lists (IsSharedEdgeBy (either_way touch) rects) contacts
-    touches_from_meetings contacts l = Lists-iff (IsMeeting highs lows) (IsSharedEdgeBy (either_way touch) rects) contacts touch_from_meeting meeting_from_touch l
+    touches_from_meetings contacts l = Lists-iff (IsMeeting highs lows) (IsSharedEdgeBy (either_way touch) rects) contacts touch_from_meeting
+        meeting_from_touch l
 
 -- the contacts at upper and lower edges, and those at right and left edges
 upon_only : (a b : Rect) → pos 0 <ℤ shared_stacked a b → shared_abreast a b ≡ pos 0
@@ -229,5 +240,6 @@ module _ (rects : List Rect) where
       → Lists (IsSharedEdgeBy shared_abreast rects) abreast
       → Lists (IsSharedEdge rects) (stacked ++ abreast)
   contacts_of_both stacked abreast u v =
-      Lists-iff (λ c. IsSharedEdgeBy shared_stacked rects c ⊎ IsSharedEdgeBy shared_abreast rects c) (IsSharedEdge rects) (stacked ++ abreast) contact_from_parts parts_of_contact
+      Lists-iff (λ c. IsSharedEdgeBy shared_stacked rects c ⊎ IsSharedEdgeBy shared_abreast rects c) (IsSharedEdge rects) (stacked ++ abreast)
+      contact_from_parts parts_of_contact
       (Lists-append (IsSharedEdgeBy shared_stacked rects) (IsSharedEdgeBy shared_abreast rects) stacked abreast not_both u v)

@@ -17,6 +17,7 @@ squares_of area =
 abbrev pub area_of : Rect → ℤ
 area_of area = (area.xhi -ℤ area.xlo) *ℤ (area.yhi -ℤ area.ylo)
 
+-- the length of its four edges
 abbrev pub perimeter_of : Rect → ℤ
 perimeter_of area = pos 2 *ℤ ((area.xhi -ℤ area.xlo) +ℤ (area.yhi -ℤ area.ylo))
 

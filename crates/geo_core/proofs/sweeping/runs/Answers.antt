@@ -26,7 +26,8 @@ loop-event-init c =
     (subst (λ v. In x (sides_of v)) (c.deref-event-items.ensures.value ∙ sym c.as_slice.ensures.value) i))) in
     record {
       are = are;
-      swept = rw c.new-2.ensures.items (swept_begins c.args.rects.now items _ (get int_cmp c.new.result) (until coverage) are (λ a. ap (λ v. lookup (is_at (int_cmp a)) v) c.new.ensures.empty) c.in_ok-uncovered.ensures.rows);
+      swept = rw c.new-2.ensures.items (swept_begins c.args.rects.now items _ (get int_cmp c.new.result) (until coverage) are
+          (λ a. ap (λ v. lookup (is_at (int_cmp a)) v) c.new.ensures.empty) c.in_ok-uncovered.ensures.rows);
       topped = c.in_ok-uncovered.ensures.topped;
       from_cut = λ e i. cuts e.from (from_in_sides items e i);
       to_cut = λ e i. cuts e.to (to_in_sides items e i);
@@ -34,10 +35,12 @@ loop-event-init c =
 
 pub begin-requires-clause-long : goal.begin-requires-clause-long
 begin-requires-clause-long c =
-    begin_long c.args.rects.now c.deref-event-items.result.now _ c.loop-event.invariant.are (In-get_or c.deref-event-items.result.now c.loop-event.event-index _ c.loop-event-test.true) c.if-event.false
+    begin_long c.args.rects.now c.deref-event-items.result.now _ c.loop-event.invariant.are
+    (In-get_or c.deref-event-items.result.now c.loop-event.event-index _ c.loop-event-test.true) c.if-event.false
 
 pub begin-requires-clause-from_cut : goal.begin-requires-clause-from_cut
-begin-requires-clause-from_cut c = c.loop-event.invariant.from_cut _ (In-get_or c.deref-event-items.result.now c.loop-event.event-index _ c.loop-event-test.true)
+begin-requires-clause-from_cut c = c.loop-event.invariant.from_cut _ (In-get_or c.deref-event-items.result.now c.loop-event.event-index _
+    c.loop-event-test.true)
 
 pub begin-requires-clause-to_cut : goal.begin-requires-clause-to_cut
 begin-requires-clause-to_cut c = c.loop-event.invariant.to_cut _ (In-get_or c.deref-event-items.result.now c.loop-event.event-index _ c.loop-event-test.true)
@@ -52,9 +55,11 @@ loop-event-preserved c =
     elim c.if-event.branch [
       | then-event+in_ok-end w ↦ (let fits : FitsSigned w64 event.row = search rules in
           subst (IsUnderWay c.args.rects.now items (i + 1) lowest) (sym w.sweep-is)
-          (ended_under_way c.args.rects.now items i lowest c.loop-event.sweep w.end.new.sweep c.loop-event.invariant inside none w.if-event.true (omega (arith, ints, fits)) w.in_ok-end.ensures))
+          (ended_under_way c.args.rects.now items i lowest c.loop-event.sweep w.end.new.sweep c.loop-event.invariant inside none w.if-event.true
+          (omega (arith, ints, fits)) w.in_ok-end.ensures))
       | else-event+in_ok-begin w ↦ subst (IsUnderWay c.args.rects.now items (i + 1) lowest) (sym w.sweep-is)
-          (begun_under_way c.args.rects.now items i lowest c.loop-event.sweep w.begin.new.sweep c.loop-event.invariant inside none w.if-event.false w.in_ok-begin.ensures)
+          (begun_under_way c.args.rects.now items i lowest c.loop-event.sweep w.begin.new.sweep c.loop-event.invariant inside none w.if-event.false
+          w.in_ok-begin.ensures)
     ]
 
 pub returns : goal.returns
@@ -63,4 +68,5 @@ returns c =
     let before = c.loop-event.invariant in
     let done = take_all c.loop-event.event-index items c.loop-event-test.false in
     let rest = drop_all c.loop-event.event-index items c.loop-event-test.false in
-    swept_all c.args.rects.now items _ (row_of c.loop-event.sweep) (until c.loop-event.sweep.coverage) c.loop-event.sweep.found.items before.are (rw (done, rest) at before.swept)
+    swept_all c.args.rects.now items _ (row_of c.loop-event.sweep) (until c.loop-event.sweep.coverage) c.loop-event.sweep.found.items before.are
+    (rw (done, rest) at before.swept)

@@ -18,7 +18,8 @@ meetings-requires-clause-opposite c =
 pub returns : goal.returns
 returns c =
     IfOk-weaker c.meetings.result
-    (λ contacts. Lists (IsMeeting c.as_slice.result.now c.as_slice-2.result.now) contacts.items) (λ contacts. Lists (IsSharedEdgeBy shared_stacked c.args.rects.now) contacts.items)
+    (λ contacts. Lists (IsMeeting c.as_slice.result.now c.as_slice-2.result.now) contacts.items)
+    (λ contacts. Lists (IsSharedEdgeBy shared_stacked c.args.rects.now) contacts.items)
     (λ contacts. touches_from_meetings Top Bottom shared_upon upon_touches c.args.rects.now c.requires.proper c.as_slice.result.now c.as_slice-2.result.now
     (subst (λ (s : List Side). AreSidesOf Top c.args.rects.now s) (sym c.as_slice.ensures.value) c.in_ok-tops.ensures)
     (subst (λ (s : List Side). AreSidesOf Bottom c.args.rects.now s) (sym c.as_slice-2.ensures.value) c.in_ok-bottoms.ensures) contacts.items)
