@@ -1,9 +1,9 @@
 -- Tests along a list: what is found, the place of what is found, and what tests of all and of some say.
-use Rattle.std.proofs.Common.{◌≡◌, ◌+◌, ◌<◌, ℕ, zero, suc, Bool, true, false, cond, Option, List, [], ◌∷◌, ◌++◌, map}
-use Rattle.std.proofs.Common.{length, get_or, drop, refl, sym, ap, ◌∙◌, arith, inl, inr, add-one, drop-cons}
+use Rattle.std.proofs.Common.{◌≡◌, ◌+◌, ◌<◌, ◌≤◌, ℕ, zero, suc, Bool, true, false, cond, Option, List, [], ◌∷◌, ◌++◌, map}
+use Rattle.std.proofs.Common.{filter, length, get_or, drop, refl, sym, ap, ◌∙◌, arith, inl, inr, add-one, drop-cons}
 use Rattle.std.specs.Prelude.{All, Some, None, find}
 use Rattle.std.specs.List.{list_all, list_any, position_from, range_with_len}
-use Rattle.std.specs.Option.{option_map}
+use Rattle.std.specs.Option.{option_map, option_or}
 use Rattle.std.proofs.lemmas.Bool.{cases_Bool, and_parts, or_parts}
 use Rattle.finite_sets.specs.Lists.{In}
 use Rattle.finite_sets.proofs.Members.{In-get_or}
@@ -98,6 +98,24 @@ position_from-push_passes test n [] y passes none = rw passes (ap (λ (k : ℕ).
 position_from-push_passes test n (x ∷ xs) y passes none = elim (cases_Bool (test x)) [
   | inl here ↦ let found : Some n ≡ None = rw here at none in absurd (cc)
   | inr away ↦ rw away (position_from-push_passes test (n + 1) xs y passes (rw away at none) ∙ ap (λ (k : ℕ). Some k) (omega arith))
+]
+
+-- where there is nothing after a function, there was nothing before
+pub option_map-none : {X Y : Type 0} (f : X → Y) (found : Option X) → option_map f found ≡ None → found ≡ None
+option_map-none f None is = refl
+option_map-none f (Some x) is = cc
+
+-- where neither of two is taken, both are nothing
+pub option_or-none : {X : Type 0} (first second : Option X) → option_or first second ≡ None → (first ≡ None) × (second ≡ None)
+option_or-none None second is = (refl, is)
+option_or-none (Some x) second is = cc
+
+-- what a filter keeps is no longer
+pub length-filter : {X : Type 0} (test : X → Bool) (xs : List X) → length (filter test xs) ≤ length xs
+length-filter test [] = omega arith
+length-filter test (x ∷ xs) = let rest = length-filter test xs in elim (cases_Bool (test x)) [
+  | inl passes ↦ rw passes (omega arith)
+  | inr fails ↦ rw fails (omega arith)
 ]
 
 -- a list of one thing
