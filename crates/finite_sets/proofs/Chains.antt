@@ -3,9 +3,11 @@ use Rattle.std.proofs.Common.{◌≡◌, inl, inr, refl, ◌∙◌, subst}
 use Rattle.finite_sets.specs.Chain.{Chain, EitherWay}
 use Rattle.finite_sets.specs.Chain.Chain.{stay, go}
 
+-- one step
 pub Chain-one : {X : Type 0} {R : X → X → Type 0} {a b : X} → R a b → Chain R a b
 Chain-one r = go r stay
 
+-- one chain and then another
 pub Chain-append : {X : Type 0} {R : X → X → Type 0} {a b c : X} → Chain R a b → Chain R b c → Chain R a c
 Chain-append stay d = d
 Chain-append (go r c) d = go r (Chain-append c d)
@@ -24,7 +26,8 @@ Chain-back turn stay = stay
 Chain-back turn (go {a = a} {b = b} r c) = Chain-append (Chain-back turn c) (go (turn a b r) stay)
 
 -- each step goes over to a chain of the other relation
-pub Chain-map : {X Y : Type 0} {R : X → X → Type 0} {S : Y → Y → Type 0} (f : X → Y) → ((a b : X) → R a b → Chain S (f a) (f b)) → {a b : X} → Chain R a b → Chain S (f a) (f b)
+pub Chain-map : {X Y : Type 0} {R : X → X → Type 0} {S : Y → Y → Type 0} (f : X → Y) → ((a b : X) → R a b → Chain S (f a) (f b)) → {a b : X}
+    → Chain R a b → Chain S (f a) (f b)
 Chain-map f over stay = stay
 Chain-map f over (go {a = a} {b = b} r c) = Chain-append (over a b r) (Chain-map f over c)
 
@@ -54,7 +57,8 @@ Chain-carries P carry stay p = p
 Chain-carries P carry (go {a = a} {b = b} r c) p = Chain-carries P carry c (carry a b r p)
 
 -- a chain from a thing with a fact that each step carries on, with that fact at each step
-pub Chain-within : {X : Type 0} {R : X → X → Type 0} (P : X → Type 0) → ((a b : X) → R a b → P a → P b) → {a b : X} → Chain R a b → P a → Chain (λ x y. P x × (P y × R x y)) a b
+pub Chain-within : {X : Type 0} {R : X → X → Type 0} (P : X → Type 0) → ((a b : X) → R a b → P a → P b) → {a b : X} → Chain R a b → P a
+    → Chain (λ x y. P x × (P y × R x y)) a b
 Chain-within P carry stay p = stay
 Chain-within P carry (go {a = a} {b = b} r c) p = let q = carry a b r p in go (p, (q, r)) (Chain-within P carry c q)
 
@@ -68,6 +72,7 @@ pub Chain-either_back : {X : Type 0} (R : X → X → Type 0) {a b : X} → Chai
 Chain-either_back R c = Chain-back (EitherWay-back R) c
 
 -- where each step of R gives a chain either way of S, each chain does
-pub Chain-either_through : {X : Type 0} (R S : X → X → Type 0) → ((a b : X) → R a b → Chain (EitherWay S) a b) → {a b : X} → Chain (EitherWay R) a b → Chain (EitherWay S) a b
+pub Chain-either_through : {X : Type 0} (R S : X → X → Type 0) → ((a b : X) → R a b → Chain (EitherWay S) a b) → {a b : X} → Chain (EitherWay R) a b
+    → Chain (EitherWay S) a b
 Chain-either_through R S over c =
     Chain-through (λ a b h. elim h [ inl r ↦ over a b r | inr r ↦ Chain-either_back S (over b a r) ]) c

@@ -1,5 +1,6 @@
 -- Lists in which nothing stands twice: laws of `Distinct`.
-use Rattle.std.proofs.Common.{◌≡◌, ◌≢◌, ℕ, zero, suc, ◌<◌, ◌≤◌, Bool, true, false, cond, List, [], ◌∷◌, ◌++◌, ◌⊎◌, inl, inr, map, filter, length, get_or, refl, sym, ap, subst, arith, length-append}
+use Rattle.std.proofs.Common.{◌≡◌, ◌≢◌, ℕ, zero, suc, ◌<◌, ◌≤◌, Bool, true, false, cond, List, [], ◌∷◌, ◌++◌, ◌⊎◌}
+use Rattle.std.proofs.Common.{inl, inr, map, filter, length, get_or, refl, sym, ap, subst, arith, length-append}
 use Rattle.finite_sets.specs.Lists.{In, Distinct}
 use Rattle.finite_sets.proofs.Members.{In-append_cases, In-append_left, In-append_right, In-map_source, In-filter_source, In-get_or, In-index}
 
@@ -17,10 +18,12 @@ Distinct-push {X} xs y d new =
     Distinct-append xs (y ∷ []) d ((λ h. h), tt)
     (λ x h k. elim k [ inl e ↦ let P : X → Type 0 = λ z. In z xs in new (subst P (sym e) h) | inr n ↦ n ])
 
+-- a first part
 pub Distinct-append_left : {X : Type 0} (xs ys : List X) → Distinct (xs ++ ys) → Distinct xs
 Distinct-append_left [] ys d = tt
 Distinct-append_left (x ∷ xs) ys d = ((λ h. d.0 (In-append_left x xs ys h)), Distinct-append_left xs ys d.1)
 
+-- a last part
 pub Distinct-append_right : {X : Type 0} (xs ys : List X) → Distinct (xs ++ ys) → Distinct ys
 Distinct-append_right [] ys d = d
 Distinct-append_right (x ∷ xs) ys d = Distinct-append_right xs ys d.1
@@ -40,6 +43,7 @@ Distinct-map {X} f (x ∷ xs) one d = (
   Distinct-map f xs (λ a b h k e. one a b (inr h) (inr k) e) d.1,
 )
 
+-- what passes a test
 pub Distinct-filter : {X : Type 0} (test : X → Bool) (xs : List X) → Distinct xs → Distinct (filter test xs)
 Distinct-filter test [] d = tt
 Distinct-filter {X} test (x ∷ xs) d =
@@ -54,6 +58,7 @@ Distinct-places (x ∷ xs) i zero d t l h e = omega arith
 Distinct-places {X} (x ∷ xs) zero (suc j) d t l h e = let P : X → Type 0 = λ z. In z xs in t.0 (subst P (sym e) (In-get_or xs j d (omega arith)))
 Distinct-places (x ∷ xs) (suc i) (suc j) d t l h e = Distinct-places xs i j d t.1 (omega arith) (omega arith) e
 
+-- and back
 pub Distinct-from_places : {X : Type 0} (xs : List X) → ((i j : ℕ) (d : X) → i < j → j < length xs → get_or xs i d ≢ get_or xs j d) → Distinct xs
 Distinct-from_places [] apart = tt
 Distinct-from_places (x ∷ xs) apart = (
@@ -65,25 +70,30 @@ Distinct-from_places (x ∷ xs) apart = (
 pub record IsCut {X : Type 0} (x : X) (xs front back : List X) : Type 0 where
   pub whole : xs ≡ front ++ (x ∷ back)
 
+-- what stands in a list is a place to cut it
 pub cut_at : {X : Type 0} (x : X) (xs : List X) → In x xs → (front : List X) × ((back : List X) × IsCut x xs front back)
 cut_at x [] h = absurd h
 cut_at x (y ∷ ys) (inl e) = ([], (ys, record { whole = ap (λ z. z ∷ ys) e }))
 cut_at x (y ∷ ys) (inr h) = let c = cut_at x ys h in (y ∷ c.0, (c.1.0, record { whole = ap (λ z. y ∷ z) c.1.1.whole }))
 
+-- what stands in a list with a cut is the thing there, or stands in the rest
 pub In-cut_cases : {X : Type 0} (front back : List X) (x a : X) → In a (front ++ (x ∷ back)) → (x ≡ a) ⊎ In a (front ++ back)
 In-cut_cases [] back x a h = h
 In-cut_cases (y ∷ ys) back x a (inl e) = inr (inl e)
 In-cut_cases (y ∷ ys) back x a (inr h) = elim (In-cut_cases ys back x a h) [ inl e ↦ inl e | inr k ↦ inr (inr k) ]
 
+-- the rest stands in the list
 pub In-cut_rest : {X : Type 0} (front back : List X) (x a : X) → In a (front ++ back) → In a (front ++ (x ∷ back))
 In-cut_rest [] back x a h = inr h
 In-cut_rest (y ∷ ys) back x a (inl e) = inl e
 In-cut_rest (y ∷ ys) back x a (inr h) = inr (In-cut_rest ys back x a h)
 
+-- and so does the thing at the cut
 pub In-cut : {X : Type 0} (front back : List X) (x : X) → In x (front ++ (x ∷ back))
 In-cut [] back x = inl refl
 In-cut (y ∷ ys) back x = inr (In-cut ys back x)
 
+-- the thing at the cut stands nowhere else
 pub Distinct-cut : {X : Type 0} (front back : List X) (x : X) → Distinct (front ++ (x ∷ back)) → (In x (front ++ back) → ⊥) × Distinct (front ++ back)
 Distinct-cut [] back x d = d
 Distinct-cut {X} (y ∷ ys) back x d =

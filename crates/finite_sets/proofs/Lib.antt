@@ -6,3 +6,6 @@ pub mod Totals
 pub mod Chains
 pub mod Ranges
 pub mod Leasts
+pub mod Orders
+pub mod Pairs
+pub mod Searches

@@ -37,7 +37,8 @@ Lists-filter P test xs l = (
 )
 
 -- the image of a set under a map that takes its things to different ones
-pub Lists-map : {X Y : Type 0} (P : X → Type 0) (f : X → Y) (xs : List X) → ((a b : X) → P a → P b → f a ≡ f b → a ≡ b) → Lists P xs → Lists (λ y. (x : X) × (P x × (f x ≡ y))) (map f xs)
+pub Lists-map : {X Y : Type 0} (P : X → Type 0) (f : X → Y) (xs : List X) → ((a b : X) → P a → P b → f a ≡ f b → a ≡ b) → Lists P xs
+    → Lists (λ y. (x : X) × (P x × (f x ≡ y))) (map f xs)
 Lists-map {X} {Y} P f xs one l =
     let Q : Y → Y → Type 0 = λ y z. In z (map f xs) in (
       Distinct-map f xs (λ a b h k e. one a b (l.2 a h) (l.2 b k) e) l.0,

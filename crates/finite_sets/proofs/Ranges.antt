@@ -1,5 +1,6 @@
 -- The integers of a range, and the pairs of two lists.
-use Rattle.std.proofs.Common.{◌≡◌, ℕ, zero, suc, ◌+◌, ◌*◌, ℤ, pos, negsuc, ◌+ℤ◌, ◌-ℤ◌, ◌≤ℤ◌, ◌<ℤ◌, List, [], ◌∷◌, ◌⊎◌, inl, inr, map, length, refl, sym, ◌∙◌, ap, subst, arith, length-append}
+use Rattle.std.proofs.Common.{◌≡◌, ℕ, zero, suc, ◌+◌, ◌*◌, ℤ, pos, negsuc, ◌+ℤ◌, ◌-ℤ◌, ◌≤ℤ◌, ◌<ℤ◌, List, [], ◌∷◌}
+use Rattle.std.proofs.Common.{◌⊎◌, inl, inr, map, length, refl, sym, ◌∙◌, ap, subst, arith, length-append}
 use Rattle.std.proofs.lemmas.Int.{ints, by_lt_z}
 use Rattle.std.proofs.lemmas.List.{length-map}
 use Rattle.finite_sets.specs.Lists.{In, Distinct, Lists}
@@ -9,6 +10,7 @@ use Rattle.finite_sets.proofs.Members.{In-append_cases, In-append_left, In-appen
 use Rattle.finite_sets.proofs.Distincts.{Distinct-append, Distinct-map}
 use Rattle.finite_sets.proofs.Totals.{Total-count, Total-at}
 
+-- they are so many
 pub length-integers_from : (lo : ℤ) (n : ℕ) → length (integers_from lo n) ≡ n
 length-integers_from lo zero = refl
 length-integers_from lo (suc n) = omega (arith, length-integers_from (lo +ℤ pos 1) n)
@@ -50,9 +52,11 @@ nonnegative_part_none (negsuc n) h = refl
 pub extent_up : (lo hi : ℤ) → lo ≤ℤ hi → lo +ℤ pos (extent lo hi) ≡ hi
 extent_up lo hi h = let e = nonnegative_part_is (hi -ℤ lo) (omega (arith, ints)) in ap (λ z. lo +ℤ z) e ∙ omega (arith, ints)
 
+-- a range that ends before it begins has none
 pub extent_none : (lo hi : ℤ) → hi ≤ℤ lo → extent lo hi ≡ 0
 extent_none lo hi h = nonnegative_part_none (hi -ℤ lo) (omega (arith, ints))
 
+-- a range has as many integers as its extent says
 pub length-integer_range : (lo hi : ℤ) → length (integer_range lo hi) ≡ extent lo hi
 length-integer_range lo hi = length-integers_from lo (extent lo hi)
 
@@ -79,6 +83,7 @@ In-pairs_of {X} {Y} x y (a ∷ xs) ys (inl e) k =
 In-pairs_of x y (a ∷ xs) ys (inr h) k =
     In-append_right (x, y) (map (λ v. (a, v)) ys) (pairs_of xs ys) (In-pairs_of x y xs ys h k)
 
+-- the first of a pair stands in the first list
 pub In-pairs_of_first : {X Y : Type 0} (p : X × Y) (xs : List X) (ys : List Y) → In p (pairs_of xs ys) → In p.0 xs
 In-pairs_of_first p [] ys h = absurd h
 In-pairs_of_first p (a ∷ xs) ys h = elim (In-append_cases p (map (λ v. (a, v)) ys) (pairs_of xs ys) h) [
@@ -86,6 +91,7 @@ In-pairs_of_first p (a ∷ xs) ys h = elim (In-append_cases p (map (λ v. (a, v)
   | inr k ↦ inr (In-pairs_of_first p xs ys k)
 ]
 
+-- the second of a pair stands in the second list
 pub In-pairs_of_second : {X Y : Type 0} (p : X × Y) (xs : List X) (ys : List Y) → In p (pairs_of xs ys) → In p.1 ys
 In-pairs_of_second p [] ys h = absurd h
 In-pairs_of_second {X} {Y} p (a ∷ xs) ys h = elim (In-append_cases p (map (λ v. (a, v)) ys) (pairs_of xs ys) h) [
@@ -103,13 +109,15 @@ Distinct-pairs_of {X} {Y} (a ∷ xs) ys d e =
     d.0 (subst P (sym (ap (λ q. q.0) s.1.1)) (In-pairs_of_first p xs ys k)))
 
 -- the pairs of two sets
-pub Lists-pairs_of : {X Y : Type 0} (P : X → Type 0) (Q : Y → Type 0) (xs : List X) (ys : List Y) → Lists P xs → Lists Q ys → Lists {X = X × Y} (λ p. P p.0 × Q p.1) (pairs_of xs ys)
+pub Lists-pairs_of : {X Y : Type 0} (P : X → Type 0) (Q : Y → Type 0) (xs : List X) (ys : List Y) → Lists P xs → Lists Q ys
+    → Lists {X = X × Y} (λ p. P p.0 × Q p.1) (pairs_of xs ys)
 Lists-pairs_of P Q xs ys l m = (
   Distinct-pairs_of xs ys l.0 m.0,
   (λ p h. In-pairs_of p.0 p.1 xs ys (l.1 p.0 h.0) (m.1 p.1 h.1)),
   (λ p h. (l.2 p.0 (In-pairs_of_first p xs ys h), m.2 p.1 (In-pairs_of_second p xs ys h))),
 )
 
+-- there are as many pairs as the product of the lengths
 pub length-pairs_of : {X Y : Type 0} (xs : List X) (ys : List Y) → length (pairs_of xs ys) ≡ length xs * length ys
 length-pairs_of [] ys = omega arith
 length-pairs_of (a ∷ xs) ys =
@@ -117,12 +125,15 @@ length-pairs_of (a ∷ xs) ys =
     ∙ ap (λ n. length ys + n) (length-pairs_of xs ys) ∙ omega arith
 
 -- the integer points of a rectangle
-pub Lists-rectangle : (xlo xhi ylo yhi : ℤ) → Lists {X = ℤ × ℤ} (λ p. IsBetween xlo xhi p.0 × IsBetween ylo yhi p.1) (pairs_of (integer_range xlo xhi) (integer_range ylo yhi))
+pub Lists-rectangle : (xlo xhi ylo yhi : ℤ)
+    → Lists {X = ℤ × ℤ} (λ p. IsBetween xlo xhi p.0 × IsBetween ylo yhi p.1) (pairs_of (integer_range xlo xhi) (integer_range ylo yhi))
 Lists-rectangle xlo xhi ylo yhi =
-    Lists-pairs_of (IsBetween xlo xhi) (IsBetween ylo yhi) (integer_range xlo xhi) (integer_range ylo yhi) (Lists-integer_range xlo xhi) (Lists-integer_range ylo yhi)
+    Lists-pairs_of (IsBetween xlo xhi) (IsBetween ylo yhi) (integer_range xlo xhi) (integer_range ylo yhi) (Lists-integer_range xlo xhi)
+    (Lists-integer_range ylo yhi)
 
 -- they are as many as its width times its height
-pub Total-rectangle : (xlo xhi ylo yhi : ℤ) → Total {X = ℤ × ℤ} (λ p. IsBetween xlo xhi p.0 × IsBetween ylo yhi p.1) (λ p. pos 1) (pos (extent xlo xhi * extent ylo yhi))
+pub Total-rectangle : (xlo xhi ylo yhi : ℤ)
+    → Total {X = ℤ × ℤ} (λ p. IsBetween xlo xhi p.0 × IsBetween ylo yhi p.1) (λ p. pos 1) (pos (extent xlo xhi * extent ylo yhi))
 Total-rectangle xlo xhi ylo yhi =
     let xs = integer_range xlo xhi in
     let ys = integer_range ylo yhi in

@@ -1,18 +1,22 @@
 -- Sums over lists: laws of `sum_on`.
-use Rattle.std.proofs.Common.{◌≡◌, ◌+◌, ◌*◌, ℤ, pos, ◌+ℤ◌, ◌-ℤ◌, ◌*ℤ◌, ◌≤ℤ◌, Bool, true, false, cond, List, [], ◌∷◌, ◌++◌, inl, inr, map, filter, length, refl, sym, ◌∙◌, ap, subst, arith}
+use Rattle.std.proofs.Common.{◌≡◌, ◌+◌, ◌*◌, ℤ, pos, ◌+ℤ◌, ◌-ℤ◌, ◌*ℤ◌, ◌≤ℤ◌, Bool, true, false, cond, List, []}
+use Rattle.std.proofs.Common.{◌∷◌, ◌++◌, inl, inr, map, filter, length, refl, sym, ◌∙◌, ap, subst, arith}
 use Rattle.std.proofs.lemmas.Int.{ints}
 use borrow.Author.Differences.{up, down}
 use Rattle.finite_sets.specs.Lists.{In, Distinct}
 use Rattle.finite_sets.specs.Total.{sum_on}
 use Rattle.finite_sets.proofs.Distincts.{cut_at, In-cut_cases, In-cut_rest, Distinct-cut}
 
+-- the sum over one list and then another
 pub sum_on-append : {X : Type 0} (w : X → ℤ) (xs ys : List X) → sum_on w (xs ++ ys) ≡ sum_on w xs +ℤ sum_on w ys
 sum_on-append w [] ys = omega (arith, ints)
 sum_on-append w (x ∷ xs) ys = ap (λ z. w x +ℤ z) (sum_on-append w xs ys) ∙ omega (arith, ints)
 
+-- the sum with one more at the end
 pub sum_on-push : {X : Type 0} (w : X → ℤ) (xs : List X) (y : X) → sum_on w (xs ++ y ∷ []) ≡ sum_on w xs +ℤ w y
 sum_on-push w xs y = sum_on-append w xs (y ∷ []) ∙ omega (arith, ints)
 
+-- the sum over an image
 pub sum_on-map : {X Y : Type 0} (f : X → Y) (w : Y → ℤ) (xs : List X) → sum_on w (map f xs) ≡ sum_on (λ x. w (f x)) xs
 sum_on-map f w [] = refl
 sum_on-map f w (x ∷ xs) = ap (λ z. w (f x) +ℤ z) (sum_on-map f w xs)
@@ -22,6 +26,7 @@ pub sum_on-same : {X : Type 0} (v w : X → ℤ) (xs : List X) → ((x : X) → 
 sum_on-same v w [] h = refl
 sum_on-same v w (x ∷ xs) h = ap (λ z. z +ℤ sum_on v xs) (h x (inl refl)) ∙ ap (λ z. w x +ℤ z) (sum_on-same v w xs (λ y i. h y (inr i)))
 
+-- the weight zero
 pub sum_on-zero : {X : Type 0} (xs : List X) → sum_on (λ x. pos 0) xs ≡ pos 0
 sum_on-zero [] = refl
 sum_on-zero (x ∷ xs) = ap (λ z. pos 0 +ℤ z) (sum_on-zero xs) ∙ omega (arith, ints)
@@ -30,10 +35,12 @@ sum_on-zero (x ∷ xs) = ap (λ z. pos 0 +ℤ z) (sum_on-zero xs) ∙ omega (ari
 pub sum_on-nothing : {X : Type 0} (w : X → ℤ) (xs : List X) → ((x : X) → In x xs → w x ≡ pos 0) → sum_on w xs ≡ pos 0
 sum_on-nothing w xs h = sum_on-same w (λ x. pos 0) xs h ∙ sum_on-zero xs
 
+-- the sum of two weights
 pub sum_on-add : {X : Type 0} (v w : X → ℤ) (xs : List X) → sum_on (λ x. v x +ℤ w x) xs ≡ sum_on v xs +ℤ sum_on w xs
 sum_on-add v w [] = omega (arith, ints)
 sum_on-add v w (x ∷ xs) = ap (λ z. (v x +ℤ w x) +ℤ z) (sum_on-add v w xs) ∙ omega (arith, ints)
 
+-- the difference of two weights
 pub sum_on-sub : {X : Type 0} (v w : X → ℤ) (xs : List X) → sum_on (λ x. v x -ℤ w x) xs ≡ sum_on v xs -ℤ sum_on w xs
 sum_on-sub v w [] = omega (arith, ints)
 sum_on-sub v w (x ∷ xs) = ap (λ z. (v x -ℤ w x) +ℤ z) (sum_on-sub v w xs) ∙ omega (arith, ints)
@@ -89,6 +96,7 @@ distributes k a b =
     let sum : up (a +ℤ b) + (down a + down b) ≡ down (a +ℤ b) + (up a + up b) = omega (arith, ints) in
     omega (arith, ints, ap (λ z. up k * z) sum, ap (λ z. down k * z) sum)
 
+-- a weight so many times
 pub sum_on-scale : {X : Type 0} (k : ℤ) (w : X → ℤ) (xs : List X) → sum_on (λ x. k *ℤ w x) xs ≡ k *ℤ sum_on w xs
 sum_on-scale k w [] = omega (arith, ints)
 sum_on-scale k w (x ∷ xs) = ap (λ z. (k *ℤ w x) +ℤ z) (sum_on-scale k w xs) ∙ distributes k (w x) (sum_on w xs)

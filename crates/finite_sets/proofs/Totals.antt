@@ -1,11 +1,13 @@
 -- Sums over finite sets: laws of `Total`.
-use Rattle.std.proofs.Common.{◌≡◌, ℤ, pos, ◌+ℤ◌, ◌-ℤ◌, ◌*ℤ◌, ◌≤ℤ◌, Bool, true, false, cond, List, [], ◌∷◌, ◌++◌, ◌⊎◌, inl, inr, map, filter, length, refl, sym, ◌∙◌, ap, subst, arith}
+use Rattle.std.proofs.Common.{◌≡◌, ℤ, pos, ◌+ℤ◌, ◌-ℤ◌, ◌*ℤ◌, ◌≤ℤ◌, Bool, true, false, cond, List, [], ◌∷◌}
+use Rattle.std.proofs.Common.{◌++◌, ◌⊎◌, inl, inr, map, filter, length, refl, sym, ◌∙◌, ap, subst, arith}
 use Rattle.std.proofs.lemmas.Int.{ints}
 use Rattle.std.proofs.lemmas.Bool.{cases_Bool, false≢true}
 use Rattle.finite_sets.specs.Lists.{In, Distinct, Lists}
 use Rattle.finite_sets.specs.Total.{sum_on, Total}
 use Rattle.finite_sets.proofs.Listings.{Lists-none, Lists-one, Lists-iff, Lists-append, Lists-filter, Lists-map, Lists-image}
-use Rattle.finite_sets.proofs.Sums.{sum_on-append, sum_on-map, sum_on-same, sum_on-nothing, sum_on-add, sum_on-sub, sum_on-le, sum_on-scale, sum_on-count, sum_on-filter, sum_on-same_things}
+use Rattle.finite_sets.proofs.Sums.{sum_on-append, sum_on-map, sum_on-same, sum_on-nothing, sum_on-add, sum_on-sub}
+use Rattle.finite_sets.proofs.Sums.{sum_on-le, sum_on-scale, sum_on-count, sum_on-filter, sum_on-same_things}
 
 -- a set has one sum of a weight
 pub Total-unique : {X : Type 0} (P : X → Type 0) (w : X → ℤ) (m n : ℤ) → Total P w m → Total P w n → m ≡ n
@@ -16,6 +18,7 @@ Total-unique P w m n s t =
 pub Total-of_list : {X : Type 0} (P : X → Type 0) (w : X → ℤ) (n : ℤ) (xs : List X) → Total P w n → Lists P xs → sum_on w xs ≡ n
 Total-of_list P w n xs t l = Total-unique P w (sum_on w xs) n (xs, (l, refl)) t
 
+-- a list of the set has its total
 pub Total-from_list : {X : Type 0} (P : X → Type 0) (w : X → ℤ) (xs : List X) → Lists P xs → Total P w (sum_on w xs)
 Total-from_list P w xs l = (xs, (l, refl))
 
@@ -23,9 +26,11 @@ Total-from_list P w xs l = (xs, (l, refl))
 pub Total-at : {X : Type 0} (P : X → Type 0) (w : X → ℤ) (m n : ℤ) → m ≡ n → Total P w m → Total P w n
 Total-at P w m n e t = (t.0, (t.1.0, t.1.1 ∙ e))
 
+-- the empty set
 pub Total-none : {X : Type 0} (P : X → Type 0) (w : X → ℤ) → ((x : X) → P x → ⊥) → Total P w (pos 0)
 Total-none P w none = ([], (Lists-none P none, refl))
 
+-- the set of one thing
 pub Total-one : {X : Type 0} (x : X) (w : X → ℤ) → Total (λ y. x ≡ y) w (w x)
 Total-one x w = (x ∷ [], (Lists-one x, omega (arith, ints)))
 
@@ -38,7 +43,8 @@ pub Total-same : {X : Type 0} (P : X → Type 0) (v w : X → ℤ) (n : ℤ) →
 Total-same P v w n h t = (t.0, (t.1.0, sym (sum_on-same v w t.0 (λ x i. h x (t.1.0.2 x i))) ∙ t.1.1))
 
 -- the union of two sets with nothing in common
-pub Total-union : {X : Type 0} (P Q : X → Type 0) (w : X → ℤ) (m n : ℤ) → ((x : X) → P x → Q x → ⊥) → Total P w m → Total Q w n → Total (λ x. P x ⊎ Q x) w (m +ℤ n)
+pub Total-union : {X : Type 0} (P Q : X → Type 0) (w : X → ℤ) (m n : ℤ) → ((x : X) → P x → Q x → ⊥) → Total P w m → Total Q w n
+    → Total (λ x. P x ⊎ Q x) w (m +ℤ n)
 Total-union P Q w m n apart s t =
     (s.0 ++ t.0, (Lists-append P Q s.0 t.0 apart s.1.0 t.1.0, sum_on-append w s.0 t.0 ∙ ap (λ z. z +ℤ sum_on w t.0) s.1.1 ∙ ap (λ z. m +ℤ z) t.1.1))
 
@@ -57,6 +63,7 @@ pub Total-add : {X : Type 0} (P : X → Type 0) (v w : X → ℤ) (m n : ℤ) �
 Total-add P v w m n s t =
     (s.0, (s.1.0, sum_on-add v w s.0 ∙ ap (λ z. z +ℤ sum_on w s.0) s.1.1 ∙ ap (λ z. m +ℤ z) (Total-of_list P w n s.0 t s.1.0)))
 
+-- and of a difference the difference
 pub Total-sub : {X : Type 0} (P : X → Type 0) (v w : X → ℤ) (m n : ℤ) → Total P v m → Total P w n → Total P (λ x. v x -ℤ w x) (m -ℤ n)
 Total-sub P v w m n s t =
     (s.0, (s.1.0, sum_on-sub v w s.0 ∙ ap (λ z. z -ℤ sum_on w s.0) s.1.1 ∙ ap (λ z. m -ℤ z) (Total-of_list P w n s.0 t s.1.0)))
@@ -66,11 +73,13 @@ pub Total-zero : {X : Type 0} (P : X → Type 0) (w : X → ℤ) (n : ℤ) → (
 Total-zero P w n zero t = sym t.1.1 ∙ sum_on-nothing w t.0 (λ x h. zero x (t.1.0.2 x h))
 
 -- the part of a set that passes a test
-pub Total-filter : {X : Type 0} (P : X → Type 0) (test : X → Bool) (w : X → ℤ) (n : ℤ) → Total P (λ x. cond (test x) (w x) (pos 0)) n → Total (λ x. P x × (test x ≡ true)) w n
+pub Total-filter : {X : Type 0} (P : X → Type 0) (test : X → Bool) (w : X → ℤ) (n : ℤ) → Total P (λ x. cond (test x) (w x) (pos 0)) n
+    → Total (λ x. P x × (test x ≡ true)) w n
 Total-filter P test w n t = (filter test t.0, (Lists-filter P test t.0 t.1.0, sum_on-filter test w t.0 ∙ t.1.1))
 
 -- and back, for a set whose things can be listed
-pub Total-unfilter : {X : Type 0} (P : X → Type 0) (test : X → Bool) (w : X → ℤ) (n : ℤ) (xs : List X) → Lists P xs → Total (λ x. P x × (test x ≡ true)) w n → Total P (λ x. cond (test x) (w x) (pos 0)) n
+pub Total-unfilter : {X : Type 0} (P : X → Type 0) (test : X → Bool) (w : X → ℤ) (n : ℤ) (xs : List X) → Lists P xs
+    → Total (λ x. P x × (test x ≡ true)) w n → Total P (λ x. cond (test x) (w x) (pos 0)) n
 Total-unfilter P test w n xs l t =
     (xs, (l, sym (sum_on-filter test w xs) ∙ Total-of_list (λ x. P x × (test x ≡ true)) w n (filter test xs) t (Lists-filter P test xs l)))
 
@@ -79,7 +88,8 @@ gate true a h = refl
 gate false a h = h refl
 
 -- where the weight is zero on what fails the test, that may be left out
-pub Total-support : {X : Type 0} (P : X → Type 0) (test : X → Bool) (w : X → ℤ) (n : ℤ) → ((x : X) → P x → test x ≡ false → w x ≡ pos 0) → Total P w n → Total (λ x. P x × (test x ≡ true)) w n
+pub Total-support : {X : Type 0} (P : X → Type 0) (test : X → Bool) (w : X → ℤ) (n : ℤ) → ((x : X) → P x → test x ≡ false → w x ≡ pos 0) → Total P w n
+    → Total (λ x. P x × (test x ≡ true)) w n
 Total-support P test w n zero t = Total-filter P test w n (Total-same P w (λ x. cond (test x) (w x) (pos 0)) n (λ x p. gate (test x) (w x) (zero x p)) t)
 
 -- what passes a test and what fails it make up the set
@@ -116,6 +126,7 @@ Total-le P v w m n h s t =
     let other = Total-of_list P w n s.0 t s.1.0 in
     omega (arith, ints, s.1.1)
 
+-- the total of a weight so many times
 pub Total-scale : {X : Type 0} (P : X → Type 0) (k : ℤ) (w : X → ℤ) (n : ℤ) → Total P w n → Total P (λ x. k *ℤ w x) (k *ℤ n)
 Total-scale P k w n t = (t.0, (t.1.0, sum_on-scale k w t.0 ∙ ap (λ z. k *ℤ z) t.1.1))
 

@@ -14,8 +14,10 @@ TotalsAdd {X} P Q = ((x : X) → P x → Q x → ⊥) → (w : X → ℤ) (m n :
 abbrev pub IsReflexive : {X : Type 0} → (X → X → Type 0) → Type 0
 IsReflexive {X} R = (a : X) → R a a
 
+-- what is joined to another is joined from it
 abbrev pub IsSymmetric : {X : Type 0} → (X → X → Type 0) → Type 0
 IsSymmetric {X} R = (a b : X) → R a b → R b a
 
+-- what is joined by way of a third is joined
 abbrev pub IsTransitive : {X : Type 0} → (X → X → Type 0) → Type 0
 IsTransitive {X} R = (a b c : X) → R a b → R b c → R a c

@@ -3,4 +3,5 @@ pub mod Total
 pub mod Chain
 pub mod Least
 pub mod Range
+pub mod Order
 pub mod Laws

@@ -2,6 +2,17 @@
 //! thing to another and of the least of a set. The definitions stand in `specs/`, their laws in
 //! `proofs/`, as `Rattle.finite_sets.proofs.Totals.{Total-unique}`. The functions here do nothing: the
 //! contract of each is a law that the definitions have to keep to be worth believing.
+//!
+//! # How the proof goes
+//!
+//! All goes by recursion on lists. `Members` tells what stands in a list that is appended, mapped, filtered or put in
+//! another order, and `Distincts` what stands there once; `Listings` puts the two together for the lists of a set.
+//! `Sums` adds a weight along a list. Its main law is `sum_on-same_things`: two lists of the same things, each once,
+//! have one sum, since the second can be cut at the first thing of the first. From it `Totals` has that a set has one
+//! total, and how totals add, scale, split and go over to images. `Chains` appends, turns and carries over ways of a
+//! relation, by recursion on the way. `Ranges` lists the integers of a range and the pairs of two lists. `Orders`,
+//! `Pairs` and `Searches` stand apart: lexicographic order and sorted lists, facts of any two things of a list, and
+//! tests along a list, for the crates above.
 #![tactic(auto)]
 
 ghost use Rattle.finite_sets.specs.Chain.{Chain, EitherWay};

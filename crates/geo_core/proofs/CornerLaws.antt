@@ -1,14 +1,12 @@
 -- Pieces sorted by their lower left squares.
-use Rattle.std.proofs.Common.{◌≡◌, ℤ, pos, ◌<ℤ◌, ◌≤ℤ◌, false, List, get_or, Ordering, ◌⊎◌, inl, inr, refl, sym, arith}
+use Rattle.std.proofs.Common.{◌≡◌, ℤ, pos, ◌<ℤ◌, ◌≤ℤ◌, List, get_or, Ordering, inl, inr, refl, arith}
 use Rattle.std.specs.Prelude.{All, AllPairs}
 use Rattle.std.specs.Cmp.{IsTotalOrder}
 use Rattle.std.specs.List.Sorted.{IsSortedByKey}
-use Rattle.std.specs.declared.cmp.Ordering.TheVariants.{Less, Equal, Greater}
-use Rattle.std.specs.Ordering.{is_lt, int_cmp, ordering_then}
-use Rattle.std.proofs.lemmas.Bool.{false≢true}
-use Rattle.std.proofs.lemmas.Cmp.{int_cmp_total, on_total, then_total, int_ranked}
+use Rattle.std.specs.Ordering.{int_cmp, ordering_then}
+use Rattle.std.proofs.lemmas.Cmp.{int_cmp_total, on_total, then_total}
 use Rattle.std.proofs.lemmas.Int.{ints, by_lt_z}
-use Rattle.std.proofs.lemmas.List.Sorted.{sorted_far, ranks_by}
+use Rattle.finite_sets.proofs.Orders.{int_cmp-not_less, ordering_then-not_less, IsSortedByKey-pairs}
 use Rattle.geo_core.specs.declared.squares.Square.{Square}
 use Rattle.geo_core.specs.declared.squares.Rect.{Rect}
 use Rattle.geo_core.specs.declared.squares.Piece.{Piece}
@@ -24,22 +22,14 @@ no_piece = record { area = record { xlo = pos 0; ylo = pos 0; xhi = pos 0; yhi =
 abbrev pub corner_key : Piece → ℤ × ℤ
 corner_key piece = (piece.area.ylo, piece.area.xlo)
 
+-- by the row and then by the column
 abbrev pub pair_cmp : ℤ × ℤ → ℤ × ℤ → Ordering
 pair_cmp a b = ordering_then (int_cmp a.0 b.0) (int_cmp a.1 b.1)
 
 pair_cmp_total : IsTotalOrder pair_cmp
 pair_cmp_total = then_total (on_total (λ (k : ℤ × ℤ). k.0) int_cmp_total) (on_total (λ (k : ℤ × ℤ). k.1) int_cmp_total)
 
--- a key that is not less
-not_less : (a b : ℤ × ℤ) → is_lt (pair_cmp b a) ≡ false → (a.0 <ℤ b.0) ⊎ ((a.0 ≡ b.0) × (a.1 ≤ℤ b.1))
-not_less a b fails = by_order (int_cmp b.0 a.0) (int_cmp b.1 a.1) refl refl fails where
-  by_order : (rows columns : Ordering) → rows ≡ int_cmp b.0 a.0 → columns ≡ int_cmp b.1 a.1 → is_lt (ordering_then rows columns) ≡ false → (a.0 <ℤ b.0) ⊎ ((a.0 ≡ b.0) × (a.1 ≤ℤ b.1))
-  by_order Less columns row column test = absurd (false≢true (sym test))
-  by_order Greater columns row column test = inl (int_ranked b.0 a.0 Greater row)
-  by_order Equal Less row column test = absurd (false≢true (sym test))
-  by_order Equal Equal row column test = let same = int_ranked b.0 a.0 Equal row in let also = int_ranked b.1 a.1 Equal column in inr (sym same, omega (arith, ints, also))
-  by_order Equal Greater row column test = let same = int_ranked b.0 a.0 Equal row in let right = int_ranked b.1 a.1 Greater column in inr (sym same, omega (arith, ints, right))
-
+-- a rectangle with a square covers its corner
 pub corner_covers : (area : Rect) (square : Square) → IsProper area → area.ylo ≡ square.y → area.xlo ≡ square.x → Covers area square
 corner_covers area square proper row column = record {
   right_of_xlo = omega (arith, ints);
@@ -59,9 +49,14 @@ before_in_row a b p q apart row no_later = by_lt_z a.xlo b.xlo (λ less. less)
 pub sorted_by_corner : (pieces : List Piece) → All (λ piece. IsProper piece.area) pieces → AllPairs (λ a b. AreDisjoint a.area b.area) pieces
     → IsSortedByKey corner_key pair_cmp pieces → AllPairs (λ a b. StandsBefore a.area b.area) pieces
 sorted_by_corner pieces proper apart sorted = λ i j d less within.
-    let a = get_or pieces i d in
-    let b = get_or pieces j d in
-    elim (not_less (corner_key a) (corner_key b) (sorted_far (λ x y. is_lt (pair_cmp (corner_key x) (corner_key y))) (ranks_by pair_cmp_total corner_key) pieces sorted i j d (omega arith) within)) [
+    let a = (get_or pieces i d).area in
+    let b = (get_or pieces j d).area in
+    let not_less = IsSortedByKey-pairs corner_key pair_cmp pair_cmp_total pieces sorted i j d less within in
+    elim (ordering_then-not_less a.ylo b.ylo (int_cmp b.xlo a.xlo) not_less) [
       | inl lower ↦ inl lower
-      | inr (row, no_later) ↦ inr (row, before_in_row a.area b.area (proper i d (omega arith)) (proper j d within) (apart i j d less within) row no_later)
+      | inr (row, no_later) ↦ inr (
+        row,
+        before_in_row a b (proper i d (omega arith)) (proper j d within) (apart i j d less within) row
+            (int_cmp-not_less a.xlo b.xlo no_later),
+      )
     ]

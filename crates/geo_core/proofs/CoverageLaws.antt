@@ -1,5 +1,7 @@
 -- Columns that are cut in two: what is known of the whole from its sides.
-use Rattle.std.proofs.Common.{◌≡◌, ◌⊎◌, inl, inr, ℕ, suc, ◌+◌, ◌-◌, ◌<◌, length, take, drop, get_or, length-drop, ℤ, ◌≤ℤ◌, ◌<ℤ◌, Bool, true, false, cond, List, [], ◌∷◌, ◌++◌, Box, Global, Option, Some, None, Result, Ok, Err, refl, sym, ◌∙◌, ap, subst, arith, to_z, of_z}
+use Rattle.std.proofs.Common.{◌≡◌, ◌⊎◌, inl, inr, ℕ, suc, ◌+◌, ◌-◌, ◌<◌, length, take, drop, get_or, length-drop}
+use Rattle.std.proofs.Common.{ℤ, ◌≤ℤ◌, ◌<ℤ◌, Bool, true, false, cond, List, [], ◌∷◌, ◌++◌, Box, Global, Option}
+use Rattle.std.proofs.Common.{Some, None, Result, Ok, Err, refl, sym, ◌∙◌, ap, subst, arith, to_z, of_z}
 use Rattle.std.specs.Prelude.{◌&&◌, int_le, int_lt, AllPairs}
 use Rattle.std.specs.Result.{OnOk}
 use Rattle.std.specs.Int.{int_max, int_min, w64}
@@ -12,12 +14,15 @@ use Rattle.finite_sets.specs.Lists.{In}
 use Rattle.finite_sets.proofs.Members.{In-append_left, In-push, In-push_cases, In-index, In-get_or}
 use Rattle.geo_core.specs.declared.coverage.Gap.{Gap}
 use Rattle.geo_core.specs.declared.coverage.Coverage.{Coverage, Even, Cut'}
-use Rattle.geo_core.specs.Coverage.{until, least_of, most_of, IsTopped, IsCut, IsCutAt, is_from, is_before, raised, begins_before, ends_after, begin_after, end_before, IsRaised, AddsColumns, IsGap}
+use Rattle.geo_core.specs.Coverage.{until, least_of, most_of, IsTopped, IsCut, IsCutAt, is_from, is_before, raised, begins_before}
+use Rattle.geo_core.specs.Coverage.{ends_after, begin_after, end_before, IsRaised, AddsColumns, IsGap}
 
 -- numbers that are kept in 64 bits
-pub stored_max : (out a b : ℤ) → FitsSigned w64 out → FitsSigned w64 a → FitsSigned w64 b → out ≡ int_max (to_z w64 (of_z w64 a)) (to_z w64 (of_z w64 b)) → to_z w64 (of_z w64 out) ≡ int_max a b
+pub stored_max : (out a b : ℤ) → FitsSigned w64 out → FitsSigned w64 a → FitsSigned w64 b
+    → out ≡ int_max (to_z w64 (of_z w64 a)) (to_z w64 (of_z w64 b)) → to_z w64 (of_z w64 out) ≡ int_max a b
 stored_max out a b f g h e = to_z-of_z w64 out f ∙ e ∙ ap (λ v. int_max v (to_z w64 (of_z w64 b))) (to_z-of_z w64 a g) ∙ ap (int_max a) (to_z-of_z w64 b h)
 
+-- the lesser of two numbers, as it is stored
 pub stored_min : (out a b : ℤ) → FitsSigned w64 a → FitsSigned w64 b → out ≡ int_min (to_z w64 (of_z w64 a)) (to_z w64 (of_z w64 b)) → out ≡ int_min a b
 stored_min out a b g h e = e ∙ ap (λ v. int_min v (to_z w64 (of_z w64 b))) (to_z-of_z w64 a g) ∙ ap (int_min a) (to_z-of_z w64 b h)
 
@@ -44,10 +49,12 @@ from_lt_true x y h = grind (arith, ints)
 from_lt_false : (x y : ℤ) → int_lt x y ≡ false → y ≤ℤ x
 from_lt_false x y h = grind (arith, ints)
 
+-- no column is covered less far than the least says
 pub least_bounds : (t : Coverage) (x : ℤ) → least_of t ≤ℤ until t x
 least_bounds (Even row) x = omega (arith, ints)
 least_bounds (Cut' p at least most left right) x = omega (arith, ints, clamps)
 
+-- no column is covered farther than the most says
 pub most_bounds : (t : Coverage) (x : ℤ) → IsTopped t → until t x ≤ℤ most_of t
 most_bounds (Even row) x h = omega (arith, ints)
 most_bounds (Cut' p at least most left right) x h = elim (cases_Bool (int_lt x at)) [
@@ -94,14 +101,18 @@ pub record SideIsRaised (IsHere : ℤ → Type 0) (from to : Option ℤ) (top : 
   pub cuts : (v : ℤ) → IsCut old v → IsCut new v
   pub topped : IsTopped new
 
-pub left_raised : (from to : Option ℤ) (top at : ℤ) (old new : Coverage) → IsRaised from (end_before to at) top old new → SideIsRaised (λ x. x <ℤ at) from to top old new
+-- a raise that goes on to the right of a cut has raised what is left of it
+pub left_raised : (from to : Option ℤ) (top at : ℤ) (old new : Coverage) → IsRaised from (end_before to at) top old new
+    → SideIsRaised (λ x. x <ℤ at) from to top old new
 left_raised from to top at old new h = record {
   rows = λ x here. h.rows x ∙ ap (λ v. cond (is_from from x && v) (int_max (until old x) top) (until old x)) (before_on_left to at x here);
   cuts = h.cuts;
   topped = h.topped;
 }
 
-pub right_raised : (from to : Option ℤ) (top at : ℤ) (old new : Coverage) → IsRaised (begin_after from at) to top old new → SideIsRaised (λ x. at ≤ℤ x) from to top old new
+-- and one that came from the left what is right of it
+pub right_raised : (from to : Option ℤ) (top at : ℤ) (old new : Coverage) → IsRaised (begin_after from at) to top old new
+    → SideIsRaised (λ x. at ≤ℤ x) from to top old new
 right_raised from to top at old new h = record {
   rows = λ x here. h.rows x ∙ ap (λ v. cond (v && is_before to x) (int_max (until old x) top) (until old x)) (from_on_right from at x here);
   cuts = h.cuts;
@@ -112,16 +123,20 @@ and_false : (b : Bool) → (b && false) ≡ false
 and_false true = refl
 and_false false = refl
 
-pub left_stays : (from to : Option ℤ) (top at : ℤ) (old : Coverage) → begins_before from at ≡ false → IsTopped old → SideIsRaised (λ x. x <ℤ at) from to top old old
+-- a raise from the cut on leaves what is left of it
+pub left_stays : (from to : Option ℤ) (top at : ℤ) (old : Coverage) → begins_before from at ≡ false → IsTopped old
+    → SideIsRaised (λ x. x <ℤ at) from to top old old
 left_stays from to top at old e h = record {
   rows = λ x here. sym (ap (λ v. cond (v && is_before to x) (int_max (until old x) top) (until old x)) (not_from from at x e here));
   cuts = λ v c. c;
   topped = h;
 }
 
+-- and one up to the cut what is right of it
 pub right_stays : (from to : Option ℤ) (top at : ℤ) (old : Coverage) → ends_after to at ≡ false → IsTopped old → SideIsRaised (λ x. at ≤ℤ x) from to top old old
 right_stays from to top at old e h = record {
-  rows = λ x here. sym (ap (λ v. cond v (int_max (until old x) top) (until old x)) (ap (λ v. is_from from x && v) (not_before to at x e here) ∙ and_false (is_from from x)));
+  rows = λ x here. sym (ap (λ v. cond v (int_max (until old x) top) (until old x))
+      (ap (λ v. is_from from x && v) (not_before to at x e here) ∙ and_false (is_from from x)));
   cuts = λ v c. c;
   topped = h;
 }
@@ -141,13 +156,14 @@ module _ (from to : Option ℤ) (top : ℤ) (p q : Box (Unit {0}) Global) (at le
   least' = int_max least (int_min (least_of left') (least_of right'))
 
   cut_rows : (x : ℤ) → until (Cut' q at least' most' left' right') x ≡ raised from to top x (until (Cut' p at least most left right) x)
-  cut_rows x = by_lt_z x at
-      (λ here. until_left q at least' most' left' right' x here
-      ∙ row_raised least (least_of left') (least_of right') (until left x) (until left' x) top (is_from from x && is_before to x) (least_bounds left' x) (l.rows x here)
+  cut_rows x = by_lt_z x at (λ here. until_left q at least' most' left' right' x here
+      ∙ row_raised least (least_of left') (least_of right') (until left x) (until left' x) top (is_from from x && is_before to x) (least_bounds left' x)
+      (l.rows x here)
       ∙ sym (ap (raised from to top x) (until_left p at least most left right x here)))
       (λ here. until_right q at least' most' left' right' x here
       ∙ ap (λ v. int_max (int_max least v) (until right' x)) (min_comm (least_of left') (least_of right'))
-      ∙ row_raised least (least_of right') (least_of left') (until right x) (until right' x) top (is_from from x && is_before to x) (least_bounds right' x) (r.rows x here)
+      ∙ row_raised least (least_of right') (least_of left') (until right x) (until right' x) top (is_from from x && is_before to x)
+      (least_bounds right' x) (r.rows x here)
       ∙ sym (ap (raised from to top x) (until_right p at least most left right x here)))
 
   cut_cuts : (v : ℤ) → IsCut (Cut' p at least most left right) v → IsCut (Cut' q at least' most' left' right') v
@@ -185,26 +201,33 @@ cut_lifted top p q at at' least least' most most' left left' right right' same_a
     rw (same_at, same_left, same_right) made
 
 -- what a side must be cut at
-pub left_from_cut : (p : Box (Unit {0}) Global) (at least most : ℤ) (left right : Coverage) (from : Option ℤ) → begins_before from at ≡ true → IsCutAt (Cut' p at least most left right) from → IsCutAt left from
+pub left_from_cut : (p : Box (Unit {0}) Global) (at least most : ℤ) (left right : Coverage) (from : Option ℤ) → begins_before from at ≡ true
+    → IsCutAt (Cut' p at least most left right) from → IsCutAt left from
 left_from_cut p at least most left right None e c = tt
 left_from_cut p at least most left right (Some from) e (inl same) = let before = from_lt_true from at e in absurd (omega (arith, ints, before, same))
 left_from_cut p at least most left right (Some from) e (inr (inl h)) = h.1
 left_from_cut p at least most left right (Some from) e (inr (inr h)) = let before = from_lt_true from at e in absurd (omega (arith, ints, before, h.0))
 
-pub right_to_cut : (p : Box (Unit {0}) Global) (at least most : ℤ) (left right : Coverage) (to : Option ℤ) → ends_after to at ≡ true → IsCutAt (Cut' p at least most left right) to → IsCutAt right to
+-- an end right of the cut is a cut of the right side
+pub right_to_cut : (p : Box (Unit {0}) Global) (at least most : ℤ) (left right : Coverage) (to : Option ℤ) → ends_after to at ≡ true
+    → IsCutAt (Cut' p at least most left right) to → IsCutAt right to
 right_to_cut p at least most left right None e c = tt
 right_to_cut p at least most left right (Some to) e (inl same) = let after = from_lt_true at to e in absurd (omega (arith, ints, after, same))
 right_to_cut p at least most left right (Some to) e (inr (inl h)) = let after = from_lt_true at to e in absurd (omega (arith, ints, after, h.0))
 right_to_cut p at least most left right (Some to) e (inr (inr h)) = h.1
 
-pub left_to_cut : (p : Box (Unit {0}) Global) (at least most : ℤ) (left right : Coverage) (to : Option ℤ) → IsCutAt (Cut' p at least most left right) to → IsCutAt left (end_before to at)
+-- an end left of the cut is a cut of the left side
+pub left_to_cut : (p : Box (Unit {0}) Global) (at least most : ℤ) (left right : Coverage) (to : Option ℤ)
+    → IsCutAt (Cut' p at least most left right) to → IsCutAt left (end_before to at)
 left_to_cut p at least most left right None c = tt
 left_to_cut p at least most left right (Some to) c = elim (cases_Bool (int_lt to at)) [
   | inl t ↦ subst (λ v. IsCutAt left (cond v (Some to) None)) (sym t) (left_from_cut p at least most left right (Some to) t c)
   | inr t ↦ subst (λ v. IsCutAt left (cond v (Some to) None)) (sym t) tt
 ]
 
-pub right_from_cut : (p : Box (Unit {0}) Global) (at least most : ℤ) (left right : Coverage) (from : Option ℤ) → IsCutAt (Cut' p at least most left right) from → IsCutAt right (begin_after from at)
+-- a beginning right of the cut is a cut of the right side
+pub right_from_cut : (p : Box (Unit {0}) Global) (at least most : ℤ) (left right : Coverage) (from : Option ℤ)
+    → IsCutAt (Cut' p at least most left right) from → IsCutAt right (begin_after from at)
 right_from_cut p at least most left right None c = tt
 right_from_cut p at least most left right (Some from) c = elim (cases_Bool (int_lt at from)) [
   | inl t ↦ subst (λ v. IsCutAt right (cond v (Some from) None)) (sym t) (right_to_cut p at least most left right (Some from) t c)
@@ -223,6 +246,7 @@ pub record LeftIsDone (from to : Option ℤ) (top at at' least least' most most'
 pub adds_none : (P : ℤ → Type 0) (gaps : List Gap) → ((x : ℤ) → P x → ⊥) → AddsColumns P gaps gaps
 adds_none P gaps none = record { kept = λ x h. h; added = λ x h. absurd (none x h); only = λ x h. inl h }
 
+-- columns under another name
 pub adds_same : (P Q : ℤ → Type 0) (old new : List Gap) → ((x : ℤ) → P x → Q x) → ((x : ℤ) → Q x → P x) → AddsColumns P old new → AddsColumns Q old new
 adds_same P Q old new there back h = record {
   kept = h.kept;
@@ -230,6 +254,7 @@ adds_same P Q old new there back h = record {
   only = λ x k. elim (h.only x k) [ inl o ↦ inl o | inr p ↦ inr (there x p) ];
 }
 
+-- columns added in two parts
 pub adds_both : (P Q R : ℤ → Type 0) (old mid new : List Gap) → ((x : ℤ) → R x → P x ⊎ Q x) → ((x : ℤ) → P x → R x) → ((x : ℤ) → Q x → R x)
     → AddsColumns P old mid → AddsColumns Q mid new → AddsColumns R old new
 adds_both P Q R old mid new split first second g h = record {
@@ -291,44 +316,51 @@ module _ (p : Box (Unit {0}) Global) (at least most : ℤ) (left right : Coverag
   gap_on_left low x h =
       let first = h.after in let last = h.before in let open_there = h.uncovered in
       let here : x <ℤ at = omega (arith, ints, clamps, last) in
-      record { after = first; before = omega (arith, ints, clamps, last); uncovered = subst (λ v. v ≤ℤ row) (sym (until_left p at least most left right x here)) (omega (arith, ints, clamps, low, open_there)) }
+      record {
+        after = first;
+        before = omega (arith, ints, clamps, last);
+        uncovered = subst (λ v. v ≤ℤ row)
+            (sym (until_left p at least most left right x here)) (omega (arith, ints, clamps, low, open_there));
+      }
 
   gap_on_right : least ≤ℤ row → (x : ℤ) → OnRight x → IsGap whole from to row x
   gap_on_right low x h =
       let first = h.after in let last = h.before in let open_there = h.uncovered in
       let here : at ≤ℤ x = omega (arith, ints, clamps, first) in
-      record { after = omega (arith, ints, clamps, first); before = last; uncovered = subst (λ v. v ≤ℤ row) (sym (until_right p at least most left right x here)) (omega (arith, ints, clamps, low, open_there)) }
+      record {
+        after = omega (arith, ints, clamps, first);
+        before = last;
+        uncovered = subst (λ v. v ≤ℤ row)
+            (sym (until_right p at least most left right x here)) (omega (arith, ints, clamps, low, open_there));
+      }
 
   gap_on_side : (x : ℤ) → IsGap whole from to row x → OnLeft x ⊎ OnRight x
   gap_on_side x h =
       let first = h.after in let last = h.before in
-      by_lt_z x at
-      (λ here. inl (let open_there = subst (λ v. v ≤ℤ row) (until_left p at least most left right x here) h.uncovered in
+      by_lt_z x at (λ here. inl (let open_there = subst (λ v. v ≤ℤ row) (until_left p at least most left right x here) h.uncovered in
       record { after = first; before = omega (arith, ints, clamps, last, here); uncovered = omega (arith, ints, clamps, open_there) }))
       (λ here. inr (let open_there = subst (λ v. v ≤ℤ row) (until_right p at least most left right x here) h.uncovered in
       record { after = omega (arith, ints, clamps, first, here); before = last; uncovered = omega (arith, ints, clamps, open_there) }))
 
-  pub cut_gaps : (old mid new : List Gap) → least ≤ℤ row → AddsColumns OnLeft old mid → AddsColumns OnRight mid new → AddsColumns (IsGap whole from to row) old new
+  pub cut_gaps : (old mid new : List Gap) → least ≤ℤ row → AddsColumns OnLeft old mid → AddsColumns OnRight mid new
+      → AddsColumns (IsGap whole from to row) old new
   cut_gaps old mid new low g h = adds_both OnLeft OnRight (IsGap whole from to row) old mid new gap_on_side (gap_on_left low) (gap_on_right low) g h
 
--- no column is a gap, or all are
-pub no_gap : (coverage : Coverage) (from to row : ℤ) (gaps : List Gap) → (to ≤ℤ from) ⊎ (row <ℤ least_of coverage) → AddsColumns (IsGap coverage from to row) gaps gaps
-no_gap coverage from to row gaps (inl h) = adds_none (IsGap coverage from to row) gaps (λ x u. let first = u.after in let last = u.before in omega (arith, ints, h, first, last))
-no_gap coverage from to row gaps (inr h) =
-    adds_none (IsGap coverage from to row) gaps (λ x u. let open_there = u.uncovered in let low = least_bounds coverage x in omega (arith, ints, h, open_there, low))
-
+-- where no column is covered past the row, each is a gap
 pub all_gap : (coverage : Coverage) (from to row : ℤ) (old new : List Gap) → IsTopped coverage → most_of coverage ≤ℤ row
     → AddsColumns (λ x. (from ≤ℤ x) × (x <ℤ to)) old new → AddsColumns (IsGap coverage from to row) old new
 all_gap coverage from to row old new topped high h = adds_same (λ x. (from ≤ℤ x) × (x <ℤ to)) (IsGap coverage from to row) old new
     (λ x u. let top = most_bounds coverage x topped in record { after = u.0; before = u.1; uncovered = omega (arith, ints, top, high) })
     (λ x u. (u.after, u.before)) h
 
+-- a fact that an answer implies
 pub on_ok : {T E P Q : Type 0} (r : Result T E) → (P → Q) → OnOk r P → OnOk r Q
 on_ok (Ok x) f h = f h
 on_ok (Err e) f h = h
 
 -- each side in order is a cut, if those before the middle one are cuts on the left and those after it on the right
-pub cuts_from_sides : (left right : Coverage) (sides : List ℤ) (middle : ℕ) (at : ℤ) → AllPairs ◌≤ℤ◌ sides → middle < length sides → ((d : ℤ) → get_or sides middle d ≡ at)
+pub cuts_from_sides : (left right : Coverage) (sides : List ℤ) (middle : ℕ) (at : ℤ) → AllPairs ◌≤ℤ◌ sides → middle < length sides
+    → ((d : ℤ) → get_or sides middle d ≡ at)
     → ((v : ℤ) → In v (take middle sides) → IsCut left v) → ((v : ℤ) → In v (take (length sides - (middle + 1)) (drop (middle + 1) sides)) → IsCut right v)
     → (v : ℤ) → In v sides → (v ≡ at) ⊎ (((v <ℤ at) × IsCut left v) ⊎ ((at <ℤ v) × IsCut right v))
 cuts_from_sides left right sides middle at ordered inside is on_left on_right v i =
@@ -336,11 +368,11 @@ cuts_from_sides left right sides middle at ordered inside is on_left on_right v 
     let k = found.0 in
     let below : k < length sides = found.1.0 in
     let here : get_or sides k v ≡ v = found.1.1 v in
-    by_lt_z v at
-    (λ before. inr (inl (
+    by_lt_z v at (λ before. inr (inl (
       before,
       on_left v (elim (nat_cases k middle) [
-        | inl less ↦ subst (λ w. In w (take middle sides)) (get_or-take middle sides k v less ∙ here) (In-get_or (take middle sides) k v (omega (arith, length-take middle sides, less, below)))
+        | inl less ↦ subst (λ w. In w (take middle sides)) (get_or-take middle sides k v less ∙ here)
+            (In-get_or (take middle sides) k v (omega (arith, length-take middle sides, less, below)))
         | inr (inl same) ↦ absurd (let e : at ≡ v = sym (is v) ∙ ap (λ j. get_or sides j v) (sym same) ∙ here in omega (arith, ints, e))
         | inr (inr more) ↦ absurd (let e = ordered middle k v more below in let f = is v in omega (arith, ints, e, f, here, before))
       ]),
@@ -353,9 +385,11 @@ cuts_from_sides left right sides middle at ordered inside is on_left on_right v 
         | inr (inl same) ↦ absurd (let e : at ≡ v = sym (is v) ∙ ap (λ j. get_or sides j v) (sym same) ∙ here in omega (arith, ints, e))
         | inr (inr more) ↦ (
             let rest = drop (middle + 1) sides in
-            let place : get_or rest (k - (middle + 1)) v ≡ v = get_or-drop (middle + 1) sides (k - (middle + 1)) v ∙ ap (λ j. get_or sides j v) (let j : middle + 1 + (k - (middle + 1)) ≡ k = omega (arith, more) in j) ∙ here in
+            let place : get_or rest (k - (middle + 1)) v ≡ v = get_or-drop (middle + 1) sides (k - (middle + 1)) v ∙ ap (λ j. get_or sides j v)
+            (let j : middle + 1 + (k - (middle + 1)) ≡ k = omega (arith, more) in j) ∙ here in
             let whole : take (length sides - (middle + 1)) rest ≡ rest = ap (λ n. take n rest) (sym (length-drop (middle + 1) sides)) ∙ take-length rest in
-            subst (λ w. In v w) (sym whole) (subst (λ w. In w rest) place (In-get_or rest (k - (middle + 1)) v (omega (arith, length-drop (middle + 1) sides, more, below)))))
+            subst (λ w. In v w) (sym whole) (subst (λ w. In w rest) place (In-get_or rest (k - (middle + 1)) v
+            (omega (arith, length-drop (middle + 1) sides, more, below)))))
       ]),
     )))
     (λ not_after. inl (omega (arith, ints))))

@@ -3,7 +3,7 @@ use Rattle.std.proofs.Common.{◌≡◌, true, ◌≤ℤ◌, ◌<ℤ◌, arith}
 use Rattle.std.proofs.lemmas.Int.{ints, clamps}
 use Rattle.geo_core.specs.declared.squares.Square.{Square}
 use Rattle.geo_core.specs.declared.squares.Rect.{Rect}
-use Rattle.geo_core.specs.Areas.{common_area, has_square, joined_area, LiesWithin}
+use Rattle.geo_core.specs.Areas.{common_rect, has_square, joined_rect, LiesWithin}
 use Rattle.geo_core.specs.Covering.{Covers, is_covered, IsProper}
 
 -- what passes the test is covered
@@ -23,29 +23,40 @@ is_covered-Covers area square covers = grind (arith, ints)
 pub IsProper-has_square : (area : Rect) → has_square area ≡ true → IsProper area
 IsProper-has_square area test = record { wide = grind (arith, ints); high = grind (arith, ints) }
 
+-- and a rectangle with a square passes it
 pub has_square-IsProper : (area : Rect) → IsProper area → has_square area ≡ true
 has_square-IsProper area proper = grind (arith, ints)
 
 -- a square of the common part lies in the first rectangle
-pub covers_first : (a b : Rect) (square : Square) → Covers (common_area a b) square → Covers a square
+pub covers_first : (a b : Rect) (square : Square) → Covers (common_rect a b) square → Covers a square
 covers_first a b square c =
-    let left : (common_area a b).xlo ≤ℤ square.x = c.right_of_xlo in
-    let right : square.x <ℤ (common_area a b).xhi = c.left_of_xhi in
-    let low : (common_area a b).ylo ≤ℤ square.y = c.above_ylo in
-    let high : square.y <ℤ (common_area a b).yhi = c.below_yhi in
-    record { right_of_xlo = omega (arith, ints, clamps); left_of_xhi = omega (arith, ints, clamps); above_ylo = omega (arith, ints, clamps); below_yhi = omega (arith, ints, clamps) }
+    let left : (common_rect a b).xlo ≤ℤ square.x = c.right_of_xlo in
+    let right : square.x <ℤ (common_rect a b).xhi = c.left_of_xhi in
+    let low : (common_rect a b).ylo ≤ℤ square.y = c.above_ylo in
+    let high : square.y <ℤ (common_rect a b).yhi = c.below_yhi in
+    record {
+      right_of_xlo = omega (arith, ints, clamps);
+      left_of_xhi = omega (arith, ints, clamps);
+      above_ylo = omega (arith, ints, clamps);
+      below_yhi = omega (arith, ints, clamps);
+    }
 
 -- a square of the common part lies in the second rectangle
-pub covers_second : (a b : Rect) (square : Square) → Covers (common_area a b) square → Covers b square
+pub covers_second : (a b : Rect) (square : Square) → Covers (common_rect a b) square → Covers b square
 covers_second a b square c =
-    let left : (common_area a b).xlo ≤ℤ square.x = c.right_of_xlo in
-    let right : square.x <ℤ (common_area a b).xhi = c.left_of_xhi in
-    let low : (common_area a b).ylo ≤ℤ square.y = c.above_ylo in
-    let high : square.y <ℤ (common_area a b).yhi = c.below_yhi in
-    record { right_of_xlo = omega (arith, ints, clamps); left_of_xhi = omega (arith, ints, clamps); above_ylo = omega (arith, ints, clamps); below_yhi = omega (arith, ints, clamps) }
+    let left : (common_rect a b).xlo ≤ℤ square.x = c.right_of_xlo in
+    let right : square.x <ℤ (common_rect a b).xhi = c.left_of_xhi in
+    let low : (common_rect a b).ylo ≤ℤ square.y = c.above_ylo in
+    let high : square.y <ℤ (common_rect a b).yhi = c.below_yhi in
+    record {
+      right_of_xlo = omega (arith, ints, clamps);
+      left_of_xhi = omega (arith, ints, clamps);
+      above_ylo = omega (arith, ints, clamps);
+      below_yhi = omega (arith, ints, clamps);
+    }
 
 -- a square of both rectangles lies in the common part
-pub covers_both : (a b : Rect) (square : Square) → Covers a square → Covers b square → Covers (common_area a b) square
+pub covers_both : (a b : Rect) (square : Square) → Covers a square → Covers b square → Covers (common_rect a b) square
 covers_both a b square c d =
     let left : a.xlo ≤ℤ square.x = c.right_of_xlo in
     let right : square.x <ℤ a.xhi = c.left_of_xhi in
@@ -55,27 +66,43 @@ covers_both a b square c d =
     let right' : square.x <ℤ b.xhi = d.left_of_xhi in
     let low' : b.ylo ≤ℤ square.y = d.above_ylo in
     let high' : square.y <ℤ b.yhi = d.below_yhi in
-    record { right_of_xlo = omega (arith, ints, clamps); left_of_xhi = omega (arith, ints, clamps); above_ylo = omega (arith, ints, clamps); below_yhi = omega (arith, ints, clamps) }
+    record {
+      right_of_xlo = omega (arith, ints, clamps);
+      left_of_xhi = omega (arith, ints, clamps);
+      above_ylo = omega (arith, ints, clamps);
+      below_yhi = omega (arith, ints, clamps);
+    }
 
 -- a square of either rectangle lies in the one round both
-pub covers_joined_left : (a b : Rect) (square : Square) → Covers a square → Covers (joined_area a b) square
+pub covers_joined_left : (a b : Rect) (square : Square) → Covers a square → Covers (joined_rect a b) square
 covers_joined_left a b square c =
     let left : a.xlo ≤ℤ square.x = c.right_of_xlo in
     let right : square.x <ℤ a.xhi = c.left_of_xhi in
     let low : a.ylo ≤ℤ square.y = c.above_ylo in
     let high : square.y <ℤ a.yhi = c.below_yhi in
-    record { right_of_xlo = omega (arith, ints, clamps); left_of_xhi = omega (arith, ints, clamps); above_ylo = omega (arith, ints, clamps); below_yhi = omega (arith, ints, clamps) }
+    record {
+      right_of_xlo = omega (arith, ints, clamps);
+      left_of_xhi = omega (arith, ints, clamps);
+      above_ylo = omega (arith, ints, clamps);
+      below_yhi = omega (arith, ints, clamps);
+    }
 
-pub covers_joined_right : (a b : Rect) (square : Square) → Covers b square → Covers (joined_area a b) square
+-- and what the second
+pub covers_joined_right : (a b : Rect) (square : Square) → Covers b square → Covers (joined_rect a b) square
 covers_joined_right a b square c =
     let left : b.xlo ≤ℤ square.x = c.right_of_xlo in
     let right : square.x <ℤ b.xhi = c.left_of_xhi in
     let low : b.ylo ≤ℤ square.y = c.above_ylo in
     let high : square.y <ℤ b.yhi = c.below_yhi in
-    record { right_of_xlo = omega (arith, ints, clamps); left_of_xhi = omega (arith, ints, clamps); above_ylo = omega (arith, ints, clamps); below_yhi = omega (arith, ints, clamps) }
+    record {
+      right_of_xlo = omega (arith, ints, clamps);
+      left_of_xhi = omega (arith, ints, clamps);
+      above_ylo = omega (arith, ints, clamps);
+      below_yhi = omega (arith, ints, clamps);
+    }
 
 -- where neither of two goes past an edge, the one round both does not
-pub joined_within : (a b area : Rect) → LiesWithin a area → LiesWithin b area → LiesWithin (joined_area a b) area
+pub joined_within : (a b area : Rect) → LiesWithin a area → LiesWithin b area → LiesWithin (joined_rect a b) area
 joined_within a b area p q =
     let p0 : area.xlo ≤ℤ a.xlo = p.right_of_xlo in
     let p1 : area.ylo ≤ℤ a.ylo = p.above_ylo in
@@ -85,4 +112,9 @@ joined_within a b area p q =
     let q1 : area.ylo ≤ℤ b.ylo = q.above_ylo in
     let q2 : b.xhi ≤ℤ area.xhi = q.left_of_xhi in
     let q3 : b.yhi ≤ℤ area.yhi = q.below_yhi in
-    record { right_of_xlo = omega (arith, ints, clamps); above_ylo = omega (arith, ints, clamps); left_of_xhi = omega (arith, ints, clamps); below_yhi = omega (arith, ints, clamps) }
+    record {
+      right_of_xlo = omega (arith, ints, clamps);
+      above_ylo = omega (arith, ints, clamps);
+      left_of_xhi = omega (arith, ints, clamps);
+      below_yhi = omega (arith, ints, clamps);
+    }

@@ -1,5 +1,6 @@
 -- The elements of a grid by their place in its list.
-use Rattle.std.proofs.Common.{◌≡◌, inl, inr, ℕ, zero, suc, ◌+◌, ◌-◌, ◌*◌, ◌/◌, ◌%◌, ◌<◌, ◌≤◌, ℤ, pos, ◌+ℤ◌, ◌-ℤ◌, ◌*ℤ◌, Bool, true, false, cond, List, [], ◌∷◌, ◌++◌, map, length, get_or, Some, refl, sym, ◌∙◌, ap, arith}
+use Rattle.std.proofs.Common.{◌≡◌, inl, inr, ℕ, zero, suc, ◌+◌, ◌-◌, ◌*◌, ◌/◌, ◌%◌, ◌<◌, ◌≤◌, ℤ, pos, ◌+ℤ◌, ◌-ℤ◌, ◌*ℤ◌, Bool}
+use Rattle.std.proofs.Common.{true, false, cond, List, [], ◌∷◌, ◌++◌, map, length, get_or, Some, refl, sym, ◌∙◌, ap, arith}
 use Rattle.std.specs.Prelude.{slice_get, int_le}
 use Rattle.std.proofs.Common.{to_z, of_z}
 use Rattle.std.specs.Int.{w64}
@@ -18,9 +19,11 @@ use Rattle.finite_sets.proofs.Ranges.{extent_up, length-integer_range, length-pa
 use Rattle.geo_core.specs.declared.grids.Grid.{Grid}
 use Rattle.geo_core.specs.Elements.{indices, nth_index, element_of, elements_of, IsLawful}
 
+-- how many columns the grid has
 abbrev pub columns : Grid → ℕ
 columns grid = indices grid.xlo grid.xhi
 
+-- how many rows it has
 abbrev pub rows : Grid → ℕ
 rows grid = indices grid.ylo grid.yhi
 
@@ -128,6 +131,7 @@ pub record StandsAt (grid : Grid) (k m n : ℕ) : Type 0 where
 mod-le : (n m : ℕ) → n % m ≤ n
 mod-le n m = omega (arith, mod-add-div n m)
 
+-- an element stands in the column and the row that division tells
 pub stands_at : (grid : Grid) (k c : ℕ) → IsLawful grid → k < length (elements_of grid) → c ≡ columns grid → StandsAt grid k (k / c) (k % c)
 stands_at grid k c lawful below same =
     let some : 0 < c = omega (arith, same) in
@@ -150,9 +154,11 @@ kept z = to_z w64 (of_z w64 z)
 pub indices-same : (r : ℕ) (from to from' to' : ℤ) → r ≡ indices from to → from ≡ from' → to ≡ to' → r ≡ indices from' to'
 indices-same r from to from' to' is e f = is ∙ ap (λ v. indices v to) e ∙ ap (indices from') f
 
+-- indices from equal parts
 pub nth_index-same : (r from to n from' to' n' : ℤ) → r ≡ nth_index from to n → from ≡ from' → to ≡ to' → n ≡ n' → r ≡ nth_index from' to' n'
 nth_index-same r from to n from' to' n' is e f g = is ∙ ap (λ v. nth_index v to n) e ∙ ap (λ v. nth_index from' v n) f ∙ ap (nth_index from' to') g
 
+-- products of equal factors
 pub product-same : (r a b a' b' : ℤ) → r ≡ a *ℤ b → a ≡ a' → b ≡ b' → r ≡ a' *ℤ b'
 product-same r a b a' b' is e f = is ∙ ap (λ v. v *ℤ b) e ∙ ap (λ v. a' *ℤ v) f
 
@@ -161,5 +167,6 @@ pub element_of-parts : (grid : Grid) (m n i j dx dy : ℤ) → i ≡ nth_index g
     → dx ≡ n *ℤ grid.xsep → dy ≡ m *ℤ grid.ysep → element_of grid (m, n) ≡ (i, j, dx, dy)
 element_of-parts grid m n i j dx dy e-i e-j e-dx e-dy = rw (e-i, e-j, e-dx, e-dy) refl
 
+-- elements at equal indices
 pub element_of-same : (grid : Grid) (m n m' n' : ℤ) → m ≡ m' → n ≡ n' → element_of grid (m, n) ≡ element_of grid (m', n')
 element_of-same grid m n m' n' e f = ap (λ v. element_of grid (v, n)) e ∙ ap (λ v. element_of grid (m', v)) f

@@ -9,13 +9,11 @@ use Rattle.geo_core.specs.declared.squares.Rect.{Rect}
 use Rattle.geo_core.specs.declared.transforms.Transform.{Transform}
 use Rattle.geo_core.specs.Orientation.{orient_then, orient_inverse}
 use Rattle.geo_core.specs.Covering.{Covers}
-use Rattle.geo_core.specs.Images.{point_x, point_y, turns_x, turns_y, image, area_image, composed, identity, inverted, CentreGoesTo}
+use Rattle.geo_core.specs.Images.{point_x, point_y, turns_x, turns_y, image, rect_image, composed, identity, inverted, CentreGoesTo}
 use Rattle.geo_core.specs.Neighbours.{AreEdgeNeighbours}
+use Rattle.geo_core.proofs.SquareLaws.{square_is, rect_is}
 
-square_is : (a b : Square) → a.x ≡ b.x → a.y ≡ b.y → a ≡ b
-square_is a b columns rows =
-    let whole : record { x = a.x; y = a.y } ≡ b = rw (columns, rows) refl in whole
-
+-- the transform of these parts
 abbrev pub transform_of : Orient → ℤ → ℤ → Transform
 transform_of o dx dy = record { orient = o; dx = dx; dy = dy }
 
@@ -35,6 +33,7 @@ unfolding image
 image-by_orient R0 dx dy s = square_is _ _ (omega (arith, ints, clamps)) (omega (arith, ints, clamps))
 image-by_orient _ dx dy s = square_is _ _ (omega (arith, ints, clamps)) (omega (arith, ints, clamps))
 
+-- that is the image
 pub image-moved : (t : Transform) (s : Square) → image t s ≡ moved t.orient t.dx t.dy s
 image-moved t s = image-by_orient t.orient t.dx t.dy s
 
@@ -72,9 +71,6 @@ image-composed inner outer s =
     ∙ composed-by_orient inner.orient outer.orient inner.dx inner.dy outer.dx outer.dy s
     ∙ ap (moved outer.orient outer.dx outer.dy) (sym (image-moved inner s))
     ∙ sym (image-moved outer (image inner s))
-
-pub image-identity : (s : Square) → image identity s ≡ s
-image-identity s = image-moved identity s ∙ square_is _ _ (omega (arith, ints)) (omega (arith, ints))
 
 inverted-by_orient : (o : Orient) (dx dy : ℤ) (s : Square)
     → (let t = inverted (transform_of o dx dy) in moved t.orient t.dx t.dy (moved o dx dy s)) ≡ s
@@ -146,23 +142,43 @@ neighbours-image t a b h = rw (image-moved t a, image-moved t b) (neighbours-by_
 pub image-neighbours : (t : Transform) (a b : Square) → AreEdgeNeighbours (image t a) (image t b) → AreEdgeNeighbours a b
 image-neighbours t a b h = rw (image-back t a, image-back t b) at (neighbours-image (inverted t) (image t a) (image t b) h)
 
-covers-by_orient : (o : Orient) (dx dy : ℤ) (area : Rect) (s : Square) → Covers area s → Covers (area_image (transform_of o dx dy) area) (moved o dx dy s)
-unfolding area_image
-covers-by_orient R0 dx dy area s c = record { right_of_xlo = omega (arith, ints); left_of_xhi = omega (arith, ints); above_ylo = omega (arith, ints); below_yhi = omega (arith, ints) }
-covers-by_orient _ dx dy area s c = record { right_of_xlo = omega (arith, ints); left_of_xhi = omega (arith, ints); above_ylo = omega (arith, ints); below_yhi = omega (arith, ints) }
+covers-by_orient : (o : Orient) (dx dy : ℤ) (area : Rect) (s : Square) → Covers area s → Covers (rect_image (transform_of o dx dy) area) (moved o dx dy s)
+unfolding rect_image
+covers-by_orient R0 dx dy area s c = record {
+  right_of_xlo = omega (arith, ints);
+  left_of_xhi = omega (arith, ints);
+  above_ylo = omega (arith, ints);
+  below_yhi = omega (arith, ints);
+}
+covers-by_orient _ dx dy area s c = record {
+  right_of_xlo = omega (arith, ints);
+  left_of_xhi = omega (arith, ints);
+  above_ylo = omega (arith, ints);
+  below_yhi = omega (arith, ints);
+}
 
-covered-by_orient : (o : Orient) (dx dy : ℤ) (area : Rect) (s : Square) → Covers (area_image (transform_of o dx dy) area) (moved o dx dy s) → Covers area s
-unfolding area_image
-covered-by_orient R0 dx dy area s c = record { right_of_xlo = omega (arith, ints); left_of_xhi = omega (arith, ints); above_ylo = omega (arith, ints); below_yhi = omega (arith, ints) }
-covered-by_orient _ dx dy area s c = record { right_of_xlo = omega (arith, ints); left_of_xhi = omega (arith, ints); above_ylo = omega (arith, ints); below_yhi = omega (arith, ints) }
+covered-by_orient : (o : Orient) (dx dy : ℤ) (area : Rect) (s : Square) → Covers (rect_image (transform_of o dx dy) area) (moved o dx dy s) → Covers area s
+unfolding rect_image
+covered-by_orient R0 dx dy area s c = record {
+  right_of_xlo = omega (arith, ints);
+  left_of_xhi = omega (arith, ints);
+  above_ylo = omega (arith, ints);
+  below_yhi = omega (arith, ints);
+}
+covered-by_orient _ dx dy area s c = record {
+  right_of_xlo = omega (arith, ints);
+  left_of_xhi = omega (arith, ints);
+  above_ylo = omega (arith, ints);
+  below_yhi = omega (arith, ints);
+}
 
 -- the image of a rectangle has the images of its squares
-pub area_image-covers : (t : Transform) (area : Rect) (s : Square) → Covers area s → Covers (area_image t area) (image t s)
-area_image-covers t area s c = rw (image-moved t s) (covers-by_orient t.orient t.dx t.dy area s c)
+pub rect_image-covers : (t : Transform) (area : Rect) (s : Square) → Covers area s → Covers (rect_image t area) (image t s)
+rect_image-covers t area s c = rw (image-moved t s) (covers-by_orient t.orient t.dx t.dy area s c)
 
 -- and no others
-pub area_image-covered : (t : Transform) (area : Rect) (s : Square) → Covers (area_image t area) (image t s) → Covers area s
-area_image-covered t area s c = covered-by_orient t.orient t.dx t.dy area s (rw (image-moved t s) at c)
+pub rect_image-covered : (t : Transform) (area : Rect) (s : Square) → Covers (rect_image t area) (image t s) → Covers area s
+rect_image-covered t area s c = covered-by_orient t.orient t.dx t.dy area s (rw (image-moved t s) at c)
 
 -- where a point goes, by orientation
 abbrev pub across : Orient → ℤ → ℤ → ℤ → ℤ
@@ -175,6 +191,7 @@ across My dx x y = dx -ℤ x
 across Mx90 dx x y = dx +ℤ y
 across My90 dx x y = dx -ℤ y
 
+-- the y of an image by orientation
 abbrev pub upward : Orient → ℤ → ℤ → ℤ → ℤ
 upward R0 dy x y = dy +ℤ y
 upward R90 dy x y = dy +ℤ x
@@ -193,19 +210,18 @@ upward-point_y : (o : Orient) (dx dy x y : ℤ) → upward o dy x y ≡ point_y 
 upward-point_y R0 dx dy x y = omega (arith, ints)
 upward-point_y _ dx dy x y = omega (arith, ints)
 
+-- what the arm of an orientation computes is the x of the image
 pub point_x_at : (t : Transform) (o : Orient) (r x y : ℤ) → t.orient ≡ o → r ≡ across o t.dx x y → r ≡ point_x t x y
 point_x_at t o r x y is e = e ∙ ap (λ p. across p t.dx x y) (sym is) ∙ across-point_x t.orient t.dx t.dy x y
 
+-- and its y
 pub point_y_at : (t : Transform) (o : Orient) (r x y : ℤ) → t.orient ≡ o → r ≡ upward o t.dy x y → r ≡ point_y t x y
 point_y_at t o r x y is e = e ∙ ap (λ p. upward p t.dy x y) (sym is) ∙ upward-point_y t.orient t.dx t.dy x y
 
+-- transforms of equal parts are equal
 pub transform_is : (t u : Transform) → t.orient ≡ u.orient → t.dx ≡ u.dx → t.dy ≡ u.dy → t ≡ u
 transform_is t u orients across up =
     let whole : record { orient = t.orient; dx = t.dx; dy = t.dy } ≡ u = rw (orients, across, up) refl in whole
-
-rect_is : (a b : Rect) → a.xlo ≡ b.xlo → a.ylo ≡ b.ylo → a.xhi ≡ b.xhi → a.yhi ≡ b.yhi → a ≡ b
-rect_is a b left bottom right top =
-    let whole : record { xlo = a.xlo; ylo = a.ylo; xhi = a.xhi; yhi = a.yhi } ≡ b = rw (left, bottom, right, top) refl in whole
 
 along_x : (t : Transform) (x y x' y' : ℤ) → x' ≡ x → y' ≡ y → point_x t x' y' ≡ point_x t x y
 along_x t x y x' y' e f = ap (λ v. point_x t v y') e ∙ ap (point_x t x) f
@@ -222,22 +238,25 @@ pub image-from_corners : (t : Transform) (s : Square) (left bottom right top lef
 unfolding image
 image-from_corners t s left bottom right top left' bottom' right' top' x y e-left e-bottom e-right e-top e-left' e-bottom' e-right' e-top' e-x e-y =
     square_is _ _
-    (e-x ∙ ap (λ v. int_min v right') (e-left' ∙ along_x t _ _ _ _ e-left e-bottom) ∙ ap (int_min (point_x t s.x s.y)) (e-right' ∙ along_x t _ _ _ _ e-right e-top))
-    (e-y ∙ ap (λ v. int_min v top') (e-bottom' ∙ along_y t _ _ _ _ e-left e-bottom) ∙ ap (int_min (point_y t s.x s.y)) (e-top' ∙ along_y t _ _ _ _ e-right e-top))
+    (e-x ∙ ap (λ v. int_min v right') (e-left' ∙ along_x t _ _ _ _ e-left e-bottom) ∙ ap (int_min (point_x t s.x s.y))
+    (e-right' ∙ along_x t _ _ _ _ e-right e-top))
+    (e-y ∙ ap (λ v. int_min v top') (e-bottom' ∙ along_y t _ _ _ _ e-left e-bottom) ∙ ap (int_min (point_y t s.x s.y))
+    (e-top' ∙ along_y t _ _ _ _ e-right e-top))
 
 chosen : (b b' : Bool) (p p' q q' r : ℤ) → b ≡ b' → p ≡ p' → q ≡ q' → r ≡ cond b p q → r ≡ cond b' p' q'
 chosen b b' p p' q q' r same first second e = rw (← same, ← first, ← second) e
 
 -- the rectangle between the images of two opposite corners
-pub area_image-from_corners : (t : Transform) (area : Rect) (turned_x turned_y : Bool) (left bottom right top left' bottom' right' top' xlo ylo xhi yhi : ℤ)
+pub rect_image-from_corners : (t : Transform) (area : Rect) (turned_x turned_y : Bool) (left bottom right top left' bottom' right' top' xlo ylo xhi yhi : ℤ)
     → turned_x ≡ turns_x t.orient → turned_y ≡ turns_y t.orient
     → left ≡ area.xlo → bottom ≡ area.ylo → right ≡ area.xhi → top ≡ area.yhi
     → left' ≡ point_x t left bottom → bottom' ≡ point_y t left bottom → right' ≡ point_x t right top → top' ≡ point_y t right top
     → xlo ≡ cond turned_x right' left' → xhi ≡ cond turned_x left' right'
     → ylo ≡ cond turned_y top' bottom' → yhi ≡ cond turned_y bottom' top'
-    → record { xlo = xlo; ylo = ylo; xhi = xhi; yhi = yhi } ≡ area_image t area
-unfolding area_image
-area_image-from_corners t area turned_x turned_y left bottom right top left' bottom' right' top' xlo ylo xhi yhi e-x e-y e-left e-bottom e-right e-top e-left' e-bottom' e-right' e-top' e-xlo e-xhi e-ylo e-yhi =
+    → record { xlo = xlo; ylo = ylo; xhi = xhi; yhi = yhi } ≡ rect_image t area
+unfolding rect_image
+rect_image-from_corners t area turned_x turned_y left bottom right top left' bottom' right' top' xlo ylo xhi yhi e-x e-y e-left e-bottom e-right e-top
+    e-left' e-bottom' e-right' e-top' e-xlo e-xhi e-ylo e-yhi =
     let l = e-left' ∙ along_x t _ _ _ _ e-left e-bottom in
     let b = e-bottom' ∙ along_y t _ _ _ _ e-left e-bottom in
     let r = e-right' ∙ along_x t _ _ _ _ e-right e-top in

@@ -3,6 +3,9 @@ use Rattle.std.proofs.Common.{◌≡◌, ◌⊎◌, inl, inr, ℤ, ◌≤ℤ◌,
 use Rattle.std.proofs.lemmas.Bool.{cases_Bool}
 use Rattle.std.proofs.lemmas.Int.{ints, clamps, by_lt_z}
 use Rattle.finite_sets.specs.Lists.{In}
+use Rattle.finite_sets.specs.Order.{Lexicographic}
+use Rattle.finite_sets.proofs.Orders.{Lexicographic-trans, at_most-trans}
+use Rattle.finite_sets.proofs.Pairs.{Pairwise}
 use Rattle.geo_core.specs.declared.bars.Bar.{Bar}
 use Rattle.geo_core.specs.Bars.{meets, reaching, joined_from, joined}
 
@@ -21,20 +24,17 @@ pub record HavePoint (bars : List Bar) (low high z : ℤ) : Type 0 where
 
 -- the first bar begins no later than the second on its lines, or lies on lines before
 abbrev pub NoLater : Bar → Bar → Type 0
-NoLater a b = (a.low <ℤ b.low) ⊎ ((a.low ≡ b.low) × ((a.high <ℤ b.high) ⊎ ((a.high ≡ b.high) × (a.from ≤ℤ b.from))))
+NoLater a b = Lexicographic a.low b.low (Lexicographic a.high b.high (a.from ≤ℤ b.from))
 
 -- bars on the same lines do not touch
 abbrev pub LieApart : Bar → Bar → Type 0
 LieApart a b = a.low ≡ b.low → a.high ≡ b.high → (a.to <ℤ b.from) ⊎ (b.to <ℤ a.from)
 
--- R holds of each thing of a list and each later one
-abbrev pub Pairwise : {X : Type 0} → (X → X → Type 0) → List X → Type 0
-Pairwise R [] = Unit {0}
-Pairwise {X} R (x ∷ xs) = ((y : X) → In y xs → R x y) × Pairwise R xs
-
+-- the bar has a point
 abbrev pub IsLong : Bar → Type 0
 IsLong bar = bar.from <ℤ bar.to
 
+-- each bar of the list has one
 abbrev pub AreLong : List Bar → Type 0
 AreLong bars = (bar : Bar) → In bar bars → IsLong bar
 
@@ -42,13 +42,8 @@ NoLater-refl : (a : Bar) → NoLater a a
 NoLater-refl a = inr (refl, inr (refl, omega (arith, ints)))
 
 NoLater-trans : (a b c : Bar) → NoLater a b → NoLater b c → NoLater a c
-NoLater-trans a b c (inl p) (inl q) = inl (omega (arith, ints, p, q))
-NoLater-trans a b c (inl p) (inr q) = inl (omega (arith, ints, p, q.0))
-NoLater-trans a b c (inr p) (inl q) = inl (omega (arith, ints, p.0, q))
-NoLater-trans a b c (inr (e, inl p)) (inr (f, inl q)) = inr (e ∙ f, inl (omega (arith, ints, p, q)))
-NoLater-trans a b c (inr (e, inl p)) (inr (f, inr q)) = inr (e ∙ f, inl (omega (arith, ints, p, q.0)))
-NoLater-trans a b c (inr (e, inr p)) (inr (f, inl q)) = inr (e ∙ f, inl (omega (arith, ints, p.0, q)))
-NoLater-trans a b c (inr (e, inr (g, p))) (inr (f, inr (h, q))) = inr (e ∙ f, inr (g ∙ h, omega (arith, ints, p, q)))
+NoLater-trans a b c =
+    Lexicographic-trans a.low b.low c.low (Lexicographic-trans a.high b.high c.high (at_most-trans a.from b.from c.from))
 
 -- what `meets` says
 record Meet (a b : Bar) : Type 0 where
@@ -92,6 +87,7 @@ same_lines a b c (inr (g, inl p)) (inr (h, inr q)) e f = absurd (omega (arith, i
 same_lines a b c (inr (g, inr p)) (inr (h, inl q)) e f = absurd (omega (arith, ints, p.0, q, f))
 same_lines a b c (inr (g, inr p)) (inr (h, inr q)) e f = (g, (p.0, q.1))
 
+-- joined bars lie apart
 pub joined_apart : (a : Bar) (rest : List Bar) → Pairwise NoLater (a ∷ rest) → Pairwise LieApart (joined_from a rest)
 joined_apart a [] h = ((λ y n. absurd n), tt)
 joined_apart a (b ∷ rest) h = elim (cases_Bool (meets a b)) [
@@ -107,6 +103,7 @@ joined_apart a (b ∷ rest) h = elim (cases_Bool (meets a b)) [
   )
 ]
 
+-- joined bars have points
 pub joined_long : (a : Bar) (rest : List Bar) → AreLong (a ∷ rest) → AreLong (joined_from a rest)
 joined_long a [] h = h
 joined_long a (b ∷ rest) h = elim (cases_Bool (meets a b)) [
@@ -128,7 +125,12 @@ begins_no_later a b e f (inr (g, inr p)) = p.1
 -- a joined bar has the points of the two, and no others
 points_reaching : (a b : Bar) (low high z : ℤ) → Meet a b → NoLater a b → HasPoint a low high z ⊎ HasPoint b low high z → HasPoint (reaching a b) low high z
 points_reaching a b low high z m h (inl p) =
-    record { low_is = p.low_is; high_is = p.high_is; from_no_later = p.from_no_later; to_later = (let l : z <ℤ a.to = p.to_later in omega (arith, ints, clamps)) }
+    record {
+      low_is = p.low_is;
+      high_is = p.high_is;
+      from_no_later = p.from_no_later;
+      to_later = (let l : z <ℤ a.to = p.to_later in omega (arith, ints, clamps));
+    }
 points_reaching a b low high z m h (inr p) =
     let begins : a.from ≤ℤ b.from = begins_no_later a b m.low m.high h in
     record {
@@ -152,14 +154,22 @@ points_of_two a b low high z m p =
       to_later = omega (arith, ints, clamps);
     }))
 
-gathered : (a b : Bar) (rest : List Bar) (low high z : ℤ) → Meet a b → NoLater a b → HavePoint (a ∷ b ∷ rest) low high z → HavePoint (reaching a b ∷ rest) low high z
+gathered : (a b : Bar) (rest : List Bar) (low high z : ℤ) → Meet a b → NoLater a b → HavePoint (a ∷ b ∷ rest) low high z
+    → HavePoint (reaching a b ∷ rest) low high z
 gathered a b rest low high z m h p = elim p.in_list [
   | inl e ↦ record { bar = reaching a b; in_list = inl refl; has = points_reaching a b low high z m h (inl (subst (λ c. HasPoint c low high z) (sym e) p.has)) }
-  | inr (inl e) ↦ record { bar = reaching a b; in_list = inl refl; has = points_reaching a b low high z m h (inr (subst (λ c. HasPoint c low high z) (sym e) p.has)) }
+  | inr (inl e) ↦ record {
+    bar = reaching a b;
+    in_list = inl refl;
+    has = points_reaching a b low high z m h
+        (inr (subst (λ c. HasPoint c low high z) (sym e) p.has));
+  }
   | inr (inr i) ↦ record { bar = p.bar; in_list = inr i; has = p.has }
 ]
 
-pub joined_keeps : (a : Bar) (rest : List Bar) → Pairwise NoLater (a ∷ rest) → (low high z : ℤ) → HavePoint (a ∷ rest) low high z → HavePoint (joined_from a rest) low high z
+-- no point is lost by joining
+pub joined_keeps : (a : Bar) (rest : List Bar) → Pairwise NoLater (a ∷ rest) → (low high z : ℤ) → HavePoint (a ∷ rest) low high z
+    → HavePoint (joined_from a rest) low high z
 joined_keeps a [] h low high z p = p
 joined_keeps a (b ∷ rest) h low high z p = elim (cases_Bool (meets a b)) [
   | inl t ↦ subst (λ bars. HavePoint bars low high z) (sym (step_meets a b rest t))
@@ -180,10 +190,12 @@ scattered a b rest low high z m p = elim p.in_list [
   | inr i ↦ record { bar = p.bar; in_list = inr (inr i); has = p.has }
 ]
 
+-- and none is added
 pub joined_adds_none : (a : Bar) (rest : List Bar) (low high z : ℤ) → HavePoint (joined_from a rest) low high z → HavePoint (a ∷ rest) low high z
 joined_adds_none a [] low high z p = p
 joined_adds_none a (b ∷ rest) low high z p = elim (cases_Bool (meets a b)) [
-  | inl t ↦ scattered a b rest low high z (meet_true a b t) (joined_adds_none (reaching a b) rest low high z (subst (λ bars. HavePoint bars low high z) (step_meets a b rest t) p))
+  | inl t ↦ scattered a b rest low high z (meet_true a b t) (joined_adds_none (reaching a b) rest low high z
+      (subst (λ bars. HavePoint bars low high z) (step_meets a b rest t) p))
   | inr t ↦ (let q = subst (λ bars. HavePoint bars low high z) (step_ends a b rest t) p in elim q.in_list [
     | inl e ↦ record { bar = q.bar; in_list = inl e; has = q.has }
     | inr i ↦ (let r = joined_adds_none b rest low high z (record { bar = q.bar; in_list = i; has = q.has }) in
@@ -198,6 +210,7 @@ pub record AreJoined (bars found : List Bar) : Type 0 where
   pub adds_none : (low high z : ℤ) → HavePoint found low high z → HavePoint bars low high z
   pub apart : Pairwise LieApart found
 
+-- bars in order, joined
 pub joined-are : (bars : List Bar) → Pairwise NoLater bars → AreLong bars → AreJoined bars (joined bars)
 joined-are [] h l = record { long = l; keeps = λ low high z p. p; adds_none = λ low high z p. p; apart = tt }
 joined-are (a ∷ rest) h l = record {

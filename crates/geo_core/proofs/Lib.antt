@@ -6,9 +6,9 @@ pub mod ElementLaws
 pub mod ImageLaws
 pub mod JoinLaws
 pub mod NeighbourLaws
-pub mod PairLaws
 pub mod RowEventLaws
 pub mod RowLaws
+pub mod SquareLaws
 pub mod SquareOrderLaws
 pub mod StripLaws
 pub mod StripListLaws

@@ -15,21 +15,6 @@ AreEdgeNeighbours-sym a b (inr (same, inr down)) = inr (sym same, inl down)
 pub AreEdgeNeighbours-right_of : (a : Square) → AreEdgeNeighbours a (right_of a)
 AreEdgeNeighbours-right_of a = inl (inl refl, refl)
 
-pub AreEdgeNeighbours-left_of : (a : Square) → AreEdgeNeighbours a (left_of a)
-AreEdgeNeighbours-left_of a = inl (inr (omega (arith, ints)), refl)
-
+-- and so is that above
 pub AreEdgeNeighbours-above : (a : Square) → AreEdgeNeighbours a (above a)
 AreEdgeNeighbours-above a = inr (refl, inl refl)
-
-pub AreEdgeNeighbours-below : (a : Square) → AreEdgeNeighbours a (below a)
-AreEdgeNeighbours-below a = inr (refl, inr (omega (arith, ints)))
-
-square_is : (b : Square) (x y : ℤ) → b.x ≡ x → b.y ≡ y → b ≡ record { x = x; y = y }
-square_is b x y same_x same_y = rw (← same_x, ← same_y) refl
-
--- and there are no others
-pub edge_neighbour_cases : (a b : Square) → AreEdgeNeighbours a b → (b ≡ right_of a) ⊎ ((b ≡ left_of a) ⊎ ((b ≡ above a) ⊎ (b ≡ below a)))
-edge_neighbour_cases a b (inl (inl up, same)) = inl (square_is b _ _ up (sym same))
-edge_neighbour_cases a b (inl (inr down, same)) = inr (inl (square_is b _ _ (omega (arith, ints)) (sym same)))
-edge_neighbour_cases a b (inr (same, inl up)) = inr (inr (inl (square_is b _ _ (sym same) up)))
-edge_neighbour_cases a b (inr (same, inr down)) = inr (inr (inr (square_is b _ _ (sym same) (omega (arith, ints)))))

@@ -8,12 +8,15 @@ use Rattle.geo_core.specs.declared.bars.Bar.{Bar}
 use Rattle.geo_core.specs.declared.row_runs.Run.{Run}
 use Rattle.geo_core.specs.RowRuns.{Row, IsInRow, AreRuns, bar_of, IsWritten, Changes, IsTaken, IsLastRun, Touches, LiesClear, IsPlaced, IsCovered, IsUncovered}
 
+-- not greater
 pub from_not_gt : (a b : ℤ) → is_gt (int_cmp a b) ≡ false → a ≤ℤ b
 from_not_gt a b h = grind (arith, ints)
 
+-- and back
 pub not_gt : (a b : ℤ) → a ≤ℤ b → is_gt (int_cmp a b) ≡ false
 not_gt a b h = grind (arith, ints)
 
+-- not less
 pub from_not_lt : (a b : ℤ) → is_lt (int_cmp a b) ≡ false → b ≤ℤ a
 from_not_lt a b h = grind (arith, ints)
 
@@ -23,6 +26,7 @@ lt_not_eq a b h = grind (arith, ints)
 gt_not_eq : (a b : ℤ) → b <ℤ a → is_eq (int_cmp a b) ≡ false
 gt_not_eq a b h = grind (arith, ints)
 
+-- not equal
 pub not_eq : (a b : ℤ) → (b ≡ a → ⊥) → is_eq (int_cmp a b) ≡ false
 not_eq a b h = by_lt_z a b (lt_not_eq a b) (λ not_less. by_lt_z b a (gt_not_eq a b) (λ not_more. absurd (h (omega (arith, ints, not_less, not_more)))))
 
@@ -46,7 +50,8 @@ pub none_touches : (row : Row) (from to start : ℤ) (run : Run) → AreRuns row
 none_touches row from to start run runs last before a other begins no_later =
     let first : a ≤ℤ start = last.last a other begins no_later in
     by_lt_z a start
-    (λ less. let apart = runs.apart a start other run begins last.begins less in let long = runs.long start run last.begins in omega (arith, ints, apart, long, before))
+    (λ less. let apart = runs.apart a start other run begins last.begins less in let long = runs.long start run last.begins in
+    omega (arith, ints, apart, long, before))
     (λ not_less. let same : a ≡ start = omega (arith, ints, first, not_less) in
     let one : other.to ≡ run.to = ap (λ r. r.to) (same_run row a start other run begins last.begins same) in omega (arith, ints, one, before))
 
@@ -55,6 +60,7 @@ pub record IsWithout (start : ℤ) (old new : Row) : Type 0 where
   pub none : new start ≡ None
   pub others : (a : ℤ) → (a ≡ start → ⊥) → new a ≡ old a
 
+-- the other runs were there before
 pub without_fewer : (start : ℤ) (old new : Row) → IsWithout start old new → (a : ℤ) (run : Run) → new a ≡ Some run → old a ≡ Some run
 without_fewer start old new w a r e = sym (w.others a (λ same. none_begins new a start r e w.none same)) ∙ e
 
@@ -67,7 +73,9 @@ pub record IsTaking (from to left right : ℤ) (old new : Row) : Type 0 where
   pub left_run : (left ≡ from) ⊎ ((run : Run) × ((old left ≡ Some run) × (from ≤ℤ run.to)))
   pub right_run : (right ≡ to) ⊎ ((a : ℤ) × ((run : Run) × ((old a ≡ Some run) × (run.to ≡ right) × (a ≤ℤ to))))
 
-pub taking_more : (from to left right start : ℤ) (run : Run) (old mid new : Row) → IsTaking from to left right old mid → Touches mid from to start run → IsWithout start mid new
+-- one more run is taken
+pub taking_more : (from to left right start : ℤ) (run : Run) (old mid new : Row) → IsTaking from to left right old mid → Touches mid from to start run
+    → IsWithout start mid new
     → IsTaking from to (int_min left start) (int_max right run.to) old new
 taking_more from to left right start run old mid new h t w =
     let first = h.first in let last = h.last in
@@ -100,12 +108,17 @@ taking_more from to left right start run old mid new h t w =
           ]);
     }
 
+-- no run is left to take
 pub taking_ends : (from to left right : ℤ) (old new : Row) → from ≤ℤ to → AreRuns old → IsTaking from to left right old new
     → ((a : ℤ) (run : Run) → new a ≡ Some run → a ≤ℤ to → run.to <ℤ from) → IsTaken from to left right old new
 taking_ends from to left right old new order runs h none = record {
   first = h.first;
   last = h.last;
-  rest = λ a r e. (h.rest a r e, by_lt_z to a (λ after. inr (clear_right a r (h.rest a r e) after)) (λ not_after. inl (clear_left a r (h.rest a r e) (none a r e not_after))));
+  rest = λ a r e. (
+    h.rest a r e,
+    by_lt_z to a (λ after. inr (clear_right a r (h.rest a r e) after))
+        (λ not_after. inl (clear_left a r (h.rest a r e) (none a r e not_after))),
+  );
   gone = h.gone;
   on_left = λ x after before. elim h.left_run [
     | inl e ↦ absurd (omega (arith, ints, e, after, before))
@@ -121,7 +134,8 @@ taking_ends from to left right old new order runs h none = record {
     clear_right : (a : ℤ) (r : Run) → old a ≡ Some r → to <ℤ a → right <ℤ a
     clear_right a r e after = elim h.right_run [
       | inl same ↦ omega (arith, ints, same, after)
-      | inr s ↦ (let starts = s.1.1.2 in let ends = s.1.1.1 in let apart = runs.apart s.0 a s.1.0 r s.1.1.0 e (omega (arith, ints, after, starts)) in omega (arith, ints, apart, ends))
+      | inr s ↦ (let starts = s.1.1.2 in let ends = s.1.1.1 in let apart = runs.apart s.0 a s.1.0 r s.1.1.0 e (omega (arith, ints, after, starts)) in
+          omega (arith, ints, apart, ends))
     ]
 
     clear_left : (a : ℤ) (r : Run) → old a ≡ Some r → r.to <ℤ from → r.to <ℤ left
@@ -145,7 +159,9 @@ written_before y old mid before after bar h w = elim (h.fresh w.from w.run w.beg
   | inr e ↦ absurd (let high = w.high in omega (arith, ints, e, high))
 ]
 
-pub changes_both : (y : ℤ) (old mid new : Row) (before between after : List Bar) → Changes y old mid before between → Changes y mid new between after → Changes y old new before after
+-- one change of a row and then another
+pub changes_both : (y : ℤ) (old mid new : Row) (before between after : List Bar) → Changes y old mid before between → Changes y mid new between after
+    → Changes y old new before after
 changes_both y old mid new before between after g h = record {
   fresh = λ a r e. elim (h.fresh a r e) [ inl m ↦ g.fresh a r m | inr s ↦ inr s ];
   ended = λ a r e. elim (g.ended a r e) [
@@ -186,7 +202,10 @@ placed from to y run old new long runs clear run_to run_since begins others =
     }
   where
     not_there : (a : ℤ) (r : Run) → old a ≡ Some r → a ≡ from → ⊥
-    not_there a r e same = let l = runs.long a r e in elim (clear a r e) [ inl h ↦ omega (arith, ints, h, l, same) | inr h ↦ omega (arith, ints, h, same, long) ]
+    not_there a r e same = let l = runs.long a r e in elim (clear a r e) [
+      | inl h ↦ omega (arith, ints, h, l, same)
+      | inr h ↦ omega (arith, ints, h, same, long)
+    ]
 
     fresh : (a : ℤ) (r : Run) → new a ≡ Some r → (old a ≡ Some r) ⊎ ((a ≡ from) × (r.to ≡ to) × (r.since ≡ y))
     fresh a r e = by_lt_z a from
@@ -204,7 +223,10 @@ placed from to y run old new long runs clear run_to run_since begins others =
     aparts a b r s e f less = elim (fresh a r e) [
       | inl o ↦ elim (fresh b s f) [
         | inl p ↦ runs.apart a b r s o p less
-        | inr p ↦ elim (clear a r o) [ inl h ↦ (let q = p.0 in omega (arith, ints, h, q)) | inr h ↦ absurd (let q = p.0 in omega (arith, ints, h, q, less, long)) ]
+        | inr p ↦ elim (clear a r o) [
+          | inl h ↦ (let q = p.0 in omega (arith, ints, h, q))
+          | inr h ↦ absurd (let q = p.0 in omega (arith, ints, h, q, less, long))
+        ]
       ]
       | inr o ↦ elim (fresh b s f) [
         | inl p ↦ elim (clear b s p) [
@@ -253,7 +275,8 @@ module _ (from to left right : ℤ) (old mid : Row) (t : IsTaken from to left ri
       (λ less. inl (t.on_left x after less))
       (λ not_less. by_lt_z x to (λ inside. inr (not_less, inside)) (λ beyond. inl (t.on_right x beyond before)))
 
-  pub covered : (y : ℤ) (new : Row) (before after : List Bar) → Changes y old mid before after → IsPlaced left right y mid new → IsCovered from to y old new before after
+  pub covered : (y : ℤ) (new : Row) (before after : List Bar) → Changes y old mid before after → IsPlaced left right y mid new
+      → IsCovered from to y old new before after
   covered y new before after c p = record {
     apart = p.apart;
     changes = changes_both y old mid new before after after c (changes_placed left right y mid new after p);
@@ -272,11 +295,13 @@ module _ (from to left right : ℤ) (old mid : Row) (t : IsTaken from to left ri
     | inr f ↦ inl (let s = f.1 in omega (arith, ints, s, order))
   ]
 
-  pub uncovered : (y : ℤ) (next new : Row) (before after : List Bar) → from <ℤ to → Changes y old mid before after → IsPlaced left from y mid next → IsPlaced to right y next new
+  pub uncovered : (y : ℤ) (next new : Row) (before after : List Bar) → from <ℤ to → Changes y old mid before after → IsPlaced left from y mid next
+      → IsPlaced to right y next new
       → IsUncovered from to y old new before after
   uncovered y next new before after order c p q = record {
     apart = q.apart;
-    changes = changes_both y old next new before after after (changes_both y old mid next before after after c (changes_placed left from y mid next after p)) (changes_placed to right y next new after q);
+    changes = changes_both y old next new before after after (changes_both y old mid next before after after c
+        (changes_placed left from y mid next after p)) (changes_placed to right y next new after q);
     stayed = λ x h. elim (in_placed to right y next new x q h) [
       | inl n ↦ elim (in_placed left from y mid next x p n) [ inl m ↦ was_in x m | inr g ↦ t.on_left x g.0 g.1 ]
       | inr g ↦ t.on_right x g.0 g.1

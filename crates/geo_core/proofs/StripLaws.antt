@@ -8,8 +8,11 @@ use Rattle.geo_core.specs.declared.squares.Rect.{Rect}
 use Rattle.geo_core.specs.declared.bars.Bar.{Bar}
 use Rattle.geo_core.specs.Strips.{IsRun, IsStrip}
 use Rattle.geo_core.specs.Sweeping.{HaveSquare, AreRunBars}
-use Rattle.geo_core.proofs.JoinLaws.{Pairwise, LieApart, AreLong, AreJoined}
+use Rattle.finite_sets.proofs.Pairs.{Pairwise}
+use Rattle.geo_core.proofs.SquareLaws.{rect_is}
+use Rattle.geo_core.proofs.JoinLaws.{LieApart, AreLong, AreJoined}
 
+-- the square in this column and row
 abbrev pub at : ℤ → ℤ → Square
 at x y = record { x = x; y = y }
 
@@ -31,12 +34,17 @@ pub record AreColumns (S : Square → Type 0) (columns : List Bar) : Type 0 wher
   pub apart : Pairwise LieApart columns
 
 -- joining bars of one width makes columns of runs
-pub columns_from_bars : (S : Square → Type 0) (bars upright columns : List Bar) → AreRunBars S bars → ((bar : Bar) → In bar upright → In bar bars) → ((bar : Bar) → In bar bars → In bar upright)
+pub columns_from_bars : (S : Square → Type 0) (bars upright columns : List Bar) → AreRunBars S bars → ((bar : Bar) → In bar upright → In bar bars)
+    → ((bar : Bar) → In bar bars → In bar upright)
     → AreJoined upright columns → AreColumns S columns
 columns_from_bars S bars upright columns are there back join = record {
   long = join.long;
   runs = λ column i y from to.
-      let p = join.adds_none column.low column.high y (record { bar = column; in_list = i; has = record { low_is = refl; high_is = refl; from_no_later = from; to_later = to } }) in
+      let p = join.adds_none column.low column.high y (record {
+        bar = column;
+        in_list = i;
+        has = record { low_is = refl; high_is = refl; from_no_later = from; to_later = to };
+      }) in
       let found = are.runs p.bar (there p.bar p.in_list) y p.has.from_no_later p.has.to_later in
       subst (λ v. IsRun S v column.high y) p.has.low_is (subst (λ v. IsRun S p.bar.low v y) p.has.high_is found);
   complete = λ x y s.
@@ -64,18 +72,17 @@ run_right S a b c d y p q x h i j k less = q.right (p.within d (omega (arith, in
 equal_from_neither : (a b : ℤ) → (a <ℤ b → ⊥) → (b <ℤ a → ⊥) → a ≡ b
 equal_from_neither a b p q = by_lt_z a b (λ h. absurd (p h)) (λ h. by_lt_z b a (λ k. absurd (q k)) (λ k. omega (arith, ints)))
 
+-- runs of one row that share a square begin together
 pub same_left : (S : Square → Type 0) (a b c d y x : ℤ) → IsRun S a b y → IsRun S c d y → a ≤ℤ x → x <ℤ b → c ≤ℤ x → x <ℤ d → a ≡ c
 same_left S a b c d y x p q h i j k = equal_from_neither a c (run_left S a b c d y p q x h i j k) (run_left S c d a b y q p x j k h i)
 
+-- and end together
 pub same_right : (S : Square → Type 0) (a b c d y x : ℤ) → IsRun S a b y → IsRun S c d y → a ≤ℤ x → x <ℤ b → c ≤ℤ x → x <ℤ d → b ≡ d
 same_right S a b c d y x p q h i j k = equal_from_neither b d (run_right S c d a b y q p x j k h i) (run_right S a b c d y p q x h i j k)
 
-abbrev pub area_of_column : Bar → Rect
-area_of_column column = record { xlo = column.low; ylo = column.from; xhi = column.high; yhi = column.to }
-
-rect_is : (a b : Rect) → a.xlo ≡ b.xlo → a.ylo ≡ b.ylo → a.xhi ≡ b.xhi → a.yhi ≡ b.yhi → a ≡ b
-rect_is a b left bottom right top =
-    let whole : record { xlo = a.xlo; ylo = a.ylo; xhi = a.xhi; yhi = a.yhi } ≡ b = rw (left, bottom, right, top) refl in whole
+-- the rectangle of a column
+abbrev pub rect_of_column : Bar → Rect
+rect_of_column column = record { xlo = column.low; ylo = column.from; xhi = column.high; yhi = column.to }
 
 -- a column of this width with this row
 pub record ColumnAt (columns : List Bar) (xlo xhi y : ℤ) : Type 0 where
@@ -119,7 +126,7 @@ module _ (S : Square → Type 0) (columns : List Bar) (are : AreColumns S column
         ]
       ]
 
-  pub column_is_strip : (column : Bar) → In column columns → IsStrip S (area_of_column column)
+  pub column_is_strip : (column : Bar) → In column columns → IsStrip S (rect_of_column column)
   column_is_strip column i = record {
     high = are.long column i;
     runs = are.runs column i;
@@ -128,19 +135,22 @@ module _ (S : Square → Type 0) (columns : List Bar) (are : AreColumns S column
   }
 
   -- strips of one width that share a row are the same
-  strip_from : (a b : Rect) → IsStrip S a → IsStrip S b → a.xlo ≡ b.xlo → a.xhi ≡ b.xhi → (y : ℤ) → a.ylo ≤ℤ y → y <ℤ a.yhi → b.ylo ≤ℤ y → y <ℤ b.yhi → a.ylo <ℤ b.ylo → ⊥
+  strip_from : (a b : Rect) → IsStrip S a → IsStrip S b → a.xlo ≡ b.xlo → a.xhi ≡ b.xhi → (y : ℤ) → a.ylo ≤ℤ y → y <ℤ a.yhi → b.ylo ≤ℤ y → y <ℤ b.yhi
+      → a.ylo <ℤ b.ylo → ⊥
   strip_from a b p q e f y h i j k less =
-      q.below (subst (λ v. IsRun S v b.xhi (b.ylo -ℤ pos 1)) e (subst (λ v. IsRun S a.xlo v (b.ylo -ℤ pos 1)) f (p.runs (b.ylo -ℤ pos 1) (omega (arith, ints)) (omega (arith, ints)))))
+      q.below (subst (λ v. IsRun S v b.xhi (b.ylo -ℤ pos 1)) e (subst (λ v. IsRun S a.xlo v (b.ylo -ℤ pos 1)) f
+      (p.runs (b.ylo -ℤ pos 1) (omega (arith, ints)) (omega (arith, ints)))))
 
-  strip_to : (a b : Rect) → IsStrip S a → IsStrip S b → a.xlo ≡ b.xlo → a.xhi ≡ b.xhi → (y : ℤ) → a.ylo ≤ℤ y → y <ℤ a.yhi → b.ylo ≤ℤ y → y <ℤ b.yhi → b.yhi <ℤ a.yhi → ⊥
+  strip_to : (a b : Rect) → IsStrip S a → IsStrip S b → a.xlo ≡ b.xlo → a.xhi ≡ b.xhi → (y : ℤ) → a.ylo ≤ℤ y → y <ℤ a.yhi → b.ylo ≤ℤ y → y <ℤ b.yhi
+      → b.yhi <ℤ a.yhi → ⊥
   strip_to a b p q e f y h i j k less =
       q.above (subst (λ v. IsRun S v b.xhi b.yhi) e (subst (λ v. IsRun S a.xlo v b.yhi) f (p.runs b.yhi (omega (arith, ints)) less)))
 
-  pub strip_is_column : (area : Rect) → IsStrip S area → In area (map area_of_column columns)
+  pub strip_is_column : (area : Rect) → IsStrip S area → In area (map rect_of_column columns)
   strip_is_column area strip =
       let high : area.ylo <ℤ area.yhi = strip.high in
       let p = column_of_run area.xlo area.xhi area.ylo (strip.runs area.ylo (omega (arith, ints)) high) in
-      let other = area_of_column p.column in
+      let other = rect_of_column p.column in
       let it = column_is_strip p.column p.in_list in
       let first : area.ylo ≤ℤ area.ylo = omega (arith, ints) in
       let low = equal_from_neither other.ylo area.ylo
@@ -149,4 +159,4 @@ module _ (S : Square → Type 0) (columns : List Bar) (are : AreColumns S column
       let top = equal_from_neither other.yhi area.yhi
       (strip_to area other strip it (sym p.low) (sym p.high) area.ylo first high p.from p.to)
       (strip_to other area it strip p.low p.high area.ylo p.from p.to first high) in
-      subst (λ r. In r (map area_of_column columns)) (rect_is other area p.low low p.high top) (In-map area_of_column p.column columns p.in_list)
+      subst (λ r. In r (map rect_of_column columns)) (rect_is other area p.low low p.high top) (In-map rect_of_column p.column columns p.in_list)

@@ -1,46 +1,32 @@
 -- The list that the sorts and joins make has exactly the strips, in order; and a set has one list of strips.
-use Rattle.std.proofs.Common.{◌≡◌, ◌⊎◌, inl, inr, ◌<◌, ℤ, ◌≤ℤ◌, ◌<ℤ◌, false, List, [], ◌∷◌, length, map, get_or, refl, sym, ◌∙◌, ap, subst, arith}
+use Rattle.std.proofs.Common.{◌≡◌, ◌⊎◌, inl, inr, ◌<◌, ◌≤ℤ◌, ◌<ℤ◌, false, List, [], ◌∷◌, length, map, get_or, refl, sym, ◌∙◌, ap, subst, arith}
 use Rattle.std.specs.Prelude.{AllPairs, IsSorted, IsPermutation}
 use Rattle.std.specs.Cmp.{IsTotalOrder}
-use Rattle.std.specs.declared.cmp.Ordering.{Ordering}
-use Rattle.std.specs.declared.cmp.Ordering.TheVariants.{Less, Equal, Greater}
 use Rattle.std.specs.Ordering.{is_lt, int_cmp, ordering_then}
 use Rattle.std.proofs.Math.ListN.{get_or-map}
-use Rattle.std.proofs.lemmas.Bool.{false≢true}
-use Rattle.std.proofs.lemmas.Cmp.{int_cmp_total, on_total, then_total, int_ranked}
+use Rattle.std.proofs.lemmas.Cmp.{int_cmp_total, on_total, then_total}
 use Rattle.std.proofs.lemmas.Int.{ints, by_lt_z}
 use Rattle.std.proofs.lemmas.List.{length-map}
-use Rattle.std.proofs.lemmas.List.Sorted.{sorted_far, ranks_by, IsPermutation-sym}
+use Rattle.std.proofs.lemmas.List.Sorted.{IsPermutation-sym}
 use Rattle.finite_sets.specs.Lists.{In}
-use Rattle.finite_sets.proofs.Members.{In-get_or, In-map, In-map_source}
+use Rattle.finite_sets.proofs.Members.{In-get_or, In-map, In-map_source, In-permutation}
+use Rattle.finite_sets.proofs.Orders.{Lexicographic-irreflexive, Lexicographic-trans, less-irreflexive, less-trans}
+use Rattle.finite_sets.proofs.Orders.{equal_from_both, int_then-not_less, ordering_then-not_less, IsSorted-pairs}
+use Rattle.finite_sets.proofs.Pairs.{Pairwise, AllPairs-from_Pairwise, Pairwise-from_AllPairs, Pairwise-map, AllPairs-permutation}
 use Rattle.geo_core.specs.declared.squares.Square.{Square}
 use Rattle.geo_core.specs.declared.squares.Rect.{Rect}
 use Rattle.geo_core.specs.declared.bars.Bar.{Bar}
 use Rattle.geo_core.specs.declared.strip_lists.Strip.{Strip}
-use Rattle.geo_core.specs.Bars.{bar_cmp, strip_cmp, joined, strip_of, area_of}
+use Rattle.geo_core.specs.Bars.{bar_cmp, strip_cmp, joined, strip_of, rect_of}
 use Rattle.geo_core.specs.Strips.{IsStrip, IsStrips, IsInUnion, StandsBefore, StripsAreUnique}
 use Rattle.geo_core.specs.Sweeping.{AreRunBars}
-use Rattle.geo_core.proofs.JoinLaws.{Pairwise, AreJoined, joined-are}
-use Rattle.geo_core.proofs.PairLaws.{AllPairs-from_Pairwise, Pairwise-map, all_pairs_permutation}
-use Rattle.geo_core.proofs.BarOrderLaws.{In-permutation, Pairwise-from_places, bars_in_order}
-use Rattle.geo_core.proofs.StripLaws.{AreColumns, columns_from_bars, same_right, area_of_column, column_is_strip, strip_is_column}
-
-equal_from_both : (a b : ℤ) → a ≤ℤ b → b ≤ℤ a → a ≡ b
-equal_from_both a b p q = omega (arith, ints)
+use Rattle.geo_core.proofs.JoinLaws.{AreJoined, joined-are}
+use Rattle.geo_core.proofs.BarOrderLaws.{bars_in_order}
+use Rattle.geo_core.proofs.StripLaws.{AreColumns, columns_from_bars, same_right, rect_of_column, column_is_strip, strip_is_column}
 
 strip_cmp_total : IsTotalOrder strip_cmp
-strip_cmp_total = then_total (on_total (λ s. s.ylo) int_cmp_total) (then_total (on_total (λ s. s.xlo) int_cmp_total) (then_total (on_total (λ s. s.xhi) int_cmp_total) (on_total (λ s. s.yhi) int_cmp_total)))
-
-not_less : (a b : Strip) → is_lt (strip_cmp b a) ≡ false → (a.ylo <ℤ b.ylo) ⊎ ((a.ylo ≡ b.ylo) × (a.xlo ≤ℤ b.xlo))
-not_less a b h = go (int_cmp b.ylo a.ylo) (int_cmp b.xlo a.xlo) (ordering_then (int_cmp b.xhi a.xhi) (int_cmp b.yhi a.yhi)) refl refl h
-  where
-    go : (o p q : Ordering) → o ≡ int_cmp b.ylo a.ylo → p ≡ int_cmp b.xlo a.xlo → is_lt (ordering_then o (ordering_then p q)) ≡ false
-        → (a.ylo <ℤ b.ylo) ⊎ ((a.ylo ≡ b.ylo) × (a.xlo ≤ℤ b.xlo))
-    go Less p q e f g = absurd (false≢true (sym g))
-    go Greater p q e f g = inl (int_ranked b.ylo a.ylo Greater e)
-    go Equal Less q e f g = absurd (false≢true (sym g))
-    go Equal Equal q e f g = let same : b.xlo ≡ a.xlo = int_ranked b.xlo a.xlo Equal f in inr (sym (int_ranked b.ylo a.ylo Equal e), omega (arith, ints))
-    go Equal Greater q e f g = let less : a.xlo <ℤ b.xlo = int_ranked b.xlo a.xlo Greater f in inr (sym (int_ranked b.ylo a.ylo Equal e), omega (arith, ints))
+strip_cmp_total = then_total (on_total (λ s. s.ylo) int_cmp_total) (then_total (on_total (λ s. s.xlo) int_cmp_total)
+    (then_total (on_total (λ s. s.xhi) int_cmp_total) (on_total (λ s. s.yhi) int_cmp_total)))
 
 abbrev StripsApart : Strip → Strip → Type 0
 StripsApart a b = a.xlo ≡ b.xlo → a.xhi ≡ b.xhi → (a.yhi <ℤ b.ylo) ⊎ (b.yhi <ℤ a.ylo)
@@ -49,70 +35,79 @@ StripsApart-sym : (a b : Strip) → StripsApart a b → StripsApart b a
 StripsApart-sym a b h e f = elim (h (sym e) (sym f)) [ inl k ↦ inr k | inr k ↦ inl k ]
 
 -- of two strips of a list that is sorted the first stands before the second
-before_from_order : (S : Square → Type 0) (a b : Strip) → IsStrip S (area_of a) → IsStrip S (area_of b) → StripsApart a b → is_lt (strip_cmp b a) ≡ false → StandsBefore (area_of a) (area_of b)
-before_from_order S a b p q apart h = elim (not_less a b h) [
-  | inl less ↦ inl less
-  | inr k ↦ inr (
-    k.0,
-    by_lt_z a.xlo b.xlo (λ less. less) (λ not_less.
-        let left : a.xlo ≤ℤ b.xlo = k.1 in
-        let same_left : a.xlo ≡ b.xlo = equal_from_both a.xlo b.xlo left not_less in
-        let same_row : a.ylo ≡ b.ylo = k.0 in
-        let high : a.ylo <ℤ a.yhi = p.high in
-        let high' : b.ylo <ℤ b.yhi = q.high in
-        let row : b.ylo ≤ℤ a.ylo = omega (arith, ints) in
-        let run = p.runs a.ylo (omega (arith, ints)) high in
-        let run' = q.runs a.ylo row (omega (arith, ints)) in
-        let long : a.xlo <ℤ a.xhi = run.long in
-        let long' : b.xlo <ℤ b.xhi = run'.long in
-        let right = same_right S a.xlo a.xhi b.xlo b.xhi a.ylo a.xlo run run' (omega (arith, ints)) long (omega (arith, ints)) (omega (arith, ints)) in
-        elim (apart same_left right) [ inl g ↦ absurd (omega (arith, ints, g)) | inr g ↦ absurd (omega (arith, ints, g)) ]),
-  )
-]
+before_from_order : (S : Square → Type 0) (a b : Strip) → IsStrip S (rect_of a) → IsStrip S (rect_of b) → StripsApart a b
+    → is_lt (strip_cmp b a) ≡ false → StandsBefore (rect_of a) (rect_of b)
+before_from_order S a b p q apart h = elim (ordering_then-not_less a.ylo b.ylo (ordering_then (int_cmp b.xlo a.xlo)
+    (ordering_then (int_cmp b.xhi a.xhi) (int_cmp b.yhi a.yhi))) h) [
+      | inl less ↦ inl less
+      | inr k ↦ inr (
+        k.0,
+        by_lt_z a.xlo b.xlo (λ less. less) (λ not_less.
+            let left : a.xlo ≤ℤ b.xlo = int_then-not_less a.xlo b.xlo (ordering_then (int_cmp b.xhi a.xhi) (int_cmp b.yhi a.yhi)) k.1 in
+            let same_left : a.xlo ≡ b.xlo = equal_from_both a.xlo b.xlo left not_less in
+            let same_row : a.ylo ≡ b.ylo = k.0 in
+            let high : a.ylo <ℤ a.yhi = p.high in
+            let high' : b.ylo <ℤ b.yhi = q.high in
+            let row : b.ylo ≤ℤ a.ylo = omega (arith, ints) in
+            let run = p.runs a.ylo (omega (arith, ints)) high in
+            let run' = q.runs a.ylo row (omega (arith, ints)) in
+            let long : a.xlo <ℤ a.xhi = run.long in
+            let long' : b.xlo <ℤ b.xhi = run'.long in
+            let right = same_right S a.xlo a.xhi b.xlo b.xhi a.ylo a.xlo run run' (omega (arith, ints)) long (omega (arith, ints)) (omega (arith, ints)) in
+            elim (apart same_left right) [ inl g ↦ absurd (omega (arith, ints, g)) | inr g ↦ absurd (omega (arith, ints, g)) ]),
+      )
+    ]
 
 module _ (S : Square → Type 0) (columns : List Bar) (are : AreColumns S columns) (strips : List Strip)
     (moved : IsPermutation (map strip_of columns) strips) (sorted : IsSorted strip_cmp strips) where
   -- each of the rectangles is that of a column
-  from_column : (area : Rect) → In area (map area_of strips) → In area (map area_of_column columns)
+  from_column : (area : Rect) → In area (map rect_of strips) → In area (map rect_of_column columns)
   from_column area i =
-      let s = In-map_source area_of area strips i in
-      let t = In-map_source strip_of s.0 columns (In-permutation s.0 strips (map strip_of columns) (IsPermutation-sym (map strip_of columns) strips moved) s.1.0) in
-      subst (λ r. In r (map area_of_column columns)) (ap area_of t.1.1 ∙ s.1.1) (In-map area_of_column t.0 columns t.1.0)
+      let s = In-map_source rect_of area strips i in
+      let t = In-map_source strip_of s.0 columns (In-permutation s.0 strips (map strip_of columns)
+      (IsPermutation-sym (map strip_of columns) strips moved) s.1.0) in
+      subst (λ r. In r (map rect_of_column columns)) (ap rect_of t.1.1 ∙ s.1.1) (In-map rect_of_column t.0 columns t.1.0)
 
-  to_strip : (area : Rect) → In area (map area_of_column columns) → In area (map area_of strips)
+  to_strip : (area : Rect) → In area (map rect_of_column columns) → In area (map rect_of strips)
   to_strip area i =
-      let s = In-map_source area_of_column area columns i in
-      subst (λ r. In r (map area_of strips)) s.1.1 (In-map area_of (strip_of s.0) strips (In-permutation (strip_of s.0) (map strip_of columns) strips moved (In-map strip_of s.0 columns s.1.0)))
+      let s = In-map_source rect_of_column area columns i in
+      subst (λ r. In r (map rect_of strips)) s.1.1 (In-map rect_of (strip_of s.0) strips
+      (In-permutation (strip_of s.0) (map strip_of columns) strips moved (In-map strip_of s.0 columns s.1.0)))
 
-  is_strip : (area : Rect) → In area (map area_of strips) → IsStrip S area
+  is_strip : (area : Rect) → In area (map rect_of strips) → IsStrip S area
   is_strip area i =
-      let s = In-map_source area_of_column area columns (from_column area i) in
+      let s = In-map_source rect_of_column area columns (from_column area i) in
       subst (IsStrip S) s.1.1 (column_is_strip S columns are s.0 s.1.0)
 
-  in_order : AllPairs StandsBefore (map area_of strips)
+  in_order : AllPairs StandsBefore (map rect_of strips)
   in_order = λ i j d less below.
       let e : Strip = record { ylo = d.ylo; xlo = d.xlo; xhi = d.xhi; yhi = d.yhi } in
-      let long : length (map area_of strips) ≡ length strips = length-map strips area_of in
+      let long : length (map rect_of strips) ≡ length strips = length-map strips rect_of in
       let last : j < length strips = omega (arith, long, below) in
       let first : i < length strips = omega arith in
-      let apart = all_pairs_permutation StripsApart StripsApart-sym (map strip_of columns) strips moved
+      let apart = AllPairs-permutation StripsApart StripsApart-sym (map strip_of columns) strips moved
       (AllPairs-from_Pairwise StripsApart (map strip_of columns) (Pairwise-map strip_of StripsApart columns are.apart)) i j e less last in
       let a = get_or strips i e in
       let b = get_or strips j e in
       let found = before_from_order S a b
-      (is_strip (area_of a) (In-map area_of a strips (In-get_or strips i e first)))
-      (is_strip (area_of b) (In-map area_of b strips (In-get_or strips j e last)))
-      apart (sorted_far (λ a b. is_lt (strip_cmp a b)) (ranks_by strip_cmp_total (λ s. s)) strips sorted i j e (omega arith) last) in
-      subst (λ (r : Rect). StandsBefore r (get_or (map area_of strips) j d)) (sym (get_or-map area_of strips i e))
-      (subst (λ (r : Rect). StandsBefore (area_of a) r) (sym (get_or-map area_of strips j e)) found)
+      (is_strip (rect_of a) (In-map rect_of a strips (In-get_or strips i e first)))
+      (is_strip (rect_of b) (In-map rect_of b strips (In-get_or strips j e last)))
+      apart (IsSorted-pairs strip_cmp strip_cmp_total strips sorted i j e less last) in
+      subst (λ (r : Rect). StandsBefore r (get_or (map rect_of strips) j d)) (sym (get_or-map rect_of strips i e))
+      (subst (λ (r : Rect). StandsBefore (rect_of a) r) (sym (get_or-map rect_of strips j e)) found)
 
-  in_some_strip : (square : Square) → S square → IsInUnion (map area_of strips) square
+  in_some_strip : (square : Square) → S square → IsInUnion (map rect_of strips) square
   in_some_strip square s =
       let found = are.complete square.x square.y s in
-      let area = area_of_column found.bar in
-      (area, (to_strip area (In-map area_of_column found.bar columns found.in_list), record { right_of_xlo = found.left; left_of_xhi = found.right; above_ylo = found.from; below_yhi = found.to }))
+      let area = rect_of_column found.bar in (
+        area,
+        (
+          to_strip area (In-map rect_of_column found.bar columns found.in_list),
+          record { right_of_xlo = found.left; left_of_xhi = found.right; above_ylo = found.from; below_yhi = found.to },
+        ),
+      )
 
-  pub sorted_columns : IsStrips S (map area_of strips)
+  pub sorted_columns : IsStrips S (map rect_of strips)
   sorted_columns = record {
     each = is_strip;
     every = λ area strip. to_strip area (strip_is_column S columns are area strip);
@@ -123,27 +118,26 @@ module _ (S : Square → Type 0) (columns : List Bar) (are : AreColumns S column
 -- from bars that are runs of a set to its strips
 pub strips_found : (S : Square → Type 0) (bars upright columns : List Bar) (strips ordered : List Strip) (areas : List Rect)
     → AreRunBars S bars → IsPermutation bars upright → IsSorted bar_cmp upright → columns ≡ joined upright
-    → strips ≡ map strip_of columns → IsPermutation strips ordered → IsSorted strip_cmp ordered → areas ≡ map area_of ordered
+    → strips ≡ map strip_of columns → IsPermutation strips ordered → IsSorted strip_cmp ordered → areas ≡ map rect_of ordered
     → IsStrips S areas
 strips_found S bars upright columns strips ordered areas are upright_moved upright_sorted e-columns e-strips ordered_moved ordered_sorted e-areas =
     let there : (bar : Bar) → In bar upright → In bar bars = λ bar i. In-permutation bar upright bars (IsPermutation-sym bars upright upright_moved) i in
     let back : (bar : Bar) → In bar bars → In bar upright = λ bar i. In-permutation bar bars upright upright_moved i in
-    let join : AreJoined upright columns = subst (AreJoined upright) (sym e-columns) (joined-are upright (bars_in_order upright upright_sorted) (λ bar i. are.long bar (there bar i))) in
+    let join : AreJoined upright columns = subst (AreJoined upright) (sym e-columns)
+    (joined-are upright (bars_in_order upright upright_sorted) (λ bar i. are.long bar (there bar i))) in
     let made = columns_from_bars S bars upright columns are there back join in
     subst (IsStrips S) (sym e-areas) (sorted_columns S columns made ordered (subst (λ v. IsPermutation v ordered) e-strips ordered_moved) ordered_sorted)
 
-StandsBefore-irreflexive : (a : Rect) → StandsBefore a a → ⊥
-StandsBefore-irreflexive a (inl h) = omega (arith, ints, h)
-StandsBefore-irreflexive a (inr h) = omega (arith, ints, h.1)
+-- no rectangle stands before itself
+pub StandsBefore-irreflexive : (a : Rect) → StandsBefore a a → ⊥
+StandsBefore-irreflexive a = Lexicographic-irreflexive a.ylo (less-irreflexive a.xlo)
 
 StandsBefore-asymmetric : (a b : Rect) → StandsBefore a b → StandsBefore b a → ⊥
-StandsBefore-asymmetric a b (inl p) (inl q) = omega (arith, ints, p, q)
-StandsBefore-asymmetric a b (inl p) (inr q) = omega (arith, ints, p, q.0)
-StandsBefore-asymmetric a b (inr p) (inl q) = omega (arith, ints, p.0, q)
-StandsBefore-asymmetric a b (inr p) (inr q) = omega (arith, ints, p.1, q.1)
+StandsBefore-asymmetric a b p q = StandsBefore-irreflexive a (Lexicographic-trans a.ylo b.ylo a.ylo (less-trans a.xlo b.xlo a.xlo) p q)
 
 -- lists in order with the same things are the same
-same_ordered : (xs ys : List Rect) → Pairwise StandsBefore xs → Pairwise StandsBefore ys → ((a : Rect) → In a xs → In a ys) → ((a : Rect) → In a ys → In a xs) → xs ≡ ys
+same_ordered : (xs ys : List Rect) → Pairwise StandsBefore xs → Pairwise StandsBefore ys → ((a : Rect) → In a xs → In a ys)
+    → ((a : Rect) → In a ys → In a xs) → xs ≡ ys
 same_ordered [] [] p q there back = refl
 same_ordered [] (y ∷ ys) p q there back = absurd (back y (inl refl))
 same_ordered (x ∷ xs) [] p q there back = absurd (there x (inl refl))
@@ -165,5 +159,5 @@ same_ordered (x ∷ xs) (y ∷ ys) p q there back =
 -- a set has one list of strips
 pub one_list : (S : Square → Type 0) → StripsAreUnique S
 one_list S areas others p q =
-    same_ordered areas others (Pairwise-from_places StandsBefore areas p.ordered) (Pairwise-from_places StandsBefore others q.ordered)
+    same_ordered areas others (Pairwise-from_AllPairs StandsBefore areas p.ordered) (Pairwise-from_AllPairs StandsBefore others q.ordered)
     (λ a i. q.every a (p.each a i)) (λ a i. p.every a (q.each a i))

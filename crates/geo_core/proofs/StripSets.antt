@@ -1,16 +1,13 @@
 -- Strips of sets: of two sets with the same squares, of a set within a band of rows, and that each run lies in a strip.
-use Rattle.std.proofs.Common.{◌≡◌, ◌⊎◌, inl, inr, ℕ, zero, suc, ℤ, pos, negsuc, ◌+ℤ◌, ◌-ℤ◌, ◌≤ℤ◌, ◌<ℤ◌, List, refl, sym, ◌∙◌, ap, subst, arith}
+use Rattle.std.proofs.Common.{◌≡◌, ◌⊎◌, inl, inr, ℕ, zero, suc, ℤ, pos, negsuc, ◌+ℤ◌, ◌-ℤ◌, ◌≤ℤ◌, ◌<ℤ◌, List, refl, sym, subst, arith}
 use Rattle.std.specs.Int.{int_min, int_max}
 use Rattle.std.proofs.lemmas.Int.{ints, clamps}
-use Rattle.finite_sets.specs.Lists.{In}
+use Rattle.finite_sets.proofs.Orders.{at_most_or_greater, equal_from_both}
 use Rattle.geo_core.specs.declared.squares.Square.{Square}
 use Rattle.geo_core.specs.declared.squares.Rect.{Rect}
-use Rattle.geo_core.specs.Areas.{common_area}
-use Rattle.geo_core.specs.Covering.{Covers, IsProper}
+use Rattle.geo_core.specs.Covering.{Covers}
 use Rattle.geo_core.specs.Strips.{IsRun, IsStrip, IsStrips}
-
-le_or_less : (m n : ℤ) → (m ≤ℤ n) ⊎ (n <ℤ m)
-le_or_less m n = grind (arith, ints)
+use Rattle.geo_core.proofs.SquareLaws.{rect_is}
 
 -- a run of a set is a run of a set with the same squares
 pub run_same : (S T : Square → Type 0) → ((s : Square) → S s → T s) → ((s : Square) → T s → S s) → (xlo xhi y : ℤ) → IsRun S xlo xhi y → IsRun T xlo xhi y
@@ -21,6 +18,7 @@ run_same S T to back xlo xhi y run = record {
   right = λ t. run.right (back (record { x = xhi; y = y }) t);
 }
 
+-- a strip of a set is a strip of a set with the same squares
 pub strip_same : (S T : Square → Type 0) → ((s : Square) → S s → T s) → ((s : Square) → T s → S s) → (area : Rect) → IsStrip S area → IsStrip T area
 strip_same S T to back area strip = record {
   high = strip.high;
@@ -39,42 +37,41 @@ strips_same S T to back areas strips = record {
 }
 
 -- of two strips on the same columns that share a row neither begins below the other
-begins_together : (S : Square → Type 0) (a b : Rect) → IsStrip S a → IsStrip S b → a.xlo ≡ b.xlo → a.xhi ≡ b.xhi → (y : ℤ) → a.ylo ≤ℤ y → y <ℤ a.yhi → b.ylo ≤ℤ y → y <ℤ b.yhi → b.ylo ≤ℤ a.ylo
-begins_together S a b p q left right y a_low a_high b_low b_high = elim (le_or_less b.ylo a.ylo) [
+begins_together : (S : Square → Type 0) (a b : Rect) → IsStrip S a → IsStrip S b → a.xlo ≡ b.xlo → a.xhi ≡ b.xhi → (y : ℤ) → a.ylo ≤ℤ y → y <ℤ a.yhi
+    → b.ylo ≤ℤ y → y <ℤ b.yhi → b.ylo ≤ℤ a.ylo
+begins_together S a b p q left right y a_low a_high b_low b_high = elim (at_most_or_greater b.ylo a.ylo) [
   | inl h ↦ h
-  | inr less ↦ absurd (q.below (subst (λ (x : ℤ). IsRun S b.xlo x (b.ylo -ℤ pos 1)) right (subst (λ (x : ℤ). IsRun S x a.xhi (b.ylo -ℤ pos 1)) left (p.runs (b.ylo -ℤ pos 1) (omega (arith, ints, less)) (omega (arith, ints))))))
+  | inr less ↦ absurd (q.below (subst (λ (x : ℤ). IsRun S b.xlo x (b.ylo -ℤ pos 1)) right
+      (subst (λ (x : ℤ). IsRun S x a.xhi (b.ylo -ℤ pos 1)) left (p.runs (b.ylo -ℤ pos 1) (omega (arith, ints, less)) (omega (arith, ints))))))
 ]
 
-ends_together : (S : Square → Type 0) (a b : Rect) → IsStrip S a → IsStrip S b → a.xlo ≡ b.xlo → a.xhi ≡ b.xhi → (y : ℤ) → a.ylo ≤ℤ y → y <ℤ a.yhi → b.ylo ≤ℤ y → y <ℤ b.yhi → a.yhi ≤ℤ b.yhi
-ends_together S a b p q left right y a_low a_high b_low b_high = elim (le_or_less a.yhi b.yhi) [
+ends_together : (S : Square → Type 0) (a b : Rect) → IsStrip S a → IsStrip S b → a.xlo ≡ b.xlo → a.xhi ≡ b.xhi → (y : ℤ) → a.ylo ≤ℤ y → y <ℤ a.yhi
+    → b.ylo ≤ℤ y → y <ℤ b.yhi → a.yhi ≤ℤ b.yhi
+ends_together S a b p q left right y a_low a_high b_low b_high = elim (at_most_or_greater a.yhi b.yhi) [
   | inl h ↦ h
-  | inr less ↦ absurd (q.above (subst (λ (x : ℤ). IsRun S b.xlo x b.yhi) right (subst (λ (x : ℤ). IsRun S x a.xhi b.yhi) left (p.runs b.yhi (omega (arith, ints)) less))))
+  | inr less ↦ absurd (q.above (subst (λ (x : ℤ). IsRun S b.xlo x b.yhi) right (subst (λ (x : ℤ). IsRun S x a.xhi b.yhi) left
+      (p.runs b.yhi (omega (arith, ints)) less))))
 ]
-
-equal_from_le : (a b : ℤ) → a ≤ℤ b → b ≤ℤ a → a ≡ b
-equal_from_le a b p q = omega (arith, ints)
-
--- equal bounds make equal rectangles
-pub rect_is : (a b : Rect) → a.xlo ≡ b.xlo → a.ylo ≡ b.ylo → a.xhi ≡ b.xhi → a.yhi ≡ b.yhi → a ≡ b
-rect_is a b e f g h =
-    let whole : record { xlo = a.xlo; ylo = a.ylo; xhi = a.xhi; yhi = a.yhi } ≡ b = rw (e, f, g, h) refl in whole
 
 -- strips on the same columns that share a row are one
-pub one_strip : (S : Square → Type 0) (a b : Rect) → IsStrip S a → IsStrip S b → a.xlo ≡ b.xlo → a.xhi ≡ b.xhi → (y : ℤ) → a.ylo ≤ℤ y → y <ℤ a.yhi → b.ylo ≤ℤ y → y <ℤ b.yhi → a ≡ b
+pub one_strip : (S : Square → Type 0) (a b : Rect) → IsStrip S a → IsStrip S b → a.xlo ≡ b.xlo → a.xhi ≡ b.xhi → (y : ℤ) → a.ylo ≤ℤ y → y <ℤ a.yhi
+    → b.ylo ≤ℤ y → y <ℤ b.yhi → a ≡ b
 one_strip S a b p q left right y a_low a_high b_low b_high = rect_is a b left
-    (equal_from_le a.ylo b.ylo (begins_together S b a q p (sym left) (sym right) y b_low b_high a_low a_high) (begins_together S a b p q left right y a_low a_high b_low b_high))
+    (equal_from_both a.ylo b.ylo (begins_together S b a q p (sym left) (sym right) y b_low b_high a_low a_high)
+    (begins_together S a b p q left right y a_low a_high b_low b_high))
     right
-    (equal_from_le a.yhi b.yhi (ends_together S a b p q left right y a_low a_high b_low b_high) (ends_together S b a q p (sym left) (sym right) y b_low b_high a_low a_high))
+    (equal_from_both a.yhi b.yhi (ends_together S a b p q left right y a_low a_high b_low b_high)
+    (ends_together S b a q p (sym left) (sym right) y b_low b_high a_low a_high))
 
 -- two runs of a row that share a square begin together
 runs_begin : (S : Square → Type 0) (a b c d x y : ℤ) → IsRun S a b y → IsRun S c d y → a ≤ℤ x → x <ℤ b → c ≤ℤ x → x <ℤ d → c ≤ℤ a
-runs_begin S a b c d x y p q p1 p2 q1 q2 = elim (le_or_less c a) [
+runs_begin S a b c d x y p q p1 p2 q1 q2 = elim (at_most_or_greater c a) [
   | inl h ↦ h
   | inr less ↦ absurd (q.left (p.within (c -ℤ pos 1) (omega (arith, ints, less)) (omega (arith, ints))))
 ]
 
 runs_end : (S : Square → Type 0) (a b c d x y : ℤ) → IsRun S a b y → IsRun S c d y → a ≤ℤ x → x <ℤ b → c ≤ℤ x → x <ℤ d → b ≤ℤ d
-runs_end S a b c d x y p q p1 p2 q1 q2 = elim (le_or_less b d) [
+runs_end S a b c d x y p q p1 p2 q1 q2 = elim (at_most_or_greater b d) [
   | inl h ↦ h
   | inr less ↦ absurd (q.right (p.within d (omega (arith, ints)) less))
 ]
@@ -84,10 +81,10 @@ pub one_strip_at : (S : Square → Type 0) (a b : Rect) → IsStrip S a → IsSt
 one_strip_at S a b p q square c d =
     let run = p.runs square.y c.above_ylo c.below_yhi in
     let run' = q.runs square.y d.above_ylo d.below_yhi in
-    let begins : a.xlo ≡ b.xlo = equal_from_le a.xlo b.xlo
+    let begins : a.xlo ≡ b.xlo = equal_from_both a.xlo b.xlo
     (runs_begin S b.xlo b.xhi a.xlo a.xhi square.x square.y run' run d.right_of_xlo d.left_of_xhi c.right_of_xlo c.left_of_xhi)
     (runs_begin S a.xlo a.xhi b.xlo b.xhi square.x square.y run run' c.right_of_xlo c.left_of_xhi d.right_of_xlo d.left_of_xhi) in
-    let ends : a.xhi ≡ b.xhi = equal_from_le a.xhi b.xhi
+    let ends : a.xhi ≡ b.xhi = equal_from_both a.xhi b.xhi
     (runs_end S a.xlo a.xhi b.xlo b.xhi square.x square.y run run' c.right_of_xlo c.left_of_xhi d.right_of_xlo d.left_of_xhi)
     (runs_end S b.xlo b.xhi a.xlo a.xhi square.x square.y run' run d.right_of_xlo d.left_of_xhi c.right_of_xlo c.left_of_xhi) in
     one_strip S a b p q begins ends square.y c.above_ylo c.below_yhi d.above_ylo d.below_yhi
@@ -105,13 +102,14 @@ distance low high p = go (high -ℤ low) refl
     go (negsuc n) e = absurd (omega (arith, ints))
 
 module _ (S : Square → Type 0) (decide : (s : Square) → S s ⊎ (S s → ⊥)) where
-  all_or_not : (y low high : ℤ) (n : ℕ) → high ≡ low +ℤ pos n → ((x : ℤ) → low ≤ℤ x → x <ℤ high → S (record { x = x; y = y })) ⊎ (((x : ℤ) → low ≤ℤ x → x <ℤ high → S (record { x = x; y = y })) → ⊥)
+  all_or_not : (y low high : ℤ) (n : ℕ) → high ≡ low +ℤ pos n
+      → ((x : ℤ) → low ≤ℤ x → x <ℤ high → S (record { x = x; y = y })) ⊎ (((x : ℤ) → low ≤ℤ x → x <ℤ high → S (record { x = x; y = y })) → ⊥)
   all_or_not y low high zero e = inl (λ x p q. absurd (omega (arith, ints)))
   all_or_not y low high (suc n) e = elim (decide (record { x = low; y = y })) [
     | inr fails ↦ inr (λ all. fails (all low (omega (arith, ints)) (omega (arith, ints))))
     | inl holds ↦ elim (all_or_not y (low +ℤ pos 1) high n (omega (arith, ints))) [
       | inr fails ↦ inr (λ all. fails (λ x p q. all x (omega (arith, ints)) q))
-      | inl rest ↦ inl (λ x p q. elim (le_or_less (low +ℤ pos 1) x) [
+      | inl rest ↦ inl (λ x p q. elim (at_most_or_greater (low +ℤ pos 1) x) [
         | inl later ↦ rest x later q
         | inr less ↦ (let same : low ≡ x = omega (arith, ints, less) in subst (λ (z : ℤ). S (record { x = z; y = y })) same holds)
       ])
@@ -119,7 +117,7 @@ module _ (S : Square → Type 0) (decide : (s : Square) → S s ⊎ (S s → ⊥
   ]
 
   run_or_not : (xlo xhi y : ℤ) → IsRun S xlo xhi y ⊎ (IsRun S xlo xhi y → ⊥)
-  run_or_not xlo xhi y = elim (le_or_less xhi xlo) [
+  run_or_not xlo xhi y = elim (at_most_or_greater xhi xlo) [
     | inl short ↦ inr (λ run. let long : xlo <ℤ xhi = run.long in omega (arith, ints, short))
     | inr long ↦ (let d = distance xlo xhi (omega (arith, ints, long)) in
         elim (all_or_not y xlo xhi d.0 d.1) [
@@ -151,10 +149,16 @@ module _ (S : Square → Type 0) (decide : (s : Square) → S s ⊎ (S s → ⊥
       end : IsRun S xlo xhi last → ⊥
 
     here : (y z : ℤ) → y ≤ℤ z → z ≤ℤ y → IsRun S xlo xhi y → IsRun S xlo xhi z
-    here y z p q run = subst (IsRun S xlo xhi) (equal_from_le y z p q) run
+    here y z p q run = subst (IsRun S xlo xhi) (equal_from_both y z p q) run
 
     down : (n : ℕ) (bottom y : ℤ) → y ≡ bottom +ℤ pos n → ((z : ℤ) → z <ℤ bottom → IsRun S xlo xhi z → ⊥) → IsRun S xlo xhi y → Below y
-    down zero bottom y e none run = record { first = y; no_higher = omega (arith, ints); runs = λ z p q. here y z p q run; end = none (y -ℤ pos 1) (omega (arith, ints)) }
+    down zero bottom y e none run = record {
+      first = y;
+      no_higher = omega (arith, ints);
+      runs = λ z p q. here y z p q run;
+      end = none (y -ℤ pos 1)
+          (omega (arith, ints));
+    }
     down (suc n) bottom y e none run = elim (run_or_not xlo xhi (y -ℤ pos 1)) [
       | inr fails ↦ record { first = y; no_higher = omega (arith, ints); runs = λ z p q. here y z p q run; end = fails }
       | inl more ↦ (let rest = down n bottom (y -ℤ pos 1) (omega (arith, ints)) none more in
@@ -162,7 +166,7 @@ module _ (S : Square → Type 0) (decide : (s : Square) → S s ⊎ (S s → ⊥
           record {
             first = rest.first;
             no_higher = omega (arith, ints);
-            runs = λ z p q. elim (le_or_less y z) [ inl at ↦ here y z at q run | inr less ↦ rest.runs z p (omega (arith, ints, less)) ];
+            runs = λ z p q. elim (at_most_or_greater y z) [ inl at ↦ here y z at q run | inr less ↦ rest.runs z p (omega (arith, ints, less)) ];
             end = rest.end;
           })
     ]
@@ -176,7 +180,7 @@ module _ (S : Square → Type 0) (decide : (s : Square) → S s ⊎ (S s → ⊥
           record {
             last = rest.last;
             higher = omega (arith, ints);
-            runs = λ z p q. elim (le_or_less z y) [ inl at ↦ here y z p at run | inr more' ↦ rest.runs z (omega (arith, ints, more')) q ];
+            runs = λ z p q. elim (at_most_or_greater z y) [ inl at ↦ here y z p at run | inr more' ↦ rest.runs z (omega (arith, ints, more')) q ];
             end = rest.end;
           })
     ]
@@ -191,20 +195,24 @@ module _ (S : Square → Type 0) (decide : (s : Square) → S s ⊎ (S s → ⊥
     pub high : y <ℤ area.yhi
 
   -- each run of a set that lies between two heights is part of a strip
-  pub strip_of_run : (bottom top xlo xhi y : ℤ) → bottom ≤ℤ y → y <ℤ top → ((s : Square) → S s → (bottom ≤ℤ s.y) × (s.y <ℤ top)) → IsRun S xlo xhi y → StripThrough xlo xhi y
+  pub strip_of_run : (bottom top xlo xhi y : ℤ) → bottom ≤ℤ y → y <ℤ top → ((s : Square) → S s → (bottom ≤ℤ s.y) × (s.y <ℤ top)) → IsRun S xlo xhi y
+      → StripThrough xlo xhi y
   strip_of_run bottom top xlo xhi y p q bounded run =
-      let first_square : (z : ℤ) → IsRun S xlo xhi z → S (record { x = xlo; y = z }) = λ z r. let long : xlo <ℤ xhi = r.long in r.within xlo (omega (arith, ints)) long in
+      let first_square : (z : ℤ) → IsRun S xlo xhi z → S (record { x = xlo; y = z }) = λ z r. let long : xlo <ℤ xhi = r.long in r.within xlo
+      (omega (arith, ints)) long in
       let lower = distance bottom y p in
       let upper = distance y top (omega (arith, ints)) in
-      let b = down xlo xhi lower.0 bottom y lower.1 (λ z less r. let at : bottom ≤ℤ z = (bounded (record { x = xlo; y = z }) (first_square z r)).0 in omega (arith, ints)) run in
-      let a = up xlo xhi upper.0 top y upper.1 (λ z more r. let at : z <ℤ top = (bounded (record { x = xlo; y = z }) (first_square z r)).1 in omega (arith, ints)) run in
+      let b = down xlo xhi lower.0 bottom y lower.1 (λ z less r. let at : bottom ≤ℤ z = (bounded (record { x = xlo; y = z }) (first_square z r)).0 in
+      omega (arith, ints)) run in
+      let a = up xlo xhi upper.0 top y upper.1 (λ z more r. let at : z <ℤ top = (bounded (record { x = xlo; y = z }) (first_square z r)).1 in
+      omega (arith, ints)) run in
       let low : b.first ≤ℤ y = b.no_higher in
       let high : y <ℤ a.last = a.higher in
       record {
         area = record { xlo = xlo; ylo = b.first; xhi = xhi; yhi = a.last };
         is_strip = record {
           high = omega (arith, ints);
-          runs = λ z r s. elim (le_or_less z y) [ inl under ↦ b.runs z r under | inr over ↦ a.runs z (omega (arith, ints, over)) s ];
+          runs = λ z r s. elim (at_most_or_greater z y) [ inl under ↦ b.runs z r under | inr over ↦ a.runs z (omega (arith, ints, over)) s ];
           below = b.end;
           above = a.end;
         };
@@ -238,7 +246,8 @@ module _ (S : Square → Type 0) (low high : ℤ) where
   pub strip_clipped : (area : Rect) → IsStrip S area → int_max area.ylo low <ℤ int_min area.yhi high → IsStrip (InBand S low high) (clipped low high area)
   strip_clipped area strip tall = record {
     high = tall;
-    runs = λ y p q. run_to_band area.xlo area.xhi y (omega (arith, ints, clamps)) (omega (arith, ints, clamps)) (strip.runs y (omega (arith, ints, clamps)) (omega (arith, ints, clamps)));
+    runs = λ y p q. run_to_band area.xlo area.xhi y (omega (arith, ints, clamps)) (omega (arith, ints, clamps))
+        (strip.runs y (omega (arith, ints, clamps)) (omega (arith, ints, clamps)));
     below = λ run. let at = (run_in_band area.xlo area.xhi (int_max area.ylo low -ℤ pos 1) run).0 in
         let same : int_max area.ylo low -ℤ pos 1 ≡ area.ylo -ℤ pos 1 = omega (arith, ints, clamps) in
         strip.below (subst (IsRun S area.xlo area.xhi) same (run_from_band area.xlo area.xhi (int_max area.ylo low -ℤ pos 1) run));

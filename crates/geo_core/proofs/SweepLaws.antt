@@ -1,6 +1,7 @@
 -- The sweep keeps track of what rectangles cover, row by row.
-use Rattle.std.proofs.Common.{◌≡◌, ◌⊎◌, inl, inr, ℕ, zero, suc, ◌+◌, ◌<◌, ℤ, pos, ◌-ℤ◌, ◌≤ℤ◌, ◌<ℤ◌, true, false, cond, List, [], ◌∷◌, ◌++◌, length, length-drop, take, drop, drop-cons, add-one, get_or, Some, None, refl, sym, ◌∙◌, ap, subst, arith}
-use Rattle.std.specs.Prelude.{◌&&◌, int_le, int_lt}
+use Rattle.std.proofs.Common.{◌≡◌, ◌⊎◌, inl, inr, ℕ, zero, suc, ◌+◌, ◌<◌, ℤ, pos, ◌-ℤ◌, ◌≤ℤ◌, ◌<ℤ◌, true, false, cond, List, [], ◌∷◌, ◌++◌}
+use Rattle.std.proofs.Common.{length, length-drop, take, drop, drop-cons, add-one, get_or, Some, None, refl, sym, ◌∙◌, ap, subst, arith}
+use Rattle.std.specs.Prelude.{◌&&◌, ◌^◌, neg_ℤ, int_le, int_lt}
 use Rattle.std.specs.Int.{int_max}
 use Rattle.std.proofs.lemmas.Bool.{cases_Bool, false≢true}
 use Rattle.std.proofs.lemmas.Int.{ints, clamps, by_lt_z}
@@ -19,8 +20,12 @@ use Rattle.geo_core.specs.RowEvents.{begin_of, HaveEnd, AreEvents, sides_of}
 use Rattle.geo_core.specs.RowRuns.{Row, IsInRow, AreRuns, bar_of, IsWritten, Changes, IsCovered, IsUncovered}
 use Rattle.geo_core.specs.Strips.{IsRun, IsInUnion}
 use Rattle.geo_core.specs.declared.sweeping.Sweep.{Sweep}
-use Rattle.geo_core.specs.Sweeping.{row_of, IsBegun, IsEnded, HaveSquare, AreRunBars}
+use Rattle.geo_core.specs.Sweeping.{row_of, RectBegins, RectsEnd, HaveSquare, AreRunBars}
 use Rattle.geo_core.proofs.RowLaws.{changes_both, same_run}
+
+-- below all rows: the least signed number of 64 bits
+abbrev pub lowest : ℤ
+lowest = neg_ℤ (pos (2 ^ 63))
 
 -- what the gaps so far took out of the runs
 pub record IsEnding (y : ℤ) (done : List Gap) (old new : Row) (before after : List Bar) : Type 0 where
@@ -30,6 +35,7 @@ pub record IsEnding (y : ℤ) (done : List Gap) (old new : Row) (before after : 
   pub none : (x : ℤ) → HaveColumn done x → IsInRow new x → ⊥
   pub kept : (x : ℤ) → IsInRow old x → IsInRow new x ⊎ HaveColumn done x
 
+-- one more gap is taken out
 pub ending_more : (y : ℤ) (done : List Gap) (gap : Gap) (old mid new : Row) (before between after : List Bar) → IsEnding y done old mid before between
     → IsUncovered gap.from gap.to y mid new between after → IsEnding y (done ++ gap ∷ []) old new before after
 ending_more y done gap old mid new before between after h u = record {
@@ -48,7 +54,7 @@ ending_more y done gap old mid new before between after h u = record {
 
 -- all gaps were taken out
 pub sweep_ended : (event : Event) (old new : Sweep) (gaps : List Gap) → AddsColumns (IsGap old.coverage event.from event.to event.row) [] gaps
-    → IsEnding event.row gaps (row_of old) (row_of new) old.found.items new.found.items → new.coverage ≡ old.coverage → IsEnded event old new
+    → IsEnding event.row gaps (row_of old) (row_of new) old.found.items new.found.items → new.coverage ≡ old.coverage → RectsEnd event old new
 sweep_ended event old new gaps adds e same = record {
   apart = e.apart;
   changes = e.changes;
@@ -58,6 +64,7 @@ sweep_ended event old new gaps adds e same = record {
   same = same;
 }
 
+-- the square in this column and row
 abbrev pub at : ℤ → ℤ → Square
 at x y = record { x = x; y = y }
 
@@ -77,12 +84,14 @@ module _ (S : Square → Type 0) where
     pub standing : (a : ℤ) (run : Run) → row a ≡ Some run → (y : ℤ) → run.since ≤ℤ y → y <ℤ h → IsRun S a run.to y
     pub long : (bar : Bar) → In bar found → bar.from <ℤ bar.to
     pub runs : (bar : Bar) → In bar found → (y : ℤ) → bar.from ≤ℤ y → y <ℤ bar.to → IsRun S bar.low bar.high y
-    pub whole : (x y : ℤ) → S (at x y) → y <ℤ h → HaveSquare found x y ⊎ ((a : ℤ) × ((run : Run) × ((row a ≡ Some run) × (a ≤ℤ x) × (x <ℤ run.to) × (run.since ≤ℤ y))))
+    pub whole : (x y : ℤ) → S (at x y) → y <ℤ h
+        → HaveSquare found x y ⊎ ((a : ℤ) × ((run : Run) × ((row a ≡ Some run) × (a ≤ℤ x) × (x <ℤ run.to) × (run.since ≤ℤ y))))
 
   written_long : (h : ℤ) (row : Row) (found : List Bar) (bar : Bar) → AreBooked h row found → IsWritten row h bar → bar.from <ℤ bar.to
   written_long h row found bar b w = subst (λ (v : Bar). v.from <ℤ v.to) w.is w.high
 
-  written_runs : (h : ℤ) (row : Row) (found : List Bar) (bar : Bar) → AreBooked h row found → IsWritten row h bar → (y : ℤ) → bar.from ≤ℤ y → y <ℤ bar.to → IsRun S bar.low bar.high y
+  written_runs : (h : ℤ) (row : Row) (found : List Bar) (bar : Bar) → AreBooked h row found → IsWritten row h bar → (y : ℤ) → bar.from ≤ℤ y
+      → y <ℤ bar.to → IsRun S bar.low bar.high y
   written_runs h row found bar b w = subst (λ (v : Bar). (y : ℤ) → v.from ≤ℤ y → y <ℤ v.to → IsRun S v.low v.high y) w.is (b.standing w.from w.run w.begins)
 
   booked_changed : (h : ℤ) (row row' : Row) (found found' : List Bar) → AreBooked h row found → Changes h row row' found found' → AreBooked h row' found'
@@ -107,7 +116,8 @@ module _ (S : Square → Type 0) where
     pub back : (x y : ℤ) → h ≤ℤ y → y <ℤ h' → S (at x y) → IsInRow row x
 
   -- a run of the row is a run of the set where the row is as the runs say
-  run_of_row : (row : Row) (a y : ℤ) (run : Run) → AreRuns row → ((x : ℤ) → IsInRow row x → S (at x y)) → ((x : ℤ) → S (at x y) → IsInRow row x) → row a ≡ Some run → IsRun S a run.to y
+  run_of_row : (row : Row) (a y : ℤ) (run : Run) → AreRuns row → ((x : ℤ) → IsInRow row x → S (at x y)) → ((x : ℤ) → S (at x y) → IsInRow row x)
+      → row a ≡ Some run → IsRun S a run.to y
   run_of_row row a y run runs there back begins = record {
     long = runs.long a run begins;
     within = λ x from to. there x (record { from = a; run = run; begins = begins; after = from; before = to });
@@ -133,7 +143,19 @@ module _ (S : Square → Type 0) where
     runs = b.runs;
     whole = λ x y s below. by_lt_z y h
         (λ less. b.whole x y s less)
-        (λ not_less. inr (let i = steady.back x y not_less below s in (i.from, (i.run, (i.begins, i.after, i.before, (let early = b.since i.from i.run i.begins in omega (arith, ints, early, not_less)))))));
+        (λ not_less. inr (let i = steady.back x y not_less below s in (
+          i.from,
+          (
+            i.run,
+            (
+              i.begins,
+              i.after,
+              i.before,
+              (let early = b.since i.from i.run
+                  i.begins in omega (arith, ints, early, not_less)),
+            ),
+          ),
+        )));
   }
 
 -- what is known of the sweep at the row h, between the events that are done and the rest
@@ -151,7 +173,8 @@ covers_proper : (area : Rect) (x y : ℤ) → Covers area (at x y) → IsProper 
 covers_proper area x y c = let left = c.right_of_xlo in let right = c.left_of_xhi in let low = c.above_ylo in let high = c.below_yhi in
     record { wide = omega (arith, ints, left, right); high = omega (arith, ints, low, high) }
 
-module _ (areas : List Rect) (events : List Event) (are : AreEvents areas events) (done rest : List Event) (lowest : ℤ) (row : Row) (until : ℤ → ℤ) (found : List Bar)
+module _ (areas : List Rect) (events : List Event) (are : AreEvents areas events) (done rest : List Event) (lowest : ℤ) (row : Row) (until : ℤ → ℤ)
+    (found : List Bar)
     (split : (e : Event) → In e events → In e done ⊎ In e rest) where
   -- a rectangle that covers a row before the next events has begun, and has not ended
   module _ (h h' : ℤ) (s : IsSweptTo areas h done rest lowest row until found) (later : (e : Event) → In e rest → h' ≤ℤ e.row) where
@@ -168,13 +191,26 @@ module _ (areas : List Rect) (events : List Event) (are : AreEvents areas events
         let is = e.at_row in let high = c.below_yhi in
         elim (split e.event e.in_list) [
           | inl k ↦ absurd (let early = s.past e.event k in omega (arith, ints, early, is, high))
-          | inr k ↦ ((let late = later e.event k in omega (arith, ints, late, is)), record { event = e.event; in_list = k; ends = e.ends; at_row = is; after = e.after; before = e.before })
+          | inr k ↦ (
+            (let late = later e.event k in omega (arith, ints, late, is)),
+            record { event = e.event; in_list = k; ends = e.ends; at_row = is; after = e.after; before = e.before },
+          )
         ]
 
     same_below : (x y : ℤ) → h ≤ℤ y → y <ℤ h' → IsInUnion areas (at x h) → IsInUnion areas (at x y)
     same_below x y from to u =
-        let c = u.1.1 in let late = (end_after u.0 x u.1.0 c).0 in let low = c.above_ylo in
-        (u.0, (u.1.0, record { right_of_xlo = c.right_of_xlo; left_of_xhi = c.left_of_xhi; above_ylo = omega (arith, ints, low, from); below_yhi = omega (arith, ints, late, to) }))
+        let c = u.1.1 in let late = (end_after u.0 x u.1.0 c).0 in let low = c.above_ylo in (
+          u.0,
+          (
+            u.1.0,
+            record {
+              right_of_xlo = c.right_of_xlo;
+              left_of_xhi = c.left_of_xhi;
+              above_ylo = omega (arith, ints, low, from);
+              below_yhi = omega (arith, ints, late, to);
+            },
+          ),
+        )
 
     same_above : (x y : ℤ) → h ≤ℤ y → y <ℤ h' → IsInUnion areas (at x y) → IsInUnion areas (at x h)
     same_above x y from to u =
@@ -183,10 +219,16 @@ module _ (areas : List Rect) (events : List Event) (are : AreEvents areas events
 
     -- with no event at the row the runs are those of the row
     in_union : h <ℤ h' → (x : ℤ) → IsInRow row x → IsInUnion areas (at x h)
-    in_union order x i = elim (s.surplus x i) [ inl u ↦ u | inr e ↦ absurd (let late = later e.event e.in_list in let is = e.at_row in omega (arith, ints, late, is, order)) ]
+    in_union order x i = elim (s.surplus x i) [
+      | inl u ↦ u
+      | inr e ↦ absurd (let late = later e.event e.in_list in let is = e.at_row in omega (arith, ints, late, is, order))
+    ]
 
     in_row : h <ℤ h' → (x : ℤ) → IsInUnion areas (at x h) → IsInRow row x
-    in_row order x u = elim (s.missing x u) [ inl i ↦ i | inr e ↦ absurd (let late = later e.event e.in_list in let is = e.at_row in omega (arith, ints, late, is, order)) ]
+    in_row order x u = elim (s.missing x u) [
+      | inl i ↦ i
+      | inr e ↦ absurd (let late = later e.event e.in_list in let is = e.at_row in omega (arith, ints, late, is, order))
+    ]
 
     steady : IsSteady (IsInUnion areas) h h' row
     steady = record {
@@ -205,12 +247,35 @@ module _ (areas : List Rect) (events : List Event) (are : AreEvents areas events
           let u = in_union order x i in let c = u.1.1 in let e = end_after u.0 x u.1.0 c in
           let late = e.0 in let low = c.above_ylo in
           by_lt_z h' u.0.yhi
-          (λ less. inl (u.0, (u.1.0, record { right_of_xlo = c.right_of_xlo; left_of_xhi = c.left_of_xhi; above_ylo = omega (arith, ints, low, order); below_yhi = less })))
+          (λ less. inl (
+            u.0,
+            (
+              u.1.0,
+              record {
+                right_of_xlo = c.right_of_xlo;
+                left_of_xhi = c.left_of_xhi;
+                above_ylo = omega (arith, ints, low, order);
+                below_yhi = less;
+              },
+            ),
+          ))
           (λ not_less. inr (subst (HaveEnd rest x) (let same : u.0.yhi ≡ h' = omega (arith, ints, not_less, late) in same) e.1));
       missing = λ x u.
           let c = u.1.1 in let low = c.above_ylo in let high = c.below_yhi in
           elim (split (begin_of u.0) (are.begun u.0 u.1.0 (covers_proper u.0 x h' c))) [
-            | inl k ↦ inl (in_row order x (u.0, (u.1.0, record { right_of_xlo = c.right_of_xlo; left_of_xhi = c.left_of_xhi; above_ylo = s.past (begin_of u.0) k; below_yhi = omega (arith, ints, high, order) })))
+            | inl k ↦ inl (in_row order x (
+              u.0,
+              (
+                u.1.0,
+                record {
+                  right_of_xlo = c.right_of_xlo;
+                  left_of_xhi = c.left_of_xhi;
+                  above_ylo = s.past
+                      (begin_of u.0) k;
+                  below_yhi = omega (arith, ints, high, order);
+                },
+              ),
+            ))
             | inr k ↦ inr (record {
               event = begin_of u.0;
               in_list = k;
@@ -225,13 +290,16 @@ module _ (areas : List Rect) (events : List Event) (are : AreEvents areas events
     }
 
 -- at the row h the next event is taken into account
-module _ (areas : List Rect) (events : List Event) (are : AreEvents areas events) (done : List Event) (e : Event) (rest : List Event) (lowest h : ℤ) (row row' : Row) (until : ℤ → ℤ)
-    (found found' : List Bar) (split : (f : Event) → In f events → In f done ⊎ In f (e ∷ rest)) (done_in : (f : Event) → In f done → In f events) (mine : In e events) (here : e.row ≡ h) (s : IsSweptTo areas h done (e ∷ rest) lowest row until found) where
+module _ (areas : List Rect) (events : List Event) (are : AreEvents areas events) (done : List Event) (e : Event) (rest : List Event) (lowest h : ℤ)
+    (row row' : Row) (until : ℤ → ℤ)
+    (found found' : List Bar) (split : (f : Event) → In f events → In f done ⊎ In f (e ∷ rest)) (done_in : (f : Event) → In f done → In f events)
+    (mine : In e events) (here : e.row ≡ h) (s : IsSweptTo areas h done (e ∷ rest) lowest row until found) where
   past_more : (f : Event) → In f (done ++ e ∷ []) → f.row ≤ℤ h
   past_more f i = elim (In-push_cases f done e i) [ inl k ↦ s.past f k | inr is ↦ subst (λ (v : Event). v.row ≤ℤ h) is (omega (arith, ints, here)) ]
 
   -- a rectangle begins
-  module _ (no_end : e.ends ≡ false) (until' : ℤ → ℤ) (c : IsCovered e.from e.to h row row' found found') (r : (x : ℤ) → until' x ≡ raised (Some e.from) (Some e.to) e.top x (until x)) where
+  module _ (no_end : e.ends ≡ false) (until' : ℤ → ℤ) (c : IsCovered e.from e.to h row row' found found')
+      (r : (x : ℤ) → until' x ≡ raised (Some e.from) (Some e.to) e.top x (until x)) where
     no_lower : (x : ℤ) → until x ≤ℤ until' x
     no_lower x = elim (cases_Bool (int_le e.from x && int_lt x e.to)) [
       | inl t ↦ (let is = r x ∙ ap (λ v. cond v (int_max (until x) e.top) (until x)) t in omega (arith, ints, clamps, is))
@@ -257,7 +325,8 @@ module _ (areas : List Rect) (events : List Event) (are : AreEvents areas events
       | inr f ↦ inr (f.0, (In-append_left f.0 done (e ∷ []) f.1.0, f.1.1, f.1.2, f.1.3, (let below = f.1.4 in omega (arith, ints, same, below))))
     ]
 
-    reach_more : (x : ℤ) → (until' x ≡ lowest) ⊎ ((f : Event) × ((In f (done ++ e ∷ [])) × (f.ends ≡ false) × (f.from ≤ℤ x) × (x <ℤ f.to) × (until' x ≤ℤ f.top)))
+    reach_more : (x : ℤ)
+        → (until' x ≡ lowest) ⊎ ((f : Event) × ((In f (done ++ e ∷ [])) × (f.ends ≡ false) × (f.from ≤ℤ x) × (x <ℤ f.to) × (until' x ≤ℤ f.top)))
     reach_more x = elim (cases_Bool (int_le e.from x && int_lt x e.to)) [
       | inl t ↦ (let is = r x ∙ ap (λ v. cond v (int_max (until x) e.top) (until x)) t in by_lt_z (until x) e.top
           (λ less. inr (e, (In-push done e, no_end, (let w = within x t in w.0), (let w = within x t in w.1), omega (arith, ints, clamps, is, less))))
@@ -315,7 +384,8 @@ module _ (areas : List Rect) (events : List Event) (are : AreEvents areas events
     }
 
   -- rectangles end
-  module _ (is_end : e.ends ≡ true) (low : lowest ≤ℤ h) (apart' : AreRuns row') (changes : Changes h row row' found found') (stayed : (x : ℤ) → IsInRow row' x → IsInRow row x)
+  module _ (is_end : e.ends ≡ true) (low : lowest ≤ℤ h) (apart' : AreRuns row') (changes : Changes h row row' found found')
+      (stayed : (x : ℤ) → IsInRow row' x → IsInRow row x)
       (none : (x : ℤ) → e.from ≤ℤ x → x <ℤ e.to → until x ≤ℤ h → IsInRow row' x → ⊥) (kept : (x : ℤ) → IsInRow row x → IsInRow row' x ⊎ (until x ≤ℤ h)) where
     -- a column that is covered beyond the row is covered in it
     still_covered : (x : ℤ) → h <ℤ until x → IsInUnion areas (at x h)
@@ -352,7 +422,8 @@ module _ (areas : List Rect) (events : List Event) (are : AreEvents areas events
         | inr f ↦ elim f.in_list [
           | inl is ↦ by_lt_z h (until x)
               (λ beyond. inl (still_covered x beyond))
-              (λ not_beyond. absurd (none x (subst (λ (v : Event). v.from ≤ℤ x) (sym is) f.after) (subst (λ (v : Event). x <ℤ v.to) (sym is) f.before) not_beyond i))
+              (λ not_beyond. absurd (none x (subst (λ (v : Event). v.from ≤ℤ x) (sym is) f.after) (subst (λ (v : Event). x <ℤ v.to) (sym is) f.before)
+              not_beyond i))
           | inr k ↦ inr (record { event = f.event; in_list = k; ends = f.ends; at_row = f.at_row; after = f.after; before = f.before })
         ]
       ];
@@ -360,7 +431,8 @@ module _ (areas : List Rect) (events : List Event) (are : AreEvents areas events
         | inl i ↦ elim (kept x i) [
           | inl j ↦ inl j
           | inr short ↦ (let c = u.1.1 in elim (split (begin_of u.0) (are.begun u.0 u.1.0 (covers_proper u.0 x h c))) [
-            | inl k ↦ absurd (let high = s.tall (begin_of u.0) k refl x c.right_of_xlo c.left_of_xhi in let top = c.below_yhi in omega (arith, ints, high, top, short))
+            | inl k ↦ absurd (let high = s.tall (begin_of u.0) k refl x c.right_of_xlo c.left_of_xhi in let top = c.below_yhi in
+                omega (arith, ints, high, top, short))
             | inr (inl is) ↦ absurd (false≢true (sym (ap (λ v. v.ends) is) ∙ is_end))
             | inr (inr k) ↦ inr (record {
               event = begin_of u.0;
@@ -390,17 +462,20 @@ pub record IsSwept (areas : List Rect) (done rest : List Event) (lowest : ℤ) (
   pub to : IsSweptTo areas h done rest lowest row until found
 
 -- on to the row of the next event, if it is not there
-pub at_next : (areas : List Rect) (events : List Event) → AreEvents areas events → (done : List Event) (e : Event) (rest : List Event) (lowest : ℤ) (row : Row) (until : ℤ → ℤ) (found : List Bar)
+pub at_next : (areas : List Rect) (events : List Event) → AreEvents areas events
+    → (done : List Event) (e : Event) (rest : List Event) (lowest : ℤ) (row : Row) (until : ℤ → ℤ) (found : List Bar)
     → ((f : Event) → In f events → In f done ⊎ In f (e ∷ rest)) → ((f : Event) → In f (e ∷ rest) → e.row ≤ℤ f.row)
     → IsSwept areas done (e ∷ rest) lowest row until found → IsSweptTo areas e.row done (e ∷ rest) lowest row until found
 at_next areas events are done e rest lowest row until found split later s =
     let first : s.h ≤ℤ e.row = s.to.coming e (inl refl) in
     by_lt_z s.h e.row
     (λ less. advanced areas events are done (e ∷ rest) lowest row until found split s.h e.row s.to later less)
-    (λ not_less. subst (λ v. IsSweptTo areas v done (e ∷ rest) lowest row until found) (let same : s.h ≡ e.row = omega (arith, ints, first, not_less) in same) s.to)
+    (λ not_less. subst (λ v. IsSweptTo areas v done (e ∷ rest) lowest row until found)
+    (let same : s.h ≡ e.row = omega (arith, ints, first, not_less) in same) s.to)
 
 -- before the first event
-pub swept_first : (areas : List Rect) (events : List Event) (lowest h : ℤ) (row : Row) (until : ℤ → ℤ) → AreEvents areas events → ((e : Event) → In e events → h ≤ℤ e.row)
+pub swept_first : (areas : List Rect) (events : List Event) (lowest h : ℤ) (row : Row) (until : ℤ → ℤ) → AreEvents areas events
+    → ((e : Event) → In e events → h ≤ℤ e.row)
     → ((a : ℤ) → row a ≡ None) → ((x : ℤ) → until x ≡ lowest) → IsSweptTo areas h [] events lowest row until []
 swept_first areas events lowest h row until are coming empty lows = record {
   past = λ e i. absurd i;
@@ -411,10 +486,12 @@ swept_first areas events lowest h row until are coming empty lows = record {
     standing = λ a r e. absurd (no_run a r e);
     long = λ bar i. absurd i;
     runs = λ bar i. absurd i;
-    whole = λ x y u below. absurd (let c = u.1.1 in let low = c.above_ylo in let first = coming (begin_of u.0) (are.begun u.0 u.1.0 (covers_proper u.0 x y c)) in omega (arith, ints, low, first, below));
+    whole = λ x y u below. absurd (let c = u.1.1 in let low = c.above_ylo in let first = coming (begin_of u.0)
+        (are.begun u.0 u.1.0 (covers_proper u.0 x y c)) in omega (arith, ints, low, first, below));
   };
   surplus = λ x i. absurd (no_run i.from i.run i.begins);
-  missing = λ x u. inr (let c = u.1.1 in let low = c.above_ylo in let i = are.begun u.0 u.1.0 (covers_proper u.0 x h c) in let first = coming (begin_of u.0) i in
+  missing = λ x u. inr (let c = u.1.1 in let low = c.above_ylo in let i = are.begun u.0 u.1.0 (covers_proper u.0 x h c) in let first = coming
+      (begin_of u.0) i in
       record { event = begin_of u.0; in_list = i; begins = refl; at_row = omega (arith, ints, low, first); after = c.right_of_xlo; before = c.left_of_xhi });
   tall = λ e i. absurd i;
   reach = λ x. inl (lows x);
@@ -432,7 +509,13 @@ swept_all areas events lowest row until found are s = record {
   complete = λ x y u. by_lt_z y s.h
       (λ less. elim (s.to.booked.whole x y u less) [
         | inl f ↦ f
-        | inr r ↦ (let a = r.0 in let run = r.1.0 in elim (s.to.surplus x (record { from = a; run = run; begins = r.1.1.0; after = r.1.1.1; before = r.1.1.2 })) [
+        | inr r ↦ (let a = r.0 in let run = r.1.0 in elim (s.to.surplus x (record {
+          from = a;
+          run = run;
+          begins = r.1.1.0;
+          after = r.1.1.1;
+          before = r.1.1.2;
+        })) [
           | inl v ↦ absurd (none_left v.0 x s.h v.1.0 v.1.1 (omega (arith, ints)))
           | inr e ↦ absurd e.in_list
         ])
@@ -474,7 +557,8 @@ module _ (areas : List Rect) (events : List Event) (are : AreEvents areas events
       subst (λ (v : Event). next.row ≤ℤ v.row) is (go found.0 inside)
     where
       go : (k : ℕ) → k + i < length events → next.row ≤ℤ (get_or events (i + k) d).row
-      go zero h = let same : get_or events (i + 0) d ≡ next = ap (λ j. get_or events j d) (let e : i + 0 ≡ i = omega arith in e) in subst (λ (v : Event). next.row ≤ℤ v.row) (sym same) (omega (arith, ints))
+      go zero h = let same : get_or events (i + 0) d ≡ next = ap (λ j. get_or events j d) (let e : i + 0 ≡ i = omega arith in e) in
+          subst (λ (v : Event). next.row ≤ℤ v.row) (sym same) (omega (arith, ints))
       go (suc k) h = are.ordered i (i + suc k) d (omega arith) (omega (arith, h))
 
   mine : In next events
@@ -483,11 +567,14 @@ module _ (areas : List Rect) (events : List Event) (are : AreEvents areas events
   grown : take i events ++ next ∷ [] ≡ take (i + 1) events
   grown = sym (take_more events i d below)
 
-  module _ (lowest : ℤ) (row row' : Row) (until : ℤ → ℤ) (found found' : List Bar) (s : IsSwept areas (take i events) (drop i events) lowest row until found) where
+  module _ (lowest : ℤ) (row row' : Row) (until : ℤ → ℤ) (found found' : List Bar)
+      (s : IsSwept areas (take i events) (drop i events) lowest row until found) where
     here : IsSweptTo areas next.row (take i events) (next ∷ later) lowest row until found
-    here = at_next areas events are (take i events) next later lowest row until found split_at rest_later (subst (λ v. IsSwept areas (take i events) v lowest row until found) cut s)
+    here = at_next areas events are (take i events) next later lowest row until found split_at rest_later
+        (subst (λ v. IsSwept areas (take i events) v lowest row until found) cut s)
 
-    pub begun_at : (until' : ℤ → ℤ) → next.ends ≡ false → IsCovered next.from next.to next.row row row' found found' → ((x : ℤ) → until' x ≡ raised (Some next.from) (Some next.to) next.top x (until x))
+    pub begun_at : (until' : ℤ → ℤ) → next.ends ≡ false → IsCovered next.from next.to next.row row row' found found'
+        → ((x : ℤ) → until' x ≡ raised (Some next.from) (Some next.to) next.top x (until x))
         → IsSwept areas (take (i + 1) events) (drop (i + 1) events) lowest row' until' found'
     begun_at until' no_end c r = record {
       h = next.row;
@@ -496,23 +583,34 @@ module _ (areas : List Rect) (events : List Event) (are : AreEvents areas events
     }
 
     pub ended_at : next.ends ≡ true → lowest ≤ℤ next.row → AreRuns row' → Changes next.row row row' found found' → ((x : ℤ) → IsInRow row' x → IsInRow row x)
-        → ((x : ℤ) → next.from ≤ℤ x → x <ℤ next.to → until x ≤ℤ next.row → IsInRow row' x → ⊥) → ((x : ℤ) → IsInRow row x → IsInRow row' x ⊎ (until x ≤ℤ next.row))
+        → ((x : ℤ) → next.from ≤ℤ x → x <ℤ next.to → until x ≤ℤ next.row → IsInRow row' x → ⊥) → ((x : ℤ) → IsInRow row x → IsInRow row'
+        x ⊎ (until x ≤ℤ next.row))
         → IsSwept areas (take (i + 1) events) (drop (i + 1) events) lowest row' until found'
     ended_at is_end low apart changes stayed none kept = record {
       h = next.row;
       to = subst (λ v. IsSweptTo areas next.row v later lowest row' until found') grown
-          (ended areas events are (take i events) next later lowest next.row row row' until found found' split_at done_in mine refl here is_end low apart changes stayed none kept);
+          (ended areas events are (take i events) next later lowest next.row row row' until found found' split_at done_in mine refl here is_end low
+          apart changes stayed none kept);
     }
 
 -- before the first event, at its row
 pub swept_begins : (areas : List Rect) (events : List Event) (lowest : ℤ) (row : Row) (until : ℤ → ℤ) → AreEvents areas events
     → ((a : ℤ) → row a ≡ None) → ((x : ℤ) → until x ≡ lowest) → IsSwept areas [] events lowest row until []
-swept_begins areas [] lowest row until are empty lows = record { h = lowest; to = swept_first areas [] lowest lowest row until are (λ e i. absurd i) empty lows }
-swept_begins areas (e ∷ rest) lowest row until are empty lows = record { h = e.row; to = swept_first areas (e ∷ rest) lowest e.row row until are coming empty lows }
+swept_begins areas [] lowest row until are empty lows = record {
+  h = lowest;
+  to = swept_first areas [] lowest lowest row until are (λ e i. absurd i)
+      empty lows;
+}
+swept_begins areas (e ∷ rest) lowest row until are empty lows = record {
+  h = e.row;
+  to = swept_first areas (e ∷ rest) lowest e.row row until are coming
+      empty lows;
+}
   where
     coming : (f : Event) → In f (e ∷ rest) → e.row ≤ℤ f.row
     coming f (inl is) = subst (λ (v : Event). e.row ≤ℤ v.row) is (omega (arith, ints))
-    coming f (inr k) = let found = In-index f rest k in subst (λ (v : Event). e.row ≤ℤ v.row) (found.1.1 e) (are.ordered 0 (suc found.0) e (omega arith) (let a = found.1.0 in omega (arith, a)))
+    coming f (inr k) = let found = In-index f rest k in subst (λ (v : Event). e.row ≤ℤ v.row) (found.1.1 e)
+        (are.ordered 0 (suc found.0) e (omega arith) (let a = found.1.0 in omega (arith, a)))
 
 -- the sides of an event
 pub from_in_sides : (events : List Event) (e : Event) → In e events → In e.from (sides_of events)
@@ -520,6 +618,7 @@ from_in_sides [] e i = i
 from_in_sides (f ∷ rest) e (inl is) = inl (ap (λ v. v.from) is)
 from_in_sides (f ∷ rest) e (inr k) = inr (inr (from_in_sides rest e k))
 
+-- and so is where it ends
 pub to_in_sides : (events : List Event) (e : Event) → In e events → In e.to (sides_of events)
 to_in_sides [] e i = i
 to_in_sides (f ∷ rest) e (inl is) = inr (inl (ap (λ v. v.to) is))
@@ -542,19 +641,23 @@ pub record IsUnderWay (areas : List Rect) (events : List Event) (i : ℕ) (lowes
   pub from_cut : (e : Event) → In e events → IsCut sweep.coverage e.from
   pub to_cut : (e : Event) → In e events → IsCut sweep.coverage e.to
 
-module _ (areas : List Rect) (events : List Event) (i : ℕ) (lowest : ℤ) (old new : Sweep) (u : IsUnderWay areas events i lowest old) (below : i < length events) (d : Event) where
-  pub begun_under_way : (get_or events i d).ends ≡ false → IsBegun (get_or events i d) old new → IsUnderWay areas events (i + 1) lowest new
+module _ (areas : List Rect) (events : List Event) (i : ℕ) (lowest : ℤ) (old new : Sweep) (u : IsUnderWay areas events i lowest old)
+    (below : i < length events) (d : Event) where
+  pub begun_under_way : (get_or events i d).ends ≡ false → RectBegins (get_or events i d) old new → IsUnderWay areas events (i + 1) lowest new
   begun_under_way no_end b = record {
     are = u.are;
-    swept = begun_at areas events u.are i below d lowest (row_of old) (row_of new) (until old.coverage) old.found.items new.found.items u.swept (until new.coverage) no_end b.covered b.raised.rows;
+    swept = begun_at areas events u.are i below d lowest (row_of old) (row_of new) (until old.coverage) old.found.items new.found.items u.swept
+        (until new.coverage) no_end b.covered b.raised.rows;
     topped = b.raised.topped;
     from_cut = λ e k. b.raised.cuts e.from (u.from_cut e k);
     to_cut = λ e k. b.raised.cuts e.to (u.to_cut e k);
   }
 
-  pub ended_under_way : (get_or events i d).ends ≡ true → lowest ≤ℤ (get_or events i d).row → IsEnded (get_or events i d) old new → IsUnderWay areas events (i + 1) lowest new
+  pub ended_under_way : (get_or events i d).ends ≡ true → lowest ≤ℤ (get_or events i d).row → RectsEnd (get_or events i d) old new
+      → IsUnderWay areas events (i + 1) lowest new
   ended_under_way is_end low e =
-      let swept = ended_at areas events u.are i below d lowest (row_of old) (row_of new) (until old.coverage) old.found.items new.found.items u.swept is_end low e.apart e.changes e.stayed
+      let swept = ended_at areas events u.are i below d lowest (row_of old) (row_of new) (until old.coverage) old.found.items new.found.items u.swept
+      is_end low e.apart e.changes e.stayed
       (λ x from to short. e.none x (record { after = from; before = to; uncovered = short }))
       (λ x k. elim (e.kept x k) [ inl n ↦ inl n | inr o ↦ inr o.uncovered ]) in
       record {

@@ -1,13 +1,12 @@
 -- Tiles of a plane in an area: they lie apart, inside the area, and each square of one has its value.
-use Rattle.std.proofs.Common.{◌≡◌, ◌⊎◌, inl, inr, ℕ, ◌<ℤ◌, ◌≤ℤ◌, List, length, get_or, refl, sym, ◌∙◌, ap, subst, arith}
+use Rattle.std.proofs.Common.{◌≡◌, inl, inr, ℕ, ◌<ℤ◌, List, get_or, sym, ◌∙◌, ap, subst, arith}
 use Rattle.std.specs.Prelude.{AllPairs}
 use Rattle.std.proofs.lemmas.Int.{ints, clamps}
-use Rattle.finite_sets.specs.Lists.{In}
 use Rattle.finite_sets.proofs.Members.{In-get_or}
 use Rattle.geo_core.specs.declared.squares.Square.{Square}
 use Rattle.geo_core.specs.declared.squares.Rect.{Rect}
 use Rattle.geo_core.specs.declared.squares.Piece.{Piece}
-use Rattle.geo_core.specs.Areas.{AreDisjoint, common_area, LiesWithin}
+use Rattle.geo_core.specs.Areas.{AreDisjoint, common_rect, LiesWithin}
 use Rattle.geo_core.specs.Covering.{Covers}
 use Rattle.geo_core.specs.Planes.{HasValue, IsTileIn, AreTilesIn}
 use Rattle.geo_core.specs.Strips.{IsStrip, StandsBefore}
@@ -15,7 +14,8 @@ use Rattle.geo_core.proofs.CoveringLaws.{covers_first}
 use Rattle.geo_core.proofs.StripSets.{one_strip_at, strip_within}
 
 -- a square of a tile has its value
-pub tile_value : (values : Square → ℕ) (area : Rect) (tile : Piece) → IsTileIn values area tile → (square : Square) → Covers tile.area square → values square ≡ tile.value
+pub tile_value : (values : Square → ℕ) (area : Rect) (tile : Piece) → IsTileIn values area tile → (square : Square) → Covers tile.area square
+    → values square ≡ tile.value
 tile_value values area tile is square covers =
     strip_within (HasValue values tile.value) is.strip is.is_strip square.x square.y
     (covers_first is.strip area square (subst (λ (a : Rect). Covers a square) is.cut covers))
@@ -24,17 +24,23 @@ tile_value values area tile is square covers =
 pub tile_inside : (values : Square → ℕ) (area : Rect) (tile : Piece) → IsTileIn values area tile → LiesWithin tile.area area
 tile_inside values area tile is = subst (λ (a : Rect). LiesWithin a area) (sym is.cut) (common_inside is.strip area)
   where
-    common_inside : (a b : Rect) → LiesWithin (common_area a b) b
-    common_inside a b = record { right_of_xlo = omega (arith, ints, clamps); above_ylo = omega (arith, ints, clamps); left_of_xhi = omega (arith, ints, clamps); below_yhi = omega (arith, ints, clamps) }
+    common_inside : (a b : Rect) → LiesWithin (common_rect a b) b
+    common_inside a b = record {
+      right_of_xlo = omega (arith, ints, clamps);
+      above_ylo = omega (arith, ints, clamps);
+      left_of_xhi = omega (arith, ints, clamps);
+      below_yhi = omega (arith, ints, clamps);
+    }
 
 -- tiles that share a square have one area
-pub one_tile_at : (values : Square → ℕ) (area : Rect) (a b : Piece) → IsTileIn values area a → IsTileIn values area b → (square : Square) → Covers a.area square → Covers b.area square → a.area ≡ b.area
+pub one_tile_at : (values : Square → ℕ) (area : Rect) (a b : Piece) → IsTileIn values area a → IsTileIn values area b → (square : Square)
+    → Covers a.area square → Covers b.area square → a.area ≡ b.area
 one_tile_at values area a b p q square c d =
     let value : a.value ≡ b.value = sym (tile_value values area a p square c) ∙ tile_value values area b q square d in
     let strip : IsStrip (HasValue values b.value) p.strip = subst (λ (v : ℕ). IsStrip (HasValue values v) p.strip) value p.is_strip in
     let first = covers_first p.strip area square (subst (λ (r : Rect). Covers r square) p.cut c) in
     let second = covers_first q.strip area square (subst (λ (r : Rect). Covers r square) q.cut d) in
-    p.cut ∙ ap (λ (r : Rect). common_area r area) (one_strip_at (HasValue values b.value) p.strip q.strip strip q.is_strip square first second) ∙ sym q.cut
+    p.cut ∙ ap (λ (r : Rect). common_rect r area) (one_strip_at (HasValue values b.value) p.strip q.strip strip q.is_strip square first second) ∙ sym q.cut
 
 stands_before_itself : (a b : Rect) → a ≡ b → StandsBefore a b → ⊥
 stands_before_itself a b e before = go (subst (λ (r : Rect). StandsBefore a r) (sym e) before)

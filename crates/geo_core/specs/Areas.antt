@@ -1,6 +1,7 @@
 -- Rectangles within bounds, rectangles that lie apart, and what two have in common.
-use Rattle.std.specs.Prelude.{◌^◌, ◌&&◌, Bool, ℤ, pos, neg_ℤ, ◌<ℤ◌, ◌≤ℤ◌, int_lt}
+use Rattle.std.specs.Prelude.{◌&&◌, Bool, ℤ, neg_ℤ, ◌<ℤ◌, ◌≤ℤ◌, int_lt}
 use Rattle.std.specs.Int.{int_max, int_min}
+use Rattle.geo_core.specs.declared.limits.TheConstants.{PLANE_EDGE}
 use Rattle.geo_core.specs.declared.squares.Square.{Square}
 use Rattle.geo_core.specs.declared.squares.Rect.{Rect}
 use Rattle.geo_core.specs.Covering.{Covers}
@@ -9,15 +10,15 @@ use Rattle.geo_core.specs.Covering.{Covers}
 abbrev pub AreDisjoint : Rect → Rect → Type 0
 AreDisjoint a b = (square : Square) → Covers a square → Covers b square → ⊥
 
--- z is below 2^28 in absolute value
+-- z lies between the edges of planes
 abbrev pub IsSmall : ℤ → Type 0
-IsSmall z = (neg_ℤ (pos (2 ^ 28)) <ℤ z) × (z <ℤ pos (2 ^ 28))
+IsSmall z = (neg_ℤ PLANE_EDGE <ℤ z) × (z <ℤ PLANE_EDGE)
 
 -- the test of a rectangle that has a square
 abbrev pub has_square : Rect → Bool
 has_square area = int_lt area.xlo area.xhi && int_lt area.ylo area.yhi
 
--- each bound of the rectangle is below 2^28 in absolute value
+-- each bound of the rectangle lies between the edges of planes
 pub record IsNear (area : Rect) : Type 0 where
   pub xlo : IsSmall area.xlo
   pub ylo : IsSmall area.ylo
@@ -25,12 +26,12 @@ pub record IsNear (area : Rect) : Type 0 where
   pub yhi : IsSmall area.yhi
 
 -- the rectangle of the squares that two rectangles have in common
-abbrev pub common_area : Rect → Rect → Rect
-common_area a b = record { xlo = int_max a.xlo b.xlo; ylo = int_max a.ylo b.ylo; xhi = int_min a.xhi b.xhi; yhi = int_min a.yhi b.yhi }
+abbrev pub common_rect : Rect → Rect → Rect
+common_rect a b = record { xlo = int_max a.xlo b.xlo; ylo = int_max a.ylo b.ylo; xhi = int_min a.xhi b.xhi; yhi = int_min a.yhi b.yhi }
 
 -- the smallest rectangle that goes round both
-abbrev pub joined_area : Rect → Rect → Rect
-joined_area a b = record { xlo = int_min a.xlo b.xlo; ylo = int_min a.ylo b.ylo; xhi = int_max a.xhi b.xhi; yhi = int_max a.yhi b.yhi }
+abbrev pub joined_rect : Rect → Rect → Rect
+joined_rect a b = record { xlo = int_min a.xlo b.xlo; ylo = int_min a.ylo b.ylo; xhi = int_max a.xhi b.xhi; yhi = int_max a.yhi b.yhi }
 
 -- the lower left square of a rectangle
 abbrev pub corner_of : Rect → Square

@@ -20,6 +20,7 @@ abbrev pub joined_from : Bar → List Bar → List Bar
 joined_from bar [] = bar ∷ []
 joined_from bar (next ∷ rest) = if meets bar next then joined_from (reaching bar next) rest else (bar ∷ joined_from next rest)
 
+-- bars in order, joined
 abbrev pub joined : List Bar → List Bar
 joined [] = []
 joined (bar ∷ rest) = joined_from bar rest
@@ -28,11 +29,13 @@ joined (bar ∷ rest) = joined_from bar rest
 abbrev pub bar_cmp : Bar → Bar → Ordering
 bar_cmp a b = ordering_then (int_cmp a.low b.low) (ordering_then (int_cmp a.high b.high) (ordering_then (int_cmp a.from b.from) (int_cmp a.to b.to)))
 
+-- a bar of columns as a strip
 abbrev pub strip_of : Bar → Strip
 strip_of bar = record { ylo = bar.from; xlo = bar.low; xhi = bar.high; yhi = bar.to }
 
-abbrev pub area_of : Strip → Rect
-area_of strip = record { xlo = strip.xlo; ylo = strip.ylo; xhi = strip.xhi; yhi = strip.yhi }
+-- a strip as a rectangle
+abbrev pub rect_of : Strip → Rect
+rect_of strip = record { xlo = strip.xlo; ylo = strip.ylo; xhi = strip.xhi; yhi = strip.yhi }
 
 -- Strips are in the order of their lowest rows, and from left to right in one row.
 abbrev pub strip_cmp : Strip → Strip → Ordering

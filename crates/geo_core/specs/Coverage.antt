@@ -10,11 +10,12 @@ abbrev pub until : Coverage → ℤ → ℤ
 until (Even row) x = row
 until (Cut' p at least most left right) x = int_max least (if int_lt x at then until left x else until right x)
 
--- the row below which all columns are covered for sure, and the one beyond which none is
+-- the row below which all columns are covered for sure
 abbrev pub least_of : Coverage → ℤ
 least_of (Even row) = row
 least_of (Cut' p at least most left right) = least
 
+-- the row beyond which no column is covered
 abbrev pub most_of : Coverage → ℤ
 most_of (Even row) = row
 most_of (Cut' p at least most left right) = most
@@ -49,20 +50,22 @@ is_before (Some to) x = int_lt x to
 abbrev pub raised : Option ℤ → Option ℤ → ℤ → ℤ → ℤ → ℤ
 raised from to top x row = if is_from from x && is_before to x then int_max row top else row
 
--- the first bound is before v, the second is after it
+-- the bound, if there is one, lies before the cut
 abbrev pub begins_before : Option ℤ → ℤ → Bool
 begins_before None at = true
 begins_before (Some from) at = int_lt from at
 
+-- the bound, if there is one, lies after the cut
 abbrev pub ends_after : Option ℤ → ℤ → Bool
 ends_after None at = true
 ends_after (Some to) at = int_lt at to
 
--- the bound, if it is after v, or before it
+-- the bound, if it lies after the cut
 abbrev pub begin_after : Option ℤ → ℤ → Option ℤ
 begin_after None at = None
 begin_after (Some from) at = if int_lt at from then Some from else None
 
+-- the bound, if it lies before the cut
 abbrev pub end_before : Option ℤ → ℤ → Option ℤ
 end_before None at = None
 end_before (Some to) at = if int_lt to at then Some to else None

@@ -10,6 +10,7 @@ use Rattle.geo_core.specs.declared.grids.Grid.{Grid}
 abbrev pub indices : ℤ → ℤ → ℕ
 indices from to = suc (unsigned_abs (to -ℤ from))
 
+-- the index of this number from the first to the last
 abbrev pub nth_index : ℤ → ℤ → ℤ → ℤ
 nth_index from to n = if int_le from to then from +ℤ n else from -ℤ n
 

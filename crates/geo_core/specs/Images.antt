@@ -12,6 +12,7 @@ use Rattle.geo_core.specs.Orientation.{matrix, orient_then, orient_inverse}
 abbrev pub point_x : Transform → ℤ → ℤ → ℤ
 point_x t x y = ((matrix t.orient).a *ℤ x) +ℤ ((matrix t.orient).b *ℤ y) +ℤ t.dx
 
+-- the y of a point of the image
 abbrev pub point_y : Transform → ℤ → ℤ → ℤ
 point_y t x y = ((matrix t.orient).d *ℤ x) +ℤ ((matrix t.orient).e *ℤ y) +ℤ t.dy
 
@@ -38,12 +39,13 @@ pub record CentreGoesTo (t : Transform) (from to : Square) : Type 0 where
 abbrev pub turns_x : Orient → Bool
 turns_x o = int_lt ((matrix o).a +ℤ (matrix o).b) (pos 0)
 
+-- whether the orientation turns the axes of y round
 abbrev pub turns_y : Orient → Bool
 turns_y o = int_lt ((matrix o).d +ℤ (matrix o).e) (pos 0)
 
 -- The image of a rectangle is the one whose corners are where its corners go.
-unfoldable pub area_image : Transform → Rect → Rect
-area_image t area =
+unfoldable pub rect_image : Transform → Rect → Rect
+rect_image t area =
     let left = point_x t area.xlo area.ylo in
     let right = point_x t area.xhi area.yhi in
     let bottom = point_y t area.xlo area.ylo in

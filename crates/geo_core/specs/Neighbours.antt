@@ -10,15 +10,19 @@ AreOneApart m n = (n ≡ m +ℤ pos 1) ⊎ (m ≡ n +ℤ pos 1)
 abbrev pub AreEdgeNeighbours : Square → Square → Type 0
 AreEdgeNeighbours a b = (AreOneApart a.x b.x × (a.y ≡ b.y)) ⊎ ((a.x ≡ b.x) × AreOneApart a.y b.y)
 
+-- the neighbour to the right
 abbrev pub right_of : Square → Square
 right_of square = record { x = square.x +ℤ pos 1; y = square.y }
 
+-- the neighbour to the left
 abbrev pub left_of : Square → Square
 left_of square = record { x = square.x -ℤ pos 1; y = square.y }
 
+-- the neighbour above
 abbrev pub above : Square → Square
 above square = record { x = square.x; y = square.y +ℤ pos 1 }
 
+-- the neighbour below
 abbrev pub below : Square → Square
 below square = record { x = square.x; y = square.y -ℤ pos 1 }
 

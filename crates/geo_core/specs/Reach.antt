@@ -1,12 +1,13 @@
 -- How far from the origin coordinates and displacements may lie, so that all that is computed from them fits 64 bits.
-use Rattle.std.specs.Prelude.{ℤ, pos, neg_ℤ, ◌<ℤ◌, ◌^◌}
+use Rattle.std.specs.Prelude.{ℤ, neg_ℤ, ◌<ℤ◌}
+use Rattle.geo_core.specs.declared.limits.TheConstants.{REACH}
 use Rattle.geo_core.specs.declared.squares.Square.{Square}
 use Rattle.geo_core.specs.declared.squares.Rect.{Rect}
 use Rattle.geo_core.specs.declared.transforms.Transform.{Transform}
 
--- below 2^60 in absolute value
+-- less than the reach in absolute value
 abbrev pub IsInReach : ℤ → Type 0
-IsInReach z = (neg_ℤ (pos (2 ^ 60)) <ℤ z) × (z <ℤ pos (2 ^ 60))
+IsInReach z = (neg_ℤ REACH <ℤ z) × (z <ℤ REACH)
 
 pub record MovesInReach (transform : Transform) : Type 0 where
   pub dx : IsInReach transform.dx

@@ -1,5 +1,5 @@
 -- What happens at the rows where rectangles begin and end.
-use Rattle.std.specs.Prelude.{◌≡◌, ℤ, ◌≤ℤ◌, ◌<ℤ◌, Bool, true, false, ◌&&◌, int_lt, List, [], ◌∷◌, AllPairs}
+use Rattle.std.specs.Prelude.{◌≡◌, ℤ, ◌≤ℤ◌, ◌<ℤ◌, true, false, List, [], ◌∷◌, AllPairs}
 use Rattle.std.specs.Ordering.{int_cmp, bool_cmp, ordering_then}
 use Rattle.std.specs.declared.cmp.Ordering.{Ordering}
 use Rattle.finite_sets.specs.Lists.{In}
@@ -23,7 +23,8 @@ end_of bar = record { row = bar.low; ends = true; from = bar.from; to = bar.to; 
 -- events are in the order of their rows, and at one row beginnings come first
 abbrev pub event_cmp : Event → Event → Ordering
 event_cmp a b =
-    ordering_then (int_cmp a.row b.row) (ordering_then (bool_cmp a.ends b.ends) (ordering_then (int_cmp a.from b.from) (ordering_then (int_cmp a.to b.to) (int_cmp a.top b.top))))
+    ordering_then (int_cmp a.row b.row) (ordering_then (bool_cmp a.ends b.ends) (ordering_then (int_cmp a.from b.from)
+    (ordering_then (int_cmp a.to b.to) (int_cmp a.top b.top))))
 
 -- the first event is at no later row
 abbrev pub IsAtNoLaterRow : Event → Event → Type 0

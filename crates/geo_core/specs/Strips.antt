@@ -1,6 +1,7 @@
 -- The strips of a set of squares: its maximal horizontal strips, in order.
-use Rattle.std.specs.Prelude.{◌≡◌, ◌⊎◌, ℤ, pos, ◌-ℤ◌, ◌≤ℤ◌, ◌<ℤ◌, List, AllPairs}
+use Rattle.std.specs.Prelude.{◌≡◌, ℤ, pos, ◌-ℤ◌, ◌≤ℤ◌, ◌<ℤ◌, List, AllPairs}
 use Rattle.finite_sets.specs.Lists.{In}
+use Rattle.finite_sets.specs.Order.{Lexicographic}
 use Rattle.geo_core.specs.declared.squares.Square.{Square}
 use Rattle.geo_core.specs.declared.squares.Rect.{Rect}
 use Rattle.geo_core.specs.Covering.{Covers}
@@ -21,7 +22,7 @@ pub record IsStrip (S : Square → Type 0) (area : Rect) : Type 0 where
 
 -- Strips are in the order of their lowest rows, and in one row from left to right.
 abbrev pub StandsBefore : Rect → Rect → Type 0
-StandsBefore a b = (a.ylo <ℤ b.ylo) ⊎ ((a.ylo ≡ b.ylo) × (a.xlo <ℤ b.xlo))
+StandsBefore a b = Lexicographic a.ylo b.ylo (a.xlo <ℤ b.xlo)
 
 -- Some rectangle of the list covers the square.
 abbrev pub IsInUnion : List Rect → Square → Type 0

@@ -16,12 +16,12 @@ abbrev pub row_of : Sweep → Row
 row_of sweep = get int_cmp sweep.runs
 
 -- a rectangle has begun
-pub record IsBegun (event : Event) (old new : Sweep) : Type 0 where
+pub record RectBegins (event : Event) (old new : Sweep) : Type 0 where
   pub covered : IsCovered event.from event.to event.row (row_of old) (row_of new) old.found.items new.found.items
   pub raised : IsRaised (Some event.from) (Some event.to) event.top old.coverage new.coverage
 
 -- rectangles have ended: the columns among these that are covered no more went out of the runs
-pub record IsEnded (event : Event) (old new : Sweep) : Type 0 where
+pub record RectsEnd (event : Event) (old new : Sweep) : Type 0 where
   pub apart : AreRuns (row_of new)
   pub changes : Changes event.row (row_of old) (row_of new) old.found.items new.found.items
   pub stayed : (x : ℤ) → IsInRow (row_of new) x → IsInRow (row_of old) x

@@ -2,7 +2,8 @@
 ghost use Rattle.std.specs.Prelude.{◌≡◌, ℤ, ◌≤ℤ◌, ◌<ℤ◌, AllPairs, IfOk, OnOk};
 ghost use Rattle.std.specs.Int.{int_max, int_min};
 ghost use Rattle.finite_sets.specs.Lists.{In};
-ghost use Rattle.geo_core.specs.Coverage.{until, least_of, most_of, IsTopped, IsCut, IsCutAt, IsRaised, begins_before, ends_after, begin_after, end_before, AddsColumns, IsGap};
+ghost use Rattle.geo_core.specs.Coverage.{until, least_of, most_of, IsTopped, IsCut, IsCutAt, IsRaised, begins_before};
+ghost use Rattle.geo_core.specs.Coverage.{ends_after, begin_after, end_before, AddsColumns, IsGap};
 
 use std::alloc::{AllocError, Global};
 

@@ -1,4 +1,4 @@
-//! What there may be too many of.
+//! What there may be too many of, and how far things may go.
 
 /// A number that has a limit.
 #[derive(Clone, Copy, Debug, PartialEq, Eq)]
@@ -28,3 +28,20 @@ pub enum Limit {
     /// Edits of a library.
     Edits,
 }
+
+/// How far a plane goes: the bounds of areas on it are below this in absolute value, in lambda.
+pub const PLANE_EDGE: i64 = 1 << 28;
+
+/// How far all of a layout goes: coordinates and displacements are below this in absolute value, in lambda, so that
+/// what is computed from them fits.
+pub const REACH: i64 = 1 << 60;
+
+/// How far paint goes: its coordinates are at most this in absolute value, in lambda.
+pub const PAINT_EDGE: i64 = (1 << 26) - 6;
+
+/// How many tiles a painted plane may have.
+pub const MOST_TILES: usize = 1 << 31;
+
+/// A plane of so many strips, those of space among them, needs at most this many tiles for each strip and one
+/// strip more while a piece is set on it.
+pub const TILES_FOR_A_STRIP: usize = 8;

@@ -45,7 +45,7 @@ impl From<GeoFault> for PlaneFault {
 
 /// A number from 0 to 255 for each square of the grid: 0, which is space, for all but finitely many.
 ///
-/// Areas have a square, and their bounds are below 2^28 in absolute value.
+/// Areas have a square, and their bounds are below `PLANE_EDGE` in absolute value.
 /// A change takes two calls: `reserve` takes the memory for it, and `commit` then makes it without any.
 pub trait Plane {
     /// The number at each square.

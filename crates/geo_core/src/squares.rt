@@ -1,6 +1,6 @@
 //! Squares of the grid, rectangles of squares, and rectangles that carry a value.
 ghost use Rattle.std.specs.Prelude.{◌≡◌};
-ghost use Rattle.geo_core.specs.Areas.{common_area, corner_of, has_square, joined_area};
+ghost use Rattle.geo_core.specs.Areas.{common_rect, corner_of, has_square, joined_rect};
 
 /// One square of the grid, named by its lower left corner. All lengths are in lambda.
 #[derive(Clone, Copy, Debug, PartialEq, Eq)]
@@ -29,7 +29,7 @@ impl Rect {
 
     /// The rectangle of the squares that two rectangles have in common. It has none if they have none.
     pub fn common(&self, other: &Rect) -> Rect
-        ensures { result ≡ common_area self.now other.now }
+        ensures { result ≡ common_rect self.now other.now }
     {
         Rect {
             xlo: self.xlo.max(other.xlo),
@@ -41,7 +41,7 @@ impl Rect {
 
     /// The smallest rectangle that goes round both.
     pub fn joined(&self, other: &Rect) -> Rect
-        ensures { result ≡ joined_area self.now other.now }
+        ensures { result ≡ joined_rect self.now other.now }
     {
         Rect {
             xlo: self.xlo.min(other.xlo),

@@ -1,7 +1,7 @@
 //! The strips of what rectangles cover.
 ghost use Rattle.std.specs.Prelude.{◌≡◌, IfOk, map, IsPermutation, IsSorted};
-ghost use Rattle.geo_core.specs.declared.squares.Square.{Square as IsSquare};
-ghost use Rattle.geo_core.specs.Bars.{strip_of, area_of, strip_cmp};
+ghost use Rattle.geo_core.specs.declared.squares.Square.{Square as OneSquare};
+ghost use Rattle.geo_core.specs.Bars.{strip_of, rect_of, strip_cmp};
 ghost use Rattle.geo_core.specs.Strips.{IsStrips, IsInUnion, StripsAreUnique};
 
 use crate::bars::{Bar, join, sorted};
@@ -21,7 +21,7 @@ struct Strip {
 
 /// Any set of squares: what the law of strips is said of.
 pub trait SquareSet {
-    ghost set: { IsSquare → Type 0 };
+    ghost set: { OneSquare → Type 0 };
 }
 
 /// A set has one list of strips. It does nothing.
@@ -37,7 +37,7 @@ pub fn strips(alloc: Global, rects: &[Rect]) -> Result<Vec<Rect>, GeoFault>
     let upright = sorted(runs(alloc, rects)?);
     let columns = join(alloc, upright.as_slice())?;
     let ordered = in_order(strips_of(alloc, columns.as_slice())?);
-    Ok(areas_of(alloc, ordered.as_slice())?)
+    Ok(rects_of(alloc, ordered.as_slice())?)
 }
 
 /// Columns as strips.
@@ -66,8 +66,8 @@ fn in_order(strips: Vec<Strip>) -> Vec<Strip>
 }
 
 /// Strips as rectangles.
-fn areas_of(alloc: Global, strips: &[Strip]) -> Result<Vec<Rect>, AllocError>
-    ensures { IfOk result (λ found. found.items ≡ map area_of strips.now) }
+fn rects_of(alloc: Global, strips: &[Strip]) -> Result<Vec<Rect>, AllocError>
+    ensures { IfOk result (λ found. found.items ≡ map rect_of strips.now) }
 {
     strips
         .iter()

@@ -3,7 +3,7 @@ ghost use Rattle.std.specs.Prelude.{ℤ, ◌<ℤ◌, IfOk, OnOk};
 ghost use Rattle.geo_core.specs.Coverage.{IsTopped, IsCut};
 ghost use Rattle.geo_core.specs.RowRuns.{AreRuns};
 ghost use Rattle.geo_core.specs.Strips.{IsInUnion};
-ghost use Rattle.geo_core.specs.Sweeping.{row_of, IsBegun, IsEnded, AreRunBars};
+ghost use Rattle.geo_core.specs.Sweeping.{row_of, RectBegins, RectsEnd, AreRunBars};
 
 use crate::bars::Bar;
 use crate::coverage::{Coverage, Gap, uncovered};
@@ -28,7 +28,7 @@ fn begin(sweep: &mut Sweep, event: &Event) -> Result<(), AllocError>
     requires long { event.now.from <ℤ event.now.to }
     requires from_cut { IsCut sweep.old.coverage event.now.from }
     requires to_cut { IsCut sweep.old.coverage event.now.to }
-    ensures { OnOk result (IsBegun event.now sweep.old sweep.new) }
+    ensures { OnOk result (RectBegins event.now sweep.old sweep.new) }
 {
     cover(
         &mut sweep.runs,
@@ -47,7 +47,7 @@ fn begin(sweep: &mut Sweep, event: &Event) -> Result<(), AllocError>
 fn end(alloc: Global, sweep: &mut Sweep, event: &Event) -> Result<(), AllocError>
     requires apart { AreRuns (row_of sweep.old) }
     requires topped { IsTopped sweep.old.coverage }
-    ensures { OnOk result (IsEnded event.now sweep.old sweep.new) }
+    ensures { OnOk result (RectsEnd event.now sweep.old sweep.new) }
 {
     let mut gaps: Vec<Gap> = Vec::new(alloc);
     sweep

@@ -1,12 +1,13 @@
 //! Where a part of a layout stands in the cell that uses it.
-ghost use Rattle.std.specs.Prelude.{◌≡◌, ◌≢◌, ◌↔◌, ◌^◌, if◌then◌else◌, IfSome, IfNone, pos, neg_ℤ, ◌≤ℤ◌};
+ghost use Rattle.std.specs.Prelude.{◌≡◌, ◌≢◌, ◌↔◌, if◌then◌else◌, IfSome, IfNone, pos, neg_ℤ, ◌≤ℤ◌};
 ghost use Rattle.geo_core.specs.declared.transforms.Transform.{Transform as IsTransform};
-ghost use Rattle.geo_core.specs.declared.squares.Square.{Square as IsSquare};
+ghost use Rattle.geo_core.specs.declared.squares.Square.{Square as OneSquare};
 ghost use Rattle.geo_core.specs.Covering.{Covers};
-ghost use Rattle.geo_core.specs.Images.{point_x, point_y, image, area_image, composed, inverted, six_of, CentreGoesTo};
+ghost use Rattle.geo_core.specs.Images.{point_x, point_y, image, rect_image, composed, inverted, six_of, CentreGoesTo};
 ghost use Rattle.geo_core.specs.Neighbours.{AreEdgeNeighbours};
 ghost use Rattle.geo_core.specs.Reach.{MovesInReach, LiesInReach, SpansInReach};
 
+use crate::limits::REACH;
 use crate::orients::Orient;
 use crate::squares::{Rect, Square};
 
@@ -63,7 +64,7 @@ impl Transform {
         requires inner_move { MovesInReach self.now }
         requires outer_move { MovesInReach outer.now }
         ensures value { result ≡ composed self.now outer.now }
-        ensures squares { (s : IsSquare) → image result s ≡ image outer.now (image self.now s) }
+        ensures squares { (s : OneSquare) → image result s ≡ image outer.now (image self.now s) }
     {
         let (dx, dy) = outer.point(self.dx, self.dy);
         Transform {
@@ -77,8 +78,8 @@ impl Transform {
     pub fn inverse(&self) -> Transform
         requires { MovesInReach self.now }
         ensures value { result ≡ inverted self.now }
-        ensures back { (s : IsSquare) → image result (image self.now s) ≡ s }
-        ensures forth { (s : IsSquare) → image self.now (image result s) ≡ s }
+        ensures back { (s : OneSquare) → image result (image self.now s) ≡ s }
+        ensures forth { (s : OneSquare) → image self.now (image result s) ≡ s }
     {
         let turned_back = Transform {
             orient: self.orient.inverse(),
@@ -99,8 +100,8 @@ impl Transform {
         requires lies { LiesInReach s }
         ensures value { result ≡ image self.now s }
         ensures centre { CentreGoesTo self.now s result }
-        ensures one_to_one { (q : IsSquare) → image self.now q ≡ result → q ≡ s }
-        ensures neighbours { (q : IsSquare) → AreEdgeNeighbours s q ↔ AreEdgeNeighbours result (image self.now q) }
+        ensures one_to_one { (q : OneSquare) → image self.now q ≡ result → q ≡ s }
+        ensures neighbours { (q : OneSquare) → AreEdgeNeighbours s q ↔ AreEdgeNeighbours result (image self.now q) }
     {
         let (left, bottom) = self.point(s.x, s.y);
         let (right, top) = self.point(s.x + 1, s.y + 1);
@@ -114,8 +115,8 @@ impl Transform {
     pub fn rect(&self, r: Rect) -> Rect
         requires moves { MovesInReach self.now }
         requires spans { SpansInReach r }
-        ensures value { result ≡ area_image self.now r }
-        ensures squares { (s : IsSquare) → Covers r s ↔ Covers result (image self.now s) }
+        ensures value { result ≡ rect_image self.now r }
+        ensures squares { (s : OneSquare) → Covers r s ↔ Covers result (image self.now s) }
     {
         let (left, bottom) = self.point(r.xlo, r.ylo);
         let (right, top) = self.point(r.xhi, r.yhi);
@@ -127,10 +128,10 @@ impl Transform {
     /// Where a point goes.
     fn point(&self, x: i64, y: i64) -> (i64, i64)
         requires moves { MovesInReach self.now }
-        requires x_low { neg_ℤ (pos (2 ^ 60)) ≤ℤ x }
-        requires x_high { x ≤ℤ pos (2 ^ 60) }
-        requires y_low { neg_ℤ (pos (2 ^ 60)) ≤ℤ y }
-        requires y_high { y ≤ℤ pos (2 ^ 60) }
+        requires x_low { neg_ℤ REACH ≤ℤ x }
+        requires x_high { x ≤ℤ REACH }
+        requires y_low { neg_ℤ REACH ≤ℤ y }
+        requires y_high { y ≤ℤ REACH }
         ensures across { result.0 ≡ point_x self.now x y }
         ensures up { result.1 ≡ point_y self.now x y }
     {

@@ -1,5 +1,6 @@
 -- Parents and the leaders above them.
-use Rattle.std.proofs.Common.{◌≡◌, ℕ, zero, suc, ◌<◌, ◌≤◌, min, max, cond, eqb, List, inl, inr, map, length, get_or, set, refl, sym, ◌∙◌, ap, subst, arith, length-set, get_or-set_same, get_or-set_other}
+use Rattle.std.proofs.Common.{◌≡◌, ℕ, zero, suc, ◌<◌, ◌≤◌, min, max, cond, eqb, List, inl, inr, map, length, get_or}
+use Rattle.std.proofs.Common.{set, refl, sym, ◌∙◌, ap, subst, arith, length-set, get_or-set_same, get_or-set_other}
 use Rattle.std.proofs.lemmas.Bool.{cases_eq}
 use Rattle.std.proofs.lemmas.Bool.Decides.{nat_tests}
 use Rattle.std.proofs.lemmas.List.{length-map, get_or-map, ext_get_or}
@@ -39,6 +40,7 @@ leaders_at : (p : List ℕ) (k : ℕ) → k < length p → get_or (leaders_of p)
 unfolding leaders_of
 leaders_at p k h = get_or-map-range_with_len (λ n. ancestor p n n) 0 (length p) k k 0 h (omega arith)
 
+-- there is a leader for each number
 pub length-leaders_of : (p : List ℕ) → length (leaders_of p) ≡ length p
 unfolding leaders_of
 length-leaders_of p = length-map-range_with_len (λ n. ancestor p n n) 0 (length p)
@@ -49,6 +51,7 @@ pub record Leads (parents leaders : List ℕ) : Type 0 where
   pub follows : (k : ℕ) → k < length parents → get_or leaders k 0 ≡ get_or leaders (get_or parents k 0) 0
   pub roots : (k : ℕ) → k < length parents → get_or parents k 0 ≡ k → get_or leaders k 0 ≡ k
 
+-- the roots above the numbers lead them
 pub Leads-leaders_of : (p : List ℕ) → PointDown p → Leads p (leaders_of p)
 Leads-leaders_of p d = record {
   long = length-leaders_of p;
@@ -73,6 +76,7 @@ pub Leads-unique : (p l m : List ℕ) → PointDown p → Leads p l → Leads p 
 Leads-unique p l m d L M =
     ext_get_or 0 l m (L.long ∙ sym M.long) (λ k h. same_below p l m d L M (length p) k (omega (arith, L.long)) (omega (arith, L.long)))
 
+-- so what leads the numbers is what the roots are
 pub leaders_from_Leads : (p l : List ℕ) → PointDown p → Leads p l → leaders_of p ≡ l
 leaders_from_Leads p l d L = Leads-unique p (leaders_of p) l d (Leads-leaders_of p d) L
 
@@ -109,6 +113,7 @@ itself_below p l d L (suc n) k h w =
 pub Leads-itself : (p l : List ℕ) → PointDown p → Leads p l → (k : ℕ) → k < length p → get_or l (get_or l k 0) 0 ≡ get_or l k 0
 Leads-itself p l d L k w = itself_below p l d L (suc k) k (omega arith) w
 
+-- a parent that is not greater may be set
 pub PointDown-set : (p : List ℕ) → PointDown p → (a b : ℕ) → b ≤ a → PointDown (set p a b)
 PointDown-set p d a b h = λ k w.
     let long = length-set p a b in
@@ -147,6 +152,7 @@ Leads-halve p l d L a h =
     (sym (L.follows (get_or p a 0) (omega arith)) ∙ sym (L.follows a h))
     (λ e. omega arith)
 
+-- and it keeps all parents from being greater
 pub PointDown-halve : (p : List ℕ) → PointDown p → (a : ℕ) → a < length p → PointDown (set p a (get_or p (get_or p a 0) 0))
 PointDown-halve p d a h =
     let down = d a h in
@@ -168,7 +174,8 @@ moved_target : (x y : ℕ) → moved x y x ≡ x
 unfolding moved
 moved_target x y = grind (arith, nat_tests)
 
-link_by : (p l : List ℕ) → Leads p l → (x y : ℕ) → x < length p → y < length p → get_or l x 0 ≡ x → get_or l y 0 ≡ y → ((k : ℕ) → k < length p → get_or p k 0 < length p) → Leads (set p y x) (map (moved x y) l)
+link_by : (p l : List ℕ) → Leads p l → (x y : ℕ) → x < length p → y < length p → get_or l x 0 ≡ x → get_or l y 0 ≡ y
+    → ((k : ℕ) → k < length p → get_or p k 0 < length p) → Leads (set p y x) (map (moved x y) l)
 link_by p l L x y x_in y_in x_leads y_leads in_range =
     let m = map (moved x y) l in
     let at_y : get_or (set p y x) y 0 ≡ x = get_or-set_same p y x 0 y_in in
@@ -200,7 +207,8 @@ Leads-link p l d L x y x_in y_in x_leads y_leads = link_by p l L x y x_in y_in x
 link_of : ℕ → ℕ → List ℕ → List ℕ
 link_of low high leaders = map (λ k. cond (eqb k high) low k) leaders
 
-linked : (p leaders : List ℕ) → PointDown p → leaders_of p ≡ leaders → (x y : ℕ) → x < length p → y < length p → x ≤ y → get_or leaders x 0 ≡ x → get_or leaders y 0 ≡ y
+linked : (p leaders : List ℕ) → PointDown p → leaders_of p ≡ leaders → (x y : ℕ) → x < length p → y < length p → x ≤ y → get_or leaders x 0 ≡ x
+    → get_or leaders y 0 ≡ y
     → leaders_of (set p y x) ≡ link_of x y leaders
 unfolding link_of
 linked p leaders d same x y x_in y_in le x_leads y_leads =
@@ -225,10 +233,12 @@ leaders_of-link p leaders d same a b x y a_in b_in x_in y_in x_is y_is =
           ∙ (let high : x ≡ max u v = omega arith in let low : y ≡ min u v = omega arith in ap (λ z. at z y) high ∙ ap (at (max u v)) low)),
     )
 
+-- there are n numbers below n
 pub length-numbers_below : (n : ℕ) → length (numbers_below n) ≡ n
 unfolding numbers_below
 length-numbers_below n = length-range_with_len 0 n
 
+-- each stands at its own place
 pub get_or-numbers_below : (n k : ℕ) → k < n → get_or (numbers_below n) k 0 ≡ k
 unfolding numbers_below
 get_or-numbers_below n k h = get_or-range_with_len 0 n k 0 h ∙ omega arith
@@ -236,6 +246,7 @@ get_or-numbers_below n k h = get_or-range_with_len 0 n k 0 h ∙ omega arith
 at_itself : (n k : ℕ) → k < length (numbers_below n) → get_or (numbers_below n) k 0 ≡ k
 at_itself n k h = get_or-numbers_below n k (omega (arith, length-numbers_below n))
 
+-- as parents they point at themselves
 pub PointDown-numbers_below : (n : ℕ) → PointDown (numbers_below n)
 PointDown-numbers_below n = λ k h. omega (arith, at_itself n k h)
 

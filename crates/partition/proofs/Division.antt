@@ -22,7 +22,8 @@ Divides-links marks Link Other there back d = λ a b a_in b_in.
     )
 
 -- other marks of the same classes divide alike
-pub Divides-same : (marks others : List ℕ) (Link : ℕ → ℕ → Type 0) → length others ≡ length marks → SameClasses marks others → Divides marks Link → Divides others Link
+pub Divides-same : (marks others : List ℕ) (Link : ℕ → ℕ → Type 0) → length others ≡ length marks → SameClasses marks others → Divides marks Link
+    → Divides others Link
 Divides-same marks others Link long same d = λ a b a_in b_in.
     let a_marked : a < length marks = omega arith in
     let b_marked : b < length marks = omega arith in
@@ -82,8 +83,14 @@ merged_marks u v = elim (cases_lt u v) [
 merged_marks_cases : (u v p q : ℕ) → merged (min u v) (max u v) p ≡ merged (min u v) (max u v) q → (p ≡ q) ⊎ ((p ≡ u) × (q ≡ v)) ⊎ ((p ≡ v) × (q ≡ u))
 merged_marks_cases u v p q e = elim (merged_cases (min u v) (max u v) p q e) [
   | inl same ↦ inl same
-  | inr (inl h) ↦ elim (cases_lt u v) [ inl less ↦ inr (inl (omega (arith, h.0), omega (arith, h.1))) | inr more ↦ inr (inr (omega (arith, h.0), omega (arith, h.1))) ]
-  | inr (inr h) ↦ elim (cases_lt u v) [ inl less ↦ inr (inr (omega (arith, h.0), omega (arith, h.1))) | inr more ↦ inr (inl (omega (arith, h.0), omega (arith, h.1))) ]
+  | inr (inl h) ↦ elim (cases_lt u v) [
+    | inl less ↦ inr (inl (omega (arith, h.0), omega (arith, h.1)))
+    | inr more ↦ inr (inr (omega (arith, h.0), omega (arith, h.1)))
+  ]
+  | inr (inr h) ↦ elim (cases_lt u v) [
+    | inl less ↦ inr (inr (omega (arith, h.0), omega (arith, h.1)))
+    | inr more ↦ inr (inl (omega (arith, h.0), omega (arith, h.1)))
+  ]
 ]
 
 -- the links and one more
@@ -93,7 +100,8 @@ WithLink Link a b x y = Link x y ⊎ ((x ≡ a) × (y ≡ b))
 -- a way that goes on from one by the old links meets numbers of one merged mark
 walk : (marks : List ℕ) (Link : ℕ → ℕ → Type 0) → Divides marks Link → (a b : ℕ) → a < length marks → b < length marks
     → (f : ℕ → ℕ) → f (get_or marks a 0) ≡ f (get_or marks b 0)
-    → (i c j : ℕ) → i < length marks → IsJoined Link i c → Chain (EitherWay (WithLink Link a b)) c j → j < length marks → f (get_or marks i 0) ≡ f (get_or marks j 0)
+    → (i c j : ℕ) → i < length marks → IsJoined Link i c → Chain (EitherWay (WithLink Link a b)) c j → j < length marks → f (get_or marks i 0) ≡ f
+    (get_or marks j 0)
 walk marks Link d a b a_in b_in f one i c j i_in begun stay j_in = ap f ((d i c i_in j_in).1 begun)
 walk marks Link d a b a_in b_in f one i c j i_in begun (go {b = next} step rest) j_in =
     let P : ℕ → ℕ → Type 0 = λ x y. IsJoined Link x y in
@@ -128,19 +136,6 @@ Divides-join marks Link d a b a_in b_in = λ i j i_in j_in.
       ]),
       (λ way. at_i ∙ walk marks Link d a b a_in b_in f (merged_marks u v) i i j i_old stay way j_old ∙ sym at_j),
     )
-
--- one more link joined, where a caller speaks of links of its own before and after
-pub Divides-join_as : (marks : List ℕ) (Link Next : ℕ → ℕ → Type 0) → Divides marks Link → (a b : ℕ) → a < length marks → b < length marks
-    → ((x y : ℕ) → Link x y → IsJoined Next x y) → IsJoined Next a b → ((x y : ℕ) → Next x y → IsJoined (WithLink Link a b) x y)
-    → Divides (joined_leaders marks a b) Next
-Divides-join_as marks Link Next d a b a_in b_in old new back =
-    Divides-links (joined_leaders marks a b) (WithLink Link a b) Next
-    (λ x y h. elim h [
-      | inl link ↦ old x y link
-      | inr at ↦ (let P : ℕ → ℕ → Type 0 = λ u v. IsJoined Next u v in subst (λ u. P u y) (sym at.0) (subst (λ v. P a v) (sym at.1) new))
-    ])
-    back
-    (Divides-join marks Link d a b a_in b_in)
 
 pair_then_link : (pairs : List (ℕ × ℕ)) (a b x y : ℕ) → IsPair (pairs ++ (a, b) ∷ []) x y → WithLink (IsPair pairs) a b x y
 pair_then_link pairs a b x y h = elim (In-push_cases (x, y) pairs (a, b) h) [ inl old ↦ inl old | inr e ↦ inr (ap (λ p. p.0) (sym e), ap (λ p. p.1) (sym e)) ]

@@ -1,5 +1,6 @@
 -- The labels of classes: how many classes have a lesser leader.
-use Rattle.std.proofs.Common.{◌≡◌, ◌≢◌, ℕ, zero, suc, ◌+◌, ◌-◌, ◌<◌, ◌≤◌, cond, eqb, List, inl, inr, length, get_or, set, All, refl, sym, ◌∙◌, ap, subst, arith, add-zero, add-one, add-suc, get_or-set_same, get_or-set_other}
+use Rattle.std.proofs.Common.{◌≡◌, ◌≢◌, ℕ, zero, suc, ◌+◌, ◌-◌, ◌<◌, ◌≤◌, cond, eqb, List, inl, inr, length, get_or, set, All}
+use Rattle.std.proofs.Common.{sym, ◌∙◌, ap, subst, arith, add-zero, add-one, add-suc, get_or-set_same, get_or-set_other}
 use Rattle.std.proofs.lemmas.Bool.{cases_eq, cases_lt}
 use Rattle.std.proofs.lemmas.Bool.Decides.{nat_tests}
 use Rattle.std.proofs.lemmas.List.{length-map, get_or-map, ext_get_or}
@@ -23,9 +24,11 @@ none_if_other a b ne = grind (arith, nat_tests)
 at_most_one : (a b : ℕ) → counted_at a b ≤ 1
 at_most_one a b = grind (arith, nat_tests)
 
+-- a number that leads itself is one class more
 pub classes_below-leader : (leaders : List ℕ) (k : ℕ) → get_or leaders k 0 ≡ k → classes_below leaders (k + 1) ≡ classes_below leaders k + 1
 classes_below-leader leaders k e = ap (classes_below leaders) (add-one k) ∙ ap (λ z. classes_below leaders k + z) (one_if_same (get_or leaders k 0) k e)
 
+-- any other number is none
 pub classes_below-other : (leaders : List ℕ) (k : ℕ) → (get_or leaders k 0 ≡ k → ⊥) → classes_below leaders (k + 1) ≡ classes_below leaders k
 classes_below-other leaders k ne =
     ap (classes_below leaders) (add-one k) ∙ ap (λ z. classes_below leaders k + z) (none_if_other (get_or leaders k 0) k ne) ∙ omega arith
@@ -41,16 +44,15 @@ pub record Numbered (parents labels : List ℕ) (i count : ℕ) : Type 0 where
   pub rest : (k : ℕ) → i ≤ k → k < length parents → get_or labels k 0 ≡ get_or parents k 0
   pub counted : count ≡ classes_below (leaders_of parents) i
 
-pub numbered_none : (p : List ℕ) → Numbered p p 0 0
-numbered_none p = record { done = λ k h. absurd (omega arith); rest = λ k h w. refl; counted = refl }
-
 one_written : (p labels : List ℕ) (i count label : ℕ) → Numbered p labels i count → i < length labels
-    → label ≡ classes_below (leaders_of p) (get_or (leaders_of p) i 0) → (more : ℕ) → more ≡ classes_below (leaders_of p) (i + 1) → Numbered p (set labels i label) (i + 1) more
+    → label ≡ classes_below (leaders_of p) (get_or (leaders_of p) i 0) → (more : ℕ) → more ≡ classes_below (leaders_of p) (i + 1) → Numbered p
+    (set labels i label) (i + 1) more
 one_written p labels i count label n within is more counts =
     let at_i : get_or (set labels i label) i 0 ≡ label = get_or-set_same labels i label 0 within in
     record {
       done = λ k h. elim (cases_eq k i) [
-        | inl e ↦ (let P : ℕ → Type 0 = λ z. get_or (set labels i label) z 0 ≡ classes_below (leaders_of p) (get_or (leaders_of p) z 0) in subst P (sym e) (at_i ∙ is))
+        | inl e ↦ (let P : ℕ → Type 0 = λ z. get_or (set labels i label) z 0 ≡ classes_below (leaders_of p) (get_or (leaders_of p) z 0) in subst P
+            (sym e) (at_i ∙ is))
         | inr other ↦ get_or-set_other labels i k label 0 other ∙ n.done k (omega arith)
       ];
       rest = λ k h w. (let other : k ≢ i = omega arith in get_or-set_other labels i k label 0 other ∙ n.rest k (omega arith) w);
@@ -81,7 +83,9 @@ numbered_child p labels i count d n within long child =
     count
     (n.counted ∙ sym (classes_below-other (leaders_of p) i (λ e. child (parent ∙ Leads-root p (leaders_of p) d L i within e))))
 
-pub numbered_all : (p labels : List ℕ) (count : ℕ) → PointDown p → Numbered p labels (length p) count → length labels ≡ length p → labels ≡ labels_of (leaders_of p)
+-- when all places are written, the labels are those of the leaders
+pub numbered_all : (p labels : List ℕ) (count : ℕ) → PointDown p → Numbered p labels (length p) count → length labels ≡ length p
+    → labels ≡ labels_of (leaders_of p)
 numbered_all p labels count d n long =
     let leaders = leaders_of p in
     let L = Leads-leaders_of p d in
@@ -93,6 +97,7 @@ pub record Lead (leaders : List ℕ) : Type 0 where
   pub le : (k : ℕ) → k < length leaders → get_or leaders k 0 ≤ k
   pub itself : (k : ℕ) → k < length leaders → get_or leaders (get_or leaders k 0) 0 ≡ get_or leaders k 0
 
+-- the roots above numbers are such leaders
 pub Lead-leaders_of : (p : List ℕ) → PointDown p → Lead (leaders_of p)
 Lead-leaders_of p d =
     let L = Leads-leaders_of p d in
@@ -121,9 +126,11 @@ same_leader leaders a b u v e = elim (cases_lt a b) [
   ]
 ]
 
+-- the label at a place counts the classes before
 pub labels_at : (leaders : List ℕ) (k : ℕ) → k < length leaders → get_or (labels_of leaders) k 0 ≡ classes_below leaders (get_or leaders k 0)
 labels_at leaders k h = get_or-map (classes_below leaders) leaders k 0 0 h
 
+-- there is a label for each number
 pub labels_long : (leaders : List ℕ) → length (labels_of leaders) ≡ length leaders
 labels_long leaders = length-map leaders (classes_below leaders)
 
@@ -144,7 +151,8 @@ labels_below leaders lead =
     omega (arith, labels_at leaders k k_in))
 
 -- the leader that has so many before it
-found_below : (leaders : List ℕ) (n label : ℕ) → label < classes_below leaders n → (k : ℕ) × ((k < n) × ((get_or leaders k 0 ≡ k) × (classes_below leaders k ≡ label)))
+found_below : (leaders : List ℕ) (n label : ℕ) → label < classes_below leaders n
+    → (k : ℕ) × ((k < n) × ((get_or leaders k 0 ≡ k) × (classes_below leaders k ≡ label)))
 found_below leaders zero label h = absurd (omega arith)
 found_below leaders (suc n) label h = elim (cases_lt label (classes_below leaders n)) [
   | inl less ↦ (let r = found_below leaders n label less in (r.0, (omega (arith, r.1.0), r.1.1)))
@@ -155,7 +163,8 @@ found_below leaders (suc n) label h = elim (cases_lt label (classes_below leader
 ]
 
 -- each label is that of a leader, which is the least number that has it
-labels_used : (leaders : List ℕ) → Lead leaders → (label : ℕ) → label < classes_below leaders (length leaders) → (least : ℕ) × IsLeast ◌≤◌ (HasMark (labels_of leaders) label) least
+labels_used : (leaders : List ℕ) → Lead leaders → (label : ℕ) → label < classes_below leaders (length leaders)
+    → (least : ℕ) × IsLeast ◌≤◌ (HasMark (labels_of leaders) label) least
 labels_used leaders lead = λ label h.
     let r = found_below leaders (length leaders) label h in
     let k = r.0 in (
@@ -170,7 +179,8 @@ labels_used leaders lead = λ label h.
     )
 
 -- the least number of a class is its leader
-least_leads : (leaders : List ℕ) → Lead leaders → (label k : ℕ) → IsLeast ◌≤◌ (HasMark (labels_of leaders) label) k → (k < length leaders) × ((get_or leaders k 0 ≡ k) × (classes_below leaders k ≡ label))
+least_leads : (leaders : List ℕ) → Lead leaders → (label k : ℕ) → IsLeast ◌≤◌ (HasMark (labels_of leaders) label) k
+    → (k < length leaders) × ((get_or leaders k 0 ≡ k) × (classes_below leaders k ≡ label))
 least_leads leaders lead label k l =
     let k_in : k < length leaders = omega (arith, labels_long leaders, l.0.0) in
     let u = get_or leaders k 0 in
@@ -190,6 +200,7 @@ labels_in_order leaders lead = λ label greater i j less l m.
     let b = least_leads leaders lead greater j m in
     elim (cases_lt i j) [ inl before ↦ before | inr after ↦ absurd (omega (arith, rises leaders j i after, a.1.1, b.1.1)) ]
 
+-- so the labels are numbered in the order of least members
 pub IsNumbered-labels : (leaders : List ℕ) → Lead leaders → IsNumbered (labels_of leaders) (classes_below leaders (length leaders))
 IsNumbered-labels leaders lead = record {
   below = labels_below leaders lead;

@@ -8,9 +8,8 @@ ghost use Rattle.partition.specs.Leaders.{numbers_below, joined_leaders, classes
 ghost use Rattle.partition.specs.Parents.{PointDown, leaders_of};
 ghost use Rattle.partition.specs.Marks.{HasMark, SameClasses, IsNumbered};
 
-use crate::faults::PartitionFault;
 use crate::forest::{each_alone, join_roots, number_classes, root_of};
-use std::alloc::Global;
+use std::alloc::{AllocError, Global};
 use std::marker::Model;
 
 /// The numbers below a count, in classes. Contracts see the list of their leaders: at each number
@@ -58,7 +57,7 @@ impl Labelling {
 
 impl Partition {
     /// The numbers below the count, each in a class of its own. Want of memory alone refuses.
-    pub fn new(alloc: Global, count: usize) -> Result<Partition, PartitionFault>
+    pub fn new(alloc: Global, count: usize) -> Result<Partition, AllocError>
         ensures len { IfOk result (λ partition. length partition ≡ count) }
         ensures leaders { IfOk result (λ partition. partition ≡ numbers_below count) }
         ensures divides { IfOk result (λ partition. Divides partition (IsPair [])) }
@@ -120,7 +119,7 @@ pub fn classes(
     alloc: Global,
     count: usize,
     pairs: &[(usize, usize)],
-) -> Result<Labelling, PartitionFault>
+) -> Result<Labelling, AllocError>
     requires { All (λ pair. (pair.0 < count) × (pair.1 < count)) pairs.now }
     ensures len { IfOk result (λ made. vec_len made.labels ≡ count) }
     ensures divides { IfOk result (λ made. Divides made.labels.items (IsPair pairs.now)) }

@@ -16,9 +16,20 @@ in_both a b p q d h i j k =
     let pw : a.xlo <ℤ a.xhi = p.wide in let ph : a.ylo <ℤ a.yhi = p.high in
     let qw : b.xlo <ℤ b.xhi = q.wide in let qh : b.ylo <ℤ b.yhi = q.high in
     d (record { x = int_max a.xlo b.xlo; y = int_max a.ylo b.ylo })
-    (record { right_of_xlo = omega (arith, ints, clamps); left_of_xhi = omega (arith, ints, clamps); above_ylo = omega (arith, ints, clamps); below_yhi = omega (arith, ints, clamps) })
-    (record { right_of_xlo = omega (arith, ints, clamps); left_of_xhi = omega (arith, ints, clamps); above_ylo = omega (arith, ints, clamps); below_yhi = omega (arith, ints, clamps) })
+    (record {
+      right_of_xlo = omega (arith, ints, clamps);
+      left_of_xhi = omega (arith, ints, clamps);
+      above_ylo = omega (arith, ints, clamps);
+      below_yhi = omega (arith, ints, clamps);
+    })
+    (record {
+      right_of_xlo = omega (arith, ints, clamps);
+      left_of_xhi = omega (arith, ints, clamps);
+      above_ylo = omega (arith, ints, clamps);
+      below_yhi = omega (arith, ints, clamps);
+    })
 
+-- disjoint rectangles are apart in x or in y
 pub apart_from_disjoint : (a b : Rect) → IsProper a → IsProper b → AreDisjoint a b → AreApart a b
 apart_from_disjoint a b p q d =
     by_lt_z b.xlo a.xhi
@@ -29,6 +40,7 @@ apart_from_disjoint a b p q d =
     (λ i. inl (inr i)))
     (λ h. inl (inl h))
 
+-- whichever is named first
 pub AreApart-sym : (a b : Rect) → AreApart a b → AreApart b a
 AreApart-sym a b (inl (inl h)) = inl (inr h)
 AreApart-sym a b (inl (inr h)) = inl (inl h)

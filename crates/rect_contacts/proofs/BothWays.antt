@@ -1,5 +1,6 @@
 -- Sums over contacts are sums over pairs of places.
-use Rattle.std.proofs.Common.{◌≡◌, ℕ, ◌<◌, ◌≤◌, ℤ, pos, ◌+ℤ◌, ◌*ℤ◌, ◌≤ℤ◌, ◌<ℤ◌, Bool, true, false, cond, ◌&&◌, List, [], ◌∷◌, inl, inr, map, filter, length, get_or, refl, sym, ◌∙◌, ap, subst, arith}
+use Rattle.std.proofs.Common.{◌≡◌, ℕ, ◌<◌, ◌≤◌, ℤ, pos, ◌+ℤ◌, ◌*ℤ◌, ◌≤ℤ◌, ◌<ℤ◌, Bool, true, false, cond, ◌&&◌, List}
+use Rattle.std.proofs.Common.{[], ◌∷◌, inl, inr, map, filter, length, get_or, refl, sym, ◌∙◌, ap, subst, arith}
 use Rattle.std.specs.Prelude.{All, nat_lt, int_lt}
 use Rattle.std.specs.List.{range_with_len}
 use Rattle.std.proofs.Math.IntN.{*ℤ-zero}
@@ -18,7 +19,7 @@ use Rattle.finite_sets.proofs.Sums.{sum_on-append, sum_on-map, sum_on-same, sum_
 use Rattle.finite_sets.proofs.Ranges.{Lists-pairs_of}
 use Rattle.rect_contacts.specs.declared.contacts.Contact.{Contact}
 use Rattle.rect_contacts.specs.Rects.{rect_at, places_of}
-use Rattle.rect_contacts.specs.Contacts.{shared_length, IsContact}
+use Rattle.rect_contacts.specs.Contacts.{shared_length, IsSharedEdge}
 use Rattle.rect_contacts.specs.EdgeLaws.{ContactsCountBothWays}
 use Rattle.rect_contacts.proofs.Counting.{distributes_right}
 use Rattle.rect_contacts.proofs.Shared.{shared_length-same, shared_length-not_negative, shared_length-comm}
@@ -114,13 +115,15 @@ module _ (rects : List Rect) (proper : All IsProper rects) (weight : ℕ → ℕ
   below_end : (k : ℕ) → In k (places_of rects) → k < length rects
   below_end k i = (Lists-places_of rects).2 k i
 
-  join : (i j : ℕ) → only_if (nat_lt i j) (weight i j *ℤ shared_at i j) +ℤ only_if (nat_lt i j) (weight j i *ℤ shared_at j i) ≡ only_if (nat_lt i j) (both_ways (i, j))
+  join : (i j : ℕ) → only_if (nat_lt i j) (weight i j *ℤ shared_at i j) +ℤ only_if (nat_lt i j) (weight j i *ℤ shared_at j i) ≡ only_if (nat_lt i j)
+      (both_ways (i, j))
   join i j =
       only_if-add (nat_lt i j) (weight i j *ℤ shared_at i j) (weight j i *ℤ shared_at j i)
       ∙ ap (only_if (nat_lt i j)) (ap (λ (z : ℤ). (weight i j *ℤ shared_at i j) +ℤ (weight j i *ℤ z)) (shared_length-comm (rect_at rects j) (rect_at rects i))
       ∙ distributes_right (weight i j) (weight j i) (shared_at i j))
 
-  split : (i j : ℕ) → i < length rects → weight i j *ℤ shared_at i j ≡ only_if (nat_lt i j) (weight i j *ℤ shared_at i j) +ℤ only_if (nat_lt j i) (weight i j *ℤ shared_at i j)
+  split : (i j : ℕ) → i < length rects
+      → weight i j *ℤ shared_at i j ≡ only_if (nat_lt i j) (weight i j *ℤ shared_at i j) +ℤ only_if (nat_lt j i) (weight i j *ℤ shared_at i j)
   split i j below = one_order i j (weight i j *ℤ shared_at i j) (λ e.
       ap (λ (z : ℤ). weight i j *ℤ z) (ap (λ (k : ℕ). shared_at i k) (sym e) ∙ shared_length-same (rect_at rects i) (proper i _ below)) ∙ *ℤ-zero (weight i j))
 
@@ -137,7 +140,8 @@ module _ (rects : List Rect) (proper : All IsProper rects) (weight : ℕ → ℕ
       ∙ ap (λ (z : ℤ). sum_on (λ i. sum_on (u i) all) all +ℤ z) (sum_on-swap v all all)
       ∙ sym (sum_on-add (λ i. sum_on (u i) all) (λ i. sum_on (λ j. v j i) all) all)
       ∙ sum_on-same (λ i. sum_on (u i) all +ℤ sum_on (λ j. v j i) all) (λ i. sum_on (λ j. only_if (nat_lt i j) (both_ways (i, j))) all) all
-      (λ i ini. sym (sum_on-add (u i) (λ j. v j i) all) ∙ sum_on-same (λ j. u i j +ℤ v j i) (λ j. only_if (nat_lt i j) (both_ways (i, j))) all (λ j inj. join i j))
+      (λ i ini. sym (sum_on-add (u i) (λ j. v j i) all) ∙ sum_on-same (λ j. u i j +ℤ v j i) (λ j. only_if (nat_lt i j) (both_ways (i, j))) all
+      (λ j inj. join i j))
 
   -- the test of a pair of places that touch, in order
   abbrev do_touch : ℕ × ℕ → Bool
@@ -148,7 +152,7 @@ module _ (rects : List Rect) (proper : All IsProper rects) (weight : ℕ → ℕ
       (λ f. ap (λ (z : ℤ). (weight i j +ℤ weight j i) *ℤ z) (none_from_test (shared_at i j) (shared_length-not_negative (rect_at rects i) (rect_at rects j)) f)
       ∙ *ℤ-zero (weight i j +ℤ weight j i))
 
-  module _ (contacts : List Contact) (lists : Lists (IsContact rects) contacts) where
+  module _ (contacts : List Contact) (lists : Lists (IsSharedEdge rects) contacts) where
     abbrev places_in : Contact → ℕ × ℕ
     places_in c = (c.first, c.second)
 
@@ -164,7 +168,8 @@ module _ (rects : List Rect) (proper : All IsProper rects) (weight : ℕ → ℕ
     pairs = pairs_of (places_of rects) (places_of rects)
 
     pairs_listed : Lists {X = ℕ × ℕ} (λ p. (p.0 < length rects) × (p.1 < length rects)) pairs
-    pairs_listed = Lists-pairs_of (λ k. k < length rects) (λ k. k < length rects) (places_of rects) (places_of rects) (Lists-places_of rects) (Lists-places_of rects)
+    pairs_listed = Lists-pairs_of (λ k. k < length rects) (λ k. k < length rects) (places_of rects) (places_of rects) (Lists-places_of rects)
+        (Lists-places_of rects)
 
     touching_pairs : (p : ℕ × ℕ) → In p (filter do_touch pairs) → In p (map places_in contacts)
     touching_pairs p i =
@@ -187,7 +192,8 @@ module _ (rects : List Rect) (proper : All IsProper rects) (weight : ℕ → ℕ
         let last : c.second < length rects = is.in_list in
         let long : pos 0 <ℤ shared_at c.first c.second = subst (λ (z : ℤ). pos 0 <ℤ z) is.length_is is.not_none in
         subst (λ (q : ℕ × ℕ). In q (filter do_touch pairs)) source.1.1
-        (In-filter do_touch (places_in c) pairs (pairs_listed.1 (places_in c) (omega arith, last)) (passes_both c.first c.second (shared_at c.first c.second) order long))
+        (In-filter do_touch (places_in c) pairs (pairs_listed.1 (places_in c) (omega arith, last))
+        (passes_both c.first c.second (shared_at c.first c.second) order long))
 
     sum_over_contacts : sum_on (λ c. (weight c.first c.second +ℤ weight c.second c.first) *ℤ c.length) contacts
         ≡ sum_on (λ i. sum_on (λ j. only_if (nat_lt i j) (both_ways (i, j))) (places_of rects)) (places_of rects)
@@ -198,7 +204,8 @@ module _ (rects : List Rect) (proper : All IsProper rects) (weight : ℕ → ℕ
         ∙ sum_on-same_things both_ways (map places_in contacts) (filter do_touch pairs) (Distinct-map places_in contacts same_contact lists.0)
         (Distinct-filter do_touch pairs pairs_listed.0) pairs_touching touching_pairs
         ∙ sum_on-filter do_touch both_ways pairs
-        ∙ sum_on-same {X = ℕ × ℕ} (λ p. cond (do_touch p) (both_ways p) (pos 0)) (λ p. only_if (nat_lt p.0 p.1) (both_ways p)) pairs (λ p i. sym (only_touching p.0 p.1))
+        ∙ sum_on-same {X = ℕ × ℕ} (λ p. cond (do_touch p) (both_ways p) (pos 0)) (λ p. only_if (nat_lt p.0 p.1) (both_ways p)) pairs
+        (λ p i. sym (only_touching p.0 p.1))
         ∙ sum_on-nested (λ p. only_if (nat_lt p.0 p.1) (both_ways p)) (places_of rects) (places_of rects)
 
 -- each contact counts for both of its rectangles

@@ -1,5 +1,6 @@
 -- How many integers of one range lie in another, and how many squares of one rectangle in another that is moved.
-use Rattle.std.proofs.Common.{◌≡◌, ℕ, zero, suc, ◌+◌, ◌*◌, ℤ, pos, ◌+ℤ◌, ◌*ℤ◌, ◌≤ℤ◌, ◌<ℤ◌, Bool, true, false, ◌&&◌, List, [], ◌∷◌, ◌⊎◌, inl, inr, map, refl, sym, ◌∙◌, ap, arith}
+use Rattle.std.proofs.Common.{◌≡◌, ℕ, zero, suc, ◌+◌, ◌*◌, ℤ, pos, ◌+ℤ◌, ◌*ℤ◌, ◌≤ℤ◌, ◌<ℤ◌, Bool, true, false}
+use Rattle.std.proofs.Common.{◌&&◌, List, [], ◌∷◌, ◌⊎◌, inl, inr, map, refl, sym, ◌∙◌, ap, arith}
 use Rattle.std.specs.Prelude.{int_le, int_lt}
 use Rattle.std.proofs.Math.IntN.{zero-*ℤ}
 use Rattle.std.proofs.lemmas.Int.{ints, clamps, by_lt_z}
@@ -24,7 +25,8 @@ fails_above : (lo hi z : ℤ) → hi ≤ℤ z → (int_le lo z && int_lt z hi) �
 fails_above lo hi z above = grind (arith, ints)
 
 -- an integer lies in the range, or outside it
-in_or_out : (lo hi z : ℤ) → ((lo ≤ℤ z) × (z <ℤ hi) × (one_if (int_le lo z && int_lt z hi) ≡ pos 1)) ⊎ (((z <ℤ lo) ⊎ (hi ≤ℤ z)) × (one_if (int_le lo z && int_lt z hi) ≡ pos 0))
+in_or_out : (lo hi z : ℤ)
+    → ((lo ≤ℤ z) × (z <ℤ hi) × (one_if (int_le lo z && int_lt z hi) ≡ pos 1)) ⊎ (((z <ℤ lo) ⊎ (hi ≤ℤ z)) × (one_if (int_le lo z && int_lt z hi) ≡ pos 0))
 in_or_out lo hi z =
     by_lt_z z lo
     (λ below. inr (inl below, ap one_if (fails_below lo hi z below)))
@@ -52,7 +54,8 @@ one_more_above lo hi lo' hi' h = omega (arith, ints, clamps)
 one_more : (lo hi lo' hi' : ℤ) → lo <ℤ hi → one_if (int_le lo' lo && int_lt lo hi') +ℤ overlap (lo +ℤ pos 1) hi lo' hi' ≡ overlap lo hi lo' hi'
 one_more lo hi lo' hi' h = elim (in_or_out lo' hi' lo) [
   | inl k ↦ ap (λ (z : ℤ). z +ℤ overlap (lo +ℤ pos 1) hi lo' hi') k.2 ∙ one_more_in lo hi lo' hi' h k.0 k.1
-  | inr k ↦ ap (λ (z : ℤ). z +ℤ overlap (lo +ℤ pos 1) hi lo' hi') k.1 ∙ omega (arith, ints) ∙ (elim k.0 [ inl l ↦ one_more_below lo hi lo' hi' l | inr l ↦ one_more_above lo hi lo' hi' l ])
+  | inr k ↦ ap (λ (z : ℤ). z +ℤ overlap (lo +ℤ pos 1) hi lo' hi') k.1 ∙ omega (arith, ints)
+      ∙ (elim k.0 [ inl l ↦ one_more_below lo hi lo' hi' l | inr l ↦ one_more_above lo hi lo' hi' l ])
 ]
 
 -- the integers of a range that lie in another when they are moved by d
@@ -74,13 +77,15 @@ count_range f d moved lo hi lo' hi' h =
     let ends : (lo +ℤ d) +ℤ pos (extent lo hi) ≡ hi +ℤ d = omega (arith, ints, top) in
     count_from f d moved lo (extent lo hi) lo' hi' ∙ ap (λ (z : ℤ). overlap (lo +ℤ d) z lo' hi') ends
 
+-- a product of a sum, the sum on the left
 pub distributes_right : (a b k : ℤ) → (a *ℤ k) +ℤ (b *ℤ k) ≡ (a +ℤ b) *ℤ k
 distributes_right a b k =
     let sum : up (a +ℤ b) + (down a + down b) ≡ down (a +ℤ b) + (up a + up b) = omega (arith, ints) in
     omega (arith, ints, ap (λ z. z * up k) sum, ap (λ z. z * down k) sum)
 
 -- a sum over pairs of products is the product of the sums
-pub sum_on-pairs_of : {X Y : Type 0} (u : X → ℤ) (v : Y → ℤ) (xs : List X) (ys : List Y) → sum_on {X = X × Y} (λ p. u p.0 *ℤ v p.1) (pairs_of xs ys) ≡ sum_on u xs *ℤ sum_on v ys
+pub sum_on-pairs_of : {X Y : Type 0} (u : X → ℤ) (v : Y → ℤ) (xs : List X) (ys : List Y)
+    → sum_on {X = X × Y} (λ p. u p.0 *ℤ v p.1) (pairs_of xs ys) ≡ sum_on u xs *ℤ sum_on v ys
 sum_on-pairs_of u v [] ys = sym (zero-*ℤ (sum_on v ys))
 sum_on-pairs_of {X} {Y} u v (x ∷ xs) ys =
     let w : X × Y → ℤ = λ p. u p.0 *ℤ v p.1 in

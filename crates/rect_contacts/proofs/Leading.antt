@@ -174,7 +174,8 @@ edges_between-same a p =
     let right : rightward a a ≡ (w *ℤ h) -ℤ h =
     (λ k. moved_on_itself a.xlo a.xhi p.wide k *ℤ with_itself a.ylo a.yhi p.high k) ∙ pred_ℤ-*ℤ w h in
     let up : upward a a ≡ (w *ℤ h) -ℤ w =
-    (λ k. with_itself a.xlo a.xhi p.wide k *ℤ moved_on_itself a.ylo a.yhi p.high k) ∙ *ℤ_comm w (pred_ℤ h) ∙ pred_ℤ-*ℤ h w ∙ ap (λ (z : ℤ). z -ℤ w) (*ℤ_comm h w) in
+    (λ k. with_itself a.xlo a.xhi p.wide k *ℤ moved_on_itself a.ylo a.yhi p.high k) ∙ *ℤ_comm w (pred_ℤ h) ∙ pred_ℤ-*ℤ h w ∙ ap (λ (z : ℤ). z -ℤ w)
+    (*ℤ_comm h w) in
     edges_by_direction a a p ∙ (λ k. (right k +ℤ right k) +ℤ (up k +ℤ up k)) ∙ of_four w h (w *ℤ h)
   where
     of_four : (w h n : ℤ) → ((n -ℤ h) +ℤ (n -ℤ h)) +ℤ ((n -ℤ w) +ℤ (n -ℤ w)) ≡ (pos 4 *ℤ n) -ℤ (pos 2 *ℤ (w +ℤ h))
@@ -188,7 +189,8 @@ Lists-squares_of a =
     Lists-iff Q (Covers a) (squares_of a)
     (λ s h. record { right_of_xlo = h.0.0; left_of_xhi = h.0.1; above_ylo = h.1.0; below_yhi = h.1.1 })
     (λ s c. ((c.right_of_xlo, c.left_of_xhi), (c.above_ylo, c.below_yhi)))
-    (Lists-image {X = ℤ × ℤ} {Y = Square} P (λ p. record { x = p.0; y = p.1 }) (λ s. (s.x, s.y)) (pairs_of (integer_range a.xlo a.xhi) (integer_range a.ylo a.yhi))
+    (Lists-image {X = ℤ × ℤ} {Y = Square} P (λ p. record { x = p.0; y = p.1 }) (λ s. (s.x, s.y))
+    (pairs_of (integer_range a.xlo a.xhi) (integer_range a.ylo a.yhi))
     (λ p. refl) (λ s. refl) (Lists-rectangle a.xlo a.xhi a.ylo a.yhi))
 
 -- and they are as many as its area says
@@ -197,6 +199,7 @@ sum_on-range lo hi h =
     let top = extent_up lo hi (omega (arith, ints)) in
     sum_on-count (integer_range lo hi) ∙ ap pos (length-integer_range lo hi) ∙ omega (arith, ints, top)
 
+-- a rectangle has as many squares as its area says
 pub sum_on-squares_of : AreaCountsSquares
 sum_on-squares_of a p =
     let xs = integer_range a.xlo a.xhi in

@@ -8,4 +8,3 @@ pub mod Counting
 pub mod Leading
 pub mod Opening
 pub mod BothWays
-pub mod Rows

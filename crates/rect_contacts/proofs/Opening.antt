@@ -76,7 +76,8 @@ module _ (rects : List Rect) (disjoint : AllPairs AreDisjoint rects) where
       let led : Square → Rect → ℤ = λ square b. sum_on (λ other. one_if (is_covered b other)) (edge_neighbours square) in
       let four = sum_on-scale (pos 4) (λ (square : Square). pos 1) all ∙ ap (λ (z : ℤ). pos 4 *ℤ z) (sum_on-squares_of a p) in
       let swapped = sum_on-swap led all rects in
-      sum_on-same (λ square. sum_on (λ other. one_if (not (is_covered_by_any rects other))) (edge_neighbours square)) (λ square. pos 4 -ℤ sum_on (led square) rects) all
+      sum_on-same (λ square. sum_on (λ other. one_if (not (is_covered_by_any rects other))) (edge_neighbours square))
+      (λ square. pos 4 -ℤ sum_on (led square) rects) all
       (λ square i. open_of_square square)
       ∙ sum_on-sub (λ square. pos 4) (λ square. sum_on (led square) rects) all
       ∙ (λ k. four k -ℤ swapped k)

@@ -17,26 +17,32 @@ chosen m n v = go (int_eq m n) (Decides-int_eq m n)
     go true d = inl (d.0 refl, refl)
     go false d = inr ((λ e. false≢true (d.1 e)), refl)
 
-pub shared_beside-cases : (a b : Rect) → ((a.xhi ≡ b.xlo) × (shared_beside a b ≡ overlap a.ylo a.yhi b.ylo b.yhi)) ⊎ ((a.xhi ≢ b.xlo) × (shared_beside a b ≡ pos 0))
+-- the edges are on one line, or nothing is shared
+pub shared_beside-cases : (a b : Rect)
+    → ((a.xhi ≡ b.xlo) × (shared_beside a b ≡ overlap a.ylo a.yhi b.ylo b.yhi)) ⊎ ((a.xhi ≢ b.xlo) × (shared_beside a b ≡ pos 0))
 unfolding shared_beside
 shared_beside-cases a b = chosen a.xhi b.xlo (overlap a.ylo a.yhi b.ylo b.yhi)
 
+-- the same for upper and lower edges
 pub shared_upon-cases : (a b : Rect) → ((a.yhi ≡ b.ylo) × (shared_upon a b ≡ overlap a.xlo a.xhi b.xlo b.xhi)) ⊎ ((a.yhi ≢ b.ylo) × (shared_upon a b ≡ pos 0))
 unfolding shared_upon
 shared_upon-cases a b = chosen a.yhi b.ylo (overlap a.xlo a.xhi b.xlo b.xhi)
 
+-- what is shared is not negative
 pub shared_beside-not_negative : (a b : Rect) → pos 0 ≤ℤ shared_beside a b
 shared_beside-not_negative a b = elim (shared_beside-cases a b) [
   | inl k ↦ subst (λ (z : ℤ). pos 0 ≤ℤ z) (sym k.1) (overlap-not_negative a.ylo a.yhi b.ylo b.yhi)
   | inr k ↦ let none : shared_beside a b ≡ pos 0 = k.1 in omega (arith, ints)
 ]
 
+-- the same for upper and lower edges
 pub shared_upon-not_negative : (a b : Rect) → pos 0 ≤ℤ shared_upon a b
 shared_upon-not_negative a b = elim (shared_upon-cases a b) [
   | inl k ↦ subst (λ (z : ℤ). pos 0 ≤ℤ z) (sym k.1) (overlap-not_negative a.xlo a.xhi b.xlo b.xhi)
   | inr k ↦ let none : shared_upon a b ≡ pos 0 = k.1 in omega (arith, ints)
 ]
 
+-- whichever rectangle is named first
 pub shared_length-comm : (a b : Rect) → shared_length a b ≡ shared_length b a
 shared_length-comm a b = omega (arith, ints)
 
@@ -54,6 +60,7 @@ upon_not_beside a b h = elim (shared_beside-cases a b) [
   ]
 ]
 
+-- where one stands upon the other, the other is not beside it
 pub upon_not_beside_back : (a b : Rect) → pos 0 <ℤ shared_upon a b → shared_beside b a ≡ pos 0
 upon_not_beside_back a b h = elim (shared_beside-cases b a) [
   | inr k ↦ k.1
@@ -80,9 +87,11 @@ shared_upon-same a p = elim (shared_upon-cases a a) [
   | inr k ↦ k.1
 ]
 
+-- a rectangle shares nothing with itself
 pub shared_length-same : (a : Rect) → IsProper a → shared_length a a ≡ pos 0
 shared_length-same a p = let one = shared_beside-same a p in let other = shared_upon-same a p in omega (arith, ints)
 
+-- no two rectangles share less than nothing
 pub shared_length-not_negative : (a b : Rect) → pos 0 ≤ℤ shared_length a b
 shared_length-not_negative a b =
     let m = shared_beside-not_negative a b in let n = shared_beside-not_negative b a in

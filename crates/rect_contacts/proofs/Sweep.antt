@@ -1,5 +1,6 @@
 -- The sweep over two lists of sides: what has been found when so much of each list is left.
-use Rattle.std.proofs.Common.{◌≡◌, ◌≢◌, ℕ, suc, ◌+◌, ◌<◌, min, max, ℤ, pos, ◌≤ℤ◌, ◌<ℤ◌, List, [], ◌∷◌, ◌⊎◌, length, get_or, drop, length-drop, add-one, inl, inr, refl, sym, ◌∙◌, ap, subst, arith}
+use Rattle.std.proofs.Common.{◌≡◌, ◌≢◌, ℕ, suc, ◌+◌, ◌<◌, min, max, ℤ, pos, ◌≤ℤ◌, ◌<ℤ◌, List, [], ◌∷◌, ◌⊎◌, length}
+use Rattle.std.proofs.Common.{get_or, drop, length-drop, add-one, inl, inr, refl, sym, ◌∙◌, ap, subst, arith}
 use Rattle.std.specs.Prelude.{AllPairs}
 use Rattle.std.proofs.lemmas.Int.{ints, by_lt_z}
 use Rattle.std.proofs.lemmas.Bool.{cases_lt}
@@ -11,7 +12,7 @@ use Rattle.finite_sets.proofs.Members.{In-append_left, In-push, In-push_cases, I
 use Rattle.rect_contacts.specs.declared.contacts.Contact.{Contact}
 use Rattle.rect_contacts.specs.declared.sides.Side.{Side}
 use Rattle.rect_contacts.specs.Contacts.{overlap}
-use Rattle.rect_contacts.specs.Sides.{StandsBefore, ReachesNoFarther, AreOpposite, Meet, contact_of, IsMeeting, AddsContact}
+use Rattle.rect_contacts.specs.Sides.{EndsBefore, ReachesNoFarther, AreOpposite, Meet, contact_of, IsMeeting, AddsContact}
 use Rattle.rect_contacts.proofs.Overlaps.{overlap-before, overlap-comm}
 
 -- The contacts are those of sides of the two lists that meet, each once, but for sides that are both among what is left of their lists.
@@ -25,7 +26,7 @@ pub record Swept (lowers uppers lowers_left uppers_left : List Side) (contacts :
 pub record Front (sides : List Side) (side : Side) (rest : List Side) : Type 0 where
   pub here : In side sides
   pub in_list : (a : Side) → In a rest → In a sides
-  pub first : (a : Side) → In a rest → StandsBefore side a
+  pub first : (a : Side) → In a rest → EndsBefore side a
 
 -- two numbers with one minimum and one maximum
 same_two : (a b c d : ℕ) → min a b ≡ min c d → max a b ≡ max c d → ((a ≡ c) × (b ≡ d)) ⊎ ((a ≡ d) × (b ≡ c))
@@ -42,7 +43,7 @@ Meet-sym a b m = record {
 }
 
 -- a side meets none that stands after one that it reaches no farther than
-no_meet_after : (a b c : Side) → ReachesNoFarther a b → StandsBefore b c → Meet a c → ⊥
+no_meet_after : (a b c : Side) → ReachesNoFarther a b → EndsBefore b c → Meet a c → ⊥
 no_meet_after a b c r s m =
     let apart = overlap-before a.from a.to c.from c.to in
     let line : a.line ≡ c.line = m.one_line in
@@ -97,8 +98,10 @@ noted lowers uppers x y xs ys before after f g (inr same) s =
     (subst Distinct (sym same.1) s.distinct, (λ contact i. s.known contact (subst (In contact) same.1 i)))
 
 -- what was added is the contact of the first two or was there before
-added_cases : (x y : Side) (before after : List Contact) → AddsContact x y before after → (c : Contact) → In c after → In c before ⊎ (Meet x y × (contact_of x y ≡ c))
-added_cases x y before after (inl added) c i = elim (In-push_cases c before (contact_of x y) (subst (In c) added.1 i)) [ inl k ↦ inl k | inr e ↦ inr (added.0, e) ]
+added_cases : (x y : Side) (before after : List Contact) → AddsContact x y before after → (c : Contact) → In c after
+    → In c before ⊎ (Meet x y × (contact_of x y ≡ c))
+added_cases x y before after (inl added) c i = elim (In-push_cases c before (contact_of x y) (subst (In c) added.1 i))
+    [ inl k ↦ inl k | inr e ↦ inr (added.0, e) ]
 added_cases x y before after (inr same) c i = inl (subst (In c) same.1 i)
 
 stays : (x y : Side) (before after : List Contact) → AddsContact x y before after → (c : Contact) → In c before → In c after
@@ -167,11 +170,11 @@ after_index sides k d a i =
     (suc k + r.0, omega arith, omega (arith, m, length-drop (suc k) sides), sym (get_or-drop (suc k) sides r.0 d) ∙ r.1.1 d)
 
 -- the side at an index, and those after it
-pub front_at : (sides : List Side) (k : ℕ) (d : Side) → AllPairs StandsBefore sides → k < length sides → Front sides (get_or sides k d) (drop (suc k) sides)
+pub front_at : (sides : List Side) (k : ℕ) (d : Side) → AllPairs EndsBefore sides → k < length sides → Front sides (get_or sides k d) (drop (suc k) sides)
 front_at sides k d order h = record {
   here = In-get_or sides k d h;
   in_list = λ a i. let r = after_index sides k d a i in subst (λ (u : Side). In u sides) r.3 (In-get_or sides r.0 d r.2);
-  first = λ a i. let r = after_index sides k d a i in subst (λ (u : Side). StandsBefore (get_or sides k d) u) r.3 (order k r.0 d r.1 r.2);
+  first = λ a i. let r = after_index sides k d a i in subst (λ (u : Side). EndsBefore (get_or sides k d) u) r.3 (order k r.0 d r.1 r.2);
 }
 
 -- of two sides one reaches no farther than the other
@@ -182,7 +185,8 @@ reaches_back a b n =
     (λ ge. let same : a.line ≡ b.line = omega (arith, ints) in
     inr (sym same, by_lt_z a.to b.to (λ l. absurd (n (inr (same, omega (arith, ints))))) (λ h. h))))
 
-module _ (lowers uppers : List Side) (opposite : AreOpposite lowers uppers) (lower_order : AllPairs StandsBefore lowers) (upper_order : AllPairs StandsBefore uppers)
+module _ (lowers uppers : List Side) (opposite : AreOpposite lowers uppers) (lower_order : AllPairs EndsBefore lowers)
+    (upper_order : AllPairs EndsBefore uppers)
     (below above : ℕ) (d : Side) (before after : List Contact) (p : below < length lowers) (q : above < length uppers)
     (a : AddsContact (get_or lowers below d) (get_or uppers above d) before after)
     (s : Swept lowers uppers (drop below lowers) (drop above uppers) before) where
@@ -199,8 +203,10 @@ module _ (lowers uppers : List Side) (opposite : AreOpposite lowers uppers) (low
       (front_at lowers below d lower_order p) (front_at uppers above d upper_order q) a both_fronts r))
 
   -- and one that goes on in the upper list
-  pub upper_turn : (ReachesNoFarther (get_or lowers below d) (get_or uppers above d) → ⊥) → Swept lowers uppers (drop below lowers) (drop (above + 1) uppers) after
+  pub upper_turn : (ReachesNoFarther (get_or lowers below d) (get_or uppers above d) → ⊥)
+      → Swept lowers uppers (drop below lowers) (drop (above + 1) uppers) after
   upper_turn n =
       rw (add-one above) (subst (λ (xs : List Side). Swept lowers uppers xs (drop (suc above) uppers) after) (sym (drop-cons lowers below d p))
       (swept_upper lowers uppers opposite (get_or lowers below d) (get_or uppers above d) (drop (suc below) lowers) (drop (suc above) uppers) before after
-      (front_at lowers below d lower_order p) (front_at uppers above d upper_order q) a both_fronts (reaches_back (get_or lowers below d) (get_or uppers above d) n)))
+      (front_at lowers below d lower_order p) (front_at uppers above d upper_order q) a both_fronts
+      (reaches_back (get_or lowers below d) (get_or uppers above d) n)))

@@ -12,7 +12,7 @@ use Rattle.rect_contacts.specs.declared.sides.Edge.{Edge}
 use Rattle.rect_contacts.specs.declared.sides.Edge.TheVariants.{Left, Right, Bottom, Top}
 use Rattle.rect_contacts.specs.declared.sides.Side.{Side}
 use Rattle.rect_contacts.specs.Rects.{rect_at}
-use Rattle.rect_contacts.specs.Contacts.{overlap, shared_beside, shared_upon, shared_stacked, shared_abreast, shared_length, IsContactBy, IsContact}
+use Rattle.rect_contacts.specs.Contacts.{overlap, shared_beside, shared_upon, shared_stacked, shared_abreast, shared_length, IsSharedEdgeBy, IsSharedEdge}
 use Rattle.rect_contacts.specs.Sides.{side_of, AreSidesOf, AreOpposite, Meet, IsMeeting}
 use Rattle.rect_contacts.proofs.Overlaps.{overlap-not_negative}
 use Rattle.rect_contacts.proofs.Shared.{shared_beside-cases, shared_upon-cases, shared_upon-not_negative, upon_not_beside, upon_not_beside_back}
@@ -20,13 +20,17 @@ use Rattle.rect_contacts.proofs.Sorting.{side_owner}
 
 -- The number says how much of the one edge of a rectangle meets the other edge of another, which is opposite.
 pub record Touches (high low : Edge) (touch : Rect → Rect → ℤ) : Type 0 where
-  pub cases : (a b : Rect) (i j : ℕ) → (((side_of high a i).line ≡ (side_of low b j).line) × (touch a b ≡ overlap (side_of high a i).from (side_of high a i).to (side_of low b j).from (side_of low b j).to))
+  pub cases : (a b : Rect) (i j : ℕ)
+      → (((side_of high a i).line ≡ (side_of low b j).line) × (touch a b ≡ overlap (side_of high a i).from (side_of high a i).to (side_of low b j).from
+      (side_of low b j).to))
       ⊎ (((side_of high a i).line ≢ (side_of low b j).line) × (touch a b ≡ pos 0))
   pub opposite : (a : Rect) (i j : ℕ) → IsProper a → (side_of low a j).line <ℤ (side_of high a i).line
 
+-- tops and bottoms meet where one rectangle lies upon another
 pub upon_touches : Touches Top Bottom shared_upon
 upon_touches = record { cases = λ a b i j. shared_upon-cases a b; opposite = λ a i j p. p.high }
 
+-- right and left edges meet where they stand side by side
 pub beside_touches : Touches Right Left shared_beside
 beside_touches = record { cases = λ a b i j. shared_beside-cases a b; opposite = λ a i j p. p.wide }
 
@@ -37,7 +41,8 @@ either_way touch a b = touch a b +ℤ touch b a
 module _ (high low : Edge) (touch : Rect → Rect → ℤ) (t : Touches high low touch) where
   touch-not_negative : (a b : Rect) → pos 0 ≤ℤ touch a b
   touch-not_negative a b = elim (t.cases a b 0 0) [
-    | inl k ↦ subst (λ (z : ℤ). pos 0 ≤ℤ z) (sym k.1) (overlap-not_negative (side_of high a 0).from (side_of high a 0).to (side_of low b 0).from (side_of low b 0).to)
+    | inl k ↦ subst (λ (z : ℤ). pos 0 ≤ℤ z) (sym k.1) (overlap-not_negative (side_of high a 0).from (side_of high a 0).to (side_of low b 0).from
+        (side_of low b 0).to)
     | inr k ↦ let none : touch a b ≡ pos 0 = k.1 in omega (arith, ints)
   ]
 
@@ -48,7 +53,8 @@ module _ (high low : Edge) (touch : Rect → Rect → ℤ) (t : Touches high low
     | inr k ↦ let none : touch a b ≡ pos 0 = k.1 in absurd (omega (arith, ints))
   ]
 
-  touch_is : (a b : Rect) (i j : ℕ) → Meet (side_of high a i) (side_of low b j) → touch a b ≡ overlap (side_of high a i).from (side_of high a i).to (side_of low b j).from (side_of low b j).to
+  touch_is : (a b : Rect) (i j : ℕ) → Meet (side_of high a i) (side_of low b j)
+      → touch a b ≡ overlap (side_of high a i).from (side_of high a i).to (side_of low b j).from (side_of low b j).to
   touch_is a b i j m = elim (t.cases a b i j) [ inl k ↦ k.1 | inr k ↦ absurd (k.0 m.one_line) ]
 
   -- where one rectangle touches another with its high edge, its low edge does not touch that one
@@ -65,14 +71,17 @@ module _ (high low : Edge) (touch : Rect → Rect → ℤ) (t : Touches high low
   ]
 
   -- the contact of two places in whichever order
-  contact_at : (rects : List Rect) (contact : Contact) (i j : ℕ) (n : ℤ) → contact ≡ record { first = min i j; second = max i j; length = n } → i ≢ j → i < length rects → j < length rects
-      → n ≡ touch (rect_at rects i) (rect_at rects j) → pos 0 <ℤ n → touch (rect_at rects j) (rect_at rects i) ≡ pos 0 → IsContactBy (either_way touch) rects contact
+  contact_at : (rects : List Rect) (contact : Contact) (i j : ℕ) (n : ℤ) → contact ≡ record { first = min i j; second = max i j; length = n } → i ≢ j
+      → i < length rects → j < length rects
+      → n ≡ touch (rect_at rects i) (rect_at rects j) → pos 0 <ℤ n → touch (rect_at rects j) (rect_at rects i) ≡ pos 0 → IsSharedEdgeBy
+      (either_way touch) rects contact
   contact_at rects contact i j n e differ below above there long back =
       let first : contact.first ≡ min i j = ap (λ (c : Contact). c.first) e in
       let second : contact.second ≡ max i j = ap (λ (c : Contact). c.second) e in
       let size : contact.length ≡ n = ap (λ (c : Contact). c.length) e in
       let same : (k l : ℕ) → contact.first ≡ k → contact.second ≡ l → n ≡ touch (rect_at rects k) (rect_at rects l) +ℤ touch (rect_at rects l) (rect_at rects k)
-      → contact.length ≡ touch (rect_at rects contact.first) (rect_at rects contact.second) +ℤ touch (rect_at rects contact.second) (rect_at rects contact.first) =
+      → contact.length ≡ touch (rect_at rects contact.first) (rect_at rects contact.second) +ℤ touch (rect_at rects contact.second)
+      (rect_at rects contact.first) =
       λ k l p q r. size ∙ r ∙ (λ x. touch (rect_at rects (sym p x)) (rect_at rects (sym q x)) +ℤ touch (rect_at rects (sym q x)) (rect_at rects (sym p x))) in
       record {
         in_order = omega arith;
@@ -84,20 +93,23 @@ module _ (high low : Edge) (touch : Rect → Rect → ℤ) (t : Touches high low
         not_none = omega (arith, ints);
       }
 
-  module _ (rects : List Rect) (proper : All IsProper rects) (highs lows : List Side) (of_high : AreSidesOf high rects highs) (of_low : AreSidesOf low rects lows) where
+  module _ (rects : List Rect) (proper : All IsProper rects) (highs lows : List Side) (of_high : AreSidesOf high rects highs)
+      (of_low : AreSidesOf low rects lows) where
     -- the sides of one rectangle are opposite
     pub sides_opposite : AreOpposite highs lows
     sides_opposite a b i j e =
         let x = of_high.others a i in
         let y = of_low.others b j in
         let p : IsProper (rect_at rects b.owner) = proper b.owner _ y.0 in
-        let line : a.line ≡ (side_of high (rect_at rects b.owner) a.owner).line = ap (λ (s : Side). s.line) x.1 ∙ ap (λ (k : ℕ). (side_of high (rect_at rects k) a.owner).line) e in
+        let line : a.line ≡ (side_of high (rect_at rects b.owner) a.owner).line = ap (λ (s : Side). s.line) x.1
+        ∙ ap (λ (k : ℕ). (side_of high (rect_at rects k) a.owner).line) e in
         let other : b.line ≡ (side_of low (rect_at rects b.owner) b.owner).line = ap (λ (s : Side). s.line) y.1 in
-        let up : (side_of low (rect_at rects b.owner) b.owner).line <ℤ (side_of high (rect_at rects b.owner) a.owner).line = t.opposite (rect_at rects b.owner) a.owner b.owner p in
+        let up : (side_of low (rect_at rects b.owner) b.owner).line <ℤ (side_of high (rect_at rects b.owner) a.owner).line = t.opposite
+        (rect_at rects b.owner) a.owner b.owner p in
         omega (arith, ints)
 
     -- a meeting of sides is a contact
-    touch_from_meeting : (contact : Contact) → IsMeeting highs lows contact → IsContactBy (either_way touch) rects contact
+    touch_from_meeting : (contact : Contact) → IsMeeting highs lows contact → IsSharedEdgeBy (either_way touch) rects contact
     touch_from_meeting contact m =
         let i = m.lower.owner in
         let j = m.upper.owner in
@@ -141,7 +153,7 @@ module _ (high low : Edge) (touch : Rect → Rect → ℤ) (t : Touches high low
         }
 
     -- and a contact is a meeting of sides
-    meeting_from_touch : (contact : Contact) → IsContactBy (either_way touch) rects contact → IsMeeting highs lows contact
+    meeting_from_touch : (contact : Contact) → IsSharedEdgeBy (either_way touch) rects contact → IsMeeting highs lows contact
     meeting_from_touch contact m =
         let order : contact.first < contact.second = m.in_order in
         let last : contact.second < length rects = m.in_list in
@@ -159,8 +171,10 @@ module _ (high low : Edge) (touch : Rect → Rect → ℤ) (t : Touches high low
         (λ h. let there : touch a b ≡ pos 0 = omega (arith, ints) in
         meeting_at contact contact.second contact.first last below (omega (arith, ints)) (omega arith) (omega arith) (omega (arith, ints)))
 
-    pub touches_from_meetings : (contacts : List Contact) → Lists (IsMeeting highs lows) contacts → Lists (IsContactBy (either_way touch) rects) contacts
-    touches_from_meetings contacts l = Lists-iff (IsMeeting highs lows) (IsContactBy (either_way touch) rects) contacts touch_from_meeting meeting_from_touch l
+    -- the meetings of the sides are the contacts
+    pub touches_from_meetings : (contacts : List Contact) → Lists (IsMeeting highs lows) contacts → Lists (IsSharedEdgeBy (either_way touch) rects) contacts
+    touches_from_meetings contacts l = Lists-iff (IsMeeting highs lows) (IsSharedEdgeBy (either_way touch) rects) contacts touch_from_meeting
+        meeting_from_touch l
 
 -- the contacts at upper and lower edges, and those at right and left edges
 upon_only : (a b : Rect) → pos 0 <ℤ shared_stacked a b → shared_abreast a b ≡ pos 0
@@ -180,7 +194,7 @@ beside_only a b h =
     (λ k. omega (arith, ints))
 
 module _ (rects : List Rect) where
-  not_both : (contact : Contact) → IsContactBy shared_stacked rects contact → IsContactBy shared_abreast rects contact → ⊥
+  not_both : (contact : Contact) → IsSharedEdgeBy shared_stacked rects contact → IsSharedEdgeBy shared_abreast rects contact → ⊥
   not_both contact u v =
       let a = rect_at rects contact.first in
       let b = rect_at rects contact.second in
@@ -190,7 +204,8 @@ module _ (rects : List Rect) where
       let none = beside_only a b (omega (arith, ints)) in
       omega (arith, ints)
 
-  contact_from_parts : (contact : Contact) → IsContactBy shared_stacked rects contact ⊎ IsContactBy shared_abreast rects contact → IsContact rects contact
+  contact_from_parts : (contact : Contact) → IsSharedEdgeBy shared_stacked rects contact ⊎ IsSharedEdgeBy shared_abreast rects contact
+      → IsSharedEdge rects contact
   contact_from_parts contact (inl u) =
       let a = rect_at rects contact.first in
       let b = rect_at rects contact.second in
@@ -206,7 +221,8 @@ module _ (rects : List Rect) where
       let none = beside_only a b (omega (arith, ints)) in
       record { in_order = v.in_order; in_list = v.in_list; length_is = omega (arith, ints); not_none = long }
 
-  parts_of_contact : (contact : Contact) → IsContact rects contact → IsContactBy shared_stacked rects contact ⊎ IsContactBy shared_abreast rects contact
+  parts_of_contact : (contact : Contact) → IsSharedEdge rects contact
+      → IsSharedEdgeBy shared_stacked rects contact ⊎ IsSharedEdgeBy shared_abreast rects contact
   parts_of_contact contact c =
       let a = rect_at rects contact.first in
       let b = rect_at rects contact.second in
@@ -220,8 +236,10 @@ module _ (rects : List Rect) where
       (λ h. inr (record { in_order = c.in_order; in_list = c.in_list; length_is = omega (arith, ints); not_none = long }))
 
   -- together they are all the contacts
-  pub contacts_of_both : (stacked abreast : List Contact) → Lists (IsContactBy shared_stacked rects) stacked → Lists (IsContactBy shared_abreast rects) abreast
-      → Lists (IsContact rects) (stacked ++ abreast)
+  pub contacts_of_both : (stacked abreast : List Contact) → Lists (IsSharedEdgeBy shared_stacked rects) stacked
+      → Lists (IsSharedEdgeBy shared_abreast rects) abreast
+      → Lists (IsSharedEdge rects) (stacked ++ abreast)
   contacts_of_both stacked abreast u v =
-      Lists-iff (λ c. IsContactBy shared_stacked rects c ⊎ IsContactBy shared_abreast rects c) (IsContact rects) (stacked ++ abreast) contact_from_parts parts_of_contact
-      (Lists-append (IsContactBy shared_stacked rects) (IsContactBy shared_abreast rects) stacked abreast not_both u v)
+      Lists-iff (λ c. IsSharedEdgeBy shared_stacked rects c ⊎ IsSharedEdgeBy shared_abreast rects c) (IsSharedEdge rects) (stacked ++ abreast)
+      contact_from_parts parts_of_contact
+      (Lists-append (IsSharedEdgeBy shared_stacked rects) (IsSharedEdgeBy shared_abreast rects) stacked abreast not_both u v)

@@ -32,12 +32,12 @@ abbrev pub shared_length : Rect → Rect → ℤ
 shared_length a b = shared_stacked a b +ℤ shared_abreast a b
 
 -- Two rectangles of the list share this length, which is not 0. The one that comes first in the list is named first.
-pub record IsContactBy (shared : Rect → Rect → ℤ) (rects : List Rect) (contact : Contact) : Type 0 where
+pub record IsSharedEdgeBy (shared : Rect → Rect → ℤ) (rects : List Rect) (contact : Contact) : Type 0 where
   pub in_order : contact.first < contact.second
   pub in_list : contact.second < length rects
   pub length_is : contact.length ≡ shared (rect_at rects contact.first) (rect_at rects contact.second)
   pub not_none : pos 0 <ℤ contact.length
 
 -- Two rectangles of the list share an edge, of this length.
-abbrev pub IsContact : List Rect → Contact → Type 0
-IsContact rects contact = IsContactBy shared_length rects contact
+abbrev pub IsSharedEdge : List Rect → Contact → Type 0
+IsSharedEdge rects contact = IsSharedEdgeBy shared_length rects contact

@@ -7,7 +7,7 @@ use Rattle.finite_sets.specs.Total.{sum_on}
 use Rattle.rect_contacts.specs.declared.contacts.Contact.{Contact}
 use Rattle.geo_core.specs.Areas.{AreDisjoint}
 use Rattle.rect_contacts.specs.Rects.{rect_at, places_of}
-use Rattle.rect_contacts.specs.Contacts.{shared_length, IsContact}
+use Rattle.rect_contacts.specs.Contacts.{shared_length, IsSharedEdge}
 use Rattle.rect_contacts.specs.Squares.{squares_of, area_of, perimeter_of, edges_between, open_edges}
 
 -- The squares of a rectangle are those that it covers.
@@ -37,6 +37,6 @@ PerimeterIsOpenOrShared =
 -- pairs of places of what the rectangles there share, by that weight.
 abbrev pub ContactsCountBothWays : Type 0
 ContactsCountBothWays =
-    (rects : List Rect) (contacts : List Contact) (weight : ℕ → ℕ → ℤ) → All IsProper rects → Lists (IsContact rects) contacts
+    (rects : List Rect) (contacts : List Contact) (weight : ℕ → ℕ → ℤ) → All IsProper rects → Lists (IsSharedEdge rects) contacts
     → sum_on (λ c. (weight c.first c.second +ℤ weight c.second c.first) *ℤ c.length) contacts
     ≡ sum_on (λ i. sum_on (λ j. weight i j *ℤ shared_length (rect_at rects i) (rect_at rects j)) (places_of rects)) (places_of rects)

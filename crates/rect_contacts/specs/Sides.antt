@@ -2,6 +2,7 @@
 use Rattle.std.specs.Prelude.{◌≡◌, ◌≢◌, ◌⊎◌, ℕ, ◌<◌, min, max, pos, ◌≤ℤ◌, ◌<ℤ◌, List, [], ◌∷◌, ◌++◌, length, All, AllPairs}
 use Rattle.geo_core.specs.declared.squares.Rect.{Rect}
 use Rattle.finite_sets.specs.Lists.{In}
+use Rattle.finite_sets.specs.Order.{Lexicographic}
 use Rattle.rect_contacts.specs.declared.contacts.Contact.{Contact}
 use Rattle.rect_contacts.specs.declared.sides.Edge.{Edge}
 use Rattle.rect_contacts.specs.declared.sides.Edge.TheVariants.{Left, Right, Bottom, Top}
@@ -25,18 +26,18 @@ pub record IsSpan (side : Side) : Type 0 where
 
 -- The sides are those of two rectangles. The first lies on a line before that of the second, or on the same line and ends no
 -- farther than where the second begins.
-pub record StandsBefore (a b : Side) : Type 0 where
+pub record EndsBefore (a b : Side) : Type 0 where
   pub of_two : a.owner ≢ b.owner
-  pub before : (a.line <ℤ b.line) ⊎ ((a.line ≡ b.line) × (a.to ≤ℤ b.from))
+  pub before : Lexicographic a.line b.line (a.to ≤ℤ b.from)
 
 -- The first side ends no farther than the second: on a line before, or on the same line.
 abbrev pub ReachesNoFarther : Side → Side → Type 0
-ReachesNoFarther a b = (a.line <ℤ b.line) ⊎ ((a.line ≡ b.line) × (a.to ≤ℤ b.to))
+ReachesNoFarther a b = Lexicographic a.line b.line (a.to ≤ℤ b.to)
 
--- The sides of the list are spans, and each stands before every later one.
+-- The sides of the list are spans, and each ends before every later one.
 pub record AreInOrder (sides : List Side) : Type 0 where
   pub spans : All IsSpan sides
-  pub ascending : AllPairs StandsBefore sides
+  pub ascending : AllPairs EndsBefore sides
 
 -- The list has that edge of each of the rectangles and nothing else, in order.
 pub record AreSidesOf (edge : Edge) (rects : List Rect) (sides : List Side) : Type 0 where

@@ -1,5 +1,5 @@
 -- The squares of rectangles, and the edges of these squares.
-use Rattle.std.specs.Prelude.{Bool, not, ℤ, pos, ◌+ℤ◌, ◌-ℤ◌, ◌*ℤ◌, List, map, if◌then◌else◌}
+use Rattle.std.specs.Prelude.{Bool, not, ℤ, pos, ◌+ℤ◌, ◌-ℤ◌, ◌*ℤ◌, List, map}
 use Rattle.std.specs.List.{list_any}
 use Rattle.geo_core.specs.declared.squares.Square.{Square}
 use Rattle.geo_core.specs.declared.squares.Rect.{Rect}
@@ -17,6 +17,7 @@ squares_of area =
 abbrev pub area_of : Rect → ℤ
 area_of area = (area.xhi -ℤ area.xlo) *ℤ (area.yhi -ℤ area.ylo)
 
+-- the length of its four edges
 abbrev pub perimeter_of : Rect → ℤ
 perimeter_of area = pos 2 *ℤ ((area.xhi -ℤ area.xlo) +ℤ (area.yhi -ℤ area.ylo))
 

@@ -3,9 +3,8 @@ ghost use Rattle.std.specs.Prelude.{IfOk, All, AllPairs};
 ghost use Rattle.geo_core.specs.Covering.{IsProper};
 ghost use Rattle.finite_sets.specs.Lists.{Lists};
 ghost use Rattle.geo_core.specs.Areas.{AreDisjoint, IsNear};
-ghost use Rattle.rect_contacts.specs.Contacts.{shared_stacked, shared_abreast, IsContactBy, IsContact};
+ghost use Rattle.rect_contacts.specs.Contacts.{shared_stacked, shared_abreast, IsSharedEdgeBy, IsSharedEdge};
 
-use crate::faults::SweepFault;
 use crate::sides::{Edge, meetings, sorted_sides};
 use geo_core::Rect;
 use std::alloc::{AllocError, Global};
@@ -26,11 +25,11 @@ pub struct Contact {
 /// Each rectangle has a square, no two have one in common, and each bound is below 2^28 in absolute value.
 /// Rectangles that have a corner alone in common don't touch, and two that touch share one edge.
 /// Want of memory alone is an error. It takes time for a sort, and for each contact that it finds.
-pub fn touching(alloc: Global, rects: &[Rect]) -> Result<Vec<Contact>, SweepFault>
+pub fn touching(alloc: Global, rects: &[Rect]) -> Result<Vec<Contact>, AllocError>
     requires proper { All IsProper rects.now }
     requires near { All IsNear rects.now }
     requires disjoint { AllPairs AreDisjoint rects.now }
-    ensures { IfOk result (λ contacts. Lists (IsContact rects.now) contacts.items) }
+    ensures { IfOk result (λ contacts. Lists (IsSharedEdge rects.now) contacts.items) }
 {
     let mut contacts = stacked(alloc, rects)?;
     let side_by_side = abreast(alloc, rects)?;
@@ -43,7 +42,7 @@ fn stacked(alloc: Global, rects: &[Rect]) -> Result<Vec<Contact>, AllocError>
     requires proper { All IsProper rects.now }
     requires near { All IsNear rects.now }
     requires disjoint { AllPairs AreDisjoint rects.now }
-    ensures { IfOk result (λ contacts. Lists (IsContactBy shared_stacked rects.now) contacts.items) }
+    ensures { IfOk result (λ contacts. Lists (IsSharedEdgeBy shared_stacked rects.now) contacts.items) }
 {
     let tops = sorted_sides(alloc, rects, Edge::Top)?;
     let bottoms = sorted_sides(alloc, rects, Edge::Bottom)?;
@@ -55,12 +54,9 @@ fn abreast(alloc: Global, rects: &[Rect]) -> Result<Vec<Contact>, AllocError>
     requires proper { All IsProper rects.now }
     requires near { All IsNear rects.now }
     requires disjoint { AllPairs AreDisjoint rects.now }
-    ensures { IfOk result (λ contacts. Lists (IsContactBy shared_abreast rects.now) contacts.items) }
+    ensures { IfOk result (λ contacts. Lists (IsSharedEdgeBy shared_abreast rects.now) contacts.items) }
 {
     let rights = sorted_sides(alloc, rects, Edge::Right)?;
     let lefts = sorted_sides(alloc, rects, Edge::Left)?;
     meetings(alloc, rights.as_slice(), lefts.as_slice())
 }
-
-#[cfg(test)]
-mod tests;

@@ -1,5 +1,6 @@
 //! What the lengths of contacts count, square by square.
-ghost use Rattle.rect_contacts.specs.EdgeLaws.{SquaresAreCovered, AreaCountsSquares, SharedLengthCountsEdges, PerimeterLeadsOut, PerimeterIsOpenOrShared, ContactsCountBothWays};
+ghost use Rattle.rect_contacts.specs.EdgeLaws.{SquaresAreCovered, AreaCountsSquares, SharedLengthCountsEdges, PerimeterLeadsOut};
+ghost use Rattle.rect_contacts.specs.EdgeLaws.{PerimeterIsOpenOrShared, ContactsCountBothWays};
 
 /// Does nothing: its contract says that areas of rectangles count squares, that lengths of their edges, shared
 /// or not, count edges of squares, and what a sum over contacts counts. So a shape made of disjoint rectangles

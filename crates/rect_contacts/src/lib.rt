@@ -1,11 +1,21 @@
 //! Searches over rectangles of the grid.
+//!
+//! # How the proof goes
+//!
+//! Rectangles that have no square in common are apart in x or in y (`Apart`), so the sides that they have on one line,
+//! once sorted, each end before the next begins (`Sorting`). Over two lists of such sides the search keeps that what it
+//! found are the meetings of sides of which one is passed (`Sweep`): the side that ends first meets nothing that comes
+//! later. `Touches` goes from meetings of sides to contacts of rectangles, with the laws of `overlap` and of the four
+//! edges (`Overlaps`, `Shared`).
+//!
+//! That lengths count edges of squares goes by counting integers: those of one range that lie in another (`Counting`)
+//! give the edges from one rectangle to another or to itself (`Leading`), and what is left over is open (`Opening`).
+//! A sum over contacts is a sum over ordered pairs of places, and so half of one over all pairs (`BothWays`).
 #![tactic(auto)]
 
 mod contacts;
 mod edges;
-mod faults;
 mod sides;
 
 pub use contacts::{Contact, touching};
 pub use edges::lengths_count_edges;
-pub use faults::SweepFault;

@@ -1,5 +1,6 @@
 -- The rows of a span, and the rows where they are replaced.
-use Rattle.std.proofs.Common.{◌≡◌, ◌⊎◌, inl, inr, ℕ, ◌+◌, ◌-◌, ◌≤◌, ℤ, pos, ◌≤ℤ◌, ◌<ℤ◌, ◌-ℤ◌, List, [], ◌∷◌, ◌++◌, length, take, drop, get_or, refl, sym, ◌∙◌, ap, subst, arith, ◌^◌}
+use Rattle.std.proofs.Common.{◌≡◌, ◌⊎◌, inl, inr, ℕ, ◌+◌, ◌-◌, ◌≤◌, ℤ, pos, ◌≤ℤ◌, ◌<ℤ◌, ◌-ℤ◌, List, [], ◌∷◌}
+use Rattle.std.proofs.Common.{◌++◌, length, take, drop, get_or, refl, sym, ◌∙◌, ap, subst, arith, ◌^◌}
 use Rattle.std.specs.Prelude.{All, slice_range}
 use Rattle.std.specs.declared.ops.Range.{Range}
 use Rattle.std.proofs.lemmas.Bool.{cases_lt}
@@ -7,6 +8,8 @@ use Rattle.std.proofs.lemmas.Int.{ints}
 use Rattle.std.proofs.lemmas.List.{take-append-drop, drop-drop, drop-take, get_or-take, get_or-drop, length-take, length-drop}
 use Rattle.finite_sets.specs.Lists.{In}
 use Rattle.finite_sets.proofs.Members.{In-get_or, In-append_left, In-append_right, In-append_cases}
+use Rattle.finite_sets.proofs.Orders.{at_most_or_greater}
+use Rattle.geo_core.specs.declared.limits.TheConstants.{PLANE_EDGE}
 use Rattle.geo_core.specs.declared.squares.Square.{Square}
 use Rattle.geo_core.specs.declared.squares.Piece.{Piece}
 use Rattle.geo_core.specs.Areas.{IsNear, IsSmall}
@@ -17,7 +20,6 @@ use Rattle.run_plane.specs.declared.rows.Row.{Row}
 use Rattle.run_plane.specs.Rows.{value_at, number_at, top_runs, edge, AreRising, AreRows}
 use Rattle.run_plane.specs.Changes.{square_at, IsRowWith, Spans, IsBand, AreAbove, AreHeights, AreRowsFor}
 use Rattle.run_plane.specs.Contents.{replaced}
-use Rattle.run_plane.proofs.RunLaws.{le_or_lt}
 use Rattle.run_plane.proofs.RowLaws.{all_in, runs_stop, runs_top, runs_own, row_above, row_facts, rising_from, rising_take, rising_drop, rising_append}
 use Rattle.run_plane.proofs.ChangeLaws.{IsRight, HasCritical, all_right}
 
@@ -37,14 +39,16 @@ middle_in_front {X} from until xs p x i =
     in_drop from (take until xs) x (subst (In x) (sym part) i)
 
 -- a member is in the front, between the places or in the rest
-three_parts : {X : Type 0} (from until : ℕ) (xs : List X) → from ≤ until → (x : X) → In x xs → In x (take from xs) ⊎ (In x (slice_range xs from until) ⊎ In x (drop until xs))
+three_parts : {X : Type 0} (from until : ℕ) (xs : List X) → from ≤ until → (x : X) → In x xs
+    → In x (take from xs) ⊎ (In x (slice_range xs from until) ⊎ In x (drop until xs))
 three_parts {X} from until xs p x i =
     elim (In-append_cases x (take from xs) (drop from xs) (subst (In x) (sym (take-append-drop from xs)) i)) [
       | inl front ↦ inl front
       | inr rest ↦ (
           let same : from + (until - from) ≡ until = omega arith in
           let tail : drop (until - from) (drop from xs) ≡ drop until xs = drop-drop (until - from) from xs ∙ ap (λ (n : ℕ). drop n xs) same in
-          elim (In-append_cases x (slice_range xs from until) (drop (until - from) (drop from xs)) (subst (In x) (sym (take-append-drop (until - from) (drop from xs))) rest)) [
+          elim (In-append_cases x (slice_range xs from until) (drop (until - from) (drop from xs))
+          (subst (In x) (sym (take-append-drop (until - from) (drop from xs))) rest)) [
             | inl middle ↦ inr (inl middle)
             | inr last ↦ inr (inr (subst (In x) tail last))
           ])
@@ -64,7 +68,8 @@ band_found rows span from until order p q below from_on up_to above =
           subst (λ (r : Row). r.ylo ≤ℤ (span.start -ℤ pos 1)) (get_or-take from rows until d less) (below until d (omega (arith, length-take from rows))) in
           let here : until + 0 ≡ until = omega arith in
           let high : span.end <ℤ (get_or rows until d).ylo =
-          subst (λ (r : Row). span.end <ℤ r.ylo) (get_or-drop until rows 0 d ∙ ap (λ (n : ℕ). get_or rows n d) here) (above 0 d (omega (arith, length-drop until rows))) in
+          subst (λ (r : Row). span.end <ℤ r.ylo) (get_or-drop until rows 0 d ∙ ap (λ (n : ℕ). get_or rows n d) here)
+          (above 0 d (omega (arith, length-drop until rows))) in
           omega (arith, ints))
     ] in
     record {
@@ -78,7 +83,8 @@ band_found rows span from until order p q below from_on up_to above =
     }
 
 -- one more height, and its row
-pub rows_for_push : (rows : List Row) (pieces : List Piece) (heights : List ℤ) (found : List Row) (height : ℤ) (row : Row) → AreRowsFor rows pieces heights found → row.ylo ≡ height → IsRowWith rows pieces row
+pub rows_for_push : (rows : List Row) (pieces : List Piece) (heights : List ℤ) (found : List Row) (height : ℤ) (row : Row)
+    → AreRowsFor rows pieces heights found → row.ylo ≡ height → IsRowWith rows pieces row
     → AreRowsFor rows pieces (heights ++ height ∷ []) (found ++ row ∷ [])
 rows_for_push rows pieces [] [] height row are e is = (e, is, tt)
 rows_for_push rows pieces [] (r ∷ found) height row are e is = absurd are
@@ -86,20 +92,23 @@ rows_for_push rows pieces (h ∷ heights) [] height row are e is = absurd are
 rows_for_push rows pieces (h ∷ heights) (r ∷ found) height row are e is = (are.0, are.1, rows_for_push rows pieces heights found height row are.2 e is)
 
 module _ (rows : List Row) (pieces : List Piece) where
-  row_at_height : (heights : List ℤ) (found : List Row) → AreRowsFor rows pieces heights found → (height : ℤ) → In height heights → (row : Row) × In row found × (row.ylo ≡ height)
+  row_at_height : (heights : List ℤ) (found : List Row) → AreRowsFor rows pieces heights found → (height : ℤ) → In height heights
+      → (row : Row) × In row found × (row.ylo ≡ height)
   row_at_height [] found are height i = absurd i
   row_at_height (h ∷ heights) [] are height i = absurd are
   row_at_height (h ∷ heights) (r ∷ found) are height (inl e) = (r, inl refl, are.0 ∙ e)
   row_at_height (h ∷ heights) (r ∷ found) are height (inr i) = let rest = row_at_height heights found are.2 height i in (rest.0, inr rest.1, rest.2)
 
-  row_found : (heights : List ℤ) (found : List Row) → AreRowsFor rows pieces heights found → (row : Row) → In row found → IsRowWith rows pieces row × In row.ylo heights
+  row_found : (heights : List ℤ) (found : List Row) → AreRowsFor rows pieces heights found → (row : Row) → In row found
+      → IsRowWith rows pieces row × In row.ylo heights
   row_found [] [] are row i = absurd i
   row_found [] (r ∷ found) are row i = absurd are
   row_found (h ∷ heights) [] are row i = absurd are
   row_found (h ∷ heights) (r ∷ found) are row (inl e) = (subst (IsRowWith rows pieces) e are.1, inl (sym are.0 ∙ ap (λ (s : Row). s.ylo) e))
   row_found (h ∷ heights) (r ∷ found) are row (inr i) = let rest = row_found heights found are.2 row i in (rest.0, inr rest.1)
 
-  pub rising_found : (low : ℤ) (heights : List ℤ) (found : List Row) → AreRowsFor rows pieces heights found → AreAbove low heights → ((height : ℤ) → In height heights → IsSmall height) → AreRising low found
+  pub rising_found : (low : ℤ) (heights : List ℤ) (found : List Row) → AreRowsFor rows pieces heights found → AreAbove low heights
+      → ((height : ℤ) → In height heights → IsSmall height) → AreRising low found
   rising_found low [] [] are above near = tt
   rising_found low [] (r ∷ found) are above near = absurd are
   rising_found low (h ∷ heights) [] are above near = absurd are
@@ -110,12 +119,13 @@ module _ (rows : List Row) (pieces : List Piece) where
 
 -- no rising rows begin at the edge or below it
 number_low : (rows : List Row) (x y : ℤ) → AreRising edge rows → y ≤ℤ edge → number_at rows (square_at x y) ≡ 0
-number_low rows x y rising p = ap (λ (runs : List Run). value_at runs x) (runs_stop [] [] rows y (λ row i. let above : edge <ℤ row.ylo = row_above edge rows row rising i in omega (arith, ints)))
+number_low rows x y rising p = ap (λ (runs : List Run). value_at runs x) (runs_stop [] [] rows y
+    (λ row i. let above : edge <ℤ row.ylo = row_above edge rows row rising i in omega (arith, ints)))
 
 -- far up there are the numbers of the highest row
-pub number_high : (rows : List Row) (x : ℤ) → AreRising edge rows → number_at rows (square_at x (pos (2 ^ 28))) ≡ value_at (top_runs [] rows) x
+pub number_high : (rows : List Row) (x : ℤ) → AreRising edge rows → number_at rows (square_at x PLANE_EDGE) ≡ value_at (top_runs [] rows) x
 number_high rows x rising = ap (λ (runs : List Run). value_at runs x)
-    (runs_top [] rows (pos (2 ^ 28)) (λ row i. let near : row.ylo <ℤ pos (2 ^ 28) = (row_facts edge rows row rising i).near.1 in omega (arith, ints)))
+    (runs_top [] rows PLANE_EDGE (λ row i. let near : row.ylo <ℤ PLANE_EDGE = (row_facts edge rows row rising i).near.1 in omega (arith, ints)))
 
 module _ (rows : List Row) (pieces : List Piece) (whole : AreRows rows)
     (proper : All (λ piece. IsProper piece.area) pieces) (near : All (λ piece. IsNear piece.area) pieces)
@@ -172,10 +182,14 @@ module _ (rows : List Row) (pieces : List Piece) (whole : AreRows rows)
       let order : span.start <ℤ span.end = spans.in_order in
       let before = span.start -ℤ pos 1 in
       let found_rising : AreRising before found =
-      rising_found rows pieces before heights found for (are.rising before (λ h i. let low : span.start ≤ℤ h = (facts h i).0 in omega (arith, ints))) (λ h i. (facts h i).2) in
-      let below : (row : Row) → In row (take band.start rows) → row.ylo ≤ℤ before = λ row i. let less : row.ylo <ℤ span.start = is_band.below row i in omega (arith, ints) in
-      let front = rising_append edge before (take band.start rows) found (omega (arith, ints)) (rising_take edge band.start rows whole.rising) below found_rising in
-      let up_to : (row : Row) → In row (take band.start rows ++ found) → row.ylo ≤ℤ span.end = λ row i. elim (In-append_cases row (take band.start rows) found i) [
+      rising_found rows pieces before heights found for (are.rising before (λ h i. let low : span.start ≤ℤ h = (facts h i).0 in omega (arith, ints)))
+      (λ h i. (facts h i).2) in
+      let below : (row : Row) → In row (take band.start rows) → row.ylo ≤ℤ before = λ row i. let less : row.ylo <ℤ span.start = is_band.below row i in
+      omega (arith, ints) in
+      let front = rising_append edge before (take band.start rows) found (omega (arith, ints)) (rising_take edge band.start rows whole.rising) below
+      found_rising in
+      let up_to : (row : Row) → In row (take band.start rows ++ found) → row.ylo ≤ℤ span.end = λ row i.
+      elim (In-append_cases row (take band.start rows) found i) [
         | inl j ↦ (let less : row.ylo <ℤ span.start = is_band.below row j in omega (arith, ints))
         | inr j ↦ (facts row.ylo (row_found rows pieces heights found for row j).1).1
       ] in
@@ -195,7 +209,8 @@ module _ (rows : List Row) (pieces : List Piece) (whole : AreRows rows)
   each_right x row i = elim (parts row i) [
     | inr j ↦ (row_found rows pieces heights found for row j).0.set x
     | inl (j, out) ↦ (
-        let own : value_at row.runs x ≡ number_at rows (square_at x row.ylo) = ap (λ (runs : List Run). value_at runs x) (sym (runs_own edge [] rows row whole.rising j)) in
+        let own : value_at row.runs x ≡ number_at rows (square_at x row.ylo) = ap (λ (runs : List Run). value_at runs x)
+        (sym (runs_own edge [] rows row whole.rising j)) in
         let none = none_outside x row.ylo (elim out [ inl p ↦ inl p | inr p ↦ inr (omega (arith, ints, p)) ]) in
         record { set = λ piece k c. absurd (none piece k c); other = λ _. own })
   ]
@@ -203,12 +218,21 @@ module _ (rows : List Row) (pieces : List Piece) (whole : AreRows rows)
   has_critical : HasCritical rows pieces edge next
   has_critical c critical less =
       let from_height : In c heights → (row : Row) × In row next × (row.ylo ≡ c) = λ i.
-      let there = row_at_height rows pieces heights found for c i in
-      (there.0, In-append_left there.0 (take band.start rows ++ found) (drop band.end rows) (In-append_right there.0 (take band.start rows) found there.1), there.2) in
+      let there = row_at_height rows pieces heights found for c i in (
+        there.0,
+        In-append_left there.0 (take band.start rows ++ found) (drop band.end rows)
+            (In-append_right there.0 (take band.start rows) found there.1),
+        there.2,
+      ) in
       elim critical [
         | inr (piece, i, e) ↦ from_height (are.of_pieces piece i c e)
         | inl (row, i, e) ↦ elim (three_parts band.start band.end rows is_band.in_order row i) [
-          | inl first ↦ (row, In-append_left row (take band.start rows ++ found) (drop band.end rows) (In-append_left row (take band.start rows) found first), e)
+          | inl first ↦ (
+            row,
+            In-append_left row (take band.start rows ++ found) (drop band.end rows)
+                (In-append_left row (take band.start rows) found first),
+            e,
+          )
           | inr (inl middle) ↦ from_height (subst (λ (h : ℤ). In h heights) e (are.of_rows row middle))
           | inr (inr last) ↦ (row, In-append_right row (take band.start rows ++ found) (drop band.end rows) last, e)
         ]
@@ -221,7 +245,7 @@ module _ (rows : List Row) (pieces : List Piece) (whole : AreRows rows)
       record { set = λ piece i c. absurd (none piece i c); other = λ _. zero ∙ sym (number_low rows x y whole.rising p) }
 
   right_next : (x y : ℤ) → IsRight rows pieces x y (number_at next (square_at x y))
-  right_next x y = elim (le_or_lt edge y) [
+  right_next x y = elim (at_most_or_greater edge y) [
     | inl p ↦ all_right rows pieces edge [] next x rising_next (low_right x edge (omega (arith, ints)) 0 refl) (each_right x) has_critical y p
     | inr p ↦ low_right x y (omega (arith, ints, p)) (number_at next (square_at x y)) (number_low next x y rising_next (omega (arith, ints, p)))
   ]
@@ -229,7 +253,7 @@ module _ (rows : List Row) (pieces : List Piece) (whole : AreRows rows)
   -- the rows where those of the band are replaced are those of a plane
   pub rows_next : AreRows next
   rows_next =
-      let top = pos (2 ^ 28) in
+      let top = PLANE_EDGE in
       let end_small : span.end <ℤ top = spans.near_end.1 in
       record {
         rising = rising_next;

@@ -1,11 +1,14 @@
 -- The smallest rectangle that covers all squares with a number, row after row.
-use Rattle.std.proofs.Common.{◌≡◌, ◌≢◌, ◌⊎◌, inl, inr, ℕ, zero, suc, ◌+◌, ◌-◌, ◌<◌, ◌≤◌, ℤ, pos, ◌+ℤ◌, ◌-ℤ◌, ◌≤ℤ◌, ◌<ℤ◌, List, [], ◌∷◌, length, get_or, refl, sym, ◌∙◌, ap, subst, arith, ◌^◌, Option, Some, None}
+use Rattle.std.proofs.Common.{◌≡◌, ◌≢◌, ◌⊎◌, inl, inr, ℕ, zero, suc, ◌+◌, ◌-◌, ◌<◌, ◌≤◌, ℤ, pos, ◌+ℤ◌, ◌-ℤ◌, ◌≤ℤ◌, ◌<ℤ◌}
+use Rattle.std.proofs.Common.{List, [], ◌∷◌, length, get_or, refl, sym, ◌∙◌, ap, subst, arith, ◌^◌, Option, Some, None}
 use Rattle.std.specs.Prelude.{MatchOption, slice_get}
 use Rattle.std.proofs.lemmas.Bool.{cases_lt}
 use Rattle.std.proofs.lemmas.Int.{ints}
 use Rattle.std.proofs.lemmas.Option.{slice_get_within, get_or_from_slice_get}
 use Rattle.finite_sets.specs.Lists.{In}
 use Rattle.finite_sets.proofs.Members.{In-get_or}
+use Rattle.finite_sets.proofs.Orders.{at_most_or_greater}
+use Rattle.geo_core.specs.declared.limits.TheConstants.{PLANE_EDGE}
 use Rattle.geo_core.specs.declared.squares.Square.{Square}
 use Rattle.geo_core.specs.declared.squares.Rect.{Rect}
 use Rattle.geo_core.specs.Areas.{IsNear, LiesWithin}
@@ -16,10 +19,10 @@ use Rattle.run_plane.specs.declared.runs.Run.{Run}
 use Rattle.run_plane.specs.declared.rows.Row.{Row}
 use Rattle.run_plane.specs.Rows.{value_at, runs_from, number_at, edge, AreRuns, AreRows}
 use Rattle.run_plane.specs.Changes.{square_at}
-use Rattle.geo_core.specs.Areas.{joined_area}
+use Rattle.geo_core.specs.Areas.{joined_rect}
 use Rattle.geo_core.proofs.CoveringLaws.{covers_joined_left, covers_joined_right, joined_within}
 use Rattle.run_plane.specs.Listings.{no_row, IsRowBox}
-use Rattle.run_plane.proofs.RunLaws.{le_or_lt, value_of_run, run_of_value, run_facts}
+use Rattle.run_plane.proofs.RunLaws.{value_of_run, run_of_value, run_facts}
 use Rattle.run_plane.proofs.BandLaws.{number_high}
 use Rattle.run_plane.proofs.RowLaws.{runs_stop, runs_top, runs_ordered, row_above, row_facts, rising_next, all_above}
 use Rattle.run_plane.proofs.PieceLaws.{runs_index, IsBelowRow}
@@ -50,7 +53,7 @@ last_ends low (first ∷ next ∷ runs) (suc k) d run are e (inl f) =
 
 -- one square away from the bounds
 abbrev pub IsInner : ℤ → Type 0
-IsInner z = ((edge +ℤ pos 1) ≤ℤ z) × (z <ℤ (pos (2 ^ 28) -ℤ pos 1))
+IsInner z = ((edge +ℤ pos 1) ≤ℤ z) × (z <ℤ (PLANE_EDGE -ℤ pos 1))
 
 -- squares with a number are near the origin
 pub number_near : (rows : List Row) (square : Square) → AreRows rows → number_at rows square ≢ 0 → IsInner square.x × IsInner square.y
@@ -62,16 +65,18 @@ number_near rows square are some =
     let run = found.0 in
     let facts = run_facts edge (runs_from [] rows y) run ordered found.1.0 in
     let left : edge <ℤ run.xlo = facts.left.0 in
-    let right : run.xhi <ℤ pos (2 ^ 28) = facts.right.1 in
+    let right : run.xhi <ℤ PLANE_EDGE = facts.right.1 in
     let from : run.xlo ≤ℤ x = found.1.1 in
     let to : x <ℤ run.xhi = found.1.2 in
-    let low : (edge +ℤ pos 1) ≤ℤ y = elim (le_or_lt (edge +ℤ pos 1) y) [
+    let low : (edge +ℤ pos 1) ≤ℤ y = elim (at_most_or_greater (edge +ℤ pos 1) y) [
       | inl h ↦ h
-      | inr h ↦ absurd (some (ap (λ (runs : List Run). value_at runs x) (runs_stop [] [] rows y (λ row i. let above : edge <ℤ row.ylo = row_above edge rows row are.rising i in omega (arith, ints, h)))))
+      | inr h ↦ absurd (some (ap (λ (runs : List Run). value_at runs x) (runs_stop [] [] rows y
+          (λ row i. let above : edge <ℤ row.ylo = row_above edge rows row are.rising i in omega (arith, ints, h)))))
     ] in
-    let high : y <ℤ (pos (2 ^ 28) -ℤ pos 1) = elim (le_or_lt (pos (2 ^ 28) -ℤ pos 1) y) [
+    let high : y <ℤ (PLANE_EDGE -ℤ pos 1) = elim (at_most_or_greater (PLANE_EDGE -ℤ pos 1) y) [
       | inr h ↦ h
-      | inl h ↦ absurd (some (ap (λ (runs : List Run). value_at runs x) (runs_top [] rows y (λ row i. let near : row.ylo <ℤ pos (2 ^ 28) = (row_facts edge rows row are.rising i).near.1 in omega (arith, ints, h))) ∙ are.ended x))
+      | inl h ↦ absurd (some (ap (λ (runs : List Run). value_at runs x) (runs_top [] rows y
+          (λ row i. let near : row.ylo <ℤ PLANE_EDGE = (row_facts edge rows row are.rising i).near.1 in omega (arith, ints, h))) ∙ are.ended x))
     ] in
     ((omega (arith, ints), omega (arith, ints)), (low, high))
 
@@ -88,17 +93,18 @@ strip_near rows value area are material strip =
     let b = number_near rows (square_at (area.xhi -ℤ pos 1) (area.yhi -ℤ pos 1)) are (λ e. material (sym last ∙ e)) in
     let x0 : (edge +ℤ pos 1) ≤ℤ area.xlo = a.0.0 in
     let y0 : (edge +ℤ pos 1) ≤ℤ area.ylo = a.1.0 in
-    let x1 : (area.xhi -ℤ pos 1) <ℤ (pos (2 ^ 28) -ℤ pos 1) = b.0.1 in
-    let y1 : (area.yhi -ℤ pos 1) <ℤ (pos (2 ^ 28) -ℤ pos 1) = b.1.1 in
+    let x1 : (area.xhi -ℤ pos 1) <ℤ (PLANE_EDGE -ℤ pos 1) = b.0.1 in
+    let y1 : (area.yhi -ℤ pos 1) <ℤ (PLANE_EDGE -ℤ pos 1) = b.1.1 in
     record { xlo = (omega (arith, ints), omega (arith, ints)); ylo = (omega (arith, ints), omega (arith, ints)); xhi = (omega (arith, ints), omega (arith, ints)); yhi = (omega (arith, ints), omega (arith, ints)) }
 
 -- so is the smallest rectangle that covers all of them
 pub box_near : (rows : List Row) (box : Rect) → AreRows rows → IsBox (number_at rows) box → IsNear box
 box_near rows box are is =
     let low = edge +ℤ pos 1 in
-    let high = pos (2 ^ 28) -ℤ pos 1 in
+    let high = PLANE_EDGE -ℤ pos 1 in
     let bounds = is.least (record { xlo = low; ylo = low; xhi = high; yhi = high })
-    (λ square some. let near = number_near rows square are some in record { right_of_xlo = near.0.0; left_of_xhi = near.0.1; above_ylo = near.1.0; below_yhi = near.1.1 }) in
+    (λ square some. let near = number_near rows square are some in
+    record { right_of_xlo = near.0.0; left_of_xhi = near.0.1; above_ylo = near.1.0; below_yhi = near.1.1 }) in
     let c = is.covers is.square is.material in
     let x0 : low ≤ℤ box.xlo = bounds.right_of_xlo in
     let y0 : low ≤ℤ box.ylo = bounds.above_ylo in
@@ -129,8 +135,9 @@ module _ (rows : List Row) (are : AreRows rows) where
   ordered k p = (row_facts edge rows (get_or rows k no_row) are.rising (In-get_or rows k no_row p)).runs
 
   -- a square below the next row is below this row or in it
-  below_or_in : (k : ℕ) (y : ℤ) → k + 1 < length rows → IsBelowRow rows (k + 1) y → (IsBelowRow rows k y) ⊎ (((get_or rows k no_row).ylo ≤ℤ y) × (y <ℤ (get_or rows (k + 1) no_row).ylo))
-  below_or_in k y p below = elim (le_or_lt (get_or rows k no_row).ylo y) [ inl from ↦ inr (from, below p) | inr less ↦ inl (λ _. less) ]
+  below_or_in : (k : ℕ) (y : ℤ) → k + 1 < length rows → IsBelowRow rows (k + 1) y
+      → (IsBelowRow rows k y) ⊎ (((get_or rows k no_row).ylo ≤ℤ y) × (y <ℤ (get_or rows (k + 1) no_row).ylo))
+  below_or_in k y p below = elim (at_most_or_greater (get_or rows k no_row).ylo y) [ inl from ↦ inr (from, below p) | inr less ↦ inl (λ _. less) ]
 
   -- a row without runs adds nothing
   pub box_kept : (k : ℕ) (found : Option Rect) → k + 1 < length rows → (get_or rows k no_row).runs ≡ [] → BoxUpTo rows k found → BoxUpTo rows (k + 1) found
@@ -144,15 +151,21 @@ module _ (rows : List Row) (are : AreRows rows) where
       go (Some box) some = record {
         square = some.square;
         material = some.material;
-        covers = λ square below material. elim (below_or_in k square.y p below) [ inl b ↦ some.covers square b material | inr at ↦ absurd (material (zero_in square at)) ];
+        covers = λ square below material. elim (below_or_in k square.y p below) [
+          | inl b ↦ some.covers square b material
+          | inr at ↦
+              absurd (material (zero_in square at))
+        ];
         least = some.least;
       }
 
   -- the rectangle of a row's runs
-  row_box_is : (k : ℕ) (p : k + 1 < length rows) (area : Rect) → IsRowBox (get_or rows k no_row).runs (get_or rows k no_row).ylo (get_or rows (k + 1) no_row).ylo area
+  row_box_is : (k : ℕ) (p : k + 1 < length rows) (area : Rect)
+      → IsRowBox (get_or rows k no_row).runs (get_or rows k no_row).ylo (get_or rows (k + 1) no_row).ylo area
       → (get_or rows k no_row).ylo <ℤ (get_or rows (k + 1) no_row).ylo
       → ((square : Square) × (number_at rows square ≢ 0))
-      × ((square : Square) → ((get_or rows k no_row).ylo ≤ℤ square.y) × (square.y <ℤ (get_or rows (k + 1) no_row).ylo) → number_at rows square ≢ 0 → Covers area square)
+      × ((square : Square) → ((get_or rows k no_row).ylo ≤ℤ square.y) × (square.y <ℤ (get_or rows (k + 1) no_row).ylo) → number_at rows square ≢
+      0 → Covers area square)
       × ((other : Rect) → ((square : Square) → number_at rows square ≢ 0 → Covers other square) → LiesWithin area other)
   row_box_is k p area is tall =
       let runs = (get_or rows k no_row).runs in
@@ -166,7 +179,8 @@ module _ (rows : List Row) (are : AreRows rows) where
       let f_long : first.xlo <ℤ first.xhi = f.long in
       let l_long : last.xlo <ℤ last.xhi = l.long in
       let low_corner : number_at rows (square_at first.xlo ylo) ≢ 0 = λ e.
-      f.material (sym (own k p first.xlo ylo (omega (arith, ints)) tall ∙ value_of_run edge runs first first.xlo order is.first.1 (omega (arith, ints)) f_long) ∙ e) in
+      f.material (sym (own k p first.xlo ylo (omega (arith, ints)) tall ∙ value_of_run edge runs first first.xlo order is.first.1 (omega (arith, ints))
+      f_long) ∙ e) in
       let high_corner : number_at rows (square_at (last.xhi -ℤ pos 1) (yhi -ℤ pos 1)) ≢ 0 = λ e.
       l.material (sym (own k p (last.xhi -ℤ pos 1) (yhi -ℤ pos 1) (omega (arith, ints)) (omega (arith, ints))
       ∙ value_of_run edge runs last (last.xhi -ℤ pos 1) order is.last.1 (omega (arith, ints)) (omega (arith, ints))) ∙ e) in
@@ -199,7 +213,8 @@ module _ (rows : List Row) (are : AreRows rows) where
   next_above k p = rising_next edge rows k no_row are.rising p
 
   -- the first rectangle
-  pub box_begun : (k : ℕ) (area : Rect) → k + 1 < length rows → IsRowBox (get_or rows k no_row).runs (get_or rows k no_row).ylo (get_or rows (k + 1) no_row).ylo area
+  pub box_begun : (k : ℕ) (area : Rect) → k + 1 < length rows
+      → IsRowBox (get_or rows k no_row).runs (get_or rows k no_row).ylo (get_or rows (k + 1) no_row).ylo area
       → BoxUpTo rows k None → BoxUpTo rows (k + 1) (Some area)
   box_begun k area p is none =
       let box = row_box_is k p area is (next_above k p) in
@@ -211,8 +226,9 @@ module _ (rows : List Row) (are : AreRows rows) where
       }
 
   -- one more rectangle
-  pub box_grown : (k : ℕ) (old area : Rect) → k + 1 < length rows → IsRowBox (get_or rows k no_row).runs (get_or rows k no_row).ylo (get_or rows (k + 1) no_row).ylo area
-      → BoxUpTo rows k (Some old) → BoxUpTo rows (k + 1) (Some (joined_area old area))
+  pub box_grown : (k : ℕ) (old area : Rect) → k + 1 < length rows
+      → IsRowBox (get_or rows k no_row).runs (get_or rows k no_row).ylo (get_or rows (k + 1) no_row).ylo area
+      → BoxUpTo rows k (Some old) → BoxUpTo rows (k + 1) (Some (joined_rect old area))
   box_grown k old area p is some =
       let box = row_box_is k p area is (next_above k p) in
       record {
@@ -227,7 +243,8 @@ module _ (rows : List Row) (are : AreRows rows) where
 
   -- below the first row there is nothing
   pub box_none : BoxUpTo rows 0 None
-  box_none = λ square below. ap (λ (runs : List Run). value_at runs square.x) (runs_stop [] [] rows square.y (all_above edge rows no_row square.y are.rising below))
+  box_none = λ square below. ap (λ (runs : List Run). value_at runs square.x) (runs_stop [] [] rows square.y
+      (all_above edge rows no_row square.y are.rising below))
 
   -- from the highest row on there is nothing
   pub box_whole : (k : ℕ) (found : Option Rect) → length rows ≤ k + 1 → BoxUpTo rows k found
@@ -237,16 +254,17 @@ module _ (rows : List Row) (are : AreRows rows) where
       -- from the highest row on
       zero_on : (square : Square) → k < length rows → (get_or rows k no_row).ylo ≤ℤ square.y → number_at rows square ≡ 0
       zero_on square q from =
-          let far = pos (2 ^ 28) in
+          let far = PLANE_EDGE in
           let last : (y : ℤ) → (get_or rows k no_row).ylo ≤ℤ y → runs_from [] rows y ≡ (get_or rows k no_row).runs =
           λ y begun. runs_index edge [] rows k no_row y are.rising q begun (λ more. absurd (omega arith)) in
           let near : (get_or rows k no_row).ylo <ℤ far = (row_facts edge rows (get_or rows k no_row) are.rising (In-get_or rows k no_row q)).near.1 in
-          ap (λ (runs : List Run). value_at runs square.x) (last square.y from ∙ sym (last far (omega (arith, ints)))) ∙ number_high rows square.x are.rising ∙ are.ended square.x
+          ap (λ (runs : List Run). value_at runs square.x) (last square.y from ∙ sym (last far (omega (arith, ints)))) ∙ number_high rows square.x
+          are.rising ∙ are.ended square.x
 
       below_or_zero : (square : Square) → IsBelowRow rows k square.y ⊎ (number_at rows square ≡ 0)
       below_or_zero square = elim (cases_lt k (length rows)) [
         | inr none ↦ inl (λ q. absurd (omega (arith, none, q)))
-        | inl q ↦ elim (le_or_lt (get_or rows k no_row).ylo square.y) [ inl from ↦ inr (zero_on square q from) | inr less ↦ inl (λ _. less) ]
+        | inl q ↦ elim (at_most_or_greater (get_or rows k no_row).ylo square.y) [ inl from ↦ inr (zero_on square q from) | inr less ↦ inl (λ _. less) ]
       ]
 
       go : (found : Option Rect) → BoxUpTo rows k found → MatchOption found ((square : Square) → number_at rows square ≡ 0) (IsBox (number_at rows))
@@ -259,7 +277,8 @@ module _ (rows : List Row) (are : AreRows rows) where
       }
 
 -- the rectangle from the first run on to the end of the last
-pub row_box_found : (runs : List Run) (first last : Run) (ylo yhi : ℤ) → AreRuns edge runs → slice_get runs 0 ≡ Some first → slice_get runs (length runs - 1) ≡ Some last
+pub row_box_found : (runs : List Run) (first last : Run) (ylo yhi : ℤ) → AreRuns edge runs → slice_get runs 0 ≡ Some first
+    → slice_get runs (length runs - 1) ≡ Some last
     → IsRowBox runs ylo yhi (record { xlo = first.xlo; ylo = ylo; xhi = last.xhi; yhi = yhi })
 row_box_found runs first last ylo yhi ordered is_first is_last =
     let some : 0 < length runs = slice_get_within runs 0 first is_first in

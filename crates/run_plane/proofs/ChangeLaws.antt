@@ -2,13 +2,13 @@
 use Rattle.std.proofs.Common.{◌≡◌, ◌⊎◌, inl, inr, ℕ, ℤ, ◌≤ℤ◌, ◌<ℤ◌, List, [], ◌∷◌, refl, sym, ◌∙◌, ap, subst, arith}
 use Rattle.std.proofs.lemmas.Int.{ints}
 use Rattle.finite_sets.specs.Lists.{In}
+use Rattle.finite_sets.proofs.Orders.{at_most_or_greater}
 use Rattle.geo_core.specs.declared.squares.Piece.{Piece}
 use Rattle.geo_core.specs.Covering.{Covers}
 use Rattle.run_plane.specs.declared.runs.Run.{Run}
 use Rattle.run_plane.specs.declared.rows.Row.{Row}
 use Rattle.run_plane.specs.Rows.{value_at, runs_from, number_at, AreRising}
 use Rattle.run_plane.specs.Changes.{square_at, IsSetTo, HasEdgeAt}
-use Rattle.run_plane.proofs.RunLaws.{le_or_lt}
 use Rattle.run_plane.proofs.RowLaws.{runs_in, runs_under, runs_between, row_above}
 
 module _ (rows : List Row) (pieces : List Piece) where
@@ -49,8 +49,9 @@ module _ (rows : List Row) (pieces : List Piece) where
   abbrev pub HasCritical : ℤ → List Row → Type 0
   HasCritical low others = (c : ℤ) → IsCritical c → low <ℤ c → (row : Row) × In row others × (row.ylo ≡ c)
 
-  none_between : (low y : ℤ) (others : List Row) → HasCritical low others → ((row : Row) → In row others → y <ℤ row.ylo) → (c : ℤ) → IsCritical c → (c ≤ℤ low) ⊎ (y <ℤ c)
-  none_between low y others has above c critical = elim (le_or_lt c low) [
+  none_between : (low y : ℤ) (others : List Row) → HasCritical low others → ((row : Row) → In row others → y <ℤ row.ylo) → (c : ℤ) → IsCritical c
+      → (c ≤ℤ low) ⊎ (y <ℤ c)
+  none_between low y others has above c critical = elim (at_most_or_greater c low) [
     | inl p ↦ inl p
     | inr p ↦ (let found = has c critical p in inr (subst (λ (z : ℤ). y <ℤ z) found.2 (above found.0 found.1)))
   ]
@@ -60,7 +61,7 @@ module _ (rows : List Row) (pieces : List Piece) where
       → ((row : Row) → In row others → IsRight x row.ylo (value_at row.runs x)) → HasCritical low others
       → (y : ℤ) → low ≤ℤ y → IsRight x y (value_at (runs_from under others y) x)
   all_right low under [] x rising first each has y p = right_between x low y (value_at under x) p (none_between low y [] has (λ row i. absurd i)) first
-  all_right low under (row ∷ others) x rising first each has y p = elim (le_or_lt row.ylo y) [
+  all_right low under (row ∷ others) x rising first each has y p = elim (at_most_or_greater row.ylo y) [
     | inl begun ↦ (
         let above : low <ℤ row.ylo = rising.0.above in
         let has' : HasCritical row.ylo others = λ c critical less.

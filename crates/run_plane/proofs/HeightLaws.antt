@@ -27,13 +27,16 @@ strict_above low (height ∷ heights) sorted above = (above height (inl refl), s
 
 kept : (xs ys : List ℤ) → IsPermutation xs ys → (height : ℤ) → In height xs → In height (dedup int_eq ys)
 kept xs ys moved height i =
-    In-from_Contains height (dedup int_eq ys) (Contains-dedup int_eq_equiv (λ x y t. grind (arith, ints)) ys height (Contains-permutation xs ys height moved (Contains-from_In height xs i)))
+    In-from_Contains height (dedup int_eq ys) (Contains-dedup int_eq_equiv (λ x y t. grind (arith, ints)) ys height
+    (Contains-permutation xs ys height moved (Contains-from_In height xs i)))
 
 came : (xs ys : List ℤ) → IsPermutation xs ys → (height : ℤ) → In height (dedup int_eq ys) → In height xs
 came xs ys moved height i =
-    In-from_Contains height xs (Contains-permutation ys xs height (IsPermutation-sym xs ys moved) (Contains-from_dedup int_eq ys height (Contains-from_In height (dedup int_eq ys) i)))
+    In-from_Contains height xs (Contains-permutation ys xs height (IsPermutation-sym xs ys moved)
+    (Contains-from_dedup int_eq ys height (Contains-from_In height (dedup int_eq ys) i)))
 
-pub sorted_heights : (rows : List Row) (pieces : List Piece) (sorted : List ℤ) → IsPermutation (all_heights rows pieces) sorted → IsSorted int_cmp sorted → AreHeights rows pieces (dedup int_eq sorted)
+pub sorted_heights : (rows : List Row) (pieces : List Piece) (sorted : List ℤ) → IsPermutation (all_heights rows pieces) sorted
+    → IsSorted int_cmp sorted → AreHeights rows pieces (dedup int_eq sorted)
 sorted_heights rows pieces sorted moved ordered =
     let of_rows = map (λ (row : Row). row.ylo) rows in
     let lows = map (λ (piece : Piece). piece.area.ylo) pieces in
@@ -41,10 +44,14 @@ sorted_heights rows pieces sorted moved ordered =
     let all = all_heights rows pieces in
     record {
       rising = λ low above. strict_above low (dedup int_eq sorted) (IsStrictlySortedBy-dedup int_cmp_total (λ x y. refl) sorted ordered) above;
-      of_rows = λ row i. kept all sorted moved row.ylo (In-append_left row.ylo (of_rows ++ lows) highs (In-append_left row.ylo of_rows lows (In-map (λ (row : Row). row.ylo) row rows i)));
+      of_rows = λ row i. kept all sorted moved row.ylo (In-append_left row.ylo (of_rows ++ lows) highs
+          (In-append_left row.ylo of_rows lows (In-map (λ (row : Row). row.ylo) row rows i)));
       of_pieces = λ piece i height edge. elim edge [
-        | inl e ↦ subst (λ (h : ℤ). In h (dedup int_eq sorted)) e (kept all sorted moved piece.area.ylo (In-append_left piece.area.ylo (of_rows ++ lows) highs (In-append_right piece.area.ylo of_rows lows (In-map (λ (piece : Piece). piece.area.ylo) piece pieces i))))
-        | inr e ↦ subst (λ (h : ℤ). In h (dedup int_eq sorted)) e (kept all sorted moved piece.area.yhi (In-append_right piece.area.yhi (of_rows ++ lows) highs (In-map (λ (piece : Piece). piece.area.yhi) piece pieces i)))
+        | inl e ↦ subst (λ (h : ℤ). In h (dedup int_eq sorted)) e (kept all sorted moved piece.area.ylo
+            (In-append_left piece.area.ylo (of_rows ++ lows) highs (In-append_right piece.area.ylo of_rows lows
+            (In-map (λ (piece : Piece). piece.area.ylo) piece pieces i))))
+        | inr e ↦ subst (λ (h : ℤ). In h (dedup int_eq sorted)) e (kept all sorted moved piece.area.yhi
+            (In-append_right piece.area.yhi (of_rows ++ lows) highs (In-map (λ (piece : Piece). piece.area.yhi) piece pieces i)))
       ];
       only = λ height i. elim (In-append_cases height (of_rows ++ lows) highs (came all sorted moved height i)) [
         | inl first ↦ elim (In-append_cases height of_rows lows first) [

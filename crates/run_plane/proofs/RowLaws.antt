@@ -1,14 +1,15 @@
 -- Rows from the lowest up: the runs at a height.
-use Rattle.std.proofs.Common.{◌≡◌, ◌⊎◌, inl, inr, ℕ, zero, suc, ◌+◌, ◌<◌, ◌≤◌, ℤ, ◌≤ℤ◌, ◌<ℤ◌, true, false, cond, List, [], ◌∷◌, ◌++◌, length, take, drop, get_or, refl, sym, ◌∙◌, ap, subst, arith}
+use Rattle.std.proofs.Common.{◌≡◌, ◌⊎◌, inl, inr, ℕ, zero, suc, ◌+◌, ◌<◌, ◌≤◌, ℤ, ◌≤ℤ◌, ◌<ℤ◌, true, false, cond}
+use Rattle.std.proofs.Common.{List, [], ◌∷◌, ◌++◌, length, take, drop, get_or, refl, sym, ◌∙◌, ap, subst, arith}
 use Rattle.std.specs.Prelude.{All, int_le}
 use Rattle.std.proofs.lemmas.Int.{ints}
 use Rattle.std.proofs.lemmas.List.{take-append-drop}
 use Rattle.finite_sets.specs.Lists.{In}
 use Rattle.finite_sets.proofs.Members.{In-index, In-get_or}
+use Rattle.finite_sets.proofs.Orders.{at_most_or_greater}
 use Rattle.run_plane.specs.declared.runs.Run.{Run}
 use Rattle.run_plane.specs.declared.rows.Row.{Row}
 use Rattle.run_plane.specs.Rows.{edge, AreRuns, runs_from, top_runs, IsRowAbove, AreRising}
-use Rattle.run_plane.proofs.RunLaws.{le_or_lt}
 
 pub all_in : {X : Type 0} (P : X → Type 0) (xs : List X) → All P xs → (x : X) → In x xs → P x
 all_in P xs all x i = let found = In-index x xs i in subst P (found.1.1 x) (all found.0 x found.1.0)
@@ -25,7 +26,7 @@ runs_under under row rows y p = let t : int_le row.ylo y ≡ false = grind (arit
 pub runs_stop : (under : List Run) (xs ys : List Row) (y : ℤ) → ((row : Row) → In row ys → y <ℤ row.ylo) → runs_from under (xs ++ ys) y ≡ runs_from under xs y
 runs_stop under [] [] y above = refl
 runs_stop under [] (row ∷ ys) y above = runs_under under row ys y (above row (inl refl))
-runs_stop under (row ∷ xs) ys y above = elim (le_or_lt row.ylo y) [
+runs_stop under (row ∷ xs) ys y above = elim (at_most_or_greater row.ylo y) [
   | inl p ↦ runs_in under row (xs ++ ys) y p ∙ runs_stop row.runs xs ys y above ∙ sym (runs_in under row xs y p)
   | inr p ↦ runs_under under row (xs ++ ys) y p ∙ sym (runs_under under row xs y p)
 ]
@@ -79,7 +80,8 @@ runs_own low under (first ∷ rows) row rising (inr i) =
     runs_in under first rows row.ylo here ∙ runs_own first.ylo first.runs rows row rising.1 i
 
 -- between two heights where no row begins the runs stay
-pub runs_between : (under : List Run) (rows : List Row) (low y : ℤ) → low ≤ℤ y → ((row : Row) → In row rows → (row.ylo ≤ℤ low) ⊎ (y <ℤ row.ylo)) → runs_from under rows y ≡ runs_from under rows low
+pub runs_between : (under : List Run) (rows : List Row) (low y : ℤ) → low ≤ℤ y → ((row : Row) → In row rows → (row.ylo ≤ℤ low) ⊎ (y <ℤ row.ylo))
+    → runs_from under rows y ≡ runs_from under rows low
 runs_between under [] low y p none = refl
 runs_between under (row ∷ rows) low y p none = elim (none row (inl refl)) [
   | inl begun ↦ (let begun' : row.ylo ≤ℤ y = omega (arith, ints, begun) in
@@ -105,12 +107,19 @@ rising_drop low (suc k) (row ∷ rows) rising =
     rising_drop low k rows (rising_from row.ylo low rows rising.1 (λ r i. row_above low (row ∷ rows) r rising (inr i)))
 
 -- rows above other rows
-pub rising_append : (low middle : ℤ) (xs ys : List Row) → low ≤ℤ middle → AreRising low xs → ((row : Row) → In row xs → row.ylo ≤ℤ middle) → AreRising middle ys → AreRising low (xs ++ ys)
-rising_append low middle [] ys p rising below more = rising_from middle low ys more (λ r i. let q : middle <ℤ r.ylo = row_above middle ys r more i in omega (arith, ints))
-rising_append low middle (row ∷ xs) ys p rising below more = (rising.0, rising_append row.ylo middle xs ys (below row (inl refl)) rising.1 (λ r i. below r (inr i)) more)
+pub rising_append : (low middle : ℤ) (xs ys : List Row) → low ≤ℤ middle → AreRising low xs → ((row : Row) → In row xs → row.ylo ≤ℤ middle)
+    → AreRising middle ys → AreRising low (xs ++ ys)
+rising_append low middle [] ys p rising below more = rising_from middle low ys more
+    (λ r i. let q : middle <ℤ r.ylo = row_above middle ys r more i in omega (arith, ints))
+rising_append low middle (row ∷ xs) ys p rising below more = (
+  rising.0,
+  rising_append row.ylo middle xs ys (below row (inl refl)) rising.1
+      (λ r i. below r (inr i)) more,
+)
 
 -- of two rows the one further on begins no lower
-pub rising_order : (low : ℤ) (rows : List Row) → AreRising low rows → (i j : ℕ) (d : Row) → i ≤ j → j < length rows → (get_or rows i d).ylo ≤ℤ (get_or rows j d).ylo
+pub rising_order : (low : ℤ) (rows : List Row) → AreRising low rows → (i j : ℕ) (d : Row) → i ≤ j → j < length rows
+    → (get_or rows i d).ylo ≤ℤ (get_or rows j d).ylo
 rising_order low [] rising i j d p q = absurd (omega arith)
 rising_order low (row ∷ rows) rising zero zero d p q = omega (arith, ints)
 rising_order low (row ∷ rows) rising zero (suc j) d p q =
@@ -122,22 +131,25 @@ rising_order low (row ∷ rows) rising (suc i) (suc j) d p q = rising_order row.
 -- the runs at any height are in order
 pub runs_ordered : (low : ℤ) (under : List Run) (rows : List Row) (y : ℤ) → AreRuns edge under → AreRising low rows → AreRuns edge (runs_from under rows y)
 runs_ordered low under [] y ordered rising = ordered
-runs_ordered low under (row ∷ rows) y ordered rising = elim (le_or_lt row.ylo y) [
+runs_ordered low under (row ∷ rows) y ordered rising = elim (at_most_or_greater row.ylo y) [
   | inl p ↦ subst (AreRuns edge) (sym (runs_in under row rows y p)) (runs_ordered row.ylo row.runs rows y rising.0.runs rising.1)
   | inr p ↦ subst (AreRuns edge) (sym (runs_under under row rows y p)) ordered
 ]
 
 -- each row begins above the one before
-pub rising_next : (low : ℤ) (rows : List Row) (k : ℕ) (d : Row) → AreRising low rows → k + 1 < length rows → (get_or rows k d).ylo <ℤ (get_or rows (k + 1) d).ylo
+pub rising_next : (low : ℤ) (rows : List Row) (k : ℕ) (d : Row) → AreRising low rows → k + 1 < length rows
+    → (get_or rows k d).ylo <ℤ (get_or rows (k + 1) d).ylo
 rising_next low [] k d rising p = absurd (omega arith)
 rising_next low (row ∷ []) k d rising p = absurd (omega arith)
 rising_next low (row ∷ next ∷ rows) zero d rising p = rising.1.0.above
 rising_next low (row ∷ next ∷ rows) (suc k) d rising p =
     let more : suc k + 1 ≡ suc (k + 1) = omega arith in
-    subst (λ (n : ℕ). (get_or (next ∷ rows) k d).ylo <ℤ (get_or (row ∷ next ∷ rows) n d).ylo) (sym more) (rising_next row.ylo (next ∷ rows) k d rising.1 (omega arith))
+    subst (λ (n : ℕ). (get_or (next ∷ rows) k d).ylo <ℤ (get_or (row ∷ next ∷ rows) n d).ylo) (sym more)
+    (rising_next row.ylo (next ∷ rows) k d rising.1 (omega arith))
 
 -- where the first row begins above y all do
-pub all_above : (low : ℤ) (rows : List Row) (d : Row) (y : ℤ) → AreRising low rows → (0 < length rows → y <ℤ (get_or rows 0 d).ylo) → (row : Row) → In row rows → y <ℤ row.ylo
+pub all_above : (low : ℤ) (rows : List Row) (d : Row) (y : ℤ) → AreRising low rows → (0 < length rows → y <ℤ (get_or rows 0 d).ylo) → (row : Row)
+    → In row rows → y <ℤ row.ylo
 all_above low [] d y rising first row i = absurd i
 all_above low (next ∷ rows) d y rising first row (inl e) = subst (λ (r : Row). y <ℤ r.ylo) e (first (omega arith))
 all_above low (next ∷ rows) d y rising first row (inr i) =

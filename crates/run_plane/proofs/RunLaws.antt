@@ -1,20 +1,19 @@
 -- The number of a row at x, and the runs that setting a piece leaves.
-use Rattle.std.proofs.Common.{◌≡◌, ◌≢◌, ◌⊎◌, inl, inr, ℕ, zero, suc, ◌≤◌, ◌<◌, ℤ, ◌≤ℤ◌, ◌<ℤ◌, true, false, cond, List, [], ◌∷◌, ◌++◌, map, length, get_or, drop, drop-cons, append_assoc, refl, sym, ◌∙◌, ap, subst, arith}
+use Rattle.std.proofs.Common.{◌≡◌, ◌≢◌, ◌⊎◌, inl, inr, ℕ, zero, suc, ◌≤◌, ◌<◌, ℤ, ◌≤ℤ◌, ◌<ℤ◌, true, false, cond, List, [], ◌∷◌}
+use Rattle.std.proofs.Common.{◌++◌, map, length, get_or, drop, drop-cons, append_assoc, refl, sym, ◌∙◌, ap, subst, arith}
 use Rattle.std.specs.Prelude.{filter, int_le, int_lt}
 use Rattle.std.specs.Int.{int_min, int_max}
 use Rattle.std.proofs.lemmas.Int.{ints, clamps}
 use Rattle.std.proofs.lemmas.List.{drop_all}
 use Rattle.finite_sets.specs.Lists.{In}
 use Rattle.finite_sets.proofs.Members.{In-get_or}
+use Rattle.finite_sets.proofs.Orders.{at_most_or_greater}
 use Rattle.run_plane.specs.declared.runs.Run.{Run}
 use Rattle.run_plane.specs.Rows.{value_at, edge, IsRunFrom, AreRuns}
 use Rattle.geo_core.specs.declared.squares.Piece.{Piece}
 use Rattle.geo_core.specs.Areas.{IsSmall, IsNear}
 use Rattle.geo_core.specs.Covering.{IsProper}
 use Rattle.run_plane.specs.Changes.{parts_before, parts_after, AreRunsWith}
-
-pub le_or_lt : (m n : ℤ) → (m ≤ℤ n) ⊎ (n <ℤ m)
-le_or_lt m n = grind (arith, ints)
 
 -- the first run has x
 pub value_here : (run : Run) (runs : List Run) (x : ℤ) → run.xlo ≤ℤ x → x <ℤ run.xhi → value_at (run ∷ runs) x ≡ run.value
@@ -54,30 +53,34 @@ abbrev pub after : ℤ → Run → Run
 after x run = record { xlo = int_max run.xlo x; xhi = run.xhi; value = run.value }
 
 keep_before : (x : ℤ) (run : Run) (runs : List Run) → run.xlo <ℤ x → parts_before x (run ∷ runs) ≡ before x run ∷ parts_before x runs
-keep_before x run runs p = let t : int_lt run.xlo x ≡ true = grind (arith, ints) in ap (λ v. map (before x) (cond v (run ∷ filter (λ run. int_lt run.xlo x) runs) (filter (λ run. int_lt run.xlo x) runs))) t
+keep_before x run runs p = let t : int_lt run.xlo x ≡ true = grind (arith, ints) in
+    ap (λ v. map (before x) (cond v (run ∷ filter (λ run. int_lt run.xlo x) runs) (filter (λ run. int_lt run.xlo x) runs))) t
 
 drop_before : (x : ℤ) (run : Run) (runs : List Run) → x ≤ℤ run.xlo → parts_before x (run ∷ runs) ≡ parts_before x runs
-drop_before x run runs p = let t : int_lt run.xlo x ≡ false = grind (arith, ints) in ap (λ v. map (before x) (cond v (run ∷ filter (λ run. int_lt run.xlo x) runs) (filter (λ run. int_lt run.xlo x) runs))) t
+drop_before x run runs p = let t : int_lt run.xlo x ≡ false = grind (arith, ints) in
+    ap (λ v. map (before x) (cond v (run ∷ filter (λ run. int_lt run.xlo x) runs) (filter (λ run. int_lt run.xlo x) runs))) t
 
 keep_after : (x : ℤ) (run : Run) (runs : List Run) → x <ℤ run.xhi → parts_after x (run ∷ runs) ≡ after x run ∷ parts_after x runs
-keep_after x run runs p = let t : int_lt x run.xhi ≡ true = grind (arith, ints) in ap (λ v. map (after x) (cond v (run ∷ filter (λ run. int_lt x run.xhi) runs) (filter (λ run. int_lt x run.xhi) runs))) t
+keep_after x run runs p = let t : int_lt x run.xhi ≡ true = grind (arith, ints) in
+    ap (λ v. map (after x) (cond v (run ∷ filter (λ run. int_lt x run.xhi) runs) (filter (λ run. int_lt x run.xhi) runs))) t
 
 drop_after : (x : ℤ) (run : Run) (runs : List Run) → run.xhi ≤ℤ x → parts_after x (run ∷ runs) ≡ parts_after x runs
-drop_after x run runs p = let t : int_lt x run.xhi ≡ false = grind (arith, ints) in ap (λ v. map (after x) (cond v (run ∷ filter (λ run. int_lt x run.xhi) runs) (filter (λ run. int_lt x run.xhi) runs))) t
+drop_after x run runs p = let t : int_lt x run.xhi ≡ false = grind (arith, ints) in
+    ap (λ v. map (after x) (cond v (run ∷ filter (λ run. int_lt x run.xhi) runs) (filter (λ run. int_lt x run.xhi) runs))) t
 
 -- left of c the parts before c say what the runs say, where what follows says nothing
 pub value_left : (c : ℤ) (runs rest : List Run) (x : ℤ) → x <ℤ c → value_at rest x ≡ 0 → value_at (parts_before c runs ++ rest) x ≡ value_at runs x
 value_left c [] rest x p none = none
 value_left c (run ∷ runs) rest x p none =
     let again = value_left c runs rest x p none in
-    elim (le_or_lt c run.xlo) [
+    elim (at_most_or_greater c run.xlo) [
       | inl late ↦
           let less : x <ℤ run.xlo = omega (arith, ints, late) in
           ap (λ (v : List Run). value_at (v ++ rest) x) (drop_before c run runs late) ∙ again ∙ sym (value_before run runs x less)
       | inr early ↦ ap (λ (v : List Run). value_at (v ++ rest) x) (keep_before c run runs early) ∙
-          elim (le_or_lt run.xlo x) [
+          elim (at_most_or_greater run.xlo x) [
             | inr less ↦ value_before (before c run) (parts_before c runs ++ rest) x less ∙ again ∙ sym (value_before run runs x less)
-            | inl begun ↦ elim (le_or_lt run.xhi x) [
+            | inl begun ↦ elim (at_most_or_greater run.xhi x) [
               | inl past ↦ (let past' : (before c run).xhi ≤ℤ x = omega (arith, ints, clamps, past) in
                   value_after (before c run) (parts_before c runs ++ rest) x past' ∙ again ∙ sym (value_after run runs x past))
               | inr in_run ↦ (let in_part : x <ℤ (before c run).xhi = omega (arith, ints, clamps, in_run, p) in
@@ -91,7 +94,7 @@ pub value_left_past : (c : ℤ) (runs rest : List Run) (x : ℤ) → c ≤ℤ x 
 value_left_past c [] rest x p = refl
 value_left_past c (run ∷ runs) rest x p =
     let again = value_left_past c runs rest x p in
-    elim (le_or_lt c run.xlo) [
+    elim (at_most_or_greater c run.xlo) [
       | inl late ↦ ap (λ (v : List Run). value_at (v ++ rest) x) (drop_before c run runs late) ∙ again
       | inr early ↦
           let past : (before c run).xhi ≤ℤ x = omega (arith, ints, clamps, p) in
@@ -103,14 +106,14 @@ pub value_right : (c : ℤ) (runs : List Run) (x : ℤ) → c ≤ℤ x → value
 value_right c [] x p = refl
 value_right c (run ∷ runs) x p =
     let again = value_right c runs x p in
-    elim (le_or_lt run.xhi c) [
+    elim (at_most_or_greater run.xhi c) [
       | inl gone ↦
           let past : run.xhi ≤ℤ x = omega (arith, ints, gone) in
           ap (λ (v : List Run). value_at v x) (drop_after c run runs gone) ∙ again ∙ sym (value_after run runs x past)
       | inr kept ↦ ap (λ (v : List Run). value_at v x) (keep_after c run runs kept) ∙
-          elim (le_or_lt run.xhi x) [
+          elim (at_most_or_greater run.xhi x) [
             | inl past ↦ value_after (after c run) (parts_after c runs) x past ∙ again ∙ sym (value_after run runs x past)
-            | inr in_run ↦ elim (le_or_lt run.xlo x) [
+            | inr in_run ↦ elim (at_most_or_greater run.xlo x) [
               | inr less ↦ (let less' : x <ℤ (after c run).xlo = omega (arith, ints, clamps, less) in
                   value_before (after c run) (parts_after c runs) x less' ∙ again ∙ sym (value_before run runs x less))
               | inl begun ↦ (let in_part : (after c run).xlo ≤ℤ x = omega (arith, ints, clamps, begun, p) in
@@ -131,16 +134,25 @@ before_ordered low c [] rest p small are more = runs_earlier c low rest p more
 before_ordered low c (run ∷ runs) rest p small are more =
     let from : low ≤ℤ run.xlo = are.0.from in
     let long : run.xlo <ℤ run.xhi = are.0.long in
-    elim (le_or_lt c run.xlo) [
+    elim (at_most_or_greater c run.xlo) [
       | inl late ↦
           let later : low ≤ℤ run.xhi = omega (arith, ints) in
-          subst (λ (v : List Run). AreRuns low (v ++ rest)) (sym (drop_before c run runs late)) (before_ordered low c runs rest p small (runs_earlier run.xhi low runs later are.1) more)
+          subst (λ (v : List Run). AreRuns low (v ++ rest)) (sym (drop_before c run runs late))
+          (before_ordered low c runs rest p small (runs_earlier run.xhi low runs later are.1) more)
       | inr early ↦
           let end = int_min run.xhi c in
           let end_before : end ≤ℤ c = omega (arith, ints, clamps) in
           let end_in : end ≤ℤ run.xhi = omega (arith, ints, clamps) in
-          let one : IsRunFrom low (before c run) = record { from = from; long = omega (arith, ints, clamps, early); left = are.0.left; right = small_min run.xhi c are.0.right small; material = are.0.material } in
-          subst (λ (v : List Run). AreRuns low (v ++ rest)) (sym (keep_before c run runs early)) (one, before_ordered end c runs rest end_before small (runs_earlier run.xhi end runs end_in are.1) more)
+          let one : IsRunFrom low (before c run) = record {
+            from = from;
+            long = omega (arith, ints, clamps, early);
+            left = are.0.left;
+            right = small_min run.xhi c are.0.right
+                small;
+            material = are.0.material;
+          } in
+          subst (λ (v : List Run). AreRuns low (v ++ rest)) (sym (keep_before c run runs early))
+          (one, before_ordered end c runs rest end_before small (runs_earlier run.xhi end runs end_in are.1) more)
     ]
 
 -- the parts after c of runs that begin at c or later are these
@@ -151,7 +163,14 @@ after_later low c (run ∷ runs) p small are =
     let long : run.xlo <ℤ run.xhi = are.0.long in
     let kept : c <ℤ run.xhi = omega (arith, ints) in
     let next : c ≤ℤ run.xhi = omega (arith, ints) in
-    let one : IsRunFrom low (after c run) = record { from = omega (arith, ints, clamps); long = omega (arith, ints, clamps); left = small_max run.xlo c are.0.left small; right = are.0.right; material = are.0.material } in
+    let one : IsRunFrom low (after c run) = record {
+      from = omega (arith, ints, clamps);
+      long = omega (arith, ints, clamps);
+      left = small_max run.xlo c
+          are.0.left small;
+      right = are.0.right;
+      material = are.0.material;
+    } in
     subst (AreRuns low) (sym (keep_after c run runs kept)) (one, after_later run.xhi c runs next small are.1)
 
 -- the parts after c are in order from c on
@@ -159,11 +178,18 @@ pub after_ordered : (low c : ℤ) (runs : List Run) → IsSmall c → AreRuns lo
 after_ordered low c [] small are = tt
 after_ordered low c (run ∷ runs) small are =
     let long : run.xlo <ℤ run.xhi = are.0.long in
-    elim (le_or_lt run.xhi c) [
+    elim (at_most_or_greater run.xhi c) [
       | inl gone ↦ subst (AreRuns c) (sym (drop_after c run runs gone)) (after_ordered run.xhi c runs small are.1)
       | inr kept ↦
           let next : c ≤ℤ run.xhi = omega (arith, ints, kept) in
-          let one : IsRunFrom c (after c run) = record { from = omega (arith, ints, clamps); long = omega (arith, ints, clamps, kept); left = small_max run.xlo c are.0.left small; right = are.0.right; material = are.0.material } in
+          let one : IsRunFrom c (after c run) = record {
+            from = omega (arith, ints, clamps);
+            long = omega (arith, ints, clamps, kept);
+            left = small_max
+                run.xlo c are.0.left small;
+            right = are.0.right;
+            material = are.0.material;
+          } in
           subst (AreRuns c) (sym (keep_after c run runs kept)) (one, after_later run.xhi c runs next small are.1)
     ]
 
@@ -178,7 +204,8 @@ value_of_run low (first ∷ runs) run x are (inr i) p q =
   where
     begins_after : (low : ℤ) (runs : List Run) (run : Run) (x : ℤ) → AreRuns low runs → In run runs → run.xlo ≤ℤ x → low ≤ℤ x
     begins_after low [] run x are i p = elim i [ ]
-    begins_after low (first ∷ runs) run x are (inl e) p = let from : low ≤ℤ first.xlo = are.0.from in let from' : first.xlo ≤ℤ x = subst (λ (r : Run). r.xlo ≤ℤ x) (sym e) p in omega (arith, ints)
+    begins_after low (first ∷ runs) run x are (inl e) p = let from : low ≤ℤ first.xlo = are.0.from in
+        let from' : first.xlo ≤ℤ x = subst (λ (r : Run). r.xlo ≤ℤ x) (sym e) p in omega (arith, ints)
     begins_after low (first ∷ runs) run x are (inr i) p =
         let later : first.xhi ≤ℤ x = begins_after first.xhi runs run x are.1 i p in
         let from : low ≤ℤ first.xlo = are.0.from in
@@ -188,9 +215,9 @@ value_of_run low (first ∷ runs) run x are (inr i) p q =
 -- a number other than 0 is that of a run
 pub run_of_value : (runs : List Run) (x : ℤ) → value_at runs x ≢ 0 → (run : Run) × (In run runs × (run.xlo ≤ℤ x) × (x <ℤ run.xhi))
 run_of_value [] x some = absurd (some refl)
-run_of_value (run ∷ runs) x some = elim (le_or_lt run.xlo x) [
+run_of_value (run ∷ runs) x some = elim (at_most_or_greater run.xlo x) [
   | inr less ↦ (let rest = run_of_value runs x (λ e. some (value_before run runs x less ∙ e)) in (rest.0, (inr rest.1.0, rest.1.1, rest.1.2)))
-  | inl begun ↦ elim (le_or_lt run.xhi x) [
+  | inl begun ↦ elim (at_most_or_greater run.xhi x) [
     | inl past ↦ (let rest = run_of_value runs x (λ e. some (value_after run runs x past ∙ e)) in (rest.0, (inr rest.1.0, rest.1.1, rest.1.2)))
     | inr in_run ↦ (run, (inl refl, begun, in_run))
   ]
@@ -209,7 +236,11 @@ run_facts low (first ∷ runs) run are (inr i) =
 
 -- the run that a piece sets, if its number is not 0
 abbrev pub IsMiddle : Piece → List Run → Type 0
-IsMiddle piece middle = ((piece.value ≡ 0) × (middle ≡ [])) ⊎ ((piece.value ≢ 0) × (middle ≡ record { xlo = piece.area.xlo; xhi = piece.area.xhi; value = piece.value } ∷ []))
+IsMiddle piece middle = ((piece.value ≡ 0) × (middle ≡ [])) ⊎ ((piece.value ≢ 0) × (middle ≡ record {
+  xlo = piece.area.xlo;
+  xhi = piece.area.xhi;
+  value = piece.value;
+} ∷ []))
 
 -- the parts left of a piece, its run and the parts right of it
 pub set_runs : (piece : Piece) (runs middle : List Run) → IsProper piece.area → IsNear piece.area → AreRuns edge runs → IsMiddle piece middle
@@ -224,7 +255,8 @@ set_runs piece runs middle proper near are middle_is =
     let assoc : (parts_before lo runs ++ middle) ++ last ≡ parts_before lo runs ++ (middle ++ last) = append_assoc (parts_before lo runs) middle last in
     let tail : AreRuns lo (middle ++ last) = elim middle_is [
       | inl (none, e) ↦ subst (λ (m : List Run). AreRuns lo (m ++ last)) (sym e) (runs_earlier hi lo last (omega (arith, ints)) last_ordered)
-      | inr (some, e) ↦ subst (λ (m : List Run). AreRuns lo (m ++ last)) (sym e) (record { from = omega (arith, ints); long = wide; left = near.xlo; right = near.xhi; material = some }, last_ordered)
+      | inr (some, e) ↦ subst (λ (m : List Run). AreRuns lo (m ++ last)) (sym e)
+          (record { from = omega (arith, ints); long = wide; left = near.xlo; right = near.xhi; material = some }, last_ordered)
     ] in
     let middle_left : (x : ℤ) → x <ℤ lo → value_at (middle ++ last) x ≡ 0 = λ x p. value_below lo (middle ++ last) x tail p in
     let middle_in : (x : ℤ) → lo ≤ℤ x → x <ℤ hi → value_at (middle ++ last) x ≡ piece.value = λ x p q. elim middle_is [
@@ -233,7 +265,8 @@ set_runs piece runs middle proper near are middle_is =
     ] in
     let middle_right : (x : ℤ) → hi ≤ℤ x → value_at (middle ++ last) x ≡ value_at runs x = λ x p. elim middle_is [
       | inl (none, e) ↦ ap (λ (m : List Run). value_at (m ++ last) x) e ∙ value_right hi runs x p
-      | inr (some, e) ↦ ap (λ (m : List Run). value_at (m ++ last) x) e ∙ value_after (record { xlo = lo; xhi = hi; value = piece.value }) last x p ∙ value_right hi runs x p
+      | inr (some, e) ↦ ap (λ (m : List Run). value_at (m ++ last) x) e ∙ value_after (record { xlo = lo; xhi = hi; value = piece.value }) last x p
+          ∙ value_right hi runs x p
     ] in
     let whole : AreRunsWith piece runs (parts_before lo runs ++ (middle ++ last)) = record {
       ordered = before_ordered edge lo runs (middle ++ last) low_edge near.xlo are tail;
@@ -260,7 +293,8 @@ run_ends_after low (first ∷ runs) are run (inr later) =
     omega (arith, ints)
 
 -- of two runs the one further on ends no earlier
-pub run_ends_rise : (low : ℤ) (runs : List Run) → AreRuns low runs → (i j : ℕ) (d : Run) → i ≤ j → j < length runs → (get_or runs i d).xhi ≤ℤ (get_or runs j d).xhi
+pub run_ends_rise : (low : ℤ) (runs : List Run) → AreRuns low runs → (i j : ℕ) (d : Run) → i ≤ j → j < length runs
+    → (get_or runs i d).xhi ≤ℤ (get_or runs j d).xhi
 run_ends_rise low [] are i j d p q = absurd (omega arith)
 run_ends_rise low (run ∷ runs) are zero zero d p q = omega (arith, ints)
 run_ends_rise low (run ∷ runs) are zero (suc j) d p q =
@@ -286,8 +320,9 @@ value_found runs x n run are past below is ends =
     let rest = value_past edge runs x n are past in
     let cut : drop n runs ≡ run ∷ drop (suc n) runs = drop-cons runs n run below ∙ ap (λ (r : Run). r ∷ drop (suc n) runs) is in
     let ordered : AreRuns rest.1.0 (run ∷ drop (suc n) runs) = subst (AreRuns rest.1.0) cut rest.1.1 in
-    rest.0 ∙ ap (λ (rs : List Run). value_at rs x) cut ∙ (elim (le_or_lt run.xlo x) [
-      | inl p ↦ let test : int_le run.xlo x ≡ true = grind (arith, ints) in value_here run (drop (suc n) runs) x p ends ∙ sym (ap (λ b. cond b run.value 0) test)
+    rest.0 ∙ ap (λ (rs : List Run). value_at rs x) cut ∙ (elim (at_most_or_greater run.xlo x) [
+      | inl p ↦ let test : int_le run.xlo x ≡ true = grind (arith, ints) in value_here run (drop (suc n) runs) x p ends
+          ∙ sym (ap (λ b. cond b run.value 0) test)
       | inr p ↦
           let test : int_le run.xlo x ≡ false = grind (arith, ints) in
           value_before run (drop (suc n) runs) x p ∙ value_below run.xhi (drop (suc n) runs) x ordered.1 ends ∙ sym (ap (λ b. cond b run.value 0) test)

@@ -1,5 +1,6 @@
 -- One square where pieces are set one after the other, and the span of pieces.
-use Rattle.std.proofs.Common.{◌≡◌, ◌⊎◌, inl, inr, ℕ, suc, ◌<◌, ◌≤◌, ◌≢◌, ◌+◌, ◌-◌, ℤ, pos, ◌-ℤ◌, ◌≤ℤ◌, ◌<ℤ◌, List, [], ◌∷◌, ◌++◌, length, take, drop, get_or, set, refl, sym, ◌∙◌, ap, subst, arith}
+use Rattle.std.proofs.Common.{◌≡◌, ◌⊎◌, inl, inr, ℕ, suc, ◌<◌, ◌≤◌, ◌≢◌, ◌+◌, ◌-◌, ℤ, pos, ◌-ℤ◌, ◌≤ℤ◌, ◌<ℤ◌, List}
+use Rattle.std.proofs.Common.{[], ◌∷◌, ◌++◌, length, take, drop, get_or, set, refl, sym, ◌∙◌, ap, subst, arith}
 use Rattle.std.specs.Prelude.{All, AllPairs}
 use Rattle.std.specs.Int.{int_min, int_max}
 use Rattle.std.specs.declared.ops.Range.{Range}
@@ -9,6 +10,7 @@ use Rattle.std.proofs.lemmas.Int.{ints, clamps}
 use Rattle.std.proofs.lemmas.List.{get_or-set_same, get_or-set_other, get_or-take, get_or-drop, length-take, length-drop, take_more}
 use Rattle.finite_sets.specs.Lists.{In}
 use Rattle.finite_sets.proofs.Members.{In-index, In-push, In-push_cases, In-append_left}
+use Rattle.finite_sets.proofs.Orders.{at_most_or_greater}
 use Rattle.geo_core.specs.declared.squares.Square.{Square}
 use Rattle.geo_core.specs.declared.squares.Rect.{Rect}
 use Rattle.geo_core.specs.declared.squares.Piece.{Piece}
@@ -20,29 +22,14 @@ use Rattle.run_plane.specs.Rows.{value_at, runs_from, number_at, edge, AreRuns, 
 use Rattle.run_plane.specs.Changes.{square_at, AreRunsWith, IsSetTo, IsRowWith, Spans, AreRowsFor, IsRowSet, IsSetIn}
 use Rattle.geo_core.proofs.CornerLaws.{no_piece}
 use Rattle.run_plane.specs.Listings.{no_row}
-use Rattle.run_plane.proofs.RunLaws.{le_or_lt, small_min, small_max}
+use Rattle.run_plane.proofs.RunLaws.{small_min, small_max}
 use Rattle.run_plane.proofs.RowLaws.{runs_ordered}
 
--- the square lies in the rectangle or does not
-pub covers_or_not : (area : Rect) (square : Square) → Covers area square ⊎ (Covers area square → ⊥)
-covers_or_not area square =
-    elim (le_or_lt area.xlo square.x) [
-      | inr out ↦ inr (λ c. let a : area.xlo ≤ℤ square.x = c.right_of_xlo in omega (arith, ints, out))
-      | inl left ↦ elim (le_or_lt area.xhi square.x) [
-        | inl out ↦ inr (λ c. let a : square.x <ℤ area.xhi = c.left_of_xhi in omega (arith, ints, out))
-        | inr right ↦ elim (le_or_lt area.ylo square.y) [
-          | inr out ↦ inr (λ c. let a : area.ylo ≤ℤ square.y = c.above_ylo in omega (arith, ints, out))
-          | inl low ↦ elim (le_or_lt area.yhi square.y) [
-            | inl out ↦ inr (λ c. let a : square.y <ℤ area.yhi = c.below_yhi in omega (arith, ints, out))
-            | inr high ↦ inl (record { right_of_xlo = left; left_of_xhi = right; above_ylo = low; below_yhi = high })
-          ]
-        ]
-      ]
-    ]
-
 -- a piece is set after others, none of which covers the square where it does
-pub set_more : (done : List Piece) (piece : Piece) (square : Square) (old now later : ℕ) → ((other : Piece) → In other done → Covers other.area square → Covers piece.area square → ⊥)
-    → (Covers piece.area square → later ≡ piece.value) → ((Covers piece.area square → ⊥) → later ≡ now) → IsSetTo done square old now → IsSetTo (done ++ piece ∷ []) square old later
+pub set_more : (done : List Piece) (piece : Piece) (square : Square) (old now later : ℕ)
+    → ((other : Piece) → In other done → Covers other.area square → Covers piece.area square → ⊥)
+    → (Covers piece.area square → later ≡ piece.value) → ((Covers piece.area square → ⊥) → later ≡ now) → IsSetTo done square old now → IsSetTo
+    (done ++ piece ∷ []) square old later
 set_more done piece square old now later apart inside outside is = record {
   set = λ other i covers. elim (In-push_cases other done piece i) [
     | inl before ↦ outside (λ c. apart other before covers c) ∙ is.set other before covers
@@ -101,9 +88,9 @@ module _ (rows : List Row) (pieces : List Piece) (k : ℕ) (y : ℤ) (last : k <
         λ x.
             let square = square_at x y in
             let left : (Covers piece.area square → ⊥) → value_at after x ≡ value_at before x = λ none. with_piece.outside x
-            (elim (le_or_lt piece.area.xlo x) [
+            (elim (at_most_or_greater piece.area.xlo x) [
               | inr less ↦ inl less
-              | inl begun ↦ elim (le_or_lt piece.area.xhi x) [
+              | inl begun ↦ elim (at_most_or_greater piece.area.xhi x) [
                 | inl past ↦ inr past
                 | inr within ↦ absurd (none (record { right_of_xlo = begun; left_of_xhi = within; above_ylo = low; below_yhi = high }))
               ]
@@ -115,7 +102,8 @@ module _ (rows : List Row) (pieces : List Piece) (k : ℕ) (y : ℤ) (last : k <
       )
 
   -- the next piece does not span the row
-  pub row_kept : (before : List Run) → (y <ℤ (get_or pieces k no_piece).area.ylo) ⊎ ((get_or pieces k no_piece).area.yhi ≤ℤ y) → RowIsSet k before → RowIsSet (k + 1) before
+  pub row_kept : (before : List Run) → (y <ℤ (get_or pieces k no_piece).area.ylo) ⊎ ((get_or pieces k no_piece).area.yhi ≤ℤ y) → RowIsSet k before
+      → RowIsSet (k + 1) before
   row_kept before out is =
       let piece = get_or pieces k no_piece in (
         is.0,
@@ -141,21 +129,23 @@ module _ (rows : List Row) (pieces : List Piece) (k : ℕ) (last : k < length pi
       let after = row_kept rows pieces k y last apart old.runs out before in
       let same : IsRowWith rows (take (k + 1) pieces) old = record { ordered = after.0; set = after.1 } in
       subst (IsRowWith rows (take (k + 1) pieces)) (sym (set.outside out)) same in
-      elim (le_or_lt piece.area.ylo y) [
+      elim (at_most_or_greater piece.area.ylo y) [
         | inr less ↦ kept (inl less)
-        | inl low ↦ elim (le_or_lt piece.area.yhi y) [
+        | inl low ↦ elim (at_most_or_greater piece.area.yhi y) [
           | inl past ↦ kept (inr past)
           | inr high ↦ (
               let after = row_set rows pieces k y last apart old.runs new.runs low high (set.inside low high) before in
               record {
                 ordered = after.0;
-                set = subst (λ (z : ℤ). (x : ℤ) → IsSetTo (take (k + 1) pieces) (square_at x z) (number_at rows (square_at x z)) (value_at new.runs x)) (sym set.height) after.1;
+                set = subst (λ (z : ℤ). (x : ℤ) → IsSetTo (take (k + 1) pieces) (square_at x z) (number_at rows (square_at x z)) (value_at new.runs x))
+                    (sym set.height) after.1;
               })
         ]
       ]
 
   -- and in rows
-  pub rows_set : (heights : List ℤ) (olds news : List Row) → AreRowsFor rows (take k pieces) heights olds → IsSetIn (get_or pieces k no_piece) olds news → AreRowsFor rows (take (k + 1) pieces) heights news
+  pub rows_set : (heights : List ℤ) (olds news : List Row) → AreRowsFor rows (take k pieces) heights olds
+      → IsSetIn (get_or pieces k no_piece) olds news → AreRowsFor rows (take (k + 1) pieces) heights news
   rows_set [] [] [] are set = tt
   rows_set [] [] (new ∷ news) are set = absurd set
   rows_set [] (old ∷ olds) news are set = absurd are
@@ -165,7 +155,8 @@ module _ (rows : List Row) (pieces : List Piece) (k : ℕ) (last : k < length pi
       (set.0.height ∙ are.0, row_with_set old new are.1 set.0, rows_set heights olds news are.2 set.1)
 
 -- rows that are set place by place
-pub set_by_place : (piece : Piece) (olds news : List Row) (d : Row) → length news ≡ length olds → ((k : ℕ) → k < length olds → IsRowSet piece (get_or olds k d) (get_or news k d)) → IsSetIn piece olds news
+pub set_by_place : (piece : Piece) (olds news : List Row) (d : Row) → length news ≡ length olds
+    → ((k : ℕ) → k < length olds → IsRowSet piece (get_or olds k d) (get_or news k d)) → IsSetIn piece olds news
 set_by_place piece [] [] d e each = tt
 set_by_place piece [] (new ∷ news) d e each = absurd (omega arith)
 set_by_place piece (old ∷ olds) [] d e each = absurd (omega arith)
@@ -178,12 +169,11 @@ pub record IsSetUpTo (piece : Piece) (first index : ℕ) (olds news : List Row) 
   pub done : (k : ℕ) → first ≤ k → k < index → k < length olds → AreRunsWith piece (get_or olds k no_row).runs (get_or news k no_row).runs
   pub rest : (k : ℕ) → (k < first) ⊎ (index ≤ k) → get_or news k no_row ≡ get_or olds k no_row
 
-pub set_none : (piece : Piece) (first : ℕ) (olds : List Row) → IsSetUpTo piece first first olds olds
-set_none piece first olds = record { long = refl; heights = λ k p. refl; done = λ k p q r. absurd (omega arith); rest = λ k out. refl }
-
 -- one more row is set
-pub set_next : (piece : Piece) (first index : ℕ) (olds news : List Row) (row : Row) → first ≤ index → index < length olds → row.ylo ≡ (get_or news index no_row).ylo
-    → AreRunsWith piece (get_or news index no_row).runs row.runs → IsSetUpTo piece first index olds news → IsSetUpTo piece first (index + 1) olds (set news index row)
+pub set_next : (piece : Piece) (first index : ℕ) (olds news : List Row) (row : Row) → first ≤ index → index < length olds
+    → row.ylo ≡ (get_or news index no_row).ylo
+    → AreRunsWith piece (get_or news index no_row).runs row.runs → IsSetUpTo piece first index olds news → IsSetUpTo piece first (index + 1) olds
+    (set news index row)
 set_next piece first index olds news row p q height runs is =
     let here : get_or news index no_row ≡ get_or olds index no_row = is.rest index (inr (omega arith)) in
     let within : index < length news = (let e = is.long in omega arith) in
@@ -192,12 +182,14 @@ set_next piece first index olds news row p q height runs is =
     record {
       long = length-set news index row ∙ is.long;
       heights = λ k r. elim (cases_eq k index) [
-        | inl e ↦ subst (λ (n : ℕ). (get_or (set news index row) n no_row).ylo ≡ (get_or olds n no_row).ylo) (sym e) (ap (λ (r : Row). r.ylo) at ∙ height ∙ ap (λ (r : Row). r.ylo) here)
+        | inl e ↦ subst (λ (n : ℕ). (get_or (set news index row) n no_row).ylo ≡ (get_or olds n no_row).ylo) (sym e)
+            (ap (λ (r : Row). r.ylo) at ∙ height ∙ ap (λ (r : Row). r.ylo) here)
         | inr n ↦ ap (λ (r : Row). r.ylo) (other k n) ∙ is.heights k r
       ];
       done = λ k r s t. elim (cases_eq k index) [
         | inl e ↦ subst (λ (n : ℕ). AreRunsWith piece (get_or olds n no_row).runs (get_or (set news index row) n no_row).runs) (sym e)
-            (subst (λ (v : Row). AreRunsWith piece (get_or olds index no_row).runs v.runs) (sym at) (subst (λ (v : Row). AreRunsWith piece v.runs row.runs) here runs))
+            (subst (λ (v : Row). AreRunsWith piece (get_or olds index no_row).runs v.runs) (sym at)
+            (subst (λ (v : Row). AreRunsWith piece v.runs row.runs) here runs))
         | inr n ↦ subst (λ (v : Row). AreRunsWith piece (get_or olds k no_row).runs v.runs) (sym (other k n)) (is.done k r (omega arith) t)
       ];
       rest = λ k out. elim out [
@@ -223,10 +215,14 @@ set_all piece first last index olds news proper q r below from_on up_to above ov
     let tall : piece.area.ylo <ℤ piece.area.yhi = proper.high in
     let ylo_1 = piece.area.ylo -ℤ pos 1 in
     let yhi_1 = piece.area.yhi -ℤ pos 1 in
-    let low_at : (k : ℕ) → k < first → k < length olds → (get_or olds k no_row).ylo ≤ℤ ylo_1 = λ k a b. at_take (λ row. row.ylo ≤ℤ ylo_1) olds first k no_row below a b in
-    let from_at : (k : ℕ) → first ≤ k → k < length olds → ylo_1 <ℤ (get_or olds k no_row).ylo = λ k a b. at_drop (λ row. ylo_1 <ℤ row.ylo) olds first k no_row from_on a b in
-    let high_at : (k : ℕ) → k < last → k < length olds → (get_or olds k no_row).ylo ≤ℤ yhi_1 = λ k a b. at_take (λ row. row.ylo ≤ℤ yhi_1) olds last k no_row up_to a b in
-    let over_at : (k : ℕ) → last ≤ k → k < length olds → yhi_1 <ℤ (get_or olds k no_row).ylo = λ k a b. at_drop (λ row. yhi_1 <ℤ row.ylo) olds last k no_row above a b in
+    let low_at : (k : ℕ) → k < first → k < length olds → (get_or olds k no_row).ylo ≤ℤ ylo_1 = λ k a b. at_take (λ row. row.ylo ≤ℤ ylo_1) olds first k
+    no_row below a b in
+    let from_at : (k : ℕ) → first ≤ k → k < length olds → ylo_1 <ℤ (get_or olds k no_row).ylo = λ k a b. at_drop (λ row. ylo_1 <ℤ row.ylo) olds first k
+    no_row from_on a b in
+    let high_at : (k : ℕ) → k < last → k < length olds → (get_or olds k no_row).ylo ≤ℤ yhi_1 = λ k a b. at_take (λ row. row.ylo ≤ℤ yhi_1) olds last k
+    no_row up_to a b in
+    let over_at : (k : ℕ) → last ≤ k → k < length olds → yhi_1 <ℤ (get_or olds k no_row).ylo = λ k a b. at_drop (λ row. yhi_1 <ℤ row.ylo) olds last k
+    no_row above a b in
     let in_order : first ≤ last = elim (cases_lt last first) [
       | inr more ↦ more
       | inl less ↦ absurd (
@@ -243,7 +239,11 @@ set_all piece first last index olds news proper q r below from_on up_to above ov
           is.done k a (omega arith) p;
       outside = λ out. elim out [
         | inl less ↦ is.rest k (elim (cases_lt k first) [ inl h ↦ inl h | inr more ↦ absurd (let h = from_at k more p in omega (arith, ints, h, less)) ])
-        | inr past ↦ is.rest k (elim (cases_lt k last) [ inl h ↦ absurd (let g = high_at k h p in omega (arith, ints, g, past)) | inr more ↦ inr (omega (arith, more)) ])
+        | inr past ↦ is.rest k (elim (cases_lt k last) [
+          | inl h ↦ absurd (let g = high_at k h p in omega (arith, ints, g, past))
+          | inr more ↦
+              inr (omega (arith, more))
+        ])
       ];
     })
 

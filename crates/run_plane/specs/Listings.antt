@@ -4,7 +4,7 @@ use Rattle.finite_sets.specs.Lists.{In}
 use Rattle.geo_core.specs.declared.squares.Square.{Square}
 use Rattle.geo_core.specs.declared.squares.Rect.{Rect}
 use Rattle.geo_core.specs.declared.squares.Piece.{Piece}
-use Rattle.geo_core.specs.Areas.{common_area, has_square}
+use Rattle.geo_core.specs.Areas.{common_rect, has_square}
 use Rattle.geo_core.specs.Covering.{Covers, IsProper}
 use Rattle.geo_core.specs.Strips.{IsStrip, StandsBefore}
 use Rattle.run_plane.specs.declared.runs.Run.{Run}
@@ -21,16 +21,18 @@ piece_of ylo yhi run = record { area = record { xlo = run.xlo; ylo = ylo; xhi = 
 
 -- The pieces cover the squares that have a number other than 0 from low on and below high, and have their numbers.
 pub record AreBetween (rows : List Row) (low high : ℤ) (pieces : List Piece) : Type 0 where
-  pub each : (piece : Piece) → In piece pieces → (square : Square) → Covers piece.area square → (low ≤ℤ square.y) × (square.y <ℤ high) × (number_at rows square ≡ piece.value)
+  pub each : (piece : Piece) → In piece pieces → (square : Square) → Covers piece.area square
+      → (low ≤ℤ square.y) × (square.y <ℤ high) × (number_at rows square ≡ piece.value)
   pub every : (square : Square) → low ≤ℤ square.y → square.y <ℤ high → number_at rows square ≢ 0 → (piece : Piece) × In piece pieces × Covers piece.area square
 
 -- the areas of the pieces with this number
-abbrev pub areas_of : List Piece → ℕ → List Rect
-areas_of pieces value = map (λ (piece : Piece). piece.area) (filter (λ piece. piece.value == value) pieces)
+abbrev pub rects_with : List Piece → ℕ → List Rect
+rects_with pieces value = map (λ (piece : Piece). piece.area) (filter (λ piece. piece.value == value) pieces)
 
 -- the parts of the strips in the area, as pieces with this number
 abbrev pub parts_in : List Rect → Rect → ℕ → List Piece
-parts_in strips area value = map (λ (strip : Rect). record { area = common_area strip area; value = value }) (filter (λ strip. has_square (common_area strip area)) strips)
+parts_in strips area value = map (λ (strip : Rect). record { area = common_rect strip area; value = value })
+    (filter (λ strip. has_square (common_rect strip area)) strips)
 
 -- Some piece with this number covers the square.
 abbrev pub IsInPieces : List Piece → ℕ → Square → Type 0
@@ -41,11 +43,11 @@ abbrev pub AgreeOnSquares : List Piece → Type 0
 AgreeOnSquares pieces = (a b : Piece) → In a pieces → In b pieces → (square : Square) → Covers a.area square → Covers b.area square → a.value ≡ b.value
 
 -- The tile is the part in the area of a strip of the squares that pieces of its number cover, and the number is not 0.
-pub record IsTileOf (pieces : List Piece) (area : Rect) (tile : Piece) : Type 0 where
+pub record IsTileFrom (pieces : List Piece) (area : Rect) (tile : Piece) : Type 0 where
   pub material : tile.value ≢ 0
   pub strip : Rect
   pub is_strip : IsStrip (IsInPieces pieces tile.value) strip
-  pub cut : tile.area ≡ common_area strip area
+  pub cut : tile.area ≡ common_rect strip area
   pub meets : IsProper tile.area
 
 -- A tile of the list has the value and covers the square.
@@ -56,9 +58,9 @@ pub record HaveTileAt (tiles : List Piece) (value : ℕ) (square : Square) : Typ
   pub value_is : tile.value ≡ value
 
 -- All such tiles, each once, in the order of strips. They cover what the pieces cover of the area.
-pub record AreTilesOf (pieces : List Piece) (area : Rect) (tiles : List Piece) : Type 0 where
-  pub each : (tile : Piece) → In tile tiles → IsTileOf pieces area tile
-  pub every : (tile : Piece) → IsTileOf pieces area tile → In tile tiles
+pub record AreTilesFrom (pieces : List Piece) (area : Rect) (tiles : List Piece) : Type 0 where
+  pub each : (tile : Piece) → In tile tiles → IsTileFrom pieces area tile
+  pub every : (tile : Piece) → IsTileFrom pieces area tile → In tile tiles
   pub whole : (value : ℕ) (square : Square) → value ≢ 0 → Covers area square → IsInPieces pieces value square → HaveTileAt tiles value square
   pub ordered : AllPairs (λ a b. StandsBefore a.area b.area) tiles
 

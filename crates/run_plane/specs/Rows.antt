@@ -1,5 +1,6 @@
 -- Runs of a row and rows of runs: the number at each square, and what holds of all that a plane has.
 use Rattle.std.specs.Prelude.{◌≡◌, ◌≢◌, ◌&&◌, ℕ, ◌^◌, ℤ, pos, neg_ℤ, ◌≤ℤ◌, ◌<ℤ◌, int_le, int_lt, if◌then◌else◌, List, [], ◌∷◌}
+use Rattle.geo_core.specs.declared.limits.TheConstants.{PLANE_EDGE}
 use Rattle.geo_core.specs.declared.squares.Square.{Square}
 use Rattle.geo_core.specs.Areas.{IsSmall}
 use Rattle.run_plane.specs.declared.runs.Run.{Run}
@@ -19,9 +20,9 @@ runs_from under (row ∷ rows) y = if int_le row.ylo y then runs_from row.runs r
 abbrev pub number_at : List Row → Square → ℕ
 number_at rows square = value_at (runs_from [] rows square.y) square.x
 
--- all bounds of runs and heights of rows are above this
+-- the lower edge of planes: all bounds of runs and heights of rows are above this
 abbrev pub edge : ℤ
-edge = neg_ℤ (pos (2 ^ 28))
+edge = neg_ℤ PLANE_EDGE
 
 -- The run has squares, begins at low or later, and has a number other than 0.
 pub record IsRunFrom (low : ℤ) (run : Run) : Type 0 where

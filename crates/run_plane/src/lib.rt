@@ -6,7 +6,5 @@ mod listings;
 mod rows;
 mod run_planes;
 mod runs;
-#[cfg(test)]
-mod tests;
 
 pub use run_planes::RunPlane;

@@ -3,7 +3,7 @@ ghost use Rattle.std.specs.Prelude.{◌≡◌, ◌+◌, ◌<◌, ◌≤◌, ◌�
 ghost use Rattle.geo_core.specs.Planes.{IsBox};
 ghost use Rattle.geo_core.specs.Strips.{IsStrips};
 ghost use Rattle.geo_core.specs.declared.squares.Square.{Square as OneSquare};
-ghost use Rattle.run_plane.specs.Listings.{no_row, piece_of, AreBetween, areas_of, IsInPieces, AgreeOnSquares, parts_in, AreTilesOf, IsRowBox};
+ghost use Rattle.run_plane.specs.Listings.{no_row, piece_of, AreBetween, rects_with, IsInPieces, AgreeOnSquares, parts_in, AreTilesFrom, IsRowBox};
 ghost use Rattle.run_plane.specs.Rows.{edge, number_at, AreRuns, AreRising, AreRows};
 
 use crate::rows::{Row, rows_up_to};
@@ -74,13 +74,13 @@ fn push_runs(pieces: &mut Vec<Piece>, runs: &[Run], ylo: i64, yhi: i64) -> Resul
 pub fn strips_of(alloc: Global, pieces: &[Piece], value: u8) -> Result<Vec<Rect>, GeoFault>
     ensures { IfOk result (λ found. IsStrips (IsInPieces pieces.now value) found.items) }
 {
-    let areas = areas_of(alloc, pieces, value)?;
+    let areas = rects_with(alloc, pieces, value)?;
     strips(alloc, areas.as_slice())
 }
 
 /// The areas of the pieces of this value.
-fn areas_of(alloc: Global, pieces: &[Piece], value: u8) -> Result<Vec<Rect>, AllocError>
-    ensures { IfOk result (λ areas. areas.items ≡ areas_of pieces.now value) }
+fn rects_with(alloc: Global, pieces: &[Piece], value: u8) -> Result<Vec<Rect>, AllocError>
+    ensures { IfOk result (λ areas. areas.items ≡ rects_with pieces.now value) }
 {
     pieces
         .iter()
@@ -92,7 +92,7 @@ fn areas_of(alloc: Global, pieces: &[Piece], value: u8) -> Result<Vec<Rect>, All
 /// The parts in the area of the strips of the squares that pieces of each value cover, in the order of strips.
 pub fn tiles_of(alloc: Global, pieces: &[Piece], area: &Rect) -> Result<Vec<Piece>, GeoFault>
     requires { AgreeOnSquares pieces.now }
-    ensures { IfOk result (λ tiles. AreTilesOf pieces.now area.now tiles.items) }
+    ensures { IfOk result (λ tiles. AreTilesFrom pieces.now area.now tiles.items) }
 {
     let mut tiles = Vec::new(alloc);
     for below in 0..greatest_value(pieces) {

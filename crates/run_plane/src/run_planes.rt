@@ -10,12 +10,9 @@ use crate::changes::{Change, change_for};
 use crate::listings::{box_of, pieces_between, strips_of, tiles_of};
 use crate::rows::{Row, runs_at};
 use crate::runs::value_at;
-use geo_core::{Piece, Plane, PlaneFault, Rect, Square};
+use geo_core::{PLANE_EDGE, Piece, Plane, PlaneFault, Rect, Square};
 use std::alloc::Global;
 use std::marker::Model;
-
-/// All heights of rows lie between this and its negative.
-const EDGE: i64 = 1 << 28;
 
 /// A plane as rows of runs. Setting a piece takes the time of the rows that it spans and their runs, and
 /// moves the list of rows.
@@ -88,7 +85,7 @@ impl Plane for RunPlane {
     }
 
     fn strips(&self, value: u8) -> Result<Vec<Rect>, PlaneFault> {
-        let pieces = pieces_between(self.alloc, self.rows.as_slice(), -EDGE, EDGE)?;
+        let pieces = pieces_between(self.alloc, self.rows.as_slice(), -PLANE_EDGE, PLANE_EDGE)?;
         Ok(strips_of(self.alloc, pieces.as_slice(), value)?)
     }
 

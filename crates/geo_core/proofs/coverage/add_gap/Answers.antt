@@ -23,4 +23,5 @@ pub returns : goal.returns
 returns c =
     let from : to_z w64 (of_z w64 c.args.from) ≡ c.args.from = to_z-of_z w64 c.args.from c.ranges.from in
     let to : to_z w64 (of_z w64 c.args.to) ≡ c.args.to = to_z-of_z w64 c.args.to c.ranges.to in
-    rw (c.in_ok-push-4.ensures.items, c.in_ok-push-3.ensures.items, c.in-Some.ensures.items, from, to) (adds_pushed (c.pop.new.self.items ++ c.in-Some.last ∷ []) c.args.from c.args.to)
+    rw (c.in_ok-push-4.ensures.items, c.in_ok-push-3.ensures.items, c.in-Some.ensures.items, from, to)
+    (adds_pushed (c.pop.new.self.items ++ c.in-Some.last ∷ []) c.args.from c.args.to)

@@ -10,7 +10,8 @@ pub place-requires-clause-clear : goal.place-requires-clause-clear
 place-requires-clause-clear c =
     let left : to_z w64 (of_z w64 c.in_ok-left.left) ≡ c.in_ok-left.left = to_z-of_z w64 c.in_ok-left.left (search rules) in
     let right : to_z w64 (of_z w64 c.in_ok-left.right) ≡ c.in_ok-left.right = to_z-of_z w64 c.in_ok-left.right (search rules) in
-    rw (left, right) (taken_clear _ _ c.in_ok-left.left c.in_ok-left.right (get int_cmp c.args.runs.now) (get int_cmp c.take.new.runs) c.in_ok-left.ensures.taken)
+    rw (left, right) (taken_clear _ _ c.in_ok-left.left c.in_ok-left.right (get int_cmp c.args.runs.now) (get int_cmp c.take.new.runs)
+    c.in_ok-left.ensures.taken)
 
 pub returns : goal.returns
 returns c =
@@ -19,5 +20,7 @@ returns c =
     let row : to_z w64 (of_z w64 c.args.row) ≡ c.args.row = to_z-of_z w64 c.args.row c.ranges.row in
     let left : to_z w64 (of_z w64 c.in_ok-left.left) ≡ c.in_ok-left.left = to_z-of_z w64 c.in_ok-left.left (search rules) in
     let right : to_z w64 (of_z w64 c.in_ok-left.right) ≡ c.in_ok-left.right = to_z-of_z w64 c.in_ok-left.right (search rules) in
-    covered c.args.from c.args.to c.in_ok-left.left c.in_ok-left.right (get int_cmp c.args.runs.now) (get int_cmp c.take.new.runs) (rw (from, to) at c.in_ok-left.ensures.taken) c.args.row
-    (get int_cmp c.place.new.runs) c.args.found.now.items c.take.new.found.items (rw row at c.in_ok-left.ensures.changes) (rw (left, right, row) at c.in_ok-place.ensures)
+    covered c.args.from c.args.to c.in_ok-left.left c.in_ok-left.right (get int_cmp c.args.runs.now) (get int_cmp c.take.new.runs)
+    (rw (from, to) at c.in_ok-left.ensures.taken) c.args.row
+    (get int_cmp c.place.new.runs) c.args.found.now.items c.take.new.found.items (rw row at c.in_ok-left.ensures.changes)
+    (rw (left, right, row) at c.in_ok-place.ensures)

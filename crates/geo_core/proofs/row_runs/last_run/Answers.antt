@@ -15,5 +15,6 @@ returns-clause-some c =
       begins = found.1;
       no_later = subst (λ v. c.in_ok-from.from.now ≤ℤ v) x (from_not_gt c.in_ok-from.from.now (to_z w64 (of_z w64 c.args.x)) found.0.1);
       last = λ a other begins no_later.
-          from_not_lt c.in_ok-from.from.now a (r.4 _ _ c.in_ok-from.ensures.steps a (tt, not_gt a (to_z w64 (of_z w64 c.args.x)) (subst (λ v. a ≤ℤ v) (sym x) no_later)) (subst IsSome (sym begins) refl));
+          from_not_lt c.in_ok-from.from.now a (r.4 _ _ c.in_ok-from.ensures.steps a
+          (tt, not_gt a (to_z w64 (of_z w64 c.args.x)) (subst (λ v. a ≤ℤ v) (sym x) no_later)) (subst IsSome (sym begins) refl));
     })

@@ -14,5 +14,6 @@ returns-in_ok-insert c =
     let row : to_z w64 (of_z w64 c.args.row) ≡ c.args.row = to_z-of_z w64 c.args.row c.ranges.row in
     let run : Run = record { to = c.args.to; since = c.args.row } in
     let u = rw (from, to, row) at c.in_ok-insert.ensures.updates in
-    placed c.args.from c.args.to c.args.row run (get int_cmp c.args.runs.now) (get int_cmp c.insert.new.self) (omega (arith, ints, c.if-from-to.true)) c.requires.apart c.requires.clear refl refl
+    placed c.args.from c.args.to c.args.row run (get int_cmp c.args.runs.now) (get int_cmp c.insert.new.self) (omega (arith, ints, c.if-from-to.true))
+    c.requires.apart c.requires.clear refl refl
     u.1 (λ a other. u.2 a (not_eq c.args.from a other))

@@ -18,8 +18,10 @@ loop-start-preserved c =
     let last = to_z w64 c.loop-start.right-bits in
     let is : to_z w64 (of_z w64 start) ≡ start = to_z-of_z w64 start (search rules) in
     let ends : to_z w64 (of_z w64 run.to) ≡ run.to = to_z-of_z w64 run.to (search rules) in
-    let left : to_z w64 (of_z w64 c.min-left.result) ≡ int_min first start = to_z-of_z w64 c.min-left.result (search rules) ∙ c.min-left.ensures.value ∙ ap (int_min first) is in
-    let right : to_z w64 (of_z w64 c.max-right.result) ≡ int_max last run.to = to_z-of_z w64 c.max-right.result (search rules) ∙ c.max-right.ensures.value ∙ ap (int_max last) ends in
+    let left : to_z w64 (of_z w64 c.min-left.result) ≡ int_min first start = to_z-of_z w64 c.min-left.result (search rules) ∙ c.min-left.ensures.value
+    ∙ ap (int_min first) is in
+    let right : to_z w64 (of_z w64 c.max-right.result) ≡ int_max last run.to = to_z-of_z w64 c.max-right.result (search rules)
+    ∙ c.max-right.ensures.value ∙ ap (int_max last) ends in
     let u = rw is at c.remove.ensures.updates in
     let without : IsWithout start old new = record { none = u.1; others = λ a other. u.2 a (not_eq start a other) } in
     let touches = c.in-Some.ensures.some in
@@ -37,5 +39,6 @@ pub returns-clause-taken : goal.returns-clause-taken
 returns-clause-taken c =
     let from : to_z w64 (of_z w64 c.args.from) ≡ c.args.from = to_z-of_z w64 c.args.from c.ranges.from in
     let to : to_z w64 (of_z w64 c.args.to) ≡ c.args.to = to_z-of_z w64 c.args.to c.ranges.to in
-    taking_ends c.args.from c.args.to (to_z w64 c.loop-start.left-bits) (to_z w64 c.loop-start.right-bits) (get int_cmp c.args.runs.now) (get int_cmp c.loop-start.runs) c.requires.long c.requires.apart
+    taking_ends c.args.from c.args.to (to_z w64 c.loop-start.left-bits) (to_z w64 c.loop-start.right-bits) (get int_cmp c.args.runs.now)
+    (get int_cmp c.loop-start.runs) c.requires.long c.requires.apart
     (rw (from, to) at c.loop-start.invariant.taking) (rw (from, to) at c.in_default.ensures.none)

@@ -15,8 +15,10 @@ loop-number-preserved c =
     let i = c.loop-number.number in
     let n = c.loop-number.invariant in
     elim c.if-parent-number.branch [
-      | then-parent-number w ↦ rw (w.labels-is, w.count-is) (numbered_root p labels i c.loop-number.count c.requires n (omega arith) (omega arith) w.if-parent-number.true)
-      | else-parent-number w ↦ rw (w.labels-is, w.count-is) (numbered_child p labels i c.loop-number.count c.requires n (omega arith) (omega arith) w.if-parent-number.false)
+      | then-parent-number w ↦ rw (w.labels-is, w.count-is) (numbered_root p labels i c.loop-number.count c.requires n (omega arith) (omega arith)
+          w.if-parent-number.true)
+      | else-parent-number w ↦ rw (w.labels-is, w.count-is) (numbered_child p labels i c.loop-number.count c.requires n (omega arith) (omega arith)
+          w.if-parent-number.false)
     ]
 
 pub returns-clause-labels : goal.returns-clause-labels

@@ -4,7 +4,7 @@ use Rattle.std.proofs.lemmas.Result.{IfOk-weaker}
 use Rattle.finite_sets.specs.Lists.{Lists}
 use Rattle.rect_contacts.specs.declared.sides.Edge.TheVariants.{Top, Bottom}
 use Rattle.rect_contacts.specs.declared.sides.Side.{Side}
-use Rattle.rect_contacts.specs.Contacts.{shared_upon, shared_stacked, IsContactBy}
+use Rattle.rect_contacts.specs.Contacts.{shared_upon, shared_stacked, IsSharedEdgeBy}
 use Rattle.rect_contacts.specs.Sides.{AreSidesOf, IsMeeting}
 use Rattle.rect_contacts.proofs.Touches.{upon_touches, sides_opposite, touches_from_meetings}
 use Rattle.rect_contacts.proofs.contacts.stacked.Goals as goal
@@ -18,7 +18,8 @@ meetings-requires-clause-opposite c =
 pub returns : goal.returns
 returns c =
     IfOk-weaker c.meetings.result
-    (λ contacts. Lists (IsMeeting c.as_slice.result.now c.as_slice-2.result.now) contacts.items) (λ contacts. Lists (IsContactBy shared_stacked c.args.rects.now) contacts.items)
+    (λ contacts. Lists (IsMeeting c.as_slice.result.now c.as_slice-2.result.now) contacts.items)
+    (λ contacts. Lists (IsSharedEdgeBy shared_stacked c.args.rects.now) contacts.items)
     (λ contacts. touches_from_meetings Top Bottom shared_upon upon_touches c.args.rects.now c.requires.proper c.as_slice.result.now c.as_slice-2.result.now
     (subst (λ (s : List Side). AreSidesOf Top c.args.rects.now s) (sym c.as_slice.ensures.value) c.in_ok-tops.ensures)
     (subst (λ (s : List Side). AreSidesOf Bottom c.args.rects.now s) (sym c.as_slice-2.ensures.value) c.in_ok-bottoms.ensures) contacts.items)

@@ -11,7 +11,8 @@ use Rattle.rect_contacts.proofs.sides.note_contact.Goals as goal
 use Rattle.rect_contacts.proofs.sides.note_contact.Goals.{else-lower-upper-via-then-lower-upper+else-from-to, else-lower-upper-via-else-lower-upper}
 
 -- a list that got a contact of these parts got the contact of the two sides
-got_contact : (a b : Side) (before after : List Contact) (first second : ℕ) (length : ℤ) → after ≡ before ++ record { first = first; second = second; length = length } ∷ []
+got_contact : (a b : Side) (before after : List Contact) (first second : ℕ) (length : ℤ)
+    → after ≡ before ++ record { first = first; second = second; length = length } ∷ []
     → first ≡ min a.owner b.owner → second ≡ max a.owner b.owner → length ≡ overlap a.from a.to b.from b.to → after ≡ before ++ contact_of a b ∷ []
 got_contact a b before after first second length e f g h = e ∙ (λ i. before ++ record { first = f i; second = g i; length = h i } ∷ [])
 

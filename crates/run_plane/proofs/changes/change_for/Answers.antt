@@ -8,13 +8,15 @@ use Rattle.run_plane.proofs.changes.change_for.Goals as goal
 
 pub returns-clause-rows : goal.returns-clause-rows
 returns-clause-rows c =
-    let for = subst (λ (heights : List ℤ). AreRowsFor c.args.rows.now c.args.pieces.now heights c.in_ok-changed.changed.items) c.as_slice.ensures.value c.in_ok-changed.ensures in
+    let for = subst (λ (heights : List ℤ). AreRowsFor c.args.rows.now c.args.pieces.now heights c.in_ok-changed.changed.items) c.as_slice.ensures.value
+    c.in_ok-changed.ensures in
     rows_next c.args.rows.now c.args.pieces.now c.requires.rows c.requires.proper c.requires.near c.in-Some.span c.in-Some.ensures.some
     c.band_of-band.result c.band_of-band.ensures c.in_ok-heights.heights.items c.in_ok-heights.ensures c.in_ok-changed.changed.items for
 
 pub returns-clause-set : goal.returns-clause-set
 returns-clause-set c =
-    let for = subst (λ (heights : List ℤ). AreRowsFor c.args.rows.now c.args.pieces.now heights c.in_ok-changed.changed.items) c.as_slice.ensures.value c.in_ok-changed.ensures in
+    let for = subst (λ (heights : List ℤ). AreRowsFor c.args.rows.now c.args.pieces.now heights c.in_ok-changed.changed.items) c.as_slice.ensures.value
+    c.in_ok-changed.ensures in
     set_next c.args.rows.now c.args.pieces.now c.requires.rows c.requires.proper c.requires.near c.in-Some.span c.in-Some.ensures.some
     c.band_of-band.result c.band_of-band.ensures c.in_ok-heights.heights.items c.in_ok-heights.ensures c.in_ok-changed.changed.items for
 

@@ -15,7 +15,8 @@ with_piece-requires-clause-ordered c =
     let news = c.loop-index.found.items in
     let k = c.loop-index.index in
     let long : length news ≡ length olds = c.loop-index.invariant.long in
-    let bound : c.rows_up_to-last.result ≤ length olds = subst (λ (v : List Row). c.rows_up_to-last.result ≤ length v) c.as_slice-2.ensures.value c.rows_up_to-last.ensures.within in
+    let bound : c.rows_up_to-last.result ≤ length olds = subst (λ (v : List Row). c.rows_up_to-last.result ≤ length v) c.as_slice-2.ensures.value
+    c.rows_up_to-last.ensures.within in
     let p : k < length olds = omega arith in
     let q : k < length news = omega arith in
     let here : c.index_mut-row.result.now ≡ get_or olds k no_row =
@@ -40,4 +41,5 @@ returns c =
     let from_on = subst (λ (v : List Row). All (λ (row : Row). (piece.area.ylo -ℤ pos 1) <ℤ row.ylo) (drop first v)) c.as_slice.ensures.value from_on' in
     let up_to = subst (λ (v : List Row). All (λ (row : Row). row.ylo ≤ℤ (piece.area.yhi -ℤ pos 1)) (take last v)) c.as_slice-2.ensures.value up_to' in
     let above = subst (λ (v : List Row). All (λ (row : Row). (piece.area.yhi -ℤ pos 1) <ℤ row.ylo) (drop last v)) c.as_slice-2.ensures.value above' in
-    set_all piece first last c.loop-index.index olds news c.requires.proper q r below from_on up_to above c.loop-index-test.false c.loop-index.auto.index-end c.loop-index.invariant
+    set_all piece first last c.loop-index.index olds news c.requires.proper q r below from_on up_to above c.loop-index-test.false
+    c.loop-index.auto.index-end c.loop-index.invariant

@@ -1,7 +1,7 @@
 use Rattle.std.proofs.Common.{◌≡◌, ◌+◌, ◌<◌, ℕ, List, [], length, get_or, sym, ◌∙◌, ap, subst, arith, rules, Option, Some}
 use Rattle.std.proofs.lemmas.List.{get_or_default}
 use Rattle.geo_core.specs.declared.squares.Rect.{Rect}
-use Rattle.geo_core.specs.Areas.{joined_area}
+use Rattle.geo_core.specs.Areas.{joined_rect}
 use Rattle.run_plane.specs.declared.runs.Run.{Run}
 use Rattle.run_plane.specs.declared.rows.Row.{Row}
 use Rattle.run_plane.specs.Rows.{edge, AreRuns}
@@ -15,7 +15,8 @@ row_box-requires c =
     let rows = c.args.rows.now in
     let k = c.loop-index.index in
     let p : k < length rows = omega arith in
-    let runs : c.items.result.now ≡ (get_or rows k no_row).runs = c.items.ensures ∙ ap (λ (r : Row). r.runs) (c.index-rows-index.is ∙ get_or_default rows k c.index-rows-index.result no_row p) in
+    let runs : c.items.result.now ≡ (get_or rows k no_row).runs = c.items.ensures ∙ ap (λ (r : Row). r.runs)
+    (c.index-rows-index.is ∙ get_or_default rows k c.index-rows-index.result no_row p) in
     subst (AreRuns edge) (sym runs) (ordered rows c.requires k p)
 
 pub loop-index-preserved : goal.loop-index-preserved
@@ -26,7 +27,8 @@ loop-index-preserved c =
     let p : k < length rows = omega arith in
     let same : c.index-rows-index.result ≡ get_or rows k no_row = c.index-rows-index.is ∙ get_or_default rows k c.index-rows-index.result no_row p in
     let runs : c.items.result.now ≡ (get_or rows k no_row).runs = c.items.ensures ∙ ap (λ (r : Row). r.runs) same in
-    let next : c.index-rows-index-in-loop-index.result ≡ get_or rows (k + 1) no_row = c.index-rows-index-in-loop-index.is ∙ get_or_default rows (k + 1) c.index-rows-index-in-loop-index.result no_row q in
+    let next : c.index-rows-index-in-loop-index.result ≡ get_or rows (k + 1) no_row = c.index-rows-index-in-loop-index.is ∙ get_or_default rows (k + 1)
+    c.index-rows-index-in-loop-index.result no_row q in
     let row_is : (area : Rect) → IsRowBox c.items.result.now c.index-rows-index.result.ylo c.index-rows-index-in-loop-index.result.ylo area
     → IsRowBox (get_or rows k no_row).runs (get_or rows k no_row).ylo (get_or rows (k + 1) no_row).ylo area = λ area is.
     subst (λ (v : List Run). IsRowBox v (get_or rows k no_row).ylo (get_or rows (k + 1) no_row).ylo area) runs
@@ -37,7 +39,7 @@ loop-index-preserved c =
       | in-Some+in-Some-found w ↦ (
           let area = w.in-Some.area in
           let old = w.in-Some-found.old in
-          let is : c.match-row_box.found ≡ Some (joined_area old area) = search rules in
+          let is : c.match-row_box.found ≡ Some (joined_rect old area) = search rules in
           let box : IsRowBox c.items.result.now c.index-rows-index.result.ylo c.index-rows-index-in-loop-index.result.ylo area = search rules in
           subst (Holds (k + 1)) (sym is) (box_grown rows c.requires k old area q (row_is area box) (subst (Holds k) w.in-Some-found.is c.loop-index.invariant)))
       | in-Some+in-None w ↦ (

@@ -1,4 +1,5 @@
-use Rattle.std.proofs.Common.{◌≡◌, ◌+◌, ◌≤◌, ◌<◌, ℤ, pos, ◌-ℤ◌, ◌≤ℤ◌, ◌<ℤ◌, List, [], ◌++◌, length, map, take, drop, get_or, sym, ◌∙◌, ap, subst, arith, rules, w64}
+use Rattle.std.proofs.Common.{◌≡◌, ◌+◌, ◌≤◌, ◌<◌, ℤ, pos, ◌-ℤ◌, ◌≤ℤ◌, ◌<ℤ◌, List, [], ◌++◌, length}
+use Rattle.std.proofs.Common.{map, take, drop, get_or, sym, ◌∙◌, ap, subst, arith, rules, w64}
 use mir.Val.{to_z, of_z}
 use Rattle.std.specs.Prelude.{All}
 use Rattle.std.specs.Int.{int_min, int_max}
@@ -19,8 +20,10 @@ loop-index-init c =
     let count = c.rows_up_to.result in
     let below : All (λ (row : Row). row.ylo ≤ℤ low) (take count rows) = search rules in
     let above : All (λ (row : Row). low <ℤ row.ylo) (drop count rows) = search rules in
-    let none = covered_none rows low high c.requires.rising count c.saturating_sub-first.result below above c.rows_up_to.ensures.within c.saturating_sub-first.ensures in
-    subst (λ (pieces : List Piece). AreCovered rows (to_z w64 (of_z w64 low)) (to_z w64 (of_z w64 high)) c.saturating_sub-first.result pieces) (sym c.new-pieces.ensures.items)
+    let none = covered_none rows low high c.requires.rising count c.saturating_sub-first.result below above
+    c.rows_up_to.ensures.within c.saturating_sub-first.ensures in
+    subst (λ (pieces : List Piece). AreCovered rows (to_z w64 (of_z w64 low)) (to_z w64 (of_z w64 high)) c.saturating_sub-first.result pieces)
+    (sym c.new-pieces.ensures.items)
     (subst (λ (z : ℤ). AreCovered rows z (to_z w64 (of_z w64 high)) c.saturating_sub-first.result []) (sym (to_z-of_z w64 low c.ranges.low))
     (subst (λ (z : ℤ). AreCovered rows low z c.saturating_sub-first.result []) (sym (to_z-of_z w64 high c.ranges.high)) none))
 
@@ -43,9 +46,11 @@ loop-index-preserved c =
     let runs : c.items.result.now ≡ row.runs = c.items.ensures ∙ ap (λ (r : Row). r.runs) same_row in
     let pushed : c.push_runs.new.pieces.items ≡ pieces ++ map (piece_of c.max.result c.min.result) c.items.result.now = search rules in
     let added : c.push_runs.new.pieces.items ≡ c.loop-index.pieces.items ++ map (piece_of (int_max row.ylo low) (int_min top high)) row.runs =
-    pushed ∙ ap (λ (z : ℤ). pieces ++ map (piece_of z c.min.result) c.items.result.now) ylo ∙ ap (λ (z : ℤ). pieces ++ map (piece_of (int_max row.ylo low) z) c.items.result.now) yhi
+    pushed ∙ ap (λ (z : ℤ). pieces ++ map (piece_of z c.min.result) c.items.result.now) ylo
+    ∙ ap (λ (z : ℤ). pieces ++ map (piece_of (int_max row.ylo low) z) c.items.result.now) yhi
     ∙ ap (λ (v : List Run). pieces ++ map (piece_of (int_max row.ylo low) (int_min top high)) v) runs in
-    subst (AreCovered rows low high (k + 1)) (sym added) (covered_more rows low high c.requires.rising k top c.loop-index.pieces.items p next last c.loop-index.invariant)
+    subst (AreCovered rows low high (k + 1)) (sym added) (covered_more rows low high c.requires.rising k top c.loop-index.pieces.items p next last
+    c.loop-index.invariant)
 
 pub returns : goal.returns
 returns c =

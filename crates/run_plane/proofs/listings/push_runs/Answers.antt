@@ -19,7 +19,8 @@ loop-run-preserved c =
     let pushed : c.push.new.self.items ≡ c.loop-run.pieces.items ++ f (get_or runs k no_run) ∷ [] = search rules in
     pushed ∙ ap (λ (v : List Piece). v ++ f (get_or runs k no_run) ∷ []) c.loop-run.invariant
     ∙ append_assoc before (map f (take k runs)) (f (get_or runs k no_run) ∷ [])
-    ∙ ap (λ (v : List Piece). before ++ v) (sym (ap (map f) (take_more runs k no_run c.loop-run-test.true) ∙ map-append f (take k runs) (get_or runs k no_run ∷ [])))
+    ∙ ap (λ (v : List Piece). before ++ v) (sym (ap (map f) (take_more runs k no_run c.loop-run-test.true) ∙ map-append f (take k runs)
+    (get_or runs k no_run ∷ [])))
 
 pub returns : goal.returns
 returns c =

@@ -25,4 +25,5 @@ returns-else-count-eq0 c =
     let next : count ≡ suc (count - 1) = omega arith in
     let below : All (λ (row : Row). row.ylo ≤ℤ y) (take count rows) = search rules in
     let above : All (λ (row : Row). y <ℤ row.ylo) (drop count rows) = search rules in
-    c.items.ensures ∙ sym (runs_at_count rows count y below above ∙ ap (λ (k : ℕ). top_runs [] (take k rows)) next ∙ top_at [] rows (count - 1) c.index-rows-count.result less)
+    c.items.ensures ∙ sym (runs_at_count rows count y below above ∙ ap (λ (k : ℕ). top_runs [] (take k rows)) next ∙ top_at [] rows (count - 1)
+    c.index-rows-count.result less)

@@ -14,7 +14,8 @@ returns-in_default c =
     let first = c.partition_point-first.result in
     let point = IsPartitionPoint-from_clause (λ (run : Run). int_le run.xhi x) runs first c.partition_point-first.ensures.partitioned
     (λ i j d p q t. let rise = run_ends_rise edge runs c.requires i j d p q in grind (arith, ints)) (λ a r f h. search rules) in
-    let past : (k : ℕ) (d : Run) → k < length runs → k < first → (get_or runs k d).xhi ≤ℤ x = λ k d p q. (let test : int_le (get_or runs k d).xhi x ≡ true = point.0 k d (omega arith) q in grind (arith, ints)) in
+    let past : (k : ℕ) (d : Run) → k < length runs → k < first → (get_or runs k d).xhi ≤ℤ x = λ k d p q.
+    (let test : int_le (get_or runs k d).xhi x ≡ true = point.0 k d (omega arith) q in grind (arith, ints)) in
     let end : length runs ≤ first = search rules in
     sym (value_none runs x first c.requires past end)
 
@@ -26,7 +27,8 @@ returns-then-run-x c =
     let first = c.partition_point-first.result in
     let point = IsPartitionPoint-from_clause (λ (run : Run). int_le run.xhi x) runs first c.partition_point-first.ensures.partitioned
     (λ i j d p q t. let rise = run_ends_rise edge runs c.requires i j d p q in grind (arith, ints)) (λ a r f h. search rules) in
-    let past : (k : ℕ) (d : Run) → k < length runs → k < first → (get_or runs k d).xhi ≤ℤ x = λ k d p q. (let test : int_le (get_or runs k d).xhi x ≡ true = point.0 k d (omega arith) q in grind (arith, ints)) in
+    let past : (k : ℕ) (d : Run) → k < length runs → k < first → (get_or runs k d).xhi ≤ℤ x = λ k d p q.
+    (let test : int_le (get_or runs k d).xhi x ≡ true = point.0 k d (omega arith) q in grind (arith, ints)) in
     let below : first < length runs = search rules in
     let is : get_or runs first run ≡ run = search rules in
     let test : int_le (get_or runs first run).xhi x ≡ false = point.1 first run (omega arith) below in
@@ -42,7 +44,8 @@ returns-else-run-x c =
     let first = c.partition_point-first.result in
     let point = IsPartitionPoint-from_clause (λ (run : Run). int_le run.xhi x) runs first c.partition_point-first.ensures.partitioned
     (λ i j d p q t. let rise = run_ends_rise edge runs c.requires i j d p q in grind (arith, ints)) (λ a r f h. search rules) in
-    let past : (k : ℕ) (d : Run) → k < length runs → k < first → (get_or runs k d).xhi ≤ℤ x = λ k d p q. (let test : int_le (get_or runs k d).xhi x ≡ true = point.0 k d (omega arith) q in grind (arith, ints)) in
+    let past : (k : ℕ) (d : Run) → k < length runs → k < first → (get_or runs k d).xhi ≤ℤ x = λ k d p q.
+    (let test : int_le (get_or runs k d).xhi x ≡ true = point.0 k d (omega arith) q in grind (arith, ints)) in
     let below : first < length runs = search rules in
     let is : get_or runs first run ≡ run = search rules in
     let test : int_le (get_or runs first run).xhi x ≡ false = point.1 first run (omega arith) below in

@@ -14,4 +14,6 @@ returns-in-Cut c =
     let same_right : now.right ≡ fork.right = cc in
     let same_least : now.least ≡ fork.least = cc in
     let same_most : now.most ≡ fork.most = cc in
-    rw c.in-Cut.is (cut_lifted c.args.top _ _ fork.at _ fork.least _ fork.most _ fork.left _ fork.right _ same_at same_left same_right (omega (arith, ints, clamps, same_least, c.max-fork.ensures.value)) (omega (arith, ints, clamps, same_most, c.max-fork-in-Cut.ensures.value)) (subst IsTopped c.in-Cut.is c.requires))
+    rw c.in-Cut.is (cut_lifted c.args.top _ _ fork.at _ fork.least _ fork.most _ fork.left _ fork.right _ same_at same_left same_right
+    (omega (arith, ints, clamps, same_least, c.max-fork.ensures.value)) (omega (arith, ints, clamps, same_most, c.max-fork-in-Cut.ensures.value))
+    (subst IsTopped c.in-Cut.is c.requires))

@@ -17,8 +17,10 @@ returns-clause-nth c =
     let n = c.row_and_column-m.result.1 in
     c.row_and_column-m.ensures.at
     ∙ ap Some (element_of-parts grid m n _ _ _ _
-    (to_z-of_z w64 c.nth_index.result i ∙ nth_index-same _ (kept grid.xlo) (kept grid.xhi) (kept n) grid.xlo grid.xhi n c.nth_index.ensures (omega (arith, ints)) (omega (arith, ints)) (omega (arith, ints)))
-    (to_z-of_z w64 c.nth_index-2.result j ∙ nth_index-same _ (kept grid.ylo) (kept grid.yhi) (kept m) grid.ylo grid.yhi m c.nth_index-2.ensures (omega (arith, ints)) (omega (arith, ints)) (omega (arith, ints)))
+    (to_z-of_z w64 c.nth_index.result i ∙ nth_index-same _ (kept grid.xlo) (kept grid.xhi) (kept n) grid.xlo grid.xhi n c.nth_index.ensures
+    (omega (arith, ints)) (omega (arith, ints)) (omega (arith, ints)))
+    (to_z-of_z w64 c.nth_index-2.result j ∙ nth_index-same _ (kept grid.ylo) (kept grid.yhi) (kept m) grid.ylo grid.yhi m c.nth_index-2.ensures
+    (omega (arith, ints)) (omega (arith, ints)) (omega (arith, ints)))
     (to_z-of_z w64 c.steps.result dx ∙ product-same _ (kept n) (kept grid.xsep) n grid.xsep c.steps.ensures (omega (arith, ints)) (omega (arith, ints)))
     (to_z-of_z w64 c.steps-2.result dy ∙ product-same _ (kept m) (kept grid.ysep) m grid.ysep c.steps-2.ensures (omega (arith, ints)) (omega (arith, ints))))
 

@@ -1,7 +1,7 @@
 use Rattle.std.proofs.Common.{rules}
-use Rattle.geo_core.specs.Areas.{common_area}
-use Rattle.geo_core.proofs.StripSets.{rect_is}
+use Rattle.geo_core.specs.Areas.{common_rect}
+use Rattle.geo_core.proofs.SquareLaws.{rect_is}
 use Rattle.geo_core.proofs.squares.Rect.common.Goals as goal
 
 pub returns : goal.returns
-returns c = rect_is _ (common_area c.args.self.now c.args.other.now) (search rules) (search rules) (search rules) (search rules)
+returns c = rect_is _ (common_rect c.args.self.now c.args.other.now) (search rules) (search rules) (search rules) (search rules)

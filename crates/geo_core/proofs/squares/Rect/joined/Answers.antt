@@ -1,7 +1,7 @@
 use Rattle.std.proofs.Common.{rules}
-use Rattle.geo_core.specs.Areas.{joined_area}
-use Rattle.geo_core.proofs.StripSets.{rect_is}
+use Rattle.geo_core.specs.Areas.{joined_rect}
+use Rattle.geo_core.proofs.SquareLaws.{rect_is}
 use Rattle.geo_core.proofs.squares.Rect.joined.Goals as goal
 
 pub returns : goal.returns
-returns c = rect_is _ (joined_area c.args.self.now c.args.other.now) (search rules) (search rules) (search rules) (search rules)
+returns c = rect_is _ (joined_rect c.args.self.now c.args.other.now) (search rules) (search rules) (search rules) (search rules)

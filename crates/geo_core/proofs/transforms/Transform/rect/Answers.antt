@@ -6,7 +6,7 @@ use Rattle.std.specs.Int.RustNames.{FitsSigned}
 use Rattle.geo_core.specs.declared.squares.Rect.{Rect}
 use Rattle.geo_core.specs.Covering.{Covers}
 use Rattle.geo_core.specs.Images.{image}
-use Rattle.geo_core.proofs.ImageLaws.{area_image-from_corners, area_image-covers, area_image-covered}
+use Rattle.geo_core.proofs.ImageLaws.{rect_image-from_corners, rect_image-covers, rect_image-covered}
 use Rattle.geo_core.proofs.transforms.Transform.rect.Goals as goal
 
 pub returns-clause-value : goal.returns-clause-value
@@ -19,7 +19,7 @@ returns-clause-value c =
     let xhi : FitsSigned w64 c.ends-xlo.result.1 = search rules in
     let ylo : FitsSigned w64 c.ends-ylo.result.0 = search rules in
     let yhi : FitsSigned w64 c.ends-ylo.result.1 = search rules in
-    area_image-from_corners c.args.self.now c.args.r c.turns_x.result c.turns_y.result _ _ _ _ _ _ _ _ _ _ _ _
+    rect_image-from_corners c.args.self.now c.args.r c.turns_x.result c.turns_y.result _ _ _ _ _ _ _ _ _ _ _ _
     c.turns_x.ensures c.turns_y.ensures
     (omega (arith, ints)) (omega (arith, ints)) (omega (arith, ints)) (omega (arith, ints))
     (to_z-of_z w64 c.point-left.result.0 l ∙ c.point-left.ensures.across) (to_z-of_z w64 c.point-left.result.1 b ∙ c.point-left.ensures.up)
@@ -30,4 +30,4 @@ returns-clause-value c =
 pub returns-clause-squares : goal.returns-clause-squares
 returns-clause-squares c = λ s.
     let P : Rect → Type 0 = λ r. Covers c.args.r s ↔ Covers r (image c.args.self.now s) in
-    subst P (sym (returns-clause-value c)) (area_image-covers c.args.self.now c.args.r s, area_image-covered c.args.self.now c.args.r s)
+    subst P (sym (returns-clause-value c)) (rect_image-covers c.args.self.now c.args.r s, rect_image-covered c.args.self.now c.args.r s)

@@ -10,7 +10,14 @@ use Rattle.partition.proofs.stream.Partition.into_labels.Goals as goal
 
 pub returns-clause-len : goal.returns-clause-len
 returns-clause-len c =
-    omega (arith, c.of_forest.result.labels.ok.0, ap length c.of_forest.ensures.labels, labels_long (leaders_of c.self.inside.parents.items), ap length c.self.view_is)
+    omega (
+      arith,
+      c.of_forest.result.labels.ok.0,
+      ap length c.of_forest.ensures.labels,
+      labels_long (leaders_of c.self.inside.parents.items),
+      ap length
+          c.self.view_is,
+    )
 
 pub returns-clause-same : goal.returns-clause-same
 returns-clause-same c =
@@ -32,4 +39,5 @@ returns-clause-numbered c =
 
 pub returns-clause-divides : goal.returns-clause-divides
 returns-clause-divides c = λ pairs d.
-    Divides-same c.args.self c.of_forest.result.labels.items (IsPair pairs) (omega (arith, returns-clause-len c, c.of_forest.result.labels.ok.0)) (returns-clause-same c) d
+    Divides-same c.args.self c.of_forest.result.labels.items (IsPair pairs) (omega (arith, returns-clause-len c, c.of_forest.result.labels.ok.0))
+    (returns-clause-same c) d

@@ -18,4 +18,5 @@ returns-clause-len c =
 
 pub returns-clause-divides : goal.returns-clause-divides
 returns-clause-divides c =
-    subst (λ (m : List ℕ). Divides m (IsPair [])) (sym (ap leaders_of c.in_ok-each_alone.ensures ∙ leaders_of-numbers_below c.args.count)) (Divides-none c.args.count)
+    subst (λ (m : List ℕ). Divides m (IsPair [])) (sym (ap leaders_of c.in_ok-each_alone.ensures ∙ leaders_of-numbers_below c.args.count))
+    (Divides-none c.args.count)

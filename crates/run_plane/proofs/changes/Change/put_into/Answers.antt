@@ -15,4 +15,5 @@ returns-clause-rows c =
     let within : change.until ≤ length rows.items = subst (λ (n : ℕ). change.until ≤ n) long c.requires.within in
     let above : c.len.result - change.until ≡ length rows.items - change.until = ap (λ (n : ℕ). n - change.until) (c.len.ensures ∙ long) in
     committed rows.items change.rows.items c.rotate_left.new.self.items c.truncate.new.self.items c.append.new.self.items c.rotate_left-2.new.self.items
-    change.from change.until (c.len.result - change.until) c.requires.in_order within above c.rotate_left.ensures.items c.truncate.ensures.items joined c.rotate_left-2.ensures.items
+    change.from change.until (c.len.result - change.until) c.requires.in_order within above c.rotate_left.ensures.items c.truncate.ensures.items joined
+    c.rotate_left-2.ensures.items

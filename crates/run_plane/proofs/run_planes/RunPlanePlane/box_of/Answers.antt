@@ -9,7 +9,8 @@ use Rattle.run_plane.specs.Rows.{number_at, AreRows}
 use Rattle.run_plane.proofs.BoxLaws.{box_near}
 use Rattle.run_plane.proofs.run_planes.RunPlanePlane.box_of.Goals as goal
 
-near_if_some : (rows : List Row) (found : Option Rect) → AreRows rows → MatchOption found ((square : Square) → number_at rows square ≡ 0) (IsBox (number_at rows)) → IfSome found IsNear
+near_if_some : (rows : List Row) (found : Option Rect) → AreRows rows
+    → MatchOption found ((square : Square) → number_at rows square ≡ 0) (IsBox (number_at rows)) → IfSome found IsNear
 near_if_some rows None are is = tt
 near_if_some rows (Some box) are is = box_near rows box are is
 

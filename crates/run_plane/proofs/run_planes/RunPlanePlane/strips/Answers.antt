@@ -1,5 +1,6 @@
 use Rattle.std.proofs.Common.{◌^◌, pos, List, get_or, subst}
 use Rattle.finite_sets.proofs.Members.{In-get_or}
+use Rattle.geo_core.specs.declared.limits.TheConstants.{PLANE_EDGE}
 use Rattle.geo_core.specs.declared.squares.Piece.{Piece}
 use Rattle.geo_core.specs.Planes.{HasValue}
 use Rattle.geo_core.specs.Strips.{IsStrips}
@@ -16,8 +17,10 @@ returns-clause-strips c =
     let rows = c.self.inside.rows.items in
     let pieces = c.in_ok-pieces.pieces.items in
     let found = c.in_ok-strips_of.field-0.items in
-    let between : AreBetween rows edge (pos (2 ^ 28)) pieces = subst (λ (v : List Row). AreBetween v edge (pos (2 ^ 28)) pieces) c.as_slice.ensures.value c.in_ok-pieces.ensures in
-    let strips : IsStrips (IsInPieces pieces c.args.value) found = subst (λ (v : List Piece). IsStrips (IsInPieces v c.args.value) found) c.as_slice-2.ensures.value c.in_ok-strips_of.ensures in
+    let between : AreBetween rows edge PLANE_EDGE pieces = subst (λ (v : List Row). AreBetween v edge PLANE_EDGE pieces) c.as_slice.ensures.value
+    c.in_ok-pieces.ensures in
+    let strips : IsStrips (IsInPieces pieces c.args.value) found = subst (λ (v : List Piece). IsStrips (IsInPieces v c.args.value) found)
+    c.as_slice-2.ensures.value c.in_ok-strips_of.ensures in
     subst (λ (held : Contents). IsStrips (HasValue (number_at held.rows) c.args.value) found) c.self.view_is
     (strips_of_rows rows pieces c.args.value found c.self.invariant.now between c.requires strips)
 
@@ -26,7 +29,9 @@ returns-clause-near c =
     let rows = c.self.inside.rows.items in
     let pieces = c.in_ok-pieces.pieces.items in
     let found = c.in_ok-strips_of.field-0.items in
-    let between : AreBetween rows edge (pos (2 ^ 28)) pieces = subst (λ (v : List Row). AreBetween v edge (pos (2 ^ 28)) pieces) c.as_slice.ensures.value c.in_ok-pieces.ensures in
-    let strips : IsStrips (IsInPieces pieces c.args.value) found = subst (λ (v : List Piece). IsStrips (IsInPieces v c.args.value) found) c.as_slice-2.ensures.value c.in_ok-strips_of.ensures in
+    let between : AreBetween rows edge PLANE_EDGE pieces = subst (λ (v : List Row). AreBetween v edge PLANE_EDGE pieces) c.as_slice.ensures.value
+    c.in_ok-pieces.ensures in
+    let strips : IsStrips (IsInPieces pieces c.args.value) found = subst (λ (v : List Piece). IsStrips (IsInPieces v c.args.value) found)
+    c.as_slice-2.ensures.value c.in_ok-strips_of.ensures in
     let of_rows = strips_of_rows rows pieces c.args.value found c.self.invariant.now between c.requires strips in
     λ k d within. strip_near rows c.args.value (get_or found k d) c.self.invariant.now c.requires (of_rows.each (get_or found k d) (In-get_or found k d within))

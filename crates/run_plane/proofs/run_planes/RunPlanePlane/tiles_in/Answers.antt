@@ -4,7 +4,7 @@ use Rattle.geo_core.specs.Planes.{AreTilesIn}
 use Rattle.run_plane.specs.declared.rows.Row.{Row}
 use Rattle.run_plane.specs.Rows.{number_at}
 use Rattle.run_plane.specs.Contents.{Contents}
-use Rattle.run_plane.specs.Listings.{AreBetween, AreTilesOf}
+use Rattle.run_plane.specs.Listings.{AreBetween, AreTilesFrom}
 use Rattle.run_plane.proofs.PlaneLaws.{tiles_of_rows}
 use Rattle.run_plane.proofs.run_planes.RunPlanePlane.tiles_in.Goals as goal
 
@@ -16,5 +16,6 @@ returns-clause-tiles c =
     let found = c.in_ok-tiles_of.field-0.items in
     let given : AreBetween c.as_slice.result.now area.ylo area.yhi pieces = search rules in
     let between : AreBetween rows area.ylo area.yhi pieces = subst (λ (v : List Row). AreBetween v area.ylo area.yhi pieces) c.as_slice.ensures.value given in
-    let tiles : AreTilesOf pieces area found = subst (λ (v : List Piece). AreTilesOf v area found) c.as_slice-2.ensures.value c.in_ok-tiles_of.ensures in
-    subst (λ (held : Contents). AreTilesIn (number_at held.rows) area found) c.self.view_is (tiles_of_rows rows area pieces found c.self.invariant.now between tiles)
+    let tiles : AreTilesFrom pieces area found = subst (λ (v : List Piece). AreTilesFrom v area found) c.as_slice-2.ensures.value c.in_ok-tiles_of.ensures in
+    subst (λ (held : Contents). AreTilesIn (number_at held.rows) area found) c.self.view_is
+    (tiles_of_rows rows area pieces found c.self.invariant.now between tiles)

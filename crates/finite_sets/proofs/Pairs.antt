@@ -5,9 +5,15 @@ use Rattle.std.specs.List.{swap}
 use Rattle.std.proofs.lemmas.Bool.{cases_eq, cases_lt}
 use Rattle.std.proofs.lemmas.List.Edits.{swapped_from_swap, length-swap}
 use Rattle.std.proofs.lemmas.List.Sorted.{IsPermutation-keeps}
-use Rattle.finite_sets.proofs.Members.{In-get_or, In-map_source}
-use Rattle.geo_core.proofs.JoinLaws.{Pairwise}
+use Rattle.finite_sets.specs.Lists.{In}
+use Rattle.finite_sets.proofs.Members.{In-get_or, In-index, In-map_source}
 
+-- R holds of each thing of a list and each later one: `AllPairs` by recursion
+abbrev pub Pairwise : {X : Type 0} → (X → X → Type 0) → List X → Type 0
+Pairwise R [] = Unit {0}
+Pairwise {X} R (x ∷ xs) = ((y : X) → In y xs → R x y) × Pairwise R xs
+
+-- by recursion, and so by places
 pub AllPairs-from_Pairwise : {X : Type 0} (R : X → X → Type 0) (xs : List X) → Pairwise R xs → AllPairs R xs
 AllPairs-from_Pairwise R [] h i j d less below = absurd (omega arith)
 AllPairs-from_Pairwise R (x ∷ xs) h zero zero d less below = absurd (omega arith)
@@ -15,6 +21,15 @@ AllPairs-from_Pairwise R (x ∷ xs) h zero (suc j) d less below = h.0 (get_or xs
 AllPairs-from_Pairwise R (x ∷ xs) h (suc i) zero d less below = absurd (omega arith)
 AllPairs-from_Pairwise R (x ∷ xs) h (suc i) (suc j) d less below = AllPairs-from_Pairwise R xs h.1 i j d (omega arith) (omega arith)
 
+-- and back
+pub Pairwise-from_AllPairs : {X : Type 0} (R : X → X → Type 0) (xs : List X) → AllPairs R xs → Pairwise R xs
+Pairwise-from_AllPairs R [] all = tt
+Pairwise-from_AllPairs {X} R (x ∷ xs) all = (
+  (λ y i. let k = In-index y xs i in subst (R x) (k.1.1 x) (all 0 (suc k.0) x (omega arith) (omega (arith, k.1.0)))),
+  Pairwise-from_AllPairs R xs (λ i j d less below. all (suc i) (suc j) d (omega arith) (omega arith)),
+)
+
+-- what holds of the images of any two things holds of any two of the image
 pub Pairwise-map : {X Y : Type 0} (f : X → Y) (R : Y → Y → Type 0) (xs : List X) → Pairwise (λ a b. R (f a) (f b)) xs → Pairwise R (map f xs)
 Pairwise-map f R [] h = tt
 Pairwise-map f R (x ∷ xs) h = (
@@ -28,9 +43,11 @@ ComesFrom i j k from = ((k ≡ i) × (from ≡ j)) ⊎ (((k ≡ j) × (from ≡ 
 
 from_two_places : (i j k l from from' : ℕ) → ComesFrom i j k from → ComesFrom i j l from' → k < l → from ≢ from'
 from_two_places i j k l from from' (inl p) (inl q) h e = let p0 : k ≡ i = p.0 in let q0 : l ≡ i = q.0 in omega arith
-from_two_places i j k l from from' (inl p) (inr (inl q)) h e = let p0 : k ≡ i = p.0 in let p1 : from ≡ j = p.1 in let q0 : l ≡ j = q.0 in let q1 : from' ≡ i = q.1 in omega arith
+from_two_places i j k l from from' (inl p) (inr (inl q)) h e = let p0 : k ≡ i = p.0 in let p1 : from ≡ j = p.1 in let q0 : l ≡ j = q.0 in
+    let q1 : from' ≡ i = q.1 in omega arith
 from_two_places i j k l from from' (inl p) (inr (inr q)) h e = q.1 (sym q.2 ∙ sym e ∙ p.1)
-from_two_places i j k l from from' (inr (inl p)) (inl q) h e = let p0 : k ≡ j = p.0 in let p1 : from ≡ i = p.1 in let q0 : l ≡ i = q.0 in let q1 : from' ≡ j = q.1 in omega arith
+from_two_places i j k l from from' (inr (inl p)) (inl q) h e = let p0 : k ≡ j = p.0 in let p1 : from ≡ i = p.1 in let q0 : l ≡ i = q.0 in
+    let q1 : from' ≡ j = q.1 in omega arith
 from_two_places i j k l from from' (inr (inl p)) (inr (inl q)) h e = let p0 : k ≡ j = p.0 in let q0 : l ≡ j = q.0 in omega arith
 from_two_places i j k l from from' (inr (inl p)) (inr (inr q)) h e = q.0 (sym q.2 ∙ sym e ∙ p.1)
 from_two_places i j k l from from' (inr (inr p)) (inl q) h e = p.1 (sym p.2 ∙ e ∙ q.1)
@@ -56,8 +73,9 @@ origin xs i j k d p q h =
     ]
 
 -- a fact of any two things of a list, whichever comes first, still holds when two of them change places
-all_pairs_swap : {X : Type 0} (R : X → X → Type 0) → ((a b : X) → R a b → R b a) → (xs : List X) (i j : ℕ) → i < length xs → j < length xs → AllPairs R xs → AllPairs R (swap xs i j)
-all_pairs_swap {X} R symmetric xs i j p q all = λ k l d h m.
+AllPairs-swap : {X : Type 0} (R : X → X → Type 0) → ((a b : X) → R a b → R b a) → (xs : List X) (i j : ℕ) → i < length xs → j < length xs
+    → AllPairs R xs → AllPairs R (swap xs i j)
+AllPairs-swap {X} R symmetric xs i j p q all = λ k l d h m.
     let below : l < length xs = omega (arith, length-swap xs i j, m) in
     let a = origin xs i j k d p q (omega arith) in
     let b = origin xs i j l d p q below in
@@ -69,5 +87,7 @@ all_pairs_swap {X} R symmetric xs i j p q all = λ k l d h m.
     ] in
     subst (λ (x : X). R x (get_or (swap xs i j) l d)) (sym a.value) (subst (λ (y : X). R (get_or xs a.from d) y) (sym b.value) related)
 
-pub all_pairs_permutation : {X : Type 0} (R : X → X → Type 0) → ((a b : X) → R a b → R b a) → (xs ys : List X) → IsPermutation xs ys → AllPairs R xs → AllPairs R ys
-all_pairs_permutation R symmetric xs ys p all = IsPermutation-keeps xs (AllPairs R) all (all_pairs_swap R symmetric) ys p
+-- and in any other order of the list
+pub AllPairs-permutation : {X : Type 0} (R : X → X → Type 0) → ((a b : X) → R a b → R b a) → (xs ys : List X) → IsPermutation xs ys → AllPairs R xs
+    → AllPairs R ys
+AllPairs-permutation R symmetric xs ys p all = IsPermutation-keeps xs (AllPairs R) all (AllPairs-swap R symmetric) ys p
