@@ -18,7 +18,7 @@ use Rattle.steady_state.specs.declared.ends.Side.TheVariants.{Left, Right}
 use Rattle.steady_state.specs.declared.ends.Terminal.TheVariants.{End}
 use Rattle.steady_state.specs.Ends.{near_end, far_end, IsChainedAt}
 use Rattle.steady_state.specs.Marked.{IsInside, AreMarked, AddsMarks, AreReached, IsCovered}
-use Rattle.steady_state.proofs.Vicinities.{in_more, in_self, chain_from}
+use Rattle.switch_net.proofs.Vicinities.{in_more, in_self, chain_from}
 use Rattle.steady_state.proofs.UnderWay.{joins}
 
 pub count-set : (xs : List Bool) (i : ℕ) → i < length xs → slice_index_or xs i false ≡ false → count_by (λ b. b) (slice_set xs i true) ≡ count_by (λ b. b) xs + 1

@@ -2,7 +2,6 @@ pub mod UnderWay
 pub mod Within
 pub mod Passes
 pub mod Chaining
-pub mod Vicinities
 pub mod Collecting
 pub mod Moving
 pub mod Wires

@@ -14,7 +14,7 @@ use Rattle.switch_net.proofs.Ranges.{level_cases}
 use Rattle.steady_state.specs.declared.ends.Terminal.TheVariants.{Gate}
 use Rattle.steady_state.specs.Ends.{IsChainedAt}
 use Rattle.steady_state.specs.Marked.{IsInside, IsAmong, IsGated, IsQuiet}
-use Rattle.steady_state.proofs.Vicinities.{keeps_value, chain_from, in_self}
+use Rattle.switch_net.proofs.Vicinities.{keeps_value, chain_from, in_self}
 
 pub gated_first : (net : Network) (first next : List ℕ) (inside : List Bool) (v : ℕ) → IsChainedAt net.switches Gate first next → IsGated net inside v (slice_index first v)
 gated_first net first next inside v t k d from lt e = let c = rw e at (t.first_covers k d lt) in absurd (omega arith)

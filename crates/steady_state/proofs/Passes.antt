@@ -19,7 +19,7 @@ use Rattle.switch_net.specs.Steady.{AllRootsAre, IsSteadyValue}
 use Rattle.steady_state.specs.Kinds.{goes_through, BeginsAt, IsFloor, IsStrongestOfKind}
 use Rattle.steady_state.specs.Ends.{near_end}
 use Rattle.steady_state.specs.Marked.{IsAmong, IsInside, IsCovered}
-use Rattle.steady_state.specs.Spreading.{IsRelaxed, of_side, IsWorking, IsBegun, IsFilled}
+use Rattle.steady_state.specs.Spreading.{IsRelaxed, of_side, IsWorking, IsFirstStrength, IsFilled}
 use Rattle.switch_net.specs.Vicinity.{IsStorage}
 use Rattle.steady_state.specs.declared.part.Part.{Part}
 use Rattle.steady_state.specs.declared.part.Pass.{Pass}
@@ -55,7 +55,7 @@ module _ (net : Network) (s : List Level) (kind : PathKind) (inside : List Bool)
     relaxed = λ w a b c j go in_a in_b le. relaxes w a b c j go in_a in_b le;
   }
     where
-      begun : (v : ℕ) → IsInside inside v → IsBegun net s kind floor v (slice_index start v)
+      begun : (v : ℕ) → IsInside inside v → IsFirstStrength net s kind floor v (slice_index start v)
       begun v ins = let q = known v ins in let at = q.2 in rw at at (x.begun q.0 q.1)
 
       covers : (w : Switch) (a b : ℕ) → Contains net.switches w → Joins w a b → is_closed_or_unknown s w ≡ true → IsInside inside b → IsStorage net a → IsInside inside a

@@ -16,7 +16,7 @@ use Rattle.steady_state.specs.Strongest.{IsStrongestDefinite}
 use Rattle.steady_state.specs.Kinds.{IsOfKind, goes_through, BeginsAt, IsFloor, HasPath}
 use Rattle.steady_state.specs.Marked.{IsInside, IsAmong}
 use Rattle.steady_state.specs.Ends.{near_end, far_end, IsChainedAt}
-use Rattle.steady_state.specs.Spreading.{IsPulled, IsBegun, IsFilled}
+use Rattle.steady_state.specs.Spreading.{IsPulled, IsFirstStrength, IsFilled}
 use Rattle.switch_net.proofs.Paths.{NotOvercome, drop_not_overcome, drop_unblocked, unblocked-root}
 use Rattle.steady_state.proofs.UnderWay.{extend}
 use Rattle.switch_net.proofs.Ranges.{switch_strength-le, at_input, end_in_range, input_stands}
@@ -104,7 +104,7 @@ by_itself net s (FromOther kept) v f lt adm fl le = record { root = v; path = []
 
 -- one node more has begun
 pub filled_more : (net : Network) (s : List Level) (kind : PathKind) (inside : List Bool) (floor order : List ℕ) (n : ℕ) (best stack after : List ℕ) (waiting result b : ℕ) → IsFilled net s kind inside floor order n best stack waiting →
-    slice_index order n < length best → IsInside inside (slice_index order n) → IsBegun net s kind floor (slice_index order n) b →
+    slice_index order n < length best → IsInside inside (slice_index order n) → IsFirstStrength net s kind floor (slice_index order n) b →
     ((i : ℕ) → i < result → ((i < waiting) × (slice_index after i ≡ slice_index stack i)) ⊎ (slice_index after i ≡ slice_index order n)) → ((v : ℕ) → IsAmong stack waiting v → IsAmong after result v) →
     (0 < b → IsAmong after result (slice_index order n)) → IsFilled net s kind inside floor order (n + 1) (slice_set best (slice_index order n) b) after result
 filled_more net s kind inside floor order n best stack after waiting result b x in_best ins bg stacked kept waits = record {

@@ -6,7 +6,7 @@ use Rattle.steady_state.specs.declared.ends.Side.{Side}
 use Rattle.steady_state.specs.declared.part.Pass.{Pass}
 use Rattle.steady_state.specs.Kinds.{goes_through, BeginsAt, HasPath, IsStrongestOfKind}
 use Rattle.steady_state.specs.Marked.{IsInside}
-use Rattle.steady_state.specs.Spreading.{IsRelaxed, IsWorking, IsPulled, IsBegun, IsFilled}
+use Rattle.steady_state.specs.Spreading.{IsRelaxed, IsWorking, IsPulled, IsFirstStrength, IsFilled}
 
 -- the node is of the part
 abbrev pub IsOver : Pass → ℕ → Type 0
@@ -27,9 +27,9 @@ GoesThrough pass switch = goes_through pass.part.state.now pass.kind switch ≡ 
 abbrev pub Finds : Network → Pass → ℕ → ℕ → Type 0
 Finds net pass v k = HasPath net pass.part.state.now pass.kind v k
 
--- the strongest one has this strength
-abbrev pub FindsAtMost : Network → Pass → ℕ → ℕ → Type 0
-FindsAtMost net pass v k = IsStrongestOfKind net pass.part.state.now pass.kind v k
+-- the strongest path of its kind to the node has exactly this strength, or there is none and this is 0
+abbrev pub StrongestIs : Network → Pass → ℕ → ℕ → Type 0
+StrongestIs net pass v k = IsStrongestOfKind net pass.part.state.now pass.kind v k
 
 -- the strengths are under way, where the switches at v at places below l on the left and below r on the right are still to be gone by
 abbrev pub IsSpreading : Network → Pass → List ℕ → List ℕ → ℕ → ℕ → ℕ → ℕ → Type 0
@@ -45,7 +45,7 @@ InputsBringAtMost net pass side v best = IsPulled net pass.part.state.now pass.k
 
 -- what the node has by itself and from inputs
 abbrev pub BeginsWith : Network → Pass → ℕ → ℕ → Type 0
-BeginsWith net pass v best = IsBegun net pass.part.state.now pass.kind pass.floor.now v best
+BeginsWith net pass v best = IsFirstStrength net pass.part.state.now pass.kind pass.floor.now v best
 
 -- each node of the part has that, and waits where it has some strength
 abbrev pub HasBegun : Network → Pass → List ℕ → List ℕ → ℕ → Type 0

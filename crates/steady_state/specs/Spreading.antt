@@ -56,7 +56,7 @@ IsPulled net s kind floor side v from best =
     switch_strength (slice_index_or net.switches k d).kind ≤ best
 
 -- what a node has by itself and from inputs
-pub record IsBegun (net : Network) (s : List Level) (kind : PathKind) (floor : List ℕ) (v best : ℕ) : Type 0 where
+pub record IsFirstStrength (net : Network) (s : List Level) (kind : PathKind) (floor : List ℕ) (v best : ℕ) : Type 0 where
   pub attained : 0 < best → HasPath net s kind v best
   pub low : best ≤ 6
   pub own : BeginsAt s kind v → slice_index floor v ≤ root_strength net v → root_strength net v ≤ best
@@ -65,7 +65,7 @@ pub record IsBegun (net : Network) (s : List Level) (kind : PathKind) (floor : L
 
 -- the first n nodes of the list have begun, and wait where they have some strength
 pub record IsFilled (net : Network) (s : List Level) (kind : PathKind) (inside : List Bool) (floor order : List ℕ) (n : ℕ) (best stack : List ℕ) (waiting : ℕ) : Type 0 where
-  pub begun : (i : ℕ) → i < n → IsBegun net s kind floor (slice_index order i) (slice_index best (slice_index order i))
+  pub begun : (i : ℕ) → i < n → IsFirstStrength net s kind floor (slice_index order i) (slice_index best (slice_index order i))
   pub waits : (i : ℕ) → i < n → 0 < slice_index best (slice_index order i) → IsAmong stack waiting (slice_index order i)
   pub stacked : (i : ℕ) → i < waiting → IsInside inside (slice_index stack i)
   pub low : (v : ℕ) → slice_index best v ≤ 6

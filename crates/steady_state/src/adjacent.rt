@@ -1,6 +1,6 @@
 //! The switches at a node.
 
-ghost use Rattle.std.specs.Prelude.{◌≡◌, ◌≤◌, ◌<◌, ◌^◌, ℕ, All, length, slice_index};
+ghost use Rattle.std.specs.Prelude.{◌≡◌, ◌≤◌, ◌<◌, ℕ, All, length, slice_index};
 ghost use Rattle.switch_net.specs.Network.{IsWithin};
 ghost use Rattle.switch_net.specs.Arrays.{IsAdjacencyFor};
 ghost use Rattle.switch_net.specs.Path.{root_strength};
@@ -9,7 +9,7 @@ ghost use Rattle.steady_state.specs.Wired.{network_in, first_of, next_of};
 
 use crate::ends::{Side, Terminal, node_of};
 use crate::wiring::Wiring;
-use switch_net::{Adjacency, Switch};
+use switch_net::{Adjacency, MOST_SWITCHES, Switch};
 
 /// The entry of the first switch of a node's chain.
 pub(crate) fn first(net: &Wiring<'_>, terminal: Terminal, node: usize) -> u32
@@ -48,7 +48,7 @@ pub(crate) fn strength_at(net: &Wiring<'_>, node: usize) -> u8
 fn chain(switches: &[Switch], terminal: Terminal, first: &mut [u32], next: &mut [u32])
     requires within { All (IsWithin (length first.old)) switches.now }
     requires next { length next.old ≡ length switches.now }
-    requires few { length switches.now ≤ 2 ^ 20 }
+    requires few { length switches.now ≤ MOST_SWITCHES }
     ensures { IsChainedAt switches.now terminal first.new next.new }
 {
     clear(first);
@@ -68,7 +68,7 @@ fn clear(entries: &mut [u32])
 /// Chains the switches by their nodes at each terminal.
 pub(crate) fn chain_all(switches: &[Switch], adjacency: &mut Adjacency)
     requires within { All (IsWithin (length adjacency.old.first_gate)) switches.now }
-    requires few { length switches.now ≤ 2 ^ 20 }
+    requires few { length switches.now ≤ MOST_SWITCHES }
     requires fits { let nodes = length adjacency.old.first_gate in
         IsAdjacencyFor nodes (length switches.now) adjacency.old }
     ensures fits { let nodes = length adjacency.old.first_gate in

@@ -7,7 +7,7 @@ ghost use Rattle.steady_state.specs.Levels.{AreLow};
 ghost use Rattle.steady_state.specs.Wired.{network_in, IsSwitchOf};
 ghost use Rattle.steady_state.specs.Marked.{IsAmong};
 ghost use Rattle.steady_state.specs.Parts.{IsPassOver};
-ghost use Rattle.steady_state.specs.Passing.{IsOver, Finds, FindsAtMost, GoesThrough};
+ghost use Rattle.steady_state.specs.Passing.{IsOver, Finds, StrongestIs, GoesThrough};
 ghost use Rattle.steady_state.specs.Passing.{MayBeginAt, BeginsWith};
 ghost use Rattle.steady_state.specs.Passing.{HasBegun, InputsBringAtMost, floor_at};
 
@@ -146,7 +146,7 @@ pub(crate) fn find_strongest(net: &Wiring<'_>, pass: &Pass<'_>, best: &mut [u8],
     requires low { AreLow best.old }
     requires room { net.now.nodes * 7 < length stack.old }
     ensures strongest { (v : ℕ) → IsOver pass.now v
-        → FindsAtMost (network_in net.now) pass.now v (slice_index best.new v) }
+        → StrongestIs (network_in net.now) pass.now v (slice_index best.new v) }
     ensures low { AreLow best.new }
 {
     let waiting = fill(net, pass, best, stack);

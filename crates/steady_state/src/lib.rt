@@ -1,5 +1,5 @@
-//! Steps and phases of a network. A step looks for the strongest paths to each node of the
-//! vicinities that may change, and at no other node, so a phase costs what its changes cost.
+//! Steps and phases of a network. The first step of a phase looks at the whole network, and every
+//! later one at the vicinities of what changed, and at no other node.
 #![tactic(auto)]
 
 mod adjacent;
@@ -12,8 +12,6 @@ mod part;
 mod settling;
 mod spreading;
 mod stepping;
-#[cfg(test)]
-mod tests;
 mod wiring;
 
 pub use settling::{Settled, settle, step, step_within};

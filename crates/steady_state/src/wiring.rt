@@ -1,8 +1,9 @@
 //! A network as the functions of a step see it: without the arrays that they change, and with its
 //! switches chained by their nodes.
 
-ghost use Rattle.std.specs.Prelude.{◌≡◌, ◌≤◌, ◌<◌, ◌^◌, All, length, slice_index};
+ghost use Rattle.std.specs.Prelude.{◌≡◌, ◌≤◌, ◌<◌, All, length, slice_index};
 ghost use Rattle.std.proofs.Props.{props};
+ghost use Rattle.switch_net.specs.declared.limits.TheConstants.{MOST_SWITCHES};
 ghost use Rattle.switch_net.specs.Network.{IsWithin, IsSize};
 ghost use Rattle.switch_net.specs.Arrays.{IsAdjacencyFor};
 ghost use Rattle.steady_state.specs.Ends.{AreChained};
@@ -17,7 +18,7 @@ pub(crate) struct Wiring<'a> {
     pub sizes: &'a [u8],
     pub inputs: &'a [bool],
     pub adjacency: &'a Adjacency,
-    pub ghost few_switches: { length switches.now ≤ 2 ^ 20 },
+    pub ghost few_switches: { length switches.now ≤ MOST_SWITCHES },
     pub ghost switches_within: { All (IsWithin nodes) switches.now } by { Prim.hlevel props },
     pub ghost one_size: { length sizes.now ≡ nodes },
     pub ghost one_input: { length inputs.now ≡ nodes },

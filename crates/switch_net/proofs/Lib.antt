@@ -4,3 +4,4 @@ pub mod Unique
 pub mod Phases
 pub mod Locality
 pub mod Sound
+pub mod Vicinities

@@ -1,10 +1,10 @@
 -- Steps in a row, of which there is one.
-use Rattle.std.proofs.Common.{◌≡◌, ◌≢◌, ℕ, zero, suc, List, inl, inr, sym, ap, subst, arith, length, ◌∙◌}
-use Rattle.std.proofs.lemmas.Bool.{cases_eq}
+use Rattle.std.proofs.Common.{◌≡◌, ◌≢◌, ℕ, zero, suc, ◌<◌, List, Bool, true, false, inl, inr, refl, sym, ap, subst, arith, length, ◌∙◌}
+use Rattle.std.proofs.lemmas.Bool.{cases_eq, cases_lt}
 use Rattle.switch_net.specs.declared.switches.Level.{Level}
 use Rattle.switch_net.specs.Network.{Network, IsSound}
 use Rattle.switch_net.specs.Steady.{IsStep}
-use Rattle.switch_net.specs.Phase.{Steps, NoneRests}
+use Rattle.switch_net.specs.Phase.{Steps, NoneRests, SettlesAfter, IsPhase}
 use Rattle.switch_net.proofs.Unique.{one_step}
 
 module _ (net : Network) (sound : IsSound net) (s : List Level) (len : length s ≡ net.nodes) where
@@ -27,3 +27,21 @@ module _ (net : Network) (sound : IsSound net) (s : List Level) (len : length s 
         moved (one_step net t sound next t (steps_length n t r) step rests'))
     | inr ne ↦ none m u (omega arith) a rests
   ]
+
+  -- the first state that a step leaves comes after one number of steps
+  no_sooner : (n m : ℕ) (t u : List Level) → SettlesAfter net n s t → SettlesAfter net m s u → m < n → ⊥
+  no_sooner n m t u a b lt = a.first m u lt b.reached b.rests
+
+  one_rest : (n m : ℕ) (t u : List Level) → SettlesAfter net n s t → SettlesAfter net m s u → (n ≡ m) × (t ≡ u)
+  one_rest n m t u a b = elim (cases_eq n m) [
+    | inl e ↦ (e, one_way m t u (subst (λ (k : ℕ). Steps net k s t) e a.reached) b.reached)
+    | inr ne ↦ elim (cases_lt n m) [ inl lt ↦ absurd (no_sooner m n u t b a lt) | inr le ↦ absurd (no_sooner n m t u a b (omega (arith, ne))) ]
+  ]
+
+  -- a phase ends in one way
+  pub one_phase : (budget : ℕ) (done other : Bool) (n m : ℕ) (t u : List Level) → IsPhase net budget s done n t → IsPhase net budget s other m u →
+      (done ≡ other) × (n ≡ m) × (t ≡ u)
+  one_phase budget true true n m t u a b = let r = one_rest n m t u a.0 b.0 in (refl, r.0, r.1)
+  one_phase budget true false n m t u a b = absurd (b.2 n t (omega (arith, a.1)) a.0.reached a.0.rests)
+  one_phase budget false true n m t u a b = absurd (a.2 m u (omega (arith, b.1)) b.0.reached b.0.rests)
+  one_phase budget false false n m t u a b = (refl, omega (arith, a.0, b.0), one_way budget t u a.1 b.1)

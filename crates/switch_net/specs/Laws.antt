@@ -1,10 +1,13 @@
 -- Laws over the definitions alone.
-use Rattle.std.specs.Prelude.{◌≡◌, ℕ, ◌<◌, ◌≤◌, List}
+use Rattle.std.specs.Prelude.{◌≡◌, ◌≢◌, ℕ, ◌<◌, ◌≤◌, List, Bool, length, Contains}
 use Rattle.finite_sets.specs.Lists.{Distinct}
 use Rattle.switch_net.specs.declared.switches.Level.{Level}
+use Rattle.switch_net.specs.declared.switches.Switch.{Switch}
 use Rattle.switch_net.specs.Network.{Network, IsSound}
-use Rattle.switch_net.specs.Path.{Hop, IsPath, IsDefinite, IsBlocked, strength, end_of, nodes_of}
-use Rattle.switch_net.specs.Steady.{IsSteadyValue}
+use Rattle.switch_net.specs.Path.{Hop, IsPath, IsDefinite, IsBlocked, strength, state_of, end_of, nodes_of}
+use Rattle.switch_net.specs.Phase.{IsPhase}
+use Rattle.switch_net.specs.Steady.{IsSteadyValue, IsNextLevel, IsStep}
+use Rattle.switch_net.specs.Vicinity.{IsStorage, IsReached}
 
 -- a path from the same root to the same end with no node twice, no less strong, and definite and unblocked where the first is
 pub record HasSimplePath (net : Network) (s : List Level) (root : ℕ) (path : List Hop) : Type 0 where
@@ -22,3 +25,21 @@ EachHasSimplePath = (net : Network) (s : List Level) (root : ℕ) (path : List H
 abbrev pub EachHasOneSteadyValue : Type 0
 EachHasOneSteadyValue =
     (net : Network) (s : List Level) (v : ℕ) (x y : Level) → IsSound net → v < net.nodes → IsSteadyValue net s v x → IsSteadyValue net s v y → x ≡ y
+
+-- a phase from one state, within one budget, ends in one way
+abbrev pub EachPhaseHasOneOutcome : Type 0
+EachPhaseHasOneOutcome =
+    (net : Network) (s : List Level) (budget : ℕ) (done other : Bool) (n m : ℕ) (t u : List Level) → IsSound net → length s ≡ net.nodes →
+    IsPhase net budget s done n t → IsPhase net budget s other m u → (done ≡ other) × (n ≡ m) × (t ≡ u)
+
+-- the seeds of a step are among those with this fact: the nodes that changed, and the ends of the switches whose gates did
+pub record HoldsSeeds (net : Network) (s t : List Level) (IsSeed : ℕ → Type 0) : Type 0 where
+  pub changed : (v : ℕ) → state_of s v ≢ state_of t v → IsSeed v
+  pub left : (w : Switch) → Contains net.switches w → state_of s w.gate ≢ state_of t w.gate → IsSeed w.left
+  pub right : (w : Switch) → Contains net.switches w → state_of s w.gate ≢ state_of t w.gate → IsSeed w.right
+
+-- after a step from s to t, a storage node that is in no vicinity of a seed has its value in t after one step more
+abbrev pub EachQuietNodeKeepsItsValue : Type 0
+EachQuietNodeKeepsItsValue =
+    (net : Network) (s t : List Level) (seeds : List ℕ) (v : ℕ) → IsSound net → IsStep net s t → HoldsSeeds net s t (Contains seeds) →
+    IsStorage net v → ¬ (IsReached net t seeds v) → IsNextLevel net t v (state_of t v)

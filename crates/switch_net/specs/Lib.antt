@@ -1,4 +1,5 @@
 pub mod Network
+pub mod Names
 pub mod Arrays
 pub mod Net
 pub mod Path

@@ -9,6 +9,7 @@ use Rattle.switch_net.specs.declared.switches.SwitchKind.TheVariants.{N, P, D}
 use Rattle.switch_net.specs.declared.switches.Switch.{Switch}
 use Rattle.switch_net.specs.Network.{Network, IsSound}
 use Rattle.switch_net.specs.Path.{is_input, state_of}
+use Rattle.switch_net.specs.Names.{HasName}
 
 -- a transistor line: its letter, and the names at its gate, its source and its drain
 pub record TransistorLine : Type 0 where
@@ -48,10 +49,6 @@ abbrev pub IsLetterOf : ℕ → SwitchKind → Type 0
 IsLetterOf letter N = (letter ≡ 101) ⊎ (letter ≡ 110)
 IsLetterOf letter P = letter ≡ 112
 IsLetterOf letter D = letter ≡ 100
-
--- the list gives the name this node
-abbrev pub HasName : List (List ℕ × ℕ) → ℕ → List ℕ → Type 0
-HasName names v name = In {X = List ℕ × ℕ} (name, v) names
 
 abbrev pub IsPower : List (List ℕ × ℕ) → ℕ → Type 0
 IsPower names v = HasName names v (codes "Vdd!")

@@ -6,11 +6,13 @@
 mod arrays;
 mod faults;
 mod laws;
+mod limits;
 mod network;
 mod switches;
 
 pub use arrays::{Adjacency, Marks, Strengths, Work};
 pub use faults::NetFault;
-pub use laws::{simple_path_law, steady_value_law};
+pub use laws::{phase_law, quiet_node_law, simple_path_law, steady_value_law};
+pub use limits::{LARGEST_SIZE, MOST_NODES, MOST_SWITCHES};
 pub use network::{NamedNet, Net};
 pub use switches::{Level, Switch, SwitchKind};

@@ -1,8 +1,10 @@
 //! A network, and a network whose nodes have names.
 
-ghost use Rattle.std.specs.Prelude.{◌≡◌, ◌≤◌, ◌<◌, ◌^◌, All, length};
+ghost use Rattle.std.specs.Prelude.{◌≡◌, ◌≤◌, ◌<◌, All, length};
 ghost use Rattle.std.proofs.Props.{props};
+ghost use Rattle.switch_net.specs.declared.limits.TheConstants.{MOST_NODES, MOST_SWITCHES};
 ghost use Rattle.switch_net.specs.Network.{IsWithin, IsSize};
+ghost use Rattle.switch_net.specs.Names.{NameNodesBelow, NameOneNodeEach};
 ghost use Rattle.switch_net.specs.Arrays.{IsWorkFor};
 
 use crate::arrays::Work;
@@ -20,7 +22,8 @@ pub struct Net {
     pub sizes: List<u8>,
     pub inputs: List<bool>,
     pub work: Work,
-    pub ghost few_switches: { length switches ≤ 2 ^ 20 },
+    pub ghost few_nodes: { nodes ≤ MOST_NODES },
+    pub ghost few_switches: { length switches ≤ MOST_SWITCHES },
     pub ghost switches_within: { All (IsWithin nodes) switches } by { Prim.hlevel props },
     pub ghost one_size: { length sizes ≡ nodes },
     pub ghost one_input: { length inputs ≡ nodes },
@@ -28,11 +31,13 @@ pub struct Net {
     pub ghost work_fits: { IsWorkFor nodes (length switches) work } by { Prim.hlevel props },
 }
 
-/// A network with the names of its nodes. A node may have several names.
+/// A network with the names of its nodes. A node may have several names, and a name has one node.
 #[derive(Debug, Drop)]
 pub struct NamedNet {
     pub net: Net,
     pub names: List<(Name, u32)>,
+    pub ghost named_within: { NameNodesBelow net.nodes names } by { Prim.hlevel props },
+    pub ghost one_node: { NameOneNodeEach names } by { Prim.hlevel props },
 }
 
 impl Net {
@@ -42,8 +47,8 @@ impl Net {
     /// The network of these switches, in their order, in which every node stores charge and has
     /// size 1.
     pub fn build(alloc: Global, nodes: u32, switches: &[Switch]) -> Result<Net, NetFault>
-        requires few_nodes { nodes ≤ 2 ^ 20 }
-        requires few_switches { length switches.now ≤ 2 ^ 20 }
+        requires few_nodes { nodes ≤ MOST_NODES }
+        requires few_switches { length switches.now ≤ MOST_SWITCHES }
         requires switches_within { All (IsWithin nodes) switches.now }
         ensures nodes { IfOk result (λ net. net.nodes ≡ nodes) }
         ensures switches { IfOk result (λ net. net.switches ≡ switches.now) }
@@ -86,26 +91,5 @@ impl Net {
             ≡ record (network_of self.old) { sizes = slice_set self.old.sizes node size } }
     {
         self.sizes.items_mut()[node as usize] = size;
-    }
-}
-
-#[cfg(test)]
-mod tests {
-    use super::*;
-    use crate::switches::SwitchKind;
-    use std::test::Fail;
-
-    #[test]
-    fn builds(rt: HostRuntime) -> Result<(), Fail> {
-        let switch = Switch {
-            kind: SwitchKind::N,
-            gate: 0,
-            left: 1,
-            right: 2,
-        };
-        let net = Net::build(rt.alloc(), 3, &[switch])?;
-        assert!(rt; net.nodes == 3 && net.switches.items().len() == 1);
-        assert!(rt; net.sizes.items()[2] == 1 && !net.inputs.items()[2]);
-        Ok(())
     }
 }

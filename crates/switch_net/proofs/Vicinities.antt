@@ -8,14 +8,9 @@ use Rattle.switch_net.specs.Network.{Network, IsSound}
 use Rattle.switch_net.specs.Path.{Hop, Joins, is_input, state_of, end_of, is_closed_or_unknown}
 use Rattle.switch_net.specs.Steady.{IsStep, IsNextLevel}
 use Rattle.switch_net.specs.Vicinity.{IsStorage, IsChain, IsInVicinity}
+use Rattle.switch_net.specs.Laws.{HoldsSeeds}
 use Rattle.switch_net.proofs.Ranges.{level_cases, input_in_range, ends_in_range}
 use Rattle.switch_net.proofs.Locality.{AgreeOn, other_way, same_steady}
-
--- the nodes that changed from the one state to the other, and the ends of the switches whose gates did, are seeds
-pub record HoldsSeeds (net : Network) (s t : List Level) (IsSeed : ℕ → Type 0) : Type 0 where
-  pub changed : (v : ℕ) → state_of s v ≢ state_of t v → IsSeed v
-  pub left : (w : Switch) → Contains net.switches w → state_of s w.gate ≢ state_of t w.gate → IsSeed w.left
-  pub right : (w : Switch) → Contains net.switches w → state_of s w.gate ≢ state_of t w.gate → IsSeed w.right
 
 module _ (net : Network) (s : List Level) where
   pub chain_from : (n : ℕ) (p : List Hop) → IsChain net s n p → IsStorage net n

@@ -1,0 +1,100 @@
+//! Networks made from tables.
+
+ghost use Rattle.std.specs.Prelude.{IsTrue};
+ghost use Rattle.switch_net.specs.Network.{IsWithin};
+
+use std::alloc::{AllocError, Global};
+use switch_net::{
+    LARGEST_SIZE, Level, MOST_NODES, MOST_SWITCHES, Net, NetFault, Switch, SwitchKind,
+};
+
+/// The node of ground.
+pub const GROUND: u32 = 0;
+
+/// The node of power.
+pub const POWER: u32 = 1;
+
+/// A switch: its kind, its gate and its two ends.
+pub type Entry = (SwitchKind, u32, u32, u32);
+
+/// A network: its switches, the nodes that are inputs, and the sizes that are not 1.
+#[derive(Clone, Copy)]
+pub struct Circuit {
+    pub switches: &'static [Entry],
+    pub inputs: &'static [u32],
+    pub sizes: &'static [(u32, u8)],
+}
+
+/// The switch of an entry.
+pub fn switch((kind, gate, left, right): Entry) -> Switch {
+    Switch {
+        kind,
+        gate,
+        left,
+        right,
+    }
+}
+
+/// An inverter: the switch that pulls its output down, and the load that pulls it up.
+pub fn inverter(input: u32, output: u32) -> [Switch; 2] {
+    [
+        switch((SwitchKind::N, input, GROUND, output)),
+        switch((SwitchKind::D, output, POWER, output)),
+    ]
+}
+
+fn is_within(nodes: u32, switch: &Switch) -> bool
+    ensures { IsTrue result → IsWithin nodes switch.now }
+{
+    switch.gate < nodes && switch.left < nodes && switch.right < nodes
+}
+
+/// The network of so many nodes and these switches, or none where a switch names a node too many.
+pub fn build(alloc: Global, count: usize, switches: &[Switch]) -> Result<Option<Net>, NetFault> {
+    if count > MOST_NODES as usize {
+        return Ok(None);
+    }
+    let nodes = count as u32;
+    if switches.len() > MOST_SWITCHES || !switches.iter().all(|switch| is_within(nodes, switch)) {
+        return Ok(None);
+    }
+    Ok(Some(Net::build(alloc, nodes, switches)?))
+}
+
+fn add_inputs(net: &mut Net, inputs: &[u32]) {
+    for &node in inputs {
+        if node < net.nodes {
+            net.set_input(node);
+        }
+    }
+}
+
+fn add_sizes(net: &mut Net, sizes: &[(u32, u8)]) {
+    for &(node, size) in sizes {
+        if node < net.nodes && (1..=LARGEST_SIZE).contains(&size) {
+            net.set_size(node, size);
+        }
+    }
+}
+
+fn switches_of(alloc: Global, entries: &[Entry]) -> Result<Vec<Switch>, AllocError> {
+    entries.iter().map(|entry| switch(*entry)).collect(alloc)
+}
+
+/// The network of a circuit, or none where a switch of it names a node too many.
+pub fn network(alloc: Global, nodes: usize, circuit: Circuit) -> Result<Option<Net>, NetFault> {
+    let switches = switches_of(alloc, circuit.switches)?;
+    let Some(mut net) = build(alloc, nodes, &switches)? else {
+        return Ok(None);
+    };
+    add_inputs(&mut net, circuit.inputs);
+    add_sizes(&mut net, circuit.sizes);
+    Ok(Some(net))
+}
+
+/// States of so many nodes: these of the first ones, and X of the others.
+pub fn states(alloc: Global, nodes: usize, first: &[Level]) -> Result<Vec<Level>, AllocError> {
+    let mut states = Vec::from_slice(alloc, first)?;
+    states.resize(nodes, Level::X)?;
+    Ok(states)
+}

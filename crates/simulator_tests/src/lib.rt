@@ -1,0 +1,9 @@
+//! Steps and phases of networks, as worked out by hand, and phases of two large networks.
+#![tactic(auto)]
+
+#[cfg(test)]
+mod circuits;
+#[cfg(test)]
+mod large;
+#[cfg(test)]
+mod rows;
