@@ -14,7 +14,7 @@ use Rattle.geo_core.specs.Covering.{Covers, is_covered, IsProper}
 use Rattle.geo_core.specs.Planes.{HasValue, IsTileIn, AreTilesIn}
 use Rattle.geo_core.specs.Strips.{IsStrip, StandsBefore}
 use Rattle.geo_core.proofs.CoveringLaws.{Covers-is_covered, is_covered-Covers}
-use Rattle.geo_core.proofs.StripSets.{strip_same}
+use Rattle.geo_core.proofs.StripSets.{strip_same, strip_is_proper}
 use Rattle.geo_core.proofs.SquareLaws.{rect_is, piece_is}
 use Rattle.cell_paint.specs.Changes.{code_of, decoded}
 use Rattle.cell_paint.specs.Painting.{ChangesTo, AreChanges}
@@ -34,13 +34,6 @@ within_is_common a b within =
     let right : a.xhi ≤ℤ b.xhi = within.left_of_xhi in
     let high : a.yhi ≤ℤ b.yhi = within.below_yhi in
     rect_is (common_rect a b) a (omega (arith, ints, clamps)) (omega (arith, ints, clamps)) (omega (arith, ints, clamps)) (omega (arith, ints, clamps))
-
--- a strip has a square
-pub strip_is_proper : (S : Square → Type 0) (strip : Rect) → IsStrip S strip → IsProper strip
-strip_is_proper S strip is =
-    let high : strip.ylo <ℤ strip.yhi = is.high in
-    let run = is.runs strip.ylo (omega (arith, ints)) high in
-    record { wide = run.long; high = high }
 
 -- the strips of a set that lies in an area lie in it
 strip_inside : (S : Square → Type 0) (area strip : Rect) → ((square : Square) → S square → Covers area square) → IsStrip S strip → LiesWithin strip area

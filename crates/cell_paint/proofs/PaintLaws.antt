@@ -15,7 +15,7 @@ use Rattle.geo_core.specs.Covering.{Covers, is_covered, IsProper}
 use Rattle.geo_core.specs.Strips.{IsStrip, StandsBefore}
 use Rattle.geo_core.specs.Planes.{AreSet}
 use Rattle.geo_core.proofs.CoveringLaws.{Covers-is_covered}
-use Rattle.geo_core.proofs.StripSets.{strip_within, one_strip_at}
+use Rattle.geo_core.proofs.StripSets.{strip_within, one_strip_at, strip_is_proper}
 use Rattle.tech_model.specs.declared.raw.TypeId.{TypeId}
 use Rattle.tech_model.specs.declared.raw.TypeRec.{TypeRec}
 use Rattle.tech_model.specs.declared.raw.RawTech.{RawTech}
@@ -35,7 +35,6 @@ use Rattle.cell_paint.specs.Painting.{place_at, kinds_on, column_at, with_column
 use Rattle.cell_paint.specs.Painting.{paint_range, ChangesTo, AreChanges, PassesPaintLimit}
 use Rattle.cell_paint.specs.Paints.{PlaneValue, layout_on, IsWhole}
 use Rattle.cell_paint.specs.Settings.{pieces_for, IsSettable, AreSettable, AreAllSet, PassesSomewhere, AreAllChanges}
-use Rattle.cell_paint.proofs.ChangeStrips.{strip_is_proper}
 use Rattle.cell_paint.proofs.PlaneLaws.{space_past}
 
 -- ---- columns
