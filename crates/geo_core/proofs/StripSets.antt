@@ -5,7 +5,7 @@ use Rattle.std.proofs.lemmas.Int.{ints, clamps}
 use Rattle.finite_sets.proofs.Orders.{at_most_or_greater, equal_from_both}
 use Rattle.geo_core.specs.declared.squares.Square.{Square}
 use Rattle.geo_core.specs.declared.squares.Rect.{Rect}
-use Rattle.geo_core.specs.Covering.{Covers}
+use Rattle.geo_core.specs.Covering.{Covers, IsProper}
 use Rattle.geo_core.specs.Strips.{IsRun, IsStrip, IsStrips}
 use Rattle.geo_core.proofs.SquareLaws.{rect_is}
 
