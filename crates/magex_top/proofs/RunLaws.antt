@@ -4,7 +4,7 @@ use Rattle.std.proofs.lemmas.List.{append-nil}
 use Rattle.std.specs.Prelude.{nat_lt, MatchBool, true, false}
 use Rattle.text_scan.specs.Lines.{lines_of}
 use Rattle.outside_io.specs.Files.{Files}
-use Rattle.outside_io.specs.Told.{Told}
+use Rattle.outside_io.specs.ToldBytes.{ToldBytes}
 use Rattle.magex_top.specs.declared.status.Status.{Status}
 use Rattle.magex_top.specs.declared.status.Status.TheVariants.{Usage, ScriptTooLong}
 use Rattle.magex_top.specs.Runs.{RunMeans, RunBegins, ScriptMeans, IsBegun, ReportsBeginningOf, first_state, usage_line}
@@ -25,22 +25,22 @@ script_run f words text files reply after status none fits means = rw (none, fit
 pub long_run : {X : Type 0} (f : X → List ℕ) (words : List X) (text : List ℕ) (files : Files) → words ≡ [] → most_bytes < length text → RunMeans (map f words) text files [] files ScriptTooLong
 long_run f words text files none long = rw (none, long_test (length text) long) (refl, refl, refl)
 
-pub nothing_more : (written : Told) (before : List ℕ) → written ≡ Some before → written ≡ Some (before ++ [])
+pub nothing_more : (written : ToldBytes) (before : List ℕ) → written ≡ Some before → written ≡ Some (before ++ [])
 nothing_more written before is = is ∙ ap (λ (xs : List ℕ). Some xs) (sym (append-nil before))
 
 -- what a run with words has reported
-pub begun_usage : {X : Type 0} (f : X → List ℕ) (words : List X) (text : List ℕ) (files : Files) (before : List ℕ) (written : Told) → (words ≡ [] → ⊥)
+pub begun_usage : {X : Type 0} (f : X → List ℕ) (words : List X) (text : List ℕ) (files : Files) (before : List ℕ) (written : ToldBytes) → (words ≡ [] → ⊥)
     → ReportsBeginningOf written before usage_line → RunBegins (map f words) text files before written
 begun_usage f [] text files before written some begun = absurd (some refl)
 begun_usage f (word ∷ words) text files before written some begun = begun
 
 -- what a run without words has reported of a script that is not too long
-pub begun_script : {X : Type 0} (f : X → List ℕ) (words : List X) (text : List ℕ) (files : Files) (before : List ℕ) (written : Told) → words ≡ [] → length text ≤ most_bytes
+pub begun_script : {X : Type 0} (f : X → List ℕ) (words : List X) (text : List ℕ) (files : Files) (before : List ℕ) (written : ToldBytes) → words ≡ [] → length text ≤ most_bytes
     → IsBegun text files before written → RunBegins (map f words) text files before written
 begun_script f words text files before written none fits begun = rw (none, fits_test (length text) fits) begun
 
 -- nothing is reported before the script was read
-nothing_begun : (text : List ℕ) (files : Files) (before : List ℕ) (written : Told) → written ≡ Some before → IsBegun text files before written
+nothing_begun : (text : List ℕ) (files : Files) (before : List ℕ) (written : ToldBytes) → written ≡ Some before → IsBegun text files before written
 nothing_begun text files before written is = record {
   past = [];
   left = lines_of text;
@@ -52,7 +52,7 @@ nothing_begun text files before written is = record {
   reported = is ∙ ap (λ (xs : List ℕ). Some xs) (sym (append-nil before));
 }
 
-pub begun_nothing : {X : Type 0} (f : X → List ℕ) (words : List X) (text : List ℕ) (files : Files) (before : List ℕ) (written : Told) → words ≡ []
+pub begun_nothing : {X : Type 0} (f : X → List ℕ) (words : List X) (text : List ℕ) (files : Files) (before : List ℕ) (written : ToldBytes) → words ≡ []
     → written ≡ Some before → RunBegins (map f words) text files before written
 begun_nothing f words text files before written none is = rw none (elim (nat_lt most_bytes (length text)) as (λ test. MatchBool test (written ≡ Some before) (IsBegun text files before written)) [
   | true ↦ is

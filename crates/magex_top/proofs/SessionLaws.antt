@@ -4,7 +4,7 @@ use Rattle.std.proofs.lemmas.List.{append-nil}
 use Rattle.std.proofs.Common.{length-append}
 use Rattle.text_scan.specs.Lines.{lines_of}
 use Rattle.outside_io.specs.Files.{Files}
-use Rattle.outside_io.specs.Told.{Told, AppendsPrefix, with_back}
+use Rattle.outside_io.specs.ToldBytes.{ToldBytes, AppendsPrefix, with_back}
 use Rattle.magex_top.specs.declared.cells.Session.{Session}
 use Rattle.magex_top.specs.Answers.{state_of}
 use Rattle.magex_top.specs.Runs.{first_state, ReportsBeginningOf, BeginsReply, IsBegun}
@@ -40,7 +40,7 @@ lines_and_one number state (first ∷ past) line done next means one =
     (means.0, and_then means.1 next, means.2, rest, ap (λ (e : Effect). and_then e next) means.4 ∙ and_then-assoc means.0 means.1 next)
 
 -- The script's lines up to a number were answered, which did this, and these lines are left.
-pub record IsUnderWay (text : List ℕ) (files : Files) (before : List ℕ) (written : Told) (number : ℕ) (session : Session) (told : Bool) (left : List (List ℕ)) : Type 0 where
+pub record IsUnderWay (text : List ℕ) (files : Files) (before : List ℕ) (written : ToldBytes) (number : ℕ) (session : Session) (told : Bool) (left : List (List ℕ)) : Type 0 where
   pub past : List (List ℕ)
   pub split : lines_of text ≡ past ++ left
   pub count : length past ≡ number
@@ -51,7 +51,7 @@ pub record IsUnderWay (text : List ℕ) (files : Files) (before : List ℕ) (wri
   pub reported : written ≡ Some (before ++ done.reply)
 
 -- before the first line
-pub under_way_start : (text : List ℕ) (files : Files) (before : List ℕ) (written : Told) (session : Session) → written ≡ Some before → state_of session files ≡ first_state files
+pub under_way_start : (text : List ℕ) (files : Files) (before : List ℕ) (written : ToldBytes) (session : Session) → written ≡ Some before → state_of session files ≡ first_state files
     → IsUnderWay text files before written 0 session false (lines_of text)
 under_way_start text files before written session is empty = record {
   past = [];
@@ -65,7 +65,7 @@ under_way_start text files before written session is empty = record {
 }
 
 -- after one more
-pub under_way_next : (text : List ℕ) (files : Files) (before : List ℕ) (written later : Told) (number : ℕ) (session after : Session) (told tells : Bool) (line : List ℕ) (left : List (List ℕ)) (reply : List ℕ)
+pub under_way_next : (text : List ℕ) (files : Files) (before : List ℕ) (written later : ToldBytes) (number : ℕ) (session after : Session) (told tells : Bool) (line : List ℕ) (left : List (List ℕ)) (reply : List ℕ)
     → (way : IsUnderWay text files before written number session told (line ∷ left))
     → LineMeans (number + 1) (state_of session files) line (record { state = state_of after files; reply = reply; told = tells })
     → later ≡ Some ((before ++ way.done.reply) ++ reply)
@@ -86,7 +86,7 @@ under_way_next text files before written later number session after told tells l
     }
 
 -- a line that is not answered to its end leaves the beginning of its reply, or nothing
-pub begun_in_line : (text : List ℕ) (files : Files) (before : List ℕ) (written later : Told) (number : ℕ) (session : Session) (told : Bool) (line : List ℕ) (left : List (List ℕ)) (front : List ℕ)
+pub begun_in_line : (text : List ℕ) (files : Files) (before : List ℕ) (written later : ToldBytes) (number : ℕ) (session : Session) (told : Bool) (line : List ℕ) (left : List (List ℕ)) (front : List ℕ)
     → (way : IsUnderWay text files before written number session told (line ∷ left))
     → (front ≡ []) ⊎ BeginsReply (number + 1) (state_of session files) (line ∷ []) front
     → later ≡ Some ((before ++ way.done.reply) ++ front)
@@ -110,7 +110,7 @@ begun_in_line text files before written later number session told line left fron
 }
 
 -- after the last line all is reported
-pub begun_at_end : (text : List ℕ) (files : Files) (before : List ℕ) (written : Told) (number : ℕ) (session : Session) (told : Bool)
+pub begun_at_end : (text : List ℕ) (files : Files) (before : List ℕ) (written : ToldBytes) (number : ℕ) (session : Session) (told : Bool)
     → IsUnderWay text files before written number session told [] → IsBegun text files before written
 begun_at_end text files before written number session told way = record {
   past = way.past;
@@ -124,7 +124,7 @@ begun_at_end text files before written number session told way = record {
 }
 
 -- after the last line the report is that of the whole script
-pub reported_at_end : (text : List ℕ) (files : Files) (before : List ℕ) (written : Told) (number : ℕ) (session : Session) (told : Bool)
+pub reported_at_end : (text : List ℕ) (files : Files) (before : List ℕ) (written : ToldBytes) (number : ℕ) (session : Session) (told : Bool)
     → IsUnderWay text files before written number session told []
     → (effect : Effect) × LinesMean 1 (first_state files) (lines_of text) effect × (written ≡ Some (before ++ effect.reply)) × (effect.state.files ≡ files) × (effect.told ≡ told)
 reported_at_end text files before written number session told way = (
@@ -136,7 +136,7 @@ reported_at_end text files before written number session told way = (
 )
 
 -- what a sink has of a reply after a refusal is the beginning of it
-pub begun_by_prefix : (old new : Told) (before reply : List ℕ) → old ≡ Some before → AppendsPrefix old new reply → ReportsBeginningOf new before reply
+pub begun_by_prefix : (old new : ToldBytes) (before reply : List ℕ) → old ≡ Some before → AppendsPrefix old new reply → ReportsBeginningOf new before reply
 begun_by_prefix old new before reply told prefix =
     let front = take prefix.0 reply in
-    (front, (drop prefix.0 reply, sym (take-append-drop prefix.0 reply)), prefix.1 ∙ ap (λ (t : Told). with_back t front) told)
+    (front, (drop prefix.0 reply, sym (take-append-drop prefix.0 reply)), prefix.1 ∙ ap (λ (t : ToldBytes). with_back t front) told)

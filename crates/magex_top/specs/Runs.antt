@@ -2,7 +2,7 @@
 use Rattle.std.specs.Prelude.{◌≡◌, ◌⊎◌, ◌+◌, nat_lt, ℕ, if◌then◌else◌, List, [], ◌∷◌, ◌++◌, length, Some, None, codes, MatchBool}
 use Rattle.text_scan.specs.Lines.{lines_of}
 use Rattle.outside_io.specs.Files.{Files}
-use Rattle.outside_io.specs.Told.{Told as ToldBytes}
+use Rattle.outside_io.specs.ToldBytes.{ToldBytes}
 use Rattle.magex_top.specs.declared.status.Status.{Status}
 use Rattle.magex_top.specs.declared.status.Status.TheVariants.{Done, Told, Usage, ReadFault, WriteFault, Memory, ScriptTooLong}
 use Rattle.magex_top.specs.Sessions.{State, Effect, LineMeans, LinesMean, most_bytes}

@@ -3,7 +3,7 @@ ghost use Rattle.std.specs.Prelude.{◌≡◌, ◌≢◌, ◌⊎◌, ◌<◌, �
 ghost use Rattle.text_scan.specs.Lines.{lines_of};
 ghost use Rattle.outside_io.specs.Counts.{Rose};
 ghost use Rattle.outside_io.specs.Files.{Files};
-ghost use Rattle.outside_io.specs.Told.{AppendsPrefix, with_back};
+ghost use Rattle.outside_io.specs.ToldBytes.{AppendsPrefix, with_back};
 ghost use Rattle.magex_top.specs.Answers.{state_of, answer_bytes, answer_tells, IsSession};
 ghost use Rattle.magex_top.specs.Runs.{EndsByItself, IsEndOfScript, first_state, RunMeans, RunBegins, IsBegun, BeginsReply, ScriptMeans, usage_line, ReportsBeginningOf};
 ghost use Rattle.magex_top.specs.Sessions.{Effect, LineMeans, LinesMean, most_bytes};

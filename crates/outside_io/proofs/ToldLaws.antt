@@ -1,23 +1,23 @@
--- Told bytes with others before or after them.
+-- ToldBytes bytes with others before or after them.
 use Rattle.std.proofs.Common.{◌≡◌, ℕ, ◌+◌, ◌≤◌, List, [], ◌++◌, take, drop, refl, sym, ap, ◌∙◌, append_assoc, append-nil, length, arith}
 use Rattle.std.proofs.lemmas.List.{take-append-drop, take-take, drop-take}
 use Rattle.std.proofs.lemmas.Grind.{common_steps}
 use Rattle.std.specs.Prelude.{Some, None}
-use Rattle.outside_io.specs.Told.{AppendsPrefix, Told, with_front, with_back}
+use Rattle.outside_io.specs.ToldBytes.{AppendsPrefix, ToldBytes, with_front, with_back}
 
-pub with_front-nil : (told : Told) → with_front [] told ≡ told
+pub with_front-nil : (told : ToldBytes) → with_front [] told ≡ told
 with_front-nil None = refl
 with_front-nil (Some bytes) = refl
 
-pub with_front-with_front : (xs ys : List ℕ) (told : Told) → with_front xs (with_front ys told) ≡ with_front (xs ++ ys) told
+pub with_front-with_front : (xs ys : List ℕ) (told : ToldBytes) → with_front xs (with_front ys told) ≡ with_front (xs ++ ys) told
 with_front-with_front xs ys None = refl
 with_front-with_front xs ys (Some rest) = ap (λ (b : List ℕ). Some b) (sym (append_assoc xs ys rest))
 
-pub with_back-nil : (told : Told) → with_back told [] ≡ told
+pub with_back-nil : (told : ToldBytes) → with_back told [] ≡ told
 with_back-nil None = refl
 with_back-nil (Some bytes) = ap (λ (b : List ℕ). Some b) (append-nil bytes)
 
-pub with_back-with_back : (told : Told) (xs ys : List ℕ) → with_back (with_back told xs) ys ≡ with_back told (xs ++ ys)
+pub with_back-with_back : (told : ToldBytes) (xs ys : List ℕ) → with_back (with_back told xs) ys ≡ with_back told (xs ++ ys)
 with_back-with_back None xs ys = refl
 with_back-with_back (Some before) xs ys = ap (λ (b : List ℕ). Some b) (append_assoc before xs ys)
 
@@ -30,13 +30,13 @@ take-in_parts m n xs =
     cc
 
 -- one more call of a sink
-pub with_back-more : (first told told' : Told) (bytes piece : List ℕ) (done count : ℕ)
+pub with_back-more : (first told told' : ToldBytes) (bytes piece : List ℕ) (done count : ℕ)
     → piece ≡ drop done bytes
     → told ≡ with_back first (take done bytes) → told' ≡ with_back told (take count piece)
     → told' ≡ with_back first (take (done + count) bytes)
 with_back-more first told told' bytes piece done count rest so_far more =
     more ∙ ap (λ (p : List ℕ). with_back told (take count p)) rest
-    ∙ ap (λ (t : Told). with_back t (take count (drop done bytes))) so_far
+    ∙ ap (λ (t : ToldBytes). with_back t (take count (drop done bytes))) so_far
     ∙ with_back-with_back first _ _ ∙ ap (with_back first) (sym (take-in_parts done count bytes))
 
 -- what a source in memory hands out, and what is left then
@@ -50,5 +50,5 @@ handed_out bytes filled buf taken count filled_is within =
     cc
 
 -- nothing appended yet
-pub AppendsPrefix-refl : (told : Told) (bytes : List ℕ) → AppendsPrefix told told bytes
+pub AppendsPrefix-refl : (told : ToldBytes) (bytes : List ℕ) → AppendsPrefix told told bytes
 AppendsPrefix-refl told bytes = (0, sym (with_back-nil told))

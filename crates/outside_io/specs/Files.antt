@@ -16,6 +16,10 @@ no_files = map.empty
 abbrev pub bytes_of : Files → List ℕ → Option (List ℕ)
 bytes_of files name = map.get files name
 
+-- The names that have a file: each once, in the order of their bytes.
+abbrev pub names_of : Files → List (List ℕ)
+names_of files = map.keys files
+
 -- The files with these bytes under the name, and all other names as they were.
 abbrev pub with_file : Files → List ℕ → List ℕ → Files
 with_file files name bytes = map.insert files name bytes

@@ -1,4 +1,5 @@
+pub mod CallPlans
 pub mod Counts
 pub mod Files
 pub mod Refusals
-pub mod Told
+pub mod ToldBytes

@@ -1,11 +1,12 @@
 //! A source, a sink and a shelf in memory that never fail: each call is refused for want of memory at most.
-ghost use Rattle.std.specs.Prelude.{◌≡◌, ◌<◌, ◌≤◌, [], vec_len, Some, IfSome};
+ghost use Rattle.std.specs.Prelude.{◌≡◌, ◌<◌, ◌≤◌, [], vec_len, Some, IfOk, IfSome};
 ghost use Rattle.std.specs.Option.{option_copied};
-ghost use Rattle.outside_io.specs.Files.{no_files, bytes_of};
+ghost use Rattle.outside_io.specs.Files.{no_files, bytes_of, names_of};
 
 use crate::calls::raised;
 use crate::faults::{Failed, PutFault, ShelfFault};
-use crate::outside::{LONGEST_FILE, Shelf, Sink, Source};
+use crate::limits::LONGEST_FILE;
+use crate::outside::{Shelf, Sink, Source};
 use geo_core::{List, Name};
 use std::alloc::Global;
 use std::collections::BTreeMap;
@@ -42,11 +43,13 @@ impl FaultlessSource {
 }
 
 impl Source for FaultlessSource {
-    ghost use Rattle.std.specs.Prelude.{drop, Some};
+    ghost use Rattle.std.specs.Prelude.{drop, Some, None};
 
     ghost left = { λ source. Some (drop source.taken source.bytes.items) };
 
     ghost faults = { λ _. 0 };
+
+    ghost plan = { λ _. None };
 
     fn read(&mut self, buf: &mut [u8]) -> Result<usize, Failed> {
         let rest = &self.bytes[self.taken..];
@@ -93,11 +96,13 @@ impl FaultlessSink {
 }
 
 impl Sink for FaultlessSink {
-    ghost use Rattle.std.specs.Prelude.{Some};
+    ghost use Rattle.std.specs.Prelude.{Some, None};
 
     ghost written = { λ sink. Some sink.bytes.items };
 
     ghost faults = { λ _. 0 };
+
+    ghost plan = { λ _. None };
 
     fn write(&mut self, piece: &[u8]) -> Result<usize, PutFault> {
         let count = piece.len().min(self.largest);
@@ -128,6 +133,18 @@ impl FaultlessShelf {
         }
     }
 
+    /// The names that have a file: each once, in the order of their bytes. It counts as no call.
+    pub fn names(&self, alloc: Global) -> Result<Vec<Name>, PutFault>
+        ensures { IfOk result (λ names. IfSome (⟦<FaultlessShelf as Shelf>⟧.files self.now) (λ held.
+            names.items ≡ names_of held)) }
+    {
+        let mut names = Vec::new(alloc);
+        for name in self.files.keys() {
+            names.push(name.copy(alloc)?)?;
+        }
+        Ok(names)
+    }
+
     /// The bytes of a file of any length. It counts as no call.
     pub fn file(&self, name: &Name) -> Option<&[u8]>
         ensures { IfSome (⟦<FaultlessShelf as Shelf>⟧.files self.now) (λ held.
@@ -141,7 +158,7 @@ impl FaultlessShelf {
 }
 
 impl Shelf for FaultlessShelf {
-    ghost use Rattle.std.specs.Prelude.{Some};
+    ghost use Rattle.std.specs.Prelude.{Some, None};
     ghost use Rattle.std.specs.FinMap.{from_entries};
 
     ghost files = { λ shelf. Some (from_entries shelf.files.entries) };
@@ -153,6 +170,10 @@ impl Shelf for FaultlessShelf {
     ghost fetch_faults = { λ _. 0 };
 
     ghost store_faults = { λ _. 0 };
+
+    ghost fetch_plan = { λ _. None };
+
+    ghost store_plan = { λ _. None };
 
     fn fetch(&mut self, alloc: Global, name: &Name) -> Result<Vec<u8>, ShelfFault> {
         let Some(bytes) = self.file(name) else {

@@ -9,12 +9,14 @@
 //! | `Sink` | `MemorySink` | `FaultlessSink` | `WriterSink` |
 //! | `Shelf` | `MemoryShelf` | `FaultlessShelf` | `FolderShelf` |
 //!
-//! Those in memory tell their content, those over the system do not.
+//! Those in memory tell their content, those over the system do not. The first column's tell which of their calls fail too:
+//! those whose numbers are listed, and no others.
 #![tactic(auto)]
 
 mod calls;
 mod faultless;
 mod faults;
+mod limits;
 mod memory;
 mod outside;
 mod system;
@@ -24,7 +26,8 @@ mod whole;
 
 pub use faultless::{FaultlessShelf, FaultlessSink, FaultlessSource};
 pub use faults::{Failed, PutFault, ReadAllFault, ShelfFault};
+pub use limits::{LAST_COUNT, LONGEST_FILE};
 pub use memory::{MemoryShelf, MemorySink, MemorySource};
-pub use outside::{LONGEST_FILE, Shelf, Sink, Source};
+pub use outside::{Shelf, Sink, Source};
 pub use system::{FolderShelf, ReaderSource, WriterSink};
 pub use whole::{read_all, write_all};

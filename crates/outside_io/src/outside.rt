@@ -1,24 +1,27 @@
 //! What bytes come from, what they go to, and where files lie.
-ghost use Rattle.std.specs.Prelude.{◌≡◌, ◌↔◌, ℕ, ◌<◌, ◌≤◌, [], List, Option, length, take, vec_len, IfOk, IfSome, IsSomeAnd, OnOk, OnErr, IsErrOf};
+ghost use Rattle.std.specs.Prelude.{◌≡◌, ◌↔◌, ℕ, ◌<◌, ◌≤◌, [], List, Option, length, take, vec_len};
+ghost use Rattle.std.specs.Prelude.{IfOk, IfSome, IsSomeAnd, OnOk, OnErr, IsErr, IsErrOf};
+ghost use Rattle.outside_io.specs.CallPlans.{CallPlan, told_after_call, IsListed};
 ghost use Rattle.outside_io.specs.Counts.{Rose};
 ghost use Rattle.outside_io.specs.Refusals.{UnlessPutFailed, UnlessFetchFailed};
-ghost use Rattle.outside_io.specs.Told.{Told, with_front, with_back};
+ghost use Rattle.outside_io.specs.ToldBytes.{ToldBytes, with_front, with_back};
 ghost use Rattle.outside_io.specs.Files.{Files, bytes_of, told_with_file, ToldSameElsewhere};
 
 use crate::faults::{Failed, PutFault, ShelfFault};
+use crate::limits::LONGEST_FILE;
 use geo_core::Name;
 use std::alloc::Global;
-
-/// The greatest number of bytes of a file that is fetched: 16 MiB.
-pub const LONGEST_FILE: usize = 1 << 24;
 
 /// Where bytes come from.
 pub trait Source {
     /// The bytes that are left to be read, where the source tells them.
-    ghost left: { Self → Told };
+    ghost left: { Self → ToldBytes };
 
     /// How many calls have failed, up to the last value of a counter.
     ghost faults: { Self → ℕ };
+
+    /// Which calls fail, where the source tells it.
+    ghost plan: { Self → Option CallPlan };
 
     /// Takes the next bytes, fills the front of the buffer with them and says how many they are.
     /// There are 0 of them for an empty buffer and at the end of the input.
@@ -32,16 +35,23 @@ pub trait Source {
 
         ensures failed { OnErr result (Rose (faults self.old) (faults self.new)) }
         ensures calm { OnOk result (faults self.new ≡ faults self.old) }
-        ensures no_fall { faults self.old ≤ faults self.new };
+        ensures no_fall { faults self.old ≤ faults self.new }
+
+        // Where it is told which calls fail, those do and no others.
+        ensures counted { plan self.new ≡ told_after_call (plan self.old) }
+        ensures planned { IfSome (plan self.new) (λ plan. IsErr result ↔ IsListed plan) };
 }
 
 /// Where bytes go to.
 pub trait Sink {
     /// The bytes that were written, where the sink tells them.
-    ghost written: { Self → Told };
+    ghost written: { Self → ToldBytes };
 
     /// How many calls have failed, up to the last value of a counter.
     ghost faults: { Self → ℕ };
+
+    /// Which calls fail, where the sink tells it.
+    ghost plan: { Self → Option CallPlan };
 
     /// Writes bytes from the front of the piece, and says how many they are: at least one, unless the piece is empty.
     fn write(&mut self, piece: &[u8]) -> Result<usize, PutFault>
@@ -53,7 +63,11 @@ pub trait Sink {
 
         ensures failed { IsErrOf result PutFault.Failed → Rose (faults self.old) (faults self.new) }
         ensures calm { UnlessPutFailed result (faults self.new ≡ faults self.old) }
-        ensures no_fall { faults self.old ≤ faults self.new };
+        ensures no_fall { faults self.old ≤ faults self.new }
+
+        // Where it is told which calls fail, those do and no others.
+        ensures counted { plan self.new ≡ told_after_call (plan self.old) }
+        ensures planned { IfSome (plan self.new) (λ plan. IsErrOf result PutFault.Failed ↔ IsListed plan) };
 }
 
 /// Where files lie, each under its name.
@@ -72,6 +86,12 @@ pub trait Shelf {
 
     /// How many calls of `store` have failed, up to the last value of a counter.
     ghost store_faults: { Self → ℕ };
+
+    /// Which calls of `fetch` fail, where the shelf tells it.
+    ghost fetch_plan: { Self → Option CallPlan };
+
+    /// Which calls of `store` fail, where the shelf tells it.
+    ghost store_plan: { Self → Option CallPlan };
 
     /// The bytes of a file of at most 16 MiB.
     fn fetch(&mut self, alloc: Global, name: &Name) -> Result<Vec<u8>, ShelfFault>
@@ -94,7 +114,12 @@ pub trait Shelf {
         ensures no_store { store_faults self.new ≡ store_faults self.old }
         ensures no_fall_of_absences { absences self.old ≤ absences self.new }
         ensures no_fall_of_overlengths { overlengths self.old ≤ overlengths self.new }
-        ensures no_fall_of_faults { fetch_faults self.old ≤ fetch_faults self.new };
+        ensures no_fall_of_faults { fetch_faults self.old ≤ fetch_faults self.new }
+
+        // Where it is told which calls fail, those do and no others.
+        ensures counted { fetch_plan self.new ≡ told_after_call (fetch_plan self.old) }
+        ensures planned { IfSome (fetch_plan self.new) (λ plan. IsErrOf result ShelfFault.Failed ↔ IsListed plan) }
+        ensures no_store_call { store_plan self.new ≡ store_plan self.old };
 
     /// Puts a file of these bytes under a name, in place of one that is there.
     fn store(&mut self, name: &Name, bytes: &[u8]) -> Result<(), PutFault>
@@ -108,5 +133,10 @@ pub trait Shelf {
         ensures no_fall { store_faults self.old ≤ store_faults self.new }
         ensures no_fetch { fetch_faults self.new ≡ fetch_faults self.old }
         ensures no_absence { absences self.new ≡ absences self.old }
-        ensures no_overlength { overlengths self.new ≡ overlengths self.old };
+        ensures no_overlength { overlengths self.new ≡ overlengths self.old }
+
+        // Where it is told which calls fail, those do and no others.
+        ensures counted { store_plan self.new ≡ told_after_call (store_plan self.old) }
+        ensures planned { IfSome (store_plan self.new) (λ plan. IsErrOf result PutFault.Failed ↔ IsListed plan) }
+        ensures no_fetch_call { fetch_plan self.new ≡ fetch_plan self.old };
 }

@@ -4,7 +4,8 @@ ghost use Rattle.std.specs.Prelude.{◌≡◌, ◌<◌, ◌≤◌, length, vec_l
 
 use crate::calls::raised;
 use crate::faults::{Failed, PutFault, ShelfFault};
-use crate::outside::{LONGEST_FILE, Shelf, Sink, Source};
+use crate::limits::LONGEST_FILE;
+use crate::outside::{Shelf, Sink, Source};
 use crate::whole::{read_all, write_all};
 use geo_core::Name;
 use std::alloc::{AllocError, Global};
@@ -34,6 +35,8 @@ impl<R: Read> Source for ReaderSource<R> {
     ghost left = { λ _. None };
 
     ghost faults = { λ source. source.faults };
+
+    ghost plan = { λ _. None };
 
     fn read(&mut self, buf: &mut [u8]) -> Result<usize, Failed> {
         let answer = read_some(&mut self.reader, buf);
@@ -80,6 +83,8 @@ impl<W: Write> Sink for WriterSink<W> {
     ghost written = { λ _. None };
 
     ghost faults = { λ sink. sink.faults };
+
+    ghost plan = { λ _. None };
 
     fn write(&mut self, piece: &[u8]) -> Result<usize, PutFault> {
         let answer = write_some(&mut self.writer, piece);
@@ -151,6 +156,10 @@ impl<R: Files> Shelf for FolderShelf<R> {
     ghost fetch_faults = { λ shelf. shelf.fetch_faults };
 
     ghost store_faults = { λ shelf. shelf.store_faults };
+
+    ghost fetch_plan = { λ _. None };
+
+    ghost store_plan = { λ _. None };
 
     fn fetch(&mut self, alloc: Global, name: &Name) -> Result<Vec<u8>, ShelfFault> {
         let answer = fetch_file(alloc, &self.files, self.folder.as_str(), name);

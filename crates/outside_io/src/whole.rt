@@ -2,7 +2,7 @@
 ghost use Rattle.std.specs.Prelude.{◌≡◌, ◌<◌, ◌≤◌, [], length, vec_len, IfOk, IfSome, OnOk, OnErr, IsErrOf};
 ghost use Rattle.outside_io.specs.Counts.{Rose};
 ghost use Rattle.outside_io.specs.Refusals.{UnlessPutFailed, UnlessReadFailed};
-ghost use Rattle.outside_io.specs.Told.{AppendsPrefix, with_back};
+ghost use Rattle.outside_io.specs.ToldBytes.{AppendsPrefix, with_back};
 
 use crate::faults::{PutFault, ReadAllFault};
 use crate::outside::{Sink, Source};

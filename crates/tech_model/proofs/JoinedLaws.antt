@@ -1,5 +1,6 @@
 -- The type of a plane that has a set.
-use Rattle.std.proofs.Common.{◌≡◌, ◌≢◌, ◌⊎◌, ◌+◌, ◌-◌, ◌<◌, ◌≤◌, ◌==◌, ℕ, zero, suc, Bool, true, false, Option, if◌then◌else◌, List, [], ◌∷◌, length, get_or, refl, sym, ap, ◌∙◌, arith, inl, inr}
+use Rattle.std.proofs.Common.{◌≡◌, ◌≢◌, ◌⊎◌, ◌+◌, ◌-◌, ◌<◌, ◌≤◌, ◌==◌, ℕ, Bool, true, false, Option, if◌then◌else◌, length, get_or}
+use Rattle.std.proofs.Common.{refl, sym, ap, ◌∙◌, arith, inl, inr}
 use Rattle.std.specs.Prelude.{Some, None, IsTrue, slice_index_or}
 use Rattle.std.specs.List.{position_from}
 use Rattle.std.specs.Option.{option_map}
@@ -9,32 +10,7 @@ use Rattle.tech_model.specs.declared.raw.RawTech.{RawTech}
 use Rattle.tech_model.specs.Types.{is_type, type_at, no_type, plane_of, parts_of, is_kind, joined}
 use Rattle.tech_model.specs.Rules.{HaveOwnSets}
 use Rattle.tech_model.proofs.WellFormedLaws.{type_bounds, type_from_bounds}
-
--- the first place that passes
-position_at : {X : Type 0} (test : X → Bool) (i : ℕ) (xs : List X) (j : ℕ) (d : X) → j < length xs → test (get_or xs j d) ≡ true
-    → ((k : ℕ) → k < j → test (get_or xs k d) ≡ false) → position_from test i xs ≡ Some (i + j)
-position_at test i [] j d inside here before = absurd (omega arith)
-position_at test i (x ∷ xs) zero d inside here before = rw here (ap (λ (n : ℕ). Some n) (omega arith))
-position_at test i (x ∷ xs) (suc j) d inside here before =
-    rw (before 0 (omega arith)) (position_at test (i + 1) xs j d (omega arith) here (λ k below. before (suc k) (omega arith)) ∙ ap (λ (n : ℕ). Some n) (omega arith))
-
--- a place that is found passes
-position_found : {X : Type 0} (test : X → Bool) (i : ℕ) (xs : List X) (k : ℕ) (d : X) → position_from test i xs ≡ Some k
-    → (i ≤ k) × (k < i + length xs) × (test (get_or xs (k - i) d) ≡ true)
-position_found test i [] k d is = cc
-position_found test i (x ∷ xs) k d is = elim (cases_Bool (test x)) [
-  | inl passes ↦
-      let same : Some i ≡ Some k = rw passes at is in
-      let place : i ≡ k = cc in
-      let first : k - i ≡ 0 = omega arith in
-      (omega arith, omega arith, rw first passes)
-  | inr fails ↦
-      let found = position_found test (i + 1) xs k d (rw fails at is) in
-      let low : i + 1 ≤ k = found.0 in
-      let high : k < i + 1 + length xs = found.1 in
-      let next : k - i ≡ suc (k - (i + 1)) = omega arith in
-      (omega arith, omega arith, rw next found.2)
-]
+use Rattle.tech_model.proofs.FirstPlaces.{position_at, position_found}
 
 pub parts_at : (raw : RawTech) (t : ℕ) → IsTrue (is_type raw t) → parts_of raw t ≡ (type_at raw t).parts.0
 parts_at raw t is = ap (λ (b : Bool). if b then (type_at raw t).parts.0 else 0) is

@@ -1,5 +1,6 @@
 -- Words and their layers: what a map of words has after a word was put in.
-use Rattle.std.proofs.Common.{◌≡◌, ◌≢◌, ◌||◌, ◌+◌, ◌<◌, ℕ, suc, take, get_or, inl, inr, List, [], ◌∷◌, ◌++◌, length, map, Option, Bool, true, false, cond, if◌then◌else◌, refl, sym, ap, ◌∙◌, arith, add-zero, zero-add}
+use Rattle.std.proofs.Common.{◌≡◌, ◌≢◌, ◌||◌, ◌+◌, ◌<◌, ℕ, suc, take, get_or, inl, inr, List, [], ◌∷◌, ◌++◌, length, map, Option, Bool, true, false, cond}
+use Rattle.std.proofs.Common.{if◌then◌else◌, refl, sym, ap, ◌∙◌, arith, add-zero, zero-add}
 use Rattle.std.specs.Prelude.{Some, None, is_none}
 use Rattle.std.specs.Option.{option_or}
 use Rattle.std.specs.List.{position_from, list_any}

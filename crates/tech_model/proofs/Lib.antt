@@ -1,3 +1,4 @@
+pub mod FirstPlaces
 pub mod LayerWordLaws
 pub mod PairTableLaws
 pub mod WellFormedLaws
@@ -11,5 +12,3 @@ pub mod MarkLaws
 pub mod ColumnLaws
 pub mod WholeLaws
 pub mod LocalLaws
-pub mod NmRows
-pub mod NmWellFormed

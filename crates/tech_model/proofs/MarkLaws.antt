@@ -1,5 +1,5 @@
 -- Marks of contacts: what the images of a contact have in common is its mark alone.
-use Rattle.std.proofs.Common.{◌≡◌, ◌≢◌, ◌+◌, ◌-◌, ◌^◌, ◌<◌, ℕ, List, [], ◌∷◌, length, map, get_or, fold, bit_and, min, refl, sym, ap, ◌∙◌, arith, inl, inr}
+use Rattle.std.proofs.Common.{◌≡◌, ◌≢◌, ◌+◌, ◌^◌, ◌<◌, ℕ, List, [], ◌∷◌, length, map, get_or, fold, bit_and, min, refl, sym, ap, ◌∙◌, arith, inl, inr}
 use Rattle.std.specs.Int.{bit_at}
 use Rattle.std.proofs.lemmas.Bool.{cases_eq}
 use Rattle.std.proofs.lemmas.List.{get_or-map, length-map}
@@ -11,9 +11,10 @@ use Rattle.tech_model.specs.declared.raw.TypeId.{TypeId}
 use Rattle.tech_model.specs.declared.raw.RawTech.{RawTech}
 use Rattle.tech_model.specs.Types.{plane_of, parts_of, images_of, type_number}
 use Rattle.tech_model.specs.WellFormed.{IsWellFormed, IsMarked, IsContact}
-use Rattle.tech_model.specs.Columns.{mark_of}
+use Rattle.tech_model.specs.Columns.{all_parts, mark_of}
 use Rattle.tech_model.proofs.WellFormedLaws.{layer_well_formed}
 use Rattle.tech_model.proofs.SetLaws.{bit_cases, or_bit_cases, set_bits, image_mark}
+use Rattle.tech_model.specs.declared.limits.TheConstants.{PART_BITS}
 
 common : RawTech → ℕ → TypeId → ℕ
 common raw parts image = bit_and parts (parts_of raw image.0)
@@ -87,9 +88,9 @@ unfolding common
 mark_of-contact raw layer w below many contact = same_from_bits (mark_of raw (images_of raw layer)) (2 ^ contact.bit) (λ k.
     elim (cases_eq k contact.bit) [
       | inl same ↦ ap (bit_at (mark_of raw (images_of raw layer))) same
-          ∙ fold_has_bit raw (images_of raw layer) (2 ^ 128 - 1) contact.bit (bit_at_ones 128 contact.bit contact.below_limit) (λ image is. image_mark raw layer image.0 contact is)
+          ∙ fold_has_bit raw (images_of raw layer) all_parts contact.bit (bit_at_ones PART_BITS contact.bit contact.below_limit) (λ image is. image_mark raw layer image.0 contact is)
           ∙ sym (ap (bit_at (2 ^ contact.bit)) same ∙ bit_at-pow_same contact.bit)
       | inr other ↦
           let found = lacking raw layer k w below many contact other in
-          fold_clears raw (images_of raw layer) (2 ^ 128 - 1) k found.0 found.1.0 found.1.1 ∙ sym (bit_at-pow_other contact.bit k other)
+          fold_clears raw (images_of raw layer) all_parts k found.0 found.1.0 found.1.1 ∙ sym (bit_at-pow_other contact.bit k other)
     ])

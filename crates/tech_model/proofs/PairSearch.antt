@@ -1,5 +1,6 @@
 -- Searches over pairs: the pairs of the first thing, and then those of the rest.
-use Rattle.std.proofs.Common.{◌≡◌, ◌+◌, ◌<◌, ℕ, zero, suc, Bool, true, false, cond, Option, List, [], ◌∷◌, ◌++◌, length, map, filter, get_or, drop, refl, sym, ap, ◌∙◌, arith, inl, inr, add-one, drop-cons, append_assoc}
+use Rattle.std.proofs.Common.{◌≡◌, ◌+◌, ◌<◌, ℕ, zero, suc, Bool, true, false, cond, Option, List, [], ◌∷◌, ◌++◌, length, map, filter, get_or, drop, refl, sym}
+use Rattle.std.proofs.Common.{ap, ◌∙◌, arith, inl, inr, add-one, drop-cons, append_assoc}
 use Rattle.std.proofs.lemmas.List.Elements.{filter-append}
 use Rattle.std.specs.Prelude.{Some, None, find}
 use Rattle.std.specs.List.{range_with_len, flat_map}

@@ -6,7 +6,8 @@ use Rattle.std.specs.Option.{option_map, option_or}
 use Rattle.std.proofs.lemmas.Bool.{cases_Bool, cases_order, and_parts, and_from, ltb-true, eqb-true, not-true, eq-eqb, lt-ltb, not-false, true≢false}
 use Rattle.finite_sets.specs.Lists.{In}
 use Rattle.finite_sets.specs.Range.{pairs_of}
-use Rattle.finite_sets.proofs.Members.{In-append_left, In-append_right, In-append_cases, In-map, In-map_source, In-filter, In-filter_source, In-filter_passes, In-get_or}
+use Rattle.finite_sets.proofs.Members.{In-append_left, In-append_right, In-append_cases, In-map, In-map_source, In-filter, In-filter_source, In-filter_passes}
+use Rattle.finite_sets.proofs.Members.{In-get_or}
 use Rattle.finite_sets.proofs.Ranges.{In-pairs_of, In-pairs_of_first, In-pairs_of_second}
 use Rattle.tech_model.specs.declared.raw.TypeId.{TypeId}
 use Rattle.tech_model.specs.declared.raw.FetRule.{FetRule}

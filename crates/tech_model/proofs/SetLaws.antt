@@ -1,5 +1,6 @@
 -- Sets of parts as numbers: subsets, and the bits of the sets of types.
-use Rattle.std.proofs.Common.{◌≡◌, ◌≢◌, ◌⊎◌, ◌+◌, ◌-◌, ◌*◌, ◌^◌, ◌%◌, ◌<◌, ◌==◌, ℕ, true, length, bit_and, bit_or, min, max, sym, ap, subst, ◌∙◌, arith, inl, inr}
+use Rattle.std.proofs.Common.{◌≡◌, ◌≢◌, ◌⊎◌, ◌+◌, ◌-◌, ◌*◌, ◌^◌, ◌%◌, ◌<◌, ◌==◌, ℕ, true, length, bit_and, bit_or, min, max, sym, ap, subst, ◌∙◌, arith, inl}
+use Rattle.std.proofs.Common.{inr}
 use Rattle.std.specs.Prelude.{IsTrue, not}
 use Rattle.std.specs.Int.{bit_at}
 use Rattle.std.proofs.lemmas.Nat.{and_comm, and_assoc}
@@ -11,6 +12,7 @@ use Rattle.tech_model.specs.declared.raw.RawTech.{RawTech}
 use Rattle.tech_model.specs.Types.{is_type, plane_of, layer_of, parts_of, images_of, is_subset, is_proper_subset, without}
 use Rattle.tech_model.specs.WellFormed.{IsWellFormed, IsSimple, HasSet, atom, composed, IsMarked, IsContact}
 use Rattle.tech_model.proofs.WellFormedLaws.{type_bounds, All_In, layer_well_formed}
+use Rattle.tech_model.specs.declared.limits.TheConstants.{MOST_TYPES}
 
 subset_is : (a b : ℕ) → is_subset a b ≡ true → bit_and a b ≡ a
 subset_is a b is = eqb-true (bit_and a b) a is
@@ -102,7 +104,7 @@ mark_part_bit n k is = elim (bit_cases n k) [
 
 -- a set that is no contact's has atoms alone, which are types of its plane
 pub set_bits : (raw : RawTech) (t k : ℕ) → IsWellFormed raw → HasSet raw t → IsTrue (is_type raw t) → bit_at (parts_of raw t) k ≡ 1
-    → (k < 64) × (plane_of raw (k + 1) ≡ plane_of raw t)
+    → (k < MOST_TYPES) × (plane_of raw (k + 1) ≡ plane_of raw t)
 set_bits raw t k w (atom _ set) is bit =
     let bounds = type_bounds raw t is in
     elim (cases_eq k (t - 1)) [

@@ -12,6 +12,8 @@ use Rattle.tech_model.specs.declared.raw.LayerRec.{LayerRec}
 use Rattle.tech_model.specs.declared.raw.RawTech.{RawTech}
 use Rattle.tech_model.specs.Types.{is_type, layer_of, layer_at, images_of, no_layer, type_number}
 use Rattle.tech_model.specs.WellFormed.{IsWellFormed, IsLayer}
+use Rattle.tech_model.specs.declared.limits.TheConstants.{MOST_TYPES}
+use Rattle.tech_model.specs.declared.pair_table.TheConstants.{ROWS}
 
 -- what holds of all of a list holds of what stands in it
 pub All_In : {X : Type 0} (P : X → Type 0) (xs : List X) (x : X) → All P xs → In x xs → P x
@@ -36,8 +38,8 @@ type_bounds raw t is = let parts = and_parts (nat_le 1 t) (nat_le t (length raw.
 pub type_from_bounds : (raw : RawTech) (t : ℕ) → 1 ≤ t → t ≤ length raw.types → IsTrue (is_type raw t)
 type_from_bounds raw t low high = and_from (nat_le 1 t) (nat_le t (length raw.types)) (le-leb 1 t low) (le-leb t (length raw.types) high)
 
-pub type_below_65 : (raw : RawTech) (t : ℕ) → IsWellFormed raw → IsTrue (is_type raw t) → t < 65
-type_below_65 raw t w is = let bounds = type_bounds raw t is in omega (arith, bounds.1, w.types_limit)
+pub type_has_row : (raw : RawTech) (t : ℕ) → IsWellFormed raw → IsTrue (is_type raw t) → t < ROWS
+type_has_row raw t w is = let bounds = type_bounds raw t is in omega (arith, bounds.1, w.types_limit)
 
 -- a layer of the list is well formed
 pub layer_well_formed : (raw : RawTech) (layer : ℕ) → IsWellFormed raw → layer < length raw.layers → IsLayer raw (layer_at raw layer)
@@ -65,7 +67,7 @@ first_image_type raw layer w below =
     In-range_with_len 1 (length raw.types) (first_image (layer_at raw layer)) bounds.0 (omega (arith, bounds.1))
 
 -- there are no more layers than types, since each has an image of its own
-pub layers_limit : (raw : RawTech) → IsWellFormed raw → length raw.layers ≤ 64
+pub layers_limit : (raw : RawTech) → IsWellFormed raw → length raw.layers ≤ MOST_TYPES
 layers_limit raw w =
     let firsts : List ℕ = map first_image raw.layers in
     let first_at : (k d : ℕ) → k < length raw.layers → get_or firsts k d ≡ first_image (layer_at raw k) =
@@ -86,8 +88,8 @@ layers_limit raw w =
     let few = length-distinct firsts (range_with_len 1 (length raw.types)) (Distinct-from_places firsts apart) among in
     omega (arith, few, length-map raw.layers first_image, length-range_with_len 1 (length raw.types), w.types_limit)
 
--- both types of a pair have a row in a table of 65 rows
-pub pairs_below_65 : (raw : RawTech) → IsWellFormed raw → All (λ pair. (pair.0.0 < 65) × (pair.1.0 < 65)) raw.pairs
-pairs_below_65 raw w = λ k d below.
+-- both types of a pair have a row in the table of pairs
+pub pairs_have_rows : (raw : RawTech) → IsWellFormed raw → All (λ pair. (pair.0.0 < ROWS) × (pair.1.0 < ROWS)) raw.pairs
+pairs_have_rows raw w = λ k d below.
     let pair = w.pairs k d below in
-    (type_below_65 raw _ w pair.first, type_below_65 raw _ w pair.second)
+    (type_has_row raw _ w pair.first, type_has_row raw _ w pair.second)

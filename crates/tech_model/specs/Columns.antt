@@ -1,9 +1,11 @@
 -- Columns: one type on each plane for one square, and what paint and erasing make of them.
-use Rattle.std.specs.Prelude.{◌+◌, ◌-◌, ◌^◌, nat_lt, ℕ, Bool, bit_and, bit_or, if◌then◌else◌, List, [], ◌∷◌, length, Option, Some, None, unwrap_or, fold, slice_index_or}
+use Rattle.std.specs.Prelude.{◌+◌, ◌-◌, ◌^◌, nat_lt, ℕ, Bool, bit_and, bit_or, if◌then◌else◌, List, [], ◌∷◌, length, Option, Some, None, unwrap_or, fold}
+use Rattle.std.specs.Prelude.{slice_index_or}
 use Rattle.std.specs.List.{list_all}
 use Rattle.tech_model.specs.declared.raw.TypeId.{TypeId}
 use Rattle.tech_model.specs.declared.raw.RawTech.{RawTech}
 use Rattle.tech_model.specs.Types.{type_number, plane_of, parts_of, image_on, joined, is_subset, without}
+use Rattle.tech_model.specs.declared.limits.TheConstants.{PART_BITS}
 
 -- Paint puts the image with what stands there, where the plane has a type with both their parts, and else in its place.
 abbrev pub painted_by : RawTech → ℕ → TypeId → TypeId → TypeId
@@ -26,9 +28,13 @@ abbrev pub on_planes_from : ℕ → (ℕ → TypeId → TypeId) → List TypeId 
 on_planes_from plane change [] = []
 on_planes_from plane change (old ∷ column) = change plane old ∷ on_planes_from (plane + 1) change column
 
+-- every part: each bit is set
+abbrev pub all_parts : ℕ
+all_parts = 2 ^ PART_BITS - 1
+
 -- the mark of a contact: what the sets of its images have in common
 abbrev pub mark_of : RawTech → List TypeId → ℕ
-mark_of raw images = fold (λ common image. bit_and common (parts_of raw image.0)) (2 ^ 128 - 1) images
+mark_of raw images = fold (λ common image. bit_and common (parts_of raw image.0)) all_parts images
 
 -- the type of a column on a plane
 abbrev pub type_on : List TypeId → ℕ → ℕ

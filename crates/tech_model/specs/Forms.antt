@@ -3,6 +3,7 @@ use Rattle.std.specs.Prelude.{◌==◌, ◌&&◌, ◌||◌, not, nat_le, ℕ, Bo
 use Rattle.std.specs.List.{list_all, list_any}
 use Rattle.std.specs.Str.{bytes_eq}
 use Rattle.text_scan.specs.PlainNames.{is_plain_name}
+use Rattle.tech_model.specs.declared.limits.TheConstants.{LONGEST_LABEL}
 
 -- words that are no names of layers: they head other groups of a cell's file, or space
 abbrev pub reserved_words : List (List ℕ)
@@ -23,7 +24,7 @@ ends_in_hash (byte ∷ next ∷ bytes) = ends_in_hash (next ∷ bytes)
 
 -- The form of a label that names: 1 to 255 such bytes, of which the last is no `#`.
 abbrev pub is_naming_label : List ℕ → Bool
-is_naming_label text = nat_le 1 (length text) && nat_le (length text) 255 && list_all is_label_byte text && not (ends_in_hash text)
+is_naming_label text = nat_le 1 (length text) && nat_le (length text) LONGEST_LABEL && list_all is_label_byte text && not (ends_in_hash text)
 
 -- the name begins with e, n, p or d
 abbrev pub is_fet_name : List ℕ → Bool

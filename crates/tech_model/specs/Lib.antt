@@ -5,7 +5,6 @@ pub mod Indexes
 pub mod Laws
 pub mod LayerTiles
 pub mod LayerWords
-pub mod Nm
 pub mod PairTables
 pub mod Rules
 pub mod Types

@@ -4,11 +4,12 @@ use Rattle.std.specs.List.{list_any}
 use Rattle.std.specs.Int.{bit_at}
 use Rattle.tech_model.specs.declared.raw.TypeId.{TypeId}
 use Rattle.tech_model.specs.Types.{is_of}
+use Rattle.tech_model.specs.declared.pair_table.TheConstants.{ROWS}
 
 -- the row of s has the bit t
 abbrev pub has_pair : List ℕ → ℕ → ℕ → Bool
 has_pair rows s t = bit_at (slice_index_or rows s 0) t == 1
 
--- of all numbers below 65, the rows have those that one of the pairs joins
+-- of all numbers that have a row, the rows have those that one of the pairs joins
 abbrev pub HasPairs : List ℕ → List (TypeId × TypeId) → Type 0
-HasPairs rows pairs = (s t : ℕ) → s < 65 → t < 65 → has_pair rows s t ≡ list_any (is_of s t) pairs
+HasPairs rows pairs = (s t : ℕ) → s < ROWS → t < ROWS → has_pair rows s t ≡ list_any (is_of s t) pairs

@@ -1,5 +1,6 @@
 -- The rules of a technology, and the first that is broken.
-use Rattle.std.specs.Prelude.{◌≡◌, ◌==◌, ◌&&◌, not, nat_lt, ℕ, Bool, false, IsTrue, List, length, filter, find, Option, Some, None, Result, Ok, Err, All, map, ◌⊎◌}
+use Rattle.std.specs.Prelude.{◌≡◌, ◌==◌, ◌&&◌, not, nat_lt, ℕ, Bool, false, IsTrue, List, length, filter, find, Option, Some, None, Result, Ok, Err, All, map}
+use Rattle.std.specs.Prelude.{◌⊎◌}
 use Rattle.std.specs.List.{flat_map, range_with_len}
 use Rattle.std.specs.Option.{option_map, option_or}
 use Rattle.finite_sets.specs.Range.{pairs_of}

@@ -1,5 +1,6 @@
 -- Tile types of a technology: their planes, sets and names, and which connect and which are within which.
-use Rattle.std.specs.Prelude.{◌==◌, ◌&&◌, ◌||◌, ◌-◌, ◌+◌, not, nat_le, ℕ, Bool, bit_and, bit_xor, if◌then◌else◌, List, [], ◌++◌, length, find, slice_index_or, Option, Some, codes}
+use Rattle.std.specs.Prelude.{◌==◌, ◌&&◌, ◌||◌, ◌-◌, ◌+◌, not, nat_le, ℕ, Bool, bit_and, bit_xor, if◌then◌else◌, List, [], ◌++◌, length, find, slice_index_or}
+use Rattle.std.specs.Prelude.{Option, Some, codes}
 use Rattle.std.specs.List.{list_any, position_from}
 use Rattle.std.specs.Option.{option_map}
 use Rattle.std.specs.Str.{bytes_eq}

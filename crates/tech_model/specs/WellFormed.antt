@@ -9,6 +9,7 @@ use Rattle.tech_model.specs.declared.raw.FetRule.{FetRule}
 use Rattle.tech_model.specs.declared.raw.RawTech.{RawTech}
 use Rattle.tech_model.specs.Forms.{is_layer_name, is_naming_label}
 use Rattle.tech_model.specs.Types.{is_type, plane_of, layer_of, parts_of, images_of}
+use Rattle.tech_model.specs.declared.limits.TheConstants.{MOST_PLANES, MOST_TYPES, MOST_CLASSES, MOST_FETS, PART_BITS, FIRST_MARK, LARGEST_MEASURE}
 
 -- the layer has one image: it is an atom or composed
 abbrev pub IsSimple : RawTech → ℕ → Type 0
@@ -41,8 +42,8 @@ pub record IsMarked (raw : RawTech) (bit t : ℕ) : Type 0 where
 -- The images of a contact have one mark, which no type of another layer has.
 pub record IsContact (raw : RawTech) (layer : ℕ) : Type 0 where
   pub bit : ℕ
-  pub above_atoms : 64 ≤ bit
-  pub below_limit : bit < 128
+  pub above_atoms : FIRST_MARK ≤ bit
+  pub below_limit : bit < PART_BITS
   pub images : All (λ t. IsMarked raw bit t.0) (images_of raw layer)
   pub own : (t : ℕ) → IsTrue (is_type raw t) → layer_of raw t ≢ layer → bit_and (parts_of raw t) (2 ^ bit) ≡ 0
 
@@ -58,9 +59,9 @@ pub record IsLayer (raw : RawTech) (layer : LayerRec) : Type 0 where
   pub planes : Distinct (map (λ t. plane_of raw t.0) layer.images)
 
 pub record IsClass (raw : RawTech) (class : ClassRec) : Type 0 where
-  pub value : class.value ≤ 1000000
-  pub per_area : class.per_area ≤ 1000000
-  pub per_perimeter : class.per_perimeter ≤ 1000000
+  pub value : class.value ≤ LARGEST_MEASURE
+  pub per_area : class.per_area ≤ LARGEST_MEASURE
+  pub per_perimeter : class.per_perimeter ≤ LARGEST_MEASURE
   pub types : All (λ t. IsTrue (is_type raw t.0)) class.types
 
 pub record IsFet (raw : RawTech) (fet : FetRule) : Type 0 where
@@ -80,10 +81,10 @@ AreApart {X} {Y} parts xs = AllPairs (λ a b. (y : Y) → In y (parts a) → In 
 
 -- The lists keep the limits, the words are of their forms, every number is in range, and nothing stands twice that may stand once.
 pub record IsWellFormed (raw : RawTech) : Type 0 where
-  pub planes_limit : length raw.planes ≤ 8
-  pub types_limit : length raw.types ≤ 64
-  pub classes_limit : length raw.classes ≤ 16
-  pub fets_limit : length raw.fets ≤ 16
+  pub planes_limit : length raw.planes ≤ MOST_PLANES
+  pub types_limit : length raw.types ≤ MOST_TYPES
+  pub classes_limit : length raw.classes ≤ MOST_CLASSES
+  pub fets_limit : length raw.fets ≤ MOST_FETS
   pub name : IsTrue (is_plain_name raw.name)
   pub plane_names : All (λ name. IsTrue (is_plain_name name)) raw.planes
   pub planes_differ : Distinct raw.planes

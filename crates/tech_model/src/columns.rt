@@ -6,6 +6,7 @@ ghost use Rattle.tech_model.specs.Columns.{mark_of, has_mark_everywhere, without
 ghost use Rattle.tech_model.specs.Columns.{painted_column, erased_column};
 
 use crate::indexed::Indexed;
+use crate::limits::MOST_PLANES;
 use crate::raw::{LayerId, PartSet, TypeId};
 use std::array;
 
@@ -84,7 +85,7 @@ fn has_mark_everywhere(lists: &Indexed, mark: PartSet, images: &[TypeId], column
     images.iter().all(|&image| is_subset(mark, lists.parts(type_on(column, lists.plane(image)))))
 }
 
-fn take_mark_off(lists: &Indexed, mark: PartSet, column: &mut [TypeId; 8])
+fn take_mark_off(lists: &Indexed, mark: PartSet, column: &mut [TypeId; MOST_PLANES])
     ensures { column.new ≡ on_planes_from 0 (without_mark lists.now mark.0) column.old }
 {
     let old = *column;
@@ -92,7 +93,7 @@ fn take_mark_off(lists: &Indexed, mark: PartSet, column: &mut [TypeId; 8])
 }
 
 /// Takes the mark of a contact with these images off the column, unless it stands on all its planes.
-fn keep_mark(lists: &Indexed, images: &[TypeId], column: &mut [TypeId; 8])
+fn keep_mark(lists: &Indexed, images: &[TypeId], column: &mut [TypeId; MOST_PLANES])
     ensures { column.new ≡ layer_mark_kept lists.now images.now column.old }
 {
     if images.len() > 1 {
@@ -103,7 +104,7 @@ fn keep_mark(lists: &Indexed, images: &[TypeId], column: &mut [TypeId; 8])
     }
 }
 
-fn keep_marks(lists: &Indexed, column: &mut [TypeId; 8])
+fn keep_marks(lists: &Indexed, column: &mut [TypeId; MOST_PLANES])
     ensures { column.new ≡ marks_kept lists.now column.old }
 {
     for layer in lists.raw().layers.items() {
@@ -133,7 +134,7 @@ fn erased_on(lists: &Indexed, layer: LayerId, plane: u8, old: TypeId) -> TypeId
 
 /// Paints the layer.
 #[tactic(auto, unfolding(crate::specs::Columns::painted_column))]
-pub(crate) fn paint(lists: &Indexed, column: &mut [TypeId; 8], layer: LayerId)
+pub(crate) fn paint(lists: &Indexed, column: &mut [TypeId; MOST_PLANES], layer: LayerId)
     requires { layer.0 < length lists.now.layers }
     ensures { column.new ≡ painted_column lists.now layer.0 column.old }
 {
@@ -144,7 +145,7 @@ pub(crate) fn paint(lists: &Indexed, column: &mut [TypeId; 8], layer: LayerId)
 
 /// Erases the layer.
 #[tactic(auto, unfolding(crate::specs::Columns::erased_column))]
-pub(crate) fn erase(lists: &Indexed, column: &mut [TypeId; 8], layer: LayerId)
+pub(crate) fn erase(lists: &Indexed, column: &mut [TypeId; MOST_PLANES], layer: LayerId)
     requires { layer.0 < length lists.now.layers }
     ensures { column.new ≡ erased_column lists.now layer.0 column.old }
 {

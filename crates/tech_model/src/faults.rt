@@ -19,13 +19,13 @@ pub enum Section {
 /// A list of a technology that has a limit.
 #[derive(Clone, Copy, Debug, PartialEq, Eq)]
 pub enum Table {
-    /// At most 8.
+    /// At most `MOST_PLANES`.
     Planes,
-    /// At most 64, without space.
+    /// At most `MOST_TYPES`, without space.
     Types,
-    /// At most 16.
+    /// At most `MOST_CLASSES`.
     Classes,
-    /// At most 16.
+    /// At most `MOST_FETS`.
     Fets,
 }
 

@@ -11,6 +11,7 @@ ghost use Rattle.tech_model.specs.WellFormed.{IsWellFormed};
 
 use crate::faults::TechFault;
 use crate::index::LayerIndex;
+use crate::limits::MOST_TYPES;
 use crate::pair_table::PairTable;
 use crate::raw::{LayerId, LayerRec, PartSet, RawTech, TypeId, TypeRec};
 use geo_core::Name;
@@ -72,7 +73,7 @@ impl Indexed {
     /// How many types there are, without space.
     pub(crate) fn type_count(&self) -> u8
         ensures count { result ≡ length self.now.types }
-        ensures limit { result ≤ 64 }
+        ensures limit { result ≤ MOST_TYPES }
     {
         self.raw.types.items().len() as u8
     }
@@ -226,7 +227,7 @@ fn is_proper_subset(a: PartSet, b: PartSet) -> bool
 
 /// An index of the names and aliases of the layers.
 fn index_words(alloc: Global, layers: &[LayerRec]) -> Result<LayerIndex, AllocError>
-    requires { length layers.now ≤ 64 }
+    requires { length layers.now ≤ MOST_TYPES }
     ensures { IfOk result (λ words. (word : List ℕ)
         → layer_in words word ≡ position_from (has_name word) 0 layers.now) }
 {

@@ -1,4 +1,17 @@
 //! Technologies of layouts: planes, tile types, what connects to what, classes and transistors.
+//!
+//! # How the proof goes
+//!
+//! The definitions search lists; the code looks a name up in an index and a pair in a table. `LayerWordLaws` and
+//! `PairTableLaws` say that both answer alike. The rules are searched in loops over types and over pairs of types:
+//! `PairSearch` says that two loops find what one search of all pairs finds, and `RuleLaws` that what is found names
+//! types, and that the rules hold where nothing is found.
+//!
+//! The laws of `laws` rest on sets of parts as numbers (`SetLaws`): on its plane a set names one type (`JoinedLaws`), what
+//! is within what is an order (`TypeLaws`, `WithinLaws`), and the images of a contact have its mark, and nothing else, in
+//! common (`MarkLaws`). Paint and erasing leave a type of its plane on each plane (`ColumnLaws`). Then each contact is
+//! looked at in turn: `WholeLaws` says that one that was looked at stands whole from then on, and `LocalLaws` that what is
+//! left on a plane depends on that plane alone.
 #![tactic(auto)]
 
 mod columns;
@@ -7,12 +20,11 @@ mod index;
 mod indexed;
 mod laws;
 mod layers;
+mod limits;
 mod pair_table;
 mod raw;
 mod rules;
 mod tech;
-#[cfg(test)]
-mod tests;
 
 pub use faults::{Section, Table, TechFault};
 pub use index::LayerIndex;
@@ -22,5 +34,9 @@ pub use laws::{
     space_is_alone, within_is_an_order,
 };
 pub use layers::Layers;
+pub use limits::{
+    FIRST_MARK, LARGEST_MEASURE, LONGEST_LABEL, MOST_CLASSES, MOST_FETS, MOST_PLANES, MOST_TYPES,
+    PART_BITS,
+};
 pub use raw::{ClassRec, FetRule, Label, LayerId, LayerRec, PartSet, RawTech, TypeId, TypeRec};
 pub use tech::Tech;

@@ -1,24 +1,26 @@
 //! Which types the pairs of a technology join, a bit for each two types.
 ghost use Rattle.std.specs.Prelude.{◌≡◌, ◌<◌, ◌==◌, ◌||◌, ◌&&◌, ℕ, length, All, IfOk};
 ghost use Rattle.tech_model.specs.PairTables.{has_pair, HasPairs};
+ghost use Rattle.tech_model.specs.declared.pair_table.TheConstants.{ROWS};
 
+use crate::limits::MOST_TYPES;
 use crate::raw::TypeId;
 use std::alloc::{AllocError, Global};
 
-// Type numbers go up to 64, and 0 is space.
-const ROWS: usize = 65;
+/// A row for each type number, and one for space.
+const ROWS: usize = MOST_TYPES + 1;
 
-/// Pairs of type numbers up to 64.
+/// Pairs of type numbers.
 #[derive(Debug, Drop)]
 pub(crate) struct PairTable {
     rows: Vec<u128>,
-    ghost full: { length rows.items ≡ 65 },
+    ghost full: { length rows.items ≡ ROWS },
 }
 
 impl PairTable {
     /// The pairs, each both ways.
     pub(crate) fn of(alloc: Global, pairs: &[(TypeId, TypeId)]) -> Result<PairTable, AllocError>
-        requires { All (λ pair. (pair.0.0 < 65) × (pair.1.0 < 65)) pairs.now }
+        requires { All (λ pair. (pair.0.0 < ROWS) × (pair.1.0 < ROWS)) pairs.now }
         ensures { IfOk result (λ table. HasPairs table.rows.items pairs.now) }
     {
         let mut table = PairTable {
@@ -32,9 +34,9 @@ impl PairTable {
     }
 
     fn put(&mut self, s: TypeId, t: TypeId)
-        requires s { s.0 < 65 }
-        requires t { t.0 < 65 }
-        ensures { (x y : ℕ) → y < 65 → has_pair self.new.rows.items x y
+        requires s { s.0 < ROWS }
+        requires t { t.0 < ROWS }
+        ensures { (x y : ℕ) → y < ROWS → has_pair self.new.rows.items x y
             ≡ (has_pair self.old.rows.items x y || (x == s.0 && y == t.0)) }
     {
         let row = self.rows[usize::from(s.0)];
@@ -43,8 +45,8 @@ impl PairTable {
 
     /// Whether a pair joins the two.
     pub(crate) fn has(&self, s: TypeId, t: TypeId) -> bool
-        requires s { s.0 < 65 }
-        requires t { t.0 < 65 }
+        requires s { s.0 < ROWS }
+        requires t { t.0 < ROWS }
         ensures { result ≡ has_pair self.now.rows.items s.0 t.0 }
     {
         self.rows[usize::from(s.0)] >> t.0 & 1 == 1

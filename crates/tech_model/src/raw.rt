@@ -12,7 +12,7 @@ pub struct LayerId(pub u8);
 
 /// A set of parts: atoms of material and marks of contacts, a bit for each.
 ///
-/// The bit of the atom with type number `t` is `t - 1`, and the mark of a contact has a bit from 64 on.
+/// The bit of the atom with type number `t` is `t - 1`, and the mark of a contact has a bit from `FIRST_MARK` on.
 #[derive(Clone, Copy, Debug, PartialEq, Eq)]
 pub struct PartSet(pub u128);
 
@@ -43,12 +43,14 @@ pub struct TypeRec {
     pub parts: PartSet,
 }
 
-/// A class of tile types that are measured together: its resistance in milliohms per square, and its
-/// capacitance in attofarads for each unit of area and of perimeter.
+/// A class of tile types that are measured together.
 #[derive(Debug, Drop)]
 pub struct ClassRec {
+    /// The value of its `resist` line: its resistance, in milliohms per square.
     pub value: u64,
+    /// Its capacitance, in attofarads for each square of its area.
     pub per_area: u64,
+    /// Its capacitance, in attofarads for each edge of its perimeter.
     pub per_perimeter: u64,
     pub types: List<TypeId>,
 }

@@ -3,11 +3,13 @@ ghost use Rattle.std.specs.Prelude.{◌≡◌, ◌<◌, ◌⊎◌, None, Some, l
 ghost use Rattle.std.specs.Option.{option_map};
 ghost use Rattle.tech_model.specs.Columns.{painted_column, erased_column};
 ghost use Rattle.tech_model.specs.Rules.{KeepsRules, rule_fault};
-ghost use Rattle.tech_model.specs.Types.{first_name, is_type, layer_at, layer_of, layer_number, type_number, layer_named, image_on, joined, connects, is_within};
+ghost use Rattle.tech_model.specs.Types.{first_name, is_type, layer_at, layer_of, layer_number, type_number, layer_named, image_on, joined, connects};
+ghost use Rattle.tech_model.specs.Types.{is_within};
 ghost use Rattle.tech_model.specs.WellFormed.{IsWellFormed};
 
 use crate::faults::TechFault;
 use crate::indexed::Indexed;
+use crate::limits::MOST_PLANES;
 use crate::raw::{LayerId, PartSet, RawTech, TypeId};
 use crate::{columns, rules};
 use std::alloc::Global;
@@ -100,7 +102,7 @@ impl Tech {
 
     /// Paints the layer at one square. A column has a type for each plane: one of that plane or space, and
     /// space past the last plane.
-    pub fn paint_column(&self, column: &mut [TypeId; 8], layer: LayerId)
+    pub fn paint_column(&self, column: &mut [TypeId; MOST_PLANES], layer: LayerId)
         requires { layer.0 < length self.now.layers }
         ensures { column.new ≡ painted_column self.now layer.0 column.old }
     {
@@ -108,7 +110,7 @@ impl Tech {
     }
 
     /// Erases the layer at one square.
-    pub fn erase_column(&self, column: &mut [TypeId; 8], layer: LayerId)
+    pub fn erase_column(&self, column: &mut [TypeId; MOST_PLANES], layer: LayerId)
         requires { layer.0 < length self.now.layers }
         ensures { column.new ≡ erased_column self.now layer.0 column.old }
     {

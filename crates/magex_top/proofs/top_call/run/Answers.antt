@@ -1,6 +1,6 @@
 use Rattle.std.proofs.Common.{◌≡◌, ◌∙◌, sym, ap, subst, refl, List, [], ◌∷◌, map, ◌≤◌, Global, Err, string_bytes, ℕ, Bool, true, false, ◌==◌, length, arith}
 use Rattle.std.proofs.lemmas.Bool.Decides.{nat_tests}
-use Rattle.outside_io.specs.Told.{Told, with_back}
+use Rattle.outside_io.specs.ToldBytes.{ToldBytes, with_back}
 use Rattle.magex_top.specs.declared.status.Status.{Status}
 use Rattle.magex_top.specs.Runs.{RunMeans, ScriptMeans, IsBegun, usage_line}
 use Rattle.magex_top.specs.Sessions.{most_bytes}
@@ -22,7 +22,7 @@ returns-then-not-is_empty-clause-meaning g c text before files text_told told fi
       usage_line,
       files,
       subst (λ (status : Status). RunMeans (map (string_bytes {Z = Global}) c.args.words.now) text files usage_line files status) (sym h.0) (usage_run (string_bytes {Z = Global}) c.args.words.now text files some),
-      h.1 ∙ ap (λ (t : Told). with_back t usage_line) told,
+      h.1 ∙ ap (λ (t : ToldBytes). with_back t usage_line) told,
       files_told,
     )
 

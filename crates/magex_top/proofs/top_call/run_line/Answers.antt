@@ -1,6 +1,6 @@
 use Rattle.std.proofs.Common.{◌≡◌, inr, ◌∙◌, sym, ap, subst, refl, List, ℕ, Result, Ok, Err}
 use Rattle.std.specs.Result.{OnErr}
-use Rattle.outside_io.specs.Told.{Told, with_back}
+use Rattle.outside_io.specs.ToldBytes.{ToldBytes, with_back}
 use Rattle.magex_top.specs.declared.replies.Answer.{Answer}
 use Rattle.magex_top.specs.declared.replies.Answer.TheVariants.{Reply, Refused}
 use Rattle.magex_top.specs.Answers.{answered, answer_bytes, answer_tells, state_of, effect_of}
@@ -36,4 +36,4 @@ returns-clause-effect g c files before files_told told =
     let as_written : Effect = record { state = state_of c.answer_line.new.session files; reply = c.in_ok-text.text.items; told = c.in_ok-text.told } in
     let same : effect_of c.args.number c.answer_line.new.session files c.in_ok-answer.answer ≡ as_written = written ∙ (rw (← c.in_ok-text.ensures.text, ← c.in_ok-text.ensures.told) refl) in
     let all = rw c.deref.ensures.value at c.in_ok-write_reply.ensures.all in
-    (c.in_ok-text.text.items, subst (λ (e : Effect). LineMeans c.args.number (state_of c.args.session.now files) c.args.line.now e) same means, all ∙ ap (λ (t : Told). with_back t c.in_ok-text.text.items) told)
+    (c.in_ok-text.text.items, subst (λ (e : Effect). LineMeans c.args.number (state_of c.args.session.now files) c.args.line.now e) same means, all ∙ ap (λ (t : ToldBytes). with_back t c.in_ok-text.text.items) told)

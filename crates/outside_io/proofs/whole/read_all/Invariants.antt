@@ -1,5 +1,5 @@
 use Rattle.std.proofs.Common.{◌≡◌, ◌≤◌, vec_len, ◌-◌}
-use Rattle.outside_io.specs.Told.{with_front}
+use Rattle.outside_io.specs.ToldBytes.{with_front}
 use Rattle.outside_io.proofs.whole.read_all.Given as goal
 
 abbrev pub invariant-loop-bytes : goal.invariant-loop-bytes

@@ -1,5 +1,5 @@
 use Rattle.std.proofs.Common.{length, ◌-◌, ◌≡◌, ◌≤◌, take}
-use Rattle.outside_io.specs.Told.{with_back}
+use Rattle.outside_io.specs.ToldBytes.{with_back}
 use Rattle.outside_io.proofs.whole.write_all.Given as goal
 
 abbrev pub invariant-loop-done : goal.invariant-loop-done

@@ -9,7 +9,8 @@ use Rattle.tech_model.proofs.indexed.add_names.Goals.{then-is_none+in_ok-add, el
 pub loop-name-preserved : goal.loop-name-preserved
 loop-name-preserved c = λ word.
     let name : List ℕ = c.bytes-word.result.now in
-    let is_name : name ≡ get_or c.args.names.now c.loop-name.name-index name = c.bytes-word.ensures ∙ c.name-item.is ∙ ap (get_or c.args.names.now c.loop-name.name-index) (sym c.bytes-word.ensures) in
+    let is_name : name ≡ get_or c.args.names.now c.loop-name.name-index name = c.bytes-word.ensures ∙ c.name-item.is ∙ ap
+    (get_or c.args.names.now c.loop-name.name-index) (sym c.bytes-word.ensures) in
     elim c.if-is_none.branch [
       | then-is_none+in_ok-add w ↦
           let fresh : layer_in c.loop-name.words name ≡ None = grind (arith, common_steps) in

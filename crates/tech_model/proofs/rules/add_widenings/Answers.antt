@@ -10,7 +10,8 @@ loop-t-preserved c =
     let p = are_within c.args.tech.now in
     let pair : ℕ → ℕ × ℕ = λ t. (c.args.s, t) in
     let rest : List (ℕ × ℕ) = map pair (range_with_len (c.loop-t.t + 1) (c.type_count-end.result + 1 - (c.loop-t.t + 1))) in
-    let split = ap (map pair) (range_split c.loop-t.t (c.type_count-end.result + 1 - c.loop-t.t) (c.type_count-end.result + 1 - (c.loop-t.t + 1)) (omega arith)) in
+    let split =
+    ap (map pair) (range_split c.loop-t.t (c.type_count-end.result + 1 - c.loop-t.t) (c.type_count-end.result + 1 - (c.loop-t.t + 1)) (omega arith)) in
     elim c.if-within.branch [
       | then-within+in_ok-push w ↦
           let items = ap (λ v. v.items) w.found-is ∙ w.in_ok-push.ensures.items in

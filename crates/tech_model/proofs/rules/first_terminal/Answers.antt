@@ -13,7 +13,8 @@ returns-in-Some-clause-found c =
     let is = c.fet-item.is ∙ ap (λ (l : List FetRule). get_or l c.loop-fet.fet-index c.fet-item.result) same in
     let found = sym c.terminal_of.ensures ∙ c.in-Some.is in
     sym (c.loop-fet.invariant
-    ∙ each_here (is_bad_terminal c.args.tech.now) (λ (fet : FetRule). fet.kind) (λ fet. fet.terminals) _ c.fet-item.result _ c.in-Some.t (drop_split fets c.loop-fet.fet-index c.fet-item.result inside is) found)
+    ∙ each_here (is_bad_terminal c.args.tech.now) (λ (fet : FetRule). fet.kind) (λ fet. fet.terminals) _ c.fet-item.result _ c.in-Some.t
+    (drop_split fets c.loop-fet.fet-index c.fet-item.result inside is) found)
 
 pub returns-in-Some-clause-types : goal.returns-in-Some-clause-types
 returns-in-Some-clause-types c =
@@ -28,4 +29,5 @@ loop-fet-preserved c =
     let is = c.fet-item.is ∙ ap (λ (l : List FetRule). get_or l c.loop-fet.fet-index c.fet-item.result) same in
     let none = sym c.terminal_of.ensures ∙ c.in_default.is in
     c.loop-fet.invariant
-    ∙ each_rest (is_bad_terminal c.args.tech.now) (λ (fet : FetRule). fet.kind) (λ fet. fet.terminals) _ c.fet-item.result _ (drop_split fets c.loop-fet.fet-index c.fet-item.result inside is) none
+    ∙ each_rest (is_bad_terminal c.args.tech.now) (λ (fet : FetRule). fet.kind) (λ fet. fet.terminals) _ c.fet-item.result _
+    (drop_split fets c.loop-fet.fet-index c.fet-item.result inside is) none
