@@ -56,7 +56,8 @@ corner_covered area proper = record { right_of_xlo = omega (arith, ints); left_o
 
 -- ---- the tiles can be set with any values
 
-module _ (values : Square → ℕ) (area : Rect) (tiles : List Piece) (are : AreTilesIn values area tiles) (code : Piece → Piece) (keeps : (tile : Piece) → (code tile).area ≡ tile.area) where
+module _ (values : Square → ℕ) (area : Rect) (tiles : List Piece) (are : AreTilesIn values area tiles) (code : Piece → Piece)
+    (keeps : (tile : Piece) → (code tile).area ≡ tile.area) where
   -- each has a square
   pub coded_proper : All (λ piece. IsProper piece.area) (map code tiles)
   coded_proper = All-map (λ piece. IsProper piece.area) code tiles
@@ -74,13 +75,16 @@ module _ (values : Square → ℕ) (area : Rect) (tiles : List Piece) (are : Are
   pub coded_apart : AllPairs (λ a b. AreDisjoint a.area b.area) (map code tiles)
   coded_apart = λ i j d less within square c e.
       let below : j < length tiles = omega (arith, length-map tiles code, within) in
-      let first : (get_or (map code tiles) i d).area ≡ (get_or tiles i d).area = ap (λ (p : Piece). p.area) (get_or-map code tiles i d d (omega arith)) ∙ keeps (get_or tiles i d) in
-      let second : (get_or (map code tiles) j d).area ≡ (get_or tiles j d).area = ap (λ (p : Piece). p.area) (get_or-map code tiles j d d below) ∙ keeps (get_or tiles j d) in
+      let first : (get_or (map code tiles) i d).area ≡ (get_or tiles i d).area = ap (λ (p : Piece). p.area) (get_or-map code tiles i d d (omega arith))
+      ∙ keeps (get_or tiles i d) in
+      let second : (get_or (map code tiles) j d).area ≡ (get_or tiles j d).area = ap (λ (p : Piece). p.area) (get_or-map code tiles j d d below) ∙ keeps
+      (get_or tiles j d) in
       tiles_apart values area tiles are i j d less below square (subst (λ (a : Rect). Covers a square) first c) (subst (λ (a : Rect). Covers a square) second e)
 
 -- ---- the code of each square
 
-module _ (brush : Brush) (raw : RawTech) (layer : ℕ) (w : IsWellFormed raw) (below : layer < length raw.layers) (layout : Layout) (keeps : KeepsTypes raw.types layout) (plane : ℕ) (few : plane < 8)
+module _ (brush : Brush) (raw : RawTech) (layer : ℕ) (w : IsWellFormed raw) (below : layer < length raw.layers) (layout : Layout)
+    (keeps : KeepsTypes raw.types layout) (plane : ℕ) (few : plane < 8)
     (area : Rect) (tiles : List Piece) (are : AreTilesIn (kinds_on layout plane) area tiles) where
   -- the type of the plane before
   abbrev old : Square → ℕ
@@ -119,7 +123,8 @@ module _ (brush : Brush) (raw : RawTech) (layer : ℕ) (w : IsWellFormed raw) (b
       ∙ ap (code_of (old square)) (squares_change_alike brush raw layer w below layout keeps plane few (corner_of tile.area) square (there ∙ sym here))
 
   -- a square without a tile has no coded tile
-  no_piece : (square : Square) → ((tile : Piece) → In tile tiles → Covers tile.area square → ⊥) → (piece : Piece) → In piece (map code tiles) → Covers piece.area square → ⊥
+  no_piece : (square : Square) → ((tile : Piece) → In tile tiles → Covers tile.area square → ⊥) → (piece : Piece) → In piece (map code tiles)
+      → Covers piece.area square → ⊥
   no_piece square none piece i covers =
       let source = In-map_source code piece tiles i in
       none source.0 source.1.0 (subst (λ (p : Piece). Covers p.area square) (sym source.1.1) covers)
@@ -160,7 +165,8 @@ module _ (brush : Brush) (raw : RawTech) (layer : ℕ) (w : IsWellFormed raw) (b
     codes_give_changes found tiles_of_codes = decoded_are_changes old new codes area found codes_are new_outside tiles_of_codes
 
 -- the tiles of a plane of a list are those of the layout
-pub tiles_on_plane : (planes : List PlaneValue) (plane : ℕ) (at : PlaneValue) (area : Rect) (tiles : List Piece) → plane < length planes → at ≡ get_or planes plane at
+pub tiles_on_plane : (planes : List PlaneValue) (plane : ℕ) (at : PlaneValue) (area : Rect) (tiles : List Piece) → plane < length planes
+    → at ≡ get_or planes plane at
     → AreTilesIn (number_on at) area tiles → AreTilesIn (kinds_on (layout_on planes) plane) area tiles
 tiles_on_plane planes plane at area tiles below is are =
     subst (λ (values : PlaneValue). AreTilesIn (number_on values) area tiles) (is ∙ get_or_default planes plane at no_plane below) are

@@ -9,12 +9,13 @@ use Rattle.finite_sets.proofs.Members.{In-get_or, In-map, In-map_source}
 use Rattle.geo_core.specs.declared.squares.Square.{Square}
 use Rattle.geo_core.specs.declared.squares.Rect.{Rect}
 use Rattle.geo_core.specs.declared.squares.Piece.{Piece}
-use Rattle.geo_core.specs.Areas.{common_area, LiesWithin}
+use Rattle.geo_core.specs.Areas.{common_rect, LiesWithin}
 use Rattle.geo_core.specs.Covering.{Covers, is_covered, IsProper}
 use Rattle.geo_core.specs.Planes.{HasValue, IsTileIn, AreTilesIn}
 use Rattle.geo_core.specs.Strips.{IsStrip, StandsBefore}
 use Rattle.geo_core.proofs.CoveringLaws.{Covers-is_covered, is_covered-Covers}
-use Rattle.geo_core.proofs.StripSets.{strip_same, rect_is}
+use Rattle.geo_core.proofs.StripSets.{strip_same, strip_is_proper}
+use Rattle.geo_core.proofs.SquareLaws.{rect_is, piece_is}
 use Rattle.cell_paint.specs.Changes.{code_of, decoded}
 use Rattle.cell_paint.specs.Painting.{ChangesTo, AreChanges}
 
@@ -26,24 +27,13 @@ code_cases old new = elim (cases_eq new old) [
 ]
 
 -- a rectangle within another is what they have in common
-within_is_common : (a b : Rect) → LiesWithin a b → common_area a b ≡ a
+within_is_common : (a b : Rect) → LiesWithin a b → common_rect a b ≡ a
 within_is_common a b within =
     let left : b.xlo ≤ℤ a.xlo = within.right_of_xlo in
     let low : b.ylo ≤ℤ a.ylo = within.above_ylo in
     let right : a.xhi ≤ℤ b.xhi = within.left_of_xhi in
     let high : a.yhi ≤ℤ b.yhi = within.below_yhi in
-    rect_is (common_area a b) a (omega (arith, ints, clamps)) (omega (arith, ints, clamps)) (omega (arith, ints, clamps)) (omega (arith, ints, clamps))
-
--- pieces with one area and one value are one
-piece_is : (a b : Piece) → a.area ≡ b.area → a.value ≡ b.value → a ≡ b
-piece_is a b e f = let whole : record { area = a.area; value = a.value } ≡ b = rw (e, f) refl in whole
-
--- a strip has a square
-strip_is_proper : (S : Square → Type 0) (strip : Rect) → IsStrip S strip → IsProper strip
-strip_is_proper S strip is =
-    let high : strip.ylo <ℤ strip.yhi = is.high in
-    let run = is.runs strip.ylo (omega (arith, ints)) high in
-    record { wide = run.long; high = high }
+    rect_is (common_rect a b) a (omega (arith, ints, clamps)) (omega (arith, ints, clamps)) (omega (arith, ints, clamps)) (omega (arith, ints, clamps))
 
 -- the strips of a set that lies in an area lie in it
 strip_inside : (S : Square → Type 0) (area strip : Rect) → ((square : Square) → S square → Covers area square) → IsStrip S strip → LiesWithin strip area
@@ -92,7 +82,7 @@ module _ (old new codes : Square → ℕ) (area : Rect) (found : List Piece)
   ]
 
   -- a strip of changes lies in the area
-  strip_of_change : (kind : ℕ) (strip : Rect) → IsStrip (ChangesTo old new kind) strip → common_area strip area ≡ strip
+  strip_of_change : (kind : ℕ) (strip : Rect) → IsStrip (ChangesTo old new kind) strip → common_rect strip area ≡ strip
   strip_of_change kind strip strip_is = within_is_common strip area
       (strip_inside (ChangesTo old new kind) area strip (λ square change. change_inside square (λ e. change.1 (sym e ∙ change.0))) strip_is)
 
@@ -102,15 +92,18 @@ module _ (old new codes : Square → ℕ) (area : Rect) (found : List Piece)
       let material : piece.value ≢ 0 = tile.material in
       let value : piece.value ≡ piece.value - 1 + 1 = omega arith in
       let strip : IsStrip (HasValue codes (piece.value - 1 + 1)) tile.strip = subst (λ (v : ℕ). IsStrip (HasValue codes v) tile.strip) value tile.is_strip in
-      let change = strip_same (HasValue codes (piece.value - 1 + 1)) (ChangesTo old new (piece.value - 1)) (to_change (piece.value - 1)) (from_change (piece.value - 1)) tile.strip strip in
+      let change = strip_same (HasValue codes (piece.value - 1 + 1)) (ChangesTo old new (piece.value - 1)) (to_change (piece.value - 1))
+      (from_change (piece.value - 1)) tile.strip strip in
       subst (IsStrip (ChangesTo old new (piece.value - 1))) (sym (tile.cut ∙ strip_of_change (piece.value - 1) tile.strip change)) change
 
   -- a strip of changes is a piece of the codes
-  change_piece : (piece : Piece) → IsStrip (ChangesTo old new piece.value) piece.area → IsTileIn codes area (record { area = piece.area; value = piece.value + 1 })
+  change_piece : (piece : Piece) → IsStrip (ChangesTo old new piece.value) piece.area
+      → IsTileIn codes area (record { area = piece.area; value = piece.value + 1 })
   change_piece piece change = record {
     material = λ e. omega arith;
     strip = piece.area;
-    is_strip = strip_same (ChangesTo old new piece.value) (HasValue codes (piece.value + 1)) (from_change piece.value) (to_change piece.value) piece.area change;
+    is_strip = strip_same (ChangesTo old new piece.value) (HasValue codes (piece.value + 1)) (from_change piece.value) (to_change piece.value)
+        piece.area change;
     cut = sym (strip_of_change piece.value piece.area change);
     meets = strip_is_proper (ChangesTo old new piece.value) piece.area change;
   }

@@ -29,7 +29,8 @@ brushed_is_column Erase raw layer column w below is = (marks_kept-whole raw _ w 
 -- a type of a plane is at most 64
 small_on_plane : (raw : RawTech) (plane t : ℕ) → length raw.types ≤ 64 → IsOnPlane raw plane t → t ≤ 64
 small_on_plane raw plane t few (inl space) = omega arith
-small_on_plane raw plane t few (inr type) = let high = leb-true t (length raw.types) (and_parts (nat_le 1 t) (nat_le t (length raw.types)) type.0).1 in omega arith
+small_on_plane raw plane t few (inr type) = let high = leb-true t (length raw.types) (and_parts (nat_le 1 t) (nat_le t (length raw.types)) type.0).1 in
+    omega arith
 
 -- a type of a column is at most 64
 pub column_small : (raw : RawTech) (column : List TypeId) (plane : ℕ) → IsWellFormed raw → IsColumn raw column → type_on column plane ≤ 64
@@ -39,8 +40,10 @@ column_small raw column plane w is = small_on_plane raw plane (type_on column pl
 pub brushed_local : (brush : Brush) (raw : RawTech) (layer plane : ℕ) (a b : List TypeId) → IsWellFormed raw → layer < length raw.layers → length a ≡ length b
     → IsColumn raw a → IsColumn raw b → HasWholeContacts raw a → HasWholeContacts raw b → type_on a plane ≡ type_on b plane
     → type_on (brushed brush raw layer a) plane ≡ type_on (brushed brush raw layer b) plane
-brushed_local Paint raw layer plane a b w below long a_is b_is a_whole b_whole same = painted_column-local raw layer plane a b w below long a_is b_is a_whole b_whole same
-brushed_local Erase raw layer plane a b w below long a_is b_is a_whole b_whole same = erased_column-local raw layer plane a b w long a_is b_is a_whole b_whole same
+brushed_local Paint raw layer plane a b w below long a_is b_is a_whole b_whole same = painted_column-local raw layer plane a b w below long a_is b_is
+    a_whole b_whole same
+brushed_local Erase raw layer plane a b w below long a_is b_is a_whole b_whole same = erased_column-local raw layer plane a b w long a_is b_is a_whole
+    b_whole same
 
 -- the column of a square has its types
 pub column_type : (layout : Layout) (square : Square) (plane : ℕ) → plane < 8 → type_on (column_at layout square) plane ≡ kinds_on layout plane square
@@ -81,7 +84,8 @@ no_types_whole raw s t s_is t_is layers stands =
     let space : s ≡ 0 = sym stands ∙ no_types_on (plane_of raw s) in
     absurd (omega arith)
 
-module _ (brush : Brush) (raw : RawTech) (layer : ℕ) (w : IsWellFormed raw) (below : layer < length raw.layers) (layout : Layout) (keeps : KeepsTypes raw.types layout) (plane : ℕ) (few : plane < 8) where
+module _ (brush : Brush) (raw : RawTech) (layer : ℕ) (w : IsWellFormed raw) (below : layer < length raw.layers) (layout : Layout)
+    (keeps : KeepsTypes raw.types layout) (plane : ℕ) (few : plane < 8) where
   -- squares with one type come to have one type
   pub squares_change_alike : (s t : Square) → kinds_on layout plane s ≡ kinds_on layout plane t
       → type_on (brushed brush raw layer (column_at layout s)) plane ≡ type_on (brushed brush raw layer (column_at layout t)) plane

@@ -1,5 +1,6 @@
 -- Paint: what becomes of it where the planes of a cell change.
-use Rattle.std.proofs.Common.{◌≡◌, ◌≢◌, inl, inr, ℕ, zero, suc, ◌+◌, ◌<◌, ◌≤◌, ℤ, pos, ◌-ℤ◌, ◌≤ℤ◌, ◌<ℤ◌, true, Bool, ◌&&◌, List, [], ◌∷◌, ◌++◌, length, length-append, get_or, refl, sym, ◌∙◌, ap, subst, arith, false}
+use Rattle.std.proofs.Common.{◌≡◌, ◌≢◌, inl, inr, ℕ, zero, suc, ◌+◌, ◌<◌, ◌≤◌, ℤ, pos, ◌-ℤ◌, ◌≤ℤ◌, ◌<ℤ◌, true, Bool, ◌&&◌}
+use Rattle.std.proofs.Common.{List, [], ◌∷◌, ◌++◌, length, length-append, get_or, refl, sym, ◌∙◌, ap, subst, arith, false}
 use Rattle.std.specs.Prelude.{IsTrue, Vec, AllPairs, if◌then◌else◌}
 use Rattle.std.specs.declared.alloc.Global.{Global}
 use Rattle.std.proofs.lemmas.Bool.{cases_Bool, cases_eq, cases_lt}
@@ -14,7 +15,7 @@ use Rattle.geo_core.specs.Covering.{Covers, is_covered, IsProper}
 use Rattle.geo_core.specs.Strips.{IsStrip, StandsBefore}
 use Rattle.geo_core.specs.Planes.{AreSet}
 use Rattle.geo_core.proofs.CoveringLaws.{Covers-is_covered}
-use Rattle.geo_core.proofs.StripSets.{strip_within, one_strip_at}
+use Rattle.geo_core.proofs.StripSets.{strip_within, one_strip_at, strip_is_proper}
 use Rattle.tech_model.specs.declared.raw.TypeId.{TypeId}
 use Rattle.tech_model.specs.declared.raw.TypeRec.{TypeRec}
 use Rattle.tech_model.specs.declared.raw.RawTech.{RawTech}
@@ -30,7 +31,8 @@ use Rattle.layout_model.specs.Layouts.{Layout}
 use Rattle.cell_paint.specs.declared.brushes.Brush.{Brush}
 use Rattle.cell_paint.specs.declared.brushes.Brush.TheVariants.{Paint as PaintBrush, Erase as EraseBrush}
 use Rattle.cell_paint.specs.Changes.{brushed}
-use Rattle.cell_paint.specs.Painting.{place_at, kinds_on, column_at, with_columns, is_coordinate, is_in_range, paint_range, ChangesTo, AreChanges, PassesPaintLimit}
+use Rattle.cell_paint.specs.Painting.{place_at, kinds_on, column_at, with_columns, is_coordinate, is_in_range}
+use Rattle.cell_paint.specs.Painting.{paint_range, ChangesTo, AreChanges, PassesPaintLimit}
 use Rattle.cell_paint.specs.Paints.{PlaneValue, layout_on, IsWhole}
 use Rattle.cell_paint.specs.Settings.{pieces_for, IsSettable, AreSettable, AreAllSet, PassesSomewhere, AreAllChanges}
 use Rattle.cell_paint.proofs.PlaneLaws.{space_past}
@@ -53,7 +55,8 @@ pub type_past_column : (layout : Layout) (square : Square) (plane : ℕ) → 8 �
 type_past_column layout square plane past = ap (λ (t : TypeId). t.0) (get_or_past (column_at layout square) plane (type_number 0) past)
 
 -- a column that shows the types of its planes, and space past the last, is that of the layout
-pub column_shows : (layout : Layout) (square : Square) (column : List TypeId) → ((plane : ℕ) → plane < 8 → layout (place_at plane square) ≡ type_on column plane)
+pub column_shows : (layout : Layout) (square : Square) (column : List TypeId)
+    → ((plane : ℕ) → plane < 8 → layout (place_at plane square) ≡ type_on column plane)
     → ((plane : ℕ) → 8 ≤ plane → type_on column plane ≡ 0) → (plane : ℕ) → type_on (column_at layout square) plane ≡ type_on column plane
 column_shows layout square column here past plane = elim (cases_lt plane 8) [
   | inl below ↦ type_on_column layout square plane below ∙ here plane below
@@ -82,7 +85,8 @@ brushed_sound PaintBrush raw layer column well_formed below is = marks_kept-whol
 brushed_sound EraseBrush raw layer column well_formed below is = marks_kept-whole raw _ well_formed (erased_is_column raw layer column is)
 
 -- past the last plane a sound column has space
-pub space_in : (raw : RawTech) (kinds : List TypeRec) (planes : List PlaneValue) (column : List TypeId) → IsWhole kinds planes → raw.types ≡ kinds → IsColumn raw column
+pub space_in : (raw : RawTech) (kinds : List TypeRec) (planes : List PlaneValue) (column : List TypeId) → IsWhole kinds planes → raw.types ≡ kinds
+    → IsColumn raw column
     → (plane : ℕ) → length planes ≤ plane → type_on column plane ≡ 0
 space_in raw kinds planes column whole same is plane past = elim (is plane) [
   | inl space ↦ space
@@ -110,13 +114,15 @@ whole_same kinds old new long same whole = record {
 }
 
 -- planes without paint
-pub whole_empty : (raw : RawTech) (planes : List PlaneValue) → IsWellFormed raw → length planes ≡ length raw.planes → ((place : Place) → layout_on planes place ≡ 0)
+pub whole_empty : (raw : RawTech) (planes : List PlaneValue) → IsWellFormed raw → length planes ≡ length raw.planes
+    → ((place : Place) → layout_on planes place ≡ 0)
     → IsWhole raw.types planes
 whole_empty raw planes well_formed long empty = record {
   few = subst (λ (n : ℕ). n ≤ 8) (sym long) well_formed.planes_limit;
   placed = λ other is t type.
       subst (λ (n : ℕ). plane_of other t < n) (sym long)
-      (subst (λ (types : List TypeRec). (u : ℕ) → IsTrue (is_type (record raw { types = types }) u) → plane_of (record raw { types = types }) u < length raw.planes)
+      (subst (λ (types : List TypeRec). (u : ℕ) → IsTrue (is_type (record raw { types = types }) u) → plane_of (record raw { types = types }) u < length
+      raw.planes)
       (sym is) well_formed.type_planes t type);
   sound = record {
     types = λ other is square.
@@ -171,7 +177,13 @@ coordinates area within = all (is_coordinate area.xlo) (is_coordinate area.ylo) 
 pub near_range : (area : Rect) → is_in_range area ≡ true → IsNear area
 near_range area within =
     let each = coordinates area within in
-    record { xlo = small_coordinate area.xlo each.0; ylo = small_coordinate area.ylo each.1; xhi = small_coordinate area.xhi each.2; yhi = small_coordinate area.yhi each.3 }
+    record {
+      xlo = small_coordinate area.xlo each.0;
+      ylo = small_coordinate area.ylo each.1;
+      xhi = small_coordinate area.xhi
+          each.2;
+      yhi = small_coordinate area.yhi each.3;
+    }
 
 pub whole_changed : (kinds : List TypeRec) (raw : RawTech) (change : List TypeId → List TypeId) (area : Rect) (old new : List PlaneValue) → raw.types ≡ kinds
     → ((square : Square) → IsSound raw (change (column_at (layout_on old) square))) → is_in_range area ≡ true → length new ≡ length old
@@ -186,7 +198,8 @@ whole_changed kinds raw change area old new is_raw sound within long changed who
           (sound_same raw (change (column_at (layout_on old) square)) (column_at (layout_on new) square)
           (column_shows (layout_on new) square (change (column_at (layout_on old) square))
           (λ plane below. changed (place_at plane square) ∙ changed_inside change area (layout_on old) (place_at plane square) covered)
-          (λ plane past. space_in raw kinds old (change (column_at (layout_on old) square)) whole is_raw (sound square).0 plane (let few = whole.few in omega arith)))
+          (λ plane past. space_in raw kinds old (change (column_at (layout_on old) square)) whole is_raw (sound square).0 plane
+          (let few = whole.few in omega arith)))
           (sound square))
       | inr outside ↦
           sound_same other (column_at (layout_on old) square) (column_at (layout_on new) square)
@@ -211,23 +224,27 @@ item_at (x ∷ xs) zero below = x
 item_at (x ∷ xs) (suc k) below = item_at xs k (omega arith)
 
 -- Where the changes are set, the plane has the new types: a square that keeps its type lies in no piece.
-pub changed_on_plane : (old new after : Square → ℕ) (pieces : List Piece) → AreChanges old new pieces → AreSet old after pieces → (square : Square) → after square ≡ new square
+pub changed_on_plane : (old new after : Square → ℕ) (pieces : List Piece) → AreChanges old new pieces → AreSet old after pieces → (square : Square)
+    → after square ≡ new square
 changed_on_plane old new after pieces changes are square = elim (cases_eq (new square) (old square)) [
   | inl same ↦
       are.others square (λ piece i covers.
-      let of_piece : ChangesTo old new piece.value square = strip_within (ChangesTo old new piece.value) piece.area (changes.each piece i) square.x square.y covers in
+      let of_piece : ChangesTo old new piece.value square = strip_within (ChangesTo old new piece.value) piece.area (changes.each piece i) square.x
+      square.y covers in
       of_piece.1 (sym same ∙ of_piece.0))
       ∙ sym same
   | inr differ ↦ (let there = changes.whole square differ in are.set there.0 there.1 square there.2 ∙ there.3)
 ]
 
-pub all_changed : (raw : RawTech) (kinds : List TypeRec) (change : List TypeId → List TypeId) (area : Rect) (old new : List PlaneValue) (changes : List (Vec Piece Global)) → raw.types ≡ kinds
+pub all_changed : (raw : RawTech) (kinds : List TypeRec) (change : List TypeId → List TypeId) (area : Rect) (old new : List PlaneValue)
+    (changes : List (Vec Piece Global)) → raw.types ≡ kinds
     → ((square : Square) → IsSound raw (change (column_at (layout_on old) square))) → IsWhole kinds old → length changes ≡ length old
     → AreAllChanges (layout_on old) (with_columns change area (layout_on old)) changes → AreAllSet old new changes
     → (place : Place) → layout_on new place ≡ with_columns change area (layout_on old) place
 all_changed raw kinds change area old new changes is_raw sound whole one_each are are_set place = elim (cases_lt place.plane (length changes)) [
   | inl below ↦ (let other = item_at changes place.plane below in
-      changed_on_plane (kinds_on (layout_on old) place.plane) (kinds_on (with_columns change area (layout_on old)) place.plane) (kinds_on (layout_on new) place.plane)
+      changed_on_plane (kinds_on (layout_on old) place.plane) (kinds_on (with_columns change area (layout_on old)) place.plane)
+      (kinds_on (layout_on new) place.plane)
       (pieces_for changes place.plane other) (are place.plane other below) (are_set.each place.plane other below) place.square)
   | inr above ↦ (let past : length old ≤ place.plane = omega arith in
       let long : length new ≡ length old = are_set.so_many in
@@ -240,7 +257,8 @@ all_changed raw kinds change area old new changes is_raw sound whole one_each ar
 ]
 
 -- a limit that is passed on some plane
-pub passes_limit : (planes : List PlaneValue) (new : Layout) (changes : List (Vec Piece Global)) → AreAllChanges (layout_on planes) new changes → PassesSomewhere planes changes
+pub passes_limit : (planes : List PlaneValue) (new : Layout) (changes : List (Vec Piece Global)) → AreAllChanges (layout_on planes) new changes
+    → PassesSomewhere planes changes
     → PassesPaintLimit (layout_on planes) new
 passes_limit planes new changes are some =
     let other = item_at changes some.plane some.there in
@@ -248,18 +266,16 @@ passes_limit planes new changes are some =
 
 -- ---- the changes can be set
 
-strip_proper : (S : Square → Type 0) (area : Rect) → IsStrip S area → IsProper area
-strip_proper S area strip = record { wide = (strip.runs area.ylo (omega (arith, ints)) strip.high).long; high = strip.high }
-
 -- a strip of squares that lie in a near area is near
 strip_near : (S : Square → Type 0) (area strip : Rect) → IsNear area → ((square : Square) → S square → Covers area square) → IsStrip S strip → IsNear strip
 strip_near S area strip near inside is =
-    let proper = strip_proper S strip is in
+    let proper = strip_is_proper S strip is in
     let wide : strip.xlo <ℤ strip.xhi = proper.wide in
     let high : strip.ylo <ℤ strip.yhi = proper.high in
     let first : Covers area (record { x = strip.xlo; y = strip.ylo }) =
     inside (record { x = strip.xlo; y = strip.ylo })
-    (strip_within S strip is strip.xlo strip.ylo (record { right_of_xlo = omega (arith, ints); left_of_xhi = wide; above_ylo = omega (arith, ints); below_yhi = high })) in
+    (strip_within S strip is strip.xlo strip.ylo
+    (record { right_of_xlo = omega (arith, ints); left_of_xhi = wide; above_ylo = omega (arith, ints); below_yhi = high })) in
     let last : Covers area (record { x = strip.xhi -ℤ pos 1; y = strip.yhi -ℤ pos 1 }) =
     inside (record { x = strip.xhi -ℤ pos 1; y = strip.yhi -ℤ pos 1 })
     (strip_within S strip is (strip.xhi -ℤ pos 1) (strip.yhi -ℤ pos 1)
@@ -289,15 +305,18 @@ changes_apart old new pieces are i j d less below square c c' =
     let first : IsStrip (ChangesTo old new a.value) a.area = are.each a (In-get_or pieces i d (omega arith)) in
     let second : IsStrip (ChangesTo old new b.value) b.area = are.each b (In-get_or pieces j d below) in
     let value : a.value ≡ b.value =
-    sym (strip_within (ChangesTo old new a.value) a.area first square.x square.y c).0 ∙ (strip_within (ChangesTo old new b.value) b.area second square.x square.y c').0 in
+    sym (strip_within (ChangesTo old new a.value) a.area first square.x square.y c).0
+    ∙ (strip_within (ChangesTo old new b.value) b.area second square.x square.y c').0 in
     stands_before_itself a.area b.area
     (one_strip_at (ChangesTo old new b.value) a.area b.area (subst (λ (v : ℕ). IsStrip (ChangesTo old new v) a.area) value first) second square c c')
     (are.ordered i j d less below)
 
-pub changes_settable : (old new : Square → ℕ) (area : Rect) (pieces : List Piece) → IsNear area → ((square : Square) → new square ≢ old square → Covers area square)
+pub changes_settable : (old new : Square → ℕ) (area : Rect) (pieces : List Piece) → IsNear area
+    → ((square : Square) → new square ≢ old square → Covers area square)
     → AreChanges old new pieces → IsSettable pieces
 changes_settable old new area pieces near inside are = record {
-  proper = λ k d below. (let piece = get_or pieces k d in strip_proper (ChangesTo old new piece.value) piece.area (are.each piece (In-get_or pieces k d below)));
+  proper = λ k d below. (let piece = get_or pieces k d in strip_is_proper (ChangesTo old new piece.value) piece.area
+      (are.each piece (In-get_or pieces k d below)));
   near = λ k d below. (let piece = get_or pieces k d in
       strip_near (ChangesTo old new piece.value) area piece.area near (λ square changes. inside square (λ same. changes.1 (sym same ∙ changes.0)))
       (are.each piece (In-get_or pieces k d below)));
@@ -305,7 +324,8 @@ changes_settable old new area pieces near inside are = record {
 }
 
 -- outside of the area nothing changes
-pub changes_inside : (change : List TypeId → List TypeId) (area : Rect) (layout : Layout) (place : Place) → with_columns change area layout place ≢ layout place → Covers area place.square
+pub changes_inside : (change : List TypeId → List TypeId) (area : Rect) (layout : Layout) (place : Place)
+    → with_columns change area layout place ≢ layout place → Covers area place.square
 changes_inside change area layout place differ = elim (cases_Bool (is_covered area place.square)) [
   | inl covered ↦ Covers-is_covered area place.square covered
   | inr outside ↦ absurd (differ (changed_outside change area layout place outside))
@@ -318,7 +338,8 @@ all_settable change area layout changes near are plane other below =
     (λ square differ. changes_inside change area layout (place_at plane square) differ) (are plane other below)
 
 -- the changes of one more plane
-pub changes_more : (old new : Layout) (changes after : List (Vec Piece Global)) (more : Vec Piece Global) (index : ℕ) → length changes ≡ index → after ≡ changes ++ more ∷ []
+pub changes_more : (old new : Layout) (changes after : List (Vec Piece Global)) (more : Vec Piece Global) (index : ℕ) → length changes ≡ index
+    → after ≡ changes ++ more ∷ []
     → AreChanges (kinds_on old index) (kinds_on new index) more.items → AreAllChanges old new changes → (length after ≡ index + 1) × AreAllChanges old new after
 changes_more old new changes after more index long is more_is are = (
   ap length is ∙ length-append changes (more ∷ []) ∙ omega arith,
@@ -332,12 +353,14 @@ changes_more old new changes after more index long is more_is are = (
         | inr apart ↦
             let before : plane < length changes = omega arith in
             subst (λ (v : Vec Piece Global). AreChanges (kinds_on old plane) (kinds_on new plane) v.items)
-            (sym (ap (λ (list : List (Vec Piece Global)). get_or list plane other) is ∙ get_or_append_left changes (more ∷ []) other plane before)) (are plane other before)
+            (sym (ap (λ (list : List (Vec Piece Global)). get_or list plane other) is ∙ get_or_append_left changes (more ∷ []) other plane before))
+            (are plane other before)
       ],
 )
 
 -- planes with the same numbers in the place of those that pieces were set on
-pub all_set_from : (old now new : List PlaneValue) (changes : List (Vec Piece Global)) → length now ≡ length old → ((place : Place) → layout_on now place ≡ layout_on old place)
+pub all_set_from : (old now new : List PlaneValue) (changes : List (Vec Piece Global)) → length now ≡ length old
+    → ((place : Place) → layout_on now place ≡ layout_on old place)
     → AreAllSet now new changes → AreAllSet old new changes
 all_set_from old now new changes long same are = record {
   so_many = are.so_many ∙ long;
@@ -346,7 +369,8 @@ all_set_from old now new changes long same are = record {
 }
 
 -- what becomes of planes that are made ready and then have the changes of a stroke set
-pub stroke_done : (brush : Brush) (raw : RawTech) (layer : ℕ) (area : Rect) (old now new : List PlaneValue) (changes : List (Vec Piece Global)) → IsWellFormed raw → layer < length raw.layers
+pub stroke_done : (brush : Brush) (raw : RawTech) (layer : ℕ) (area : Rect) (old now new : List PlaneValue) (changes : List (Vec Piece Global))
+    → IsWellFormed raw → layer < length raw.layers
     → IsWhole raw.types old → is_in_range area ≡ true → length changes ≡ length old
     → AreAllChanges (layout_on old) (with_columns (brushed brush raw layer) area (layout_on old)) changes
     → length now ≡ length old → ((place : Place) → layout_on now place ≡ layout_on old place) → AreAllSet now new changes

@@ -14,11 +14,13 @@ use Rattle.cell_paint.specs.Painting.{kinds_on}
 use Rattle.cell_paint.specs.Paints.{PlaneValue, Paint, number_on, no_plane, layout_of, seen_kind}
 
 -- a plane that was read shows what the paint has on it
-pub plane_seen : (paint : Paint) (planes : List PlaneValue) (index plane : ℕ) (read : PlaneValue) → planes ≡ paint.planes → index ≡ plane → index < length planes
+pub plane_seen : (paint : Paint) (planes : List PlaneValue) (index plane : ℕ) (read : PlaneValue) → planes ≡ paint.planes → index ≡ plane
+    → index < length planes
     → read ≡ get_or planes index read → number_on read ≡ kinds_on (layout_of paint) plane
 plane_seen paint planes index plane read same here below is =
     ap (λ (p : PlaneValue). number_on p)
-    (is ∙ get_or_default planes index read no_plane below ∙ ap (λ (n : ℕ). get_or planes n no_plane) here ∙ ap (λ (list : List PlaneValue). get_or list plane no_plane) same)
+    (is ∙ get_or_default planes index read no_plane below ∙ ap (λ (n : ℕ). get_or planes n no_plane) here
+    ∙ ap (λ (list : List PlaneValue). get_or list plane no_plane) same)
 
 -- the area of a tile with its type
 abbrev pub with_type : Piece → Rect × TypeId

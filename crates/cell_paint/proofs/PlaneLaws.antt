@@ -1,5 +1,6 @@
 -- Lists of planes: setting one plane, setting pieces plane after plane, and the box of all planes.
-use Rattle.std.proofs.Common.{◌≡◌, ◌≢◌, inl, inr, ℕ, ◌+◌, ◌<◌, ◌≤◌, List, length, get_or, set, sym, ◌∙◌, ap, subst, arith, Option, Some, None, get_or-set_same, get_or-set_other}
+use Rattle.std.proofs.Common.{◌≡◌, ◌≢◌, inl, inr, ℕ, ◌+◌, ◌<◌, ◌≤◌, List, length, get_or, set, sym, ◌∙◌}
+use Rattle.std.proofs.Common.{ap, subst, arith, Option, Some, None, get_or-set_same, get_or-set_other}
 use Rattle.std.proofs.Math.ListN.{length-set}
 use Rattle.std.specs.Prelude.{MatchOption, slice_index_or, Vec}
 use Rattle.std.specs.declared.alloc.Global.{Global}
@@ -8,7 +9,7 @@ use Rattle.std.proofs.lemmas.List.{get_or_default, get_or_past}
 use Rattle.geo_core.specs.declared.squares.Square.{Square}
 use Rattle.geo_core.specs.declared.squares.Rect.{Rect}
 use Rattle.geo_core.specs.declared.squares.Piece.{Piece}
-use Rattle.geo_core.specs.Areas.{LiesWithin, joined_area}
+use Rattle.geo_core.specs.Areas.{LiesWithin, joined_rect}
 use Rattle.geo_core.specs.Covering.{Covers}
 use Rattle.geo_core.specs.Planes.{AreSame, AreSet, IsBox}
 use Rattle.geo_core.proofs.CoveringLaws.{covers_joined_left, covers_joined_right, joined_within}
@@ -30,7 +31,8 @@ space_past planes plane square past = ap (λ (p : PlaneValue). number_on p squar
 pub set_here : (planes : List PlaneValue) (index : ℕ) (new : PlaneValue) → index < length planes → plane_at (set planes index new) index ≡ new
 set_here planes index new below = get_or-set_same planes index new no_plane below
 
-pub set_elsewhere : (planes : List PlaneValue) (index plane : ℕ) (new : PlaneValue) → plane ≢ index → plane_at (set planes index new) plane ≡ plane_at planes plane
+pub set_elsewhere : (planes : List PlaneValue) (index plane : ℕ) (new : PlaneValue) → plane ≢ index
+    → plane_at (set planes index new) plane ≡ plane_at planes plane
 set_elsewhere planes index plane new apart = get_or-set_other planes index plane new no_plane apart
 
 -- ---- the planes below an index have taken what their pieces need
@@ -41,7 +43,8 @@ pub record IsReservedUpTo (index : ℕ) (old now : List PlaneValue) (changes : L
   pub ready : (plane : ℕ) (other : Vec Piece Global) → plane < index → IsReadyFor (plane_at now plane) (pieces_for changes plane other)
 
 -- a plane with the same numbers changes no place
-pub same_everywhere : (index : ℕ) (old now : List PlaneValue) (new : PlaneValue) → index < length now → ((place : Place) → layout_on now place ≡ layout_on old place)
+pub same_everywhere : (index : ℕ) (old now : List PlaneValue) (new : PlaneValue) → index < length now
+    → ((place : Place) → layout_on now place ≡ layout_on old place)
     → AreSame (number_on (plane_at now index)) (number_on new) → (place : Place) → layout_on (set now index new) place ≡ layout_on old place
 same_everywhere index old now new below same alike place = elim (cases_eq place.plane index) [
   | inl here ↦
@@ -65,7 +68,8 @@ reserved_more index old now changes new below alike ready are = record {
         subst (λ (n : ℕ). IsReadyFor (plane_at (set now index new) n) (pieces_for changes n other)) (sym here)
         (subst (λ (p : PlaneValue). IsReadyFor p (pieces_for changes index other)) (sym (set_here now index new below)) (ready other))
     | inr apart ↦
-        subst (λ (p : PlaneValue). IsReadyFor p (pieces_for changes plane other)) (sym (set_elsewhere now index plane new apart)) (are.ready plane other (omega arith))
+        subst (λ (p : PlaneValue). IsReadyFor p (pieces_for changes plane other)) (sym (set_elsewhere now index plane new apart))
+        (are.ready plane other (omega arith))
   ];
 }
 
@@ -73,7 +77,8 @@ reserved_more index old now changes new below alike ready are = record {
 
 pub record IsCommittedUpTo (index : ℕ) (old now : List PlaneValue) (changes : List (Vec Piece Global)) : Type 0 where
   pub long : length now ≡ length old
-  pub each : (plane : ℕ) (other : Vec Piece Global) → plane < index → AreSet (number_on (plane_at old plane)) (number_on (plane_at now plane)) (pieces_for changes plane other)
+  pub each : (plane : ℕ) (other : Vec Piece Global) → plane < index
+      → AreSet (number_on (plane_at old plane)) (number_on (plane_at now plane)) (pieces_for changes plane other)
   pub rest : (plane : ℕ) → index ≤ plane → plane_at now plane ≡ plane_at old plane
 
 pub committed_more : (index : ℕ) (old now : List PlaneValue) (changes : List (Vec Piece Global)) (new : PlaneValue) → index < length now
@@ -87,7 +92,8 @@ committed_more index old now changes new below are_set are = record {
         (subst (λ (p : PlaneValue). AreSet (number_on (plane_at old index)) (number_on p) (pieces_for changes index other)) (sym (set_here now index new below))
         (subst (λ (p : PlaneValue). AreSet (number_on p) (number_on new) (pieces_for changes index other)) (are.rest index (omega arith)) (are_set other)))
     | inr apart ↦
-        subst (λ (p : PlaneValue). AreSet (number_on (plane_at old plane)) (number_on p) (pieces_for changes plane other)) (sym (set_elsewhere now index plane new apart))
+        subst (λ (p : PlaneValue). AreSet (number_on (plane_at old plane)) (number_on p) (pieces_for changes plane other))
+        (sym (set_elsewhere now index plane new apart))
         (are.each plane other (omega arith))
   ];
   rest = λ plane past. set_elsewhere now index plane new (λ same. omega arith) ∙ are.rest plane (omega arith);
@@ -129,7 +135,8 @@ in_box planes count area box place here material =
     box.covers place.square (λ zero'. material (ap (λ (n : ℕ). number_on (plane_at planes n) place.square) here ∙ zero'))
 
 -- the first rectangle
-pub box_begun : (planes : List PlaneValue) (count : ℕ) (area : Rect) → IsBox (number_on (plane_at planes count)) area → BoxBelow planes count None → BoxBelow planes (count + 1) (Some area)
+pub box_begun : (planes : List PlaneValue) (count : ℕ) (area : Rect) → IsBox (number_on (plane_at planes count)) area → BoxBelow planes count None
+    → BoxBelow planes (count + 1) (Some area)
 box_begun planes count area box none = record {
   place = place_at count box.square;
   material = box.material;
@@ -142,7 +149,7 @@ box_begun planes count area box none = record {
 
 -- one more rectangle
 pub box_grown : (planes : List PlaneValue) (count : ℕ) (old area : Rect) → IsBox (number_on (plane_at planes count)) area → BoxBelow planes count (Some old)
-    → BoxBelow planes (count + 1) (Some (joined_area old area))
+    → BoxBelow planes (count + 1) (Some (joined_rect old area))
 box_grown planes count old area box some = record {
   place = some.place;
   material = some.material;
@@ -172,11 +179,13 @@ box_whole planes count (Some box) all some = record {
 
 -- ---- the pieces for one plane
 
-pub settable_at : (changes : List (Vec Piece Global)) (index : ℕ) (pieces : Vec Piece Global) → AreSettable changes → index < length changes → pieces ≡ get_or changes index pieces
+pub settable_at : (changes : List (Vec Piece Global)) (index : ℕ) (pieces : Vec Piece Global) → AreSettable changes → index < length changes
+    → pieces ≡ get_or changes index pieces
     → IsSettable pieces.items
 settable_at changes index pieces all below is = subst (λ (p : Vec Piece Global). IsSettable p.items) (sym is) (all index pieces below)
 
 -- the pieces read at an index are those for the plane
-pub pieces_read : (changes : List (Vec Piece Global)) (index : ℕ) (pieces other : Vec Piece Global) → index < length changes → pieces ≡ get_or changes index pieces
+pub pieces_read : (changes : List (Vec Piece Global)) (index : ℕ) (pieces other : Vec Piece Global) → index < length changes
+    → pieces ≡ get_or changes index pieces
     → pieces.items ≡ pieces_for changes index other
 pieces_read changes index pieces other below is = ap (λ (p : Vec Piece Global). p.items) (is ∙ get_or_default changes index pieces other below)

@@ -1,6 +1,7 @@
 -- What painting and erasing do to a layout, square by square, and the limit that they may pass.
-use Rattle.std.specs.Prelude.{◌≡◌, ◌≢◌, ◌&&◌, ℕ, ℤ, pos, neg_ℤ, int_le, Bool, if◌then◌else◌, List, [], ◌∷◌, map, AllPairs}
+use Rattle.std.specs.Prelude.{◌≡◌, ◌≢◌, ◌&&◌, ℕ, ℤ, neg_ℤ, int_le, Bool, if◌then◌else◌, List, [], ◌∷◌, map, AllPairs}
 use Rattle.finite_sets.specs.Lists.{In}
+use Rattle.geo_core.specs.declared.limits.TheConstants.{PAINT_EDGE}
 use Rattle.geo_core.specs.declared.squares.Square.{Square}
 use Rattle.geo_core.specs.declared.squares.Rect.{Rect}
 use Rattle.geo_core.specs.declared.squares.Piece.{Piece}
@@ -44,19 +45,17 @@ with_paint raw layer area layout = with_columns (painted_column raw layer) area 
 abbrev pub with_erased : RawTech → ℕ → Rect → Layout → Layout
 with_erased raw layer area layout = with_columns (erased_column raw layer) area layout
 
--- the numbers that may stand as coordinates of paint: those of at most 2^26 - 6 in absolute value
-abbrev pub most : ℤ
-most = pos 67108858
-
+-- paint may have the coordinate: it is at most the edge of paint in absolute value
 abbrev pub is_coordinate : ℤ → Bool
-is_coordinate z = int_le (neg_ℤ most) z && int_le z most
+is_coordinate z = int_le (neg_ℤ PAINT_EDGE) z && int_le z PAINT_EDGE
 
+-- paint may go over the rectangle
 abbrev pub is_in_range : Rect → Bool
 is_in_range area = is_coordinate area.xlo && is_coordinate area.ylo && is_coordinate area.xhi && is_coordinate area.yhi
 
 -- all squares that may have paint
 abbrev pub paint_range : Rect
-paint_range = record { xlo = neg_ℤ most; ylo = neg_ℤ most; xhi = most; yhi = most }
+paint_range = record { xlo = neg_ℤ PAINT_EDGE; ylo = neg_ℤ PAINT_EDGE; xhi = PAINT_EDGE; yhi = PAINT_EDGE }
 
 -- The square comes to have this type, and had another.
 abbrev pub ChangesTo : (Square → ℕ) → (Square → ℕ) → ℕ → Square → Type 0

@@ -10,7 +10,7 @@ pub enum PaintFault {
     /// The area has no square.
     #[error("empty rectangle")]
     EmptyRect,
-    /// A coordinate of the area is outside of the range -67108858 to 67108858.
+    /// A coordinate of the area is more than `PAINT_EDGE` in absolute value.
     #[error("out of range")]
     OutOfRange,
     /// A plane would need more tiles than there may be.

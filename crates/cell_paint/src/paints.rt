@@ -1,5 +1,6 @@
 //! The paint of a cell.
-ghost use Rattle.std.specs.Prelude.{◌≡◌, ◌≢◌, ◌<◌, ◌↔◌, ◌&&◌, false, true, length, IfOk, IfSome, IsNone, OnOk, OnErr, IsErrOf, IsOkUnless, Some, map, All, vec_len, [], ◌∷◌, ◌++◌};
+ghost use Rattle.std.specs.Prelude.{◌≡◌, ◌≢◌, ◌<◌, ◌↔◌, ◌&&◌, false, true, length, IfOk, IfSome, IsNone, OnOk};
+ghost use Rattle.std.specs.Prelude.{OnErr, IsErrOf, IsOkUnless, Some, map, All, vec_len, [], ◌∷◌, ◌++◌};
 ghost use Rattle.geo_core.specs.declared.squares.Square.{Square as OneSquare};
 ghost use Rattle.geo_core.specs.Areas.{has_square, IsNear};
 ghost use Rattle.geo_core.specs.Covering.{IsProper};
@@ -16,25 +17,22 @@ use crate::brushes::{Brush, Stroke};
 use crate::changes::changes_on;
 use crate::faults::PaintFault;
 use crate::planes::{PaintPlane, box_of, commit_all, kind_at, reserve_all};
-use geo_core::{List, Piece, Plane, Rect, Square};
+use geo_core::{List, PAINT_EDGE, Piece, Plane, Rect, Square};
 use std::alloc::{AllocError, Global};
 use std::marker::Model;
 use tech_model::{LayerId, Layers, Tech, TechFault, TypeId, TypeRec};
 
-/// The largest coordinate that paint may have. The least is its negative.
-const MOST: i64 = 67_108_858;
-
 /// All squares that may have paint.
 pub const PAINT_RANGE: Rect = Rect {
-    xlo: -MOST,
-    ylo: -MOST,
-    xhi: MOST,
-    yhi: MOST,
+    xlo: -PAINT_EDGE,
+    ylo: -PAINT_EDGE,
+    xhi: PAINT_EDGE,
+    yhi: PAINT_EDGE,
 };
 
 /// The paint of a cell: the tile type at each square of each plane of a technology.
 ///
-/// Each plane has types of its own and space alone, all paint lies within -67108858..67108858, and where one
+/// Each plane has types of its own and space alone, all paint lies from `-PAINT_EDGE` to `PAINT_EDGE`, and where one
 /// image of a contact stands, all of them stand. A call that is handed a technology asks for the one that the
 /// paint was made for, which it knows by its tile types.
 #[derive(Drop)]
@@ -319,5 +317,5 @@ fn are_coordinates(first: i64, second: i64) -> bool
 pub fn is_coordinate(value: i64) -> bool
     ensures { result ≡ is_coordinate value }
 {
-    -MOST <= value && value <= MOST
+    -PAINT_EDGE <= value && value <= PAINT_EDGE
 }

@@ -88,37 +88,61 @@ shared_abut a b proper proper' shared =
     (λ not_upon_back. absurd (omega (arith, ints))))))
 
 -- neighbours in one row, of which neither lies in the other's rectangle
-right_shares : (a b : Rect) (s t : Square) → Covers a s → Covers b t → (Covers a t → ⊥) → (Covers b s → ⊥) → t.x ≡ s.x +ℤ pos 1 → s.y ≡ t.y → pos 0 <ℤ shared_beside a b
+right_shares : (a b : Rect) (s t : Square) → Covers a s → Covers b t → (Covers a t → ⊥) → (Covers b s → ⊥) → t.x ≡ s.x +ℤ pos 1 → s.y ≡ t.y
+    → pos 0 <ℤ shared_beside a b
 right_shares a b s t p q not_a not_b right row =
     let ends : a.xhi ≤ℤ t.x =
     by_lt_z t.x a.xhi
-    (λ inside. absurd (not_a (record { right_of_xlo = omega (arith, ints); left_of_xhi = inside; above_ylo = omega (arith, ints); below_yhi = omega (arith, ints) })))
+    (λ inside. absurd (not_a (record {
+      right_of_xlo = omega (arith, ints);
+      left_of_xhi = inside;
+      above_ylo = omega (arith, ints);
+      below_yhi = omega (arith, ints);
+    })))
     (λ outside. outside) in
     let begins : t.x ≤ℤ b.xlo =
     by_lt_z s.x b.xlo
     (λ outside. omega (arith, ints))
-    (λ inside. absurd (not_b (record { right_of_xlo = inside; left_of_xhi = omega (arith, ints); above_ylo = omega (arith, ints); below_yhi = omega (arith, ints) }))) in
+    (λ inside. absurd (not_b (record {
+      right_of_xlo = inside;
+      left_of_xhi = omega (arith, ints);
+      above_ylo = omega (arith, ints);
+      below_yhi = omega (arith, ints);
+    }))) in
     let meets : a.xhi ≡ b.xlo = omega (arith, ints) in
     elim (shared_beside-cases a b) [
       | inr k ↦ absurd (k.0 meets)
-      | inl k ↦ subst (λ (z : ℤ). pos 0 <ℤ z) (sym k.1) (overlap-common a.ylo a.yhi b.ylo b.yhi s.y p.above_ylo p.below_yhi (omega (arith, ints)) (omega (arith, ints)))
+      | inl k ↦ subst (λ (z : ℤ). pos 0 <ℤ z) (sym k.1) (overlap-common a.ylo a.yhi b.ylo b.yhi s.y p.above_ylo p.below_yhi (omega (arith, ints))
+          (omega (arith, ints)))
     ]
 
 -- neighbours in one column, of which neither lies in the other's rectangle
-up_shares : (a b : Rect) (s t : Square) → Covers a s → Covers b t → (Covers a t → ⊥) → (Covers b s → ⊥) → s.x ≡ t.x → t.y ≡ s.y +ℤ pos 1 → pos 0 <ℤ shared_upon a b
+up_shares : (a b : Rect) (s t : Square) → Covers a s → Covers b t → (Covers a t → ⊥) → (Covers b s → ⊥) → s.x ≡ t.x → t.y ≡ s.y +ℤ pos 1
+    → pos 0 <ℤ shared_upon a b
 up_shares a b s t p q not_a not_b column up =
     let ends : a.yhi ≤ℤ t.y =
     by_lt_z t.y a.yhi
-    (λ inside. absurd (not_a (record { right_of_xlo = omega (arith, ints); left_of_xhi = omega (arith, ints); above_ylo = omega (arith, ints); below_yhi = inside })))
+    (λ inside. absurd (not_a (record {
+      right_of_xlo = omega (arith, ints);
+      left_of_xhi = omega (arith, ints);
+      above_ylo = omega (arith, ints);
+      below_yhi = inside;
+    })))
     (λ outside. outside) in
     let begins : t.y ≤ℤ b.ylo =
     by_lt_z s.y b.ylo
     (λ outside. omega (arith, ints))
-    (λ inside. absurd (not_b (record { right_of_xlo = omega (arith, ints); left_of_xhi = omega (arith, ints); above_ylo = inside; below_yhi = omega (arith, ints) }))) in
+    (λ inside. absurd (not_b (record {
+      right_of_xlo = omega (arith, ints);
+      left_of_xhi = omega (arith, ints);
+      above_ylo = inside;
+      below_yhi = omega (arith, ints);
+    }))) in
     let meets : a.yhi ≡ b.ylo = omega (arith, ints) in
     elim (shared_upon-cases a b) [
       | inr k ↦ absurd (k.0 meets)
-      | inl k ↦ subst (λ (z : ℤ). pos 0 <ℤ z) (sym k.1) (overlap-common a.xlo a.xhi b.xlo b.xhi s.x p.right_of_xlo p.left_of_xhi (omega (arith, ints)) (omega (arith, ints)))
+      | inl k ↦ subst (λ (z : ℤ). pos 0 <ℤ z) (sym k.1) (overlap-common a.xlo a.xhi b.xlo b.xhi s.x p.right_of_xlo p.left_of_xhi (omega (arith, ints))
+          (omega (arith, ints)))
     ]
 
 -- one part of the shared length is not 0

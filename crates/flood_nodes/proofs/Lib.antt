@@ -1,10 +1,9 @@
 pub mod Abutting
-pub mod Combs
 pub mod Numbers
 pub mod RegionLaws
 pub mod TileContacts
 pub mod TileLaws
 pub mod TileLinks
-pub mod TileLists
 pub mod TileMeasures
+pub mod TileRects
 pub mod Walks

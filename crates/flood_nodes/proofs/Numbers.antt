@@ -5,7 +5,8 @@ use Rattle.finite_sets.specs.Least.{IsLeast}
 use Rattle.partition.specs.Marks.{HasMark, IsNumbered}
 
 -- no number before the first that has a mark has that mark or a greater one
-no_earlier : (marks : List ℕ) (count i j : ℕ) → IsNumbered marks count → i < length marks → IsLeast ◌≤◌ (HasMark marks (get_or marks i 0)) i → j < i → get_or marks j 0 < get_or marks i 0
+no_earlier : (marks : List ℕ) (count i j : ℕ) → IsNumbered marks count → i < length marks → IsLeast ◌≤◌ (HasMark marks (get_or marks i 0)) i → j < i
+    → get_or marks j 0 < get_or marks i 0
 no_earlier marks count i j numbered within first before = elim (cases_lt (get_or marks j 0) (get_or marks i 0)) [
   | inl less ↦ less
   | inr no_less ↦ elim (cases_eq (get_or marks i 0) (get_or marks j 0)) [

@@ -11,7 +11,7 @@ use Rattle.partition.specs.Marks.{IsNumbered}
 use Rattle.layout_model.specs.Places.{Place}
 use Rattle.layout_model.specs.Layouts.{same_material}
 use Rattle.layout_model.specs.Links.{AreLinked, AreOneNode}
-use Rattle.flood_nodes.specs.Tiles.{AreTiles, layout_of, LiesIn}
+use Rattle.flood_nodes.specs.Tiles.{AreTiles, layout_of_tiles, LiesIn}
 use Rattle.flood_nodes.specs.Regions.{AreRegions}
 use Rattle.flood_nodes.proofs.Numbers.{earlier_or_next}
 use Rattle.flood_nodes.proofs.TileLaws.{material_lies_in_tile, lies_in_one_tile}
@@ -31,14 +31,15 @@ module _ (pieces : List Piece) (Link : ℕ → ℕ → Type 0) (tiles : AreTiles
   ]
 
   -- a link between places joins their pieces
-  linked_joined : (i j : ℕ) (a b : Place) → LiesIn pieces i a → LiesIn pieces j b → AreLinked same_material (layout_of pieces) a b → IsJoined Link i j
+  linked_joined : (i j : ℕ) (a b : Place) → LiesIn pieces i a → LiesIn pieces j b → AreLinked same_material (layout_of_tiles pieces) a b → IsJoined Link i j
   linked_joined i j a b p q link = elim (cases_eq i j) [
     | inl same ↦ Chain-same (EitherWay Link) i j same
     | inr other ↦ touching_joined i j other (link_touches pieces i j a b tiles p q link other)
   ]
 
   -- places of one node lie in pieces that are joined
-  joined_from_node : {a b : Place} → AreOneNode same_material (layout_of pieces) a b → (i j : ℕ) → LiesIn pieces i a → LiesIn pieces j b → IsJoined Link i j
+  joined_from_node : {a b : Place} → AreOneNode same_material (layout_of_tiles pieces) a b → (i j : ℕ) → LiesIn pieces i a → LiesIn pieces j b
+      → IsJoined Link i j
   joined_from_node stay i j p q = Chain-same (EitherWay Link) i j (lies_in_one_tile pieces i j _ tiles p q)
   joined_from_node (go {a = a} {b = b} link rest) i j p q =
       let lies = material_lies_in_tile pieces b link.there in
@@ -50,14 +51,16 @@ module _ (pieces : List Piece) (Link : ℕ → ℕ → Type 0) (tiles : AreTiles
   either_touches i j (inr link) = TouchAlike-sym pieces j i (join.sound j i link)
 
   -- places of pieces that are joined are of one node
-  node_from_joined : {i j : ℕ} → IsJoined Link i j → (a b : Place) → LiesIn pieces i a → LiesIn pieces j b → AreOneNode same_material (layout_of pieces) a b
+  node_from_joined : {i j : ℕ} → IsJoined Link i j → (a b : Place) → LiesIn pieces i a → LiesIn pieces j b
+      → AreOneNode same_material (layout_of_tiles pieces) a b
   node_from_joined (stay {a = i}) a b p q = within_tile pieces i a b tiles p q
   node_from_joined (go {a = i} {b = k} either rest) a b p q =
       let across = crossing pieces i k tiles (either_touches i k either) in
       Chain-append (within_tile pieces i a across.from tiles p across.in_first) (go across.link (node_from_joined rest across.to b across.in_second q))
 
   -- the numbers of the classes that the links make are right
-  pub AreRegions-from_labels : (labels : List ℕ) (count : ℕ) → length labels ≡ length pieces → Divides labels Link → IsNumbered labels count → AreRegions pieces labels
+  pub AreRegions-from_labels : (labels : List ℕ) (count : ℕ) → length labels ≡ length pieces → Divides labels Link → IsNumbered labels count
+      → AreRegions pieces labels
   AreRegions-from_labels labels count long divides numbered = record {
     one_each = long;
     joined = λ i j a b p q.

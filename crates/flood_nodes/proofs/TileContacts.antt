@@ -13,35 +13,18 @@ use Rattle.finite_sets.proofs.Members.{In-map, In-map_source, In-filter, In-filt
 use Rattle.rect_contacts.specs.declared.contacts.Contact.{Contact}
 use Rattle.geo_core.specs.Areas.{AreDisjoint, IsNear}
 use Rattle.rect_contacts.specs.Rects.{rect_at}
-use Rattle.rect_contacts.specs.Contacts.{shared_length, IsContact}
+use Rattle.rect_contacts.specs.Contacts.{shared_length, IsSharedEdge}
 use Rattle.partition.specs.Divides.{IsPair}
 use Rattle.flood_nodes.specs.Tiles.{AreTiles}
-use Rattle.flood_nodes.specs.Alike.{areas_of, piece_at, is_alike, alike_pairs}
+use Rattle.flood_nodes.specs.Alike.{rects_of, piece_at, is_alike, alike_pairs}
 use Rattle.flood_nodes.proofs.TileLinks.{TouchAlike}
 use Rattle.flood_nodes.proofs.RegionLaws.{JoinAlike}
 
--- what `touching` asks of the areas of tiles
-pub areas_proper : (pieces : List Piece) → AreTiles pieces → All IsProper (areas_of pieces)
-areas_proper pieces tiles = All-map IsProper (λ (p : Piece). p.area) pieces tiles.proper
-
-pub areas_near : (pieces : List Piece) → AreTiles pieces → All IsNear (areas_of pieces)
-areas_near pieces tiles = All-map IsNear (λ (p : Piece). p.area) pieces tiles.near
-
--- the area at a place past the default of the read
-area_at : (pieces : List Piece) (index : ℕ) (d : Rect) (e : Piece) → index < length pieces → get_or (areas_of pieces) index d ≡ (get_or pieces index e).area
-area_at pieces index d e within = get_or-map (λ (p : Piece). p.area) pieces index e d within
-
-pub areas_disjoint : (pieces : List Piece) → AreTiles pieces → AllPairs AreDisjoint (areas_of pieces)
-areas_disjoint pieces tiles = λ i j d less within.
-    let inside : j < length pieces = omega (arith, length-map pieces (λ (p : Piece). p.area)) in
-    let e : Piece = record { area = d; value = 0 } in
-    rw (area_at pieces i d e (omega arith), area_at pieces j d e inside) (tiles.apart i j e less inside)
-
 -- the numbers of a contact are places of pieces
-second_within : (pieces : List Piece) (contact : Contact) → IsContact (areas_of pieces) contact → contact.second < length pieces
+second_within : (pieces : List Piece) (contact : Contact) → IsSharedEdge (rects_of pieces) contact → contact.second < length pieces
 second_within pieces contact is = omega (arith, is.in_list, length-map pieces (λ (p : Piece). p.area))
 
-pub contacts_within : (pieces : List Piece) (contacts : List Contact) → Lists (IsContact (areas_of pieces)) contacts
+pub contacts_within : (pieces : List Piece) (contacts : List Contact) → Lists (IsSharedEdge (rects_of pieces)) contacts
     → All (λ contact. (contact.first < length pieces) × (contact.second < length pieces)) contacts
 contacts_within pieces contacts lists = λ k d within.
     let is = lists.2 (get_or contacts k d) (In-get_or contacts k d within) in
@@ -55,15 +38,17 @@ test_from_same : (m n : ℕ) → m ≡ n → eqb m n ≡ true
 test_from_same m n same = grind (arith, nat_tests)
 
 -- a contact between pieces of one value
-contact_touches : (pieces : List Piece) (contact : Contact) → IsContact (areas_of pieces) contact → is_alike pieces contact ≡ true → TouchAlike pieces contact.first contact.second
+contact_touches : (pieces : List Piece) (contact : Contact) → IsSharedEdge (rects_of pieces) contact → is_alike pieces contact ≡ true
+    → TouchAlike pieces contact.first contact.second
 contact_touches pieces contact is alike =
     let second = second_within pieces contact is in
     let first : contact.first < length pieces = omega (arith, is.in_order) in
     let a = piece_at pieces contact.first in
     let b = piece_at pieces contact.second in
-    let area_a : rect_at (areas_of pieces) contact.first ≡ a.area = get_or-map (λ (p : Piece). p.area) pieces contact.first _ _ first in
-    let area_b : rect_at (areas_of pieces) contact.second ≡ b.area = get_or-map (λ (p : Piece). p.area) pieces contact.second _ _ second in
-    let length_is : contact.length ≡ shared_length a.area b.area = is.length_is ∙ ap (λ (r : Rect). shared_length r (rect_at (areas_of pieces) contact.second)) area_a ∙ ap (λ (r : Rect). shared_length a.area r) area_b in
+    let area_a : rect_at (rects_of pieces) contact.first ≡ a.area = get_or-map (λ (p : Piece). p.area) pieces contact.first _ _ first in
+    let area_b : rect_at (rects_of pieces) contact.second ≡ b.area = get_or-map (λ (p : Piece). p.area) pieces contact.second _ _ second in
+    let length_is : contact.length ≡ shared_length a.area b.area = is.length_is ∙ ap (λ (r : Rect). shared_length r
+    (rect_at (rects_of pieces) contact.second)) area_a ∙ ap (λ (r : Rect). shared_length a.area r) area_b in
     record {
       first = a;
       second = b;
@@ -74,7 +59,8 @@ contact_touches pieces contact is alike =
     }
 
 -- each of the pairs is one of pieces of one value that touch
-pair_touches : (pieces : List Piece) (contacts : List Contact) → Lists (IsContact (areas_of pieces)) contacts → (i j : ℕ) → IsPair (alike_pairs pieces contacts) i j → TouchAlike pieces i j
+pair_touches : (pieces : List Piece) (contacts : List Contact) → Lists (IsSharedEdge (rects_of pieces)) contacts → (i j : ℕ)
+    → IsPair (alike_pairs pieces contacts) i j → TouchAlike pieces i j
 pair_touches pieces contacts lists i j inside =
     let source = In-map_source {Y = ℕ × ℕ} (λ (contact : Contact). (contact.first, contact.second)) (i, j) (filter (is_alike pieces) contacts) inside in
     let contact = source.0 in
@@ -86,32 +72,40 @@ pair_touches pieces contacts lists i j inside =
 
 -- the contact of two pieces that touch
 touch_contact : (pieces : List Piece) (i j : ℕ) → i < j → (touch : TouchAlike pieces i j)
-    → IsContact (areas_of pieces) (record { first = i; second = j; length = shared_length touch.first.area touch.second.area })
+    → IsSharedEdge (rects_of pieces) (record { first = i; second = j; length = shared_length touch.first.area touch.second.area })
 touch_contact pieces i j less touch =
     let within = slice_get_within pieces j touch.second touch.second_there in
-    let area_i : rect_at (areas_of pieces) i ≡ touch.first.area =
-    get_or-map (λ (p : Piece). p.area) pieces i touch.first _ (omega arith) ∙ ap (λ (p : Piece). p.area) (get_or_from_slice_get pieces i touch.first touch.first touch.first_there) in
-    let area_j : rect_at (areas_of pieces) j ≡ touch.second.area =
-    get_or-map (λ (p : Piece). p.area) pieces j touch.second _ within ∙ ap (λ (p : Piece). p.area) (get_or_from_slice_get pieces j touch.second touch.second touch.second_there) in
+    let area_i : rect_at (rects_of pieces) i ≡ touch.first.area =
+    get_or-map (λ (p : Piece). p.area) pieces i touch.first _ (omega arith) ∙ ap (λ (p : Piece). p.area)
+    (get_or_from_slice_get pieces i touch.first touch.first touch.first_there) in
+    let area_j : rect_at (rects_of pieces) j ≡ touch.second.area =
+    get_or-map (λ (p : Piece). p.area) pieces j touch.second _ within ∙ ap (λ (p : Piece). p.area)
+    (get_or_from_slice_get pieces j touch.second touch.second touch.second_there) in
     record {
       in_order = less;
       in_list = omega (arith, length-map pieces (λ (p : Piece). p.area));
-      length_is = sym (ap (λ (r : Rect). shared_length r (rect_at (areas_of pieces) j)) area_i ∙ ap (λ (r : Rect). shared_length touch.first.area r) area_j);
+      length_is = sym (ap (λ (r : Rect). shared_length r (rect_at (rects_of pieces) j)) area_i ∙ ap (λ (r : Rect). shared_length touch.first.area r) area_j);
       not_none = touch.touch;
     }
 
 -- pieces of one value that touch are one of the pairs
-touch_is_pair : (pieces : List Piece) (contacts : List Contact) → Lists (IsContact (areas_of pieces)) contacts → (i j : ℕ) → i < j → TouchAlike pieces i j → IsPair (alike_pairs pieces contacts) i j
+touch_is_pair : (pieces : List Piece) (contacts : List Contact) → Lists (IsSharedEdge (rects_of pieces)) contacts → (i j : ℕ) → i < j
+    → TouchAlike pieces i j → IsPair (alike_pairs pieces contacts) i j
 touch_is_pair pieces contacts lists i j less touch =
     let contact : Contact = record { first = i; second = j; length = shared_length touch.first.area touch.second.area } in
     let listed = lists.1 contact (touch_contact pieces i j less touch) in
-    let value_i : (piece_at pieces i).value ≡ touch.first.value = ap (λ (p : Piece). p.value) (get_or_from_slice_get pieces i touch.first _ touch.first_there) in
-    let value_j : (piece_at pieces j).value ≡ touch.second.value = ap (λ (p : Piece). p.value) (get_or_from_slice_get pieces j touch.second _ touch.second_there) in
-    let alike : is_alike pieces contact ≡ true = test_from_same (piece_at pieces i).value (piece_at pieces j).value (value_i ∙ touch.same_value ∙ sym value_j) in
-    In-map {Y = ℕ × ℕ} (λ (c : Contact). (c.first, c.second)) contact (filter (is_alike pieces) contacts) (In-filter (is_alike pieces) contact contacts listed alike)
+    let value_i : (piece_at pieces i).value ≡ touch.first.value = ap (λ (p : Piece). p.value)
+    (get_or_from_slice_get pieces i touch.first _ touch.first_there) in
+    let value_j : (piece_at pieces j).value ≡ touch.second.value = ap (λ (p : Piece). p.value)
+    (get_or_from_slice_get pieces j touch.second _ touch.second_there) in
+    let alike : is_alike pieces contact ≡ true = test_from_same (piece_at pieces i).value (piece_at pieces j).value
+    (value_i ∙ touch.same_value ∙ sym value_j) in
+    In-map {Y = ℕ × ℕ} (λ (c : Contact). (c.first, c.second)) contact (filter (is_alike pieces) contacts)
+    (In-filter (is_alike pieces) contact contacts listed alike)
 
 -- the pairs of all contacts of tiles join the pieces of one value that touch
-pub JoinAlike-contacts : (pieces : List Piece) (contacts : List Contact) → Lists (IsContact (areas_of pieces)) contacts → JoinAlike pieces (IsPair (alike_pairs pieces contacts))
+pub JoinAlike-contacts : (pieces : List Piece) (contacts : List Contact) → Lists (IsSharedEdge (rects_of pieces)) contacts
+    → JoinAlike pieces (IsPair (alike_pairs pieces contacts))
 JoinAlike-contacts pieces contacts lists = record { sound = pair_touches pieces contacts lists; whole = touch_is_pair pieces contacts lists }
 
 -- the default of the reads of a list of contacts

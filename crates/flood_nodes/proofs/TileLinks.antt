@@ -13,8 +13,8 @@ use Rattle.finite_sets.proofs.Chains.{Chain-one, Chain-append, Chain-map, Chain-
 use Rattle.layout_model.specs.Places.{Place}
 use Rattle.layout_model.specs.Layouts.{same_material}
 use Rattle.layout_model.specs.Links.{AreLinked, AreOneNode}
-use Rattle.flood_nodes.specs.Tiles.{AreTiles, layout_of, LiesIn}
-use Rattle.flood_nodes.proofs.TileLaws.{tile_is_proper, tiles_at_square, layout_of-tile, tile_has_material}
+use Rattle.flood_nodes.specs.Tiles.{AreTiles, layout_of_tiles, LiesIn}
+use Rattle.flood_nodes.proofs.TileLaws.{tile_is_proper, tiles_at_square, layout_of_tiles-tile, tile_has_material}
 use Rattle.flood_nodes.proofs.Abutting.{shared_abut, neighbours_share}
 use Rattle.flood_nodes.proofs.Walks.{walk}
 
@@ -28,14 +28,15 @@ same_material-values m n test = grind (arith, nat_tests)
 
 -- neighbours in two tiles of one value are linked
 linked : (pieces : List Piece) (i j : ℕ) (a b : Place) → AreTiles pieces → (p : LiesIn pieces i a) → (q : LiesIn pieces j b) → p.piece.value ≡ q.piece.value
-    → AreEdgeNeighbours a.square b.square → AreLinked same_material (layout_of pieces) a b
+    → AreEdgeNeighbours a.square b.square → AreLinked same_material (layout_of_tiles pieces) a b
 linked pieces i j a b tiles p q same edge =
     let material = tile_has_material pieces i a tiles p in
     record {
       here = material;
       there = tile_has_material pieces j b tiles q;
       near = inl (p.plane ∙ sym q.plane, edge);
-      connected = same_material-same (layout_of pieces a) (layout_of pieces b) material (layout_of-tile pieces i a tiles p ∙ same ∙ sym (layout_of-tile pieces j b tiles q));
+      connected = same_material-same (layout_of_tiles pieces a) (layout_of_tiles pieces b) material
+          (layout_of_tiles-tile pieces i a tiles p ∙ same ∙ sym (layout_of_tiles-tile pieces j b tiles q));
     }
 
 -- the place of a square on the plane of the pieces
@@ -46,19 +47,23 @@ place_of-square : (a : Place) → a.plane ≡ 0 → place_of a.square ≡ a
 place_of-square a plane = let whole : record { plane = 0; square = a.square } ≡ record { plane = a.plane; square = a.square } = rw plane refl in whole
 
 -- a square of a tile, as a place in it
-abbrev at_square : (pieces : List Piece) (i : ℕ) (piece : Piece) (square : Square) → slice_get pieces i ≡ Some piece → Covers piece.area square → LiesIn pieces i (place_of square)
+abbrev at_square : (pieces : List Piece) (i : ℕ) (piece : Piece) (square : Square) → slice_get pieces i ≡ Some piece → Covers piece.area square
+    → LiesIn pieces i (place_of square)
 at_square pieces i piece square there covers = record { piece = piece; there = there; plane = refl; covers = covers }
 
 -- the squares of one tile are one node
-pub within_tile : (pieces : List Piece) (i : ℕ) (a b : Place) → AreTiles pieces → LiesIn pieces i a → LiesIn pieces i b → AreOneNode same_material (layout_of pieces) a b
+pub within_tile : (pieces : List Piece) (i : ℕ) (a b : Place) → AreTiles pieces → LiesIn pieces i a → LiesIn pieces i b
+    → AreOneNode same_material (layout_of_tiles pieces) a b
 within_tile pieces i a b tiles p q =
     let same : q.piece ≡ p.piece = same_Some q.piece p.piece (sym q.there ∙ p.there) in
     let covers : Covers p.piece.area b.square = subst (λ (piece : Piece). Covers piece.area b.square) same q.covers in
     let chain = Chain-map place_of (λ s t step.
-    Chain-one (linked pieces i i (place_of s) (place_of t) tiles (at_square pieces i p.piece s p.there step.from) (at_square pieces i p.piece t p.there step.to) refl step.near))
+    Chain-one (linked pieces i i (place_of s) (place_of t) tiles (at_square pieces i p.piece s p.there step.from)
+    (at_square pieces i p.piece t p.there step.to) refl step.near))
     (walk p.piece.area a.square b.square p.covers covers) in
-    let Link = AreLinked same_material (layout_of pieces) in
-    Chain-append (Chain-same Link a (place_of a.square) (sym (place_of-square a p.plane))) (Chain-append chain (Chain-same Link (place_of b.square) b (place_of-square b q.plane)))
+    let Link = AreLinked same_material (layout_of_tiles pieces) in
+    Chain-append (Chain-same Link a (place_of a.square) (sym (place_of-square a p.plane)))
+    (Chain-append chain (Chain-same Link (place_of b.square) b (place_of-square b q.plane)))
 
 -- The pieces at the two places of the list have one value and share part of an edge.
 pub record TouchAlike (pieces : List Piece) (i j : ℕ) : Type 0 where
@@ -85,12 +90,13 @@ pub record Crossing (pieces : List Piece) (i j : ℕ) : Type 0 where
   pub to : Place
   pub in_first : LiesIn pieces i from
   pub in_second : LiesIn pieces j to
-  pub link : AreLinked same_material (layout_of pieces) from to
+  pub link : AreLinked same_material (layout_of_tiles pieces) from to
 
 -- pieces of one value that touch are linked somewhere
 pub crossing : (pieces : List Piece) (i j : ℕ) → AreTiles pieces → TouchAlike pieces i j → Crossing pieces i j
 crossing pieces i j tiles touch =
-    let abut = shared_abut touch.first.area touch.second.area (tile_is_proper pieces i touch.first tiles touch.first_there) (tile_is_proper pieces j touch.second tiles touch.second_there) touch.touch in
+    let abut = shared_abut touch.first.area touch.second.area (tile_is_proper pieces i touch.first tiles touch.first_there)
+    (tile_is_proper pieces j touch.second tiles touch.second_there) touch.touch in
     let from = at_square pieces i touch.first abut.here touch.first_there abut.in_first in
     let to = at_square pieces j touch.second abut.there touch.second_there abut.in_second in
     record {
@@ -102,13 +108,15 @@ crossing pieces i j tiles touch =
     }
 
 -- a link leads to a piece of one value that touches, if it leads to another piece
-pub link_touches : (pieces : List Piece) (i j : ℕ) (a b : Place) → AreTiles pieces → LiesIn pieces i a → LiesIn pieces j b → AreLinked same_material (layout_of pieces) a b → i ≢ j → TouchAlike pieces i j
+pub link_touches : (pieces : List Piece) (i j : ℕ) (a b : Place) → AreTiles pieces → LiesIn pieces i a → LiesIn pieces j b
+    → AreLinked same_material (layout_of_tiles pieces) a b → i ≢ j → TouchAlike pieces i j
 link_touches pieces i j a b tiles p q link other = record {
   first = p.piece;
   second = q.piece;
   first_there = p.there;
   second_there = q.there;
-  same_value = sym (layout_of-tile pieces i a tiles p) ∙ same_material-values (layout_of pieces a) (layout_of pieces b) link.connected ∙ layout_of-tile pieces j b tiles q;
+  same_value = sym (layout_of_tiles-tile pieces i a tiles p) ∙ same_material-values (layout_of_tiles pieces a) (layout_of_tiles pieces b) link.connected
+      ∙ layout_of_tiles-tile pieces j b tiles q;
   touch = elim link.near [
     | inr stacked ↦ absurd (stacked.0 (p.plane ∙ sym q.plane))
     | inl beside ↦

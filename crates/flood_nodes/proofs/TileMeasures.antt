@@ -1,5 +1,6 @@
 -- Areas and perimeters of tiles.
-use Rattle.std.proofs.Common.{◌≡◌, ◌≢◌, ℕ, ◌<◌, pos, ◌-ℤ◌, Bool, true, false, not, cond, List, map, length, get_or, Some, inl, inr, refl, sym, ◌∙◌, ap, subst, arith}
+use Rattle.std.proofs.Common.{◌≡◌, ◌≢◌, ℕ, ◌<◌, pos, ◌-ℤ◌, Bool, true, false, not, cond, List, map}
+use Rattle.std.proofs.Common.{length, get_or, Some, inl, inr, refl, sym, ◌∙◌, ap, subst, arith}
 use Rattle.std.proofs.lemmas.Bool.Decides.{nat_tests}
 use Rattle.std.proofs.lemmas.List.{get_or-map, length-map}
 use Rattle.std.proofs.lemmas.List.Elements.{All-map}
@@ -27,31 +28,16 @@ use Rattle.layout_model.specs.Places.{Place, neighbours}
 use Rattle.layout_model.specs.Layouts.{is_material, painted}
 use Rattle.layout_model.specs.Measures.{area_at, perimeter_at}
 use Rattle.layout_model.proofs.PaintLaws.{painted_over-cases}
-use Rattle.flood_nodes.specs.Alike.{areas_of}
-use Rattle.flood_nodes.specs.Tiles.{AreTiles, layout_of, LiesIn}
+use Rattle.flood_nodes.specs.Alike.{rects_of}
+use Rattle.flood_nodes.specs.Tiles.{AreTiles, layout_of_tiles, LiesIn}
+use Rattle.flood_nodes.proofs.TileRects.{rects_are_proper, rects_are_disjoint}
 use Rattle.flood_nodes.proofs.TileLaws.{tile_is_material, tile_is_proper, painted-tile}
 
-pub areas_are_proper : (pieces : List Piece) → AreTiles pieces → All IsProper (areas_of pieces)
-areas_are_proper pieces tiles = All-map IsProper (λ (p : Piece). p.area) pieces tiles.proper
-
-pub areas_are_near : (pieces : List Piece) → AreTiles pieces → All IsNear (areas_of pieces)
-areas_are_near pieces tiles = All-map IsNear (λ (p : Piece). p.area) pieces tiles.near
-
--- a piece of this area, for places past the end of a list
-abbrev blank : Rect → Piece
-blank area = record { area = area; value = 0 }
-
-pub areas_are_disjoint : (pieces : List Piece) → AreTiles pieces → AllPairs AreDisjoint (areas_of pieces)
-areas_are_disjoint pieces tiles = λ i j d less within.
-    let long = length-map pieces (λ (p : Piece). p.area) in
-    let inside : j < length pieces = omega arith in
-    rw (get_or-map (λ (p : Piece). p.area) pieces i (blank d) d (omega arith), get_or-map (λ (p : Piece). p.area) pieces j (blank d) d inside)
-    (tiles.apart i j (blank d) less inside)
-
-area_stands : (pieces : List Piece) (index : ℕ) (piece : Piece) → slice_get pieces index ≡ Some piece → In piece.area (areas_of pieces)
+area_stands : (pieces : List Piece) (index : ℕ) (piece : Piece) → slice_get pieces index ≡ Some piece → In piece.area (rects_of pieces)
 area_stands pieces index piece there =
     In-map (λ (p : Piece). p.area) piece pieces
-    (subst (λ (p : Piece). In p pieces) (get_or_from_slice_get pieces index piece piece there) (In-get_or pieces index piece (slice_get_within pieces index piece there)))
+    (subst (λ (p : Piece). In p pieces) (get_or_from_slice_get pieces index piece piece there)
+    (In-get_or pieces index piece (slice_get_within pieces index piece there)))
 
 -- a square of the plane of the pieces
 abbrev pub on_plane_0 : Square → Place
@@ -61,9 +47,11 @@ place_is : (place : Place) → place.plane ≡ 0 → on_plane_0 place.square ≡
 place_is place plane = let whole : on_plane_0 place.square ≡ record { plane = place.plane; square = place.square } = rw plane refl in whole
 
 -- the places of a piece
-pub Lists-tile : (pieces : List Piece) (index : ℕ) (piece : Piece) → slice_get pieces index ≡ Some piece → Lists (LiesIn pieces index) (map on_plane_0 (squares_of piece.area))
+pub Lists-tile : (pieces : List Piece) (index : ℕ) (piece : Piece) → slice_get pieces index ≡ Some piece
+    → Lists (LiesIn pieces index) (map on_plane_0 (squares_of piece.area))
 Lists-tile pieces index piece there =
-    Lists-iff (λ (place : Place). (square : Square) × (Covers piece.area square × (on_plane_0 square ≡ place))) (LiesIn pieces index) (map on_plane_0 (squares_of piece.area))
+    Lists-iff (λ (place : Place). (square : Square) × (Covers piece.area square × (on_plane_0 square ≡ place))) (LiesIn pieces index)
+    (map on_plane_0 (squares_of piece.area))
     (λ place h. record {
       piece = piece;
       there = there;
@@ -79,21 +67,23 @@ pub is_material-material : (kind : ℕ) → kind ≢ 0 → is_material kind ≡ 
 is_material-material kind material = grind (arith, nat_tests)
 
 -- what has material is what a piece covers
-material_is_covered : (pieces : List Piece) (square : Square) → AreTiles pieces → is_material (painted pieces square) ≡ is_covered_by_any (areas_of pieces) square
+material_is_covered : (pieces : List Piece) (square : Square) → AreTiles pieces
+    → is_material (painted pieces square) ≡ is_covered_by_any (rects_of pieces) square
 material_is_covered pieces square tiles = elim (painted_over-cases 0 pieces square) [
   | inl (none, bare) ↦
       ap is_material none
-      ∙ sym (list_any_none (λ (area : Rect). is_covered area square) (areas_of pieces)
+      ∙ sym (list_any_none (λ (area : Rect). is_covered area square) (rects_of pieces)
       (All-map (λ (area : Rect). is_covered area square ≡ false) (λ (p : Piece). p.area) pieces
       (λ k d within. not_covered (get_or pieces k d).area square (λ covers. bare.none k (get_or pieces k d) (slice_get-get_or pieces k d within) covers))))
   | inr shown ↦
       (let inside = slice_get_within pieces shown.index shown.piece shown.there in
-      let at : get_or (areas_of pieces) shown.index shown.piece.area ≡ shown.piece.area =
+      let at : get_or (rects_of pieces) shown.index shown.piece.area ≡ shown.piece.area =
       get_or-map (λ (p : Piece). p.area) pieces shown.index shown.piece shown.piece.area inside
       ∙ ap (λ (p : Piece). p.area) (get_or_from_slice_get pieces shown.index shown.piece shown.piece shown.there) in
       ap is_material shown.shows
       ∙ is_material-material shown.piece.value (tile_is_material pieces shown.index shown.piece tiles shown.there)
-      ∙ sym (list_any_at (λ (area : Rect). is_covered area square) (areas_of pieces) shown.index shown.piece.area (omega (arith, length-map pieces (λ (p : Piece). p.area)))
+      ∙ sym (list_any_at (λ (area : Rect). is_covered area square) (rects_of pieces) shown.index shown.piece.area
+      (omega (arith, length-map pieces (λ (p : Piece). p.area)))
       (ap (λ (area : Rect). is_covered area square) at ∙ is_covered-Covers shown.piece.area square shown.covers)))
 ] where
   not_covered : (area : Rect) (square : Square) → (Covers area square → ⊥) → is_covered area square ≡ false
@@ -104,40 +94,47 @@ material_is_covered pieces square tiles = elim (painted_over-cases 0 pieces squa
 
 -- the area of a piece
 pub tile_area : (pieces : List Piece) (index : ℕ) (piece : Piece) → AreTiles pieces → slice_get pieces index ≡ Some piece
-    → Total (LiesIn pieces index) (area_at is_material (layout_of pieces)) (area_of piece.area)
+    → Total (LiesIn pieces index) (area_at is_material (layout_of_tiles pieces)) (area_of piece.area)
 tile_area pieces index piece tiles there =
-    let weight = area_at is_material (layout_of pieces) in
+    let weight = area_at is_material (layout_of_tiles pieces) in
     let squares = squares_of piece.area in
     let places = Lists-tile pieces index piece there in
     Total-at (LiesIn pieces index) weight (sum_on weight (map on_plane_0 squares)) (area_of piece.area)
     (sum_on-map on_plane_0 weight squares
     ∙ sum_on-same (λ (square : Square). weight (on_plane_0 square)) (λ square. pos 1) squares
-    (λ square among. ap (λ (kind : ℕ). one_if (is_material kind)) (painted-tile pieces index piece square tiles there ((Lists-squares_of piece.area).2 square among))
+    (λ square among. ap (λ (kind : ℕ). one_if (is_material kind)) (painted-tile pieces index piece square tiles there
+    ((Lists-squares_of piece.area).2 square among))
     ∙ ap one_if (is_material-material piece.value (tile_is_material pieces index piece tiles there)))
     ∙ sum_on-squares_of piece.area (tile_is_proper pieces index piece tiles there))
     (Total-from_list (LiesIn pieces index) weight (map on_plane_0 squares) places)
 
 -- what a square of a piece counts for the perimeter
 open_at_square : (pieces : List Piece) (square : Square) → AreTiles pieces → is_material (painted pieces square) ≡ true
-    → perimeter_at is_material (layout_of pieces) (on_plane_0 square) ≡ sum_on (λ (other : Square). one_if (not (is_covered_by_any (areas_of pieces) other))) (edge_neighbours square)
+    → perimeter_at is_material (layout_of_tiles pieces) (on_plane_0 square) ≡ sum_on
+    (λ (other : Square). one_if (not (is_covered_by_any (rects_of pieces) other))) (edge_neighbours square)
 open_at_square pieces square tiles material =
-    ap (λ (test : Bool). cond test (sum_on (λ (neighbour : Place). one_if (not (is_material (layout_of pieces neighbour)))) (neighbours (on_plane_0 square))) (pos 0)) material
-    ∙ sum_on-map on_plane_0 (λ (neighbour : Place). one_if (not (is_material (layout_of pieces neighbour)))) (edge_neighbours square)
-    ∙ sum_on-same (λ (other : Square). one_if (not (is_material (painted pieces other)))) (λ (other : Square). one_if (not (is_covered_by_any (areas_of pieces) other))) (edge_neighbours square)
+    ap (λ (test : Bool). cond test (sum_on (λ (neighbour : Place). one_if (not (is_material (layout_of_tiles pieces neighbour))))
+    (neighbours (on_plane_0 square))) (pos 0)) material
+    ∙ sum_on-map on_plane_0 (λ (neighbour : Place). one_if (not (is_material (layout_of_tiles pieces neighbour)))) (edge_neighbours square)
+    ∙ sum_on-same (λ (other : Square). one_if (not (is_material (painted pieces other))))
+    (λ (other : Square). one_if (not (is_covered_by_any (rects_of pieces) other))) (edge_neighbours square)
     (λ other among. ap (λ (test : Bool). one_if (not test)) (material_is_covered pieces other tiles))
 
 -- the perimeter of a piece, where material lies on the other side of what it shares with other pieces
 pub tile_perimeter : (pieces : List Piece) (index : ℕ) (piece : Piece) → AreTiles pieces → slice_get pieces index ≡ Some piece
-    → Total (LiesIn pieces index) (perimeter_at is_material (layout_of pieces)) (perimeter_of piece.area -ℤ sum_on (shared_length piece.area) (areas_of pieces))
+    → Total (LiesIn pieces index) (perimeter_at is_material (layout_of_tiles pieces))
+    (perimeter_of piece.area -ℤ sum_on (shared_length piece.area) (rects_of pieces))
 tile_perimeter pieces index piece tiles there =
-    let weight = perimeter_at is_material (layout_of pieces) in
+    let weight = perimeter_at is_material (layout_of_tiles pieces) in
     let squares = squares_of piece.area in
     let places = Lists-tile pieces index piece there in
-    Total-at (LiesIn pieces index) weight (sum_on weight (map on_plane_0 squares)) (perimeter_of piece.area -ℤ sum_on (shared_length piece.area) (areas_of pieces))
+    Total-at (LiesIn pieces index) weight (sum_on weight (map on_plane_0 squares))
+    (perimeter_of piece.area -ℤ sum_on (shared_length piece.area) (rects_of pieces))
     (sum_on-map on_plane_0 weight squares
-    ∙ sum_on-same (λ (square : Square). weight (on_plane_0 square)) (λ (square : Square). sum_on (λ (other : Square). one_if (not (is_covered_by_any (areas_of pieces) other))) (edge_neighbours square)) squares
+    ∙ sum_on-same (λ (square : Square). weight (on_plane_0 square)) (λ (square : Square). sum_on
+    (λ (other : Square). one_if (not (is_covered_by_any (rects_of pieces) other))) (edge_neighbours square)) squares
     (λ square among. open_at_square pieces square tiles
     (ap is_material (painted-tile pieces index piece square tiles there ((Lists-squares_of piece.area).2 square among))
     ∙ is_material-material piece.value (tile_is_material pieces index piece tiles there)))
-    ∙ open_edges-disjoint (areas_of pieces) piece.area (areas_are_proper pieces tiles) (areas_are_disjoint pieces tiles) (area_stands pieces index piece there))
+    ∙ open_edges-disjoint (rects_of pieces) piece.area (rects_are_proper pieces tiles) (rects_are_disjoint pieces tiles) (area_stands pieces index piece there))
     (Total-from_list (LiesIn pieces index) weight (map on_plane_0 squares) places)

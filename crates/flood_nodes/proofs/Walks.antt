@@ -6,6 +6,7 @@ use Rattle.geo_core.specs.declared.squares.Rect.{Rect}
 use Rattle.geo_core.specs.Covering.{Covers}
 use Rattle.geo_core.specs.Neighbours.{AreEdgeNeighbours, right_of, above}
 use Rattle.geo_core.proofs.NeighbourLaws.{AreEdgeNeighbours-sym, AreEdgeNeighbours-right_of, AreEdgeNeighbours-above}
+use Rattle.geo_core.proofs.SquareLaws.{square_is}
 use Rattle.finite_sets.specs.Chain.{Chain}
 use Rattle.finite_sets.specs.Chain.Chain.{go}
 use Rattle.finite_sets.specs.Range.{extent}
@@ -21,21 +22,28 @@ pub record StepsIn (area : Rect) (a b : Square) : Type 0 where
 StepsIn-sym : (area : Rect) (a b : Square) → StepsIn area a b → StepsIn area b a
 StepsIn-sym area a b step = record { from = step.to; to = step.from; near = AreEdgeNeighbours-sym a b step.near }
 
-same_square : (a b : Square) → a.x ≡ b.x → a.y ≡ b.y → a ≡ b
-same_square a b columns rows = let whole : record { x = a.x; y = a.y } ≡ b = rw (columns, rows) refl in whole
-
 -- so many steps to the right
 rightwards : (area : Rect) (n : ℕ) (a b : Square) → b.x ≡ a.x +ℤ pos n → a.y ≡ b.y → Covers area a → Covers area b → Chain (StepsIn area) a b
-rightwards area zero a b far row p q = Chain-same (StepsIn area) a b (same_square a b (omega (arith, ints)) row)
+rightwards area zero a b far row p q = Chain-same (StepsIn area) a b (square_is a b (omega (arith, ints)) row)
 rightwards area (suc n) a b far row p q =
-    let next : Covers area (right_of a) = record { right_of_xlo = omega (arith, ints); left_of_xhi = omega (arith, ints); above_ylo = p.above_ylo; below_yhi = p.below_yhi } in
+    let next : Covers area (right_of a) = record {
+      right_of_xlo = omega (arith, ints);
+      left_of_xhi = omega (arith, ints);
+      above_ylo = p.above_ylo;
+      below_yhi = p.below_yhi;
+    } in
     go (record { from = p; to = next; near = AreEdgeNeighbours-right_of a }) (rightwards area n (right_of a) b (omega (arith, ints)) row next q)
 
 -- so many steps up
 upwards : (area : Rect) (n : ℕ) (a b : Square) → b.y ≡ a.y +ℤ pos n → a.x ≡ b.x → Covers area a → Covers area b → Chain (StepsIn area) a b
-upwards area zero a b far column p q = Chain-same (StepsIn area) a b (same_square a b column (omega (arith, ints)))
+upwards area zero a b far column p q = Chain-same (StepsIn area) a b (square_is a b column (omega (arith, ints)))
 upwards area (suc n) a b far column p q =
-    let next : Covers area (above a) = record { right_of_xlo = p.right_of_xlo; left_of_xhi = p.left_of_xhi; above_ylo = omega (arith, ints); below_yhi = omega (arith, ints) } in
+    let next : Covers area (above a) = record {
+      right_of_xlo = p.right_of_xlo;
+      left_of_xhi = p.left_of_xhi;
+      above_ylo = omega (arith, ints);
+      below_yhi = omega (arith, ints);
+    } in
     go (record { from = p; to = next; near = AreEdgeNeighbours-above a }) (upwards area n (above a) b (omega (arith, ints)) column next q)
 
 along_row : (area : Rect) (a b : Square) → a.y ≡ b.y → Covers area a → Covers area b → Chain (StepsIn area) a b

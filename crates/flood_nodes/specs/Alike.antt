@@ -5,8 +5,8 @@ use Rattle.geo_core.specs.declared.squares.Piece.{Piece}
 use Rattle.rect_contacts.specs.declared.contacts.Contact.{Contact}
 
 -- the rectangles of the pieces
-abbrev pub areas_of : List Piece → List Rect
-areas_of pieces = map (λ piece. piece.area) pieces
+abbrev pub rects_of : List Piece → List Rect
+rects_of pieces = map (λ piece. piece.area) pieces
 
 -- the piece at a place of a list, and an empty one past its end
 abbrev pub piece_at : List Piece → ℕ → Piece

@@ -3,8 +3,6 @@
 
 mod faults;
 mod regions;
-#[cfg(test)]
-mod tests;
 
 pub use faults::FloodFault;
-pub use regions::{areas_of, flood};
+pub use regions::{flood, rects_of};

@@ -1,10 +1,10 @@
 //! A number for each piece, by the node that its squares belong to.
 ghost use Rattle.std.specs.Prelude.{◌≡◌, ◌<◌, ◌++◌, ◌∷◌, [], ℕ, List, length, vec_len, All, IfOk};
 ghost use Rattle.finite_sets.specs.Lists.{Lists};
-ghost use Rattle.rect_contacts.specs.Contacts.{IsContact};
+ghost use Rattle.rect_contacts.specs.Contacts.{IsSharedEdge};
 ghost use Rattle.partition.specs.Divides.{Divides, IsPair};
 ghost use Rattle.partition.specs.Marks.{IsNumbered};
-ghost use Rattle.flood_nodes.specs.Alike.{areas_of, alike_pairs};
+ghost use Rattle.flood_nodes.specs.Alike.{rects_of, alike_pairs};
 ghost use Rattle.flood_nodes.specs.Tiles.{AreTiles};
 ghost use Rattle.flood_nodes.specs.Regions.{AreRegions};
 
@@ -30,16 +30,16 @@ pub fn flood(alloc: Global, pieces: &[Piece]) -> Result<Vec<usize>, FloodFault>
 /// The contacts between the pieces, whatever their values.
 fn contacts_of(alloc: Global, pieces: &[Piece]) -> Result<Vec<Contact>, FloodFault>
     requires { AreTiles pieces.now }
-    ensures { IfOk result (λ contacts. Lists (IsContact (areas_of pieces.now)) contacts.items) }
+    ensures { IfOk result (λ contacts. Lists (IsSharedEdge (rects_of pieces.now)) contacts.items) }
 {
-    let areas = areas_of(alloc, pieces)?;
+    let areas = rects_of(alloc, pieces)?;
     let contacts = touching(alloc, areas.as_slice())?;
     Ok(contacts)
 }
 
 /// The rectangles of pieces, in their order. Want of memory alone refuses.
-pub fn areas_of(alloc: Global, pieces: &[Piece]) -> Result<Vec<Rect>, AllocError>
-    ensures { IfOk result (λ areas. areas.items ≡ areas_of pieces.now) }
+pub fn rects_of(alloc: Global, pieces: &[Piece]) -> Result<Vec<Rect>, AllocError>
+    ensures { IfOk result (λ areas. areas.items ≡ rects_of pieces.now) }
 {
     pieces.iter().map(|piece| piece.area).collect(alloc)
 }

@@ -16,6 +16,7 @@ use Rattle.finite_sets.specs.Lists.{Distinct}
 use Rattle.finite_sets.specs.Range.{extent, integers_from, integer_range, pairs_of}
 use Rattle.finite_sets.proofs.Distincts.{Distinct-map, Distinct-places}
 use Rattle.finite_sets.proofs.Ranges.{extent_up, length-integer_range, length-pairs_of, Lists-rectangle}
+use Rattle.geo_core.specs.declared.limits.TheConstants.{MOST_ELEMENTS}
 use Rattle.geo_core.specs.declared.grids.Grid.{Grid}
 use Rattle.geo_core.specs.Elements.{indices, nth_index, element_of, elements_of, IsLawful}
 
@@ -125,8 +126,8 @@ pub record StandsAt (grid : Grid) (k m n : ℕ) : Type 0 where
   pub row : m < rows grid
   pub column : n < columns grid
   pub at : m * columns grid + n ≡ k
-  pub row_small : m ≤ 1000000
-  pub column_small : n ≤ 1000000
+  pub row_small : m ≤ MOST_ELEMENTS
+  pub column_small : n ≤ MOST_ELEMENTS
 
 mod-le : (n m : ℕ) → n % m ≤ n
 mod-le n m = omega (arith, mod-add-div n m)
@@ -136,7 +137,7 @@ pub stands_at : (grid : Grid) (k c : ℕ) → IsLawful grid → k < length (elem
 stands_at grid k c lawful below same =
     let some : 0 < c = omega (arith, same) in
     let total : k < rows grid * c = omega (arith, length-elements_of grid, ap (λ v. rows grid * v) same, below) in
-    let few : c * rows grid ≤ 1000000 = omega (arith, lawful.count, ap (λ v. v * rows grid) same) in
+    let few : c * rows grid ≤ MOST_ELEMENTS = omega (arith, lawful.count, ap (λ v. v * rows grid) same) in
     let column : k % c < c = mod-lt k some in
     record {
       row = (div-lt_iff_lt-mul some).1 total;

@@ -5,9 +5,16 @@ use Rattle.std.proofs.lemmas.Int.{ints, clamps}
 use Rattle.finite_sets.proofs.Orders.{at_most_or_greater, equal_from_both}
 use Rattle.geo_core.specs.declared.squares.Square.{Square}
 use Rattle.geo_core.specs.declared.squares.Rect.{Rect}
-use Rattle.geo_core.specs.Covering.{Covers}
+use Rattle.geo_core.specs.Covering.{Covers, IsProper}
 use Rattle.geo_core.specs.Strips.{IsRun, IsStrip, IsStrips}
 use Rattle.geo_core.proofs.SquareLaws.{rect_is}
+
+-- a strip has a square
+pub strip_is_proper : (S : Square → Type 0) (strip : Rect) → IsStrip S strip → IsProper strip
+strip_is_proper S strip is =
+    let high : strip.ylo <ℤ strip.yhi = is.high in
+    let run = is.runs strip.ylo (omega (arith, ints)) high in
+    record { wide = run.long; high = high }
 
 -- a run of a set is a run of a set with the same squares
 pub run_same : (S T : Square → Type 0) → ((s : Square) → S s → T s) → ((s : Square) → T s → S s) → (xlo xhi y : ℤ) → IsRun S xlo xhi y → IsRun T xlo xhi y

@@ -3,6 +3,7 @@ use Rattle.std.specs.Prelude.{ℕ, suc, ◌*◌, ◌≤◌, ℤ, pos, ◌+ℤ◌
 use Rattle.std.specs.Int.RustNames.{FitsSigned, unsigned_abs}
 use Rattle.std.specs.Int.{w32}
 use Rattle.finite_sets.specs.Range.{integer_range, pairs_of}
+use Rattle.geo_core.specs.declared.limits.TheConstants.{MOST_ELEMENTS}
 use Rattle.geo_core.specs.declared.grids.Grid.{Grid}
 
 -- An index runs from one end to the other in steps of one, upward or downward: so many values it has, both ends among
@@ -25,7 +26,7 @@ elements_of grid =
     map (element_of grid)
     (pairs_of (integer_range (pos 0) (pos (indices grid.ylo grid.yhi))) (integer_range (pos 0) (pos (indices grid.xlo grid.xhi))))
 
--- The numbers fit 32 bits with sign, and there are at most a million elements.
+-- The numbers fit 32 bits with sign, and there are no more elements than there may be.
 pub record IsLawful (grid : Grid) : Type 0 where
   pub xlo : FitsSigned w32 grid.xlo
   pub xhi : FitsSigned w32 grid.xhi
@@ -33,4 +34,4 @@ pub record IsLawful (grid : Grid) : Type 0 where
   pub ylo : FitsSigned w32 grid.ylo
   pub yhi : FitsSigned w32 grid.yhi
   pub ysep : FitsSigned w32 grid.ysep
-  pub count : indices grid.xlo grid.xhi * indices grid.ylo grid.yhi ≤ 1000000
+  pub count : indices grid.xlo grid.xhi * indices grid.ylo grid.yhi ≤ MOST_ELEMENTS

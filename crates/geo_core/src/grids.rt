@@ -4,6 +4,8 @@ ghost use Rattle.std.specs.Int.{w32};
 ghost use Rattle.std.specs.Int.RustNames.{FitsSigned};
 ghost use Rattle.geo_core.specs.Elements.{indices, nth_index, element_of, elements_of, IsLawful};
 
+use crate::limits::MOST_ELEMENTS;
+
 /// Index i runs from `xlo` to `xhi` and index j from `ylo` to `yhi`, each upward or downward. The element
 /// that is n-th in i and m-th in j, counted from 0, is displaced by `n*xsep` and `m*ysep` in the child's
 /// coordinates, before the transform of its use.
@@ -48,9 +50,9 @@ impl Grid {
         requires lawful { IsLawful self.now }
         requires below_count { k < length (elements_of self.now) }
         ensures row_low { pos 0 ≤ℤ result.0 }
-        ensures row_high { result.0 ≤ℤ pos 1000000 }
+        ensures row_high { result.0 ≤ℤ pos MOST_ELEMENTS }
         ensures column_low { pos 0 ≤ℤ result.1 }
-        ensures column_high { result.1 ≤ℤ pos 1000000 }
+        ensures column_high { result.1 ≤ℤ pos MOST_ELEMENTS }
         ensures at { slice_get (elements_of self.now) k ≡ Some (element_of self.now (result.0, result.1)) }
     {
         let columns = indices(self.xlo, self.xhi);
@@ -71,7 +73,7 @@ fn indices(from: i64, to: i64) -> u64
 fn nth_index(from: i64, to: i64, n: i64) -> i64
     requires from_fits { FitsSigned w32 from }
     requires not_before { pos 0 ≤ℤ n }
-    requires not_far { n ≤ℤ pos 1000000 }
+    requires not_far { n ≤ℤ pos MOST_ELEMENTS }
     ensures { result ≡ nth_index from to n }
 {
     if from <= to { from + n } else { from - n }
@@ -80,7 +82,7 @@ fn nth_index(from: i64, to: i64, n: i64) -> i64
 /// So many steps of this length.
 fn steps(n: i64, length: i64) -> i64
     requires not_before { pos 0 ≤ℤ n }
-    requires not_far { n ≤ℤ pos 1000000 }
+    requires not_far { n ≤ℤ pos MOST_ELEMENTS }
     requires fits { FitsSigned w32 length }
     ensures { result ≡ n *ℤ length }
 {

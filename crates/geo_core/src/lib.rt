@@ -33,7 +33,9 @@ mod transforms;
 
 pub use faults::GeoFault;
 pub use grids::Grid;
-pub use limits::{Limit, MOST_TILES, PAINT_EDGE, PLANE_EDGE, REACH, TILES_FOR_A_STRIP};
+pub use limits::{
+    Limit, MOST_ELEMENTS, MOST_TILES, PAINT_EDGE, PLANE_EDGE, REACH, TILES_FOR_A_STRIP,
+};
 pub use lists::List;
 pub use names::Name;
 pub use orients::Orient;

@@ -45,3 +45,6 @@ pub const MOST_TILES: usize = 1 << 31;
 /// A plane of so many strips, those of space among them, needs at most this many tiles for each strip and one
 /// strip more while a piece is set on it.
 pub const TILES_FOR_A_STRIP: usize = 8;
+
+/// How many elements a grid may have.
+pub const MOST_ELEMENTS: usize = 1_000_000;

@@ -14,7 +14,8 @@ use Rattle.layout_model.specs.Nodes.{Node, AreMeasures, IsNode, AreInOrder, AreN
 use Rattle.layout_model.specs.Laws.{ConnectsBothWays, HasOneNodeList}
 use Rattle.layout_model.proofs.PlaceLaws.{AreNeighbours-sym, AreStacked-sym, IsBefore-irreflexive, IsBefore-trans, IsNoLater-antisym}
 
-pub AreLinked-sym : (connects : ℕ → ℕ → Bool) (layout : Layout) → ConnectsBothWays connects → (a b : Place) → AreLinked connects layout a b → AreLinked connects layout b a
+pub AreLinked-sym : (connects : ℕ → ℕ → Bool) (layout : Layout) → ConnectsBothWays connects → (a b : Place) → AreLinked connects layout a b
+    → AreLinked connects layout b a
 AreLinked-sym connects layout symmetric a b link = record {
   here = link.there;
   there = link.here;
@@ -22,11 +23,13 @@ AreLinked-sym connects layout symmetric a b link = record {
   connected = sym (symmetric (layout a) (layout b)) ∙ link.connected;
 }
 
-pub AreOneNode-sym : (connects : ℕ → ℕ → Bool) (layout : Layout) → ConnectsBothWays connects → {a b : Place} → AreOneNode connects layout a b → AreOneNode connects layout b a
+pub AreOneNode-sym : (connects : ℕ → ℕ → Bool) (layout : Layout) → ConnectsBothWays connects → {a b : Place} → AreOneNode connects layout a b
+    → AreOneNode connects layout b a
 AreOneNode-sym connects layout symmetric chain = Chain-back (AreLinked-sym connects layout symmetric) chain
 
 -- the measures of a set are determined
-same_measures : (classes : List Class) (layout : Layout) (Within : Place → Type 0) (ms ns : List (ℤ × ℤ)) → AreMeasures classes layout Within ms → AreMeasures classes layout Within ns → ms ≡ ns
+same_measures : (classes : List Class) (layout : Layout) (Within : Place → Type 0) (ms ns : List (ℤ × ℤ)) → AreMeasures classes layout Within ms
+    → AreMeasures classes layout Within ns → ms ≡ ns
 same_measures [] layout Within [] [] p q = refl
 same_measures [] layout Within [] (n ∷ ns) p q = absurd q
 same_measures [] layout Within (m ∷ ms) ns p q = absurd p
@@ -80,7 +83,8 @@ same_lists (x ∷ xs) (y ∷ ys) p q there back =
     rw (same, rest) refl
 
 -- each node of one list stands in the other
-stands_there : (technology : Technology) (layout : Layout) (xs ys : List Node) → ConnectsBothWays technology.connects → AreNodes technology layout xs → AreNodes technology layout ys → (z : Node) → In z xs → In z ys
+stands_there : (technology : Technology) (layout : Layout) (xs ys : List Node) → ConnectsBothWays technology.connects → AreNodes technology layout xs
+    → AreNodes technology layout ys → (z : Node) → In z xs → In z ys
 stands_there technology layout xs ys symmetric p q z inside =
     let mine = p.sound z inside in
     let other = q.whole z.least mine.material in

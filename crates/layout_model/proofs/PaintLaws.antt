@@ -10,16 +10,6 @@ use Rattle.geo_core.specs.Covering.{Covers, is_covered}
 use Rattle.geo_core.proofs.CoveringLaws.{Covers-is_covered, is_covered-Covers}
 use Rattle.layout_model.specs.Layouts.{painted, painted_over}
 
--- pieces painted after others
-pub painted_over-append : (under : ℕ) (xs ys : List Piece) (square : Square) → painted_over under (xs ++ ys) square ≡ painted_over (painted_over under xs square) ys square
-painted_over-append under [] ys square = refl
-painted_over-append under (x ∷ xs) ys square = painted_over-append (cond (is_covered x.area square) x.value under) xs ys square
-
--- the last piece hides what it covers
-pub painted_over-push : (under : ℕ) (xs : List Piece) (x : Piece) (square : Square)
-    → painted_over under (xs ++ x ∷ []) square ≡ cond (is_covered x.area square) x.value (painted_over under xs square)
-painted_over-push under xs x square = painted_over-append under xs (x ∷ []) square
-
 -- The square shows this type, which is the value of a piece that covers it.
 pub record IsShown (pieces : List Piece) (square : Square) (kind : ℕ) : Type 0 where
   pub index : ℕ
@@ -38,12 +28,15 @@ later x xs square kind shown = record { index = suc shown.index; piece = shown.p
 bare_too : (x : Piece) (xs : List Piece) (square : Square) → is_covered x.area square ≡ false → IsBare xs square → IsBare (x ∷ xs) square
 bare_too x xs square fails bare = record { none = none } where
   none : (index : ℕ) (piece : Piece) → slice_get (x ∷ xs) index ≡ Some piece → Covers piece.area square → ⊥
-  none zero piece there covers = false≢true (sym fails ∙ ap (λ (p : Piece). is_covered p.area square) (same_Some x piece there) ∙ is_covered-Covers piece.area square covers)
+  none zero piece there covers = false≢true (sym fails ∙ ap (λ (p : Piece). is_covered p.area square) (same_Some x piece there) ∙ is_covered-Covers
+      piece.area square covers)
   none (suc index) piece there covers = bare.none index piece there covers
 
 with_first : (under : ℕ) (x : Piece) (xs : List Piece) (square : Square) (covered : Bool) → is_covered x.area square ≡ covered
-    → ((painted_over (cond covered x.value under) xs square ≡ cond covered x.value under) × IsBare xs square) ⊎ IsShown xs square (painted_over (cond covered x.value under) xs square)
-    → ((painted_over (cond covered x.value under) xs square ≡ under) × IsBare (x ∷ xs) square) ⊎ IsShown (x ∷ xs) square (painted_over (cond covered x.value under) xs square)
+    → ((painted_over (cond covered x.value under) xs square ≡ cond covered x.value under) × IsBare xs square) ⊎ IsShown xs square
+    (painted_over (cond covered x.value under) xs square)
+    → ((painted_over (cond covered x.value under) xs square ≡ under) × IsBare (x ∷ xs) square) ⊎ IsShown (x ∷ xs) square
+    (painted_over (cond covered x.value under) xs square)
 with_first under x xs square covered test (inr shown) = inr (later x xs square (painted_over (cond covered x.value under) xs square) shown)
 with_first under x xs square true test (inl (same, bare)) =
     inr (record { index = 0; piece = x; there = refl; covers = Covers-is_covered x.area square test; shows = same })
@@ -55,21 +48,3 @@ pub painted_over-cases : (under : ℕ) (pieces : List Piece) (square : Square)
 painted_over-cases under [] square = inl (refl, record { none = λ index piece there covers. cc })
 painted_over-cases under (x ∷ xs) square =
     with_first under x xs square (is_covered x.area square) refl (painted_over-cases (cond (is_covered x.area square) x.value under) xs square)
-
--- a value that is not 0, or what lies below
-over_first : (under value shown : ℕ) (covered : Bool) → value ≢ 0
-    → cond (eqb shown 0) (cond covered value under) shown
-    ≡ cond (eqb (cond (eqb shown 0) (cond covered value 0) shown) 0) under (cond (eqb shown 0) (cond covered value 0) shown)
-over_first under value shown covered material = grind (arith, nat_tests)
-
--- what is under pieces of material shows where they show nothing
-pub painted_over-material : (under : ℕ) (pieces : List Piece) (square : Square) → ((index : ℕ) (piece : Piece) → slice_get pieces index ≡ Some piece → piece.value ≢ 0)
-    → painted_over under pieces square ≡ cond (eqb (painted pieces square) 0) under (painted pieces square)
-painted_over-material under [] square material = refl
-painted_over-material under (x ∷ xs) square material =
-    let rest : (index : ℕ) (piece : Piece) → slice_get xs index ≡ Some piece → piece.value ≢ 0 = λ index piece there. material (suc index) piece there in
-    let covered = is_covered x.area square in
-    let above = painted_over-material (cond covered x.value under) xs square rest in
-    let alone = painted_over-material (cond covered x.value 0) xs square rest in
-    let P : ℕ → Type 0 = λ whole. painted_over (cond covered x.value under) xs square ≡ cond (eqb whole 0) under whole in
-    subst P (sym alone) (above ∙ over_first under x.value (painted xs square) covered (material 0 x refl))

@@ -22,7 +22,7 @@ use Rattle.finite_sets.proofs.Sums.{sum_on-same, sum_on-sub, sum_on-map, sum_on-
 use Rattle.finite_sets.proofs.Totals.{Total-iff, Total-at}
 use Rattle.rect_contacts.specs.declared.contacts.Contact.{Contact}
 use Rattle.rect_contacts.specs.Rects.{rect_at, places_of}
-use Rattle.rect_contacts.specs.Contacts.{shared_length, IsContact}
+use Rattle.rect_contacts.specs.Contacts.{shared_length, IsSharedEdge}
 use Rattle.rect_contacts.specs.Squares.{area_of, perimeter_of}
 use Rattle.rect_contacts.proofs.BothWays.{Lists-places_of, contacts_both_ways}
 use Rattle.layout_model.specs.Places.{Place, IsBefore, IsNoLater}
@@ -31,11 +31,12 @@ use Rattle.layout_model.specs.Links.{AreLinked, AreOneNode}
 use Rattle.layout_model.specs.Measures.{area_at, perimeter_at}
 use Rattle.layout_model.specs.Nodes.{Node, IsNode, AreInOrder, AreNodes}
 use Rattle.layout_model.proofs.Families.{InFamily, Total-family, Total-gated}
-use Rattle.flood_nodes.specs.Alike.{areas_of}
-use Rattle.flood_nodes.specs.Tiles.{AreTiles, layout_of, LiesIn}
+use Rattle.flood_nodes.specs.Alike.{rects_of}
+use Rattle.flood_nodes.specs.Tiles.{AreTiles, layout_of_tiles, LiesIn}
 use Rattle.flood_nodes.specs.Regions.{AreRegions}
-use Rattle.flood_nodes.proofs.TileLaws.{tile_is_proper, tile_has_material, material_lies_in_tile, lies_in_one_tile, layout_of-tile}
-use Rattle.flood_nodes.proofs.TileMeasures.{areas_are_proper, on_plane_0, tile_area, tile_perimeter}
+use Rattle.flood_nodes.proofs.TileLaws.{tile_is_proper, tile_has_material, material_lies_in_tile, lies_in_one_tile, layout_of_tiles-tile}
+use Rattle.flood_nodes.proofs.TileMeasures.{on_plane_0, tile_area, tile_perimeter}
+use Rattle.flood_nodes.proofs.TileRects.{rects_are_proper}
 use Rattle.magex_top.specs.declared.nodes.PlainNode.{PlainNode}
 use Rattle.magex_top.specs.Uniform.{uniform}
 use Rattle.geo_core.specs.Areas.{corner_of}
@@ -50,21 +51,21 @@ HasNumber pieces numbers number index place = (get_or numbers index 0 ≡ number
 
 -- the place lies in a piece with the number
 abbrev pub IsNumbered : List Piece → List ℕ → ℕ → Place → Type 0
-IsNumbered pieces numbers number = InFamily (HasNumber pieces numbers number) (places_of (areas_of pieces))
+IsNumbered pieces numbers number = InFamily (HasNumber pieces numbers number) (places_of (rects_of pieces))
 
 -- a step from material leads to material
-links_material : (pieces : List Piece) (a b : Place) → AreLinked same_material (layout_of pieces) a b → layout_of pieces a ≢ 0 → layout_of pieces b ≢ 0
+links_material : (pieces : List Piece) (a b : Place) → AreLinked same_material (layout_of_tiles pieces) a b → layout_of_tiles pieces a ≢ 0 → layout_of_tiles pieces b ≢ 0
 links_material pieces a b linked material = linked.there
 
-place_stands : (pieces : List Piece) (index : ℕ) (place : Place) → LiesIn pieces index place → In index (places_of (areas_of pieces))
+place_stands : (pieces : List Piece) (index : ℕ) (place : Place) → LiesIn pieces index place → In index (places_of (rects_of pieces))
 place_stands pieces index place lies =
-    (Lists-places_of (areas_of pieces)).1 index (omega (arith, slice_get_within pieces index lies.piece lies.there, length-map pieces (λ (p : Piece). p.area)))
+    (Lists-places_of (rects_of pieces)).1 index (omega (arith, slice_get_within pieces index lies.piece lies.there, length-map pieces (λ (p : Piece). p.area)))
 
 -- the places of the pieces with the number are those of one node
 numbered_from_node : (pieces : List Piece) (numbers : List ℕ) (first : ℕ) (least place : Place) → AreTiles pieces → AreRegions pieces numbers → LiesIn pieces first least
-    → AreOneNode same_material (layout_of pieces) least place → IsNumbered pieces numbers (get_or numbers first 0) place
+    → AreOneNode same_material (layout_of_tiles pieces) least place → IsNumbered pieces numbers (get_or numbers first 0) place
 numbered_from_node pieces numbers first least place tiles regions lies chain =
-    let material = Chain-carries (λ (p : Place). layout_of pieces p ≢ 0) (links_material pieces) chain (tile_has_material pieces first least tiles lies) in
+    let material = Chain-carries (λ (p : Place). layout_of_tiles pieces p ≢ 0) (links_material pieces) chain (tile_has_material pieces first least tiles lies) in
     let there = material_lies_in_tile pieces place material in
     record {
       label = there.0;
@@ -73,17 +74,17 @@ numbered_from_node pieces numbers first least place tiles regions lies chain =
     }
 
 node_from_numbered : (pieces : List Piece) (numbers : List ℕ) (first : ℕ) (least place : Place) → AreRegions pieces numbers → LiesIn pieces first least
-    → IsNumbered pieces numbers (get_or numbers first 0) place → AreOneNode same_material (layout_of pieces) least place
+    → IsNumbered pieces numbers (get_or numbers first 0) place → AreOneNode same_material (layout_of_tiles pieces) least place
 node_from_numbered pieces numbers first least place regions lies numbered =
     (regions.joined first numbered.label least place lies numbered.inside.1).0 (sym numbered.inside.0)
 
 -- the total over the places with a number, from the totals of the pieces
 total_numbered : (pieces : List Piece) (numbers : List ℕ) (number : ℕ) (weight : Place → ℤ) (measure : ℕ → ℤ) → AreTiles pieces
     → ((index : ℕ) (piece : Piece) → slice_get pieces index ≡ Some piece → Total (LiesIn pieces index) weight (measure index))
-    → Total (IsNumbered pieces numbers number) weight (sum_on (λ (index : ℕ). cond (eqb (get_or numbers index 0) number) (measure index) (pos 0)) (places_of (areas_of pieces)))
+    → Total (IsNumbered pieces numbers number) weight (sum_on (λ (index : ℕ). cond (eqb (get_or numbers index 0) number) (measure index) (pos 0)) (places_of (rects_of pieces)))
 total_numbered pieces numbers number weight measure tiles each =
-    let places = Lists-places_of (areas_of pieces) in
-    Total-family (HasNumber pieces numbers number) weight (λ (index : ℕ). cond (eqb (get_or numbers index 0) number) (measure index) (pos 0)) (places_of (areas_of pieces)) places.0
+    let places = Lists-places_of (rects_of pieces) in
+    Total-family (HasNumber pieces numbers number) weight (λ (index : ℕ). cond (eqb (get_or numbers index 0) number) (measure index) (pos 0)) (places_of (rects_of pieces)) places.0
     (λ i j place in_i in_j. lies_in_one_tile pieces i j place tiles in_i.1 in_j.1)
     (λ index among.
     let inside : index < length pieces = omega (arith, places.2 index among, length-map pieces (λ (p : Piece). p.area)) in
@@ -92,29 +93,29 @@ total_numbered pieces numbers number weight measure tiles each =
     (each index (get_or pieces index no_piece) (slice_get-get_or pieces index no_piece inside)))
 
 -- the area of a piece of the list
-rect_is : (pieces : List Piece) (index : ℕ) (piece : Piece) → slice_get pieces index ≡ Some piece → piece.area ≡ rect_at (areas_of pieces) index
+rect_is : (pieces : List Piece) (index : ℕ) (piece : Piece) → slice_get pieces index ≡ Some piece → piece.area ≡ rect_at (rects_of pieces) index
 rect_is pieces index piece there =
     sym (get_or-map (λ (p : Piece). p.area) pieces index piece (rect_at [] 0) (slice_get_within pieces index piece there)
     ∙ ap (λ (p : Piece). p.area) (get_or_from_slice_get pieces index piece piece there))
 
 area_numbered : (pieces : List Piece) (numbers : List ℕ) (number : ℕ) → AreTiles pieces
-    → Total (IsNumbered pieces numbers number) (area_at is_material (layout_of pieces)) (total_of area_of numbers (areas_of pieces) number)
+    → Total (IsNumbered pieces numbers number) (area_at is_material (layout_of_tiles pieces)) (total_of area_of numbers (rects_of pieces) number)
 area_numbered pieces numbers number tiles =
-    total_numbered pieces numbers number (area_at is_material (layout_of pieces)) (λ (index : ℕ). area_of (rect_at (areas_of pieces) index)) tiles
+    total_numbered pieces numbers number (area_at is_material (layout_of_tiles pieces)) (λ (index : ℕ). area_of (rect_at (rects_of pieces) index)) tiles
     (λ index piece there.
-    subst (λ (area : Rect). Total (LiesIn pieces index) (area_at is_material (layout_of pieces)) (area_of area)) (rect_is pieces index piece there) (tile_area pieces index piece tiles there))
+    subst (λ (area : Rect). Total (LiesIn pieces index) (area_at is_material (layout_of_tiles pieces)) (area_of area)) (rect_is pieces index piece there) (tile_area pieces index piece tiles there))
 
 -- what a rectangle shares with all
 abbrev shared_with_all : List Rect → ℕ → ℤ
 shared_with_all rects index = sum_on (shared_length (rect_at rects index)) rects
 
 perimeter_by_piece : (pieces : List Piece) (numbers : List ℕ) (number : ℕ) → AreTiles pieces
-    → Total (IsNumbered pieces numbers number) (perimeter_at is_material (layout_of pieces))
-    (sum_on (λ (index : ℕ). cond (eqb (get_or numbers index 0) number) (perimeter_of (rect_at (areas_of pieces) index) -ℤ shared_with_all (areas_of pieces) index) (pos 0)) (places_of (areas_of pieces)))
+    → Total (IsNumbered pieces numbers number) (perimeter_at is_material (layout_of_tiles pieces))
+    (sum_on (λ (index : ℕ). cond (eqb (get_or numbers index 0) number) (perimeter_of (rect_at (rects_of pieces) index) -ℤ shared_with_all (rects_of pieces) index) (pos 0)) (places_of (rects_of pieces)))
 perimeter_by_piece pieces numbers number tiles =
-    total_numbered pieces numbers number (perimeter_at is_material (layout_of pieces)) (λ (index : ℕ). perimeter_of (rect_at (areas_of pieces) index) -ℤ shared_with_all (areas_of pieces) index) tiles
+    total_numbered pieces numbers number (perimeter_at is_material (layout_of_tiles pieces)) (λ (index : ℕ). perimeter_of (rect_at (rects_of pieces) index) -ℤ shared_with_all (rects_of pieces) index) tiles
     (λ index piece there.
-    subst (λ (area : Rect). Total (LiesIn pieces index) (perimeter_at is_material (layout_of pieces)) (perimeter_of area -ℤ sum_on (shared_length area) (areas_of pieces)))
+    subst (λ (area : Rect). Total (LiesIn pieces index) (perimeter_at is_material (layout_of_tiles pieces)) (perimeter_of area -ℤ sum_on (shared_length area) (rects_of pieces)))
     (rect_is pieces index piece there) (tile_perimeter pieces index piece tiles there))
 
 -- the weight of a rectangle with the number
@@ -147,29 +148,29 @@ sum_on-places w rects =
     sym (sum_on-map (rect_at rects) w (places_of rects)) ∙ ap (sum_on w) same
 
 -- what the contacts take off
-shared_numbered : (pieces : List Piece) (numbers : List ℕ) (contacts : List Contact) (number : ℕ) → AreTiles pieces → Lists (IsContact (areas_of pieces)) contacts
-    → sum_on (λ (index : ℕ). cond (eqb (get_or numbers index 0) number) (shared_with_all (areas_of pieces) index) (pos 0)) (places_of (areas_of pieces)) ≡ shared_of numbers contacts number
+shared_numbered : (pieces : List Piece) (numbers : List ℕ) (contacts : List Contact) (number : ℕ) → AreTiles pieces → Lists (IsSharedEdge (rects_of pieces)) contacts
+    → sum_on (λ (index : ℕ). cond (eqb (get_or numbers index 0) number) (shared_with_all (rects_of pieces) index) (pos 0)) (places_of (rects_of pieces)) ≡ shared_of numbers contacts number
 shared_numbered pieces numbers contacts number tiles listed =
-    let rects = areas_of pieces in
+    let rects = rects_of pieces in
     let weight = weight_of numbers number in
     sum_on-same (λ (i : ℕ). cond (eqb (get_or numbers i 0) number) (shared_with_all rects i) (pos 0)) (λ (i : ℕ). sum_on (λ (j : ℕ). weight i j *ℤ shared_length (rect_at rects i) (rect_at rects j)) (places_of rects)) (places_of rects)
     (λ i among.
     gated_product (eqb (get_or numbers i 0) number) (shared_with_all rects i)
     ∙ ap (λ (n : ℤ). weight i 0 *ℤ n) (sym (sum_on-places (shared_length (rect_at rects i)) rects))
     ∙ sym (sum_on-scale (weight i 0) (λ (j : ℕ). shared_length (rect_at rects i) (rect_at rects j)) (places_of rects)))
-    ∙ sym (contacts_both_ways rects contacts weight (areas_are_proper pieces tiles) listed)
+    ∙ sym (contacts_both_ways rects contacts weight (rects_are_proper pieces tiles) listed)
     ∙ sum_on-same (λ (c : Contact). (weight c.first c.second +ℤ weight c.second c.first) *ℤ c.length) (length_for numbers number) contacts
     (λ c among. two_gates (eqb (get_or numbers c.first 0) number) (eqb (get_or numbers c.second 0) number) c.length)
 
-perimeter_numbered : (pieces : List Piece) (numbers : List ℕ) (contacts : List Contact) (number : ℕ) → AreTiles pieces → Lists (IsContact (areas_of pieces)) contacts
-    → Total (IsNumbered pieces numbers number) (perimeter_at is_material (layout_of pieces)) (total_of perimeter_of numbers (areas_of pieces) number -ℤ shared_of numbers contacts number)
+perimeter_numbered : (pieces : List Piece) (numbers : List ℕ) (contacts : List Contact) (number : ℕ) → AreTiles pieces → Lists (IsSharedEdge (rects_of pieces)) contacts
+    → Total (IsNumbered pieces numbers number) (perimeter_at is_material (layout_of_tiles pieces)) (total_of perimeter_of numbers (rects_of pieces) number -ℤ shared_of numbers contacts number)
 perimeter_numbered pieces numbers contacts number tiles listed =
-    let rects = areas_of pieces in
+    let rects = rects_of pieces in
     let test = λ (index : ℕ). eqb (get_or numbers index 0) number in
     let alone = λ (index : ℕ). cond (test index) (perimeter_of (rect_at rects index)) (pos 0) in
     let shared = λ (index : ℕ). cond (test index) (shared_with_all rects index) (pos 0) in
     let both = λ (index : ℕ). cond (test index) (perimeter_of (rect_at rects index) -ℤ shared_with_all rects index) (pos 0) in
-    Total-at (IsNumbered pieces numbers number) (perimeter_at is_material (layout_of pieces)) (sum_on both (places_of rects)) (total_of perimeter_of numbers rects number -ℤ shared_of numbers contacts number)
+    Total-at (IsNumbered pieces numbers number) (perimeter_at is_material (layout_of_tiles pieces)) (sum_on both (places_of rects)) (total_of perimeter_of numbers rects number -ℤ shared_of numbers contacts number)
     (sum_on-same both (λ (index : ℕ). alone index -ℤ shared index) (places_of rects) (λ index among. gated_difference (test index) (perimeter_of (rect_at rects index)) (shared_with_all rects index))
     ∙ sum_on-sub alone shared (places_of rects)
     ∙ ap (λ (n : ℤ). sum_on alone (places_of rects) -ℤ n) (shared_numbered pieces numbers contacts number tiles listed))
@@ -235,8 +236,8 @@ pub record IsFound (pieces : List Piece) (numbers : List ℕ) (contacts : List C
   pub earlier : (index : ℕ) → index < first → get_or numbers index 0 < number
   pub least : node.least ≡ corner_of piece.area
   pub kind : node.kind ≡ piece.value
-  pub area : node.area ≡ total_of area_of numbers (areas_of pieces) number
-  pub perimeter : node.perimeter ≡ total_of perimeter_of numbers (areas_of pieces) number -ℤ shared_of numbers contacts number
+  pub area : node.area ≡ total_of area_of numbers (rects_of pieces) number
+  pub perimeter : node.perimeter ≡ total_of perimeter_of numbers (rects_of pieces) number -ℤ shared_of numbers contacts number
 
 -- its least place lies in the first piece
 lies_in_first : (pieces : List Piece) (first : ℕ) (piece : Piece) → AreTiles pieces → slice_get pieces first ≡ Some piece → LiesIn pieces first (on_plane_0 (corner_of piece.area))
@@ -249,10 +250,10 @@ lies_in_first pieces first piece tiles there = record {
 
 -- the node of a list of pieces, by its least place, type, area and perimeter
 node_at : (pieces : List Piece) (numbers : List ℕ) (contacts : List Contact) (number : ℕ) (node : PlainNode) → AreTiles pieces → AreByCorner pieces → AreRegions pieces numbers
-    → Lists (IsContact (areas_of pieces)) contacts → IsFound pieces numbers contacts number node → IsNode uniform (layout_of pieces) (node_of node)
+    → Lists (IsSharedEdge (rects_of pieces)) contacts → IsFound pieces numbers contacts number node → IsNode uniform (layout_of_tiles pieces) (node_of node)
 unfolding lies_in_first
 node_at pieces numbers contacts number node tiles in_order regions listed found =
-    let layout = layout_of pieces in
+    let layout = layout_of_tiles pieces in
     let corner = on_plane_0 (corner_of found.piece.area) in
     let lies = lies_in_first pieces found.first found.piece tiles found.there in
     let Class : Place → Type 0 = AreOneNode same_material layout corner in
@@ -260,16 +261,16 @@ node_at pieces numbers contacts number node tiles in_order regions listed found 
     λ place chain. subst (λ (n : ℕ). IsNumbered pieces numbers n place) found.numbered (numbered_from_node pieces numbers found.first corner place tiles regions lies chain) in
     let chained : (place : Place) → IsNumbered pieces numbers number place → Class place =
     λ place h. node_from_numbered pieces numbers found.first corner place regions lies (subst (λ (n : ℕ). IsNumbered pieces numbers n place) (sym found.numbered) h) in
-    let area = Total-iff (IsNumbered pieces numbers number) Class (area_at is_material layout) (total_of area_of numbers (areas_of pieces) number) chained numbered (area_numbered pieces numbers number tiles) in
-    let perimeter = Total-iff (IsNumbered pieces numbers number) Class (perimeter_at is_material layout) (total_of perimeter_of numbers (areas_of pieces) number -ℤ shared_of numbers contacts number) chained numbered
+    let area = Total-iff (IsNumbered pieces numbers number) Class (area_at is_material layout) (total_of area_of numbers (rects_of pieces) number) chained numbered (area_numbered pieces numbers number tiles) in
+    let perimeter = Total-iff (IsNumbered pieces numbers number) Class (perimeter_at is_material layout) (total_of perimeter_of numbers (rects_of pieces) number -ℤ shared_of numbers contacts number) chained numbered
     (perimeter_numbered pieces numbers contacts number tiles listed) in
-    let here : IsNode uniform layout (record { least = corner; kind = found.piece.value; measures = (total_of area_of numbers (areas_of pieces) number, total_of perimeter_of numbers (areas_of pieces) number -ℤ shared_of numbers contacts number) ∷ [] }) = record {
+    let here : IsNode uniform layout (record { least = corner; kind = found.piece.value; measures = (total_of area_of numbers (rects_of pieces) number, total_of perimeter_of numbers (rects_of pieces) number -ℤ shared_of numbers contacts number) ∷ [] }) = record {
       material = tile_has_material pieces found.first corner tiles lies;
       least = (stay, (λ place chain. first_is_least pieces numbers number found.first found.piece place in_order found.there found.earlier (numbered place chain)));
-      kind = sym (layout_of-tile pieces found.first corner tiles lies);
+      kind = sym (layout_of_tiles-tile pieces found.first corner tiles lies);
       measures = (area, perimeter, tt);
     } in
-    let whole : record { least = corner; kind = found.piece.value; measures = (total_of area_of numbers (areas_of pieces) number, total_of perimeter_of numbers (areas_of pieces) number -ℤ shared_of numbers contacts number) ∷ [] } ≡ node_of node =
+    let whole : record { least = corner; kind = found.piece.value; measures = (total_of area_of numbers (rects_of pieces) number, total_of perimeter_of numbers (rects_of pieces) number -ℤ shared_of numbers contacts number) ∷ [] } ≡ node_of node =
     rw (found.least, found.kind, found.area, found.perimeter) refl in
     subst (λ (n : Node). IsNode uniform layout n) whole here
 
@@ -323,10 +324,10 @@ one_before_next pieces numbers contacts k m n in_order p q = elim (cases_lt p.fi
 
 -- what is gathered by numbers, with what the contacts take off, are the nodes
 pub nodes_are_found : (pieces : List Piece) (numbers : List ℕ) (contacts : List Contact) (before after : List PlainNode) → AreTiles pieces → AreByCorner pieces → AreRegions pieces numbers
-    → Lists (IsContact (areas_of pieces)) contacts → AreGathered pieces numbers before → AreTakenOff numbers contacts before after → AreNodes uniform (layout_of pieces) (map node_of after)
+    → Lists (IsSharedEdge (rects_of pieces)) contacts → AreGathered pieces numbers before → AreTakenOff numbers contacts before after → AreNodes uniform (layout_of_tiles pieces) (map node_of after)
 unfolding lies_in_first
 nodes_are_found pieces numbers contacts before after tiles in_order regions listed gathered taken =
-    let layout = layout_of pieces in
+    let layout = layout_of_tiles pieces in
     let found = is_found pieces numbers contacts before after gathered taken in
     record {
       sound = λ node among.

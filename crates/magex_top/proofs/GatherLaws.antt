@@ -19,7 +19,7 @@ use Rattle.geo_core.specs.Areas.{corner_of, IsNear}
 use Rattle.rect_contacts.specs.Rects.{rect_at, places_of}
 use Rattle.rect_contacts.specs.Squares.{area_of, perimeter_of}
 use Rattle.rect_contacts.proofs.BothWays.{Lists-places_of}
-use Rattle.flood_nodes.specs.Alike.{areas_of}
+use Rattle.flood_nodes.specs.Alike.{rects_of}
 use Rattle.magex_top.specs.declared.nodes.PlainNode.{PlainNode}
 use Rattle.magex_top.specs.PlainNodes.{IsModest, IsMeasured}
 use Rattle.magex_top.specs.Gathering.{total_of, IsGathered, AreGathered, AddsPiece, grown, started}
@@ -61,12 +61,12 @@ total_of-none measure numbers rects number below =
 
 -- the same over one more piece
 with_piece : (measure : Rect → ℤ) (numbers : List ℕ) (xs : List Piece) (piece : Piece) (number : ℕ) (test : Bool) → eqb (get_or numbers (length xs) 0) number ≡ test
-    → total_of measure numbers (areas_of (xs ++ piece ∷ [])) number ≡ total_of measure numbers (areas_of xs) number +ℤ cond test (measure piece.area) (pos 0)
+    → total_of measure numbers (rects_of (xs ++ piece ∷ [])) number ≡ total_of measure numbers (rects_of xs) number +ℤ cond test (measure piece.area) (pos 0)
 with_piece measure numbers xs piece number test tests =
     ap (λ (rects : List Rect). total_of measure numbers rects number) (map_push (λ (p : Piece). p.area) xs piece)
-    ∙ total_of-push measure numbers (areas_of xs) piece.area number
-    ∙ ap (λ (n : ℕ). total_of measure numbers (areas_of xs) number +ℤ cond (eqb (get_or numbers n 0) number) (measure piece.area) (pos 0)) (length-map xs (λ (p : Piece). p.area))
-    ∙ ap (λ (b : Bool). total_of measure numbers (areas_of xs) number +ℤ cond b (measure piece.area) (pos 0)) tests
+    ∙ total_of-push measure numbers (rects_of xs) piece.area number
+    ∙ ap (λ (n : ℕ). total_of measure numbers (rects_of xs) number +ℤ cond (eqb (get_or numbers n 0) number) (measure piece.area) (pos 0)) (length-map xs (λ (p : Piece). p.area))
+    ∙ ap (λ (b : Bool). total_of measure numbers (rects_of xs) number +ℤ cond b (measure piece.area) (pos 0)) tests
 
 slice_get-append_left : (xs ys : List Piece) (index : ℕ) (piece : Piece) → slice_get xs index ≡ Some piece → slice_get (xs ++ ys) index ≡ Some piece
 slice_get-append_left xs ys index piece there =
@@ -95,8 +95,8 @@ kept xs piece numbers number node other gathered =
       earlier = gathered.earlier;
       least = gathered.least;
       kind = gathered.kind;
-      area = gathered.area ∙ nothing_added (total_of area_of numbers (areas_of xs) number) ∙ sym (with_piece area_of numbers xs piece number false test);
-      perimeter = gathered.perimeter ∙ nothing_added (total_of perimeter_of numbers (areas_of xs) number) ∙ sym (with_piece perimeter_of numbers xs piece number false test);
+      area = gathered.area ∙ nothing_added (total_of area_of numbers (rects_of xs) number) ∙ sym (with_piece area_of numbers xs piece number false test);
+      perimeter = gathered.perimeter ∙ nothing_added (total_of perimeter_of numbers (rects_of xs) number) ∙ sym (with_piece perimeter_of numbers xs piece number false test);
     }
 
 -- the node that it is added to
@@ -126,9 +126,9 @@ starts xs piece numbers earlier =
     let number = get_or numbers (length xs) 0 in
     let test : eqb number number ≡ true = grind (arith, nat_tests) in
     let long = length-map xs (λ (p : Piece). p.area) in
-    let none : (measure : Rect → ℤ) → measure piece.area ≡ total_of measure numbers (areas_of (xs ++ piece ∷ [])) number = λ measure.
+    let none : (measure : Rect → ℤ) → measure piece.area ≡ total_of measure numbers (rects_of (xs ++ piece ∷ [])) number = λ measure.
     nothing_before (measure piece.area)
-    ∙ ap (λ (n : ℤ). n +ℤ measure piece.area) (sym (total_of-none measure numbers (areas_of xs) number (λ place below. earlier place (omega arith))))
+    ∙ ap (λ (n : ℤ). n +ℤ measure piece.area) (sym (total_of-none measure numbers (rects_of xs) number (λ place below. earlier place (omega arith))))
     ∙ sym (with_piece measure numbers xs piece number true test) in
     record {
       first = length xs;
@@ -260,10 +260,10 @@ total_is_small measure numbers rects number counts proper near few =
     (omega (arith, ints, sums.not_negative), omega (arith, ints, sums.small, length-range_with_len 0 (length rects)))
 
 -- what is gathered from fewer than 2^58 pieces is small
-pub gathered_is_measured : (xs : List Piece) (numbers : List ℕ) (nodes : List PlainNode) → All IsProper (areas_of xs) → All IsNear (areas_of xs) → length xs < 2 ^ 58 → AreGathered xs numbers nodes → All IsMeasured nodes
+pub gathered_is_measured : (xs : List Piece) (numbers : List ℕ) (nodes : List PlainNode) → All IsProper (rects_of xs) → All IsNear (rects_of xs) → length xs < 2 ^ 58 → AreGathered xs numbers nodes → All IsMeasured nodes
 gathered_is_measured xs numbers nodes proper near few gathered = λ k d inside.
     let node = gathered.each_node k d inside in
-    let rects = areas_of xs in
+    let rects = rects_of xs in
     let fewer : length rects < 2 ^ 58 = omega (arith, length-map xs (λ (p : Piece). p.area)) in
     record {
       area = subst IsModest (sym node.area) (total_is_small area_of numbers rects k area_is_count proper near fewer);

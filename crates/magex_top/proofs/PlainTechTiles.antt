@@ -23,7 +23,7 @@ use Rattle.cell_paint.specs.Painting.{kinds_on, paint_range, column_at}
 use Rattle.cell_paint.specs.Paints.{PlaneValue, number_on, layout_on, IsSoundPaint}
 use Rattle.cell_paint.proofs.ColumnsLaws.{column_type}
 use Rattle.cell_paint.proofs.PlaneLaws.{plane_at, space_past}
-use Rattle.flood_nodes.specs.Tiles.{AreTiles, layout_of}
+use Rattle.flood_nodes.specs.Tiles.{AreTiles, layout_of_tiles}
 use Rattle.magex_top.proofs.UniformLaws.{HasKinds}
 
 -- a rectangle with squares inside a near one is near
@@ -79,7 +79,7 @@ painted_tiles values area tiles square are inside = elim (painted_over-cases 0 t
 
 -- the layout of the tiles is that of the paint
 pub tiles_layout : (planes : List PlaneValue) (tiles : List Piece) → length planes ≡ 1 → AreTilesIn (kinds_on (layout_on planes) 0) paint_range tiles
-    → ((place : Place) → IsMaterial (layout_on planes) place → Covers paint_range place.square) → (place : Place) → layout_of tiles place ≡ layout_on planes place
+    → ((place : Place) → IsMaterial (layout_on planes) place → Covers paint_range place.square) → (place : Place) → layout_of_tiles tiles place ≡ layout_on planes place
 tiles_layout planes tiles one are range place = elim (cases_eq place.plane 0) [
   | inl here ↦
       (let test : eqb place.plane 0 ≡ true = eq-eqb place.plane 0 here in
@@ -93,7 +93,7 @@ tiles_layout planes tiles one are range place = elim (cases_eq place.plane 0) [
 
 -- and so they are one layout
 pub tiles_layouts : (planes : List PlaneValue) (tiles : List Piece) → length planes ≡ 1 → AreTilesIn (kinds_on (layout_on planes) 0) paint_range tiles
-    → ((place : Place) → IsMaterial (layout_on planes) place → Covers paint_range place.square) → layout_of tiles ≡ layout_on planes
+    → ((place : Place) → IsMaterial (layout_on planes) place → Covers paint_range place.square) → layout_of_tiles tiles ≡ layout_on planes
 tiles_layouts planes tiles one are range = λ i place. tiles_layout planes tiles one are range place i
 
 -- each place of the paint has space or a type

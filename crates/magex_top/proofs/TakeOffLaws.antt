@@ -13,7 +13,7 @@ use Rattle.finite_sets.proofs.Sums.{sum_on-push}
 use Rattle.rect_contacts.specs.declared.contacts.Contact.{Contact}
 use Rattle.geo_core.specs.Areas.{IsNear}
 use Rattle.rect_contacts.specs.Rects.{rect_at}
-use Rattle.rect_contacts.specs.Contacts.{overlap, shared_beside, shared_upon, shared_length, IsContact}
+use Rattle.rect_contacts.specs.Contacts.{overlap, shared_beside, shared_upon, shared_length, IsSharedEdge}
 use Rattle.rect_contacts.proofs.Shared.{shared_beside-cases, shared_upon-cases}
 use Rattle.magex_top.specs.declared.nodes.PlainNode.{PlainNode}
 use Rattle.magex_top.specs.PlainNodes.{IsMeasured}
@@ -154,7 +154,7 @@ short_upon a b near = elim (shared_upon-cases a b) [
   | inr apart ↦ (let none : shared_upon a b ≡ pos 0 = apart.1 in omega (arith, ints))
 ]
 
-contact_is_short : (rects : List Rect) (contact : Contact) → All IsNear rects → IsContact rects contact → IsShort contact
+contact_is_short : (rects : List Rect) (contact : Contact) → All IsNear rects → IsSharedEdge rects contact → IsShort contact
 contact_is_short rects contact near touch =
     let a = rect_at rects contact.first in
     let b = rect_at rects contact.second in
@@ -170,13 +170,13 @@ contact_is_short rects contact near touch =
       short = subst (λ (z : ℤ). z <ℤ pos (2 ^ 31)) (sym touch.length_is) sum;
     }
 
-pub contacts_are_short : (rects : List Rect) (contacts : List Contact) → All IsNear rects → Lists (IsContact rects) contacts → All IsShort contacts
+pub contacts_are_short : (rects : List Rect) (contacts : List Contact) → All IsNear rects → Lists (IsSharedEdge rects) contacts → All IsShort contacts
 contacts_are_short rects contacts near listed = λ k d inside. contact_is_short rects (get_or contacts k d) near (listed.2 (get_or contacts k d) (In-get_or contacts k d inside))
 
-pub contacts_first : (rects : List Rect) (contacts : List Contact) (n : ℕ) → length rects ≡ n → Lists (IsContact rects) contacts → All (λ (c : Contact). c.first < n) contacts
+pub contacts_first : (rects : List Rect) (contacts : List Contact) (n : ℕ) → length rects ≡ n → Lists (IsSharedEdge rects) contacts → All (λ (c : Contact). c.first < n) contacts
 contacts_first rects contacts n long listed = λ k d inside. let touch = listed.2 (get_or contacts k d) (In-get_or contacts k d inside) in omega (arith, touch.in_order, touch.in_list)
 
-pub contacts_second : (rects : List Rect) (contacts : List Contact) (n : ℕ) → length rects ≡ n → Lists (IsContact rects) contacts → All (λ (c : Contact). c.second < n) contacts
+pub contacts_second : (rects : List Rect) (contacts : List Contact) (n : ℕ) → length rects ≡ n → Lists (IsSharedEdge rects) contacts → All (λ (c : Contact). c.second < n) contacts
 contacts_second rects contacts n long listed = λ k d inside. let touch = listed.2 (get_or contacts k d) (In-get_or contacts k d inside) in omega (arith, touch.in_list)
 
 -- a length as it is passed on

@@ -24,7 +24,7 @@ use Rattle.magex_top.proofs.UniformLaws.{material_is_type, nodes_over}
 
 -- the nodes of the tiles in `uniform` are those of the paint in the technology
 pub nodes_of_paint : (raw : RawTech) (paint : Paint) (pieces : List Piece) (nodes : List Node) → IsWellFormed raw → paint.kinds ≡ raw.types → length paint.planes ≡ length raw.planes → is_plain raw ≡ true
-    → AreTilesIn (kinds_on (layout_of paint) 0) paint_range pieces → IsSoundPaint paint.kinds (layout_of paint) → AreNodes uniform (tiles.layout_of pieces) nodes
+    → AreTilesIn (kinds_on (layout_of paint) 0) paint_range pieces → IsSoundPaint paint.kinds (layout_of paint) → AreNodes uniform (tiles.layout_of_tiles pieces) nodes
     → AreNodes (rules_of raw) (layout_of paint) nodes
 nodes_of_paint raw paint pieces nodes w kinds planes is_plain are sound found =
     let plain = plain_parts raw is_plain in

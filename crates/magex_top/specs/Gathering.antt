@@ -6,7 +6,7 @@ use Rattle.finite_sets.specs.Total.{sum_on}
 use Rattle.rect_contacts.specs.declared.contacts.Contact.{Contact}
 use Rattle.rect_contacts.specs.Rects.{rect_at, places_of}
 use Rattle.rect_contacts.specs.Squares.{area_of, perimeter_of}
-use Rattle.flood_nodes.specs.Alike.{areas_of}
+use Rattle.flood_nodes.specs.Alike.{rects_of}
 use Rattle.magex_top.specs.declared.nodes.PlainNode.{PlainNode}
 use Rattle.geo_core.specs.Areas.{corner_of}
 
@@ -34,8 +34,8 @@ pub record IsGathered (pieces : List Piece) (numbers : List ℕ) (number : ℕ) 
   pub earlier : (place : ℕ) → place < first → slice_index numbers place < number
   pub least : node.least ≡ corner_of piece.area
   pub kind : node.kind ≡ piece.value
-  pub area : node.area ≡ total_of area_of numbers (areas_of pieces) number
-  pub perimeter : node.perimeter ≡ total_of perimeter_of numbers (areas_of pieces) number
+  pub area : node.area ≡ total_of area_of numbers (rects_of pieces) number
+  pub perimeter : node.perimeter ≡ total_of perimeter_of numbers (rects_of pieces) number
 
 -- The node at each place of the list is that of the pieces with this number, and each piece has one.
 pub record AreGathered (pieces : List Piece) (numbers : List ℕ) (nodes : List PlainNode) : Type 0 where

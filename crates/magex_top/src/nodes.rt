@@ -1,13 +1,13 @@
 //! The nodes of pieces.
 ghost use Rattle.std.specs.Prelude.{◌≡◌, IfOk, map};
 ghost use Rattle.layout_model.specs.Nodes.{AreNodes};
-ghost use Rattle.flood_nodes.specs.Tiles.{AreTiles, layout_of};
+ghost use Rattle.flood_nodes.specs.Tiles.{AreTiles, layout_of_tiles};
 ghost use Rattle.magex_top.specs.Uniform.{uniform};
 ghost use Rattle.magex_top.specs.PieceOrder.{AreByCorner};
 ghost use Rattle.magex_top.specs.PlainNodes.{node_of};
 
 use crate::measures::{gather, take_off};
-use flood_nodes::{areas_of, flood};
+use flood_nodes::{flood, rects_of};
 use geo_core::{Piece, Square};
 use rect_contacts::touching;
 use std::alloc::{AllocError, Global};
@@ -33,13 +33,13 @@ pub struct PlainNode {
 pub fn nodes_of(alloc: Global, pieces: &[Piece]) -> Result<Vec<PlainNode>, AllocError>
     requires tiles { AreTiles pieces.now }
     requires in_order { AreByCorner pieces.now }
-    ensures { IfOk result (λ nodes. AreNodes uniform (layout_of pieces.now) (map node_of nodes.items)) }
+    ensures { IfOk result (λ nodes. AreNodes uniform (layout_of_tiles pieces.now) (map node_of nodes.items)) }
 {
     let Ok(numbers) = flood(alloc, pieces) else {
         return Err(AllocError);
     };
     let mut nodes = gather(alloc, pieces, &numbers)?;
-    let areas = areas_of(alloc, pieces)?;
+    let areas = rects_of(alloc, pieces)?;
     let Ok(contacts) = touching(alloc, &areas) else {
         return Err(AllocError);
     };

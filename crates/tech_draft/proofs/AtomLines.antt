@@ -19,9 +19,11 @@ use Rattle.tech_draft.specs.Drafts.{Drafted}
 use Rattle.tech_draft.specs.Entries.{is_comma, pieces_of, plane_named, fault_if}
 use Rattle.tech_draft.specs.TypeLines.{repeated_name, type_fault, with_type}
 use Rattle.tech_draft.specs.Sound.{HasSoundLists}
-use Rattle.tech_draft.proofs.ListFacts.{All_from_In, position_none}
+use Rattle.tech_model.proofs.FirstPlaces.{position_none}
+use Rattle.tech_draft.proofs.ListFacts.{All_from_In}
 use Rattle.tech_draft.proofs.NoFaults.{both_none, no_fault, none_of, some_below, absent_word}
 use Rattle.tech_draft.proofs.AtomLists.{IsNewLayer, atom-lists}
+use Rattle.tech_model.specs.declared.limits.TheConstants.{MOST_TYPES}
 
 pub plane_named-below : (raw : RawTech) (word : List ℕ) (plane : ℕ) → plane_named raw word ≡ Some plane → plane < length raw.planes
 plane_named-below raw word plane found = (position-Some (bytes_eq word) raw.planes plane [] found).0
@@ -51,14 +53,14 @@ new_layer-line draft plane names lists none =
     let pieces = pieces_of names in
     let form = both_none (fault_if (not (is_plain_name plane) || not (list_all is_layer_name pieces)) BadForm) _ none in
     let placed = both_none (fault_if (is_none (plane_named raw plane)) (NoPlane plane)) _ form.1 in
-    let free = both_none (repeated_name raw [] pieces) (fault_if (nat_le 64 (length raw.types)) (TooMany Types)) placed.1 in
+    let free = both_none (repeated_name raw [] pieces) (fault_if (nat_le MOST_TYPES (length raw.types)) (TooMany Types)) placed.1 in
     let good = not-false (list_all is_layer_name pieces) (or_parts (not (is_plain_name plane)) (not (list_all is_layer_name pieces)) (no_fault (not (is_plain_name plane) || not (list_all is_layer_name pieces)) BadForm form.0)).1 in
     record {
       plane_below = some_below (plane_named raw plane) (length raw.planes) (no_fault (is_none (plane_named raw plane)) (NoPlane plane) placed.0) (λ k found. plane_named-below raw plane k found);
       named = omega (arith, length-slice_split is_comma names);
       forms = All_from_In (λ (name : List ℕ). IsTrue (is_layer_name name)) pieces (λ name is. list_all_In is_layer_name pieces name good is);
       new = new_name raw pieces free.0;
-      limit = leb-false 64 (length raw.types) (no_fault (nat_le 64 (length raw.types)) (TooMany Types) free.1);
+      limit = leb-false MOST_TYPES (length raw.types) (no_fault (nat_le MOST_TYPES (length raw.types)) (TooMany Types) free.1);
     }
 
 pub lists-types : (draft : Drafted) (words : List (List ℕ)) → HasSoundLists draft → type_fault draft words ≡ None → HasSoundLists (with_type draft words)

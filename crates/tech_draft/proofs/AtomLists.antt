@@ -19,6 +19,7 @@ use Rattle.tech_draft.specs.TypeLines.{atom_on, atom_layer, with_atom}
 use Rattle.tech_draft.specs.Sound.{HasLists}
 use Rattle.tech_draft.proofs.Keeps.{Keeps, kept_layers, kept_classes, kept_fets, kept_pairs}
 use Rattle.tech_draft.proofs.WordTypes.{image_type}
+use Rattle.tech_model.specs.declared.limits.TheConstants.{MOST_TYPES}
 
 -- there is room for a type on the plane, and no layer has one of the names
 pub record IsNewLayer (raw : RawTech) (plane : ℕ) (names : List (List ℕ)) : Type 0 where
@@ -26,7 +27,7 @@ pub record IsNewLayer (raw : RawTech) (plane : ℕ) (names : List (List ℕ)) : 
   pub named : 0 < length names
   pub forms : All (λ name. IsTrue (is_layer_name name)) names
   pub new : (layer : LayerRec) (name : List ℕ) → In layer raw.layers → In name layer.names → In name names → ⊥
-  pub limit : length raw.types < 64
+  pub limit : length raw.types < MOST_TYPES
 
 atom-length : (raw : RawTech) (plane : ℕ) (names : List (List ℕ)) → length (with_atom raw plane names).types ≡ length raw.types + 1
 atom-length raw plane names = length_push raw.types (atom_on raw plane)

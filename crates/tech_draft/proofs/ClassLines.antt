@@ -1,5 +1,6 @@
 -- Lines `resist` and `cap` of the section `extract` keep the lists sound.
-use Rattle.std.proofs.Common.{◌≡◌, ◌≤◌, ◌==◌, ◌||◌, ℕ, ℤ, pos, negsuc, Bool, true, false, List, [], ◌∷◌, ◌++◌, length, get_or, set, refl, sym, subst, ◌∙◌, arith, inl, inr}
+use Rattle.std.proofs.Common.{◌≡◌, ◌≤◌, ◌==◌, ◌||◌, ℕ, ℤ, pos, negsuc, Bool, true, false, List, [], ◌∷◌, ◌++◌, length, get_or, set, refl, sym, subst, ◌∙◌}
+use Rattle.std.proofs.Common.{arith, inl, inr}
 use Rattle.std.specs.Prelude.{All, IsTrue, Some, None, Result, Ok, Err, not, nat_le, is_some, is_none, unwrap_or, if◌then◌else◌}
 use Rattle.std.proofs.lemmas.Bool.{cases_lt, leb-true, leb-false, eq-eqb, true≢false}
 use Rattle.std.proofs.lemmas.List.{length_push, length-set, get_or_past}
@@ -18,15 +19,18 @@ use Rattle.tech_model.specs.declared.faults.Table.TheVariants.{Classes}
 use Rattle.tech_model.specs.Types.{is_type}
 use Rattle.tech_model.specs.WellFormed.{IsClass, AreApart}
 use Rattle.tech_draft.specs.Drafts.{Drafted}
-use Rattle.tech_draft.specs.Entries.{pieces_of, name_part, is_entry_list, entry_types, entries_fault, types_of_list, has_type, measure_of, within_million, fault_if, first_where}
+use Rattle.tech_draft.specs.Entries.{pieces_of, name_part, is_entry_list, entry_types, entries_fault, types_of_list, has_type, measure_of, within_largest}
+use Rattle.tech_draft.specs.Entries.{fault_if, first_where}
 use Rattle.tech_draft.specs.ListLines.{class_of, has_class, resist_fault, class_with, with_class, no_class, class_at, class_of_list, with_cap}
 use Rattle.tech_draft.specs.Sound.{HasLists, HasSoundLists}
-use Rattle.tech_draft.proofs.ListFacts.{any_none, position_none, apart_set}
+use Rattle.tech_model.proofs.FirstPlaces.{position_none}
+use Rattle.tech_draft.proofs.ListFacts.{any_none, apart_set}
 use Rattle.tech_draft.proofs.NoFaults.{both_none, no_fault, first_none, none_of}
 use Rattle.tech_draft.proofs.Keeps.{same-keeps, kept_layers, kept_classes, kept_fets, kept_pairs}
 use Rattle.tech_draft.proofs.EntryTypes.{list_source, list_types}
+use Rattle.tech_model.specs.declared.limits.TheConstants.{MOST_CLASSES, LARGEST_MEASURE}
 
-classes-lists : (raw : RawTech) (classes : List ClassRec) → HasLists raw → length classes ≤ 16 → All (IsClass raw) classes → AreApart (λ class. class.types) classes → HasLists (record raw { classes = classes })
+classes-lists : (raw : RawTech) (classes : List ClassRec) → HasLists raw → length classes ≤ MOST_CLASSES → All (IsClass raw) classes → AreApart (λ class. class.types) classes → HasLists (record raw { classes = classes })
 classes-lists raw classes lists few all apart =
     let next : RawTech = record raw { classes = classes } in
     let keeps = same-keeps raw next refl in
@@ -52,17 +56,17 @@ classes-lists raw classes lists few all apart =
       fets_differ = lists.fets_differ;
     }
 
-small_if : (n : ℕ) (small : Bool) → nat_le n 1000000 ≡ small → unwrap_or (if small then Some n else None) 0 ≤ 1000000
-small_if n true is = leb-true n 1000000 is
+small_if : (n : ℕ) (small : Bool) → nat_le n LARGEST_MEASURE ≡ small → unwrap_or (if small then Some n else None) 0 ≤ LARGEST_MEASURE
+small_if n true is = leb-true n LARGEST_MEASURE is
 small_if n false is = omega arith
 
-million : (number : Result ℤ NumFault) → unwrap_or (within_million number) 0 ≤ 1000000
-million (Ok (pos n)) = small_if n (nat_le n 1000000) refl
-million (Ok (negsuc n)) = omega arith
-million (Err fault) = omega arith
+largest : (number : Result ℤ NumFault) → unwrap_or (within_largest number) 0 ≤ LARGEST_MEASURE
+largest (Ok (pos n)) = small_if n (nat_le n LARGEST_MEASURE) refl
+largest (Ok (negsuc n)) = omega arith
+largest (Err fault) = omega arith
 
-pub measure_small : (word : List ℕ) → unwrap_or (measure_of word) 0 ≤ 1000000
-measure_small word = million (number_of word)
+pub measure_small : (word : List ℕ) → unwrap_or (measure_of word) 0 ≤ LARGEST_MEASURE
+measure_small word = largest (number_of word)
 
 -- ---- a new class
 
@@ -83,8 +87,8 @@ new_class draft list value lists none =
     let raw = draft.raw in
     let form = both_none (fault_if (not (is_entry_list list) || is_none (measure_of value)) BadForm) _ none in
     let known = both_none (entries_fault raw (pieces_of list)) _ form.1 in
-    let once = both_none (first_where (has_class raw) (λ entry. Twice (name_part entry)) (pieces_of list)) (fault_if (nat_le 16 (length raw.classes)) (TooMany Classes)) known.1 in
-    let few = leb-false 16 (length raw.classes) (no_fault (nat_le 16 (length raw.classes)) (TooMany Classes) once.1) in
+    let once = both_none (first_where (has_class raw) (λ entry. Twice (name_part entry)) (pieces_of list)) (fault_if (nat_le MOST_CLASSES (length raw.classes)) (TooMany Classes)) known.1 in
+    let few = leb-false MOST_CLASSES (length raw.classes) (no_fault (nat_le MOST_CLASSES (length raw.classes)) (TooMany Classes) once.1) in
     let class : ClassRec = class_with (types_of_list raw list) (unwrap_or (measure_of value) 0) in
     classes-lists raw (raw.classes ++ class ∷ []) lists (omega (arith, few, length_push raw.classes class))
     (All-push (IsClass raw) raw.classes class lists.classes
@@ -110,7 +114,7 @@ class_at-is raw class lists = elim (cases_lt class (length raw.classes)) [
       (record { value = omega arith; per_area = omega arith; per_perimeter = omega arith; types = All-nil (λ (t : TypeId). IsTrue (is_type raw t.0)) })
 ]
 
-class_changed : (raw : RawTech) (class area perimeter : ℕ) → HasLists raw → area ≤ 1000000 → perimeter ≤ 1000000
+class_changed : (raw : RawTech) (class area perimeter : ℕ) → HasLists raw → area ≤ LARGEST_MEASURE → perimeter ≤ LARGEST_MEASURE
     → HasLists (record raw { classes = set raw.classes class (record (class_at raw class) { per_area = area; per_perimeter = perimeter }) })
 class_changed raw class area perimeter lists area_small perimeter_small =
     let was = class_at-is raw class lists in

@@ -12,12 +12,15 @@ use Rattle.tech_model.specs.declared.faults.Table.TheVariants.{Types}
 use Rattle.tech_model.specs.Types.{type_number, is_type, plane_of, images_of, layer_named}
 use Rattle.tech_draft.specs.Drafts.{Drafted}
 use Rattle.tech_draft.specs.Entries.{fault_if, first_where}
-use Rattle.tech_draft.specs.SetLines.{layer_of_word, type_of_word, plane_of_word, is_contact, is_expression, layer_words_fault, has_number, has_repeat, are_misplaced, contact_part_fault, is_contact_form, contact_rules_fault, contact_fault, other_residues, own_pair, with_contact}
+use Rattle.tech_draft.specs.SetLines.{layer_of_word, type_of_word, plane_of_word, is_contact, is_expression, layer_words_fault, has_number, has_repeat}
+use Rattle.tech_draft.specs.SetLines.{are_misplaced, contact_part_fault, is_contact_form, contact_rules_fault, contact_fault, other_residues, own_pair}
+use Rattle.tech_draft.specs.SetLines.{with_contact}
 use Rattle.tech_draft.specs.Sound.{HasLists, HasSoundLists}
 use Rattle.tech_draft.proofs.ListFacts.{All_from_In, any_none, one_thing, map_map, Distinct-map_filter, filter_fewer}
 use Rattle.tech_draft.proofs.NoFaults.{both_none, no_fault, first_none}
 use Rattle.tech_draft.proofs.WordTypes.{named_below, listed_layer, word_type}
 use Rattle.tech_draft.proofs.ContactLists.{HasRoom, imaged-lists}
+use Rattle.tech_model.specs.declared.limits.TheConstants.{MOST_TYPES}
 
 -- where no number stands twice, all differ, and none stands among those before them
 repeat_none : (before numbers : List ℕ) → has_repeat before numbers ≡ false → Distinct numbers × ((n : ℕ) → In n before → In n numbers → ⊥)
@@ -96,8 +99,8 @@ contact_room draft base residues lists none =
     let part = both_none (contact_part_fault draft base residues) _ once.1 in
     let well = no_fault (are_misplaced raw base residues) BadForm rules.0 in
     let named : (word : List ℕ) → In word (base ∷ residues) → is_none (layer_named raw word) ≡ false = λ word is. words_named raw (base ∷ residues) word words.0 is in
-    let few = no_fault (nat_lt 64 (length raw.types + (length residues - 1))) (TooMany Types) part.1 in
-    let limit : length raw.types + (length residues - 1) ≤ 64 = ltb-false 64 (length raw.types + (length residues - 1)) few in
+    let few = no_fault (nat_lt MOST_TYPES (length raw.types + (length residues - 1))) (TooMany Types) part.1 in
+    let limit : length raw.types + (length residues - 1) ≤ MOST_TYPES = ltb-false MOST_TYPES (length raw.types + (length residues - 1)) few in
     let fewer = few_others raw base residues well in
     record {
       layer_below = named_below raw base (named base (inl refl));

@@ -16,13 +16,15 @@ use Rattle.tech_draft.specs.Sound.{HasLists}
 use Rattle.tech_draft.proofs.ListFacts.{All_from_In, apart_set}
 use Rattle.tech_draft.proofs.Keeps.{kept_type, kept_layers, kept_classes, kept_fets, kept_pairs}
 use Rattle.tech_draft.proofs.WordTypes.{listed_layer, image_type}
-use Rattle.tech_draft.proofs.ContactImages.{imaged, imaged-length, imaged-keeps, imaged_cases, imaged_here, imaged_other, new_plane, new_layer, In-numbered, numbered_bounds, numbered_planes}
+use Rattle.tech_draft.proofs.ContactImages.{imaged, imaged-length, imaged-keeps, imaged_cases, imaged_here, imaged_other, new_plane, new_layer, In-numbered}
+use Rattle.tech_draft.proofs.ContactImages.{numbered_bounds, numbered_planes}
+use Rattle.tech_model.specs.declared.limits.TheConstants.{MOST_TYPES}
 
 -- the layer has this one image, and there is room for a type on another plane for each of the residues
 pub record HasRoom (raw : RawTech) (layer : ℕ) (own : TypeId) (others : List TypeId) : Type 0 where
   pub layer_below : layer < length raw.layers
   pub single : images_of raw layer ≡ own ∷ []
-  pub limit : length raw.types + length others ≤ 64
+  pub limit : length raw.types + length others ≤ MOST_TYPES
   pub residues : All (λ t. IsTrue (is_type raw t.0)) others
   pub planes : Distinct (plane_of raw own.0 ∷ map (λ t. plane_of raw t.0) others)
 

@@ -1,5 +1,6 @@
 -- What is known of a `contact` line that breaks no rule.
-use Rattle.std.specs.Prelude.{suc, ◌≡◌, ◌==◌, ◌+◌, ◌-◌, ◌<◌, ◌≤◌, ◌||◌, ◌&&◌, not, nat_lt, is_none, ℕ, Bool, true, false, cond, List, [], ◌∷◌, length, map, filter, None}
+use Rattle.std.specs.Prelude.{suc, ◌≡◌, ◌==◌, ◌+◌, ◌-◌, ◌<◌, ◌≤◌, ◌||◌, ◌&&◌, not, nat_lt, is_none, ℕ, Bool, true, false, cond, List, [], ◌∷◌, length, map}
+use Rattle.std.specs.Prelude.{filter, None}
 use Rattle.std.specs.List.{list_any}
 use Rattle.std.proofs.Common.{refl, ap, sym, ◌∙◌, arith, inl, inr}
 use Rattle.std.proofs.lemmas.Bool.{cases_Bool, ltb-false, ltb-true, or_cases}
@@ -10,8 +11,10 @@ use Rattle.tech_model.specs.declared.raw.TypeId.{TypeId}
 use Rattle.tech_model.specs.declared.faults.TechFault.TheVariants.{BadForm, NoType, Twice, ContactPart, TypeExpression, TooMany}
 use Rattle.tech_model.specs.Types.{layer_named}
 use Rattle.tech_draft.specs.Drafts.{Drafted}
-use Rattle.tech_draft.specs.SetLines.{type_of_word, plane_of_word, is_contact, is_contact_form, is_expression, is_part, are_misplaced, has_number, has_repeat, contact_fault, other_residues, numbered_from, new_images, with_contact_images}
+use Rattle.tech_draft.specs.SetLines.{type_of_word, plane_of_word, is_contact, is_contact_form, is_expression, is_part, are_misplaced, has_number, has_repeat}
+use Rattle.tech_draft.specs.SetLines.{contact_fault, other_residues, numbered_from, new_images, with_contact_images}
 use Rattle.tech_draft.proofs.Faults.{option_or-none, fault_if-none, first_where-none}
+use Rattle.tech_model.specs.declared.limits.TheConstants.{MOST_TYPES}
 
 pub record KeepsContactRules (draft : Drafted) (base : List ℕ) (residues : List (List ℕ)) : Type 0 where
   pub some : 2 < length (base ∷ residues)
@@ -20,7 +23,7 @@ pub record KeepsContactRules (draft : Drafted) (base : List ℕ) (residues : Lis
   pub simple : is_contact draft.raw base ≡ false
   pub free : is_part draft (type_of_word draft.raw base) ≡ false
   pub atoms : (word : List ℕ) → In word residues → (is_contact draft.raw word || (type_of_word draft.raw word).0 == (type_of_word draft.raw base).0) ≡ false
-  pub room : length draft.raw.types + (length residues - 1) ≤ 64
+  pub room : length draft.raw.types + (length residues - 1) ≤ MOST_TYPES
 
 not_false : (b : Bool) → not b ≡ false → b ≡ true
 not_false true e = refl
@@ -47,7 +50,7 @@ contact_fault-none draft base words e =
       simple = fault_if-none _ (Twice base) simple.0;
       free = fault_if-none _ (ContactPart base) own.0;
       atoms = first_where-none (λ word. is_contact draft.raw word || (type_of_word draft.raw word).0 == (type_of_word draft.raw base).0) ContactPart words own.1;
-      room = ltb-false 64 (length draft.raw.types + (length words - 1)) (fault_if-none _ _ parts.1);
+      room = ltb-false MOST_TYPES (length draft.raw.types + (length words - 1)) (fault_if-none _ _ parts.1);
     }
 
 length-numbered_from : (n : ℕ) (residues : List TypeId) → length (numbered_from n residues) ≡ length residues
@@ -95,7 +98,7 @@ pub base_plane_found : (raw : RawTech) (base : List ℕ) (residues : List (List 
 unfolding are_misplaced
 base_plane_found raw base residues placed = not_false _ (or_second (has_repeat [] (map (plane_of_word raw) residues)) _ placed)
 
-pub room_for_images : (draft : Drafted) (base : List ℕ) (residues : List (List ℕ)) → KeepsContactRules draft base residues → length draft.raw.types + length (other_residues draft.raw base residues) ≤ 64
+pub room_for_images : (draft : Drafted) (base : List ℕ) (residues : List (List ℕ)) → KeepsContactRules draft base residues → length draft.raw.types + length (other_residues draft.raw base residues) ≤ MOST_TYPES
 room_for_images draft base residues kept =
     let fewer = others_fewer draft.raw (plane_of_word draft.raw base) residues (base_plane_found draft.raw base residues kept.placed) in
     let same : length (other_residues draft.raw base residues) ≡ length (filter (λ word. not (plane_of_word draft.raw word == plane_of_word draft.raw base)) residues) = simp length-map refl in

@@ -8,7 +8,8 @@ use Rattle.finite_sets.proofs.Members.{In-filter_source, In-push_cases}
 use Rattle.tech_model.specs.declared.raw.TypeId.{TypeId}
 use Rattle.tech_model.specs.declared.raw.RawTech.{RawTech}
 use Rattle.tech_model.specs.Types.{is_type, plane_of, images_of, layer_named}
-use Rattle.tech_draft.specs.Entries.{has_slash, name_part, plane_part, plane_named, named_types, types_on, entry_types, has_type, with_type_once, types_of_list, pieces_of}
+use Rattle.tech_draft.specs.Entries.{has_slash, name_part, plane_part, plane_named, named_types, types_on, entry_types, has_type, with_type_once}
+use Rattle.tech_draft.specs.Entries.{types_of_list, pieces_of}
 use Rattle.tech_draft.specs.Sound.{HasLists}
 use Rattle.tech_draft.proofs.ListFacts.{All_from_In}
 use Rattle.tech_draft.proofs.WordTypes.{layer_named-below, image_type}

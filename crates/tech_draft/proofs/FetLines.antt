@@ -18,18 +18,20 @@ use Rattle.tech_model.specs.Forms.{is_naming_label}
 use Rattle.tech_model.specs.Types.{type_number, is_type}
 use Rattle.tech_model.specs.WellFormed.{IsFet}
 use Rattle.tech_draft.specs.Drafts.{Drafted}
-use Rattle.tech_draft.specs.Entries.{has_odd_byte, pieces_of, name_part, plane_part, names_no_plane, means_no_type, entry_types, entries_fault, fault_if, first_where}
+use Rattle.tech_draft.specs.Entries.{has_odd_byte, pieces_of, name_part, plane_part, names_no_plane, means_no_type, entry_types, entries_fault, fault_if}
+use Rattle.tech_draft.specs.Entries.{first_where}
 use Rattle.tech_draft.specs.ListLines.{fet_type, is_fet_form, fet_type_fault, fet_fault, fet_with, with_fet}
 use Rattle.tech_draft.specs.Sound.{HasLists, HasSoundLists}
 use Rattle.tech_draft.proofs.ListFacts.{any_none}
 use Rattle.tech_draft.proofs.NoFaults.{both_none, no_fault, first_none}
 use Rattle.tech_draft.proofs.Keeps.{same-keeps, kept_layers, kept_classes, kept_fets, kept_pairs}
 use Rattle.tech_draft.proofs.EntryTypes.{entry_type, list_types}
+use Rattle.tech_model.specs.declared.limits.TheConstants.{MOST_FETS}
 
 abbrev with_fets : RawTech → List FetRule → RawTech
 with_fets raw fets = record raw { fets = fets }
 
-fets-lists : (raw : RawTech) (fets : List FetRule) → HasLists raw → length fets ≤ 16 → All (IsFet raw) fets → Distinct (map (λ fet. fet.kind) fets) → HasLists (with_fets raw fets)
+fets-lists : (raw : RawTech) (fets : List FetRule) → HasLists raw → length fets ≤ MOST_FETS → All (IsFet raw) fets → Distinct (map (λ fet. fet.kind) fets) → HasLists (with_fets raw fets)
 fets-lists raw fets lists few all differ =
     let next = with_fets raw fets in
     let keeps = same-keeps raw next refl in
@@ -76,11 +78,11 @@ new_fet draft kind list name substrate lists none =
     let form = both_none (fault_if (not (is_fet_form kind list name substrate)) BadForm) _ none in
     let known = both_none (entries_fault raw (kind ∷ pieces_of list)) (fet_type_fault draft kind) form.1 in
     let one = both_none (fault_if (nat_lt 1 (length (entry_types raw kind))) BadForm) _ known.1 in
-    let once = both_none (fault_if (list_any (λ fet. fet.kind.0 == (fet_type raw kind).0) raw.fets) (Twice (name_part kind))) (fault_if (nat_le 16 (length raw.fets)) (TooMany Fets)) one.1 in
+    let once = both_none (fault_if (list_any (λ fet. fet.kind.0 == (fet_type raw kind).0) raw.fets) (Twice (name_part kind))) (fault_if (nat_le MOST_FETS (length raw.fets)) (TooMany Fets)) one.1 in
     let good = not-false (is_fet_form kind list name substrate) (no_fault (not (is_fet_form kind list name substrate)) BadForm form.0) in
     let label = and_parts _ (is_naming_label substrate) good in
     let plain = and_parts _ (is_plain_name name) label.0 in
-    let few = leb-false 16 (length raw.fets) (no_fault (nat_le 16 (length raw.fets)) (TooMany Fets) once.1) in
+    let few = leb-false MOST_FETS (length raw.fets) (no_fault (nat_le MOST_FETS (length raw.fets)) (TooMany Fets) once.1) in
     let new = no_fault (list_any (λ fet. fet.kind.0 == (fet_type raw kind).0) raw.fets) (Twice (name_part kind)) once.0 in
     let fet : FetRule = fet_with raw kind list name substrate in
     fets-lists raw (raw.fets ++ fet ∷ []) lists (omega (arith, few, length_push raw.fets fet))

@@ -1,5 +1,6 @@
 -- Lists: what a test says of all of a list, what a write keeps, and numbers that stand once.
-use Rattle.std.proofs.Common.{◌≡◌, ◌+◌, ◌<◌, ◌≤◌, ◌==◌, ℕ, Bool, true, false, List, [], ◌∷◌, length, map, filter, get_or, set, refl, sym, ap, subst, ◌∙◌, arith, inl, inr}
+use Rattle.std.proofs.Common.{◌≡◌, ◌+◌, ◌<◌, ◌≤◌, ◌==◌, ℕ, Bool, true, false, List, [], ◌∷◌, length, map, filter, get_or, set, refl, sym, ap, subst, ◌∙◌}
+use Rattle.std.proofs.Common.{arith, inl, inr}
 use Rattle.std.specs.Prelude.{All, Some, None, not, find}
 use Rattle.std.specs.List.{list_any, position_from}
 use Rattle.std.proofs.lemmas.Bool.{cases_Bool, cases_eq, cases_lt, or_parts, true≢false}
@@ -26,24 +27,6 @@ find_none test (y ∷ ys) x none (inl same) = elim (cases_Bool (test y)) [
 find_none test (y ∷ ys) x none (inr later) = elim (cases_Bool (test y)) [
   | inl passes ↦ let found : Some y ≡ None = rw passes at none in absurd (cc)
   | inr fails ↦ find_none test ys x (rw fails at none) later
-]
-
-pub position_below : {X : Type 0} (test : X → Bool) (n : ℕ) (xs : List X) (k : ℕ) → position_from test n xs ≡ Some k → k < n + length xs
-position_below test n [] k found = absurd (cc)
-position_below test n (x ∷ xs) k found = elim (cases_Bool (test x)) [
-  | inl passes ↦ let here : Some n ≡ Some k = rw passes at found in let same : n ≡ k = cc in omega arith
-  | inr fails ↦ let later = position_below test (n + 1) xs k (rw fails at found) in omega arith
-]
-
-pub position_none : {X : Type 0} (test : X → Bool) (n : ℕ) (xs : List X) (x : X) → position_from test n xs ≡ None → In x xs → test x ≡ false
-position_none test n [] x none absent = absurd absent
-position_none test n (y ∷ ys) x none (inl same) = elim (cases_Bool (test y)) [
-  | inl passes ↦ let found : Some n ≡ None = rw passes at none in absurd (cc)
-  | inr fails ↦ ap test (sym same) ∙ fails
-]
-position_none test n (y ∷ ys) x none (inr later) = elim (cases_Bool (test y)) [
-  | inl passes ↦ let found : Some n ≡ None = rw passes at none in absurd (cc)
-  | inr fails ↦ position_none test (n + 1) ys x (rw fails at none) later
 ]
 
 -- a write of something with the same f changes no f

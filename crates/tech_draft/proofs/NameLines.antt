@@ -17,6 +17,7 @@ use Rattle.tech_draft.specs.TypeLines.{tech_fault, with_name, plane_fault, with_
 use Rattle.tech_draft.specs.Sound.{HasLists, HasSoundLists}
 use Rattle.tech_draft.proofs.NoFaults.{both_none, no_fault, absent_word}
 use Rattle.tech_draft.proofs.Keeps.{same-keeps, kept_layers, kept_classes, kept_fets, kept_pairs}
+use Rattle.tech_model.specs.declared.limits.TheConstants.{MOST_PLANES}
 
 named-lists : (raw : RawTech) (name : List ℕ) → HasLists raw → IsTrue (is_plain_name name) → HasLists (record raw { name = name })
 named-lists raw name lists plain =
@@ -58,7 +59,7 @@ lists-tech draft (name ∷ more ∷ words) lists none = lists
 abbrev with_plane_name : RawTech → List ℕ → RawTech
 with_plane_name raw name = record raw { planes = raw.planes ++ name ∷ [] }
 
-plane-lists : (raw : RawTech) (name : List ℕ) → HasLists raw → IsTrue (is_plain_name name) → list_any (bytes_eq name) raw.planes ≡ false → length raw.planes < 8 → HasLists (with_plane_name raw name)
+plane-lists : (raw : RawTech) (name : List ℕ) → HasLists raw → IsTrue (is_plain_name name) → list_any (bytes_eq name) raw.planes ≡ false → length raw.planes < MOST_PLANES → HasLists (with_plane_name raw name)
 plane-lists raw name lists plain new few =
     let next = with_plane_name raw name in
     let keeps = same-keeps raw next refl in
@@ -89,11 +90,11 @@ plane_line : (draft : Drafted) (name : List ℕ) → HasSoundLists draft → pla
 unfolding plane_fault
 plane_line draft name lists none =
     let form = both_none (fault_if (not (is_plain_name name)) BadForm) _ none in
-    let once = both_none (fault_if (list_any (bytes_eq name) draft.raw.planes) (Twice name)) (fault_if (nat_le 8 (length draft.raw.planes)) (TooMany Planes)) form.1 in
+    let once = both_none (fault_if (list_any (bytes_eq name) draft.raw.planes) (Twice name)) (fault_if (nat_le MOST_PLANES (length draft.raw.planes)) (TooMany Planes)) form.1 in
     plane-lists draft.raw name lists
     (not-false (is_plain_name name) (no_fault (not (is_plain_name name)) BadForm form.0))
     (no_fault (list_any (bytes_eq name) draft.raw.planes) (Twice name) once.0)
-    (leb-false 8 (length draft.raw.planes) (no_fault (nat_le 8 (length draft.raw.planes)) (TooMany Planes) once.1))
+    (leb-false MOST_PLANES (length draft.raw.planes) (no_fault (nat_le MOST_PLANES (length draft.raw.planes)) (TooMany Planes) once.1))
 
 pub lists-planes : (draft : Drafted) (words : List (List ℕ)) → HasSoundLists draft → plane_fault draft words ≡ None → HasSoundLists (with_plane draft words)
 lists-planes draft [] lists none = lists

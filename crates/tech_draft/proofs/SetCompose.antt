@@ -16,7 +16,8 @@ use Rattle.tech_draft.specs.Drafts.{Drafted}
 use Rattle.tech_draft.specs.Entries.{has_type}
 use Rattle.tech_draft.specs.SetLines.{type_of_word, plane_of_word, is_contact, are_composable, is_settled, with_union, compose_fault, with_compose}
 use Rattle.tech_draft.specs.Sound.{IsMadeOf, composed, IsNoted, HasSoundLists, HasSoundSets}
-use Rattle.tech_draft.proofs.SetSteps.{KeepsType, KeepsSet, parts_at, simple_kept, simple_before, made_same, noted_kept, rules_none, fault_if_none, first_where_none, lacks_type}
+use Rattle.tech_draft.proofs.SetSteps.{KeepsType, KeepsSet, parts_at, simple_kept, simple_before, made_same, noted_kept, rules_none, fault_if_none}
+use Rattle.tech_draft.proofs.SetSteps.{first_where_none, lacks_type}
 use Rattle.tech_draft.proofs.SetWords.{word_named, simple_word}
 
 -- Three types of one plane that are no contacts and differ, where the first is no part so far.

@@ -1,5 +1,6 @@
 -- What a `contact` line makes of the sets of types.
-use Rattle.std.proofs.Common.{◌≡◌, ◌≢◌, ◌⊎◌, ◌<◌, ◌≤◌, ◌-◌, ◌^◌, ◌+◌, ◌==◌, ℕ, zero, suc, Bool, cond, List, [], ◌∷◌, ◌++◌, length, map, set, get_or, refl, sym, ap, subst, ◌∙◌, arith, inl, inr, length-append}
+use Rattle.std.proofs.Common.{◌≡◌, ◌≢◌, ◌⊎◌, ◌<◌, ◌≤◌, ◌-◌, ◌^◌, ◌+◌, ◌==◌, ℕ, zero, suc, Bool, cond, List, [], ◌∷◌, ◌++◌, length, map, set, get_or, refl}
+use Rattle.std.proofs.Common.{sym, ap, subst, ◌∙◌, arith, inl, inr, length-append}
 use Rattle.std.specs.Prelude.{IsTrue, find, Some, None}
 use Rattle.std.specs.Option.{option_or}
 use Rattle.std.proofs.lemmas.Bool.{cases_eq, cases_lt, eq-eqb, ne_eqb}
@@ -20,6 +21,7 @@ use Rattle.tech_draft.specs.SetLines.{mark_bit, numbered_from, image_record, con
 use Rattle.tech_draft.specs.Residues.{residue_of}
 use Rattle.tech_draft.specs.Sound.{IsNoted, HasSoundLists, HasSoundSets}
 use Rattle.tech_draft.proofs.SetSteps.{KeepsSet, parts_at, simple_kept, simple_before, made_same, noted_kept}
+use Rattle.tech_model.specs.declared.limits.TheConstants.{FIRST_MARK}
 
 -- ---- numbered residues
 
@@ -171,7 +173,7 @@ record IsImage (new : Drafted) (layer t : ℕ) : Type 0 where
   is : IsTrue (is_type new.raw t)
   placed : layer_of new.raw t ≡ layer
   many : 1 < length (images_of new.raw (layer_of new.raw t))
-  mark : parts_of new.raw t ≡ 2 ^ (64 + layer_of new.raw t)
+  mark : parts_of new.raw t ≡ 2 ^ (FIRST_MARK + layer_of new.raw t)
 
 is_many : (draft : Drafted) (layer : ℕ) (own : TypeId × TypeId) (others : List TypeId) (t : ℕ) → IsContactLine draft layer own others
     → layer_of (raw_after draft layer own others) t ≡ layer → 1 < length (images_of (raw_after draft layer own others) (layer_of (raw_after draft layer own others) t))
@@ -193,7 +195,7 @@ own_image_after draft layer own others line =
       is = is;
       placed = here;
       many = is_many draft layer own others own.0.0 line here;
-      mark = parts_at new own.0.0 is ∙ ap (λ (x : TypeRec). x.parts.0) at ∙ ap (λ (l : ℕ). 2 ^ (64 + l)) (sym here);
+      mark = parts_at new own.0.0 is ∙ ap (λ (x : TypeRec). x.parts.0) at ∙ ap (λ (l : ℕ). 2 ^ (FIRST_MARK + l)) (sym here);
     }
 
 added_image_after : (draft : Drafted) (layer : ℕ) (own : TypeId × TypeId) (others : List TypeId) (k : ℕ) → IsContactLine draft layer own others → k < length others
@@ -208,7 +210,7 @@ added_image_after draft layer own others k line below =
       is = is;
       placed = here;
       many = is_many draft layer own others t line here;
-      mark = parts_at new t is ∙ ap (λ (x : TypeRec). x.parts.0) at ∙ ap (λ (l : ℕ). 2 ^ (64 + l)) (sym here);
+      mark = parts_at new t is ∙ ap (λ (x : TypeRec). x.parts.0) at ∙ ap (λ (l : ℕ). 2 ^ (FIRST_MARK + l)) (sym here);
     }
 
 -- a type after the line is the base, another type from before, or a new image

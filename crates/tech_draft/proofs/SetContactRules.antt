@@ -1,5 +1,6 @@
 -- What is known of a `contact` line that breaks no rule, and that it keeps the sets of types sound.
-use Rattle.std.proofs.Common.{◌≡◌, ◌≢◌, ◌<◌, ◌==◌, ◌||◌, ℕ, Bool, true, false, cond, List, [], ◌∷◌, length, map, filter, refl, sym, ap, subst, ◌∙◌, arith, inl, inr}
+use Rattle.std.proofs.Common.{◌≡◌, ◌≢◌, ◌<◌, ◌==◌, ◌||◌, ℕ, Bool, true, false, cond, List, [], ◌∷◌, length, map, filter, refl, sym, ap, subst, ◌∙◌, arith}
+use Rattle.std.proofs.Common.{inl, inr}
 use Rattle.std.specs.Prelude.{IsTrue, not, find, Option, Some, None, is_none, unwrap_or}
 use Rattle.std.specs.List.{list_any}
 use Rattle.std.proofs.lemmas.Bool.{cases_Bool, cases_lt, le-ltb, cases_eq, eqb-true, eqb-false, ne_eqb, not-false, or_parts, true≢false}
@@ -14,7 +15,8 @@ use Rattle.tech_model.specs.WellFormed.{IsSimple}
 use Rattle.tech_model.proofs.PairSearch.{find-In, find-passes}
 use Rattle.tech_draft.specs.Drafts.{Drafted}
 use Rattle.tech_draft.specs.Entries.{has_type}
-use Rattle.tech_draft.specs.SetLines.{is_contact_form, layer_of_word, type_of_word, plane_of_word, is_contact, is_part, has_number, has_repeat, are_misplaced, home_residue, other_residues, own_pair, contact_fault, with_contact}
+use Rattle.tech_draft.specs.SetLines.{is_contact_form, layer_of_word, type_of_word, plane_of_word, is_contact, is_part, has_number, has_repeat, are_misplaced}
+use Rattle.tech_draft.specs.SetLines.{home_residue, other_residues, own_pair, contact_fault, with_contact}
 use Rattle.tech_draft.specs.Sound.{HasSoundLists, HasSoundSets}
 use Rattle.tech_draft.proofs.SetSteps.{rules_none, fault_if_none, first_where_none, list_any_false, lacks_type}
 use Rattle.tech_draft.proofs.SetWords.{word_named, simple_word, single_word}

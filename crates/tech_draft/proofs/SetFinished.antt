@@ -1,5 +1,6 @@
 -- The sets of a finished_each technology are well formed.
-use Rattle.std.proofs.Common.{◌≡◌, ◌≢◌, ◌⊎◌, ◌<◌, ◌≤◌, ◌-◌, ◌*◌, ◌^◌, ◌+◌, ◌==◌, ℕ, zero, suc, List, [], ◌∷◌, length, get_or, bit_or, refl, sym, ap, subst, ◌∙◌, arith, inl, inr}
+use Rattle.std.proofs.Common.{◌≡◌, ◌≢◌, ◌⊎◌, ◌<◌, ◌≤◌, ◌-◌, ◌*◌, ◌^◌, ◌+◌, ◌==◌, ℕ, zero, suc, List, [], ◌∷◌, length, get_or, bit_or, refl, sym, ap, subst}
+use Rattle.std.proofs.Common.{◌∙◌, arith, inl, inr}
 use Rattle.std.specs.Prelude.{IsTrue, All, Option, Some, None}
 use Rattle.std.specs.Int.{bit_at}
 use Rattle.std.specs.Int.Bits.{or_zero_r}
@@ -20,6 +21,7 @@ use Rattle.tech_draft.specs.Residues.{residue_of}
 use Rattle.tech_draft.proofs.FinishedTypes.{residue_parts, finished_type, finished_from, finished_each}
 use Rattle.tech_draft.specs.Sound.{IsMadeOf, atom, composed, IsNoted, HasSoundLists, HasSoundSets}
 use Rattle.tech_draft.proofs.SetSteps.{KeepsType, KeepsSet, parts_at, simple_kept, simple_before, union_same}
+use Rattle.tech_model.specs.declared.limits.TheConstants.{MOST_TYPES, FIRST_MARK}
 
 -- ---- the types of a finished_each technology
 
@@ -113,9 +115,9 @@ simple_set draft t sets (composed _ first second union _ _ of_first of_second) i
     (simple_set draft first sets of_first union.first_type union.first_simple)
     (simple_set draft second sets of_second union.second_type union.second_simple)
 
--- they have no bit from 64 on
-simple_bits : (draft : Drafted) (t k : ℕ) → length draft.raw.types ≤ 64 → IsMadeOf draft.raw draft.used t → IsTrue (is_type draft.raw t)
-    → bit_at (parts_of draft.raw t) k ≡ 1 → k < 64
+-- they have no bit from that of the first mark on
+simple_bits : (draft : Drafted) (t k : ℕ) → length draft.raw.types ≤ MOST_TYPES → IsMadeOf draft.raw draft.used t → IsTrue (is_type draft.raw t)
+    → bit_at (parts_of draft.raw t) k ≡ 1 → k < MOST_TYPES
 simple_bits draft t k limit (atom _ set) is bit =
     let bounds = type_bounds draft.raw t is in
     elim (cases_eq k (t - 1)) [
@@ -130,7 +132,7 @@ simple_bits draft t k limit (composed _ first second union _ _ of_first of_secon
       | inr there ↦ simple_bits draft second k limit of_second union.second_type there
     ]
 
-no_high_bit : (draft : Drafted) (t bit : ℕ) → HasSoundLists draft → HasSoundSets draft → IsTrue (is_type draft.raw t) → IsSimple draft.raw t → 64 ≤ bit
+no_high_bit : (draft : Drafted) (t bit : ℕ) → HasSoundLists draft → HasSoundSets draft → IsTrue (is_type draft.raw t) → IsSimple draft.raw t → FIRST_MARK ≤ bit
     → bit_at (parts_of draft.raw t) bit ≡ 1 → ⊥
 no_high_bit draft t bit lists sets is simple high one =
     let low = simple_bits draft t bit lists.types_limit (sets.simple t is simple) is one in omega (arith, low)
@@ -139,13 +141,13 @@ no_high_bit draft t bit lists sets is simple high one =
 
 -- the set of an image of a contact
 noted_set : (draft : Drafted) (t : ℕ) (noted : IsNoted draft t) → IsTrue (is_type draft.raw t)
-    → parts_of (finished_each draft) t ≡ bit_or (2 ^ (64 + layer_of draft.raw t)) (parts_of draft.raw noted.residue)
+    → parts_of (finished_each draft) t ≡ bit_or (2 ^ (FIRST_MARK + layer_of draft.raw t)) (parts_of draft.raw noted.residue)
 noted_set draft t noted is =
     parts_finished draft t is ∙ ap (λ o. bit_or (parts_of draft.raw t) (residue_parts draft.raw o)) noted.noted
     ∙ ap (λ (n : ℕ). bit_or n (parts_of draft.raw noted.residue)) noted.mark
 
 image_marked : (draft : Drafted) (layer t : ℕ) → HasSoundSets draft → IsTrue (is_type draft.raw t) → layer_of draft.raw t ≡ layer
-    → 1 < length (images_of draft.raw layer) → IsMarked (finished_each draft) (64 + layer) t
+    → 1 < length (images_of draft.raw layer) → IsMarked (finished_each draft) (FIRST_MARK + layer) t
 image_marked draft layer t sets is here many =
     let noted = sets.images t is (omega (arith, many, ap (λ (l : ℕ). length (images_of draft.raw l)) here)) in
     let residue = simple_same draft noted.residue sets noted.residue_type noted.residue_simple in
@@ -155,9 +157,9 @@ image_marked draft layer t sets is here many =
       residue_type = residue.kept.is;
       residue_simple = simple_kept draft.raw (finished_each draft) noted.residue residue.kept noted.residue_simple;
       residue_plane = residue.kept.plane ∙ noted.residue_plane ∙ sym kept.plane;
-      set = noted_set draft t noted is ∙ or_comm (2 ^ (64 + layer_of draft.raw t)) (parts_of draft.raw noted.residue)
-          ∙ ap (λ (l : ℕ). bit_or (parts_of draft.raw noted.residue) (2 ^ (64 + l))) here
-          ∙ ap (λ (n : ℕ). bit_or n (2 ^ (64 + layer))) (sym residue.set);
+      set = noted_set draft t noted is ∙ or_comm (2 ^ (FIRST_MARK + layer_of draft.raw t)) (parts_of draft.raw noted.residue)
+          ∙ ap (λ (l : ℕ). bit_or (parts_of draft.raw noted.residue) (2 ^ (FIRST_MARK + l))) here
+          ∙ ap (λ (n : ℕ). bit_or n (2 ^ (FIRST_MARK + layer))) (sym residue.set);
     }
 
 -- a type is of a layer with one image, or of a contact
@@ -168,17 +170,17 @@ simple_or_contact draft t lists is =
 
 -- no type of another layer has the mark
 mark_absent : (draft : Drafted) (layer t : ℕ) → HasSoundLists draft → HasSoundSets draft → IsTrue (is_type draft.raw t) → layer_of draft.raw t ≢ layer
-    → bit_at (parts_of (finished_each draft) t) (64 + layer) ≡ 1 → ⊥
+    → bit_at (parts_of (finished_each draft) t) (FIRST_MARK + layer) ≡ 1 → ⊥
 mark_absent draft layer t lists sets is other bit = elim (simple_or_contact draft t lists is) [
   | inl simple ↦
-      no_high_bit draft t (64 + layer) lists sets is simple (omega arith) (sym (ap (λ (n : ℕ). bit_at n (64 + layer)) (simple_same draft t sets is simple).set) ∙ bit)
+      no_high_bit draft t (FIRST_MARK + layer) lists sets is simple (omega arith) (sym (ap (λ (n : ℕ). bit_at n (FIRST_MARK + layer)) (simple_same draft t sets is simple).set) ∙ bit)
   | inr many ↦
       let noted = sets.images t is many in
-      elim (or_bit_cases (2 ^ (64 + layer_of draft.raw t)) (parts_of draft.raw noted.residue) (64 + layer) (sym (ap (λ (n : ℕ). bit_at n (64 + layer)) (noted_set draft t noted is)) ∙ bit)) [
+      elim (or_bit_cases (2 ^ (FIRST_MARK + layer_of draft.raw t)) (parts_of draft.raw noted.residue) (FIRST_MARK + layer) (sym (ap (λ (n : ℕ). bit_at n (FIRST_MARK + layer)) (noted_set draft t noted is)) ∙ bit)) [
         | inl of_mark ↦
-            let apart : ◌≡◌ {A = ℕ} 1 0 = sym of_mark ∙ bit_at-pow_other (64 + layer_of draft.raw t) (64 + layer) (λ (same : 64 + layer ≡ 64 + layer_of draft.raw t). other (omega (arith, same))) in
+            let apart : ◌≡◌ {A = ℕ} 1 0 = sym of_mark ∙ bit_at-pow_other (FIRST_MARK + layer_of draft.raw t) (FIRST_MARK + layer) (λ (same : FIRST_MARK + layer ≡ FIRST_MARK + layer_of draft.raw t). other (omega (arith, same))) in
             omega (arith, apart)
-        | inr of_residue ↦ no_high_bit draft noted.residue (64 + layer) lists sets noted.residue_type noted.residue_simple (omega arith) of_residue
+        | inr of_residue ↦ no_high_bit draft noted.residue (FIRST_MARK + layer) lists sets noted.residue_type noted.residue_simple (omega arith) of_residue
       ]
 ]
 
@@ -186,20 +188,20 @@ finished_contact : (draft : Drafted) (layer : ℕ) → HasSoundLists draft → H
     → IsContact (finished_each draft) layer
 finished_contact draft layer lists sets below many =
     let new = finished_each draft in
-    let images : All (λ (t : TypeId). IsMarked new (64 + layer) t.0) (images_of draft.raw layer) = λ k d inside.
+    let images : All (λ (t : TypeId). IsMarked new (FIRST_MARK + layer) t.0) (images_of draft.raw layer) = λ k d inside.
     let t = get_or (images_of draft.raw layer) k d in
     let is = (lists.layers layer no_layer below).images k d inside in
     image_marked draft layer t.0 sets is (lists.of_one_layer layer t.0 below (In-get_or (images_of draft.raw layer) k d inside)) many in
     record {
-      bit = 64 + layer;
+      bit = FIRST_MARK + layer;
       above_atoms = omega arith;
       below_limit = omega (arith, below, lists.layers_limit, lists.types_limit);
-      images = subst (All (λ (t : TypeId). IsMarked new (64 + layer) t.0)) (sym (finished_images draft layer)) images;
+      images = subst (All (λ (t : TypeId). IsMarked new (FIRST_MARK + layer) t.0)) (sym (finished_images draft layer)) images;
       own = λ t is other.
           let was = was_type draft t is in
           let elsewhere : layer_of draft.raw t ≢ layer = λ same. other ((kept_finished draft t was).layer ∙ same) in
-          elim (bit_cases (parts_of new t) (64 + layer)) [
-            | inl clear ↦ and_pow (parts_of new t) (64 + layer) ∙ ap (λ (x : ℕ). x * 2 ^ (64 + layer)) clear ∙ omega arith
+          elim (bit_cases (parts_of new t) (FIRST_MARK + layer)) [
+            | inl clear ↦ and_pow (parts_of new t) (FIRST_MARK + layer) ∙ ap (λ (x : ℕ). x * 2 ^ (FIRST_MARK + layer)) clear ∙ omega arith
             | inr set ↦ absurd (mark_absent draft layer t lists sets was elsewhere set)
           ];
     }

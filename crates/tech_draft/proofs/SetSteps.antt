@@ -17,6 +17,7 @@ use Rattle.tech_draft.specs.Entries.{fault_if, first_where, has_type}
 use Rattle.tech_draft.specs.Residues.{residue_of}
 use Rattle.tech_draft.specs.Lines.{line_fault, with_line, unless, line_in}
 use Rattle.tech_draft.specs.Sound.{IsMadeOf, atom, composed, IsNoted}
+use Rattle.tech_model.specs.declared.limits.TheConstants.{FIRST_MARK}
 
 -- ---- rules that give no fault
 
@@ -106,7 +107,7 @@ made_same old new used more t all within same (composed _ first second union fir
 pub noted_kept : (old new : Drafted) (t : ℕ) (noted : IsNoted old t) → KeepsSet old.raw new.raw t → KeepsType old.raw new.raw noted.residue
     → residue_of new t ≡ residue_of old t → IsNoted new t
 noted_kept old new t noted same residue found = record {
-  mark = same.set ∙ noted.mark ∙ ap (λ (layer : ℕ). 2 ^ (64 + layer)) (sym same.kept.layer);
+  mark = same.set ∙ noted.mark ∙ ap (λ (layer : ℕ). 2 ^ (FIRST_MARK + layer)) (sym same.kept.layer);
   residue = noted.residue;
   noted = found ∙ noted.noted;
   residue_type = residue.is;

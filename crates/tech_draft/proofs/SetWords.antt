@@ -4,23 +4,12 @@ use Rattle.std.specs.Prelude.{IsTrue, Option, Some, None, is_none, unwrap_or}
 use Rattle.std.specs.List.{position_from}
 use Rattle.std.proofs.lemmas.Bool.{cases_Bool, ltb-false, true≢false}
 use Rattle.finite_sets.proofs.Members.{In-get_or}
+use Rattle.tech_model.proofs.FirstPlaces.{position_below}
 use Rattle.tech_model.specs.Types.{is_type, no_layer, layer_of, images_of, layer_named, has_name, type_number}
 use Rattle.tech_model.specs.WellFormed.{IsSimple}
 use Rattle.tech_draft.specs.Drafts.{Drafted}
 use Rattle.tech_draft.specs.SetLines.{layer_of_word, type_of_word, is_contact}
 use Rattle.tech_draft.specs.Sound.{HasSoundLists}
-
-position_below : {X : Type 0} (test : X → Bool) (i : ℕ) (xs : List X) (n : ℕ) → position_from test i xs ≡ Some n → n < i + length xs
-position_below test i [] n is = absurd (cc)
-position_below test i (x ∷ xs) n is = elim (cases_Bool (test x)) [
-  | inl passes ↦
-      let found : Some i ≡ Some n = sym (ap (λ (b : Bool). cond b (Some i) (position_from test (i + 1) xs)) passes) ∙ is in
-      let same : i ≡ n = cc in
-      omega arith
-  | inr fails ↦
-      let later = position_below test (i + 1) xs n (sym (ap (λ (b : Bool). cond b (Some i) (position_from test (i + 1) xs)) fails) ∙ is) in
-      omega (arith, later)
-]
 
 some_of : (found : Option ℕ) → is_none found ≡ false → (n : ℕ) × (found ≡ Some n)
 some_of None is = absurd (true≢false is)

@@ -1,6 +1,7 @@
 -- Lists of a few items, the pieces of a comma list, and the last byte of a text.
 use Rattle.std.proofs.lemmas.List.{take_all}
-use Rattle.std.specs.Prelude.{◌-◌, ◌≡◌, ◌==◌, ◌+◌, ◌<◌, ◌≤◌, ◌&&◌, ℕ, Bool, true, false, cond, suc, zero, List, [], ◌∷◌, length, take, drop, Option, Some, None, position}
+use Rattle.std.specs.Prelude.{◌-◌, ◌≡◌, ◌==◌, ◌+◌, ◌<◌, ◌≤◌, ◌&&◌, ℕ, Bool, true, false, cond, suc, zero, List, [], ◌∷◌, length, take, drop, Option, Some}
+use Rattle.std.specs.Prelude.{None, position}
 use Rattle.std.specs.List.{slice_split, position_or_len, All}
 use Rattle.std.proofs.Common.{refl, sym, ap, ◌∙◌, get_or, arith, rules, inl, inr}
 use Rattle.std.proofs.lemmas.Bool.{cases_lt, lt-ltb, le-ltb}

@@ -11,33 +11,17 @@ use Rattle.tech_model.specs.declared.raw.RawTech.{RawTech}
 use Rattle.tech_model.specs.declared.faults.TechFault.TheVariants.{Twice}
 use Rattle.tech_model.specs.LayerWords.{layer_in}
 use Rattle.tech_model.specs.Types.{layer_named}
+use Rattle.tech_model.proofs.LayerWordLaws.{layer_or, position_from-push}
 use Rattle.tech_draft.specs.declared.draft.Draft.TheInside.{Inside}
 use Rattle.tech_draft.specs.Drafts.{Drafted}
 use Rattle.tech_draft.specs.Kept.{draft_of, IsKept}
 use Rattle.tech_draft.specs.Room.{HasRoom}
 use Rattle.tech_draft.specs.TypeLines.{repeated_name, with_atom, atom_layer}
+use Rattle.tech_model.specs.declared.limits.TheConstants.{MOST_TYPES}
 
--- where the list before has no such item, the one at the end may be it
-position_from-push : {X : Type 0} (test : X → Bool) (i : ℕ) (xs : List X) (y : X)
-    → (test y ≡ true → position_from test i xs ≡ None → position_from test i (xs ++ y ∷ []) ≡ Some (i + length xs))
-    × (test y ≡ false → position_from test i (xs ++ y ∷ []) ≡ position_from test i xs)
-position_from-push test i [] y = (
-  λ passes none. ap (λ (b : Bool). cond b (Some i) None) passes ∙ ap (λ (n : ℕ). Some n) (omega arith),
-  λ fails. ap (λ (b : Bool). cond b (Some i) None) fails,
-)
-position_from-push test i (x ∷ xs) y =
-    let rest = position_from-push test (i + 1) xs y in (
-      λ passes none.
-          elim (cases_Bool (test x)) [
-            | inl here ↦ absurd (let found : position_from test i (x ∷ xs) ≡ Some i = ap (λ (b : Bool). cond b (Some i) (position_from test (i + 1) xs)) here in cc)
-            | inr away ↦
-                let later : position_from test i (x ∷ xs) ≡ position_from test (i + 1) xs = ap (λ (b : Bool). cond b (Some i) (position_from test (i + 1) xs)) away in
-                let more : position_from test i (x ∷ xs ++ y ∷ []) ≡ position_from test (i + 1) (xs ++ y ∷ []) =
-                ap (λ (b : Bool). cond b (Some i) (position_from test (i + 1) (xs ++ y ∷ []))) away in
-                more ∙ (rest.0 passes (sym later ∙ none) ∙ ap (λ (n : ℕ). Some n) (omega arith))
-          ],
-      λ fails. ap (λ (o : Option ℕ). cond (test x) (Some i) o) (rest.1 fails),
-    )
+not_named : (o : Option ℕ) (n : ℕ) → layer_or o false n ≡ o
+not_named None n = refl
+not_named (Some k) n = refl
 
 same_bytes : (xs ys : List ℕ) → bytes_eq xs ys ≡ true → xs ≡ ys
 same_bytes xs ys e = grind (arith, common_steps, bytes_eq-Decides xs ys)
@@ -70,15 +54,20 @@ layer_named-push raw plane names word fresh =
     let push = position_from-push (λ (layer : LayerRec). list_any (bytes_eq word) layer.names) 0 raw.layers (atom_layer raw names) in
     elim (cases_Bool (list_any (bytes_eq word) names)) [
       | inl found ↦
+          let none = repeated_name-none raw [] names word fresh found in
           ap (λ (b : Bool). cond b (Some (length raw.layers)) (layer_named raw word)) found
-          ∙ (ap (λ (n : ℕ). Some n) (omega arith) ∙ sym (push.0 found (repeated_name-none raw [] names word fresh found)))
-      | inr missing ↦ ap (λ (b : Bool). cond b (Some (length raw.layers)) (layer_named raw word)) missing ∙ sym (push.1 missing)
+          ∙ ap (λ (n : ℕ). Some n) (omega arith)
+          ∙ sym (push ∙ ap (λ (o : Option ℕ). layer_or o (list_any (bytes_eq word) names) (0 + length raw.layers)) none
+          ∙ ap (λ (b : Bool). layer_or None b (0 + length raw.layers)) found)
+      | inr missing ↦
+          ap (λ (b : Bool). cond b (Some (length raw.layers)) (layer_named raw word)) missing
+          ∙ sym (push ∙ ap (λ (b : Bool). layer_or (layer_named raw word) b (0 + length raw.layers)) missing ∙ not_named (layer_named raw word) (0 + length raw.layers))
     ]
 
 abbrev pub with_new_atom : Drafted → ℕ → List (List ℕ) → Drafted
 with_new_atom draft plane names = record draft { raw = with_atom draft.raw plane names }
 
-pub type-room : (draft : Drafted) (plane : ℕ) (names : List (List ℕ)) → HasRoom draft → length draft.raw.types < 64 → HasRoom (with_new_atom draft plane names)
+pub type-room : (draft : Drafted) (plane : ℕ) (names : List (List ℕ)) → HasRoom draft → length draft.raw.types < MOST_TYPES → HasRoom (with_new_atom draft plane names)
 type-room draft plane names kept free =
     let types : length (with_atom draft.raw plane names).types ≡ length draft.raw.types + 1 = simp length-append refl in
     let layers : length (with_atom draft.raw plane names).layers ≡ length draft.raw.layers + 1 = simp length-append refl in
@@ -88,7 +77,7 @@ type-room draft plane names kept free =
       layers_limit = omega (arith, kept.layers_limit);
     }
 
-pub type-kept : (before after : Inside) (plane : ℕ) (names : List (List ℕ)) → IsKept before → length before.types.items < 64
+pub type-kept : (before after : Inside) (plane : ℕ) (names : List (List ℕ)) → IsKept before → length before.types.items < MOST_TYPES
     → repeated_name (draft_of before).raw [] names ≡ None
     → ((word : List ℕ) → layer_in after.index word ≡ (if list_any (bytes_eq word) names then Some (length before.layers.items) else layer_in before.index word))
     → draft_of after ≡ with_new_atom (draft_of before) plane names → IsKept after

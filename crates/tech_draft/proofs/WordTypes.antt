@@ -10,7 +10,7 @@ use Rattle.tech_model.specs.WellFormed.{IsLayer}
 use Rattle.tech_model.proofs.WellFormedLaws.{All_In}
 use Rattle.tech_draft.specs.SetLines.{layer_of_word, type_of_word, own_image}
 use Rattle.tech_draft.specs.Sound.{HasLists}
-use Rattle.tech_draft.proofs.ListFacts.{position_below}
+use Rattle.tech_model.proofs.FirstPlaces.{position_below}
 use Rattle.tech_draft.proofs.NoFaults.{some_below}
 
 pub layer_named-below : (raw : RawTech) (word : List ℕ) (layer : ℕ) → layer_named raw word ≡ Some layer → layer < length raw.layers

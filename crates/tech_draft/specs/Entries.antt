@@ -1,5 +1,6 @@
 -- Words of a technology's lines: comma lists, their entries, and what an entry stands for.
-use Rattle.std.specs.Prelude.{◌==◌, ◌&&◌, ◌||◌, not, nat_lt, nat_le, is_none, if◌then◌else◌, ℕ, ℤ, pos, negsuc, Bool, List, [], ◌∷◌, ◌++◌, length, filter, find, position, fold, slice_index_or, Option, Some, None, Result, Ok, Err}
+use Rattle.std.specs.Prelude.{◌==◌, ◌&&◌, ◌||◌, not, nat_lt, nat_le, is_none, if◌then◌else◌, ℕ, ℤ, pos, negsuc, Bool, List, [], ◌∷◌, ◌++◌, length, filter}
+use Rattle.std.specs.Prelude.{find, position, fold, slice_index_or, Option, Some, None, Result, Ok, Err}
 use Rattle.std.specs.List.{list_any, list_all, slice_split, before_first, after_first}
 use Rattle.std.specs.Option.{option_map, option_map_or}
 use Rattle.std.specs.Str.{bytes_eq}
@@ -12,6 +13,7 @@ use Rattle.tech_model.specs.declared.faults.TechFault.{TechFault}
 use Rattle.tech_model.specs.declared.faults.TechFault.TheVariants.{BadForm, NoPlane, NoType, TypeExpression}
 use Rattle.std.specs.Option.{option_or}
 use Rattle.tech_model.specs.Types.{type_number, plane_of, images_of, layer_named}
+use Rattle.tech_model.specs.declared.limits.TheConstants.{LARGEST_MEASURE}
 
 -- what parts the pieces of a list
 abbrev pub is_comma : ℕ → Bool
@@ -111,11 +113,11 @@ entries_fault raw entries =
 abbrev pub is_entry_list : List ℕ → Bool
 is_entry_list list = list_all is_entry (pieces_of list)
 
-abbrev pub within_million : Result ℤ NumFault → Option ℕ
-within_million (Ok (pos n)) = if nat_le n 1000000 then Some n else None
-within_million (Ok (negsuc n)) = None
-within_million (Err fault) = None
+abbrev pub within_largest : Result ℤ NumFault → Option ℕ
+within_largest (Ok (pos n)) = if nat_le n LARGEST_MEASURE then Some n else None
+within_largest (Ok (negsuc n)) = None
+within_largest (Err fault) = None
 
--- the number from 0 to 1000000 that the word writes
+-- the number from 0 to the largest measure that the word writes
 abbrev pub measure_of : List ℕ → Option ℕ
-measure_of word = within_million (number_of word)
+measure_of word = within_largest (number_of word)

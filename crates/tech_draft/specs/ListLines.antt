@@ -3,7 +3,8 @@
 --     extract    resist LIST VALUE
 --                cap LIST PER_AREA PER_PERIMETER
 --                fet TYPE LIST NAME SUBSTRATE
-use Rattle.std.specs.Prelude.{◌==◌, ◌&&◌, ◌||◌, not, nat_lt, nat_le, is_some, is_none, unwrap_or, if◌then◌else◌, ℕ, Bool, List, [], ◌∷◌, ◌++◌, length, fold, position, slice_index_or, slice_set, Option, Some, None, codes}
+use Rattle.std.specs.Prelude.{◌==◌, ◌&&◌, ◌||◌, not, nat_lt, nat_le, is_some, is_none, unwrap_or, if◌then◌else◌, ℕ, Bool, List, [], ◌∷◌, ◌++◌, length, fold}
+use Rattle.std.specs.Prelude.{position, slice_index_or, slice_set, Option, Some, None, codes}
 use Rattle.std.specs.List.{list_any, list_all}
 use Rattle.std.specs.Str.{bytes_eq}
 use Rattle.text_scan.specs.PlainNames.{is_plain_name}
@@ -18,7 +19,9 @@ use Rattle.tech_model.specs.Forms.{is_naming_label}
 use Rattle.std.specs.Option.{option_or}
 use Rattle.tech_model.specs.Types.{type_number, plane_of}
 use Rattle.tech_draft.specs.Drafts.{Drafted}
-use Rattle.tech_draft.specs.Entries.{pieces_of, name_part, is_entry, is_entry_list, entry_types, entries_fault, types_of_list, has_type, measure_of, fault_if, first_where}
+use Rattle.tech_draft.specs.Entries.{pieces_of, name_part, is_entry, is_entry_list, entry_types, entries_fault, types_of_list, has_type, measure_of, fault_if}
+use Rattle.tech_draft.specs.Entries.{first_where}
+use Rattle.tech_model.specs.declared.limits.TheConstants.{MOST_CLASSES, MOST_FETS}
 
 abbrev pub pairs_fault : Drafted → List ℕ → List ℕ → Option TechFault
 pairs_fault draft first second =
@@ -65,7 +68,7 @@ new_class_fault draft list value =
     option_or (fault_if (not (is_entry_list list) || is_none (measure_of value)) BadForm)
     (option_or (entries_fault draft.raw (pieces_of list))
     (option_or (first_where (has_class draft.raw) (λ entry. Twice (name_part entry)) (pieces_of list))
-    (fault_if (nat_le 16 (length draft.raw.classes)) (TooMany Classes))))
+    (fault_if (nat_le MOST_CLASSES (length draft.raw.classes)) (TooMany Classes))))
 
 unfoldable pub resist_fault : Drafted → List (List ℕ) → Option TechFault
 resist_fault draft (list ∷ value ∷ []) = new_class_fault draft list value
@@ -148,7 +151,7 @@ abbrev pub fet_type_fault : Drafted → List ℕ → Option TechFault
 fet_type_fault draft kind =
     option_or (fault_if (nat_lt 1 (length (entry_types draft.raw kind))) BadForm)
     (option_or (fault_if (list_any (λ fet. fet.kind.0 == (fet_type draft.raw kind).0) draft.raw.fets) (Twice (name_part kind)))
-    (fault_if (nat_le 16 (length draft.raw.fets)) (TooMany Fets)))
+    (fault_if (nat_le MOST_FETS (length draft.raw.fets)) (TooMany Fets)))
 
 abbrev pub new_fet_fault : Drafted → List ℕ → List ℕ → List ℕ → List ℕ → Option TechFault
 new_fet_fault draft kind list name substrate =

@@ -1,7 +1,8 @@
 -- What a line of the sections `contact` and `compose` asks for and adds.
 --     contact    BASE RESIDUE RESIDUE ..
 --     compose    compose WHOLE FIRST SECOND
-use Rattle.std.specs.Prelude.{◌==◌, ◌&&◌, ◌||◌, ◌+◌, ◌-◌, ◌^◌, not, nat_lt, is_none, unwrap_or, if◌then◌else◌, ℕ, Bool, false, bit_or, List, [], ◌∷◌, ◌++◌, length, map, filter, find, drop, slice_index_or, slice_set, Option, Some, None, codes}
+use Rattle.std.specs.Prelude.{◌==◌, ◌&&◌, ◌||◌, ◌+◌, ◌-◌, ◌^◌, not, nat_lt, is_none, unwrap_or, if◌then◌else◌, ℕ, Bool, false, bit_or, List, [], ◌∷◌, ◌++◌}
+use Rattle.std.specs.Prelude.{length, map, filter, find, drop, slice_index_or, slice_set, Option, Some, None, codes}
 use Rattle.std.specs.List.{list_any, list_all}
 use Rattle.std.specs.Str.{bytes_eq}
 use Rattle.text_scan.specs.PlainNames.{is_plain_name}
@@ -16,6 +17,7 @@ use Rattle.std.specs.Option.{option_or}
 use Rattle.tech_model.specs.Types.{type_number, layer_number, type_at, layer_at, plane_of, parts_of, images_of, layer_named}
 use Rattle.tech_draft.specs.Drafts.{Drafted}
 use Rattle.tech_draft.specs.Entries.{is_slash, is_word_byte, has_odd_byte, has_slash, has_type, fault_if, first_where}
+use Rattle.tech_model.specs.declared.limits.TheConstants.{MOST_TYPES, FIRST_MARK}
 
 -- the number of the layer that the word names
 abbrev pub layer_of_word : RawTech → List ℕ → ℕ
@@ -84,7 +86,7 @@ contact_rules_fault draft base residues =
     option_or (fault_if (are_misplaced draft.raw base residues) BadForm)
     (option_or (fault_if (is_contact draft.raw base) (Twice base))
     (option_or (contact_part_fault draft base residues)
-    (fault_if (nat_lt 64 (length draft.raw.types + (length residues - 1))) (TooMany Types))))
+    (fault_if (nat_lt MOST_TYPES (length draft.raw.types + (length residues - 1))) (TooMany Types))))
 
 unfoldable pub contact_fault : Drafted → List (List ℕ) → Option TechFault
 contact_fault draft [] = Some BadForm
@@ -94,7 +96,7 @@ contact_fault draft (base ∷ residues) =
 
 -- the mark of the contact with this layer: a bit above those of all atoms
 abbrev pub mark_bit : ℕ → ℕ
-mark_bit layer = 2 ^ (64 + layer)
+mark_bit layer = 2 ^ (FIRST_MARK + layer)
 
 -- the residue on the base's plane, and the others in order
 abbrev pub home_residue : RawTech → List ℕ → List (List ℕ) → TypeId

@@ -8,14 +8,15 @@ use Rattle.tech_model.specs.Types.{is_type, plane_of, layer_of, parts_of, images
 use Rattle.tech_model.specs.WellFormed.{IsSimple, IsUnion, IsLayer, IsClass, IsFet, IsPair, AreApart}
 use Rattle.tech_draft.specs.Drafts.{Drafted}
 use Rattle.tech_draft.specs.Residues.{residue_of}
+use Rattle.tech_model.specs.declared.limits.TheConstants.{MOST_PLANES, MOST_TYPES, MOST_CLASSES, MOST_FETS, FIRST_MARK}
 
 -- The lists keep the limits, the words are of their forms, every number is in range, and nothing stands twice that may stand once.
 pub record HasLists (raw : RawTech) : Type 0 where
-  pub planes_limit : length raw.planes ≤ 8
-  pub types_limit : length raw.types ≤ 64
+  pub planes_limit : length raw.planes ≤ MOST_PLANES
+  pub types_limit : length raw.types ≤ MOST_TYPES
   pub layers_limit : length raw.layers ≤ length raw.types
-  pub classes_limit : length raw.classes ≤ 16
-  pub fets_limit : length raw.fets ≤ 16
+  pub classes_limit : length raw.classes ≤ MOST_CLASSES
+  pub fets_limit : length raw.fets ≤ MOST_FETS
   pub name : (raw.name ≡ []) ⊎ IsTrue (is_plain_name raw.name)
   pub plane_names : All (λ name. IsTrue (is_plain_name name)) raw.planes
   pub planes_differ : Distinct raw.planes
@@ -42,7 +43,7 @@ pub data IsMadeOf (raw : RawTech) (used : List TypeId) : ℕ → Type 0 where
 
 -- The set of a contact's image is its mark, and one residue on its plane is noted for it, which is no contact.
 pub record IsNoted (draft : Drafted) (t : ℕ) : Type 0 where
-  pub mark : parts_of draft.raw t ≡ 2 ^ (64 + layer_of draft.raw t)
+  pub mark : parts_of draft.raw t ≡ 2 ^ (FIRST_MARK + layer_of draft.raw t)
   pub residue : ℕ
   pub noted : residue_of draft t ≡ Some (type_number t, type_number residue)
   pub residue_type : IsTrue (is_type draft.raw residue)

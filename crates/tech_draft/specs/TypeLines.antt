@@ -17,6 +17,7 @@ use Rattle.std.specs.Option.{option_or}
 use Rattle.tech_model.specs.Types.{type_number, layer_number, layer_named}
 use Rattle.tech_draft.specs.Drafts.{Drafted}
 use Rattle.tech_draft.specs.Entries.{is_empty, pieces_of, plane_named, fault_if, first_where}
+use Rattle.tech_model.specs.declared.limits.TheConstants.{MOST_PLANES, MOST_TYPES}
 
 -- the technology has one name
 abbrev pub name_fault : Drafted → List ℕ → Option TechFault
@@ -34,7 +35,7 @@ abbrev pub new_plane_fault : Drafted → List ℕ → Option TechFault
 new_plane_fault draft name =
     option_or (fault_if (not (is_plain_name name)) BadForm)
     (option_or (fault_if (list_any (bytes_eq name) draft.raw.planes) (Twice name))
-    (fault_if (nat_le 8 (length draft.raw.planes)) (TooMany Planes)))
+    (fault_if (nat_le MOST_PLANES (length draft.raw.planes)) (TooMany Planes)))
 
 unfoldable pub plane_fault : Drafted → List (List ℕ) → Option TechFault
 plane_fault draft (name ∷ []) = new_plane_fault draft name
@@ -57,7 +58,7 @@ new_type_fault draft plane names =
     option_or (fault_if (not (is_plain_name plane) || not (list_all is_layer_name names)) BadForm)
     (option_or (fault_if (is_none (plane_named draft.raw plane)) (NoPlane plane))
     (option_or (repeated_name draft.raw [] names)
-    (fault_if (nat_le 64 (length draft.raw.types)) (TooMany Types))))
+    (fault_if (nat_le MOST_TYPES (length draft.raw.types)) (TooMany Types))))
 
 unfoldable pub type_fault : Drafted → List (List ℕ) → Option TechFault
 type_fault draft (plane ∷ names ∷ []) = new_type_fault draft plane (pieces_of names)

@@ -4,13 +4,14 @@ ghost use Rattle.tech_model.specs.declared.faults.TechFault.TheVariants.{Memory}
 ghost use Rattle.std.specs.List.{list_any, list_all};
 ghost use Rattle.text_scan.specs.Words.{words_of};
 ghost use Rattle.tech_model.specs.Forms.{is_label_byte, ends_in_hash, is_naming_label, is_layer_name, reserved_words};
-ghost use Rattle.tech_draft.specs.Entries.{is_comma, is_slash, is_odd_byte, has_slash, has_odd_byte, is_word_byte, is_wording, name_part, plane_part, is_entry, pieces_of, is_entry_list, measure_of};
+ghost use Rattle.tech_draft.specs.Entries.{is_comma, is_slash, is_odd_byte, has_slash, has_odd_byte, is_word_byte, is_wording, name_part, plane_part};
+ghost use Rattle.tech_draft.specs.Entries.{is_entry, pieces_of, is_entry_list, measure_of};
 ghost use Rattle.tech_draft.specs.SetLines.{is_expression, is_expression_byte, is_layer_word};
 ghost use Rattle.std.specs.Str.{bytes_eq};
 
 use geo_core::Name;
 use std::alloc::{AllocError, Global};
-use tech_model::TechFault;
+use tech_model::{LARGEST_MEASURE, LONGEST_LABEL, TechFault};
 use text_scan::{is_plain_byte, is_plain_name, number, words};
 
 /// Puts an item at the end. Where it is refused, the items are as before.
@@ -186,12 +187,12 @@ pub(crate) fn are_entries(pieces: &[Name]) -> bool
     pieces.iter().all(|piece| is_entry(piece.bytes()))
 }
 
-/// The number from 0 to 1000000 that the word writes.
+/// The number from 0 to `LARGEST_MEASURE` that the word writes.
 pub(crate) fn measure_of(word: &[u8]) -> Option<u64>
     ensures { result ≡ measure_of word.now }
 {
     match number(word) {
-        Ok(value) if 0 <= value && value <= 1_000_000 => Some(value as u64),
+        Ok(value) if 0 <= value && value as u64 <= LARGEST_MEASURE => Some(value as u64),
         _ => None,
     }
 }
@@ -240,5 +241,5 @@ pub(crate) fn is_naming_label(text: &[u8]) -> bool
     ensures { result ≡ is_naming_label text.now }
 {
     let length = text.len();
-    1 <= length && length <= 255 && has_label_bytes(text) && !ends_in_hash(text)
+    1 <= length && length <= LONGEST_LABEL && has_label_bytes(text) && !ends_in_hash(text)
 }

@@ -1,5 +1,5 @@
 -- A text whose lines are without fault gives a sound draft.
-use Rattle.std.proofs.Common.{◌≡◌, ◌+◌, ◌==◌, ◌&&◌, ℕ, Bool, true, false, cond, List, [], ◌∷◌, Result, Ok, Err, refl, sym, ap, subst, inl, inr, ◌∙◌}
+use Rattle.std.proofs.Common.{◌≡◌, ◌+◌, ◌==◌, ◌&&◌, ℕ, Bool, cond, List, [], ◌∷◌, Result, Ok, Err, refl, sym, ap, subst, inl, inr, ◌∙◌}
 use Rattle.std.proofs.lemmas.Bool.{cases_Bool}
 use Rattle.tech_model.specs.declared.faults.Section.{Section}
 use Rattle.tech_model.specs.declared.faults.Section.TheVariants.{Tech, Planes, Types, Contact, Compose, Connect, Extract}
@@ -15,7 +15,8 @@ use Rattle.tech_file.specs.declared.outline.Heading.{Heading}
 use Rattle.tech_file.specs.declared.reading.TechAt.{TechAt}
 use Rattle.tech_file.specs.Places.{content_of, is_end, name_alone, moved}
 use Rattle.tech_file.specs.Outlines.{headings_of, ends_open, last_number}
-use Rattle.tech_file.specs.Reading.{Reading, standing, fault_at, read_between, with_draft, ended_with, in_section, read_within, read_line, read_at, unless_faulty, read_lines, text_reading, EndsWell}
+use Rattle.tech_file.specs.Reading.{Reading, standing, read_between, with_draft, ended_with, in_section, read_within, read_line, read_at}
+use Rattle.tech_file.specs.Reading.{unless_faulty, read_lines, EndsWell}
 
 abbrev fine : Reading → Result Reading TechFault
 fine reading = Ok reading

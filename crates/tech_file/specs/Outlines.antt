@@ -1,5 +1,6 @@
 -- The outline of a technology's text: where its sections begin, and whether the last one ends.
-use Rattle.std.specs.Prelude.{◌==◌, ◌+◌, ◌&&◌, nat_lt, ℕ, Bool, true, false, max, is_none, is_some, if◌then◌else◌, List, [], ◌∷◌, ◌++◌, length, find, Option, Some, None}
+use Rattle.std.specs.Prelude.{◌==◌, ◌+◌, ◌&&◌, nat_lt, ℕ, Bool, true, false, max, is_none, is_some, if◌then◌else◌, List, [], ◌∷◌, ◌++◌, length, find, Option}
+use Rattle.std.specs.Prelude.{Some, None}
 use Rattle.std.specs.List.{list_any}
 use Rattle.std.specs.Option.{option_map, option_map_or, option_and_then}
 use Rattle.tech_model.specs.declared.faults.Section.{Section}

@@ -1,5 +1,5 @@
 -- The technology of a text, or its first faulty line with the first fault of that line.
-use Rattle.std.specs.Prelude.{◌≡◌, ◌==◌, ◌+◌, ◌&&◌, ℕ, Bool, if◌then◌else◌, List, [], ◌∷◌, length, Option, Some, None, Result, Ok, Err}
+use Rattle.std.specs.Prelude.{◌≡◌, ◌==◌, ◌+◌, ◌&&◌, ℕ, if◌then◌else◌, List, [], ◌∷◌, Option, Some, None, Result, Ok, Err}
 use Rattle.std.specs.Option.{option_map, option_or}
 use Rattle.text_scan.specs.Lines.{lines_of}
 use Rattle.tech_model.specs.declared.raw.RawTech.{RawTech}
@@ -15,7 +15,7 @@ use Rattle.tech_file.specs.declared.places.Place.{Place}
 use Rattle.tech_file.specs.declared.places.Place.TheVariants.{Between, Skipped, Within}
 use Rattle.tech_file.specs.declared.outline.Heading.{Heading}
 use Rattle.tech_file.specs.declared.reading.TechAt.{TechAt}
-use Rattle.tech_file.specs.Sections.{section_named, rank}
+use Rattle.tech_file.specs.Sections.{section_named}
 use Rattle.tech_file.specs.Places.{content_of, says_nothing, is_end, name_alone, moved}
 use Rattle.tech_file.specs.Outlines.{headings_of, is_too_early, is_second, missing, ends_open, last_number}
 

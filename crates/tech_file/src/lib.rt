@@ -5,8 +5,6 @@ mod outline;
 mod places;
 mod reading;
 mod sections;
-#[cfg(test)]
-mod tests;
 mod whole;
 
 pub use reading::TechAt;

@@ -2,7 +2,8 @@
 ghost use Rattle.std.specs.Prelude.{◌≡◌, ◌≢◌, [], IfOk, OnOk, IsNone};
 ghost use Rattle.text_scan.specs.Lines.{lines_of};
 ghost use Rattle.tech_file.specs.Places.{content_of};
-ghost use Rattle.tech_file.specs.Outlines.{line_of, with_heading, section_at, headings_of, is_in_section, ends_open, last_number, is_too_early, is_second, missing_section, missing};
+ghost use Rattle.tech_file.specs.Outlines.{line_of, with_heading, section_at, headings_of, is_in_section, ends_open, last_number, is_too_early, is_second};
+ghost use Rattle.tech_file.specs.Outlines.{missing_section, missing};
 
 use crate::places::{Place, after, name_alone};
 use crate::sections::{REQUIRED, rank, section_named};

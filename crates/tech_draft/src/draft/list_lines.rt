@@ -1,10 +1,14 @@
 // Lines of the sections `connect` and `extract`.
-ghost use Rattle.std.specs.Prelude.{is_some, List, slice_index_or, ◌≡◌, ◌≢◌, ◌++◌, ◌==◌, ◌||◌, ◌&&◌, [], ◌∷◌, ℕ, fold, length, take, None, Some, OnOk, IfOk, IfErr};
+ghost use Rattle.std.specs.Prelude.{is_some, List, slice_index_or, ◌≡◌, ◌≢◌, ◌++◌, ◌==◌, ◌||◌, ◌&&◌, [], ◌∷◌, ℕ, fold, length, take, None, Some, OnOk, IfOk};
+ghost use Rattle.std.specs.Prelude.{IfErr};
 ghost use Rattle.std.specs.List.{list_any, list_all};
 ghost use Rattle.tech_model.specs.declared.faults.TechFault.TheVariants.{Memory, Twice};
 ghost use Rattle.tech_draft.specs.Entries.{has_type, pieces_of, name_part, types_of_list, first_where};
 ghost use Rattle.tech_model.specs.Types.{type_number};
-ghost use Rattle.tech_draft.specs.ListLines.{pairs_fault, connect_fault, with_pair, with_partners, with_pairs, with_pair_list, with_connect, class_of, has_class, new_class_fault, resist_fault, with_types_class, with_class, class_at, shared_class, if_holding, class_of_list, capped_fault, capacitance_fault, cap_fault, with_capacitance, with_cap, fet_type, is_fet_form, fet_type_fault, new_fet_fault, fet_fault, with_rule, fet_with, with_fet, extract_fault, with_extract};
+ghost use Rattle.tech_draft.specs.ListLines.{pairs_fault, connect_fault, with_pair, with_partners, with_pairs, with_pair_list, with_connect, class_of};
+ghost use Rattle.tech_draft.specs.ListLines.{has_class, new_class_fault, resist_fault, with_types_class, with_class, class_at, shared_class, if_holding};
+ghost use Rattle.tech_draft.specs.ListLines.{class_of_list, capped_fault, capacitance_fault, cap_fault, with_capacitance, with_cap, fet_type, is_fet_form};
+ghost use Rattle.tech_draft.specs.ListLines.{fet_type_fault, new_fet_fault, fet_fault, with_rule, fet_with, with_fet, extract_fault, with_extract};
 
 use super::Draft;
 use super::lookups::has_type;
@@ -13,12 +17,8 @@ use crate::words::{
     push,
 };
 use geo_core::{List, Name};
-use tech_model::{ClassRec, FetRule, Table, TechFault, TypeId};
+use tech_model::{ClassRec, FetRule, MOST_CLASSES, MOST_FETS, Table, TechFault, TypeId};
 use text_scan::is_plain_name;
-
-const MOST_CLASSES: usize = 16;
-
-const MOST_FETS: usize = 16;
 
 // The first of these, and space where there is none.
 fn first_type(types: &[TypeId]) -> TypeId
@@ -72,7 +72,7 @@ impl Draft {
         Ok(())
     }
 
-    // The lists of a line have each type once, so they have at most 64 types and make at most 4,096 pairs.
+    // The lists of a line have each type once, so they make at most the square of `MOST_TYPES` pairs.
     fn add_pairs(&mut self, firsts: &[TypeId], seconds: &[TypeId]) -> Result<(), TechFault>
         ensures read { OnOk result (self.new
             ≡ with_pair_list self.old (with_pairs self.old.raw firsts.now seconds.now)) }

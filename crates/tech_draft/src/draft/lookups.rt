@@ -3,7 +3,8 @@ ghost use Rattle.std.specs.Prelude.{◌≡◌, ◌≢◌, ℕ, map, fold, None, 
 ghost use Rattle.std.specs.Option.{option_map};
 ghost use Rattle.tech_model.specs.declared.faults.TechFault.TheVariants.{Memory, TypeExpression, NoPlane, NoType};
 ghost use Rattle.tech_model.specs.Types.{plane_of, parts_of, images_of, layer_named, layer_number};
-ghost use Rattle.tech_draft.specs.Entries.{plane_named, named_types, entry_types, types_on, has_type, with_type_once, types_of_entries, first_where, has_odd_byte, names_no_plane, means_no_type, plane_part, name_part, entries_fault};
+ghost use Rattle.tech_draft.specs.Entries.{plane_named, named_types, entry_types, types_on, has_type, with_type_once, types_of_entries, first_where};
+ghost use Rattle.tech_draft.specs.Entries.{has_odd_byte, names_no_plane, means_no_type, plane_part, name_part, entries_fault};
 ghost use Rattle.tech_draft.specs.SetLines.{own_image, type_of_word, plane_of_word, is_contact, layer_of_word};
 
 use super::{Draft, parts_in};

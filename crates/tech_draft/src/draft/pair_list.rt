@@ -9,11 +9,14 @@ use std::alloc::Global;
 use std::marker::Model;
 use tech_model::{TechFault, TypeId};
 
+/// The marks of one first type: one for each number that a second may have.
+const MARKS_OF_ONE: usize = 256;
+
 /// Pairs of types, in the order in which they came.
 #[derive(Drop)]
 pub(crate) struct PairList {
     pairs: Vec<(TypeId, TypeId)>,
-    // A mark for each two types, up to the last that make a pair: 256 for each first type.
+    // A mark for each two types, up to the last that make a pair.
     marks: Vec<bool>,
 }
 
@@ -74,7 +77,7 @@ impl PairList {
 fn place_of(first: TypeId, second: TypeId) -> usize
     ensures { result ≡ mark_place first second }
 {
-    usize::from(first.0) * 256 + usize::from(second.0)
+    usize::from(first.0) * MARKS_OF_ONE + usize::from(second.0)
 }
 
 // Sees to it that the marks reach this place.

@@ -1,21 +1,26 @@
 // Lines of the sections `contact` and `compose`.
-ghost use Rattle.std.specs.Prelude.{MatchOption, is_none, ◌||◌, ◌==◌, true, false, unwrap_or, find, ◌≡◌, ◌≢◌, ◌<◌, ◌≤◌, ◌+◌, ◌-◌, ◌++◌, ◌∷◌, [], ℕ, List, length, map, filter, drop, slice_set, slice_index_or, None, Some, OnOk, IfOk, IfErr};
+ghost use Rattle.std.specs.Prelude.{MatchOption, is_none, ◌||◌, ◌==◌, true, false, unwrap_or, find, ◌≡◌, ◌≢◌, ◌<◌, ◌≤◌, ◌+◌, ◌-◌, ◌++◌, ◌∷◌, [], ℕ, List};
+ghost use Rattle.std.specs.Prelude.{length, map, filter, drop, slice_set, slice_index_or, None, Some, OnOk, IfOk, IfErr};
 ghost use Rattle.std.specs.List.{list_any, list_all};
 ghost use Rattle.tech_model.specs.declared.faults.TechFault.TheVariants.{Memory, TypeExpression, NoType, ContactPart};
 ghost use Rattle.tech_model.specs.declared.raw.RawTech.{RawTech as RawValue};
 ghost use Rattle.tech_model.specs.Types.{no_type, no_layer, layer_named, type_number, plane_of, parts_of, images_of, type_at, layer_at};
 ghost use Rattle.tech_draft.specs.Entries.{first_where};
 ghost use Rattle.tech_draft.specs.ContactPlans.{IsContactPlan};
-ghost use Rattle.tech_draft.specs.SetLines.{layer_of_word, own_image, type_of_word, plane_of_word, is_contact, is_expression, is_layer_word, layer_words_fault, has_number, has_repeat, are_misplaced, is_part, contact_part_fault, is_contact_form, contact_rules_fault, contact_fault, mark_bit, home_residue, other_residues, numbered_from, new_images, own_pair, image_record, with_set, with_images, with_contact_images, with_contact, are_composable, is_settled, compose_rules_fault, composed_fault, compose_fault, with_union, with_compose};
+ghost use Rattle.tech_draft.specs.SetLines.{layer_of_word, own_image, type_of_word, plane_of_word, is_contact, is_expression, is_layer_word};
+ghost use Rattle.tech_draft.specs.SetLines.{layer_words_fault, has_number, has_repeat, are_misplaced, is_part, contact_part_fault, is_contact_form};
+ghost use Rattle.tech_draft.specs.SetLines.{contact_rules_fault, contact_fault, mark_bit, home_residue, other_residues, numbered_from, new_images, own_pair};
+ghost use Rattle.tech_draft.specs.SetLines.{image_record, with_set, with_images, with_contact_images, with_contact, are_composable, is_settled};
+ghost use Rattle.tech_draft.specs.SetLines.{compose_rules_fault, composed_fault, compose_fault, with_union, with_compose};
 
 use super::lookups::has_type;
 use super::{Draft, set_parts};
 use crate::words::{is_expression, is_layer_word, push};
 use geo_core::{List, Name};
 use std::alloc::Global;
-use tech_model::{LayerId, LayerRec, PartSet, Table, TechFault, TypeId, TypeRec};
-
-const MOST_TYPES: usize = 64;
+use tech_model::{
+    FIRST_MARK, LayerId, LayerRec, MOST_TYPES, PartSet, Table, TechFault, TypeId, TypeRec,
+};
 
 // Refuses the first word that is an expression over types.
 fn check_plain(alloc: Global, words: &[Name]) -> Result<(), TechFault>
@@ -50,17 +55,17 @@ fn has_number(numbers: &[u8], number: u8) -> bool
 
 // The set that is the mark of the contact with this layer.
 fn mark_of(layer: LayerId) -> PartSet
-    requires { layer.0 < 64 }
+    requires { layer.0 < MOST_TYPES }
     ensures { result.0 ≡ mark_bit layer.0 }
 {
-    PartSet(1u128 << (64 + layer.0))
+    PartSet(1u128 << (FIRST_MARK + layer.0))
 }
 
 impl Draft {
     /// The number of the layer that the word names, 0 where it names none.
     fn layer_of_word(&self, word: &[u8]) -> LayerId
         ensures value { result.0 ≡ layer_of_word self.now.raw word.now }
-        ensures in_range { result.0 < 64 }
+        ensures in_range { result.0 < MOST_TYPES }
     {
         let _ = &self.layers;
         self.layer_named(word).unwrap_or(LayerId(0))
@@ -412,7 +417,7 @@ impl Draft {
 
     // The new images of a contact, each with its residue.
     fn new_images(&self, base: &[u8], residues: &[Name]) -> Result<Vec<(TypeId, TypeId)>, TechFault>
-        requires { length self.now.raw.types + length (other_residues self.now.raw base.now residues.now) ≤ 64 }
+        requires { length self.now.raw.types + length (other_residues self.now.raw base.now residues.now) ≤ MOST_TYPES }
         ensures ok { IfOk result (λ images. images.items ≡ new_images self.now.raw base.now residues.now) }
         ensures only_memory { IfErr result (λ fault. fault ≡ Memory) }
     {
@@ -426,7 +431,7 @@ impl Draft {
         layer: LayerId,
         pairs: &[(TypeId, TypeId)],
     ) -> Result<Vec<TypeRec>, TechFault>
-        requires { layer.0 < 64 }
+        requires { layer.0 < MOST_TYPES }
         ensures ok { IfOk result (λ records. records.items ≡ map (image_record self.now.raw layer.0) pairs.now) }
         ensures only_memory { IfErr result (λ fault. fault ≡ Memory) }
     {
@@ -522,7 +527,7 @@ fn numbered_from(
     first: usize,
     residues: &[TypeId],
 ) -> Result<Vec<(TypeId, TypeId)>, TechFault>
-    requires { first + length residues.now < 256 }
+    requires { first + length residues.now ≤ u8.MAX }
     ensures ok { IfOk result (λ pairs. pairs.items ≡ numbered_from first residues.now) }
     ensures only_memory { IfErr result (λ fault. fault ≡ Memory) }
 {

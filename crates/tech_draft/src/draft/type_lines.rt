@@ -8,18 +8,18 @@ ghost use Rattle.tech_model.specs.Forms.{is_layer_name};
 ghost use Rattle.tech_model.specs.LayerWords.{layer_in};
 ghost use Rattle.tech_model.specs.Types.{layer_named, layer_number};
 ghost use Rattle.tech_draft.specs.Entries.{pieces_of};
-ghost use Rattle.tech_draft.specs.TypeLines.{name_fault, tech_fault, with_name, new_plane_fault, plane_fault, with_plane, repeated_name, new_type_fault, type_fault, with_new_type, with_type, with_atom, atom_on, atom_layer};
+ghost use Rattle.tech_draft.specs.TypeLines.{name_fault, tech_fault, with_name, new_plane_fault, plane_fault, with_plane, repeated_name, new_type_fault};
+ghost use Rattle.tech_draft.specs.TypeLines.{type_fault, with_new_type, with_type, with_atom, atom_on, atom_layer};
 
 use super::Draft;
 use crate::words::{is_layer_name, pieces_of, push};
 use geo_core::{List, Name};
 use std::alloc::Global;
-use tech_model::{LayerId, LayerIndex, LayerRec, PartSet, Table, TechFault, TypeId, TypeRec};
+use tech_model::{
+    LayerId, LayerIndex, LayerRec, MOST_PLANES, MOST_TYPES, PartSet, Table, TechFault, TypeId,
+    TypeRec,
+};
 use text_scan::is_plain_name;
-
-const MOST_PLANES: usize = 8;
-
-const MOST_TYPES: usize = 64;
 
 fn are_layer_names(names: &[Name]) -> bool
     ensures { result ≡ list_all is_layer_name names.now }
@@ -59,8 +59,8 @@ fn push_atom(
     plane: u8,
     names: Vec<Name>,
 ) -> Result<(), TechFault>
-    requires types_room { length types.old.items < 64 }
-    requires layers_room { length layers.old.items < 64 }
+    requires types_room { length types.old.items < MOST_TYPES }
+    requires layers_room { length layers.old.items < MOST_TYPES }
     ensures types { OnOk result ((raw : RawValue) → types.old.items ≡ raw.types → layers.old.items ≡ raw.layers
         → types.new.items ≡ raw.types ++ atom_on raw plane ∷ []) }
     ensures layers { OnOk result ((raw : RawValue) → types.old.items ≡ raw.types

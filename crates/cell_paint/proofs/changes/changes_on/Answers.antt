@@ -19,14 +19,18 @@ strips_of_codes-requires c =
     let layout = layout_on c.args.planes.now in
     let code : Piece → Piece = coded_tile (brushed c.args.stroke.now.brush c.args.stroke.now.tech.now c.args.stroke.now.layer.0) layout c.args.plane in
     let tiles = c.in-Ok.tiles.items in
-    let are = tiles_on_plane c.args.planes.now c.args.plane c.index-planes-plane.result c.args.area tiles c.requires.plane c.index-planes-plane.is c.in-Ok.ensures.tiles in
+    let are = tiles_on_plane c.args.planes.now c.args.plane c.index-planes-plane.result c.args.area tiles c.requires.plane c.index-planes-plane.is
+    c.in-Ok.ensures.tiles in
     let same : map code tiles ≡ c.deref-2.result.now = sym (c.deref-2.ensures.value ∙ c.in_ok-pieces.ensures ∙ ap (map code) c.deref.ensures.value) in
     record {
       proper = c.requires.proper;
       near = c.requires.near;
-      proper_pieces = subst (λ (pieces : List Piece). All (λ piece. IsProper piece.area) pieces) same (coded_proper (kinds_on layout c.args.plane) c.args.area tiles are code (λ tile. refl));
-      near_pieces = subst (λ (pieces : List Piece). All (λ piece. IsNear piece.area) pieces) same (coded_near (kinds_on layout c.args.plane) c.args.area tiles are code (λ tile. refl) c.requires.near);
-      apart = subst (λ (pieces : List Piece). AllPairs (λ a b. AreDisjoint a.area b.area) pieces) same (coded_apart (kinds_on layout c.args.plane) c.args.area tiles are code (λ tile. refl));
+      proper_pieces = subst (λ (pieces : List Piece). All (λ piece. IsProper piece.area) pieces) same
+          (coded_proper (kinds_on layout c.args.plane) c.args.area tiles are code (λ tile. refl));
+      near_pieces = subst (λ (pieces : List Piece). All (λ piece. IsNear piece.area) pieces) same
+          (coded_near (kinds_on layout c.args.plane) c.args.area tiles are code (λ tile. refl) c.requires.near);
+      apart = subst (λ (pieces : List Piece). AllPairs (λ a b. AreDisjoint a.area b.area) pieces) same
+          (coded_apart (kinds_on layout c.args.plane) c.args.area tiles are code (λ tile. refl));
     }
 
 pub decode-requires : goal.decode-requires
@@ -47,7 +51,8 @@ returns-clause-changes c =
     let tiles = c.in-Ok.tiles.items in
     let are = tiles_on_plane c.args.planes.now plane c.index-planes-plane.result area tiles c.requires.plane c.index-planes-plane.is c.in-Ok.ensures.tiles in
     let same : c.deref-2.result.now ≡ map code tiles = c.deref-2.ensures.value ∙ c.in_ok-pieces.ensures ∙ ap (map code) c.deref.ensures.value in
-    let ground : c.code_of-ground.result ≡ code_of 0 (type_on (brushed brush raw layer no_types) plane) = c.code_of-ground.ensures ∙ ap (code_of 0) c.kind_after.ensures.kind in
+    let ground : c.code_of-ground.result ≡ code_of 0 (type_on (brushed brush raw layer no_types) plane) = c.code_of-ground.ensures ∙ ap (code_of 0)
+    c.kind_after.ensures.kind in
     let strips = c.in_ok-found.ensures.strips in
     let codes : Square → ℕ = strips.0 in
     let laid : IsLaid area (code_of 0 (type_on (brushed brush raw layer no_types) plane)) (map code tiles) codes =
@@ -55,7 +60,10 @@ returns-clause-changes c =
     (subst (λ (value : ℕ). IsLaid area value c.deref-2.result.now codes) ground strips.1) in
     let found = c.in_ok-found.found.items in
     let few : plane < 8 = omega arith in
-    let long : length c.decode.new.pieces ≡ c.in_ok-found.found.len = ap length c.decode.ensures ∙ length-map c.deref_mut.result.now (λ (piece : Piece). record { area = piece.area; value = piece.value - 1 }) ∙ c.deref_mut.ensures.len in
-    let all = take_at c.decode.new.pieces (drop (length c.decode.new.pieces) found) c.in_ok-found.found.len long ∙ c.decode.ensures ∙ ap decoded c.deref_mut.ensures.value in
+    let long : length c.decode.new.pieces ≡ c.in_ok-found.found.len = ap length c.decode.ensures ∙ length-map c.deref_mut.result.now
+    (λ (piece : Piece). record { area = piece.area; value = piece.value - 1 }) ∙ c.deref_mut.ensures.len in
+    let all = take_at c.decode.new.pieces (drop (length c.decode.new.pieces) found) c.in_ok-found.found.len long ∙ c.decode.ensures ∙ ap decoded
+    c.deref_mut.ensures.value in
     subst (λ (pieces : List Piece). AreChanges (kinds_on layout plane) (kinds_on (with_columns (brushed brush raw layer) area layout) plane) pieces) (sym all)
-    (codes_give_changes brush raw layer c.raw.ensures.well_formed c.requires.layer layout c.requires.whole.sound.types plane few area tiles are codes laid found strips.2)
+    (codes_give_changes brush raw layer c.raw.ensures.well_formed c.requires.layer layout c.requires.whole.sound.types plane few area tiles are codes
+    laid found strips.2)

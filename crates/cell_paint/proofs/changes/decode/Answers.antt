@@ -13,5 +13,6 @@ loop-piece-preserved c =
     let k = c.loop-piece.piece-index in
     let inside : k < length c.args.pieces.now = omega arith in
     let within : k < length pieces = omega arith in
-    map_over_more (λ (piece : Piece). record { area = piece.area; value = piece.value - 1 }) c.args.pieces.now pieces k (get_or pieces k no_piece) inside c.loop-piece.invariant
+    map_over_more (λ (piece : Piece). record { area = piece.area; value = piece.value - 1 }) c.args.pieces.now pieces k (get_or pieces k no_piece)
+    inside c.loop-piece.invariant
     (get_or_default pieces k no_piece (get_or pieces k no_piece) within)

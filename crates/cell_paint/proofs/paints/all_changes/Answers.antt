@@ -9,6 +9,8 @@ loop-plane-preserved c =
     let stroke = c.args.stroke.now in
     let old = layout_on c.args.planes.now in
     let more =
-    changes_more old (with_columns (brushed stroke.brush stroke.tech.now stroke.layer.0) c.args.area old) c.loop-plane.changes.items c.add_changes.new.changes.items
-    c.in_ok-changes_on.field-0 c.loop-plane.plane c.loop-plane.invariant.long c.in_ok-add_changes.ensures c.in_ok-changes_on.ensures.changes c.loop-plane.invariant.each in
+    changes_more old (with_columns (brushed stroke.brush stroke.tech.now stroke.layer.0) c.args.area old) c.loop-plane.changes.items
+    c.add_changes.new.changes.items
+    c.in_ok-changes_on.field-0 c.loop-plane.plane c.loop-plane.invariant.long c.in_ok-add_changes.ensures c.in_ok-changes_on.ensures.changes
+    c.loop-plane.invariant.each in
     record { long = more.0; each = more.1 }

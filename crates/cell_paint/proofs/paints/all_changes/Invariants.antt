@@ -9,5 +9,6 @@ use Rattle.cell_paint.proofs.paints.all_changes.Given as goal
 abbrev pub invariant-loop-plane : goal.invariant-loop-plane
 invariant-loop-plane l = record {
   long : length l.changes.items ≡ l.plane;
-  each : AreAllChanges (layout_on l.planes) (with_columns (brushed l.stroke.brush l.stroke.tech.now l.stroke.layer.0) l.area (layout_on l.planes)) l.changes.items;
+  each : AreAllChanges (layout_on l.planes) (with_columns (brushed l.stroke.brush l.stroke.tech.now l.stroke.layer.0) l.area (layout_on l.planes))
+      l.changes.items;
 }

@@ -27,8 +27,10 @@ returns-in_err-reserve_all-clause-tiles c =
     let old = layout_on c.args.planes.now in
     let given = err_from_is_err_and c.from_residual-in_err-reserve_all.result c.from_residual-in_err-reserve_all.ensures.1 in
     rw (given.1, given.2) (λ fault.
-    passes_limit c.args.planes.now (with_columns (brushed stroke.brush stroke.tech.now stroke.layer.0) c.args.area old) c.in_ok-changes.changes.items c.in_ok-changes.ensures.changes
-    (subst (λ (changes : List (Vec Piece Global)). PassesSomewhere c.args.planes.now changes) c.as_slice.ensures.value (c.in_err-reserve_all.ensures.full fault)))
+    passes_limit c.args.planes.now (with_columns (brushed stroke.brush stroke.tech.now stroke.layer.0) c.args.area old) c.in_ok-changes.changes.items
+    c.in_ok-changes.ensures.changes
+    (subst (λ (changes : List (Vec Piece Global)). PassesSomewhere c.args.planes.now changes) c.as_slice.ensures.value
+    (c.in_err-reserve_all.ensures.full fault)))
 
 pub commit_all-requires-clause-settable : goal.commit_all-requires-clause-settable
 commit_all-requires-clause-settable c =
@@ -41,8 +43,11 @@ pub returns : goal.returns
 returns c =
     let stroke = c.args.stroke.now in
     let changes = c.in_ok-changes.changes in
-    let done = stroke_done stroke.brush stroke.tech.now stroke.layer.0 c.args.area c.args.planes.now c.reserve_all.new.planes c.commit_all.new.planes changes.items
-    c.raw.ensures.well_formed c.requires.layer c.requires.whole c.requires.range (sym changes.ok.0 ∙ c.in_ok-changes.ensures.one_each) c.in_ok-changes.ensures.changes
+    let done = stroke_done stroke.brush stroke.tech.now stroke.layer.0 c.args.area c.args.planes.now c.reserve_all.new.planes c.commit_all.new.planes
+    changes.items
+    c.raw.ensures.well_formed c.requires.layer c.requires.whole c.requires.range (sym changes.ok.0 ∙ c.in_ok-changes.ensures.one_each)
+    c.in_ok-changes.ensures.changes
     (search rules) c.reserve_all.ensures.same
-    (subst (λ (set : List (Vec Piece Global)). AreAllSet c.reserve_all.new.planes c.commit_all.new.planes set) c.as_slice-2.ensures.value c.commit_all.ensures) in
+    (subst (λ (set : List (Vec Piece Global)). AreAllSet c.reserve_all.new.planes c.commit_all.new.planes set) c.as_slice-2.ensures.value
+    c.commit_all.ensures) in
     record { changed = done.0; refused = tt; whole = done.1; tiles = search rules; never = search rules }

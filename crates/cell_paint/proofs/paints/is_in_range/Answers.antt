@@ -13,4 +13,5 @@ returns-then-are_coordinates c =
     let area = c.args.area.now in
     let first : (is_coordinate area.xlo && is_coordinate area.ylo) ≡ true = search rules in
     let second : c.are_coordinates-then-are_coordinates.result ≡ (is_coordinate area.xhi && is_coordinate area.yhi) = search rules in
-    second_half (is_coordinate area.xlo) (is_coordinate area.ylo) (is_coordinate area.xhi) (is_coordinate area.yhi) c.are_coordinates-then-are_coordinates.result first second
+    second_half (is_coordinate area.xlo) (is_coordinate area.ylo) (is_coordinate area.xhi) (is_coordinate area.yhi)
+    c.are_coordinates-then-are_coordinates.result first second

@@ -2,7 +2,7 @@ use Rattle.std.proofs.Common.{◌≡◌, ◌+◌, ◌<◌, ℕ, length, sym, ◌
 use Rattle.std.proofs.lemmas.List.{get_or_default}
 use Rattle.geo_core.specs.declared.squares.Square.{Square}
 use Rattle.geo_core.specs.declared.squares.Rect.{Rect}
-use Rattle.geo_core.specs.Areas.{joined_area}
+use Rattle.geo_core.specs.Areas.{joined_rect}
 use Rattle.geo_core.specs.Planes.{IsBox}
 use Rattle.cell_paint.specs.Paints.{PlaneValue, number_on, no_plane}
 use Rattle.cell_paint.proofs.PlaneLaws.{plane_at, BoxBelow, box_kept, box_begun, box_grown, box_whole}
@@ -22,7 +22,7 @@ loop-plane-preserved c =
       | in-Some+in-Some-found w ↦ (
           let area = w.in-Some.area in
           let old = w.in-Some-found.old in
-          let is : c.match-box_of.found ≡ Some (joined_area old area) = search rules in
+          let is : c.match-box_of.found ≡ Some (joined_rect old area) = search rules in
           let box : IsBox (number_on c.plane-item.result) area = search rules in
           subst (Holds (k + 1)) (sym is) (box_grown planes k old area (box_is area box) (subst (Holds k) w.in-Some-found.is c.loop-plane.invariant)))
       | in-Some+in-None w ↦ (
@@ -33,7 +33,8 @@ loop-plane-preserved c =
       | in_default w ↦ (
           let is : c.match-box_of.found ≡ c.loop-plane.found = search rules in
           let empty : (square : Square) → number_on c.plane-item.result square ≡ 0 = search rules in
-          subst (Holds (k + 1)) (sym is) (box_kept planes k c.loop-plane.found (subst (λ (plane : PlaneValue). (square : Square) → number_on plane square ≡ 0) same empty) c.loop-plane.invariant))
+          subst (Holds (k + 1)) (sym is) (box_kept planes k c.loop-plane.found (subst (λ (plane : PlaneValue). (square : Square) → number_on plane
+          square ≡ 0) same empty) c.loop-plane.invariant))
     ]
 
 pub returns : goal.returns

@@ -1,4 +1,4 @@
-use Rattle.std.proofs.Common.{◌≡◌, ◌+◌, ◌≤◌, length}
+use Rattle.std.proofs.Common.{◌≡◌, ◌+◌, length}
 use Rattle.text_scan.specs.Lines.{lines_of}
 use Rattle.tech_file.specs.Outlines.{headings_of, headings_from, place_after}
 use Rattle.tech_file.specs.declared.places.Place.TheVariants.{Between}

@@ -7,6 +7,7 @@ use Rattle.tech_model.specs.LayerWords.{layer_in}
 use Rattle.tech_draft.specs.Kept.{draft_of}
 use Rattle.tech_draft.proofs.TypeEffects.{type-kept}
 use Rattle.tech_draft.proofs.draft.Draft.add_type.Goals as goal
+use Rattle.tech_model.specs.declared.limits.TheConstants.{MOST_TYPES}
 
 pub invariant_of-self-in_default-push_atom : goal.invariant_of-self-in_default-push_atom
 invariant_of-self-in_default-push_atom c =
@@ -15,7 +16,7 @@ invariant_of-self-in_default-push_atom c =
     let layers = c.in_default-push_atom.ensures.layers raw refl refl in
     let passed = c.in_default-index_names.ensures.passed raw c.self.invariant.indexed in
     let names = c.deref-2.ensures.value in
-    let room : length c.self.inside.types.items < 64 = omega (arith, c.len-2.ensures, c.self.inside.types.ok.0) in
+    let room : length c.self.inside.types.items < MOST_TYPES = omega (arith, c.len-2.ensures, c.self.inside.types.ok.0) in
     let count : c.len.result ≡ length c.self.inside.layers.items = omega (arith, c.len.ensures, c.self.inside.layers.ok.0) in
     type-kept c.self.inside _ c.in-Some.plane_number c.args.names.items c.self.invariant room (rw names at passed)
     (λ word. c.in_default-index_names.ensures.indexed word

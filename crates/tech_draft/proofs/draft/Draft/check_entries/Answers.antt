@@ -25,4 +25,5 @@ returns-clause-passed c =
 pub returns-clause-refused : goal.returns-clause-refused
 unfolding entries_fault
 returns-clause-refused c =
-    IfErr-weaker c.check_types.result _ _ (λ fault h ne. rw (c.in_ok-check_expressions.ensures.passed, c.in_ok-check_planes.ensures.passed) (h ne)) c.check_types.ensures.refused
+    IfErr-weaker c.check_types.result _ _ (λ fault h ne. rw (c.in_ok-check_expressions.ensures.passed, c.in_ok-check_planes.ensures.passed) (h ne))
+    c.check_types.ensures.refused

@@ -8,11 +8,14 @@ use Rattle.tech_draft.proofs.draft.Draft.make_contact.Goals as goal
 
 pub new_images-requires : goal.new_images-requires
 new_images-requires c =
-    rw c.bytes-base.ensures (room_for_images c.args.self.now c.args.base.now c.args.residues.now (contact_fault-none c.args.self.now c.args.base.now c.args.residues.now c.requires))
+    rw c.bytes-base.ensures (room_for_images c.args.self.now c.args.base.now c.args.residues.now
+    (contact_fault-none c.args.self.now c.args.base.now c.args.residues.now c.requires))
 
 pub add_images-requires : goal.add_images-requires
 add_images-requires c =
-    let room = room_for_images c.args.self.now c.args.base.now c.args.residues.now (contact_fault-none c.args.self.now c.args.base.now c.args.residues.now c.requires) in
+    let room =
+    room_for_images c.args.self.now c.args.base.now c.args.residues.now
+    (contact_fault-none c.args.self.now c.args.base.now c.args.residues.now c.requires) in
     let more : c.in_ok-more.more.items ≡ new_images c.args.self.now.raw c.args.base.now c.args.residues.now =
     c.in_ok-more.ensures.ok ∙ ap (λ (base : List ℕ). new_images c.args.self.now.raw base c.args.residues.now) c.bytes-base.ensures in
     let count = ap (λ (pairs : List (TypeId × TypeId)). length pairs) more ∙ length-new_images c.args.self.now.raw c.args.base.now c.args.residues.now in

@@ -8,6 +8,7 @@ pub returns : goal.returns
 returns c =
     let raw = c.args.self.now.raw in
     let home : c.home_residue-home.result ≡ home_residue raw c.args.base.now c.args.residues.now =
-    c.home_residue-home.ensures ∙ ap (λ (plane : ℕ). type_of_word raw (unwrap_or (find (λ word. plane_of_word raw word == plane) c.args.residues.now) [])) c.plane_of_word.ensures in
+    c.home_residue-home.ensures ∙ ap
+    (λ (plane : ℕ). type_of_word raw (unwrap_or (find (λ word. plane_of_word raw word == plane) c.args.residues.now) [])) c.plane_of_word.ensures in
     ap (λ (t : TypeId). (t, c.home_residue-home.result)) c.type_of_word.ensures
     ∙ ap (λ (t : TypeId). (type_of_word raw c.args.base.now, t)) home

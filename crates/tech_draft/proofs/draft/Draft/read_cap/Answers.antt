@@ -10,8 +10,12 @@ returns-then-words-ne3-clause-refused c = λ ne. cap_fault-other c.args.self.now
 
 pub returns-clause-passed : goal.returns-clause-passed
 unfolding cap_fault
-returns-clause-passed c = rw (three_items c.args.words.now c.index-words-0.result c.index-words-1.result c.index-words-2.result (omega arith) c.index-words-0.is c.index-words-1.is c.index-words-2.is) c.cap_list.ensures.passed
+returns-clause-passed c =
+    rw (three_items c.args.words.now c.index-words-0.result c.index-words-1.result c.index-words-2.result (omega arith) c.index-words-0.is
+    c.index-words-1.is c.index-words-2.is) c.cap_list.ensures.passed
 
 pub returns-clause-refused : goal.returns-clause-refused
 unfolding cap_fault
-returns-clause-refused c = rw (three_items c.args.words.now c.index-words-0.result c.index-words-1.result c.index-words-2.result (omega arith) c.index-words-0.is c.index-words-1.is c.index-words-2.is) c.cap_list.ensures.refused
+returns-clause-refused c =
+    rw (three_items c.args.words.now c.index-words-0.result c.index-words-1.result c.index-words-2.result (omega arith) c.index-words-0.is
+    c.index-words-1.is c.index-words-2.is) c.cap_list.ensures.refused

@@ -10,8 +10,12 @@ returns-then-words-ne4-clause-refused c = λ ne. compose_fault-other c.args.self
 
 pub returns-clause-passed : goal.returns-clause-passed
 unfolding compose_fault
-returns-clause-passed c = rw (four_items c.args.words.now c.index-words-0.result c.index-words-1.result c.index-words-2.result c.index-words-3.result (omega arith) c.index-words-0.is c.index-words-1.is c.index-words-2.is c.index-words-3.is) c.compose_words.ensures.passed
+returns-clause-passed c =
+    rw (four_items c.args.words.now c.index-words-0.result c.index-words-1.result c.index-words-2.result c.index-words-3.result (omega arith)
+    c.index-words-0.is c.index-words-1.is c.index-words-2.is c.index-words-3.is) c.compose_words.ensures.passed
 
 pub returns-clause-refused : goal.returns-clause-refused
 unfolding compose_fault
-returns-clause-refused c = rw (four_items c.args.words.now c.index-words-0.result c.index-words-1.result c.index-words-2.result c.index-words-3.result (omega arith) c.index-words-0.is c.index-words-1.is c.index-words-2.is c.index-words-3.is) c.compose_words.ensures.refused
+returns-clause-refused c =
+    rw (four_items c.args.words.now c.index-words-0.result c.index-words-1.result c.index-words-2.result c.index-words-3.result (omega arith)
+    c.index-words-0.is c.index-words-1.is c.index-words-2.is c.index-words-3.is) c.compose_words.ensures.refused

@@ -10,11 +10,17 @@ returns-then-words-ne4-clause-refused c = λ ne. fet_fault-other c.args.self.now
 
 pub returns-clause-passed : goal.returns-clause-passed
 unfolding fet_fault
-returns-clause-passed c = rw (four_items c.args.words.now c.index-words-0.result c.index-words-1.result c.index-words-2.result c.index-words-3.result (omega arith) c.index-words-0.is c.index-words-1.is c.index-words-2.is c.index-words-3.is) c.add_fet.ensures.passed
+returns-clause-passed c =
+    rw (four_items c.args.words.now c.index-words-0.result c.index-words-1.result c.index-words-2.result c.index-words-3.result (omega arith)
+    c.index-words-0.is c.index-words-1.is c.index-words-2.is c.index-words-3.is) c.add_fet.ensures.passed
 
 pub returns-clause-read : goal.returns-clause-read
-returns-clause-read c = rw (four_items c.args.words.now c.index-words-0.result c.index-words-1.result c.index-words-2.result c.index-words-3.result (omega arith) c.index-words-0.is c.index-words-1.is c.index-words-2.is c.index-words-3.is) c.add_fet.ensures.read
+returns-clause-read c =
+    rw (four_items c.args.words.now c.index-words-0.result c.index-words-1.result c.index-words-2.result c.index-words-3.result (omega arith)
+    c.index-words-0.is c.index-words-1.is c.index-words-2.is c.index-words-3.is) c.add_fet.ensures.read
 
 pub returns-clause-refused : goal.returns-clause-refused
 unfolding fet_fault
-returns-clause-refused c = rw (four_items c.args.words.now c.index-words-0.result c.index-words-1.result c.index-words-2.result c.index-words-3.result (omega arith) c.index-words-0.is c.index-words-1.is c.index-words-2.is c.index-words-3.is) c.add_fet.ensures.refused
+returns-clause-refused c =
+    rw (four_items c.args.words.now c.index-words-0.result c.index-words-1.result c.index-words-2.result c.index-words-3.result (omega arith)
+    c.index-words-0.is c.index-words-1.is c.index-words-2.is c.index-words-3.is) c.add_fet.ensures.refused

@@ -10,8 +10,12 @@ returns-then-words-ne2-clause-refused c = λ ne. resist_fault-other c.args.self.
 
 pub returns-clause-passed : goal.returns-clause-passed
 unfolding resist_fault
-returns-clause-passed c = rw (two_items c.args.words.now c.index-words-0.result c.index-words-1.result (omega arith) c.index-words-0.is c.index-words-1.is) c.add_list_class.ensures.passed
+returns-clause-passed c =
+    rw (two_items c.args.words.now c.index-words-0.result c.index-words-1.result (omega arith) c.index-words-0.is c.index-words-1.is)
+    c.add_list_class.ensures.passed
 
 pub returns-clause-refused : goal.returns-clause-refused
 unfolding resist_fault
-returns-clause-refused c = rw (two_items c.args.words.now c.index-words-0.result c.index-words-1.result (omega arith) c.index-words-0.is c.index-words-1.is) c.add_list_class.ensures.refused
+returns-clause-refused c =
+    rw (two_items c.args.words.now c.index-words-0.result c.index-words-1.result (omega arith) c.index-words-0.is c.index-words-1.is)
+    c.add_list_class.ensures.refused

@@ -10,8 +10,12 @@ returns-then-words-ne2-clause-refused c = λ ne. type_fault-other c.args.self.no
 
 pub returns-clause-passed : goal.returns-clause-passed
 unfolding type_fault
-returns-clause-passed c = rw (two_items c.args.words.now c.index-words-0.result c.index-words-1.result (omega arith) c.index-words-0.is c.index-words-1.is) c.add_list_type.ensures.passed
+returns-clause-passed c =
+    rw (two_items c.args.words.now c.index-words-0.result c.index-words-1.result (omega arith) c.index-words-0.is c.index-words-1.is)
+    c.add_list_type.ensures.passed
 
 pub returns-clause-refused : goal.returns-clause-refused
 unfolding type_fault
-returns-clause-refused c = rw (two_items c.args.words.now c.index-words-0.result c.index-words-1.result (omega arith) c.index-words-0.is c.index-words-1.is) c.add_list_type.ensures.refused
+returns-clause-refused c =
+    rw (two_items c.args.words.now c.index-words-0.result c.index-words-1.result (omega arith) c.index-words-0.is c.index-words-1.is)
+    c.add_list_type.ensures.refused
