@@ -1,0 +1,4 @@
+pub mod CauseLaws
+pub mod EffectLaws
+pub mod ProgressLaws
+pub mod StoreLaws

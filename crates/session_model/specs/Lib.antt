@@ -1,0 +1,5 @@
+pub mod Causes
+pub mod Effects
+pub mod Progress
+pub mod Reports
+pub mod Scripts

@@ -1,0 +1,23 @@
+//! What any session of lines is, apart from what a line does: its effects, its report, and its runs.
+//!
+//! A `Session` says what one line means, and answers it. `run_lines` runs a script of lines over it: their stores, their
+//! report, and why it ends. What is proved of a run is proved once, over any meaning of one line.
+//!
+//! # How the proof goes
+//!
+//! An effect is a list of report lines and a list of stores beside the new state, so two effects in a row append (`EffectLaws`).
+//! The loop in `run_lines` keeps one record, `UnderWay`: the lines so far, what they mean together, and that the report and the
+//! files are those of that effect. `ProgressLaws` has its three uses: it begins, it goes on by a line, and at the end, or where a
+//! line stops, it is how far the run came. Stores are made one by one, so a stop among them is found by going back over those
+//! that were made (`StoreLaws`). Counts rise from call to call; what rose in one call rose in the run (`CauseLaws`).
+#![tactic(auto)]
+
+mod answer;
+mod report;
+mod running;
+mod session;
+
+pub use answer::{Answer, Halt, Store};
+pub use report::{Cause, LineKind, ReportLine, is_told, report_text};
+pub use running::{run_lines, write_text};
+pub use session::Session;
