@@ -15,6 +15,7 @@ use Rattle.geo_core.specs.Covering.{Covers, is_covered, IsProper}
 use Rattle.geo_core.specs.Planes.{AreTilesIn}
 use Rattle.geo_core.proofs.CoveringLaws.{Covers-is_covered, is_covered-Covers, covers_second}
 use Rattle.geo_core.proofs.TileSets.{tile_value, tile_inside, tiles_apart}
+use Rattle.tech_model.specs.declared.limits.TheConstants.{MOST_PLANES}
 use Rattle.tech_model.specs.declared.raw.RawTech.{RawTech}
 use Rattle.tech_model.specs.WellFormed.{IsWellFormed}
 use Rattle.tech_model.specs.Columns.{type_on}
@@ -84,7 +85,7 @@ module _ (values : Square → ℕ) (area : Rect) (tiles : List Piece) (are : Are
 -- ---- the code of each square
 
 module _ (brush : Brush) (raw : RawTech) (layer : ℕ) (w : IsWellFormed raw) (below : layer < length raw.layers) (layout : Layout)
-    (keeps : KeepsTypes raw.types layout) (plane : ℕ) (few : plane < 8)
+    (keeps : KeepsTypes raw.types layout) (plane : ℕ) (few : plane < MOST_PLANES)
     (area : Rect) (tiles : List Piece) (are : AreTilesIn (kinds_on layout plane) area tiles) where
   -- the type of the plane before
   abbrev old : Square → ℕ

@@ -10,7 +10,7 @@ use Rattle.geo_core.specs.declared.squares.Square.{Square}
 use Rattle.geo_core.specs.declared.squares.Rect.{Rect}
 use Rattle.geo_core.specs.declared.squares.Piece.{Piece}
 use Rattle.geo_core.specs.Areas.{common_rect, LiesWithin}
-use Rattle.geo_core.specs.Covering.{Covers, is_covered, IsProper}
+use Rattle.geo_core.specs.Covering.{Covers, is_covered}
 use Rattle.geo_core.specs.Planes.{HasValue, IsTileIn, AreTilesIn}
 use Rattle.geo_core.specs.Strips.{IsStrip, StandsBefore}
 use Rattle.geo_core.proofs.CoveringLaws.{Covers-is_covered, is_covered-Covers}

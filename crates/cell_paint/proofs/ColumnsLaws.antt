@@ -1,8 +1,11 @@
 -- What a brush leaves of a column: types of their planes, and on a plane what depends on that plane alone.
-use Rattle.std.proofs.Common.{◌≡◌, ◌<◌, ◌≤◌, ℕ, zero, suc, List, length, refl, sym, ◌∙◌, arith, inl, inr}
+use Rattle.std.proofs.Common.{◌≡◌, ◌<◌, ◌≤◌, ℕ, List, length, refl, sym, ap, ◌∙◌, arith, inl, inr}
 use Rattle.std.specs.Prelude.{nat_le, map}
-use Rattle.std.proofs.lemmas.Bool.{and_parts, leb-true}
+use Rattle.std.proofs.lemmas.Bool.{and_parts, cases_lt, leb-true}
+use Rattle.std.proofs.lemmas.List.{get_or_past}
+use Rattle.std.proofs.lemmas.List.FromFn.{get_or-map-range_with_len}
 use Rattle.geo_core.specs.declared.squares.Square.{Square}
+use Rattle.tech_model.specs.declared.limits.TheConstants.{MOST_PLANES, MOST_TYPES}
 use Rattle.tech_model.specs.declared.raw.TypeId.{TypeId}
 use Rattle.tech_model.specs.declared.raw.RawTech.{RawTech}
 use Rattle.tech_model.specs.Types.{type_number, plane_of}
@@ -26,14 +29,14 @@ unfolding painted_column erased_column
 brushed_is_column Paint raw layer column w below is = (marks_kept-whole raw _ w (painted_is_column raw layer column w below is)).0
 brushed_is_column Erase raw layer column w below is = (marks_kept-whole raw _ w (erased_is_column raw layer column is)).0
 
--- a type of a plane is at most 64
-small_on_plane : (raw : RawTech) (plane t : ℕ) → length raw.types ≤ 64 → IsOnPlane raw plane t → t ≤ 64
+-- a type of a plane is one of those that there may be
+small_on_plane : (raw : RawTech) (plane t : ℕ) → length raw.types ≤ MOST_TYPES → IsOnPlane raw plane t → t ≤ MOST_TYPES
 small_on_plane raw plane t few (inl space) = omega arith
 small_on_plane raw plane t few (inr type) = let high = leb-true t (length raw.types) (and_parts (nat_le 1 t) (nat_le t (length raw.types)) type.0).1 in
     omega arith
 
--- a type of a column is at most 64
-pub column_small : (raw : RawTech) (column : List TypeId) (plane : ℕ) → IsWellFormed raw → IsColumn raw column → type_on column plane ≤ 64
+-- a type of a column is one of those that there may be
+pub column_small : (raw : RawTech) (column : List TypeId) (plane : ℕ) → IsWellFormed raw → IsColumn raw column → type_on column plane ≤ MOST_TYPES
 column_small raw column plane w is = small_on_plane raw plane (type_on column plane) w.types_limit (is plane)
 
 -- what a brush leaves on a plane depends on that plane alone
@@ -46,16 +49,10 @@ brushed_local Erase raw layer plane a b w below long a_is b_is a_whole b_whole s
     b_whole same
 
 -- the column of a square has its types
-pub column_type : (layout : Layout) (square : Square) (plane : ℕ) → plane < 8 → type_on (column_at layout square) plane ≡ kinds_on layout plane square
-column_type layout square zero few = refl
-column_type layout square (suc zero) few = refl
-column_type layout square (suc (suc zero)) few = refl
-column_type layout square (suc (suc (suc zero))) few = refl
-column_type layout square (suc (suc (suc (suc zero)))) few = refl
-column_type layout square (suc (suc (suc (suc (suc zero))))) few = refl
-column_type layout square (suc (suc (suc (suc (suc (suc zero)))))) few = refl
-column_type layout square (suc (suc (suc (suc (suc (suc (suc zero))))))) few = refl
-column_type layout square (suc (suc (suc (suc (suc (suc (suc (suc n)))))))) few = absurd (omega arith)
+pub column_type : (layout : Layout) (square : Square) (plane : ℕ) → plane < MOST_PLANES → type_on (column_at layout square) plane ≡ kinds_on layout plane square
+column_type layout square plane below =
+    ap (λ (t : TypeId). t.0)
+    (get_or-map-range_with_len (λ (p : ℕ). type_number (kinds_on layout p square)) 0 MOST_PLANES plane plane (type_number 0) below (omega arith))
 
 -- the column of a square where all planes have space
 abbrev pub no_types : List TypeId
@@ -63,15 +60,10 @@ no_types = map (λ plane. type_number 0) all_planes
 
 -- each plane has space there
 no_types_on : (plane : ℕ) → type_on no_types plane ≡ 0
-no_types_on zero = refl
-no_types_on (suc zero) = refl
-no_types_on (suc (suc zero)) = refl
-no_types_on (suc (suc (suc zero))) = refl
-no_types_on (suc (suc (suc (suc zero)))) = refl
-no_types_on (suc (suc (suc (suc (suc zero))))) = refl
-no_types_on (suc (suc (suc (suc (suc (suc zero)))))) = refl
-no_types_on (suc (suc (suc (suc (suc (suc (suc zero))))))) = refl
-no_types_on (suc (suc (suc (suc (suc (suc (suc (suc n)))))))) = refl
+no_types_on plane = ap (λ (t : TypeId). t.0) (elim (cases_lt plane MOST_PLANES) [
+  | inl below ↦ get_or-map-range_with_len (λ (p : ℕ). type_number 0) 0 MOST_PLANES plane plane (type_number 0) below (omega arith)
+  | inr past ↦ get_or_past no_types plane (type_number 0) past
+])
 
 -- space is of each plane
 no_types_is_column : (raw : RawTech) → IsColumn raw no_types
@@ -85,7 +77,7 @@ no_types_whole raw s t s_is t_is layers stands =
     absurd (omega arith)
 
 module _ (brush : Brush) (raw : RawTech) (layer : ℕ) (w : IsWellFormed raw) (below : layer < length raw.layers) (layout : Layout)
-    (keeps : KeepsTypes raw.types layout) (plane : ℕ) (few : plane < 8) where
+    (keeps : KeepsTypes raw.types layout) (plane : ℕ) (few : plane < MOST_PLANES) where
   -- squares with one type come to have one type
   pub squares_change_alike : (s t : Square) → kinds_on layout plane s ≡ kinds_on layout plane t
       → type_on (brushed brush raw layer (column_at layout s)) plane ≡ type_on (brushed brush raw layer (column_at layout t)) plane

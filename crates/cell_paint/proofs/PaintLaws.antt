@@ -11,11 +11,12 @@ use Rattle.geo_core.specs.declared.squares.Square.{Square}
 use Rattle.geo_core.specs.declared.squares.Rect.{Rect}
 use Rattle.geo_core.specs.declared.squares.Piece.{Piece}
 use Rattle.geo_core.specs.Areas.{AreDisjoint, IsNear, IsSmall}
-use Rattle.geo_core.specs.Covering.{Covers, is_covered, IsProper}
+use Rattle.geo_core.specs.Covering.{Covers, is_covered}
 use Rattle.geo_core.specs.Strips.{IsStrip, StandsBefore}
 use Rattle.geo_core.specs.Planes.{AreSet}
 use Rattle.geo_core.proofs.CoveringLaws.{Covers-is_covered}
 use Rattle.geo_core.proofs.StripSets.{strip_within, one_strip_at, strip_is_proper}
+use Rattle.tech_model.specs.declared.limits.TheConstants.{MOST_PLANES}
 use Rattle.tech_model.specs.declared.raw.TypeId.{TypeId}
 use Rattle.tech_model.specs.declared.raw.TypeRec.{TypeRec}
 use Rattle.tech_model.specs.declared.raw.RawTech.{RawTech}
@@ -35,38 +36,29 @@ use Rattle.cell_paint.specs.Painting.{place_at, kinds_on, column_at, with_column
 use Rattle.cell_paint.specs.Painting.{paint_range, ChangesTo, AreChanges, PassesPaintLimit}
 use Rattle.cell_paint.specs.Paints.{PlaneValue, layout_on, IsWhole}
 use Rattle.cell_paint.specs.Settings.{pieces_for, IsSettable, AreSettable, AreAllSet, PassesSomewhere, AreAllChanges}
+use Rattle.cell_paint.proofs.ColumnsLaws.{column_type}
 use Rattle.cell_paint.proofs.PlaneLaws.{space_past}
 
 -- ---- columns
 
--- the types of a column, and space past its end
-pub type_on_column : (layout : Layout) (square : Square) (plane : ℕ) → plane < 8 → type_on (column_at layout square) plane ≡ layout (place_at plane square)
-type_on_column layout square zero below = refl
-type_on_column layout square (suc zero) below = refl
-type_on_column layout square (suc (suc zero)) below = refl
-type_on_column layout square (suc (suc (suc zero))) below = refl
-type_on_column layout square (suc (suc (suc (suc zero)))) below = refl
-type_on_column layout square (suc (suc (suc (suc (suc zero))))) below = refl
-type_on_column layout square (suc (suc (suc (suc (suc (suc zero)))))) below = refl
-type_on_column layout square (suc (suc (suc (suc (suc (suc (suc zero))))))) below = refl
-type_on_column layout square (suc (suc (suc (suc (suc (suc (suc (suc n)))))))) below = absurd (omega arith)
-
-pub type_past_column : (layout : Layout) (square : Square) (plane : ℕ) → 8 ≤ plane → type_on (column_at layout square) plane ≡ 0
+-- past the end of a column there is space
+pub type_past_column : (layout : Layout) (square : Square) (plane : ℕ) → MOST_PLANES ≤ plane → type_on (column_at layout square) plane ≡ 0
 type_past_column layout square plane past = ap (λ (t : TypeId). t.0) (get_or_past (column_at layout square) plane (type_number 0) past)
 
 -- a column that shows the types of its planes, and space past the last, is that of the layout
 pub column_shows : (layout : Layout) (square : Square) (column : List TypeId)
-    → ((plane : ℕ) → plane < 8 → layout (place_at plane square) ≡ type_on column plane)
-    → ((plane : ℕ) → 8 ≤ plane → type_on column plane ≡ 0) → (plane : ℕ) → type_on (column_at layout square) plane ≡ type_on column plane
-column_shows layout square column here past plane = elim (cases_lt plane 8) [
-  | inl below ↦ type_on_column layout square plane below ∙ here plane below
-  | inr above ↦ (let from : 8 ≤ plane = omega arith in type_past_column layout square plane from ∙ sym (past plane from))
+    → ((plane : ℕ) → plane < MOST_PLANES → layout (place_at plane square) ≡ type_on column plane)
+    → ((plane : ℕ) → MOST_PLANES ≤ plane → type_on column plane ≡ 0) → (plane : ℕ) → type_on (column_at layout square) plane ≡ type_on column plane
+column_shows layout square column here past plane = elim (cases_lt plane MOST_PLANES) [
+  | inl below ↦ column_type layout square plane below ∙ here plane below
+  | inr above ↦ (let from : MOST_PLANES ≤ plane = omega arith in type_past_column layout square plane from ∙ sym (past plane from))
 ]
 
 -- a type of its plane in each place, and whole contacts
 abbrev pub IsSound : RawTech → List TypeId → Type 0
 IsSound raw column = IsColumn raw column × HasWholeContacts raw column
 
+-- a column with the same types is as sound
 pub sound_same : (raw : RawTech) (a b : List TypeId) → ((plane : ℕ) → type_on b plane ≡ type_on a plane) → IsSound raw a → IsSound raw b
 sound_same raw a b same is = (
   λ plane. subst (IsOnPlane raw plane) (sym (same plane)) (is.0 plane),
@@ -98,16 +90,17 @@ space_in raw kinds planes column whole same is plane past = elim (is plane) [
 
 -- ---- what holds of all paint
 
+-- planes that show the same layout are as whole
 pub whole_same : (kinds : List TypeRec) (old new : List PlaneValue) → length new ≡ length old → ((place : Place) → layout_on new place ≡ layout_on old place)
     → IsWhole kinds old → IsWhole kinds new
 whole_same kinds old new long same whole = record {
-  few = subst (λ (n : ℕ). n ≤ 8) (sym long) whole.few;
+  few = subst (λ (n : ℕ). n ≤ MOST_PLANES) (sym long) whole.few;
   placed = λ raw is t type. subst (λ (n : ℕ). plane_of raw t < n) (sym long) (whole.placed raw is t type);
   sound = record {
     types = λ raw is square.
         sound_same raw (column_at (layout_on old) square) (column_at (layout_on new) square)
         (column_shows (layout_on new) square (column_at (layout_on old) square)
-        (λ plane below. same (place_at plane square) ∙ sym (type_on_column (layout_on old) square plane below)) (type_past_column (layout_on old) square))
+        (λ plane below. same (place_at plane square) ∙ sym (column_type (layout_on old) square plane below)) (type_past_column (layout_on old) square))
         (whole.sound.types raw is square);
     range = λ place material. whole.sound.range place (λ space. material (same place ∙ space));
   };
@@ -118,7 +111,7 @@ pub whole_empty : (raw : RawTech) (planes : List PlaneValue) → IsWellFormed ra
     → ((place : Place) → layout_on planes place ≡ 0)
     → IsWhole raw.types planes
 whole_empty raw planes well_formed long empty = record {
-  few = subst (λ (n : ℕ). n ≤ 8) (sym long) well_formed.planes_limit;
+  few = subst (λ (n : ℕ). n ≤ MOST_PLANES) (sym long) well_formed.planes_limit;
   placed = λ other is t type.
       subst (λ (n : ℕ). plane_of other t < n) (sym long)
       (subst (λ (types : List TypeRec). (u : ℕ) → IsTrue (is_type (record raw { types = types }) u) → plane_of (record raw { types = types }) u < length
@@ -127,8 +120,8 @@ whole_empty raw planes well_formed long empty = record {
   sound = record {
     types = λ other is square.
         let space : (plane : ℕ) → type_on (column_at (layout_on planes) square) plane ≡ 0 = λ plane.
-        elim (cases_lt plane 8) [
-          | inl below ↦ type_on_column (layout_on planes) square plane below ∙ empty (place_at plane square)
+        elim (cases_lt plane MOST_PLANES) [
+          | inl below ↦ column_type (layout_on planes) square plane below ∙ empty (place_at plane square)
           | inr above ↦ type_past_column (layout_on planes) square plane (omega arith)
         ] in (
           λ plane. inl (space plane),
@@ -185,11 +178,12 @@ near_range area within =
       yhi = small_coordinate area.yhi each.3;
     }
 
+-- and so are planes that show the changed one
 pub whole_changed : (kinds : List TypeRec) (raw : RawTech) (change : List TypeId → List TypeId) (area : Rect) (old new : List PlaneValue) → raw.types ≡ kinds
     → ((square : Square) → IsSound raw (change (column_at (layout_on old) square))) → is_in_range area ≡ true → length new ≡ length old
     → ((place : Place) → layout_on new place ≡ with_columns change area (layout_on old) place) → IsWhole kinds old → IsWhole kinds new
 whole_changed kinds raw change area old new is_raw sound within long changed whole = record {
-  few = subst (λ (n : ℕ). n ≤ 8) (sym long) whole.few;
+  few = subst (λ (n : ℕ). n ≤ MOST_PLANES) (sym long) whole.few;
   placed = λ other is t type. subst (λ (n : ℕ). plane_of other t < n) (sym long) (whole.placed other is t type);
   sound = record {
     types = λ other is square. elim (cases_Bool (is_covered area square)) [
@@ -205,7 +199,7 @@ whole_changed kinds raw change area old new is_raw sound within long changed who
           sound_same other (column_at (layout_on old) square) (column_at (layout_on new) square)
           (column_shows (layout_on new) square (column_at (layout_on old) square)
           (λ plane below. changed (place_at plane square) ∙ changed_outside change area (layout_on old) (place_at plane square) outside
-          ∙ sym (type_on_column (layout_on old) square plane below)) (type_past_column (layout_on old) square))
+          ∙ sym (column_type (layout_on old) square plane below)) (type_past_column (layout_on old) square))
           (whole.sound.types other is square)
     ];
     range = λ place material. elim (cases_Bool (is_covered area place.square)) [
@@ -236,6 +230,7 @@ changed_on_plane old new after pieces changes are square = elim (cases_eq (new s
   | inr differ ↦ (let there = changes.whole square differ in are.set there.0 there.1 square there.2 ∙ there.3)
 ]
 
+-- when each plane has its changes, the layout is the changed one
 pub all_changed : (raw : RawTech) (kinds : List TypeRec) (change : List TypeId → List TypeId) (area : Rect) (old new : List PlaneValue)
     (changes : List (Vec Piece Global)) → raw.types ≡ kinds
     → ((square : Square) → IsSound raw (change (column_at (layout_on old) square))) → IsWhole kinds old → length changes ≡ length old
@@ -311,6 +306,7 @@ changes_apart old new pieces are i j d less below square c c' =
     (one_strip_at (ChangesTo old new b.value) a.area b.area (subst (λ (v : ℕ). IsStrip (ChangesTo old new v) a.area) value first) second square c c')
     (are.ordered i j d less below)
 
+-- the changes of a plane can be set on it
 pub changes_settable : (old new : Square → ℕ) (area : Rect) (pieces : List Piece) → IsNear area
     → ((square : Square) → new square ≢ old square → Covers area square)
     → AreChanges old new pieces → IsSettable pieces
@@ -331,6 +327,7 @@ changes_inside change area layout place differ = elim (cases_Bool (is_covered ar
   | inr outside ↦ absurd (differ (changed_outside change area layout place outside))
 ]
 
+-- and so can those of each plane
 pub all_settable : (change : List TypeId → List TypeId) (area : Rect) (layout : Layout) (changes : List (Vec Piece Global)) → IsNear area
     → AreAllChanges layout (with_columns change area layout) changes → AreSettable changes
 all_settable change area layout changes near are plane other below =

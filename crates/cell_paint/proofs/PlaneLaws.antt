@@ -31,12 +31,14 @@ space_past planes plane square past = ap (λ (p : PlaneValue). number_on p squar
 pub set_here : (planes : List PlaneValue) (index : ℕ) (new : PlaneValue) → index < length planes → plane_at (set planes index new) index ≡ new
 set_here planes index new below = get_or-set_same planes index new no_plane below
 
+-- the other planes are as they were
 pub set_elsewhere : (planes : List PlaneValue) (index plane : ℕ) (new : PlaneValue) → plane ≢ index
     → plane_at (set planes index new) plane ≡ plane_at planes plane
 set_elsewhere planes index plane new apart = get_or-set_other planes index plane new no_plane apart
 
 -- ---- the planes below an index have taken what their pieces need
 
+-- the first planes are ready for their pieces, and no square has changed
 pub record IsReservedUpTo (index : ℕ) (old now : List PlaneValue) (changes : List (Vec Piece Global)) : Type 0 where
   pub long : length now ≡ length old
   pub same : (place : Place) → layout_on now place ≡ layout_on old place
@@ -56,6 +58,7 @@ same_everywhere index old now new below same alike place = elim (cases_eq place.
   | inr apart ↦ ap (λ (p : PlaneValue). number_on p place.square) (set_elsewhere now index place.plane new apart) ∙ same place
 ]
 
+-- one more plane is ready
 pub reserved_more : (index : ℕ) (old now : List PlaneValue) (changes : List (Vec Piece Global)) (new : PlaneValue) → index < length now
     → AreSame (number_on (plane_at now index)) (number_on new)
     → ((other : Vec Piece Global) → IsReadyFor new (pieces_for changes index other))
@@ -75,12 +78,14 @@ reserved_more index old now changes new below alike ready are = record {
 
 -- ---- the planes below an index have their pieces set
 
+-- the first planes have their pieces set, and the others are as they were
 pub record IsCommittedUpTo (index : ℕ) (old now : List PlaneValue) (changes : List (Vec Piece Global)) : Type 0 where
   pub long : length now ≡ length old
   pub each : (plane : ℕ) (other : Vec Piece Global) → plane < index
       → AreSet (number_on (plane_at old plane)) (number_on (plane_at now plane)) (pieces_for changes plane other)
   pub rest : (plane : ℕ) → index ≤ plane → plane_at now plane ≡ plane_at old plane
 
+-- one more plane has its pieces set
 pub committed_more : (index : ℕ) (old now : List PlaneValue) (changes : List (Vec Piece Global)) (new : PlaneValue) → index < length now
     → ((other : Vec Piece Global) → AreSet (number_on (plane_at now index)) (number_on new) (pieces_for changes index other))
     → IsCommittedUpTo index old now changes → IsCommittedUpTo (index + 1) old (set now index new) changes
@@ -101,12 +106,14 @@ committed_more index old now changes new below are_set are = record {
 
 -- ---- the box of the planes below a number
 
+-- the smallest rectangle of what the first planes have
 pub record IsBoxBelow (planes : List PlaneValue) (count : ℕ) (box : Rect) : Type 0 where
   pub place : Place
   pub material : IsMaterial (layout_on planes) place
   pub covers : (place : Place) → place.plane < count → IsMaterial (layout_on planes) place → Covers box place.square
   pub least : (area : Rect) → ((place : Place) → IsMaterial (layout_on planes) place → Covers area place.square) → LiesWithin box area
 
+-- the same, told as an option
 abbrev pub BoxBelow : List PlaneValue → ℕ → Option Rect → Type 0
 BoxBelow planes count None = (place : Place) → place.plane < count → layout_on planes place ≡ 0
 BoxBelow planes count (Some box) = IsBoxBelow planes count box
@@ -179,6 +186,7 @@ box_whole planes count (Some box) all some = record {
 
 -- ---- the pieces for one plane
 
+-- what can be set on all planes can be set on each
 pub settable_at : (changes : List (Vec Piece Global)) (index : ℕ) (pieces : Vec Piece Global) → AreSettable changes → index < length changes
     → pieces ≡ get_or changes index pieces
     → IsSettable pieces.items

@@ -1,5 +1,6 @@
 -- What painting and erasing do to a layout, square by square, and the limit that they may pass.
-use Rattle.std.specs.Prelude.{◌≡◌, ◌≢◌, ◌&&◌, ℕ, ℤ, neg_ℤ, int_le, Bool, if◌then◌else◌, List, [], ◌∷◌, map, AllPairs}
+use Rattle.std.specs.Prelude.{◌≡◌, ◌≢◌, ◌&&◌, ℕ, ℤ, neg_ℤ, int_le, Bool, if◌then◌else◌, List, map, AllPairs}
+use Rattle.std.specs.List.{range_with_len}
 use Rattle.finite_sets.specs.Lists.{In}
 use Rattle.geo_core.specs.declared.limits.TheConstants.{PAINT_EDGE}
 use Rattle.geo_core.specs.declared.squares.Square.{Square}
@@ -8,6 +9,7 @@ use Rattle.geo_core.specs.declared.squares.Piece.{Piece}
 use Rattle.geo_core.specs.Covering.{Covers, is_covered}
 use Rattle.geo_core.specs.Planes.{PassesTileLimit}
 use Rattle.geo_core.specs.Strips.{IsStrip, StandsBefore}
+use Rattle.tech_model.specs.declared.limits.TheConstants.{MOST_PLANES}
 use Rattle.tech_model.specs.declared.raw.TypeId.{TypeId}
 use Rattle.tech_model.specs.declared.raw.RawTech.{RawTech}
 use Rattle.tech_model.specs.Types.{type_number}
@@ -15,6 +17,7 @@ use Rattle.tech_model.specs.Columns.{type_on, painted_column, erased_column}
 use Rattle.layout_model.specs.Places.{Place}
 use Rattle.layout_model.specs.Layouts.{Layout}
 
+-- the place of a square on a plane
 abbrev pub place_at : ℕ → Square → Place
 place_at plane square = record { plane = plane; square = square }
 
@@ -22,9 +25,9 @@ place_at plane square = record { plane = plane; square = square }
 abbrev pub kinds_on : Layout → ℕ → Square → ℕ
 kinds_on layout plane square = layout (place_at plane square)
 
--- There are at most 8 planes.
+-- the numbers of all planes that there may be
 abbrev pub all_planes : List ℕ
-all_planes = 0 ∷ 1 ∷ 2 ∷ 3 ∷ 4 ∷ 5 ∷ 6 ∷ 7 ∷ []
+all_planes = range_with_len 0 MOST_PLANES
 
 -- the types of one square, a type for each plane
 abbrev pub column_at : Layout → Square → List TypeId

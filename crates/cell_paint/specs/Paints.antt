@@ -6,6 +6,7 @@ use Rattle.geo_core.specs.declared.squares.Piece.{Piece}
 use Rattle.geo_core.specs.Areas.{LiesWithin}
 use Rattle.geo_core.specs.Covering.{Covers}
 use Rattle.run_plane.specs.Contents.{Contents, number_in, IsReady}
+use Rattle.tech_model.specs.declared.limits.TheConstants.{MOST_PLANES}
 use Rattle.tech_model.specs.declared.raw.RawTech.{RawTech}
 use Rattle.tech_model.specs.declared.raw.TypeRec.{TypeRec}
 use Rattle.tech_model.specs.Types.{is_type, plane_of}
@@ -18,6 +19,7 @@ use Rattle.cell_paint.specs.Painting.{column_at, paint_range}
 abbrev pub PlaneValue : Type 0
 PlaneValue = Contents
 
+-- the number at a square
 abbrev pub number_on : PlaneValue → Square → ℕ
 number_on = number_in
 
@@ -25,6 +27,7 @@ number_on = number_in
 abbrev pub IsReadyFor : PlaneValue → List Piece → Type 0
 IsReadyFor = IsReady
 
+-- a plane without paint
 abbrev pub no_plane : PlaneValue
 no_plane = record { rows = []; next = [] }
 
@@ -57,9 +60,9 @@ pub record IsSoundPaint (kinds : List TypeRec) (layout : Layout) : Type 0 where
   pub types : KeepsTypes kinds layout
   pub range : (place : Place) → IsMaterial layout place → Covers paint_range place.square
 
--- the same, there are at most 8 planes, and each type stands on one of them
+-- the same, there are no more planes than there may be, and each type stands on one of them
 pub record IsWhole (kinds : List TypeRec) (planes : List PlaneValue) : Type 0 where
-  pub few : length planes ≤ 8
+  pub few : length planes ≤ MOST_PLANES
   pub placed : (raw : RawTech) → raw.types ≡ kinds → (t : ℕ) → IsTrue (is_type raw t) → plane_of raw t < length planes
   pub sound : IsSoundPaint kinds (layout_on planes)
 

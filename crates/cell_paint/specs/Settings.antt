@@ -19,6 +19,7 @@ pub record IsSettable (pieces : List Piece) : Type 0 where
 abbrev pub pieces_for : List (Vec Piece Global) → ℕ → Vec Piece Global → List Piece
 pieces_for changes plane other = (slice_index_or changes plane other).items
 
+-- the pieces of each plane can be set
 abbrev pub AreSettable : List (Vec Piece Global) → Type 0
 AreSettable changes = All (λ pieces. IsSettable pieces.items) changes
 

@@ -4,7 +4,7 @@ ghost use Rattle.tech_model.specs.Columns.{type_on};
 ghost use Rattle.tech_model.specs.ColumnForms.{IsColumn, HasWholeContacts};
 ghost use Rattle.cell_paint.specs.Changes.{brushed};
 
-use tech_model::{LayerId, Tech, TypeId};
+use tech_model::{LayerId, MOST_PLANES, MOST_TYPES, Tech, TypeId};
 
 /// Whether a layer is painted or erased.
 #[derive(Clone, Copy, Debug, PartialEq, Eq)]
@@ -23,12 +23,12 @@ pub struct Stroke<'a> {
 
 impl Stroke<'_> {
     /// The type that comes to stand on the plane of a square with this column.
-    pub fn kind_after(&self, plane: usize, mut column: [TypeId; 8]) -> u8
-        requires plane { plane < 8 }
+    pub fn kind_after(&self, plane: usize, mut column: [TypeId; MOST_PLANES]) -> u8
+        requires plane { plane < MOST_PLANES }
         requires layer { self.now.layer.0 < length self.now.tech.now.layers }
         requires types { IsColumn self.now.tech.now column }
         ensures kind { result ≡ type_on (brushed self.now.brush self.now.tech.now self.now.layer.0 column) plane }
-        ensures few { result ≤ 64 }
+        ensures few { result ≤ MOST_TYPES }
     {
         // The proof takes from this call that the technology is well formed.
         let _ = self.tech.raw();

@@ -15,7 +15,7 @@ use crate::faults::PaintFault;
 use crate::planes::{PaintPlane, column_at};
 use geo_core::{Piece, Plane, PlaneFault, Rect};
 use std::alloc::{AllocError, Global};
-use tech_model::TypeId;
+use tech_model::{MOST_PLANES, MOST_TYPES, TypeId};
 
 /// The strips of the squares of a plane that change where the stroke goes over the area, taken for each new type, in the
 /// order of strips. Want of memory alone refuses.
@@ -41,11 +41,9 @@ pub fn changes_on(
 {
     // The proof takes from this call that the technology is well formed.
     let _ = stroke.tech.raw();
-    let Ok(tiles) = planes[plane].tiles_in(area) else {
-        return Err(PaintFault::Memory);
-    };
+    let tiles = planes[plane].tiles_in(area)?;
     let pieces = coded(alloc, stroke, planes, plane, &tiles)?;
-    let ground = code_of(0, stroke.kind_after(plane, [TypeId(0); 8]));
+    let ground = code_of(0, stroke.kind_after(plane, [TypeId(0); MOST_PLANES]));
     let mut found = strips_of_codes(alloc, area, ground, &pieces)?;
     decode(&mut found);
     Ok(found)
@@ -59,7 +57,7 @@ fn coded(
     plane: usize,
     tiles: &[Piece],
 ) -> Result<Vec<Piece>, AllocError>
-    requires plane { plane < 8 }
+    requires plane { plane < MOST_PLANES }
     requires layer { stroke.now.layer.0 < length stroke.now.tech.now.layers }
     requires whole { IsWhole stroke.now.tech.now.types planes.now }
     ensures { IfOk result (λ found. found.items
@@ -78,7 +76,7 @@ fn coded(
 
 // The code of a change: 0 where nothing changes, and else the new type and 1.
 fn code_of(old: u8, new: u8) -> u8
-    requires { new ≤ 64 }
+    requires { new ≤ MOST_TYPES }
     ensures { result ≡ code_of old new }
 {
     if new == old { 0 } else { new + 1 }
@@ -100,13 +98,12 @@ fn strips_of_codes(
     ensures memory { IsOkUnless result PaintFault.Memory }
 {
     let mut codes = PaintPlane::new(alloc);
+    // A plane that is too small for the codes is want of memory to the caller, whose own planes may have room.
     let Ok(()) = lay(&mut codes, area, ground, pieces) else {
         return Err(PaintFault::Memory);
     };
-    match codes.tiles_in(area) {
-        Ok(found) => Ok(found),
-        Err(_) => Err(PaintFault::Memory),
-    }
+    let found = codes.tiles_in(area)?;
+    Ok(found)
 }
 
 // Gives an empty plane the ground's code in the area, and then the pieces theirs.

@@ -21,6 +21,21 @@ pub enum PaintFault {
     Memory,
 }
 
+/// What refuses a call of a plane refuses paint.
+impl From<PlaneFault> for PaintFault {
+    ghost use Rattle.std.specs.Prelude.{◌≡◌};
+    ghost use Rattle.cell_paint.specs.Faults.{of_plane};
+
+    ghost from_gives = { λ refused fault. fault ≡ of_plane refused };
+
+    fn from(refused: PlaneFault) -> PaintFault {
+        match refused {
+            PlaneFault::Full => PaintFault::TooManyTiles,
+            PlaneFault::Memory => PaintFault::Memory,
+        }
+    }
+}
+
 impl From<AllocError> for PaintFault {
     ghost use Rattle.std.specs.Prelude.{◌≡◌};
     ghost use Rattle.cell_paint.specs.declared.faults.PaintFault.TheVariants.{Memory};

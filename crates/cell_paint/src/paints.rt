@@ -147,10 +147,8 @@ impl CellPaint {
         ensures sound { IsSoundPaint self.now.kinds (layout_of self.now) }
         ensures memory { IsOkUnless result PaintFault.Memory }
     {
-        match self.planes[usize::from(plane)].tiles_in(area) {
-            Ok(tiles) => Ok(tiles),
-            Err(_) => Err(PaintFault::Memory),
-        }
+        let tiles = self.planes[usize::from(plane)].tiles_in(area)?;
+        Ok(tiles)
     }
 
     /// The strips of a type other than space on the plane. Want of memory alone refuses.
@@ -161,10 +159,8 @@ impl CellPaint {
         ensures near { IfOk result (λ strips. All IsNear strips.items) }
         ensures memory { IsOkUnless result PaintFault.Memory }
     {
-        match self.planes[usize::from(plane)].strips(kind.0) {
-            Ok(strips) => Ok(strips),
-            Err(_) => Err(PaintFault::Memory),
-        }
+        let strips = self.planes[usize::from(plane)].strips(kind.0)?;
+        Ok(strips)
     }
 
     /// The smallest rectangle that holds all paint. It takes no memory.

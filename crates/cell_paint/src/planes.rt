@@ -9,10 +9,10 @@ ghost use Rattle.cell_paint.specs.Paints.{layout_on, IsPaintBox};
 ghost use Rattle.cell_paint.specs.Settings.{AreSettable, AreAllReady, AreAllSet, PassesSomewhere};
 
 use crate::faults::PaintFault;
-use geo_core::{Piece, Plane, PlaneFault, Rect, Square};
+use geo_core::{Piece, Plane, Rect, Square};
 use run_plane::RunPlane;
 use std::array;
-use tech_model::TypeId;
+use tech_model::{MOST_PLANES, TypeId};
 
 /// A plane of a cell. The kind of planes that cells have is named here alone.
 pub type PaintPlane = RunPlane;
@@ -28,7 +28,7 @@ pub fn kind_at(planes: &[PaintPlane], plane: usize, square: Square) -> TypeId
 }
 
 /// The types at a square: one for each plane, and space past the last.
-pub fn column_at(planes: &[PaintPlane], square: Square) -> [TypeId; 8]
+pub fn column_at(planes: &[PaintPlane], square: Square) -> [TypeId; MOST_PLANES]
     ensures { result ≡ column_at (layout_on planes.now) square }
 {
     array::from_fn(|plane| kind_at(planes, plane, square))
@@ -45,11 +45,7 @@ pub fn reserve_all(planes: &mut [PaintPlane], changes: &[Vec<Piece>]) -> Result<
 {
     for index in 0..changes.len() {
         let plane = &mut planes[index];
-        match plane.reserve(changes[index].as_slice()) {
-            Ok(()) => {}
-            Err(PlaneFault::Full) => return Err(PaintFault::TooManyTiles),
-            Err(PlaneFault::Memory) => return Err(PaintFault::Memory),
-        }
+        plane.reserve(changes[index].as_slice())?;
     }
     Ok(())
 }

@@ -24,6 +24,7 @@ use Rattle.flood_nodes.proofs.RegionLaws.{JoinAlike}
 second_within : (pieces : List Piece) (contact : Contact) → IsSharedEdge (rects_of pieces) contact → contact.second < length pieces
 second_within pieces contact is = omega (arith, is.in_list, length-map pieces (λ (p : Piece). p.area))
 
+-- contacts are between places of the list
 pub contacts_within : (pieces : List Piece) (contacts : List Contact) → Lists (IsSharedEdge (rects_of pieces)) contacts
     → All (λ contact. (contact.first < length pieces) × (contact.second < length pieces)) contacts
 contacts_within pieces contacts lists = λ k d within.

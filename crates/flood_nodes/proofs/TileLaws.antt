@@ -18,9 +18,11 @@ at_index : (P : Piece → Type 0) (pieces : List Piece) (index : ℕ) (piece : P
 at_index P pieces index piece all there =
     subst P (get_or_from_slice_get pieces index piece piece there) (all index piece (slice_get_within pieces index piece there))
 
+-- a tile has a square
 pub tile_is_proper : (pieces : List Piece) (index : ℕ) (piece : Piece) → AreTiles pieces → slice_get pieces index ≡ Some piece → IsProper piece.area
 tile_is_proper pieces index piece tiles there = at_index (λ (p : Piece). IsProper p.area) pieces index piece tiles.proper there
 
+-- and a value
 pub tile_is_material : (pieces : List Piece) (index : ℕ) (piece : Piece) → AreTiles pieces → slice_get pieces index ≡ Some piece → piece.value ≢ 0
 tile_is_material pieces index piece tiles there = at_index (λ (p : Piece). p.value ≢ 0) pieces index piece tiles.material there
 

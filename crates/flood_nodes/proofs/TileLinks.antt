@@ -74,6 +74,7 @@ pub record TouchAlike (pieces : List Piece) (i j : ℕ) : Type 0 where
   pub same_value : first.value ≡ second.value
   pub touch : pos 0 <ℤ shared_length first.area second.area
 
+-- whichever is named first
 pub TouchAlike-sym : (pieces : List Piece) (i j : ℕ) → TouchAlike pieces i j → TouchAlike pieces j i
 TouchAlike-sym pieces i j touch = record {
   first = touch.second;

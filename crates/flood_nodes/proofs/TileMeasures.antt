@@ -63,6 +63,7 @@ Lists-tile pieces index piece there =
     (place.square, (subst (λ (p : Piece). Covers p.area place.square) same lies.covers, place_is place lies.plane)))
     (Lists-map (Covers piece.area) on_plane_0 (squares_of piece.area) (λ a b in_a in_b e. ap (λ (p : Place). p.square) e) (Lists-squares_of piece.area))
 
+-- what is not space passes the test
 pub is_material-material : (kind : ℕ) → kind ≢ 0 → is_material kind ≡ true
 is_material-material kind material = grind (arith, nat_tests)
 

@@ -10,9 +10,11 @@ use Rattle.geo_core.specs.Areas.{AreDisjoint, IsNear}
 use Rattle.flood_nodes.specs.Alike.{rects_of}
 use Rattle.flood_nodes.specs.Tiles.{AreTiles}
 
+-- each has a square
 pub rects_are_proper : (pieces : List Piece) → AreTiles pieces → All IsProper (rects_of pieces)
 rects_are_proper pieces tiles = All-map IsProper (λ (p : Piece). p.area) pieces tiles.proper
 
+-- each lies between the edges of planes
 pub rects_are_near : (pieces : List Piece) → AreTiles pieces → All IsNear (rects_of pieces)
 rects_are_near pieces tiles = All-map IsNear (λ (p : Piece). p.area) pieces tiles.near
 
@@ -20,6 +22,7 @@ rects_are_near pieces tiles = All-map IsNear (λ (p : Piece). p.area) pieces til
 abbrev blank : Rect → Piece
 blank rect = record { area = rect; value = 0 }
 
+-- no two have a square in common
 pub rects_are_disjoint : (pieces : List Piece) → AreTiles pieces → AllPairs AreDisjoint (rects_of pieces)
 rects_are_disjoint pieces tiles = λ i j d less within.
     let long = length-map pieces (λ (p : Piece). p.area) in

@@ -14,6 +14,7 @@ use Rattle.layout_model.specs.Nodes.{Node, AreMeasures, IsNode, AreInOrder, AreN
 use Rattle.layout_model.specs.Laws.{ConnectsBothWays, HasOneNodeList}
 use Rattle.layout_model.proofs.PlaceLaws.{AreNeighbours-sym, AreStacked-sym, IsBefore-irreflexive, IsBefore-trans, IsNoLater-antisym}
 
+-- links go both ways
 pub AreLinked-sym : (connects : ℕ → ℕ → Bool) (layout : Layout) → ConnectsBothWays connects → (a b : Place) → AreLinked connects layout a b
     → AreLinked connects layout b a
 AreLinked-sym connects layout symmetric a b link = record {
@@ -23,6 +24,7 @@ AreLinked-sym connects layout symmetric a b link = record {
   connected = sym (symmetric (layout a) (layout b)) ∙ link.connected;
 }
 
+-- and so do chains of them
 pub AreOneNode-sym : (connects : ℕ → ℕ → Bool) (layout : Layout) → ConnectsBothWays connects → {a b : Place} → AreOneNode connects layout a b
     → AreOneNode connects layout b a
 AreOneNode-sym connects layout symmetric chain = Chain-back (AreLinked-sym connects layout symmetric) chain
@@ -93,6 +95,7 @@ stands_there technology layout xs ys symmetric p q z inside =
     let same = IsNoLater-antisym z.least other.0.least (mine.least.1 other.0.least back) (theirs.least.1 z.least other.2) in
     subst (λ (n : Node). In n ys) (sym (same_node technology layout z other.0 mine theirs same)) other.1
 
+-- a layout has one list of nodes
 pub has_one_node_list : HasOneNodeList
 has_one_node_list technology layout xs ys symmetric p q =
     same_lists xs ys p.in_order q.in_order

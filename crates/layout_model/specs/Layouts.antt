@@ -5,6 +5,7 @@ use Rattle.geo_core.specs.declared.squares.Piece.{Piece}
 use Rattle.geo_core.specs.Covering.{is_covered}
 use Rattle.layout_model.specs.Places.{Place}
 
+-- a layout: the tile type at each place
 abbrev pub Layout : Type 0
 Layout = Place → ℕ
 

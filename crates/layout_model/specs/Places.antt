@@ -4,6 +4,7 @@ use Rattle.geo_core.specs.declared.squares.Square.{Square}
 use Rattle.geo_core.specs.Neighbours.{AreEdgeNeighbours, edge_neighbours}
 use Rattle.geo_core.specs.SquareOrder.{ComesBefore}
 
+-- a square of one plane
 pub record Place : Type 0 where
   pub plane : ℕ
   pub square : Square
@@ -24,5 +25,6 @@ neighbours place = map (λ square. record { plane = place.plane; square = square
 abbrev pub IsBefore : Place → Place → Type 0
 IsBefore a b = (a.plane < b.plane) ⊎ ((a.plane ≡ b.plane) × ComesBefore a.square b.square)
 
+-- the same place, or one before
 abbrev pub IsNoLater : Place → Place → Type 0
 IsNoLater a b = (a ≡ b) ⊎ IsBefore a b

@@ -11,6 +11,7 @@ pub record Class : Type 0 where
   pub per_area : ℤ
   pub per_perimeter : ℤ
 
+-- what circuits are told by: the names of tile types, which of them connect, and the classes
 pub record Technology : Type 0 where
   -- the name by which a tile type is written
   pub word : ℕ → List ℕ

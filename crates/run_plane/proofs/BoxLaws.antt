@@ -123,6 +123,7 @@ pub record IsBoxUpTo (rows : List Row) (k : ℕ) (box : Rect) : Type 0 where
   pub covers : (square : Square) → IsBelowRow rows k square.y → number_at rows square ≢ 0 → Covers box square
   pub least : (area : Rect) → ((square : Square) → number_at rows square ≢ 0 → Covers area square) → LiesWithin box area
 
+-- the same, told as an option
 abbrev pub BoxUpTo : List Row → ℕ → Option Rect → Type 0
 BoxUpTo rows k found = MatchOption found ((square : Square) → IsBelowRow rows k square.y → number_at rows square ≡ 0) (IsBoxUpTo rows k)
 

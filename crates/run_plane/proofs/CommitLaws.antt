@@ -6,6 +6,7 @@ use Rattle.run_plane.specs.declared.rows.Row.{Row}
 use Rattle.run_plane.specs.declared.changes.Change.{Change}
 use Rattle.run_plane.specs.Contents.{replaced, IsNoChange}
 
+-- rows cut, joined and appended are the rows replaced
 pub committed : (rows others turned cut joined after : List Row) (from until above : ℕ) → from ≤ until → until ≤ length rows → above ≡ length rows - until
     → turned ≡ drop until rows ++ take until rows → cut ≡ take (above + from) turned → joined ≡ cut ++ others → after ≡ drop above joined ++ take above joined
     → after ≡ replaced rows from until others

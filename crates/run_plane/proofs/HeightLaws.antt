@@ -35,6 +35,7 @@ came xs ys moved height i =
     In-from_Contains height xs (Contains-permutation ys xs height (IsPermutation-sym xs ys moved)
     (Contains-from_dedup int_eq ys height (Contains-from_In height (dedup int_eq ys) i)))
 
+-- sorted heights, each once, are the heights
 pub sorted_heights : (rows : List Row) (pieces : List Piece) (sorted : List ℤ) → IsPermutation (all_heights rows pieces) sorted
     → IsSorted int_cmp sorted → AreHeights rows pieces (dedup int_eq sorted)
 sorted_heights rows pieces sorted moved ordered =

@@ -11,6 +11,7 @@ use Rattle.run_plane.specs.declared.runs.Run.{Run}
 use Rattle.run_plane.specs.declared.rows.Row.{Row}
 use Rattle.run_plane.specs.Rows.{edge, AreRuns, runs_from, top_runs, IsRowAbove, AreRising}
 
+-- what holds of all of a list holds of what stands in it
 pub all_in : {X : Type 0} (P : X → Type 0) (xs : List X) → All P xs → (x : X) → In x xs → P x
 all_in P xs all x i = let found = In-index x xs i in subst P (found.1.1 x) (all found.0 x found.1.0)
 
@@ -36,6 +37,7 @@ pub runs_top : (under : List Run) (xs : List Row) (y : ℤ) → ((row : Row) →
 runs_top under [] y below = refl
 runs_top under (row ∷ xs) y below = runs_in under row xs y (below row (inl refl)) ∙ runs_top row.runs xs y (λ r i. below r (inr i))
 
+-- the runs of the first rows are those of the last of them
 pub top_at : (under : List Run) (rows : List Row) (k : ℕ) (d : Row) → k < length rows → top_runs under (take (suc k) rows) ≡ (get_or rows k d).runs
 top_at under [] k d p = absurd (omega arith)
 top_at under (row ∷ rows) zero d p = refl
@@ -58,6 +60,7 @@ row_above low (first ∷ rows) row rising (inr i) =
     let above : low <ℤ first.ylo = rising.0.above in
     omega (arith, ints)
 
+-- each of rising rows begins above and has its runs in order
 pub row_facts : (low : ℤ) (rows : List Row) (row : Row) → AreRising low rows → In row rows → IsRowAbove low row
 row_facts low [] row rising i = elim i [ ]
 row_facts low (first ∷ rows) row rising (inl e) = subst (IsRowAbove low) e rising.0
@@ -95,11 +98,13 @@ pub rising_from : (low low' : ℤ) (rows : List Row) → AreRising low rows → 
 rising_from low low' [] rising above = tt
 rising_from low low' (row ∷ rows) rising above = (record { above = above row (inl refl); near = rising.0.near; runs = rising.0.runs }, rising.1)
 
+-- the first of rising rows rise
 pub rising_take : (low : ℤ) (k : ℕ) (rows : List Row) → AreRising low rows → AreRising low (take k rows)
 rising_take low zero rows rising = tt
 rising_take low (suc k) [] rising = tt
 rising_take low (suc k) (row ∷ rows) rising = (rising.0, rising_take row.ylo k rows rising.1)
 
+-- the last of rising rows rise
 pub rising_drop : (low : ℤ) (k : ℕ) (rows : List Row) → AreRising low rows → AreRising low (drop k rows)
 rising_drop low zero rows rising = rising
 rising_drop low (suc k) [] rising = tt

@@ -122,9 +122,11 @@ value_right c (run ∷ runs) x p =
           ]
     ]
 
+-- the lesser of two bounds between the edges
 pub small_min : (a b : ℤ) → IsSmall a → IsSmall b → IsSmall (int_min a b)
 small_min a b p q = (omega (arith, ints, clamps, p.0, q.0), omega (arith, ints, clamps, p.1, q.1))
 
+-- the greater of two
 pub small_max : (a b : ℤ) → IsSmall a → IsSmall b → IsSmall (int_max a b)
 small_max a b p q = (omega (arith, ints, clamps, p.0, q.0), omega (arith, ints, clamps, p.1, q.1))
 

@@ -47,6 +47,7 @@ related_to_next {X} R xs k d x all p i =
     let before : j < k = omega (arith, length-take k xs) in
     subst (λ (y : X). R y (get_or xs k d)) (sym (get_or-take k xs j d before) ∙ found.1.1 d) (all j k d before p)
 
+-- the span of one piece
 pub spans_one : (piece : Piece) → IsProper piece.area → IsNear piece.area → Spans (record { start = piece.area.ylo; end = piece.area.yhi }) (piece ∷ [])
 spans_one piece proper near = record {
   low = λ p i. elim i [ inl e ↦ (let same : piece.area.ylo ≡ p.area.ylo = ap (λ (q : Piece). q.area.ylo) e in omega (arith, ints)) | inr n ↦ absurd n ];
@@ -56,6 +57,7 @@ spans_one piece proper near = record {
   in_order = proper.high;
 }
 
+-- the span of one piece more
 pub spans_more : (span : Range ℤ) (done : List Piece) (piece : Piece) → IsNear piece.area → Spans span done
     → Spans (record { start = int_min span.start piece.area.ylo; end = int_max span.end piece.area.yhi }) (done ++ piece ∷ [])
 spans_more span done piece near spans =

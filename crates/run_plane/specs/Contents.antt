@@ -8,6 +8,7 @@ use Rattle.run_plane.specs.declared.rows.Row.{Row}
 use Rattle.run_plane.specs.declared.changes.Change.{Change}
 use Rattle.run_plane.specs.Rows.{number_at, AreRows}
 
+-- the rows as they are, and as they will be
 pub record Contents : Type 0 where
   pub rows : List Row
   pub next : List Row

@@ -1,6 +1,7 @@
 use Rattle.std.proofs.Common.{◌≡◌, ◌∙◌, ◌-◌, ◌<◌, ℕ, List, length, map, drop, refl, sym, ap, subst, arith}
 use Rattle.std.proofs.lemmas.List.{length-map, take_at}
 use Rattle.geo_core.specs.declared.squares.Square.{Square}
+use Rattle.tech_model.specs.declared.limits.TheConstants.{MOST_PLANES}
 use Rattle.tech_model.specs.Columns.{type_on}
 use Rattle.std.specs.Prelude.{All, AllPairs}
 use Rattle.geo_core.specs.declared.squares.Piece.{Piece}
@@ -18,9 +19,9 @@ pub strips_of_codes-requires : goal.strips_of_codes-requires
 strips_of_codes-requires c =
     let layout = layout_on c.args.planes.now in
     let code : Piece → Piece = coded_tile (brushed c.args.stroke.now.brush c.args.stroke.now.tech.now c.args.stroke.now.layer.0) layout c.args.plane in
-    let tiles = c.in-Ok.tiles.items in
+    let tiles = c.in_ok-tiles.tiles.items in
     let are = tiles_on_plane c.args.planes.now c.args.plane c.index-planes-plane.result c.args.area tiles c.requires.plane c.index-planes-plane.is
-    c.in-Ok.ensures.tiles in
+    c.in_ok-tiles.ensures.tiles in
     let same : map code tiles ≡ c.deref-2.result.now = sym (c.deref-2.ensures.value ∙ c.in_ok-pieces.ensures ∙ ap (map code) c.deref.ensures.value) in
     record {
       proper = c.requires.proper;
@@ -48,8 +49,8 @@ returns-clause-changes c =
     let plane = c.args.plane in
     let area = c.args.area in
     let code : Piece → Piece = coded_tile (brushed brush raw layer) layout plane in
-    let tiles = c.in-Ok.tiles.items in
-    let are = tiles_on_plane c.args.planes.now plane c.index-planes-plane.result area tiles c.requires.plane c.index-planes-plane.is c.in-Ok.ensures.tiles in
+    let tiles = c.in_ok-tiles.tiles.items in
+    let are = tiles_on_plane c.args.planes.now plane c.index-planes-plane.result area tiles c.requires.plane c.index-planes-plane.is c.in_ok-tiles.ensures.tiles in
     let same : c.deref-2.result.now ≡ map code tiles = c.deref-2.ensures.value ∙ c.in_ok-pieces.ensures ∙ ap (map code) c.deref.ensures.value in
     let ground : c.code_of-ground.result ≡ code_of 0 (type_on (brushed brush raw layer no_types) plane) = c.code_of-ground.ensures ∙ ap (code_of 0)
     c.kind_after.ensures.kind in
@@ -59,7 +60,7 @@ returns-clause-changes c =
     subst (λ (pieces : List Piece). IsLaid area (code_of 0 (type_on (brushed brush raw layer no_types) plane)) pieces codes) same
     (subst (λ (value : ℕ). IsLaid area value c.deref-2.result.now codes) ground strips.1) in
     let found = c.in_ok-found.found.items in
-    let few : plane < 8 = omega arith in
+    let few : plane < MOST_PLANES = omega arith in
     let long : length c.decode.new.pieces ≡ c.in_ok-found.found.len = ap length c.decode.ensures ∙ length-map c.deref_mut.result.now
     (λ (piece : Piece). record { area = piece.area; value = piece.value - 1 }) ∙ c.deref_mut.ensures.len in
     let all = take_at c.decode.new.pieces (drop (length c.decode.new.pieces) found) c.in_ok-found.found.len long ∙ c.decode.ensures ∙ ap decoded

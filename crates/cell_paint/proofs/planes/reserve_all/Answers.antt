@@ -37,5 +37,5 @@ loop-index-preserved c =
     (λ other.
     subst (λ (pieces : List Piece). IsReadyFor new pieces)
     (c.as_slice.ensures.value ∙ pieces_read c.args.changes.now index c.index-changes-index.result other c.loop-index-test.true c.index-changes-index.is)
-    c.in-Ok.ensures.ready)
+    c.in_ok-reserve.ensures.ready)
     c.loop-index.invariant

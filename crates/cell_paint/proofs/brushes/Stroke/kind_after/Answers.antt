@@ -1,4 +1,5 @@
 use Rattle.std.proofs.Common.{◌≡◌, ◌∙◌, ◌≤◌, List, sym, subst}
+use Rattle.tech_model.specs.declared.limits.TheConstants.{MOST_TYPES}
 use Rattle.tech_model.specs.declared.raw.TypeId.{TypeId}
 use Rattle.tech_model.specs.Columns.{type_on}
 use Rattle.cell_paint.specs.declared.brushes.Brush.TheVariants.{Paint, Erase}
@@ -16,10 +17,10 @@ returns-clause-few c =
     elim c.match-self.branch [
       | in-Paint b ↦
           let is : c.match-self.column ≡ brushed Paint raw layer column = b.column-is ∙ b.paint_column.ensures in
-          subst (λ (after : List TypeId). type_on after c.args.plane ≤ 64) (sym is)
+          subst (λ (after : List TypeId). type_on after c.args.plane ≤ MOST_TYPES) (sym is)
           (column_small raw (brushed Paint raw layer column) c.args.plane w (brushed_is_column Paint raw layer column w c.requires.layer c.requires.types))
       | in-Erase b ↦
           let is : c.match-self.column ≡ brushed Erase raw layer column = b.column-is ∙ b.erase_column.ensures in
-          subst (λ (after : List TypeId). type_on after c.args.plane ≤ 64) (sym is)
+          subst (λ (after : List TypeId). type_on after c.args.plane ≤ MOST_TYPES) (sym is)
           (column_small raw (brushed Erase raw layer column) c.args.plane w (brushed_is_column Erase raw layer column w c.requires.layer c.requires.types))
     ]
