@@ -34,7 +34,7 @@ use Rattle.cell_paint.specs.declared.brushes.Brush.TheVariants.{Paint as PaintBr
 use Rattle.cell_paint.specs.Changes.{brushed}
 use Rattle.cell_paint.specs.Painting.{place_at, kinds_on, column_at, with_columns, is_coordinate, is_in_range}
 use Rattle.cell_paint.specs.Painting.{paint_range, ChangesTo, AreChanges, PassesPaintLimit}
-use Rattle.cell_paint.specs.Paints.{PlaneValue, layout_on, IsWhole}
+use Rattle.cell_paint.specs.Paints.{PlaneValue, layout_on, AreCellPlanes}
 use Rattle.cell_paint.specs.Settings.{pieces_for, IsSettable, AreSettable, AreAllSet, PassesSomewhere, AreAllChanges}
 use Rattle.cell_paint.proofs.ColumnsLaws.{column_type}
 use Rattle.cell_paint.proofs.PlaneLaws.{space_past}
@@ -77,7 +77,7 @@ brushed_sound PaintBrush raw layer column well_formed below is = marks_kept-whol
 brushed_sound EraseBrush raw layer column well_formed below is = marks_kept-whole raw _ well_formed (erased_is_column raw layer column is)
 
 -- past the last plane a sound column has space
-pub space_in : (raw : RawTech) (kinds : List TypeRec) (planes : List PlaneValue) (column : List TypeId) → IsWhole kinds planes → raw.types ≡ kinds
+pub space_in : (raw : RawTech) (kinds : List TypeRec) (planes : List PlaneValue) (column : List TypeId) → AreCellPlanes kinds planes → raw.types ≡ kinds
     → IsColumn raw column
     → (plane : ℕ) → length planes ≤ plane → type_on column plane ≡ 0
 space_in raw kinds planes column whole same is plane past = elim (is plane) [
@@ -92,7 +92,7 @@ space_in raw kinds planes column whole same is plane past = elim (is plane) [
 
 -- planes that show the same layout are as whole
 pub whole_same : (kinds : List TypeRec) (old new : List PlaneValue) → length new ≡ length old → ((place : Place) → layout_on new place ≡ layout_on old place)
-    → IsWhole kinds old → IsWhole kinds new
+    → AreCellPlanes kinds old → AreCellPlanes kinds new
 whole_same kinds old new long same whole = record {
   few = subst (λ (n : ℕ). n ≤ MOST_PLANES) (sym long) whole.few;
   placed = λ raw is t type. subst (λ (n : ℕ). plane_of raw t < n) (sym long) (whole.placed raw is t type);
@@ -109,7 +109,7 @@ whole_same kinds old new long same whole = record {
 -- planes without paint
 pub whole_empty : (raw : RawTech) (planes : List PlaneValue) → IsWellFormed raw → length planes ≡ length raw.planes
     → ((place : Place) → layout_on planes place ≡ 0)
-    → IsWhole raw.types planes
+    → AreCellPlanes raw.types planes
 whole_empty raw planes well_formed long empty = record {
   few = subst (λ (n : ℕ). n ≤ MOST_PLANES) (sym long) well_formed.planes_limit;
   placed = λ other is t type.
@@ -181,7 +181,7 @@ near_range area within =
 -- and so are planes that show the changed one
 pub whole_changed : (kinds : List TypeRec) (raw : RawTech) (change : List TypeId → List TypeId) (area : Rect) (old new : List PlaneValue) → raw.types ≡ kinds
     → ((square : Square) → IsSound raw (change (column_at (layout_on old) square))) → is_in_range area ≡ true → length new ≡ length old
-    → ((place : Place) → layout_on new place ≡ with_columns change area (layout_on old) place) → IsWhole kinds old → IsWhole kinds new
+    → ((place : Place) → layout_on new place ≡ with_columns change area (layout_on old) place) → AreCellPlanes kinds old → AreCellPlanes kinds new
 whole_changed kinds raw change area old new is_raw sound within long changed whole = record {
   few = subst (λ (n : ℕ). n ≤ MOST_PLANES) (sym long) whole.few;
   placed = λ other is t type. subst (λ (n : ℕ). plane_of other t < n) (sym long) (whole.placed other is t type);
@@ -233,7 +233,7 @@ changed_on_plane old new after pieces changes are square = elim (cases_eq (new s
 -- when each plane has its changes, the layout is the changed one
 pub all_changed : (raw : RawTech) (kinds : List TypeRec) (change : List TypeId → List TypeId) (area : Rect) (old new : List PlaneValue)
     (changes : List (Vec Piece Global)) → raw.types ≡ kinds
-    → ((square : Square) → IsSound raw (change (column_at (layout_on old) square))) → IsWhole kinds old → length changes ≡ length old
+    → ((square : Square) → IsSound raw (change (column_at (layout_on old) square))) → AreCellPlanes kinds old → length changes ≡ length old
     → AreAllChanges (layout_on old) (with_columns change area (layout_on old)) changes → AreAllSet old new changes
     → (place : Place) → layout_on new place ≡ with_columns change area (layout_on old) place
 all_changed raw kinds change area old new changes is_raw sound whole one_each are are_set place = elim (cases_lt place.plane (length changes)) [
@@ -283,7 +283,12 @@ strip_near S area strip near inside is =
     let n1 = near.ylo in
     let n2 = near.xhi in
     let n3 = near.yhi in
-    record { xlo = (omega (arith, ints), omega (arith, ints)); ylo = (omega (arith, ints), omega (arith, ints)); xhi = (omega (arith, ints), omega (arith, ints)); yhi = (omega (arith, ints), omega (arith, ints)) }
+    record {
+      xlo = (omega (arith, ints), omega (arith, ints));
+      ylo = (omega (arith, ints), omega (arith, ints));
+      xhi = (omega (arith, ints), omega (arith, ints));
+      yhi = (omega (arith, ints), omega (arith, ints));
+    }
 
 stands_before_itself : (a b : Rect) → a ≡ b → StandsBefore a b → ⊥
 stands_before_itself a b e before = go (subst (λ (r : Rect). StandsBefore a r) (sym e) before)
@@ -368,10 +373,10 @@ all_set_from old now new changes long same are = record {
 -- what becomes of planes that are made ready and then have the changes of a stroke set
 pub stroke_done : (brush : Brush) (raw : RawTech) (layer : ℕ) (area : Rect) (old now new : List PlaneValue) (changes : List (Vec Piece Global))
     → IsWellFormed raw → layer < length raw.layers
-    → IsWhole raw.types old → is_in_range area ≡ true → length changes ≡ length old
+    → AreCellPlanes raw.types old → is_in_range area ≡ true → length changes ≡ length old
     → AreAllChanges (layout_on old) (with_columns (brushed brush raw layer) area (layout_on old)) changes
     → length now ≡ length old → ((place : Place) → layout_on now place ≡ layout_on old place) → AreAllSet now new changes
-    → ((place : Place) → layout_on new place ≡ with_columns (brushed brush raw layer) area (layout_on old) place) × IsWhole raw.types new
+    → ((place : Place) → layout_on new place ≡ with_columns (brushed brush raw layer) area (layout_on old) place) × AreCellPlanes raw.types new
 stroke_done brush raw layer area old now new changes well_formed below whole within one_each are long same are_set =
     let change : List TypeId → List TypeId = brushed brush raw layer in
     let sound : (square : Square) → IsSound raw (change (column_at (layout_on old) square)) = λ square.

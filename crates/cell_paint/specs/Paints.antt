@@ -61,7 +61,7 @@ pub record IsSoundPaint (kinds : List TypeRec) (layout : Layout) : Type 0 where
   pub range : (place : Place) → IsMaterial layout place → Covers paint_range place.square
 
 -- the same, there are no more planes than there may be, and each type stands on one of them
-pub record IsWhole (kinds : List TypeRec) (planes : List PlaneValue) : Type 0 where
+pub record AreCellPlanes (kinds : List TypeRec) (planes : List PlaneValue) : Type 0 where
   pub few : length planes ≤ MOST_PLANES
   pub placed : (raw : RawTech) → raw.types ≡ kinds → (t : ℕ) → IsTrue (is_type raw t) → plane_of raw t < length planes
   pub sound : IsSoundPaint kinds (layout_on planes)

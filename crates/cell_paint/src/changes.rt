@@ -8,7 +8,7 @@ ghost use Rattle.tech_model.specs.Columns.{type_on};
 ghost use Rattle.tech_model.specs.ColumnForms.{IsColumn, HasWholeContacts};
 ghost use Rattle.cell_paint.specs.Changes.{brushed, code_of, coded_tile, IsLaid, decoded};
 ghost use Rattle.cell_paint.specs.Painting.{kinds_on, with_columns, AreChanges};
-ghost use Rattle.cell_paint.specs.Paints.{layout_on, number_on, IsWhole};
+ghost use Rattle.cell_paint.specs.Paints.{layout_on, number_on, AreCellPlanes};
 
 use crate::brushes::Stroke;
 use crate::faults::PaintFault;
@@ -31,7 +31,7 @@ pub fn changes_on(
 ) -> Result<Vec<Piece>, PaintFault>
     requires plane { plane < length planes.now }
     requires layer { stroke.now.layer.0 < length stroke.now.tech.now.layers }
-    requires whole { IsWhole stroke.now.tech.now.types planes.now }
+    requires whole { AreCellPlanes stroke.now.tech.now.types planes.now }
     requires proper { IsProper area }
     requires near { IsNear area }
     ensures changes { IfOk result (λ pieces. AreChanges (kinds_on (layout_on planes.now) plane)
@@ -59,7 +59,7 @@ fn coded(
 ) -> Result<Vec<Piece>, AllocError>
     requires plane { plane < MOST_PLANES }
     requires layer { stroke.now.layer.0 < length stroke.now.tech.now.layers }
-    requires whole { IsWhole stroke.now.tech.now.types planes.now }
+    requires whole { AreCellPlanes stroke.now.tech.now.types planes.now }
     ensures { IfOk result (λ found. found.items
         ≡ map (coded_tile (brushed stroke.now.brush stroke.now.tech.now stroke.now.layer.0) (layout_on planes.now) plane) tiles.now) }
 {

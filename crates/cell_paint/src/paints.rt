@@ -10,7 +10,7 @@ ghost use Rattle.tech_model.specs.LayerTiles.{AreTilesOf};
 ghost use Rattle.layout_model.specs.Places.{Place};
 ghost use Rattle.cell_paint.specs.Changes.{brushed};
 ghost use Rattle.cell_paint.specs.Painting.{kinds_on, with_columns, with_paint, with_erased, is_coordinate, is_in_range, PassesPaintLimit};
-ghost use Rattle.cell_paint.specs.Paints.{layout_of, layout_on, IsPaintBox, IsSoundPaint, IsWhole};
+ghost use Rattle.cell_paint.specs.Paints.{layout_of, layout_on, IsPaintBox, IsSoundPaint, AreCellPlanes};
 ghost use Rattle.cell_paint.specs.Settings.{AreAllChanges};
 
 use crate::brushes::{Brush, Stroke};
@@ -43,13 +43,13 @@ pub struct CellPaint {
 }
 
 impl Model for CellPaint {
-    ghost use Rattle.cell_paint.specs.Paints.{Paint, IsWhole};
+    ghost use Rattle.cell_paint.specs.Paints.{Paint, AreCellPlanes};
 
     ghost Value = { Paint };
 
     ghost view = { λ paint. record { kinds = paint.kinds; planes = paint.planes.items } };
 
-    ghost invariant = { λ paint. IsWhole paint.kinds paint.planes.items };
+    ghost invariant = { λ paint. AreCellPlanes paint.kinds paint.planes.items };
 }
 
 impl CellPaint {
@@ -218,13 +218,13 @@ fn change_planes(
     area: Rect,
 ) -> Result<(), PaintFault>
     requires layer { stroke.now.layer.0 < length stroke.now.tech.now.layers }
-    requires whole { IsWhole stroke.now.tech.now.types planes.old }
+    requires whole { AreCellPlanes stroke.now.tech.now.types planes.old }
     requires proper { has_square area ≡ true }
     requires range { is_in_range area ≡ true }
     ensures changed { OnOk result ((place : Place) → layout_on planes.new place
         ≡ with_columns (brushed stroke.now.brush stroke.now.tech.now stroke.now.layer.0) area (layout_on planes.old) place) }
     ensures refused { OnErr result ((place : Place) → layout_on planes.new place ≡ layout_on planes.old place) }
-    ensures whole { IsWhole stroke.now.tech.now.types planes.new }
+    ensures whole { AreCellPlanes stroke.now.tech.now.types planes.new }
     ensures tiles { IsErrOf result PaintFault.TooManyTiles →
         PassesPaintLimit (layout_on planes.old) (with_columns (brushed stroke.now.brush stroke.now.tech.now stroke.now.layer.0) area (layout_on planes.old)) }
     ensures never { (IsErrOf result PaintFault.EmptyRect → ⊥) × (IsErrOf result PaintFault.OutOfRange → ⊥) }
@@ -245,7 +245,7 @@ fn all_changes(
     area: Rect,
 ) -> Result<Vec<Vec<Piece>>, PaintFault>
     requires layer { stroke.now.layer.0 < length stroke.now.tech.now.layers }
-    requires whole { IsWhole stroke.now.tech.now.types planes.now }
+    requires whole { AreCellPlanes stroke.now.tech.now.types planes.now }
     requires proper { IsProper area }
     requires near { IsNear area }
     ensures one_each { IfOk result (λ changes. vec_len changes ≡ length planes.now) }

@@ -54,8 +54,18 @@ beside_abut a b proper proper' shared = elim (shared_beside-cases a b) [
       record {
         here = record { x = a.xhi -ℤ pos 1; y = int_max a.ylo b.ylo };
         there = record { x = b.xlo; y = int_max a.ylo b.ylo };
-        in_first = record { right_of_xlo = omega (arith, ints); left_of_xhi = omega (arith, ints); above_ylo = omega (arith, ints, clamps); below_yhi = in_first };
-        in_second = record { right_of_xlo = omega (arith, ints); left_of_xhi = omega (arith, ints); above_ylo = omega (arith, ints, clamps); below_yhi = in_second };
+        in_first = record {
+          right_of_xlo = omega (arith, ints);
+          left_of_xhi = omega (arith, ints);
+          above_ylo = omega (arith, ints, clamps);
+          below_yhi = in_first;
+        };
+        in_second = record {
+          right_of_xlo = omega (arith, ints);
+          left_of_xhi = omega (arith, ints);
+          above_ylo = omega (arith, ints, clamps);
+          below_yhi = in_second;
+        };
         near = inl (inl (omega (arith, ints)), refl);
       })
 ]
@@ -72,8 +82,18 @@ upon_abut a b proper proper' shared = elim (shared_upon-cases a b) [
       record {
         here = record { x = int_max a.xlo b.xlo; y = a.yhi -ℤ pos 1 };
         there = record { x = int_max a.xlo b.xlo; y = b.ylo };
-        in_first = record { right_of_xlo = omega (arith, ints, clamps); left_of_xhi = in_first; above_ylo = omega (arith, ints); below_yhi = omega (arith, ints) };
-        in_second = record { right_of_xlo = omega (arith, ints, clamps); left_of_xhi = in_second; above_ylo = omega (arith, ints); below_yhi = omega (arith, ints) };
+        in_first = record {
+          right_of_xlo = omega (arith, ints, clamps);
+          left_of_xhi = in_first;
+          above_ylo = omega (arith, ints);
+          below_yhi = omega (arith, ints);
+        };
+        in_second = record {
+          right_of_xlo = omega (arith, ints, clamps);
+          left_of_xhi = in_second;
+          above_ylo = omega (arith, ints);
+          below_yhi = omega (arith, ints);
+        };
         near = inr (refl, inl (omega (arith, ints)));
       })
 ]

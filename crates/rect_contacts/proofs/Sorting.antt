@@ -23,14 +23,14 @@ use Rattle.rect_contacts.specs.Sides.{side_of, IsSpan, EndsBefore, AreSidesOf}
 use Rattle.rect_contacts.proofs.Apart.{AreApart, apart_from_disjoint}
 
 -- The sides are those of two rectangles that are apart: where they lie on one line, one ends before the other begins.
-pub record LieApart (a b : Side) : Type 0 where
+pub record AreSidesApart (a b : Side) : Type 0 where
   pub of_two : a.owner ≢ b.owner
   pub first_long : a.from <ℤ a.to
   pub second_long : b.from <ℤ b.to
   pub apart : a.line ≡ b.line → (a.to ≤ℤ b.from) ⊎ (b.to ≤ℤ a.from)
 
-LieApart-sym : (a b : Side) → LieApart a b → LieApart b a
-LieApart-sym a b h = record {
+AreSidesApart-sym : (a b : Side) → AreSidesApart a b → AreSidesApart b a
+AreSidesApart-sym a b h = record {
   of_two = λ e. h.of_two (sym e);
   first_long = h.second_long;
   second_long = h.first_long;
@@ -85,7 +85,7 @@ side_cmp_total = then_total (on_total (λ s. s.line) int_cmp_total) (then_total 
     (then_total (on_total (λ s. s.to) int_cmp_total) (on_total (λ s. s.owner) nat_cmp_total)))
 
 -- of sides that lie apart, one that is not greater ends before the other begins
-before_from_order : (a b : Side) → LieApart a b → is_lt (side_cmp b a) ≡ false → EndsBefore a b
+before_from_order : (a b : Side) → AreSidesApart a b → is_lt (side_cmp b a) ≡ false → EndsBefore a b
 before_from_order a b s h =
     let ends = ordering_then (int_cmp b.to a.to) (nat_cmp b.owner a.owner) in
     let order = ordering_then-not_less a.line b.line (ordering_then (int_cmp b.from a.from) ends) h in
@@ -119,7 +119,7 @@ pub record HasSides (edge : Edge) (rects : List Rect) (sides : List Side) (d : S
 abbrev pub no_side : Side
 no_side = record { line = pos 0; from = pos 0; to = pos 0; owner = 0 }
 
-lie_apart : (edge : Edge) (a b : Rect) (i j : ℕ) → IsProper a → IsProper b → AreDisjoint a b → i < j → LieApart (side_of edge a i) (side_of edge b j)
+lie_apart : (edge : Edge) (a b : Rect) (i j : ℕ) → IsProper a → IsProper b → AreDisjoint a b → i < j → AreSidesApart (side_of edge a i) (side_of edge b j)
 lie_apart edge a b i j p q disjoint less = record {
   of_two = λ e. let same : i ≡ j = sym (side_owner edge a i) ∙ e ∙ side_owner edge b j in omega arith;
   first_long = side_long edge a i p;
@@ -130,13 +130,13 @@ lie_apart edge a b i j p q disjoint less = record {
 module _ (edge : Edge) (rects : List Rect) (xs ys : List Side) (d : Side) (proper : All IsProper rects) (near : All IsNear rects)
     (disjoint : AllPairs AreDisjoint rects)
     (has : HasSides edge rects xs d) (moved : IsPermutation xs ys) (sorted : IsSorted side_cmp ys) where
-  all_apart : AllPairs LieApart xs
+  all_apart : AllPairs AreSidesApart xs
   all_apart = λ i j e less below.
       let last : j < length rects = omega (arith, has.so_many, below) in
       let first : i < length rects = omega arith in
       let a : get_or xs i e ≡ side_of edge (rect_at rects i) i = get_or_default xs i e d (omega arith) ∙ has.each i first in
       let b : get_or xs j e ≡ side_of edge (rect_at rects j) j = get_or_default xs j e d below ∙ has.each j last in
-      subst (λ (x : Side). LieApart x (get_or xs j e)) (sym a) (subst (λ (y : Side). LieApart (side_of edge (rect_at rects i) i) y) (sym b)
+      subst (λ (x : Side). AreSidesApart x (get_or xs j e)) (sym a) (subst (λ (y : Side). AreSidesApart (side_of edge (rect_at rects i) i) y) (sym b)
       (lie_apart edge (rect_at rects i) (rect_at rects j) i j (proper i _ first) (proper j _ last) (disjoint i j _ less last) less))
 
   -- each of them stands in the sorted list
@@ -164,7 +164,7 @@ module _ (edge : Edge) (rects : List Rect) (xs ys : List Side) (d : Side) (prope
   has_order : AllPairs EndsBefore ys
   has_order = λ i j e less below.
       before_from_order (get_or ys i e) (get_or ys j e)
-      (AllPairs-permutation LieApart LieApart-sym xs ys moved all_apart i j e less below)
+      (AllPairs-permutation AreSidesApart AreSidesApart-sym xs ys moved all_apart i j e less below)
       (IsSorted-pairs side_cmp side_cmp_total ys sorted i j e less below)
 
   pub sides_from_sort : AreSidesOf edge rects ys

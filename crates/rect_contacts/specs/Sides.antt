@@ -35,7 +35,7 @@ abbrev pub ReachesNoFarther : Side → Side → Type 0
 ReachesNoFarther a b = Lexicographic a.line b.line (a.to ≤ℤ b.to)
 
 -- The sides of the list are spans, and each ends before every later one.
-pub record AreInOrder (sides : List Side) : Type 0 where
+pub record AreSidesInOrder (sides : List Side) : Type 0 where
   pub spans : All IsSpan sides
   pub ascending : AllPairs EndsBefore sides
 
@@ -43,7 +43,7 @@ pub record AreInOrder (sides : List Side) : Type 0 where
 pub record AreSidesOf (edge : Edge) (rects : List Rect) (sides : List Side) : Type 0 where
   pub each : (place : ℕ) → place < length rects → In (side_of edge (rect_at rects place) place) sides
   pub others : (side : Side) → In side sides → (side.owner < length rects) × (side ≡ side_of edge (rect_at rects side.owner) side.owner)
-  pub in_order : AreInOrder sides
+  pub in_order : AreSidesInOrder sides
 
 -- The two sides lie on one line, and have more in common there than a point.
 pub record Meet (a b : Side) : Type 0 where

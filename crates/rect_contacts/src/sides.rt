@@ -3,7 +3,7 @@ ghost use Rattle.std.specs.Prelude.{◌≡◌, ◌↔◌, IfOk, OnOk, IsTrue, Al
 ghost use Rattle.geo_core.specs.Covering.{IsProper};
 ghost use Rattle.finite_sets.specs.Lists.{Lists};
 ghost use Rattle.geo_core.specs.Areas.{AreDisjoint, IsNear};
-ghost use Rattle.rect_contacts.specs.Sides.{side_of, AreSidesOf, ReachesNoFarther, AreInOrder, AreOpposite, IsSpan, AddsContact, IsMeeting};
+ghost use Rattle.rect_contacts.specs.Sides.{side_of, AreSidesOf, ReachesNoFarther, AreSidesInOrder, AreOpposite, IsSpan, AddsContact, IsMeeting};
 
 use crate::contacts::Contact;
 use geo_core::Rect;
@@ -93,8 +93,8 @@ fn note_contact(contacts: &mut Vec<Contact>, lower: &Side, upper: &Side) -> Resu
 /// The contacts of sides of one list with sides of the other that they meet, each once.
 /// It takes a step for each side of the two lists.
 pub fn meetings(alloc: Global, lowers: &[Side], uppers: &[Side]) -> Result<Vec<Contact>, AllocError>
-    requires lowers_in_order { AreInOrder lowers.now }
-    requires uppers_in_order { AreInOrder uppers.now }
+    requires lowers_in_order { AreSidesInOrder lowers.now }
+    requires uppers_in_order { AreSidesInOrder uppers.now }
     requires opposite { AreOpposite lowers.now uppers.now }
     ensures { IfOk result (λ contacts. Lists (IsMeeting lowers.now uppers.now) contacts.items) }
 {

@@ -95,7 +95,12 @@ strip_near rows value area are material strip =
     let y0 : (edge +ℤ pos 1) ≤ℤ area.ylo = a.1.0 in
     let x1 : (area.xhi -ℤ pos 1) <ℤ (PLANE_EDGE -ℤ pos 1) = b.0.1 in
     let y1 : (area.yhi -ℤ pos 1) <ℤ (PLANE_EDGE -ℤ pos 1) = b.1.1 in
-    record { xlo = (omega (arith, ints), omega (arith, ints)); ylo = (omega (arith, ints), omega (arith, ints)); xhi = (omega (arith, ints), omega (arith, ints)); yhi = (omega (arith, ints), omega (arith, ints)) }
+    record {
+      xlo = (omega (arith, ints), omega (arith, ints));
+      ylo = (omega (arith, ints), omega (arith, ints));
+      xhi = (omega (arith, ints), omega (arith, ints));
+      yhi = (omega (arith, ints), omega (arith, ints));
+    }
 
 -- so is the smallest rectangle that covers all of them
 pub box_near : (rows : List Row) (box : Rect) → AreRows rows → IsBox (number_at rows) box → IsNear box
@@ -114,7 +119,12 @@ box_near rows box are is =
     let x3 : is.square.x <ℤ box.xhi = c.left_of_xhi in
     let y2 : box.ylo ≤ℤ is.square.y = c.above_ylo in
     let y3 : is.square.y <ℤ box.yhi = c.below_yhi in
-    record { xlo = (omega (arith, ints), omega (arith, ints)); ylo = (omega (arith, ints), omega (arith, ints)); xhi = (omega (arith, ints), omega (arith, ints)); yhi = (omega (arith, ints), omega (arith, ints)) }
+    record {
+      xlo = (omega (arith, ints), omega (arith, ints));
+      ylo = (omega (arith, ints), omega (arith, ints));
+      xhi = (omega (arith, ints), omega (arith, ints));
+      yhi = (omega (arith, ints), omega (arith, ints));
+    }
 
 -- the smallest rectangle for the rows before a place
 pub record IsBoxUpTo (rows : List Row) (k : ℕ) (box : Rect) : Type 0 where

@@ -37,7 +37,7 @@ abbrev pub contents_of : Vec Row Global → Change → Contents
 contents_of rows change = record { rows = rows.items; next = replaced rows.items change.from change.until change.rows.items }
 
 -- The rows are those of a plane, also when the change is committed, and there is room for it.
-pub record IsWhole (rows : Vec Row Global) (change : Change) : Type 0 where
+pub record IsRunPlane (rows : Vec Row Global) (change : Change) : Type 0 where
   pub now : AreRows rows.items
   pub later : AreRows (replaced rows.items change.from change.until change.rows.items)
   pub in_order : change.from ≤ change.until

@@ -24,13 +24,13 @@ pub struct RunPlane {
 }
 
 impl Model for RunPlane {
-    ghost use Rattle.run_plane.specs.Contents.{Contents, IsWhole, contents_of};
+    ghost use Rattle.run_plane.specs.Contents.{Contents, IsRunPlane, contents_of};
 
     ghost Value = { Contents };
 
     ghost view = { λ plane. contents_of plane.rows plane.change };
 
-    ghost invariant = { λ plane. IsWhole plane.rows plane.change };
+    ghost invariant = { λ plane. IsRunPlane plane.rows plane.change };
 }
 
 impl RunPlane {

@@ -50,7 +50,8 @@ returns-clause-changes c =
     let area = c.args.area in
     let code : Piece → Piece = coded_tile (brushed brush raw layer) layout plane in
     let tiles = c.in_ok-tiles.tiles.items in
-    let are = tiles_on_plane c.args.planes.now plane c.index-planes-plane.result area tiles c.requires.plane c.index-planes-plane.is c.in_ok-tiles.ensures.tiles in
+    let are = tiles_on_plane c.args.planes.now plane c.index-planes-plane.result area tiles c.requires.plane c.index-planes-plane.is
+    c.in_ok-tiles.ensures.tiles in
     let same : c.deref-2.result.now ≡ map code tiles = c.deref-2.ensures.value ∙ c.in_ok-pieces.ensures ∙ ap (map code) c.deref.ensures.value in
     let ground : c.code_of-ground.result ≡ code_of 0 (type_on (brushed brush raw layer no_types) plane) = c.code_of-ground.ensures ∙ ap (code_of 0)
     c.kind_after.ensures.kind in

@@ -1,7 +1,7 @@
 use Rattle.std.proofs.Common.{List, length, sym, ◌∙◌, ap, subst}
 use Rattle.tech_model.specs.declared.raw.TypeRec.{TypeRec}
 use Rattle.tech_model.specs.declared.raw.RawTech.{RawTech}
-use Rattle.cell_paint.specs.Paints.{IsWhole}
+use Rattle.cell_paint.specs.Paints.{AreCellPlanes}
 use Rattle.cell_paint.proofs.PaintLaws.{whole_empty}
 use Rattle.cell_paint.proofs.paints.CellPaint.new.Goals as goal
 
@@ -11,5 +11,5 @@ invariant_of-result c =
     let planes = c.in_ok-planes.planes in
     let kinds = c.of-kinds.ensures ∙ c.in_ok-from_slice.ensures.items ∙ c.items.ensures ∙ ap (λ (r : RawTech). r.types) c.raw-raw.ensures.value in
     let long = sym planes.ok.0 ∙ c.in_ok-planes.ensures.count ∙ ap length (c.items-2.ensures ∙ ap (λ (r : RawTech). r.planes) c.raw-raw.ensures.value) in
-    subst (λ (types : List TypeRec). IsWhole types planes.items) (sym kinds) (whole_empty raw planes.items c.raw-raw.ensures.well_formed long
+    subst (λ (types : List TypeRec). AreCellPlanes types planes.items) (sym kinds) (whole_empty raw planes.items c.raw-raw.ensures.well_formed long
     c.in_ok-planes.ensures.empty)

@@ -1,0 +1,2 @@
+pub mod PieceRects
+pub mod Rows

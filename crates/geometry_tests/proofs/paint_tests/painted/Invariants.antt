@@ -1,0 +1,8 @@
+use Rattle.std.proofs.Common.{◌≡◌, length}
+use Rattle.geometry_tests.proofs.paint_tests.painted.Given as goal
+
+abbrev pub invariant-loop-step : goal.invariant-loop-step
+invariant-loop-step l = record {
+  kinds : l.cell.kinds ≡ l.tech.types;
+  planes : length l.cell.planes ≡ length l.tech.planes;
+}
