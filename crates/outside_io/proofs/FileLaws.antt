@@ -18,6 +18,7 @@ use Rattle.outside_io.specs.Files.{Files, no_files, bytes_of, names_of, with_fil
 names_apart : finmap.IsAntisymmetric (slice_cmp nat_cmp)
 names_apart = finmap.slice_cmp-IsAntisymmetric finmap.nat_cmp-IsAntisymmetric
 
+-- where there are no files no name has bytes
 pub bytes_of-no_files : (name : List ℕ) → bytes_of no_files name ≡ None
 bytes_of-no_files = finmap.get-empty (slice_cmp nat_cmp)
 
@@ -25,10 +26,12 @@ bytes_of-no_files = finmap.get-empty (slice_cmp nat_cmp)
 pub same_files : (old new : Files) → ((name : List ℕ) → bytes_of old name ≡ bytes_of new name) → old ≡ new
 same_files = finmap.same_map nat_list_cmp_total names_apart
 
+-- after a file was put, its name has its bytes, and each other name its own
 pub bytes_of-with_file : (files : Files) (name bytes other : List ℕ)
     → bytes_of (with_file files name bytes) other ≡ cond (eq_by_cmp (slice_cmp nat_cmp) other name) (Some bytes) (bytes_of files other)
 bytes_of-with_file files name bytes other = finmap.get-insert nat_list_cmp_total files name bytes other
 
+-- after a file was put, its name has its bytes
 pub bytes_of-with_file_same : (files : Files) (name bytes : List ℕ) → bytes_of (with_file files name bytes) name ≡ Some bytes
 bytes_of-with_file_same files name bytes = bytes_of-with_file files name bytes name ∙ ap (λ (b : Bool). cond b (Some bytes) (bytes_of files name)) ((eq_by_cmp_equiv nat_list_cmp_total).refl name)
 
@@ -81,6 +84,7 @@ tied_names Less one other e tied = cc
 tied_names Equal one other e tied = names_apart one other e
 tied_names Greater one other e tied = cc
 
+-- after a file was put, each other name has the bytes that it had
 pub bytes_of-with_file_other : (files : Files) (name bytes other : List ℕ) → other ≢ name → bytes_of (with_file files name bytes) other ≡ bytes_of files other
 bytes_of-with_file_other files name bytes other apart = bytes_of-with_file files name bytes other
     ∙ elim (eq_by_cmp (slice_cmp nat_cmp) other name) as (λ b. eq_by_cmp (slice_cmp nat_cmp) other name ≡ b → cond b (Some bytes) (bytes_of files other) ≡ bytes_of files other) [
@@ -92,10 +96,12 @@ bytes_of-with_file_other files name bytes other apart = bytes_of-with_file files
 pub SameElsewhere-with_file : (files : Files) (name bytes : List ℕ) → SameElsewhere name files (with_file files name bytes)
 SameElsewhere-with_file files name bytes other apart = bytes_of-with_file_other files name bytes other apart
 
+-- the same of what a shelf tells
 pub ToldSameElsewhere-with_file : (told : Option Files) (name bytes : List ℕ) → ToldSameElsewhere name told (told_with_file told name bytes)
 ToldSameElsewhere-with_file None name bytes = tt
 ToldSameElsewhere-with_file (Some files) name bytes = SameElsewhere-with_file files name bytes
 
+-- files that stay the same stay so for all names but one
 pub ToldSameElsewhere-refl : (told : Option Files) (name : List ℕ) → ToldSameElsewhere name told told
 ToldSameElsewhere-refl None name = tt
 ToldSameElsewhere-refl (Some files) name = λ _ _. refl

@@ -5,18 +5,22 @@ use Rattle.std.proofs.lemmas.Grind.{common_steps}
 use Rattle.std.specs.Prelude.{Some, None}
 use Rattle.outside_io.specs.ToldBytes.{AppendsPrefix, ToldBytes, with_front, with_back}
 
+-- no bytes before the told ones change nothing
 pub with_front-nil : (told : ToldBytes) → with_front [] told ≡ told
 with_front-nil None = refl
 with_front-nil (Some bytes) = refl
 
+-- bytes before bytes are bytes one after the other
 pub with_front-with_front : (xs ys : List ℕ) (told : ToldBytes) → with_front xs (with_front ys told) ≡ with_front (xs ++ ys) told
 with_front-with_front xs ys None = refl
 with_front-with_front xs ys (Some rest) = ap (λ (b : List ℕ). Some b) (sym (append_assoc xs ys rest))
 
+-- no bytes behind the told ones change nothing
 pub with_back-nil : (told : ToldBytes) → with_back told [] ≡ told
 with_back-nil None = refl
 with_back-nil (Some bytes) = ap (λ (b : List ℕ). Some b) (append-nil bytes)
 
+-- bytes behind bytes are bytes one after the other
 pub with_back-with_back : (told : ToldBytes) (xs ys : List ℕ) → with_back (with_back told xs) ys ≡ with_back told (xs ++ ys)
 with_back-with_back None xs ys = refl
 with_back-with_back (Some before) xs ys = ap (λ (b : List ℕ). Some b) (append_assoc before xs ys)

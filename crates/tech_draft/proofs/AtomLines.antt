@@ -25,6 +25,7 @@ use Rattle.tech_draft.proofs.NoFaults.{both_none, no_fault, none_of, some_below,
 use Rattle.tech_draft.proofs.AtomLists.{IsNewLayer, atom-lists}
 use Rattle.tech_model.specs.declared.limits.TheConstants.{MOST_TYPES}
 
+-- a plane that a word names is one of the list
 pub plane_named-below : (raw : RawTech) (word : List ℕ) (plane : ℕ) → plane_named raw word ≡ Some plane → plane < length raw.planes
 plane_named-below raw word plane found = (position-Some (bytes_eq word) raw.planes plane [] found).0
 
@@ -45,6 +46,7 @@ new_name raw names none layer name layer_in had is =
     let free = none_of (layer_named raw name) (unnamed raw [] names name none is) in
     absent_word name layer.names (position_none (has_name name) 0 raw.layers layer free layer_in) had
 
+-- a line of `types` without fault names a new layer
 pub new_layer-line : (draft : Drafted) (plane names : List ℕ) → HasSoundLists draft → type_fault draft (plane ∷ names ∷ []) ≡ None
     → IsNewLayer draft.raw (unwrap_or (plane_named draft.raw plane) 0) (pieces_of names)
 unfolding type_fault
@@ -63,6 +65,7 @@ new_layer-line draft plane names lists none =
       limit = leb-false MOST_TYPES (length raw.types) (no_fault (nat_le MOST_TYPES (length raw.types)) (TooMany Types) free.1);
     }
 
+-- a line of `types` keeps the lists sound
 pub lists-types : (draft : Drafted) (words : List (List ℕ)) → HasSoundLists draft → type_fault draft words ≡ None → HasSoundLists (with_type draft words)
 lists-types draft (plane ∷ names ∷ []) lists none =
     atom-lists draft.raw (unwrap_or (plane_named draft.raw plane) 0) (pieces_of names) lists (new_layer-line draft plane names lists none)

@@ -43,6 +43,7 @@ old_at raw plane names t is =
 new_at : (raw : RawTech) (plane : ℕ) (names : List (List ℕ)) (t : ℕ) → t ≡ length raw.types + 1 → type_at (with_atom raw plane names) t ≡ atom_on raw plane
 new_at raw plane names t is = get_or_push raw.types (atom_on raw plane) no_type (t - 1) (omega arith)
 
+-- one more atom leaves the types that were there
 pub atom-keeps : (raw : RawTech) (plane : ℕ) (names : List (List ℕ)) → Keeps raw (with_atom raw plane names)
 atom-keeps raw plane names = record {
   more = omega (arith, atom-length raw plane names);
@@ -60,15 +61,19 @@ atom_cases raw plane names t is =
       | inr after ↦ inr (omega (arith, bounds.1, long))
     ]
 
+-- the new type stands on its plane
 pub atom_plane : (raw : RawTech) (plane : ℕ) (names : List (List ℕ)) (t : ℕ) → t ≡ length raw.types + 1 → plane_of (with_atom raw plane names) t ≡ plane
 atom_plane raw plane names t is = ap (λ (kind : TypeRec). kind.plane) (new_at raw plane names t is)
 
+-- the new type is of the new layer
 pub atom_layer_of : (raw : RawTech) (plane : ℕ) (names : List (List ℕ)) (t : ℕ) → t ≡ length raw.types + 1 → layer_of (with_atom raw plane names) t ≡ length raw.layers
 atom_layer_of raw plane names t is = ap (λ (kind : TypeRec). kind.layer.0) (new_at raw plane names t is)
 
+-- the layers that were there keep their images
 pub old_images : (raw : RawTech) (plane : ℕ) (names : List (List ℕ)) (layer : ℕ) → layer < length raw.layers → images_of (with_atom raw plane names) layer ≡ images_of raw layer
 old_images raw plane names layer below = ap (λ (l : LayerRec). l.images) (get_or_append_left raw.layers (atom_layer raw names ∷ []) no_layer layer below)
 
+-- the image of the new layer is the new type
 pub new_images_of : (raw : RawTech) (plane : ℕ) (names : List (List ℕ)) (layer : ℕ) → layer ≡ length raw.layers → images_of (with_atom raw plane names) layer ≡ type_number (length raw.types + 1) ∷ []
 new_images_of raw plane names layer is = ap (λ (l : LayerRec). l.images) (get_or_push raw.layers (atom_layer raw names) no_layer layer (sym is))
 
@@ -112,6 +117,7 @@ atom_of_one raw plane names lists layer t below is = elim (cases_lt layer (lengt
       ]
 ]
 
+-- one more atom keeps the lists sound
 pub atom-lists : (raw : RawTech) (plane : ℕ) (names : List (List ℕ)) → HasLists raw → IsNewLayer raw plane names → HasLists (with_atom raw plane names)
 atom-lists raw plane names lists fresh =
     let next = with_atom raw plane names in

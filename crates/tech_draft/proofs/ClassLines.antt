@@ -65,6 +65,7 @@ largest (Ok (pos n)) = small_if n (nat_le n LARGEST_MEASURE) refl
 largest (Ok (negsuc n)) = omega arith
 largest (Err fault) = omega arith
 
+-- a number that a word writes for a class is at most the largest
 pub measure_small : (word : List ℕ) → unwrap_or (measure_of word) 0 ≤ LARGEST_MEASURE
 measure_small word = largest (number_of word)
 
@@ -99,6 +100,7 @@ new_class draft list value lists none =
     let free = first_none (has_class raw) (λ entry. Twice (name_part entry)) (pieces_of list) source.0 once.0 source.1 in
     unclassed raw t (get_or raw.classes k d) (free_type raw source.0 t free source.2) (In-get_or raw.classes k d below) in_old))
 
+-- a line `resist` keeps the lists sound
 pub lists-resist : (draft : Drafted) (words : List (List ℕ)) → HasSoundLists draft → resist_fault draft words ≡ None → HasSoundLists (with_class draft words)
 lists-resist draft (list ∷ value ∷ []) lists none = new_class draft list value lists none
 lists-resist draft [] lists none = lists
@@ -123,6 +125,7 @@ class_changed raw class area perimeter lists area_small perimeter_small =
     (All-set (IsClass raw) raw.classes class changed (record { value = was.value; per_area = area_small; per_perimeter = perimeter_small; types = was.types }) lists.classes)
     (apart_set (λ (class : ClassRec). class.types) raw.classes class changed no_class refl lists.classes_apart)
 
+-- a line `cap` keeps the lists sound
 pub lists-cap : (draft : Drafted) (words : List (List ℕ)) → HasSoundLists draft → HasSoundLists (with_cap draft words)
 lists-cap draft (list ∷ area ∷ perimeter ∷ []) lists =
     class_changed draft.raw (unwrap_or (class_of_list draft.raw list) 0) (unwrap_or (measure_of area) 0) (unwrap_or (measure_of perimeter) 0) lists (measure_small area) (measure_small perimeter)

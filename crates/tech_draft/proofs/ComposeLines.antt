@@ -23,12 +23,15 @@ pub record HasSamePlaces (types next : List TypeRec) : Type 0 where
 abbrev pub with_kinds : RawTech → List TypeRec → RawTech
 with_kinds raw types = record raw { types = types }
 
+-- types that keep their planes and layers keep the technology
 pub places-keep : (raw : RawTech) (types : List TypeRec) → HasSamePlaces raw.types types → Keeps raw (with_kinds raw types)
 places-keep raw types same = record { more = omega (arith, same.many); planes = λ t is. same.planes (t - 1); layers = λ t is. same.layers (t - 1) }
 
+-- a type after the write was one before it
 pub same_type : (raw : RawTech) (types : List TypeRec) → HasSamePlaces raw.types types → (t : ℕ) → IsTrue (is_type (with_kinds raw types) t) → IsTrue (is_type raw t)
 same_type raw types same t is = let bounds = type_bounds (with_kinds raw types) t is in type_from_bounds raw t bounds.0 (omega (arith, bounds.1, same.many))
 
+-- a write of sets keeps the lists sound
 pub places-lists : (raw : RawTech) (types : List TypeRec) → HasLists raw → HasSamePlaces raw.types types → HasLists (with_kinds raw types)
 places-lists raw types lists same =
     let next = with_kinds raw types in
@@ -56,6 +59,7 @@ places-lists raw types lists same =
       fets_differ = lists.fets_differ;
     }
 
+-- a write of a set keeps planes and layers
 pub with_set-places : (raw : RawTech) (t : TypeId) (parts : ℕ) → HasSamePlaces raw.types (with_set raw t parts)
 with_set-places raw t parts = record { many = with_set-length raw t parts; planes = with_set-plane raw t parts; layers = with_set-layer raw t parts }
 
@@ -65,6 +69,7 @@ union-lists draft whole first second lists =
     let parts = bit_or (parts_of draft.raw first.0) (parts_of draft.raw second.0) in
     places-lists draft.raw (with_set draft.raw whole parts) lists (with_set-places draft.raw whole parts)
 
+-- a `compose` line keeps the lists sound
 pub lists-compose : (draft : Drafted) (words : List (List ℕ)) → HasSoundLists draft → compose_fault draft words ≡ None → HasSoundLists (with_compose draft words)
 lists-compose draft (key ∷ whole ∷ first ∷ second ∷ []) lists none = union-lists draft (type_of_word draft.raw whole) (type_of_word draft.raw first) (type_of_word draft.raw second) lists
 lists-compose draft [] lists none = lists

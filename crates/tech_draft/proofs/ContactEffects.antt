@@ -25,9 +25,11 @@ names_stay word images (layer ∷ layers) i zero = refl
 names_stay word images (layer ∷ layers) i (suc n) =
     ap (λ (rest : Option ℕ). cond (list_any (bytes_eq word) layer.names) (Some i) rest) (names_stay word images layers (i + 1) n)
 
+-- the images of a contact change no name
 pub layer_named-contact : (raw : RawTech) (layer : ℕ) (own : TypeId × TypeId) (more : List (TypeId × TypeId)) (word : List ℕ) → layer_named (contact_raw raw layer own more) word ≡ layer_named raw word
 layer_named-contact raw layer own more word = names_stay word (own.0 ∷ map (λ pair. pair.0) more) raw.layers 0 layer
 
+-- the images of a contact keep the limits
 pub contact-room : (draft : Drafted) (layer : ℕ) (own : TypeId × TypeId) (more : List (TypeId × TypeId)) → HasRoom draft → IsContactPlan draft layer own more → HasRoom (with_contact_images draft layer own more)
 contact-room draft layer own more room plan =
     let types : length (contact_raw draft.raw layer own more).types ≡ length draft.raw.types + length more =
@@ -39,6 +41,7 @@ contact-room draft layer own more room plan =
       layers_limit = omega (arith, room.layers_limit);
     }
 
+-- the images of a contact keep what every draft keeps
 pub contact-kept : (before after : Inside) (layer : ℕ) (own : TypeId × TypeId) (more : List (TypeId × TypeId))
     → IsKept before → IsContactPlan (draft_of before) layer own more → after.index ≡ before.index
     → draft_of after ≡ with_contact_images (draft_of before) layer own more → IsKept after

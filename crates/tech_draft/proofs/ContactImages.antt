@@ -19,14 +19,17 @@ use Rattle.tech_draft.proofs.Keeps.{Keeps}
 pub with_set-plane : (raw : RawTech) (t : TypeId) (part k : ℕ) → (get_or (with_set raw t part) k no_type).plane ≡ (get_or raw.types k no_type).plane
 with_set-plane raw t part k = set_same (λ (kind : TypeRec). kind.plane) raw.types (t.0 - 1) (record (type_at raw t.0) { parts = record { 0 = part } }) no_type refl k
 
+-- a new set changes the layer of no type
 pub with_set-layer : (raw : RawTech) (t : TypeId) (part k : ℕ) → (get_or (with_set raw t part) k no_type).layer.0 ≡ (get_or raw.types k no_type).layer.0
 with_set-layer raw t part k = set_same (λ (kind : TypeRec). kind.layer.0) raw.types (t.0 - 1) (record (type_at raw t.0) { parts = record { 0 = part } }) no_type refl k
 
+-- a new set changes how many types there are in no way
 pub with_set-length : (raw : RawTech) (t : TypeId) (part : ℕ) → length (with_set raw t part) ≡ length raw.types
 with_set-length raw t part = length-set raw.types (t.0 - 1) (record (type_at raw t.0) { parts = record { 0 = part } })
 
 -- ---- the new types, by number
 
+-- each residue gets one number
 pub length-numbered : (s : ℕ) (residues : List TypeId) → length (numbered_from s residues) ≡ length residues
 length-numbered s [] = refl
 length-numbered s (r ∷ residues) = ap suc (length-numbered (s + 1) residues)
@@ -36,6 +39,7 @@ numbered-residue s [] k d e below = absurd (omega arith)
 numbered-residue s (r ∷ residues) zero d e below = refl
 numbered-residue s (r ∷ residues) (suc k) d e below = numbered-residue (s + 1) residues k d e (omega arith)
 
+-- each number from the first on is that of a residue
 pub In-numbered : (s : ℕ) (residues : List TypeId) (t : ℕ) → s ≤ t → t < s + length residues → In (type_number t) (map (λ pair. pair.0) (numbered_from s residues))
 In-numbered s [] t low high = absurd (omega arith)
 In-numbered s (r ∷ residues) t low high = elim (cases_eq s t) [
@@ -43,11 +47,13 @@ In-numbered s (r ∷ residues) t low high = elim (cases_eq s t) [
   | inr other ↦ inr (In-numbered (s + 1) residues t (omega arith) (omega arith))
 ]
 
+-- the numbers of the residues follow each other from the first on
 pub numbered_bounds : (s : ℕ) (residues : List TypeId) (t : TypeId) → In t (map (λ pair. pair.0) (numbered_from s residues)) → (s ≤ t.0) × (t.0 < s + length residues)
 numbered_bounds s [] t absent = absurd absent
 numbered_bounds s (r ∷ residues) t (inl same) = let is : s ≡ t.0 = ap (λ (u : TypeId). u.0) same in (omega arith, omega arith)
 numbered_bounds s (r ∷ residues) t (inr later) = let bounds = numbered_bounds (s + 1) residues t later in (omega (arith, bounds.0), omega (arith, bounds.1))
 
+-- a residue has the plane of the image with its number
 pub numbered_planes : (f g : ℕ → ℕ) (s : ℕ) (residues : List TypeId) (d : TypeId) → ((k : ℕ) → k < length residues → f (s + k) ≡ g (get_or residues k d).0)
     → map (λ t. f t.0) (map (λ pair. pair.0) (numbered_from s residues)) ≡ map (λ t. g t.0) residues
 numbered_planes f g s [] d same = refl
@@ -69,6 +75,7 @@ new_records raw layer others = map (image_record raw layer) (numbered_from (leng
 new_length : (raw : RawTech) (layer : ℕ) (others : List TypeId) → length (new_records raw layer others) ≡ length others
 new_length raw layer others = length-map (numbered_from (length raw.types + 1) others) (image_record raw layer) ∙ length-numbered (length raw.types + 1) others
 
+-- each other residue adds one type
 pub imaged-length : (raw : RawTech) (layer : ℕ) (own : TypeId × TypeId) (others : List TypeId) → length (imaged raw layer own others).types ≡ length raw.types + length others
 imaged-length raw layer own others =
     let both = length-append (with_set raw own.0 (mark_bit layer)) (new_records raw layer others) in
@@ -83,6 +90,7 @@ old_at raw layer own others t is =
     let long = with_set-length raw own.0 (mark_bit layer) in
     get_or_append_left (with_set raw own.0 (mark_bit layer)) (new_records raw layer others) no_type (t - 1) (omega (arith, bounds.0, bounds.1, long))
 
+-- the types that were there keep their planes and layers
 pub imaged-keeps : (raw : RawTech) (layer : ℕ) (own : TypeId × TypeId) (others : List TypeId) → Keeps raw (imaged raw layer own others)
 imaged-keeps raw layer own others = record {
   more = omega (arith, imaged-length raw layer own others);
@@ -109,6 +117,7 @@ pub new_plane : (raw : RawTech) (layer : ℕ) (own : TypeId × TypeId) (others :
 new_plane raw layer own others k d below =
     ap (λ (kind : TypeRec). kind.plane) (new_at raw layer own others k below) ∙ ap (λ (t : TypeId). plane_of raw t.0) (numbered-residue (length raw.types + 1) others k no_pair d below)
 
+-- each new image is of the layer of the contact
 pub new_layer : (raw : RawTech) (layer : ℕ) (own : TypeId × TypeId) (others : List TypeId) (k : ℕ) → k < length others
     → layer_of (imaged raw layer own others) (length raw.types + 1 + k) ≡ layer
 new_layer raw layer own others k below = ap (λ (kind : TypeRec). kind.layer.0) (new_at raw layer own others k below)
@@ -126,11 +135,13 @@ imaged_cases raw layer own others t is =
 
 -- ---- the layers
 
+-- the layer of the contact has the own image and the new ones
 pub imaged_here : (raw : RawTech) (layer : ℕ) (own : TypeId × TypeId) (others : List TypeId) → layer < length raw.layers
     → images_of (imaged raw layer own others) layer ≡ own.0 ∷ map (λ pair. pair.0) (numbered_from (length raw.types + 1) others)
 imaged_here raw layer own others below =
     ap (λ (l : LayerRec). l.images) (get_or-set_same raw.layers layer (record (layer_at raw layer) { images = own.0 ∷ map (λ pair. pair.0) (numbered_from (length raw.types + 1) others) }) no_layer below)
 
+-- each other layer has the images that it had
 pub imaged_other : (raw : RawTech) (layer other : ℕ) (own : TypeId × TypeId) (others : List TypeId) → other ≢ layer
     → images_of (imaged raw layer own others) other ≡ images_of raw other
 imaged_other raw layer other own others apart =

@@ -110,6 +110,7 @@ contact_room draft base residues lists none =
       planes = other_planes raw base residues well;
     }
 
+-- a `contact` line keeps the lists sound
 pub lists-contact : (draft : Drafted) (words : List (List ℕ)) → HasSoundLists draft → contact_fault draft words ≡ None → HasSoundLists (with_contact draft words)
 lists-contact draft [] lists none = lists
 lists-contact draft (base ∷ residues) lists none =

@@ -144,6 +144,7 @@ imaged_of_one raw layer own others lists room other t below is = elim (cases_eq 
       (imaged-keeps raw layer own others).layers t (image_type raw other (type_number t) lists below was) ∙ lists.of_one_layer other t below was
 ]
 
+-- the images of a contact keep the lists sound
 pub imaged-lists : (raw : RawTech) (layer : ℕ) (own : TypeId × TypeId) (others : List TypeId) → HasLists raw → HasRoom raw layer own.0 others → HasLists (imaged raw layer own others)
 imaged-lists raw layer own others lists room =
     let next = imaged raw layer own others in

@@ -16,6 +16,7 @@ use Rattle.tech_draft.specs.SetLines.{contact_fault, other_residues, numbered_fr
 use Rattle.tech_draft.proofs.Faults.{option_or-none, fault_if-none, first_where-none}
 use Rattle.tech_model.specs.declared.limits.TheConstants.{MOST_TYPES}
 
+-- what is known of the words of a `contact` line that breaks no rule
 pub record KeepsContactRules (draft : Drafted) (base : List ℕ) (residues : List (List ℕ)) : Type 0 where
   pub some : 2 < length (base ∷ residues)
   pub named : (word : List ℕ) → In word (base ∷ residues) → is_none (layer_named draft.raw word) ≡ false
@@ -33,6 +34,7 @@ and_first : (a b : Bool) → (a && b) ≡ true → a ≡ true
 and_first true b e = refl
 and_first false b e = absurd (cc)
 
+-- a `contact` line without fault keeps the rules
 pub contact_fault-none : (draft : Drafted) (base : List ℕ) (residues : List (List ℕ)) → contact_fault draft (base ∷ residues) ≡ None → KeepsContactRules draft base residues
 unfolding contact_fault
 contact_fault-none draft base words e =
@@ -94,19 +96,23 @@ or_second : (a b : Bool) → (a || b) ≡ false → b ≡ false
 or_second true b e = absurd (cc)
 or_second false b e = e
 
+-- the plane of the base is that of one of the residues
 pub base_plane_found : (raw : RawTech) (base : List ℕ) (residues : List (List ℕ)) → are_misplaced raw base residues ≡ false → has_number (map (plane_of_word raw) residues) (plane_of_word raw base) ≡ true
 unfolding are_misplaced
 base_plane_found raw base residues placed = not_false _ (or_second (has_repeat [] (map (plane_of_word raw) residues)) _ placed)
 
+-- there is room for the new images
 pub room_for_images : (draft : Drafted) (base : List ℕ) (residues : List (List ℕ)) → KeepsContactRules draft base residues → length draft.raw.types + length (other_residues draft.raw base residues) ≤ MOST_TYPES
 room_for_images draft base residues kept =
     let fewer = others_fewer draft.raw (plane_of_word draft.raw base) residues (base_plane_found draft.raw base residues kept.placed) in
     let same : length (other_residues draft.raw base residues) ≡ length (filter (λ word. not (plane_of_word draft.raw word == plane_of_word draft.raw base)) residues) = simp length-map refl in
     omega (arith, kept.room)
 
+-- there are as many new images as other residues
 pub length-new_images : (raw : RawTech) (base : List ℕ) (residues : List (List ℕ)) → length (new_images raw base residues) ≡ length (other_residues raw base residues)
 length-new_images raw base residues = length-numbered_from (length raw.types + 1) (other_residues raw base residues)
 
+-- what a contact makes of the lists depends on its layer and its images alone
 pub same_images : (draft : Drafted) (layer other_layer : ℕ) (own other_own : TypeId × TypeId) (more other_more : List (TypeId × TypeId))
     → layer ≡ other_layer → own ≡ other_own → more ≡ other_more → with_contact_images draft layer own more ≡ with_contact_images draft other_layer other_own other_more
 same_images draft layer other_layer own other_own more other_more l o m =

@@ -20,6 +20,7 @@ named_images : (raw : RawTech) (o : Option ℕ) (t : TypeId) → HasLists raw �
 named_images raw None t lists below absent = absurd absent
 named_images raw (Some layer) t lists below is = image_type raw layer t lists (below layer refl) is
 
+-- the types that a word names are types
 pub named_type : (raw : RawTech) (word : List ℕ) (t : TypeId) → HasLists raw → In t (named_types raw word) → IsTrue (is_type raw t.0)
 named_type raw word t lists is = named_images raw (layer_named raw word) t lists (λ layer found. layer_named-below raw word layer found) is
 
@@ -57,6 +58,7 @@ entries_source raw (entry ∷ entries) types u is = elim (entries_source raw ent
   | inr later ↦ inr (later.0, inr later.1, later.2)
 ]
 
+-- a type of a list is one of an entry of it
 pub list_source : (raw : RawTech) (list : List ℕ) (u : TypeId) → In u (types_of_list raw list) → (entry : List ℕ) × (In entry (pieces_of list)) × (In u (entry_types raw entry))
 list_source raw list u is = elim (entries_source raw (pieces_of list) [] u is) [ inl none ↦ absurd none | inr found ↦ found ]
 
@@ -64,5 +66,6 @@ list_source raw list u is = elim (entries_source raw (pieces_of list) [] u is) [
 pub list_type : (raw : RawTech) (list : List ℕ) (t : TypeId) → HasLists raw → In t (types_of_list raw list) → IsTrue (is_type raw t.0)
 list_type raw list t lists is = let source = list_source raw list t is in entry_type raw source.0 t lists source.2
 
+-- the types of a list are types
 pub list_types : (raw : RawTech) (list : List ℕ) → HasLists raw → All (λ t. IsTrue (is_type raw t.0)) (types_of_list raw list)
 list_types raw list lists = All_from_In (λ (t : TypeId). IsTrue (is_type raw t.0)) (types_of_list raw list) (λ t is. list_type raw list t lists is)

@@ -9,6 +9,7 @@ use Rattle.tech_draft.specs.Sound.{HasSoundLists}
 use Rattle.tech_draft.proofs.ClassLines.{lists-resist, lists-cap}
 use Rattle.tech_draft.proofs.FetLines.{lists-fet}
 
+-- a line of `extract` keeps the lists sound
 pub lists-extract : (draft : Drafted) (words : List (List ℕ)) → HasSoundLists draft → extract_fault draft words ≡ None → HasSoundLists (with_extract draft words)
 unfolding extract_fault with_extract
 lists-extract draft [] lists none = lists

@@ -18,14 +18,17 @@ use Rattle.tech_draft.specs.Lines.{line_fault, with_line, line_in}
 pub passed_on : {X : Type 0} (answer : Result X TechFault) (fault : TechFault) (P : TechFault → Type 0) → IsErrAnd answer (λ e. e ≡ fault) → P fault → IfErr answer P
 passed_on answer fault P is h = let p = err_from_is_err_and answer is in rw (p.1, p.2) h
 
+-- what two facts of an answer make together
 pub both_ok : {X E A B C : Type 0} (answer : Result X E) → (A → B → C) → OnOk answer A → OnOk answer B → OnOk answer C
 both_ok (Ok x) f a b = f a b
 both_ok (Err e) f a b = tt
 
+-- a line without fault is read
 pub line_in-read : (section : Section) (draft next : Drafted) (words : List (List ℕ)) → line_fault section draft words ≡ None → next ≡ with_line section draft words → line_in section draft words ≡ Ok next
 unfolding line_in
 line_in-read section draft next words kept is = rw (kept, is) refl
 
+-- a line with a fault is refused
 pub line_in-refused : (section : Section) (draft : Drafted) (words : List (List ℕ)) (fault : TechFault) → line_fault section draft words ≡ Some fault → line_in section draft words ≡ Err fault
 unfolding line_in
 line_in-refused section draft words fault broken = rw broken refl
@@ -35,10 +38,12 @@ pub option_or-none : (rule rest : Option TechFault) → option_or rule rest ≡ 
 option_or-none None rest e = (refl, e)
 option_or-none (Some fault) rest e = absurd (cc)
 
+-- a test whose fault is not told has failed
 pub fault_if-none : (holds : Bool) (fault : TechFault) → fault_if holds fault ≡ None → holds ≡ false
 fault_if-none true fault e = absurd (cc)
 fault_if-none false fault e = refl
 
+-- where nothing is found, nothing in the list passes
 pub find-none : {X : Type 0} (test : X → Bool) (xs : List X) → find test xs ≡ None → (x : X) → In x xs → test x ≡ false
 find-none test [] e x i = absurd i
 find-none test (y ∷ ys) e x i =
@@ -56,5 +61,6 @@ none_from_map : {X Y : Type 0} (f : X → Y) (o : Option X) → option_map f o �
 none_from_map f None e = refl
 none_from_map f (Some x) e = absurd (cc)
 
+-- where no word is told, no word in the list passes
 pub first_where-none : (test : List ℕ → Bool) (fault : List ℕ → TechFault) (words : List (List ℕ)) → first_where test fault words ≡ None → (word : List ℕ) → In word words → test word ≡ false
 first_where-none test fault words e = find-none test words (none_from_map fault (find test words) e)

@@ -67,6 +67,7 @@ entry_means raw entries entry none is =
     let apart : length (entry_types raw entry) ≢ 0 = eqb-false (length (entry_types raw entry)) 0 some in
     omega arith
 
+-- the word of a transistor means a type
 pub fet_kind : (raw : RawTech) (kind : List ℕ) → HasLists raw → 0 < length (entry_types raw kind) → IsTrue (is_type raw (fet_type raw kind).0)
 fet_kind raw kind lists some = entry_type raw kind (fet_type raw kind) lists (In-get_or (entry_types raw kind) 0 (type_number 0) some)
 
@@ -98,6 +99,7 @@ new_fet draft kind list name substrate lists none =
     let apart = any_none (λ (f : FetRule). f.kind.0 == (fet_type raw kind).0) raw.fets source.0 new source.1.0 in
     eqb-false source.0.kind.0 (fet_type raw kind).0 apart (ap (λ (t : TypeId). t.0) source.1.1))))
 
+-- a line `fet` keeps the lists sound
 pub lists-fet : (draft : Drafted) (words : List (List ℕ)) → HasSoundLists draft → fet_fault draft words ≡ None → HasSoundLists (with_fet draft words)
 lists-fet draft (kind ∷ list ∷ name ∷ substrate ∷ []) lists none = new_fet draft kind list name substrate lists none
 lists-fet draft [] lists none = lists

@@ -25,9 +25,11 @@ finished_layer draft t [] k = refl
 finished_layer draft t (kind ∷ kinds) zero = refl
 finished_layer draft t (kind ∷ kinds) (suc k) = finished_layer draft (t + 1) kinds k
 
+-- putting the sets in keeps planes and layers
 pub finished-places : (draft : Drafted) → HasSamePlaces draft.raw.types (finished_from draft 1 draft.raw.types)
 finished-places draft = record { many = finished_many draft 1 draft.raw.types; planes = finished_plane draft 1 draft.raw.types; layers = finished_layer draft 1 draft.raw.types }
 
+-- putting the sets in keeps the lists sound
 pub lists-finished : (draft : Drafted) → HasSoundLists draft → HasLists (finished_each draft)
 unfolding finished_each
 lists-finished draft lists = places-lists draft.raw (finished_from draft 1 draft.raw.types) lists (finished-places draft)
@@ -60,5 +62,6 @@ finished_name : (draft : Drafted) → IsTrue (is_plain_name draft.raw.name) → 
 unfolding finished_each
 finished_name draft plain = plain
 
+-- sound lists with sound sets are a well-formed technology
 pub well_formed-finished : (draft : Drafted) → HasSoundLists draft → IsTrue (is_plain_name draft.raw.name) → HasSets (finished_each draft) → IsWellFormed (finished_each draft)
 well_formed-finished draft lists plain sets = well_formed-from (finished_each draft) (lists-finished draft lists) (finished_name draft plain) sets

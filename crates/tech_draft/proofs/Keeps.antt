@@ -19,12 +19,15 @@ pub record Keeps (raw next : RawTech) : Type 0 where
   pub planes : (t : ℕ) → IsTrue (is_type raw t) → plane_of next t ≡ plane_of raw t
   pub layers : (t : ℕ) → IsTrue (is_type raw t) → layer_of next t ≡ layer_of raw t
 
+-- a type stays a type
 pub kept_type : (raw next : RawTech) → Keeps raw next → (t : ℕ) → IsTrue (is_type raw t) → IsTrue (is_type next t)
 kept_type raw next keeps t is = let bounds = type_bounds raw t is in type_from_bounds next t bounds.0 (omega (arith, bounds.1, keeps.more))
 
+-- types stay types
 pub kept_types : (raw next : RawTech) → Keeps raw next → (types : List TypeId) → All (λ t. IsTrue (is_type raw t.0)) types → All (λ t. IsTrue (is_type next t.0)) types
 kept_types raw next keeps types all = All-weaker (λ (t : TypeId). IsTrue (is_type raw t.0)) (λ (t : TypeId). IsTrue (is_type next t.0)) (λ t. kept_type raw next keeps t.0) types all
 
+-- types stay on their planes
 pub kept_planes : (raw next : RawTech) → Keeps raw next → (types : List TypeId) → All (λ t. IsTrue (is_type raw t.0)) types
     → map (λ t. plane_of next t.0) types ≡ map (λ t. plane_of raw t.0) types
 kept_planes raw next keeps [] all = refl
@@ -33,6 +36,7 @@ kept_planes raw next keeps (t ∷ types) all =
     let rest = kept_planes raw next keeps types (All-tail (λ (t : TypeId). IsTrue (is_type raw t.0)) t types all) in
     ap (λ (p : ℕ). p ∷ map (λ (t : TypeId). plane_of next t.0) types) here ∙ ap (λ (ps : List ℕ). plane_of raw t.0 ∷ ps) rest
 
+-- a layer that fitted the lists fits them still
 pub kept_layer : (raw next : RawTech) → Keeps raw next → (layer : LayerRec) → IsLayer raw layer → IsLayer next layer
 kept_layer raw next keeps layer is = record {
   named = is.named;
@@ -42,9 +46,11 @@ kept_layer raw next keeps layer is = record {
   planes = subst (λ (ps : List ℕ). Distinct ps) (sym (kept_planes raw next keeps layer.images is.images)) is.planes;
 }
 
+-- layers that fitted the lists fit them still
 pub kept_layers : (raw next : RawTech) → Keeps raw next → (layers : List LayerRec) → All (IsLayer raw) layers → All (IsLayer next) layers
 kept_layers raw next keeps layers all = All-weaker (IsLayer raw) (IsLayer next) (kept_layer raw next keeps) layers all
 
+-- a class that fitted the lists fits them still
 pub kept_class : (raw next : RawTech) → Keeps raw next → (class : ClassRec) → IsClass raw class → IsClass next class
 kept_class raw next keeps class is = record {
   value = is.value;
@@ -53,9 +59,11 @@ kept_class raw next keeps class is = record {
   types = kept_types raw next keeps class.types is.types;
 }
 
+-- classes that fitted the lists fit them still
 pub kept_classes : (raw next : RawTech) → Keeps raw next → (classes : List ClassRec) → All (IsClass raw) classes → All (IsClass next) classes
 kept_classes raw next keeps classes all = All-weaker (IsClass raw) (IsClass next) (kept_class raw next keeps) classes all
 
+-- a transistor that fitted the lists fits them still
 pub kept_fet : (raw next : RawTech) → Keeps raw next → (fet : FetRule) → IsFet raw fet → IsFet next fet
 kept_fet raw next keeps fet is = record {
   kind = kept_type raw next keeps fet.kind.0 is.kind;
@@ -64,6 +72,7 @@ kept_fet raw next keeps fet is = record {
   substrate = is.substrate;
 }
 
+-- transistors that fitted the lists fit them still
 pub kept_fets : (raw next : RawTech) → Keeps raw next → (fets : List FetRule) → All (IsFet raw) fets → All (IsFet next) fets
 kept_fets raw next keeps fets all = All-weaker (IsFet raw) (IsFet next) (kept_fet raw next keeps) fets all
 
@@ -74,6 +83,7 @@ kept_pair raw next keeps pair is = record {
   plane = keeps.planes pair.0.0 is.first ∙ is.plane ∙ sym (keeps.planes pair.1.0 is.second);
 }
 
+-- pairs that fitted the lists fit them still
 pub kept_pairs : (raw next : RawTech) → Keeps raw next → (pairs : List (TypeId × TypeId)) → All (IsPair raw) pairs → All (IsPair next) pairs
 kept_pairs raw next keeps pairs all = All-weaker (IsPair raw) (IsPair next) (kept_pair raw next keeps) pairs all
 

@@ -13,11 +13,13 @@ use Rattle.finite_sets.proofs.Members.{In-get_or, In-map_source, In-map, In-filt
 pub All_from_In : {X : Type 0} (P : X → Type 0) (xs : List X) → ((x : X) → In x xs → P x) → All P xs
 All_from_In P xs each = λ k d below. each (get_or xs k d) (In-get_or xs k d below)
 
+-- where no thing of a list passes, none does that is in it
 pub any_none : {X : Type 0} (test : X → Bool) (xs : List X) (x : X) → list_any test xs ≡ false → In x xs → test x ≡ false
 any_none test [] x none absent = absurd absent
 any_none test (y ∷ ys) x none (inl same) = ap test (sym same) ∙ (or_parts (test y) (list_any test ys) none).0
 any_none test (y ∷ ys) x none (inr later) = any_none test ys x (or_parts (test y) (list_any test ys) none).1 later
 
+-- where nothing is found, nothing that is in the list passes
 pub find_none : {X : Type 0} (test : X → Bool) (xs : List X) (x : X) → find test xs ≡ None → In x xs → test x ≡ false
 find_none test [] x none absent = absurd absent
 find_none test (y ∷ ys) x none (inl same) = elim (cases_Bool (test y)) [
@@ -45,6 +47,7 @@ one_thing [] d some few = absurd (omega arith)
 one_thing (x ∷ []) d some few = refl
 one_thing (x ∷ y ∷ xs) d some few = absurd (omega arith)
 
+-- two functions one after the other are one
 pub map_map : {X Y Z : Type 0} (f : Y → Z) (g : X → Y) (xs : List X) → map f (map g xs) ≡ map (λ x. f (g x)) xs
 map_map f g [] = refl
 map_map f g (x ∷ xs) = ap (λ zs. f (g x) ∷ zs) (map_map f g xs)
@@ -61,6 +64,7 @@ Distinct-map_filter f test (x ∷ xs) distinct = elim (cases_Bool (test x)) [
   | inr fails ↦ rw fails (Distinct-map_filter f test xs distinct.1)
 ]
 
+-- what passes is no more than there is
 pub length-filter : {X : Type 0} (test : X → Bool) (xs : List X) → length (filter test xs) ≤ length xs
 length-filter test [] = omega arith
 length-filter test (x ∷ xs) = let rest = length-filter test xs in elim (cases_Bool (test x)) [

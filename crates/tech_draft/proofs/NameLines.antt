@@ -51,6 +51,7 @@ unfolding tech_fault
 name_plain draft name none =
     not-false (is_plain_name name) (or_parts (not (is_empty draft.raw.name)) (not (is_plain_name name)) (no_fault (not (is_empty draft.raw.name) || not (is_plain_name name)) BadForm none)).1
 
+-- a line of `tech` keeps the lists sound
 pub lists-tech : (draft : Drafted) (words : List (List ℕ)) → HasSoundLists draft → tech_fault draft words ≡ None → HasSoundLists (with_name draft words)
 lists-tech draft [] lists none = lists
 lists-tech draft (name ∷ []) lists none = named-lists draft.raw name lists (name_plain draft name none)
@@ -96,6 +97,7 @@ plane_line draft name lists none =
     (no_fault (list_any (bytes_eq name) draft.raw.planes) (Twice name) once.0)
     (leb-false MOST_PLANES (length draft.raw.planes) (no_fault (nat_le MOST_PLANES (length draft.raw.planes)) (TooMany Planes) once.1))
 
+-- a line of `planes` keeps the lists sound
 pub lists-planes : (draft : Drafted) (words : List (List ℕ)) → HasSoundLists draft → plane_fault draft words ≡ None → HasSoundLists (with_plane draft words)
 lists-planes draft [] lists none = lists
 lists-planes draft (name ∷ []) lists none = plane_line draft name lists none

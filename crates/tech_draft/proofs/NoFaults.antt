@@ -14,10 +14,12 @@ use Rattle.tech_draft.specs.Entries.{fault_if, first_where}
 use Rattle.tech_draft.specs.Lines.{line_fault, with_line, line_in, unless}
 use Rattle.tech_draft.proofs.ListFacts.{find_none, any_none}
 
+-- where the first of two has nothing, neither has
 pub both_none : {X : Type 0} (a b : Option X) → option_or a b ≡ None → (a ≡ None) × (b ≡ None)
 both_none None b none = (refl, none)
 both_none (Some x) b none = absurd (cc)
 
+-- a test whose fault is not told has failed
 pub no_fault : (holds : Bool) (fault : TechFault) → fault_if holds fault ≡ None → holds ≡ false
 no_fault true fault none = absurd (cc)
 no_fault false fault none = refl
@@ -30,6 +32,7 @@ map_none f (Some x) none = absurd (cc)
 pub first_none : (test : List ℕ → Bool) (fault : List ℕ → TechFault) (words : List (List ℕ)) (word : List ℕ) → first_where test fault words ≡ None → In word words → test word ≡ false
 first_none test fault words word none is = find_none test words word (map_none fault (find test words) none) is
 
+-- a number that is there lies below the limit
 pub some_below : (o : Option ℕ) (n : ℕ) → is_none o ≡ false → ((k : ℕ) → o ≡ Some k → k < n) → unwrap_or o 0 < n
 some_below None n none below = absurd (cc)
 some_below (Some k) n some below = below k refl
@@ -44,6 +47,7 @@ pub line_read : (section : Section) (draft next : Drafted) (words : List (List �
 unfolding line_in
 line_read section draft next words ok = unless_ok (line_fault section draft words) (with_line section draft words) next ok
 
+-- what is not there is none
 pub none_of : {X : Type 0} (o : Option X) → is_some o ≡ false → o ≡ None
 none_of None none = refl
 none_of (Some x) none = absurd (cc)

@@ -60,6 +60,7 @@ pairs-lists raw pairs lists all =
       fets_differ = lists.fets_differ;
     }
 
+-- a `connect` line keeps the lists sound
 pub lists-connect : (draft : Drafted) (words : List (List ℕ)) → HasSoundLists draft → connect_fault draft words ≡ None → HasSoundLists (with_connect draft words)
 lists-connect draft (first ∷ second ∷ []) lists none =
     let raw = draft.raw in

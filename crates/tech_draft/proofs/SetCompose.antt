@@ -242,6 +242,7 @@ word_type draft whole first second word lists rules inside =
     let named = word_named draft word lists (rules.named word inside) in
     (named.is, simple_word draft word named (rules.simple word inside))
 
+-- a `compose` line keeps the sets of types sound
 pub compose_line : (draft : Drafted) (whole first second : List ℕ) → HasSoundLists draft → KeepsComposeRules draft whole first second
     → IsComposeLine draft (type_of_word draft.raw whole) (type_of_word draft.raw first) (type_of_word draft.raw second)
 compose_line draft whole first second lists rules =

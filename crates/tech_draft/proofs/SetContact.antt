@@ -25,10 +25,12 @@ use Rattle.tech_model.specs.declared.limits.TheConstants.{FIRST_MARK}
 
 -- ---- numbered residues
 
+-- each residue gets one number
 pub length_numbered : (n : ℕ) (residues : List TypeId) → length (numbered_from n residues) ≡ length residues
 length_numbered n [] = refl
 length_numbered n (residue ∷ residues) = ap suc (length_numbered (n + 1) residues)
 
+-- the residue at a place gets the number of that place
 pub numbered_at : (n : ℕ) (residues : List TypeId) (k : ℕ) (d : TypeId × TypeId) → k < length residues
     → get_or (numbered_from n residues) k d ≡ (type_number (n + k), get_or residues k d.1)
 numbered_at n [] k d below = absurd (omega arith)
@@ -37,6 +39,7 @@ numbered_at n (residue ∷ residues) (suc k) d below =
     let same : n + 1 + k ≡ n + suc k = omega arith in
     numbered_at (n + 1) residues k d (omega arith) ∙ ap (λ (m : ℕ). (type_number m, get_or residues k d.1)) same
 
+-- a number is found with the residue that got it
 pub find_numbered : (n : ℕ) (residues : List TypeId) (k m : ℕ) (d : TypeId) → k < length residues → m ≡ n + k
     → find (λ pair. pair.0.0 == m) (numbered_from n residues) ≡ Some (type_number m, get_or residues k d)
 find_numbered n [] k m d below is = absurd (omega arith)
@@ -46,6 +49,7 @@ find_numbered n (residue ∷ residues) zero m d below is =
 find_numbered n (residue ∷ residues) (suc k) m d below is =
     rw (ne_eqb n m (λ (same : n ≡ m). omega arith)) (find_numbered (n + 1) residues k m d (omega arith) (omega arith))
 
+-- an image and its residue stand at one place
 pub In_numbered : (n : ℕ) (residues : List TypeId) (image residue : TypeId) → In (image, residue) (numbered_from n residues)
     → (k : ℕ) × (k < length residues) × (image.0 ≡ n + k) × In residue residues
 In_numbered n [] image residue inside = absurd inside
@@ -138,6 +142,7 @@ layer_images : (draft : Drafted) (layer : ℕ) (own : TypeId × TypeId) (others 
 layer_images draft layer own others below =
     ap (λ x. x.images) (get_or-set_same draft.raw.layers layer (record (layer_at draft.raw layer) { images = own.0 ∷ map (λ pair. pair.0) (images_from draft others) }) no_layer below)
 
+-- a type that is none of the new images was there before
 pub is_before : (draft : Drafted) (layer : ℕ) (own : TypeId × TypeId) (others : List TypeId) (t : ℕ) → IsTrue (is_type draft.raw t) → IsTrue (is_type (raw_after draft layer own others) t)
 is_before draft layer own others t is =
     let bounds = type_bounds draft.raw t is in

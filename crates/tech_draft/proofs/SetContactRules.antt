@@ -110,6 +110,7 @@ part_free : (draft : Drafted) (t : TypeId) → is_part draft t ≡ false → (li
 unfolding is_part
 part_free draft t none = or_parts (list_any (λ pair. pair.1.0 == t.0) draft.residues) (has_type draft.used t) none
 
+-- a `contact` line keeps the sets of types sound
 pub contact_line : (draft : Drafted) (base : List ℕ) (residues : List (List ℕ)) → HasSoundLists draft → KeepsRules draft base residues
     → IsContactLine draft (layer_of_word draft.raw base) (own_pair draft.raw base residues) (other_residues draft.raw base residues)
 contact_line draft base residues lists rules =

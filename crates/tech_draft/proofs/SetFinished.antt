@@ -49,6 +49,7 @@ finished_images : (draft : Drafted) (layer : ℕ) → images_of (finished_each d
 unfolding finished_each
 finished_images draft layer = refl
 
+-- putting the sets in adds no type
 pub length_types : (draft : Drafted) → length (finished_each draft).types ≡ length draft.raw.types
 length_types draft = ap length (finished_types draft) ∙ length_finished draft 1 draft.raw.types
 
@@ -58,6 +59,7 @@ is_finished draft t is = let bounds = type_bounds draft.raw t is in type_from_bo
 was_type : (draft : Drafted) (t : ℕ) → IsTrue (is_type (finished_each draft) t) → IsTrue (is_type draft.raw t)
 was_type draft t is = let bounds = type_bounds (finished_each draft) t is in type_from_bounds draft.raw t bounds.0 (omega (arith, bounds.1, length_types draft))
 
+-- each type gets its own set
 pub type_finished : (draft : Drafted) (t : ℕ) → IsTrue (is_type draft.raw t) → type_at (finished_each draft) t ≡ finished_type draft t (type_at draft.raw t)
 type_finished draft t is =
     let bounds = type_bounds draft.raw t is in

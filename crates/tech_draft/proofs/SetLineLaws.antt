@@ -51,6 +51,7 @@ same_kept old new t types layers is =
       set = parts_at new t (is_kept old new t types is) ∙ ap (λ (x : TypeRec). x.parts.0) at ∙ sym (parts_at old t is);
     }
 
+-- sets that stay as they were stay sound
 pub sets_kept : (old new : Drafted) → KeepsSets old new → HasSoundSets old → HasSoundSets new
 sets_kept old new keeps sets =
     let was : (t : ℕ) → IsTrue (is_type new.raw t) → IsTrue (is_type old.raw t) = λ t is. is_kept new.raw old.raw t (sym keeps.types) is in
@@ -148,6 +149,7 @@ sets-line section draft next words lists sets is =
 no_types : {X : Type 0} (t : ℕ) → IsTrue (is_type empty_raw t) → X
 no_types t is = let bounds = type_bounds empty_raw t is in absurd (omega (arith, bounds.0, bounds.1))
 
+-- without a type the sets are sound
 pub sets-empty : HasSoundSets empty_draft
 sets-empty = record {
   atoms = λ t is simple no_result. no_types t is;

@@ -31,10 +31,12 @@ pub line_taken : (section : Section) (draft after : Drafted) (words : List (List
 unfolding line_in
 line_taken section draft after words is = unless_ok (line_fault section draft words) (with_line section draft words) after is
 
+-- where the first of two rules has no fault, neither has
 pub rules_none : (rule rest : Option TechFault) → option_or rule rest ≡ None → (rule ≡ None) × (rest ≡ None)
 rules_none None rest is = (refl, is)
 rules_none (Some fault) rest is = absurd (cc)
 
+-- a test whose fault is not told has failed
 pub fault_if_none : (holds : Bool) (fault : TechFault) → fault_if holds fault ≡ None → holds ≡ false
 fault_if_none true fault is = absurd (cc)
 fault_if_none false fault is = refl
@@ -43,6 +45,7 @@ none_mapped : {X Y : Type 0} (f : X → Y) (o : Option X) → option_map f o ≡
 none_mapped f None is = refl
 none_mapped f (Some x) is = absurd (cc)
 
+-- where no word is told, no word passes
 pub first_where_none : (test : List ℕ → Bool) (fault : List ℕ → TechFault) (words : List (List ℕ)) → first_where test fault words ≡ None
     → (word : List ℕ) → In word words → test word ≡ false
 first_where_none test fault words is word inside = find-None test words word (none_mapped fault (find test words) is) inside
@@ -59,6 +62,7 @@ lacks_type types t s none inside = eqb-false s.0 t.0 (list_any_false (λ (u : Ty
 
 -- ---- types
 
+-- a type's parts are those of its record
 pub parts_at : (raw : RawTech) (t : ℕ) → IsTrue (is_type raw t) → parts_of raw t ≡ (type_at raw t).parts.0
 parts_at raw t is = cond-true (is_type raw t) (type_at raw t).parts.0 0 is
 
@@ -74,12 +78,15 @@ pub record KeepsSet (old new : RawTech) (t : ℕ) : Type 0 where
   pub kept : KeepsType old new t
   pub set : parts_of new t ≡ parts_of old t
 
+-- a type without a mark stays one
 pub simple_kept : (old new : RawTech) (t : ℕ) → KeepsType old new t → IsSimple old t → IsSimple new t
 simple_kept old new t kept simple = kept.images ∙ simple
 
+-- a type without a mark was one before
 pub simple_before : (old new : RawTech) (t : ℕ) → KeepsType old new t → IsSimple new t → IsSimple old t
 simple_before old new t kept simple = sym kept.images ∙ simple
 
+-- a union stays the union of its parts
 pub union_same : (old new : RawTech) (t first second : ℕ) → KeepsSet old new t → KeepsSet old new first → KeepsSet old new second
     → IsUnion old t first second → IsUnion new t first second
 union_same old new t first second same of_first of_second union = record {
@@ -104,6 +111,7 @@ made_same old new used more t all within same (composed _ first second union fir
     (made_same old new used more first all within (all first first_used) of_first)
     (made_same old new used more second all within (all second second_used) of_second)
 
+-- a noted residue stays one
 pub noted_kept : (old new : Drafted) (t : ℕ) (noted : IsNoted old t) → KeepsSet old.raw new.raw t → KeepsType old.raw new.raw noted.residue
     → residue_of new t ≡ residue_of old t → IsNoted new t
 noted_kept old new t noted same residue found = record {

@@ -22,6 +22,7 @@ pub record IsNamed (draft : Drafted) (word : List ℕ) : Type 0 where
   pub is : IsTrue (is_type draft.raw (type_of_word draft.raw word).0)
   pub layer : layer_of draft.raw (type_of_word draft.raw word).0 ≡ layer_of_word draft.raw word
 
+-- a word that is known names a layer and its own image
 pub word_named : (draft : Drafted) (word : List ℕ) → HasSoundLists draft → is_none (layer_named draft.raw word) ≡ false → IsNamed draft word
 word_named draft word lists named =
     let raw = draft.raw in
@@ -43,6 +44,7 @@ unfolding is_contact
 one_image draft word named is =
     let few = ltb-false 1 (length (images_of draft.raw (layer_of_word draft.raw word))) is in omega (arith, few, named.placed)
 
+-- a word of no contact means a type without a mark
 pub simple_word : (draft : Drafted) (word : List ℕ) → IsNamed draft word → is_contact draft.raw word ≡ false → IsSimple draft.raw (type_of_word draft.raw word).0
 simple_word draft word named is = ap (λ (l : ℕ). length (images_of draft.raw l)) named.layer ∙ one_image draft word named is
 

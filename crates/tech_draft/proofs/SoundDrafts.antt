@@ -14,13 +14,16 @@ use Rattle.tech_draft.proofs.SetFinished.{finished-sets}
 use Rattle.tech_draft.proofs.SetFolds.{finished-each}
 use Rattle.tech_draft.specs.Finished.{finished}
 
+-- a draft of which no line was read is sound
 pub IsSound-empty : IsSound empty_draft
 IsSound-empty = record { lists = lists-empty; sets = sets-empty }
 
+-- a line that is read keeps a draft sound
 pub IsSound-line : (section : Section) (draft next : Drafted) (words : List (List ℕ)) → IsSound draft → line_in section draft words ≡ Ok next → IsSound next
 IsSound-line section draft next words sound read =
     record { lists = lists-line section draft next words sound.lists read; sets = sets-line section draft next words sound.lists sound.sets read }
 
+-- a sound draft with a name is a well-formed technology
 pub finished-well_formed : (draft : Drafted) → IsSound draft → IsTrue (is_plain_name draft.raw.name) → IsWellFormed (finished draft)
 finished-well_formed draft sound plain =
     subst IsWellFormed (sym (finished-each draft sound.sets)) (well_formed-finished draft sound.lists plain (finished-sets draft sound.lists sound.sets))

@@ -23,6 +23,7 @@ use Rattle.tech_draft.proofs.ExtractLines.{lists-extract}
 no_type_yet : {X : Type 0} (t : ℕ) → IsTrue (is_type empty_raw t) → X
 no_type_yet t is = let bounds = type_bounds empty_raw t is in let high : t ≤ 0 = bounds.1 in absurd (omega (arith, bounds.0, high))
 
+-- the lists of a draft of which no line was read are sound
 pub lists-empty : HasSoundLists empty_draft
 lists-empty = record {
   planes_limit = omega arith;
@@ -55,6 +56,7 @@ lists-with Compose draft words lists none = lists-compose draft words lists none
 lists-with Connect draft words lists none = lists-connect draft words lists none
 lists-with Extract draft words lists none = lists-extract draft words lists none
 
+-- each line that is read keeps the lists sound
 pub lists-line : (section : Section) (draft next : Drafted) (words : List (List ℕ)) → HasSoundLists draft → line_in section draft words ≡ Ok next → HasSoundLists next
 lists-line section draft next words lists read =
     let parts = line_read section draft next words read in

@@ -64,9 +64,11 @@ layer_named-push raw plane names word fresh =
           ∙ sym (push ∙ ap (λ (b : Bool). layer_or (layer_named raw word) b (0 + length raw.layers)) missing ∙ not_named (layer_named raw word) (0 + length raw.layers))
     ]
 
+-- the draft with one more atom
 abbrev pub with_new_atom : Drafted → ℕ → List (List ℕ) → Drafted
 with_new_atom draft plane names = record draft { raw = with_atom draft.raw plane names }
 
+-- one more atom keeps the limits
 pub type-room : (draft : Drafted) (plane : ℕ) (names : List (List ℕ)) → HasRoom draft → length draft.raw.types < MOST_TYPES → HasRoom (with_new_atom draft plane names)
 type-room draft plane names kept free =
     let types : length (with_atom draft.raw plane names).types ≡ length draft.raw.types + 1 = simp length-append refl in
@@ -77,6 +79,7 @@ type-room draft plane names kept free =
       layers_limit = omega (arith, kept.layers_limit);
     }
 
+-- one more atom keeps what every draft keeps
 pub type-kept : (before after : Inside) (plane : ℕ) (names : List (List ℕ)) → IsKept before → length before.types.items < MOST_TYPES
     → repeated_name (draft_of before).raw [] names ≡ None
     → ((word : List ℕ) → layer_in after.index word ≡ (if list_any (bytes_eq word) names then Some (length before.layers.items) else layer_in before.index word))

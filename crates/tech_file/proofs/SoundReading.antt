@@ -83,5 +83,6 @@ lines-sound text number before (line ∷ lines) last sound e =
     rest-sound number (read_at text number before (content_of line)) (λ next. read_lines text (number + 1) next lines) last
     (λ next read h. lines-sound text (number + 1) next lines last (at-sound text number before (content_of line) next sound read) h) e
 
+-- lines that end well leave a sound draft
 pub EndsWell-sound : (lines : List (List ℕ)) (draft : Drafted) → EndsWell lines draft → IsSound draft
 EndsWell-sound lines draft ends = lines-sound lines 1 (standing Between empty_draft) lines (standing ends.0 draft) IsSound-empty ends.1

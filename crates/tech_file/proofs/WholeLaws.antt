@@ -11,6 +11,7 @@ name_kept : (raw : RawTech) (pairs : List (TypeId × TypeId)) → (fold with_res
 name_kept raw [] = refl
 name_kept raw (pair ∷ pairs) = name_kept (with_residue raw pair) pairs
 
+-- putting the sets in keeps the name
 pub finished_name : (draft : Drafted) → (finished draft).name ≡ draft.raw.name
 unfolding finished
 finished_name draft = name_kept draft.raw draft.residues
@@ -20,6 +21,7 @@ pub plain_if_some : (name : List ℕ) → (name ≡ []) ⊎ IsTrue (is_plain_nam
 plain_if_some name (inl empty) some = absurd (some empty)
 plain_if_some name (inr plain) some = plain
 
+-- what is none is not there
 pub none_is : {X : Type 0} (found : Option X) → found ≡ None → IsNone found
 none_is None e = refl
 none_is (Some x) e = absurd (let no : ⊥ = cc in no)

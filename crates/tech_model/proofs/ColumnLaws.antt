@@ -25,6 +25,7 @@ changed_from R f p (old ∷ column) each space (suc k) =
     let next : p + 1 + k ≡ p + suc k = omega arith in
     subst (λ (n : ℕ). R n (type_on column k) (type_on (on_planes_from (p + 1) f column) k)) next (changed_from R f (p + 1) column each space k)
 
+-- a change that is right on each plane is right for the column
 pub changed : (R : ℕ → ℕ → ℕ → Type 0) (f : ℕ → TypeId → TypeId) (column : List TypeId)
     → ((plane : ℕ) (old : TypeId) → R plane old.0 (f plane old).0) → ((plane : ℕ) → R plane 0 0)
     → (plane : ℕ) → R plane (type_on column plane) (type_on (on_planes_from 0 f column) plane)
@@ -67,6 +68,7 @@ where_on_plane : (raw : RawTech) (layer plane : ℕ) (change : TypeId → TypeId
 where_on_plane raw layer plane change old None is each on = on
 where_on_plane raw layer plane change old (Some image) is each on = each image is
 
+-- paint leaves a column
 pub painted_is_column : (raw : RawTech) (layer : ℕ) (column : List TypeId) → IsWellFormed raw → layer < length raw.layers → IsColumn raw column
     → IsColumn raw (on_planes_from 0 (λ plane old. where_image (painted_by raw plane) (image_on raw layer plane) old) column)
 painted_is_column raw layer column w below is plane =
@@ -76,6 +78,7 @@ painted_is_column raw layer column w below is plane =
     (λ image found. joined_on_plane raw plane (bit_or (parts_of raw old.0) (parts_of raw image.0)) image.0 (image_on_plane raw layer plane image w below found)) on)
     (λ plane on. on) plane (is plane)
 
+-- erasing leaves a column
 pub erased_is_column : (raw : RawTech) (layer : ℕ) (column : List TypeId) → IsColumn raw column
     → IsColumn raw (on_planes_from 0 (λ plane old. where_image (erased_by raw plane) (image_on raw layer plane) old) column)
 erased_is_column raw layer column is plane =
@@ -103,6 +106,7 @@ kept_cases raw images column = elim (cases_Bool (nat_lt 1 (length images))) [
   ]
 ]
 
+-- looking at the mark of a contact leaves a column
 pub kept_is_column : (raw : RawTech) (images column : List TypeId) → IsColumn raw column → IsColumn raw (layer_mark_kept raw images column)
 kept_is_column raw images column is = elim (kept_cases raw images column) [
   | inl same ↦ subst (IsColumn raw) (sym same.0) is

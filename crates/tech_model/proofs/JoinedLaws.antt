@@ -12,6 +12,7 @@ use Rattle.tech_model.specs.Rules.{HaveOwnSets}
 use Rattle.tech_model.proofs.WellFormedLaws.{type_bounds, type_from_bounds}
 use Rattle.tech_model.proofs.FirstPlaces.{position_at, position_found}
 
+-- a type's parts are those of its record
 pub parts_at : (raw : RawTech) (t : ℕ) → IsTrue (is_type raw t) → parts_of raw t ≡ (type_at raw t).parts.0
 parts_at raw t is = ap (λ (b : Bool). if b then (type_at raw t).parts.0 else 0) is
 

@@ -25,6 +25,7 @@ use Rattle.tech_model.specs.LayerWords.{layer_in}
 abbrev pub layer_entries : {K : Type 0} → (K → List ℕ) → List (K × ℕ) → List (List ℕ × ℕ)
 layer_entries words entries = map (λ entry. (words entry.0, entry.1)) entries
 
+-- looking an entry up by its key is looking it up by its word
 pub lookup-is_at : {K : Type 0} (words : K → List ℕ) (entries : List (K × ℕ)) (word : List ℕ)
     → lookup (is_at (λ (k : K). slice_cmp nat_cmp word (words k))) entries ≡ layer_in (layer_entries words entries) word
 lookup-is_at words [] word = refl

@@ -10,6 +10,7 @@ use Rattle.std.proofs.lemmas.List.Folds.{find-append}
 use Rattle.finite_sets.specs.Lists.{In}
 use Rattle.finite_sets.specs.Range.{pairs_of}
 
+-- a search of what a function made is a search of what it was made of
 pub find-map : {X Y : Type 0} (f : X → Y) (p : Y → Bool) (xs : List X) → find p (map f xs) ≡ option_map f (find (λ x. p (f x)) xs)
 find-map f p [] = refl
 find-map f p (x ∷ xs) = elim (cases_Bool (p (f x))) [
@@ -25,6 +26,7 @@ find-In p (y ∷ ys) x is = elim (cases_Bool (p y)) [
   | inr fails ↦ inr (find-In p ys x (rw fails at is))
 ]
 
+-- what is found passes
 pub find-passes : {X : Type 0} (p : X → Bool) (xs : List X) (x : X) → find p xs ≡ Some x → p x ≡ true
 find-passes p [] x is = cc
 find-passes p (y ∷ ys) x is = elim (cases_Bool (p y)) [
@@ -79,6 +81,7 @@ each_rest {Z} {X} {Y} p key others zs z rest split none =
     ap (λ l. find p (flat_map pairs l)) split ∙ find-append p (pairs z) (flat_map pairs rest)
     ∙ ap (λ (o : Option (X × Y)). option_or o (find p (flat_map pairs rest))) (find-map (λ y. (key z, y)) p (others z) ∙ ap (option_map (λ y. (key z, y))) none)
 
+-- what is found among the pairs of the first thing is what is found among all pairs
 pub each_here : {Z X Y : Type 0} (p : X × Y → Bool) (key : Z → X) (others : Z → List Y) (zs : List Z) (z : Z) (rest : List Z) (y : Y)
     → zs ≡ z ∷ rest → find (λ y. p (key z, y)) (others z) ≡ Some y
     → find p (flat_map (λ z. map (λ y. (key z, y)) (others z)) zs) ≡ Some (key z, y)
@@ -87,10 +90,12 @@ each_here {Z} {X} {Y} p key others zs z rest y split some =
     ap (λ l. find p (flat_map pairs l)) split ∙ find-append p (pairs z) (flat_map pairs rest)
     ∙ ap (λ (o : Option (X × Y)). option_or o (find p (flat_map pairs rest))) (find-map (λ y. (key z, y)) p (others z) ∙ ap (option_map (λ y. (key z, y))) some)
 
+-- a range is its first number and the range behind it
 pub range_split : (a n m : ℕ) → n ≡ m + 1 → range_with_len a n ≡ a ∷ range_with_len (a + 1) m
 range_split a zero m more = absurd (omega arith)
 range_split a (suc n) m more = ap (λ (k : ℕ). a ∷ range_with_len (a + 1) k) (omega arith)
 
+-- what is left of a list is its next thing and what is left behind that
 pub drop_split : {X : Type 0} (xs : List X) (i : ℕ) (x : X) → i < length xs → x ≡ get_or xs i x → drop i xs ≡ x ∷ drop (i + 1) xs
 drop_split {X} xs i x inside is = rw add-one (drop-cons xs i x inside ∙ ap (λ (y : X). y ∷ drop (suc i) xs) (sym is))
 
@@ -101,6 +106,7 @@ filter_here p front zs x xs split passes =
     ∙ ap (λ (b : Bool). front ++ cond b (x ∷ filter p xs) (filter p xs)) passes
     ∙ sym (append_assoc front (x ∷ []) (filter p xs))
 
+-- a thing that fails adds nothing
 pub filter_rest : {X : Type 0} (p : X → Bool) (front zs : List X) (x : X) (xs : List X) → zs ≡ x ∷ xs → p x ≡ false → front ++ filter p zs ≡ front ++ filter p xs
 filter_rest p front zs x xs split fails =
     ap (λ l. front ++ filter p l) split

@@ -26,6 +26,7 @@ has_pair-set rows i row s t x y at_s is_row inside t_below y_below =
       | inr other ↦ grind (arith, common_steps, ne_eqb x s other, get_or-set_other rows s x (bit_or row (1 * 2 ^ t % 2 ^ 128)) 0 other)
     ]
 
+-- whether two numbers are equal does not depend on their order
 pub eq_comm : (a b : ℕ) → (a == b) ≡ (b == a)
 eq_comm a b = elim (cases_eq a b) [
   | inl same ↦ eq-eqb a b same ∙ sym (eq-eqb b a (sym same))

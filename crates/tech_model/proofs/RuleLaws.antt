@@ -26,14 +26,17 @@ use Rattle.tech_model.proofs.WellFormedLaws.{All_In, In-range_with_len, range_bo
 pub In-types_of : (raw : RawTech) (t : ℕ) → IsTrue (is_type raw t) → In t (types_of raw)
 In-types_of raw t is = let bounds = type_bounds raw t is in In-range_with_len 1 (length raw.types) t bounds.0 (omega (arith, bounds.1))
 
+-- the listed types are types
 pub types_of-type : (raw : RawTech) (t : ℕ) → In t (types_of raw) → IsTrue (is_type raw t)
 types_of-type raw t is = let bounds = range_bounds 1 (length raw.types) t is in type_from_bounds raw t bounds.0 (omega (arith, bounds.1))
 
+-- what one of the lists has stands in all of them together
 pub In-flat_map : {X Y : Type 0} (f : X → List Y) (x : X) (y : Y) (xs : List X) → In x xs → In y (f x) → In y (flat_map f xs)
 In-flat_map f x y [] none here = absurd none
 In-flat_map f x y (z ∷ zs) (inl same) here = In-append_left y (f z) (flat_map f zs) (subst (λ a. In y (f a)) (sym same) here)
 In-flat_map f x y (z ∷ zs) (inr later) here = In-append_right y (f z) (flat_map f zs) (In-flat_map f x y zs later here)
 
+-- what stands in all the lists together stands in one of them
 pub In-flat_map_source : {X Y : Type 0} (f : X → List Y) (y : Y) (xs : List X) → In y (flat_map f xs) → (x : X) × (In x xs × In y (f x))
 In-flat_map_source f y [] none = absurd none
 In-flat_map_source f y (z ∷ zs) is = elim (In-append_cases y (f z) (flat_map f zs) is) [
@@ -46,6 +49,7 @@ pub pair_types : (raw : RawTech) (pair : ℕ × ℕ) → In pair (pairs_of (type
 pair_types raw pair is =
     (types_of-type raw pair.0 (In-pairs_of_first pair (types_of raw) (types_of raw) is), types_of-type raw pair.1 (In-pairs_of_second pair (types_of raw) (types_of raw) is))
 
+-- both of a widening are types
 pub widening_types : (raw : RawTech) (pair : ℕ × ℕ) → In pair (widenings raw) → IsTrue (is_type raw pair.0) × IsTrue (is_type raw pair.1)
 widening_types raw pair is = pair_types raw pair (In-filter_source (are_within raw) pair (pairs_of (types_of raw) (types_of raw)) is)
 
@@ -175,6 +179,7 @@ no_break raw law = ap (option_map _) (None-find (breaks_law raw) (pairs_of (wide
       absurd (true≢false (sym (law two.0.0 two.1.0 two.0.1 two.1.1 first second parts.0) ∙ not-true (connects raw two.0.1 two.1.1) parts.1))
 ]))
 
+-- where the rules hold no fault is found
 pub no_rule_broken : (raw : RawTech) → KeepsRules raw → rule_fault raw ≡ None
 no_rule_broken raw rules =
     ap (λ (fault : Option TechFault). option_or fault (option_or (fet_terminal_fault raw) (option_or (fet_name_fault raw) (monotone_fault raw)))) (no_same_set raw rules.own_sets)

@@ -33,6 +33,7 @@ proper_parts a b is =
     let parts = and_parts (is_subset a b) (not (a == b)) is in
     (subset_is a b parts.0, eqb-false a b (not-true (a == b) parts.1))
 
+-- a part of a part is a part
 pub proper_trans : (a b c : ℕ) → is_proper_subset a b ≡ true → is_proper_subset b c ≡ true → is_proper_subset a c ≡ true
 proper_trans a b c ab bc =
     let first = proper_parts a b ab in
@@ -40,15 +41,13 @@ proper_trans a b c ab bc =
     let differ : a ≢ c = λ same. first.1 (subset_antisym a b first.0 (subst (λ (x : ℕ). bit_and b x ≡ b) (sym same) second.0)) in
     and_from (is_subset a c) (not (a == c)) (subset_from a c (subset_trans a b c first.0 second.0)) (ap not (ne_eqb a c differ))
 
+-- of two sets at most one is a proper part of the other
 pub proper_one_way : (a b : ℕ) → is_proper_subset a b ≡ true → is_proper_subset b a ≡ true → ⊥
 proper_one_way a b ab ba = (proper_parts a b ab).1 (subset_antisym a b (proper_parts a b ab).0 (proper_parts b a ba).0)
 
--- nothing is properly part of the empty set
-pub proper_zero : (a : ℕ) → is_proper_subset a 0 ≡ true → ⊥
-proper_zero a is = let parts = proper_parts a 0 is in parts.1 (sym parts.0 ∙ and_comm a 0)
-
 -- ---- bits
 
+-- a bit is clear or set
 pub bit_cases : (n k : ℕ) → (bit_at n k ≡ 0) ⊎ (bit_at n k ≡ 1)
 bit_cases n k = let below = bit_at-lt n k in elim (cases_eq (bit_at n k) 0) [ inl zero_is ↦ inl zero_is | inr other ↦ inr (omega arith) ]
 
@@ -78,15 +77,18 @@ pub without_bit_source : (a b k : ℕ) → bit_at (without a b) k ≡ 1 → bit_
 without_bit_source a b k bit =
     xor_of_min_kept (bit_at a k) (bit_at (bit_and a b) k) (bit_at b k) (bit_at-lt a k) (bit_at_and a b k) (sym (bit_at_xor a (bit_and a b) k) ∙ bit)
 
+-- a bit of a union is a bit of one of the two
 pub or_bit_cases : (a b k : ℕ) → bit_at (bit_or a b) k ≡ 1 → (bit_at a k ≡ 1) ⊎ (bit_at b k ≡ 1)
 or_bit_cases a b k bit = max_one (bit_at a k) (bit_at b k) (bit_at-lt a k) (bit_at-lt b k) (sym (bit_at_or a b k) ∙ bit)
 
+-- a bit of the first set is one of the union
 pub or_bit_left : (a b k : ℕ) → bit_at a k ≡ 1 → bit_at (bit_or a b) k ≡ 1
 or_bit_left a b k bit = bit_at_or a b k ∙ max_left (bit_at a k) (bit_at b k) (bit_at-lt b k) bit
 
 max_right : (x y : ℕ) → x < 2 → y ≡ 1 → max x y ≡ 1
 max_right x y below is = omega arith
 
+-- a bit of the second set is one of the union
 pub or_bit_right : (a b k : ℕ) → bit_at b k ≡ 1 → bit_at (bit_or a b) k ≡ 1
 or_bit_right a b k bit = bit_at_or a b k ∙ max_right (bit_at a k) (bit_at b k) (bit_at-lt a k) bit
 
@@ -94,6 +96,7 @@ or_bit_right a b k bit = bit_at_or a b k ∙ max_right (bit_at a k) (bit_at b k)
 pub mark_part : (n k : ℕ) → bit_at n k ≡ 1 → is_subset (2 ^ k) n ≡ true
 mark_part n k bit = subset_from (2 ^ k) n (and_comm (2 ^ k) n ∙ and_pow n k ∙ ap (λ (x : ℕ). x * 2 ^ k) bit ∙ omega arith)
 
+-- a mark that is a part of a set is a bit of it
 pub mark_part_bit : (n k : ℕ) → is_subset (2 ^ k) n ≡ true → bit_at n k ≡ 1
 mark_part_bit n k is = elim (bit_cases n k) [
   | inl clear ↦ absurd (bit_not_empty (2 ^ k) k (bit_at-pow_same k) (sym (subset_is (2 ^ k) n is) ∙ and_comm (2 ^ k) n ∙ and_pow n k ∙ ap (λ (x : ℕ). x * 2 ^ k) clear ∙ omega arith))
@@ -132,6 +135,7 @@ type_cases raw t w is =
     let placed = (layer_well_formed raw (layer_of raw t) w (w.type_layers t is)).placed in
     elim (cases_eq (length (images_of raw (layer_of raw t))) 1) [ inl one ↦ inl one | inr other ↦ inr (omega arith) ]
 
+-- a type whose layer has several images is of a contact
 pub contact_of : (raw : RawTech) (t : ℕ) → IsWellFormed raw → IsTrue (is_type raw t) → 1 < length (images_of raw (layer_of raw t)) → IsContact raw (layer_of raw t)
 contact_of raw t w is many = w.sets.contacts (layer_of raw t) (w.type_layers t is) many
 

@@ -8,10 +8,12 @@ use Rattle.tech_model.specs.declared.raw.RawTech.{RawTech}
 use Rattle.tech_model.specs.Types.{is_type, layer_of, parts_of, is_of, is_pair, connects, is_proper_subset, is_within}
 use Rattle.tech_model.proofs.PairTableLaws.{eq_comm}
 
+-- one of two is enough: the first
 pub or_left : (a b : Bool) → a ≡ true → (a || b) ≡ true
 or_left true b is = refl
 or_left false b is = cc
 
+-- one of two is enough: the second
 pub or_right : (a b : Bool) → b ≡ true → (a || b) ≡ true
 or_right true b is = refl
 or_right false b is = is
@@ -35,6 +37,7 @@ connects_types raw s t is =
     let both = and_parts (is_type raw s && is_type raw t) _ is in
     and_parts (is_type raw s) (is_type raw t) both.0
 
+-- each type connects to itself
 pub connects_self : (raw : RawTech) (s : ℕ) → IsTrue (is_type raw s) → connects raw s s ≡ true
 unfolding connects
 connects_self raw s is =
@@ -62,6 +65,7 @@ unfolding connects
 connects_back raw s t =
     rw (and_comm (is_type raw s) (is_type raw t), eq_comm s t, is_pair_back s t raw.pairs, eq_comm (layer_of raw s) (layer_of raw t)) refl
 
+-- each number is within itself
 pub within_self : (raw : RawTech) (s : ℕ) → IsTrue (is_within raw s s)
 unfolding is_within
 within_self raw s = or_left (s == s) _ (eq-eqb s s refl)
@@ -73,6 +77,7 @@ within_part raw s t part joined =
     or_right (s == t) (is_proper_subset (parts_of raw s) (parts_of raw t) && connects raw s t)
     (and_from (is_proper_subset (parts_of raw s) (parts_of raw t)) (connects raw s t) part joined)
 
+-- what is within a type is that type, or a part of it that connects to it
 pub within_cases : (raw : RawTech) (s t : ℕ) → IsTrue (is_within raw s t)
     → (s ≡ t) ⊎ ((is_proper_subset (parts_of raw s) (parts_of raw t) ≡ true) × (connects raw s t ≡ true))
 unfolding is_within

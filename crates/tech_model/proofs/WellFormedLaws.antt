@@ -27,17 +27,21 @@ In-range_with_len a (suc n) t low high = elim (cases_eq a t) [
   | inr other ↦ inr (In-range_with_len (a + 1) n t (omega arith) (omega arith))
 ]
 
+-- the numbers of a range lie between its ends
 pub range_bounds : (a n t : ℕ) → In t (range_with_len a n) → (a ≤ t) × (t < a + n)
 range_bounds a zero t none = absurd none
 range_bounds a (suc n) t (inl same) = (omega arith, omega arith)
 range_bounds a (suc n) t (inr later) = let bounds = range_bounds (a + 1) n t later in (omega (arith, bounds.0), omega (arith, bounds.1))
 
+-- types are numbered from 1 to the last
 pub type_bounds : (raw : RawTech) (t : ℕ) → IsTrue (is_type raw t) → (1 ≤ t) × (t ≤ length raw.types)
 type_bounds raw t is = let parts = and_parts (nat_le 1 t) (nat_le t (length raw.types)) is in (leb-true 1 t parts.0, leb-true t (length raw.types) parts.1)
 
+-- the numbers from 1 to the last are types
 pub type_from_bounds : (raw : RawTech) (t : ℕ) → 1 ≤ t → t ≤ length raw.types → IsTrue (is_type raw t)
 type_from_bounds raw t low high = and_from (nat_le 1 t) (nat_le t (length raw.types)) (le-leb 1 t low) (le-leb t (length raw.types) high)
 
+-- a type has a row in the table of pairs
 pub type_has_row : (raw : RawTech) (t : ℕ) → IsWellFormed raw → IsTrue (is_type raw t) → t < ROWS
 type_has_row raw t w is = let bounds = type_bounds raw t is in omega (arith, bounds.1, w.types_limit)
 

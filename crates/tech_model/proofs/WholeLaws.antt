@@ -28,6 +28,7 @@ IsWhole raw layer column =
     (s t : ℕ) → IsTrue (is_type raw s) → IsTrue (is_type raw t) → layer_of raw s ≡ layer → layer_of raw t ≡ layer
     → type_on column (plane_of raw s) ≡ s → type_on column (plane_of raw t) ≡ t
 
+-- what passes for a whole list passes for each thing in it
 pub list_all_In : {X : Type 0} (p : X → Bool) (xs : List X) (x : X) → list_all p xs ≡ true → In x xs → p x ≡ true
 list_all_In p [] x all none = absurd none
 list_all_In p (y ∷ ys) x all (inl same) = ap p (sym same) ∙ (and_parts (p y) (list_all p ys) all).0
@@ -188,6 +189,7 @@ marks_from raw column w is (suc n) below =
       ]),
     )
 
+-- after each contact was looked at all contacts stand whole
 pub marks_kept-whole : (raw : RawTech) (column : List TypeId) → IsWellFormed raw → IsColumn raw column → IsColumn raw (marks_kept raw column) × HasWholeContacts raw (marks_kept raw column)
 unfolding keep
 marks_kept-whole raw column w is =

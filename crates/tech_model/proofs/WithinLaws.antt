@@ -14,6 +14,7 @@ use Rattle.tech_model.proofs.WellFormedLaws.{type_bounds, All_In, layer_well_for
 use Rattle.tech_model.proofs.TypeLaws.{connects_types, connects_self, within_self, within_part, within_cases}
 use Rattle.tech_model.proofs.SetLaws.{proper_trans, proper_one_way}
 
+-- what is within what is within a type is within that type
 pub within_trans : (raw : RawTech) → IsMonotone raw → (s t u : ℕ) → IsTrue (is_within raw s t) → IsTrue (is_within raw t u) → IsTrue (is_within raw s u)
 within_trans raw law s t u st tu = elim (within_cases raw s t st) [
   | inl same ↦ subst (λ (n : ℕ). IsTrue (is_within raw n u)) (sym same) tu
@@ -25,6 +26,7 @@ within_trans raw law s t u st tu = elim (within_cases raw s t st) [
   ]
 ]
 
+-- two types that are within each other are one
 pub within_antisym : (raw : RawTech) (s t : ℕ) → IsTrue (is_within raw s t) → IsTrue (is_within raw t s) → s ≡ t
 within_antisym raw s t st ts = elim (within_cases raw s t st) [
   | inl same ↦ same
@@ -37,12 +39,14 @@ within_antisym raw s t st ts = elim (within_cases raw s t st) [
 space_no_type : (raw : RawTech) → IsTrue (is_type raw 0) → ⊥
 space_no_type raw is = let low : ◌≤◌ 1 0 = (type_bounds raw 0 is).0 in omega arith
 
+-- space is within space alone
 pub space_within : (raw : RawTech) (t : ℕ) → IsTrue (is_within raw 0 t) → t ≡ 0
 space_within raw t is = elim (within_cases raw 0 t is) [
   | inl same ↦ sym same
   | inr part ↦ absurd (space_no_type raw (connects_types raw 0 t part.1).0)
 ]
 
+-- nothing but space is within space
 pub within_space : (raw : RawTech) (t : ℕ) → IsTrue (is_within raw t 0) → t ≡ 0
 within_space raw t is = elim (within_cases raw t 0 is) [
   | inl same ↦ same

@@ -1,6 +1,6 @@
 use Rattle.std.proofs.Common.{arith}
 use Rattle.std.proofs.lemmas.Int.{ints}
-use Rattle.rows.proofs.painting.is_sound.Goals as goal
+use Rattle.technology_tests.proofs.painting.is_sound.Goals as goal
 
 pub returns-then-area-limit-clause-near : goal.returns-then-area-limit-clause-near
 returns-then-area-limit-clause-near c = λ t. record {
