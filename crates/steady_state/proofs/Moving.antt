@@ -1,7 +1,7 @@
 -- From one step to the next.
 use Rattle.std.proofs.Common.{◌≡◌, ◌≢◌, ℕ, add-one, ◌+◌, ◌<◌, ◌≤◌, List, Bool, false, inl, inr, refl, sym, ap, subst, arith, length}
 use Rattle.std.proofs.Common.{slice_index, slice_index_or, ◌∙◌, take, get_or-take, length-take}
-use Rattle.std.proofs.lemmas.Bool.{cases_eq, cases_lt, cases_Bool}
+use Rattle.std.proofs.lemmas.Bool.{cases_eq, cases_Bool}
 use Rattle.std.proofs.lemmas.List.{get_or_default, same_lists, length-take-le}
 use Rattle.switch_net.specs.declared.node_set.NodeSet.{NodeSet}
 use Rattle.switch_net.specs.declared.switches.Level.{Level}

@@ -1,6 +1,5 @@
-use Rattle.std.proofs.Common.{◌≡◌, ◌-◌, arith, slice_index, slice_index_or}
+use Rattle.std.proofs.Common.{arith, slice_index_or}
 use Rattle.switch_net.specs.declared.terminals.Side.TheVariants.{Left}
-use Rattle.switch_net.specs.Terminals.{near_end}
 use Rattle.steady_state.specs.Wired.{network_in}
 use Rattle.steady_state.proofs.UnderWay.{total-le, take, finish, relaxed_up}
 use Rattle.steady_state.proofs.spreading.drain.Goals as goal

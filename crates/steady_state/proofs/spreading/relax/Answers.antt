@@ -1,4 +1,4 @@
-use Rattle.std.proofs.Common.{◌<◌, ◌∷◌, [], arith}
+use Rattle.std.proofs.Common.{◌∷◌, [], arith}
 use Rattle.switch_net.specs.Terminals.{near_end}
 use Rattle.steady_state.specs.Wired.{network_in}
 use Rattle.steady_state.proofs.UnderWay.{rise_by_lift, raised_more, far_below}
