@@ -1,8 +1,6 @@
 pub mod UnderWay
 pub mod Within
 pub mod Passes
-pub mod Chaining
 pub mod Collecting
 pub mod Moving
 pub mod Wires
-pub mod Lent

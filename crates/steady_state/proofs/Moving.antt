@@ -1,7 +1,9 @@
 -- From one step to the next.
-use Rattle.std.proofs.Common.{◌≡◌, ◌≢◌, ℕ, add-one, ◌+◌, ◌<◌, ◌≤◌, List, Bool, false, inl, inr, refl, sym, subst, arith, length, slice_index, slice_index_or, ◌∙◌, take, get_or-take, length-take}
-use Rattle.std.proofs.lemmas.Bool.{cases_eq, cases_lt, cases_Bool}
-use Rattle.std.proofs.lemmas.List.{get_or_default, same_lists}
+use Rattle.std.proofs.Common.{◌≡◌, ◌≢◌, ℕ, add-one, ◌+◌, ◌<◌, ◌≤◌, List, Bool, false, inl, inr, refl, sym, ap, subst, arith, length}
+use Rattle.std.proofs.Common.{slice_index, slice_index_or, ◌∙◌, take, get_or-take, length-take}
+use Rattle.std.proofs.lemmas.Bool.{cases_eq, cases_Bool}
+use Rattle.std.proofs.lemmas.List.{get_or_default, same_lists, length-take-le}
+use Rattle.switch_net.specs.declared.node_set.NodeSet.{NodeSet}
 use Rattle.switch_net.specs.declared.switches.Level.{Level}
 use Rattle.switch_net.specs.declared.switches.Level.TheVariants.{X}
 use Rattle.switch_net.specs.declared.switches.Switch.{Switch}
@@ -11,28 +13,20 @@ use Rattle.switch_net.specs.Phase.{Steps}
 use Rattle.switch_net.specs.Steady.{IsStep, IsSteadyValue}
 use Rattle.switch_net.specs.Vicinity.{IsStorage, IsChain}
 use Rattle.switch_net.proofs.Ranges.{level_cases}
-use Rattle.steady_state.specs.declared.ends.Terminal.TheVariants.{Gate}
-use Rattle.steady_state.specs.Ends.{IsChainedAt}
-use Rattle.steady_state.specs.Marked.{IsInside, IsAmong, IsGated, IsQuiet}
+use Rattle.switch_net.specs.Sets.{IsInside, IsAmong}
+use Rattle.steady_state.specs.Marked.{AreMarked, EndsInside, IsCovered, IsGated, IsQuiet}
+use Rattle.steady_state.specs.Parts.{IsPartOf}
+use Rattle.steady_state.specs.declared.part.Part.{Part}
+use Rattle.switch_net.specs.declared.terminals.Side.TheVariants.{Left, Right}
+use Rattle.switch_net.proofs.Listing.{count-le, known}
 use Rattle.switch_net.proofs.Vicinities.{keeps_value, chain_from, in_self}
 
-pub gated_first : (net : Network) (first next : List ℕ) (inside : List Bool) (v : ℕ) → IsChainedAt net.switches Gate first next → IsGated net inside v (slice_index first v)
-gated_first net first next inside v t k d from lt e = let c = rw e at (t.first_covers k d lt) in absurd (omega arith)
+-- more marks leave the ends of a switch marked
+pub ends_grown : (net : Network) (inside new : List Bool) (w : Switch) → ((u : ℕ) → IsInside inside u → IsInside new u) → EndsInside net inside w → EndsInside net new w
+ends_grown net inside new w grown ends = (λ st. grown w.left (ends.0 st), λ st. grown w.right (ends.1 st))
 
-pub gated_grown : (net : Network) (inside new : List Bool) (v from : ℕ) → ((u : ℕ) → IsInside inside u → IsInside new u) → IsGated net inside v from → IsGated net new v from
-gated_grown net inside new v from grown g k d le lt e = let r = g k d le lt e in (λ st. grown (slice_index_or net.switches k d).left (r.0 st), λ st. grown (slice_index_or net.switches k d).right (r.1 st))
-
-pub gated_next : (net : Network) (first next : List ℕ) (inside new : List Bool) (v place cursor : ℕ) (e : Switch) → IsChainedAt net.switches Gate first next → place < length net.switches → (slice_index_or net.switches place e).gate ≡ v → cursor ≡ place + 1 →
-    ((u : ℕ) → IsInside inside u → IsInside new u) → (IsStorage net (slice_index_or net.switches place e).left → IsInside new (slice_index_or net.switches place e).left) →
-    (IsStorage net (slice_index_or net.switches place e).right → IsInside new (slice_index_or net.switches place e).right) → IsGated net inside v cursor → IsGated net new v (slice_index next place)
-gated_next net first next inside new v place cursor e t in_place gate at grown l r old k d from lt gate_k = elim (cases_eq k place) [
-  | inl same ↦ (let f : slice_index_or net.switches k d ≡ slice_index_or net.switches place e = rw (same, get_or_default net.switches place d e in_place) refl in rw f (l, r))
-  | inr other ↦ elim (cases_lt k place) [
-    | inl below ↦ (let same_gate : (slice_index_or net.switches k d).gate ≡ (slice_index_or net.switches place d).gate = gate_k ∙ sym (rw (get_or_default net.switches place d e in_place) gate) in
-        let c = t.next_covers k place d below in_place same_gate in absurd (omega arith))
-    | inr above ↦ gated_grown net inside new v cursor grown old k d (omega arith) lt gate_k
-  ]
-]
+pub gated_grown : (net : Network) (inside new : List Bool) (v : ℕ) → ((u : ℕ) → IsInside inside u → IsInside new u) → IsGated net inside v → IsGated net new v
+gated_grown net inside new v grown g k d lt e = ends_grown net inside new (slice_index_or net.switches k d) grown (g k d lt e)
 
 pub below_one : (P : ℕ → Type 0) (n : ℕ) → ((i : ℕ) → i < n → P i) → P n → (i : ℕ) → i < n + 1 → P i
 below_one P n old here i lt = elim (cases_eq i n) [ inl e ↦ subst P (sym e) here | inr ne ↦ old i (omega arith) ]
@@ -61,13 +55,13 @@ part_steps net s t before inside sound len quiet grown closed storage steady kep
 
 -- after a step, the rest of the marked nodes is quiet
 pub quiet_next : (net : Network) (s t : List Level) (inside : List Bool) → IsSound net → IsStep net s t → ((v : ℕ) → state_of s v ≢ state_of t v → IsStorage net v → IsInside inside v) →
-    ((v : ℕ) → state_of s v ≢ state_of t v → IsGated net inside v 0) → IsQuiet net t inside
+    ((v : ℕ) → state_of s v ≢ state_of t v → IsGated net inside v) → IsQuiet net t inside
 quiet_next net s t inside sound step changed gated v st outside =
     keeps_value net sound s t step (λ u. IsStorage net u → IsInside inside u)
     (record {
       changed = changed;
-      left = λ w c ne. (let r = gated w.gate ne c.0 w (omega arith) c.1 (rw c.2 refl) in rw c.2 at r.0);
-      right = λ w c ne. (let r = gated w.gate ne c.0 w (omega arith) c.1 (rw c.2 refl) in rw c.2 at r.1);
+      left = λ w c ne. (let r = gated w.gate ne c.0 w c.1 (rw c.2 refl) in rw c.2 at r.0);
+      right = λ w c ne. (let r = gated w.gate ne c.0 w c.1 (rw c.2 refl) in rw c.2 at r.1);
     })
     v st (λ n sd i. outside n (sd (chain_from net t n i.chain i.is_chain)) i)
 
@@ -79,6 +73,29 @@ below_take xs n m le h k d lt =
     let lt' : k < n = omega (arith, simp length-take at lt) in
     let in_xs : k < length xs = omega arith in
     rw (get_or-take n xs k d lt', get_or_default xs k d 0 in_xs) (h k lt')
+
+-- marked nodes that are closed make a part of the network
+pub part_of : (net : Network) (marks : NodeSet) (part : Part) → length part.state.now ≡ net.nodes → part.inside.now ≡ marks.inside → part.order.now ≡ take marks.count marks.order → AreMarked net marks →
+    ((v : ℕ) → IsInside marks.inside v → IsCovered net part.state.now Left marks.inside v) → ((v : ℕ) → IsInside marks.inside v → IsCovered net part.state.now Right marks.inside v) → IsPartOf net part
+part_of net marks part len is_inside is_order k left right = record {
+  state = len;
+  inside = ap length is_inside ∙ k.fits;
+  few = omega (arith, ap length is_order, taken, below, k.fits);
+  listed = λ i lt. let lt' : i < marks.count = omega (arith, ap length is_order, taken) in
+      rw (is_inside, is_order, get_or-take marks.count marks.order i 0 lt') (marks.listed.listed i lt');
+  known = rw (is_inside, is_order) (λ v ins. waiting_take marks.order marks.count v in_order (known marks.inside marks.order marks.count v marks.listed ins));
+  covered_left = rw is_inside left;
+  covered_right = rw is_inside right;
+}
+  where
+    below : marks.count ≤ length marks.inside
+    below = count-le marks.inside marks.order marks.count marks.listed
+
+    in_order : marks.count ≤ length marks.order
+    in_order = omega (arith, below, marks.listed.room)
+
+    taken : length (take marks.count marks.order) ≡ marks.count
+    taken = length-take-le marks.count marks.order in_order
 
 -- each node that changed is listed
 pub all_changed : (s t : List Level) (inside : List Bool) (order changed : List ℕ) (part moved : ℕ) → part ≤ length order → ((v : ℕ) → IsInside inside v → IsAmong order part v) →

@@ -11,32 +11,34 @@ use Rattle.steady_state.specs.declared.kinds.PathKind.TheVariants.{Definite, Fro
 use Rattle.steady_state.specs.Strongest.{IsStrongestDefinite}
 use Rattle.steady_state.specs.Levels.{IsLevelOf}
 use Rattle.switch_net.proofs.Ranges.{level_cases, root_strength-pos, strength-pos, ends_in_range}
-use Rattle.steady_state.specs.declared.ends.Side.{Side}
-use Rattle.steady_state.specs.declared.ends.Side.TheVariants.{Left, Right}
+use Rattle.switch_net.specs.declared.terminals.Side.{Side}
+use Rattle.switch_net.specs.declared.terminals.Side.TheVariants.{Left, Right}
 use Rattle.switch_net.specs.Network.{Network, IsSound}
 use Rattle.switch_net.specs.Path.{Joins, switch_strength, root_strength, is_input, end_of, strength, state_of, is_closed_or_unknown}
 use Rattle.switch_net.specs.Steady.{AllRootsAre, IsSteadyValue}
 use Rattle.steady_state.specs.Kinds.{goes_through, BeginsAt, IsFloor, IsStrongestOfKind}
-use Rattle.steady_state.specs.Ends.{near_end}
-use Rattle.steady_state.specs.Marked.{IsAmong, IsInside, IsCovered}
-use Rattle.steady_state.specs.Spreading.{IsRelaxed, of_side, IsWorking, IsFirstStrength, IsFilled}
+use Rattle.switch_net.specs.Terminals.{near_end}
+use Rattle.switch_net.specs.Sets.{IsAmong, IsInside}
+use Rattle.steady_state.specs.Marked.{IsCovered}
+use Rattle.steady_state.specs.Spreading.{IsRelaxed, IsWorking, IsFirstStrength, IsFilled}
 use Rattle.switch_net.specs.Vicinity.{IsStorage}
 use Rattle.steady_state.specs.declared.part.Part.{Part}
 use Rattle.steady_state.specs.declared.part.Pass.{Pass}
 use Rattle.steady_state.specs.Parts.{IsPartOf, IsPassOver}
-use Rattle.steady_state.proofs.Within.{IsSpread, bound, inside_range}
+use Rattle.switch_net.proofs.Listing.{inside_range}
+use Rattle.steady_state.proofs.Within.{IsSpread, bound}
 
 module _ (net : Network) (s : List Level) (kind : PathKind) (inside : List Bool) (floor order : List ℕ) (known : (v : ℕ) → IsInside inside v → IsAmong order (length order) v) where
   -- what has begun is under way
-  pub filled_working : (best stack : List ℕ) (waiting : ℕ) → IsFilled net s kind inside floor order (length order) best stack waiting → IsWorking net s kind inside floor best stack waiting 0 0 0
-  filled_working best stack waiting x = record {
+  pub filled_working : (best : List ℕ) (waiting : List Bool) → IsFilled net s kind inside floor order (length order) best waiting → IsWorking net s kind inside floor best waiting []
+  filled_working best waiting x = record {
     attained = λ a ins pos. let q = known a ins in let at = q.2 in let p : 0 < slice_index best (slice_index order q.0) = rw at pos in rw at at ((x.begun q.0 q.1).attained p);
     low = x.low;
-    stacked = x.stacked;
+    waits = x.inner;
     settled = λ side k d lt ins. inr (go side (slice_index_or net.switches k d) ins);
   }
     where
-      go : (side : Side) (w : Switch) → IsInside inside (near_end side w) → IsAmong stack waiting (near_end side w) ⊎ IsRelaxed s kind inside floor best side w
+      go : (side : Side) (w : Switch) → IsInside inside (near_end side w) → IsInside waiting (near_end side w) ⊎ IsRelaxed s kind inside floor best side w
       go side w ins = elim (cases_lt 0 (slice_index best (near_end side w))) [
         | inl pos ↦ (let q = known (near_end side w) ins in let at = q.2 in
             let p : 0 < slice_index best (slice_index order q.0) = rw at pos in inl (rw at at (x.waits q.0 q.1 p)))
@@ -44,10 +46,10 @@ module _ (net : Network) (s : List Level) (kind : PathKind) (inside : List Bool)
       ]
 
   -- with none waiting, nothing more is brought
-  pub done : (start best stack stack' : List ℕ) (waiting : ℕ) → IsSound net → IsFilled net s kind inside floor order (length order) start stack' waiting → ((v : ℕ) → slice_index start v ≤ slice_index best v) →
-      ((v : ℕ) → IsInside inside v → IsFloor net s kind v (slice_index floor v)) → ((v : ℕ) → IsInside inside v → IsCovered net s Left inside v 0) → ((v : ℕ) → IsInside inside v → IsCovered net s Right inside v 0) →
-      IsWorking net s kind inside floor best stack 0 0 0 0 → IsSpread net s kind inside floor best
-  done start best stack stack' waiting sound x above floors left right k = record {
+  pub done : (start best : List ℕ) (waiting idle : List Bool) → IsSound net → IsFilled net s kind inside floor order (length order) start waiting → ((v : ℕ) → slice_index start v ≤ slice_index best v) →
+      ((v : ℕ) → IsInside inside v → IsFloor net s kind v (slice_index floor v)) → ((v : ℕ) → IsInside inside v → IsCovered net s Left inside v) → ((v : ℕ) → IsInside inside v → IsCovered net s Right inside v) →
+      IsWorking net s kind inside floor best idle [] → ((v : ℕ) → IsInside idle v → ⊥) → IsSpread net s kind inside floor best
+  done start best waiting idle sound x above floors left right k none = record {
     closed = λ w a b c j o ins. elim (cases_Bool (is_input net a)) [ inl e ↦ inr e | inr e ↦ inl (covers w a b c j o ins ((ends_in_range net sound w a b c j).0, e)) ];
     floors = floors;
     own = λ v ins adm fl. let r = (begun v ins).own adm fl in omega (arith, r, above v);
@@ -59,22 +61,18 @@ module _ (net : Network) (s : List Level) (kind : PathKind) (inside : List Bool)
       begun v ins = let q = known v ins in let at = q.2 in rw at at (x.begun q.0 q.1)
 
       covers : (w : Switch) (a b : ℕ) → Contains net.switches w → Joins w a b → is_closed_or_unknown s w ≡ true → IsInside inside b → IsStorage net a → IsInside inside a
-      covers w a b c (inl (p, q)) o ins st = let r = right b ins c.0 w (omega arith) c.1 (rw c.2 q) (rw c.2 o) in rw (c.2, p) at (r (rw (c.2, p) st))
-      covers w a b c (inr (p, q)) o ins st = let r = left b ins c.0 w (omega arith) c.1 (rw c.2 q) (rw c.2 o) in rw (c.2, p) at (r (rw (c.2, p) st))
+      covers w a b c (inl (p, q)) o ins st = let r = right b ins c.0 w c.1 (rw c.2 q) (rw c.2 o) in rw (c.2, p) at (r (rw (c.2, p) st))
+      covers w a b c (inr (p, q)) o ins st = let r = left b ins c.0 w c.1 (rw c.2 q) (rw c.2 o) in rw (c.2, p) at (r (rw (c.2, p) st))
 
       pulls : (w : Switch) (a b : ℕ) → Contains net.switches w → Joins w a b → goes_through s kind w ≡ true → is_input net a ≡ true → BeginsAt s kind a → IsInside inside b → slice_index floor b ≤ switch_strength w.kind → switch_strength w.kind ≤ slice_index start b
-      pulls w a b c (inl (p, q)) go inp adm ins le = let r = (begun b ins).right c.0 w (omega arith) c.1 (rw c.2 q) (rw c.2 go) (rw (c.2, p) inp) (rw (c.2, p) adm) (rw c.2 le) in rw c.2 at r
-      pulls w a b c (inr (p, q)) go inp adm ins le = let r = (begun b ins).left c.0 w (omega arith) c.1 (rw c.2 q) (rw c.2 go) (rw (c.2, p) inp) (rw (c.2, p) adm) (rw c.2 le) in rw c.2 at r
+      pulls w a b c (inl (p, q)) go inp adm ins le = let r = (begun b ins).right c.0 w c.1 (rw c.2 q) (rw c.2 go) (rw (c.2, p) inp) (rw (c.2, p) adm) (rw (c.2, q) le) in rw c.2 at r
+      pulls w a b c (inr (p, q)) go inp adm ins le = let r = (begun b ins).left c.0 w c.1 (rw c.2 q) (rw c.2 go) (rw (c.2, p) inp) (rw (c.2, p) adm) (rw (c.2, q) le) in rw c.2 at r
 
       settled_at : (side : Side) (w : Switch) → Contains net.switches w → IsInside inside (near_end side w) → IsRelaxed s kind inside floor best side w
       settled_at side w c ins = elim (k.settled side c.0 w c.1 (rw c.2 ins)) [
-        | inl e ↦ absurd (nothing side c.0 e.1)
-        | inr y ↦ elim y [ inl q ↦ absurd (omega (arith, q.1)) | inr rel ↦ rw c.2 at rel ]
+        | inl busy ↦ absurd busy
+        | inr y ↦ elim y [ inl q ↦ absurd (none (near_end side w) (rw c.2 at q)) | inr rel ↦ rw c.2 at rel ]
       ]
-        where
-          nothing : (side : Side) (k : ℕ) → k < of_side side 0 0 → ⊥
-          nothing Left k lt = omega arith
-          nothing Right k lt = omega arith
 
       relaxes : (w : Switch) (a b : ℕ) → Contains net.switches w → Joins w a b → goes_through s kind w ≡ true → IsInside inside a → IsInside inside b → slice_index floor b ≤ min (slice_index best a) (switch_strength w.kind) →
           min (slice_index best a) (switch_strength w.kind) ≤ slice_index best b
@@ -82,8 +80,8 @@ module _ (net : Network) (s : List Level) (kind : PathKind) (inside : List Bool)
       relaxes w a b c (inr (p, q)) go in_a in_b le = let r = settled_at Right w c (rw p in_a) go (rw q in_b) (rw (p, q) le) in rw (p, q) at r
 
   -- so each entry is the strongest
-  pub strongest_of : (best stack : List ℕ) → IsSound net → IsSpread net s kind inside floor best → IsWorking net s kind inside floor best stack 0 0 0 0 → (v : ℕ) → IsInside inside v → IsStrongestOfKind net s kind v (slice_index best v)
-  strongest_of best stack sound x k v ins = record {
+  pub strongest_of : (best : List ℕ) (idle : List Bool) → IsSound net → IsSpread net s kind inside floor best → IsWorking net s kind inside floor best idle [] → (v : ℕ) → IsInside inside v → IsStrongestOfKind net s kind v (slice_index best v)
+  strongest_of best idle sound x k v ins = record {
     attained = λ pos. k.attained v ins pos;
     bound = λ j p. let at = p.ends in let b = bound net s sound kind inside floor best x p.root p.path p.of_kind (rw at ins) in
         let f : slice_index best (end_of p.root p.path) ≡ slice_index best v = ap (slice_index best) at in omega (arith, b, f, p.is_strength);

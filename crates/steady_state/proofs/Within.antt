@@ -1,26 +1,24 @@
 -- When no arc brings more, each entry of the part is the greatest strength of a path of the kind.
-use Rattle.std.proofs.Common.{◌≡◌, ◌≢◌, ℕ, ◌+◌, ◌<◌, ◌≤◌, List, [], ◌∷◌, Bool, true, false, ◌⊎◌, inl, inr, min, refl, sym, ap, subst, arith, length, slice_index, slice_index_or, slice_set, get_or-set_same, get_or-set_other, ◌∙◌}
+use Rattle.std.proofs.Common.{◌≡◌, ◌≢◌, ℕ, ◌+◌, ◌<◌, ◌≤◌, List, [], ◌∷◌, Bool, true, ◌⊎◌, inl, inr, min, refl, ap, subst, arith, length}
+use Rattle.std.proofs.Common.{slice_index, slice_index_or, slice_set, get_or-set_same, get_or-set_other}
 use Rattle.std.specs.Prelude.{Contains}
-use Rattle.std.proofs.lemmas.Bool.{cases_lt, cases_eq}
-use Rattle.std.proofs.lemmas.List.{get_or_default}
-use Rattle.std.proofs.Math.ListN.{get_or-eq_default}
+use Rattle.std.proofs.lemmas.Bool.{cases_eq}
 use Rattle.switch_net.specs.declared.switches.Level.{Level}
 use Rattle.switch_net.specs.declared.switches.Switch.{Switch}
 use Rattle.steady_state.specs.declared.kinds.PathKind.{PathKind}
 use Rattle.steady_state.specs.declared.kinds.PathKind.TheVariants.{Definite, FromOther}
-use Rattle.steady_state.specs.declared.ends.Side.{Side}
-use Rattle.steady_state.specs.declared.ends.Side.TheVariants.{Left, Right}
+use Rattle.switch_net.specs.declared.terminals.Side.{Side}
+use Rattle.switch_net.specs.declared.terminals.Side.TheVariants.{Left, Right}
 use Rattle.switch_net.specs.Network.{Network, IsSound}
 use Rattle.switch_net.specs.Path.{Hop, Joins, IsBlocked, strength, switch_strength, root_strength, is_input, end_of, is_closed_or_unknown}
 use Rattle.steady_state.specs.Strongest.{IsStrongestDefinite}
 use Rattle.steady_state.specs.Kinds.{IsOfKind, goes_through, BeginsAt, IsFloor, HasPath}
-use Rattle.steady_state.specs.Marked.{IsInside, IsAmong}
-use Rattle.steady_state.specs.Ends.{near_end, far_end, IsChainedAt}
-use Rattle.steady_state.specs.Spreading.{IsPulled, IsFirstStrength, IsFilled}
+use Rattle.switch_net.specs.Sets.{IsInside}
+use Rattle.switch_net.specs.Terminals.{near_end, far_end}
+use Rattle.steady_state.specs.Spreading.{BringsAtMost, IsPulled, IsFirstStrength, IsFilled}
 use Rattle.switch_net.proofs.Paths.{NotOvercome, drop_not_overcome, drop_unblocked, unblocked-root}
 use Rattle.steady_state.proofs.UnderWay.{extend}
 use Rattle.switch_net.proofs.Ranges.{switch_strength-le, at_input, end_in_range, input_stands}
-use Rattle.steady_state.specs.declared.ends.Terminal.TheVariants.{End}
 
 module _ (net : Network) (s : List Level) (sound : IsSound net) where
   -- an unblocked path is at least as strong as the strongest definite path to its end
@@ -77,24 +75,9 @@ pub joins_back : (side : Side) (w : Switch) → Joins w (far_end side w) (near_e
 joins_back Left w = inr (refl, refl)
 joins_back Right w = inl (refl, refl)
 
-pub pulled_first : (net : Network) (s : List Level) (kind : PathKind) (floor : List ℕ) (side : Side) (first next : List ℕ) (v best : ℕ) → IsChainedAt net.switches (End side) first next → IsPulled net s kind floor side v (slice_index first v) best
-pulled_first net s kind floor side first next v best t k d from lt near go inp adm le = let c = rw near at (t.first_covers k d lt) in absurd (omega arith)
-
--- the arc at a place is gone by
-pub pulled_next : (net : Network) (s : List Level) (kind : PathKind) (floor : List ℕ) (side : Side) (first next : List ℕ) (v place cursor best new : ℕ) (e : Switch) → IsChainedAt net.switches (End side) first next → place < length net.switches →
-    near_end side (slice_index_or net.switches place e) ≡ v → cursor ≡ place + 1 → best ≤ new →
-    (goes_through s kind (slice_index_or net.switches place e) ≡ true → is_input net (far_end side (slice_index_or net.switches place e)) ≡ true → BeginsAt s kind (far_end side (slice_index_or net.switches place e)) →
-    slice_index floor (near_end side (slice_index_or net.switches place e)) ≤ switch_strength (slice_index_or net.switches place e).kind → switch_strength (slice_index_or net.switches place e).kind ≤ new) →
-    IsPulled net s kind floor side v cursor best → IsPulled net s kind floor side v (slice_index next place) new
-pulled_next net s kind floor side first next v place cursor best new e t in_place near at more here old k d from lt near_k go inp adm le = elim (cases_eq k place) [
-  | inl same ↦ (let f : slice_index_or net.switches k d ≡ slice_index_or net.switches place e = rw (same, get_or_default net.switches place d e in_place) refl in
-      let go' = rw f at go in let inp' = rw f at inp in let adm' = rw f at adm in let le' = rw (f, ← near) at le in rw f (here go' inp' adm' le'))
-  | inr other ↦ elim (cases_lt k place) [
-    | inl below ↦ (let same_near : near_end side (slice_index_or net.switches k d) ≡ near_end side (slice_index_or net.switches place d) = near_k ∙ sym (rw (get_or_default net.switches place d e in_place) near) in
-        let c = t.next_covers k place d below in_place same_near in absurd (omega arith))
-    | inr above ↦ (let r = old k d (omega arith) lt near_k go inp adm le in omega (arith, r))
-  ]
-]
+-- what inputs bring at most they bring at most where that is more
+pub brings_up : (net : Network) (s : List Level) (kind : PathKind) (floor : List ℕ) (side : Side) (best new : ℕ) (w : Switch) → best ≤ new → BringsAtMost net s kind floor side best w → BringsAtMost net s kind floor side new w
+brings_up net s kind floor side best new w more x go inp adm le = let r = x go inp adm le in omega (arith, r)
 
 -- a node by itself
 pub by_itself : (net : Network) (s : List Level) (kind : PathKind) (v f : ℕ) → v < net.nodes → BeginsAt s kind v → IsFloor net s kind v f → f ≤ root_strength net v → HasPath net s kind v (root_strength net v)
@@ -103,11 +86,11 @@ by_itself net s Definite v f lt adm fl le = record { root = v; path = []; of_kin
 by_itself net s (FromOther kept) v f lt adm fl le = record { root = v; path = []; of_kind = (lt, unblocked-root net s v (λ k d. omega (arith, fl.bound k d)), adm); ends = refl; is_strength = refl }
 
 -- one node more has begun
-pub filled_more : (net : Network) (s : List Level) (kind : PathKind) (inside : List Bool) (floor order : List ℕ) (n : ℕ) (best stack after : List ℕ) (waiting result b : ℕ) → IsFilled net s kind inside floor order n best stack waiting →
-    slice_index order n < length best → IsInside inside (slice_index order n) → IsFirstStrength net s kind floor (slice_index order n) b →
-    ((i : ℕ) → i < result → ((i < waiting) × (slice_index after i ≡ slice_index stack i)) ⊎ (slice_index after i ≡ slice_index order n)) → ((v : ℕ) → IsAmong stack waiting v → IsAmong after result v) →
-    (0 < b → IsAmong after result (slice_index order n)) → IsFilled net s kind inside floor order (n + 1) (slice_set best (slice_index order n) b) after result
-filled_more net s kind inside floor order n best stack after waiting result b x in_best ins bg stacked kept waits = record {
+pub filled_more : (net : Network) (s : List Level) (kind : PathKind) (inside : List Bool) (floor order : List ℕ) (n : ℕ) (best : List ℕ) (waiting new : List Bool) (b : ℕ) →
+    IsFilled net s kind inside floor order n best waiting → slice_index order n < length best → IsInside inside (slice_index order n) → IsFirstStrength net s kind floor (slice_index order n) b →
+    ((v : ℕ) → IsInside waiting v → IsInside new v) → ((v : ℕ) → IsInside new v → IsInside waiting v ⊎ (v ≡ slice_index order n)) →
+    (0 < b → IsInside new (slice_index order n)) → IsFilled net s kind inside floor order (n + 1) (slice_set best (slice_index order n) b) new
+filled_more net s kind inside floor order n best waiting new b x in_best ins bg kept others waits = record {
   begun = λ i lt. elim (cases_eq (slice_index order i) v) [
     | inl same ↦ rw (same, get_or-set_same best v b 0 in_best) bg
     | inr other ↦ rw (get_or-set_other best v (slice_index order i) b 0 other) (x.begun i (before i lt other))
@@ -116,7 +99,7 @@ filled_more net s kind inside floor order n best stack after waiting result b x 
     | inl same ↦ rw (same, get_or-set_same best v b 0 in_best) waits
     | inr other ↦ rw (get_or-set_other best v (slice_index order i) b 0 other) (λ pos. kept (slice_index order i) (x.waits i (before i lt other) pos))
   ];
-  stacked = λ i lt. elim (stacked i lt) [ inl old ↦ rw old.1 (x.stacked i old.0) | inr new ↦ rw new ins ];
+  inner = λ u now. elim (others u now) [ inl old ↦ x.inner u old | inr is ↦ rw is ins ];
   low = λ u. elim (cases_eq u v) [
     | inl same ↦ rw (same, get_or-set_same best v b 0 in_best) bg.low
     | inr other ↦ rw (get_or-set_other best v u b 0 other) (x.low u)
@@ -129,14 +112,9 @@ filled_more net s kind inside floor order n best stack after waiting result b x 
     before : (i : ℕ) → i < n + 1 → slice_index order i ≢ slice_index order n → i < n
     before i lt ne = elim (cases_eq i n) [ inl e ↦ absurd (ne (ap (slice_index order) e)) | inr other ↦ omega arith ]
 
-pub none_filled : (net : Network) (s : List Level) (kind : PathKind) (inside : List Bool) (floor order best stack : List ℕ) → ((v : ℕ) → slice_index best v ≤ 6) → IsFilled net s kind inside floor order 0 best stack 0
-none_filled net s kind inside floor order best stack low = record { begun = λ i lt. absurd (omega arith); waits = λ i lt. absurd (omega arith); stacked = λ i lt. absurd (omega arith); low = low }
+pub none_filled : (net : Network) (s : List Level) (kind : PathKind) (inside : List Bool) (floor order best : List ℕ) (waiting : List Bool) → ((v : ℕ) → slice_index best v ≤ 6) →
+    ((v : ℕ) → IsInside waiting v → ⊥) → IsFilled net s kind inside floor order 0 best waiting
+none_filled net s kind inside floor order best waiting low none = record { begun = λ i lt. absurd (omega arith); waits = λ i lt. absurd (omega arith); inner = λ v ins. absurd (none v ins); low = low }
 
-pub pulled_up : (net : Network) (s : List Level) (kind : PathKind) (floor : List ℕ) (side : Side) (v best new : ℕ) → best ≤ new → IsPulled net s kind floor side v 0 best → IsPulled net s kind floor side v 0 new
-pulled_up net s kind floor side v best new more x k d from lt near go inp adm le = let r = x k d from lt near go inp adm le in omega (arith, r)
-
-pub inside_range : (inside : List Bool) (v : ℕ) → IsInside inside v → v < length inside
-inside_range inside v e = elim (cases_lt v (length inside)) [
-  | inl lt ↦ lt
-  | inr ge ↦ (let f : slice_index_or inside v false ≡ false = get_or-eq_default inside false ge in absurd (cc))
-]
+pub pulled_up : (net : Network) (s : List Level) (kind : PathKind) (floor : List ℕ) (side : Side) (v best new : ℕ) → best ≤ new → IsPulled net s kind floor side v best → IsPulled net s kind floor side v new
+pulled_up net s kind floor side v best new more x k d lt near = brings_up net s kind floor side best new (slice_index_or net.switches k d) more (x k d lt near)

@@ -7,7 +7,7 @@ use Rattle.switch_net.specs.Arrays.{AreStrengthsFor}
 use Rattle.switch_net.specs.Network.{Network}
 use Rattle.switch_net.specs.Path.{state_of}
 use Rattle.switch_net.specs.Steady.{IsSteadyValue}
-use Rattle.steady_state.specs.Marked.{IsInside}
+use Rattle.switch_net.specs.Sets.{IsInside}
 
 -- the level where p is the greatest strength of unblocked paths from roots other than one, and q from roots other than zero
 abbrev pub IsLevelOf : ℕ → ℕ → Level → Type 0
@@ -24,12 +24,13 @@ pub record IsWritten (inside : List Bool) (ps qs order : List ℕ) (n : ℕ) (ol
 abbrev pub AreLow : List ℕ → Type 0
 AreLow strengths = (v : ℕ) → slice_index strengths v ≤ 6
 
--- strengths for so many nodes, none above the greatest
+-- strengths for so many nodes, none above the greatest, and no node that waits
 pub record AreLowStrengths (nodes : ℕ) (strengths : Strengths) : Type 0 where
   pub fits : AreStrengthsFor nodes strengths
   pub definite : AreLow strengths.definite
   pub other_than_one : AreLow strengths.other_than_one
   pub other_than_zero : AreLow strengths.other_than_zero
+  pub idle : strengths.waiting.count ≡ 0
 
 -- the nodes of the part have their steady values, by these states
 abbrev pub AreSteady : Network → List Level → List Bool → List Level → Type 0

@@ -1,4 +1,3 @@
-pub mod Ends
 pub mod Wired
 pub mod Strongest
 pub mod Kinds

@@ -1,23 +1,22 @@
 //! What nodes have by themselves and from inputs, and the strongest paths that spread from there.
 
-ghost use Rattle.std.specs.Prelude.{◌≡◌, ◌<◌, ◌≤◌, ◌+◌, ◌*◌, ◌⊎◌, ℕ, length, slice_index, true};
+ghost use Rattle.std.specs.Prelude.{◌≡◌, ◌<◌, ◌≤◌, ◌⊎◌, ℕ, length, slice_index, true};
 ghost use Rattle.switch_net.specs.Path.{is_input, switch_strength, root_strength};
-ghost use Rattle.steady_state.specs.Ends.{near_end, far_end};
+ghost use Rattle.switch_net.specs.Terminals.{near_end, far_end};
 ghost use Rattle.steady_state.specs.Levels.{AreLow};
 ghost use Rattle.steady_state.specs.Wired.{network_in, IsSwitchOf};
-ghost use Rattle.steady_state.specs.Marked.{IsAmong};
+ghost use Rattle.switch_net.specs.Sets.{IsInside};
 ghost use Rattle.steady_state.specs.Parts.{IsPassOver};
 ghost use Rattle.steady_state.specs.Passing.{IsOver, Finds, StrongestIs, GoesThrough};
 ghost use Rattle.steady_state.specs.Passing.{MayBeginAt, BeginsWith};
 ghost use Rattle.steady_state.specs.Passing.{HasBegun, InputsBringAtMost, floor_at};
 
-use crate::adjacent::{first, next, strength_at};
-use crate::ends::{Side, Terminal, far, near};
+use crate::adjacent::{strength_at, switches_at};
 use crate::kinds::{begins_at, passes, strength_of};
 use crate::part::Pass;
 use crate::spreading::drain;
 use crate::wiring::Wiring;
-use switch_net::Switch;
+use switch_net::{NodeSet, Side, Switch, Terminal};
 
 /// What a node of the part has by itself.
 fn alone(net: &Wiring<'_>, pass: &Pass<'_>, node: usize) -> u8
@@ -53,8 +52,8 @@ fn pull_one(net: &Wiring<'_>, pass: &Pass<'_>, side: Side, switch: &Switch, so_f
         → floor_at pass.now (near_end side switch.now) ≤ switch_strength switch.now.kind
         → switch_strength switch.now.kind ≤ result }
 {
-    let from = far(side, switch) as usize;
-    let at = near(side, switch) as usize;
+    let from = switch.far(side) as usize;
+    let at = switch.near(side) as usize;
     let strength = strength_of(switch.kind);
     if so_far < strength
         && pass.floor[at] <= strength
@@ -81,12 +80,10 @@ fn pull(net: &Wiring<'_>, pass: &Pass<'_>, side: Side, node: usize, before: u8) 
     ensures pulled { InputsBringAtMost (network_in net.now) pass.now side node result }
 {
     let mut best = before;
-    let mut cursor = first(net, Terminal::End(side), node);
-    'switches: while cursor > 0 {
-        let place = (cursor - 1) as usize;
-        let switch = net.switches[place];
+    let places = switches_at(net, Terminal::End(side), node);
+    'switches: for place in places {
+        let switch = net.switches[*place as usize];
         best = pull_one(net, pass, side, &switch, best);
-        cursor = next(net, Terminal::End(side), place);
     }
     best
 }
@@ -103,52 +100,55 @@ fn first_strength(net: &Wiring<'_>, pass: &Pass<'_>, node: usize) -> u8
 }
 
 /// Has a node wait where it has some strength.
-fn enqueue(stack: &mut [u32], waiting: usize, node: u32, strength: u8) -> usize
-    requires { waiting < length stack.old }
-    ensures stacked { (i : ℕ) → i < result
-        → ((i < waiting) × (slice_index stack.new i ≡ slice_index stack.old i))
-        ⊎ (slice_index stack.new i ≡ node) }
-    ensures kept { (v : ℕ) → IsAmong stack.old waiting v → IsAmong stack.new result v }
-    ensures waits { 0 < strength → IsAmong stack.new result node }
-    ensures few { result ≤ waiting + 1 }
+fn enqueue(waiting: &mut NodeSet, node: u32, strength: u8)
+    requires { node < length waiting.old.inside }
+    ensures fits { length waiting.new.inside ≡ length waiting.old.inside }
+    ensures kept { (v : ℕ) → IsInside waiting.old.inside v → IsInside waiting.new.inside v }
+    ensures others { (v : ℕ) → IsInside waiting.new.inside v
+        → IsInside waiting.old.inside v ⊎ (v ≡ node) }
+    ensures waits { 0 < strength → IsInside waiting.new.inside node }
 {
     if strength > 0 {
-        stack[waiting] = node;
-        waiting + 1
-    } else {
-        waiting
+        waiting.add(node);
     }
 }
 
-/// Gives each node of the part what it has by itself and from inputs, and says how many nodes wait.
-fn fill(net: &Wiring<'_>, pass: &Pass<'_>, best: &mut [u8], stack: &mut [u32]) -> usize
+/// Gives each node of the part what it has by itself and from inputs. Those that have some wait.
+fn fill(net: &Wiring<'_>, pass: &Pass<'_>, best: &mut [u8], waiting: &mut NodeSet)
     requires pass { IsPassOver (network_in net.now) pass.now }
     requires best { length best.old ≡ net.now.nodes }
     requires low { AreLow best.old }
-    requires room { net.now.nodes ≤ length stack.old }
-    ensures filled { HasBegun (network_in net.now) pass.now best.new stack.new result }
-    ensures few { result ≤ net.now.nodes }
+    requires fits { length waiting.old.inside ≡ net.now.nodes }
+    requires idle { waiting.old.count ≡ 0 }
+    ensures fits { length waiting.new.inside ≡ net.now.nodes }
+    ensures filled { HasBegun (network_in net.now) pass.now best.new waiting.new.inside }
 {
-    let mut waiting = 0;
-    for place in 0..pass.part.order.len() {
+    'nodes: for place in 0..pass.part.order.len() {
         let node = pass.part.order[place];
         let strength = first_strength(net, pass, node as usize);
         best[node as usize] = strength;
-        waiting = enqueue(stack, waiting, node, strength);
+        enqueue(waiting, node, strength);
     }
-    waiting
 }
 
 /// Finds the strongest paths of a pass to the nodes of the part.
-pub(crate) fn find_strongest(net: &Wiring<'_>, pass: &Pass<'_>, best: &mut [u8], stack: &mut [u32])
+pub(crate) fn find_strongest(
+    net: &Wiring<'_>,
+    pass: &Pass<'_>,
+    best: &mut [u8],
+    waiting: &mut NodeSet,
+)
     requires pass { IsPassOver (network_in net.now) pass.now }
     requires best { length best.old ≡ net.now.nodes }
     requires low { AreLow best.old }
-    requires room { net.now.nodes * 7 < length stack.old }
+    requires fits { length waiting.old.inside ≡ net.now.nodes }
+    requires idle { waiting.old.count ≡ 0 }
     ensures strongest { (v : ℕ) → IsOver pass.now v
         → StrongestIs (network_in net.now) pass.now v (slice_index best.new v) }
     ensures low { AreLow best.new }
+    ensures fits { length waiting.new.inside ≡ net.now.nodes }
+    ensures idle { waiting.new.count ≡ 0 }
 {
-    let waiting = fill(net, pass, best, stack);
-    drain(net, pass, best, stack, waiting);
+    fill(net, pass, best, waiting);
+    drain(net, pass, best, waiting);
 }

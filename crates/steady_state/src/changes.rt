@@ -4,13 +4,13 @@ ghost use Rattle.std.specs.Prelude.{◌≡◌, ◌≢◌, ◌<◌, ◌≤◌, �
 ghost use Rattle.switch_net.specs.Path.{state_of};
 ghost use Rattle.switch_net.specs.Vicinity.{IsStorage};
 ghost use Rattle.steady_state.specs.Wired.{network_in, IsSwitchOf};
-ghost use Rattle.steady_state.specs.Marked.{IsInside, IsAmong, AreMarked, IsGated};
+ghost use Rattle.switch_net.specs.Sets.{IsInside, IsAmong};
+ghost use Rattle.steady_state.specs.Marked.{AreMarked, EndsInside, IsGated};
 
-use crate::adjacent::{first, next};
-use crate::ends::Terminal;
+use crate::adjacent::switches_at;
 use crate::marking::mark;
 use crate::wiring::Wiring;
-use switch_net::{Level, Marks, Switch};
+use switch_net::{Level, NodeSet, Switch, Terminal};
 
 /// Lists the nodes of the list whose states differ, and says how many those are.
 pub(crate) fn changes(order: &[u32], state: &[Level], next: &[Level], changed: &mut [u32]) -> usize
@@ -50,55 +50,45 @@ pub(crate) fn commit(changed: &[u32], next: &[Level], state: &mut [Level])
 }
 
 /// Marks both ends of a switch.
-fn mark_ends(net: &Wiring<'_>, switch: &Switch, marks: &mut Marks, before: usize) -> usize
+fn mark_ends(net: &Wiring<'_>, switch: &Switch, marks: &mut NodeSet)
     requires switch { IsSwitchOf (network_in net.now) switch.now }
-    requires marks { AreMarked (network_in net.now) marks.old before }
-    ensures marks { AreMarked (network_in net.now) marks.new result }
+    requires marks { AreMarked (network_in net.now) marks.old }
+    ensures marks { AreMarked (network_in net.now) marks.new }
     ensures grown { (v : ℕ) → IsInside marks.old.inside v → IsInside marks.new.inside v }
-    ensures left { IsStorage (network_in net.now) switch.now.left
-        → IsInside marks.new.inside switch.now.left }
-    ensures right { IsStorage (network_in net.now) switch.now.right
-        → IsInside marks.new.inside switch.now.right }
+    ensures ends { EndsInside (network_in net.now) marks.new.inside switch.now }
 {
-    let count = mark(net, switch.left, marks, before);
-    mark(net, switch.right, marks, count)
+    mark(net, switch.left, marks);
+    mark(net, switch.right, marks);
 }
 
 /// Marks the ends of the switches that a node gates.
-fn mark_gated(net: &Wiring<'_>, node: usize, marks: &mut Marks, before: usize) -> usize
+fn mark_gated(net: &Wiring<'_>, node: usize, marks: &mut NodeSet)
     requires node { node < net.now.nodes }
-    requires marks { AreMarked (network_in net.now) marks.old before }
-    ensures marks { AreMarked (network_in net.now) marks.new result }
+    requires marks { AreMarked (network_in net.now) marks.old }
+    ensures marks { AreMarked (network_in net.now) marks.new }
     ensures grown { (v : ℕ) → IsInside marks.old.inside v → IsInside marks.new.inside v }
-    ensures gated { IsGated (network_in net.now) marks.new.inside node 0 }
+    ensures gated { IsGated (network_in net.now) marks.new.inside node }
 {
-    let mut count = before;
-    let mut cursor = first(net, Terminal::Gate, node);
-    'gated: while cursor > 0 {
-        let place = (cursor - 1) as usize;
-        let switch = net.switches[place];
-        count = mark_ends(net, &switch, marks, count);
-        cursor = next(net, Terminal::Gate, place);
+    let places = switches_at(net, Terminal::Gate, node);
+    'gated: for place in places {
+        let switch = net.switches[*place as usize];
+        mark_ends(net, &switch, marks);
     }
-    count
 }
 
-/// Marks the nodes that changed and the ends of the switches that they gate, where no node is
-/// marked yet, and says how many nodes are marked then.
-pub(crate) fn mark_changed(net: &Wiring<'_>, changed: &[u32], marks: &mut Marks) -> usize
+/// Marks the nodes that changed and the ends of the switches that they gate.
+pub(crate) fn mark_changed(net: &Wiring<'_>, changed: &[u32], marks: &mut NodeSet)
     requires changed { All (λ v. v < net.now.nodes) changed.now }
-    requires marks { AreMarked (network_in net.now) marks.old 0 }
-    ensures marks { AreMarked (network_in net.now) marks.new result }
+    requires marks { AreMarked (network_in net.now) marks.old }
+    ensures marks { AreMarked (network_in net.now) marks.new }
     ensures changed { (i : ℕ) → i < length changed.now
         → IsStorage (network_in net.now) (slice_index changed.now i)
         → IsInside marks.new.inside (slice_index changed.now i) }
     ensures gated { (i : ℕ) → i < length changed.now
-        → IsGated (network_in net.now) marks.new.inside (slice_index changed.now i) 0 }
+        → IsGated (network_in net.now) marks.new.inside (slice_index changed.now i) }
 {
-    let mut count = 0;
     'changed: for node in changed {
-        count = mark(net, *node, marks, count);
-        count = mark_gated(net, *node as usize, marks, count);
+        mark(net, *node, marks);
+        mark_gated(net, *node as usize, marks);
     }
-    count
 }

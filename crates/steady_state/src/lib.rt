@@ -5,7 +5,6 @@
 mod adjacent;
 mod beginning;
 mod changes;
-mod ends;
 mod kinds;
 mod marking;
 mod part;

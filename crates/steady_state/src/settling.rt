@@ -1,7 +1,7 @@
 //! Steps and phases of a network.
 
 ghost use Rattle.std.specs.Prelude.{◌≡◌, ◌<◌, ℕ, All, IfOk, length};
-ghost use Rattle.switch_net.specs.Arrays.{AreMarksFor, AreStrengthsFor};
+ghost use Rattle.switch_net.specs.Arrays.{AreStrengthsFor};
 ghost use Rattle.switch_net.specs.Net.{network_of};
 ghost use Rattle.switch_net.specs.Path.{state_of};
 ghost use Rattle.switch_net.specs.Steady.{IsStep, IsSteadyValue};
@@ -9,13 +9,11 @@ ghost use Rattle.switch_net.specs.Phase.{IsPhase};
 ghost use Rattle.switch_net.specs.Vicinity.{IsReached};
 ghost use Rattle.steady_state.specs.Wired.{network_in};
 
-use crate::adjacent::chain_all;
 use crate::changes::{changes, commit, mark_changed};
-use crate::marking::unmark;
 use crate::stepping::{clear_strengths, mark_afresh, step_all, step_marked, step_seeds};
 use crate::wiring::Wiring;
 use std::alloc::Global;
-use switch_net::{Level, Marks, Net, NetFault, Strengths, Work};
+use switch_net::{Level, Net, NetFault, NodeSet, Strengths};
 
 /// How a phase ended: after how many steps, and whether it had settled then.
 #[derive(Clone, Copy, Debug, PartialEq, Eq)]
@@ -30,23 +28,17 @@ pub fn step(alloc: Global, net: &Net, state: &[Level]) -> Result<Vec<Level>, Net
     requires { length state.now ≡ net.now.nodes }
     ensures { IfOk result (λ next. IsStep (network_of net.now) state.now next.items) }
 {
-    let mut work = Work::build(alloc, net.nodes, net.switches.items().len())?;
+    let mut marks = NodeSet::build(alloc, state.len())?;
+    let mut strengths = Strengths::build(alloc, state.len())?;
     let mut next = Vec::from_slice(alloc, state)?;
-    chain_all(net.switches.items(), &mut work.adjacency);
     let wiring = Wiring {
         nodes: net.nodes,
         switches: net.switches.items(),
         sizes: net.sizes.items(),
         inputs: net.inputs.items(),
-        adjacency: &work.adjacency,
+        adjacency: &net.work.adjacency,
     };
-    step_all(
-        &wiring,
-        state,
-        &mut work.marks,
-        &mut work.strengths,
-        &mut next,
-    );
+    step_all(&wiring, state, &mut marks, &mut strengths, &mut next);
     Ok(next)
 }
 
@@ -59,7 +51,6 @@ pub fn settle(net: &mut Net, state: &mut [Level], budget: u32) -> Settled
         result.done result.steps state.new }
     ensures net { network_of net.new ≡ network_of net.old }
 {
-    chain_all(net.switches.items(), &mut net.work.adjacency);
     let wiring = Wiring {
         nodes: net.nodes,
         switches: net.switches.items(),
@@ -91,7 +82,6 @@ pub fn step_within(net: &mut Net, old: &[Level], new: &mut [Level], seeds: &[u32
         → state_of new.new v ≡ state_of new.old v }
     ensures net { network_of net.new ≡ network_of net.old }
 {
-    chain_all(net.switches.items(), &mut net.work.adjacency);
     let wiring = Wiring {
         nodes: net.nodes,
         switches: net.switches.items(),
@@ -115,28 +105,28 @@ fn take_steps(
     net: &Wiring<'_>,
     state: &mut [Level],
     budget: u32,
-    marks: &mut Marks,
+    marks: &mut NodeSet,
     strengths: &mut Strengths,
     next: &mut [Level],
     changed: &mut [u32],
 ) -> Settled
     requires state { length state.old ≡ net.now.nodes }
-    requires marks { AreMarksFor net.now.nodes marks.old }
+    requires marks { length marks.old.inside ≡ net.now.nodes }
     requires strengths { AreStrengthsFor net.now.nodes strengths.old }
     requires next { length next.old ≡ net.now.nodes }
     requires changed { length changed.old ≡ net.now.nodes }
-    ensures marks { AreMarksFor net.now.nodes marks.new }
+    ensures marks { length marks.new.inside ≡ net.now.nodes }
     ensures strengths { AreStrengthsFor net.now.nodes strengths.new }
     ensures phase { IsPhase (network_in net.now) budget state.old
         result.done result.steps state.new }
 {
     clear_strengths(strengths);
     next.copy_from_slice(state);
-    let mut marked = mark_afresh(net, marks);
+    mark_afresh(net, marks);
     let mut steps = 0;
     'steps: loop {
-        let part = step_marked(net, state, marks, marked, strengths, next);
-        let moved = changes(&marks.order.items()[..part], state, next, changed);
+        step_marked(net, state, marks, strengths, next);
+        let moved = changes(marks.nodes(), state, next, changed);
         if moved == 0 {
             return Settled { steps, done: true };
         }
@@ -144,8 +134,8 @@ fn take_steps(
             return Settled { steps, done: false };
         }
         commit(&changed[..moved], next, state);
-        unmark(marks, part);
-        marked = mark_changed(net, &changed[..moved], marks);
+        marks.clear();
+        mark_changed(net, &changed[..moved], marks);
         steps += 1;
     }
 }

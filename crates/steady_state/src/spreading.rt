@@ -1,18 +1,17 @@
 //! Strengths spread from node to node, until no switch brings more.
 
-ghost use Rattle.std.specs.Prelude.{◌≡◌, ◌<◌, ◌≤◌, ◌+◌, ◌*◌, ℕ, length, slice_index};
-ghost use Rattle.steady_state.specs.Ends.{near_end};
+ghost use Rattle.std.specs.Prelude.{◌≡◌, ◌<◌, ◌≤◌, ℕ, [], ◌∷◌, length, slice_index};
+ghost use Rattle.switch_net.specs.Terminals.{near_end};
 ghost use Rattle.steady_state.specs.Wired.{network_in, IsSwitchOf};
 ghost use Rattle.steady_state.specs.Parts.{IsPassOver};
-ghost use Rattle.steady_state.specs.Passing.{IsOver, IsSpreading, BringsNoMore};
-ghost use Rattle.steady_state.specs.Spreading.{IsLift, IsRaised, of_side, total};
+ghost use Rattle.steady_state.specs.Passing.{IsOver, IsSpreading, BringsNoMore, BringsNoMoreFrom};
+ghost use Rattle.steady_state.specs.Spreading.{IsLift, IsRaised};
 
-use crate::adjacent::{first, next};
-use crate::ends::{Side, Terminal, far, near};
+use crate::adjacent::switches_at;
 use crate::kinds::{passes, strength_of};
 use crate::part::Pass;
 use crate::wiring::Wiring;
-use switch_net::Switch;
+use switch_net::{NodeSet, Side, Switch, Terminal};
 
 /// Raises the entry of `to` to what a switch of this strength brings from `from`, where that is
 /// more and no less than the floor. Says whether it rose.
@@ -38,37 +37,35 @@ fn relax(
     side: Side,
     switch: &Switch,
     best: &mut [u8],
-    stack: &mut [u32],
-    waiting: usize,
-) -> usize
+    waiting: &mut NodeSet,
+)
     requires pass { IsPassOver (network_in net.now) pass.now }
     requires switch { IsSwitchOf (network_in net.now) switch.now }
     requires best { length best.old ≡ net.now.nodes }
+    requires fits { length waiting.old.inside ≡ net.now.nodes }
     requires near { IsOver pass.now (near_end side switch.now) }
-    requires room { waiting < length stack.old }
-    ensures working { (l r : ℕ)
-        → IsSpreading (network_in net.now) pass.now best.old stack.old waiting
-        (near_end side switch.now) l r
-        → IsSpreading (network_in net.now) pass.now best.new stack.new result
-        (near_end side switch.now) l r }
+    ensures fits { length waiting.new.inside ≡ net.now.nodes }
+    ensures working { IsSpreading (network_in net.now) pass.now best.old waiting.old.inside
+        (near_end side switch.now ∷ [])
+        → IsSpreading (network_in net.now) pass.now best.new waiting.new.inside
+        (near_end side switch.now ∷ []) }
     ensures relaxed { BringsNoMore pass.now best.new side switch.now }
-    ensures raised { IsRaised best.old best.new waiting result }
+    ensures raised { IsRaised best.old best.new waiting.old.count waiting.new.count }
+    ensures same { slice_index best.new (near_end side switch.now)
+        ≡ slice_index best.old (near_end side switch.now) }
 {
-    let to = far(side, switch);
+    let to = switch.far(side);
     if pass.part.inside[to as usize]
         && passes(pass.kind, pass.part.state, switch)
         && lift(
-            near(side, switch),
+            switch.near(side),
             to,
             strength_of(switch.kind),
             pass.floor,
             best,
         )
     {
-        stack[waiting] = to;
-        waiting + 1
-    } else {
-        waiting
+        waiting.add(to);
     }
 }
 
@@ -80,52 +77,42 @@ fn visit(
     side: Side,
     node: u32,
     best: &mut [u8],
-    stack: &mut [u32],
-    before: usize,
-) -> usize
-    requires pass { IsPassOver (network_in net.now) pass.now }
-    requires best { length best.old ≡ net.now.nodes }
-    requires node { IsOver pass.now node }
-    requires working { let count = length net.now.switches.now in
-        IsSpreading (network_in net.now) pass.now best.old stack.old before node
-        (of_side side count 0) count }
-    requires room { before + net.now.nodes * 6 < length stack.old + total best.old }
-    ensures working { let count = length net.now.switches.now in
-        IsSpreading (network_in net.now) pass.now best.new stack.new result node
-        (of_side side 0 0) (of_side side count 0) }
-    ensures raised { IsRaised best.old best.new before result }
-{
-    let mut waiting = before;
-    let mut cursor = first(net, Terminal::End(side), node as usize);
-    'switches: while cursor > 0 {
-        let place = (cursor - 1) as usize;
-        let switch = net.switches[place];
-        waiting = relax(net, pass, side, &switch, best, stack, waiting);
-        cursor = next(net, Terminal::End(side), place);
-    }
-    waiting
-}
-
-/// Takes the nodes that wait in turn, until none does.
-pub(crate) fn drain(
-    net: &Wiring<'_>,
-    pass: &Pass<'_>,
-    best: &mut [u8],
-    stack: &mut [u32],
-    before: usize,
+    waiting: &mut NodeSet,
 )
     requires pass { IsPassOver (network_in net.now) pass.now }
     requires best { length best.old ≡ net.now.nodes }
-    requires working { IsSpreading (network_in net.now) pass.now best.old stack.old before 0 0 0 }
-    requires room { before + net.now.nodes * 6 < length stack.old + total best.old }
-    ensures working { IsSpreading (network_in net.now) pass.now best.new stack.new 0 0 0 0 }
+    requires fits { length waiting.old.inside ≡ net.now.nodes }
+    requires node { IsOver pass.now node }
+    requires working { IsSpreading (network_in net.now) pass.now best.old waiting.old.inside
+        (node ∷ []) }
+    ensures fits { length waiting.new.inside ≡ net.now.nodes }
+    ensures working { IsSpreading (network_in net.now) pass.now best.new waiting.new.inside
+        (node ∷ []) }
+    ensures relaxed { BringsNoMoreFrom (network_in net.now) pass.now best.new side node }
+    ensures raised { IsRaised best.old best.new waiting.old.count waiting.new.count }
+    ensures same { slice_index best.new node ≡ slice_index best.old node }
+{
+    let places = switches_at(net, Terminal::End(side), node as usize);
+    'switches: for place in places {
+        let switch = net.switches[*place as usize];
+        relax(net, pass, side, &switch, best, waiting);
+    }
+}
+
+/// Takes the nodes that wait in turn, until none does.
+pub(crate) fn drain(net: &Wiring<'_>, pass: &Pass<'_>, best: &mut [u8], waiting: &mut NodeSet)
+    requires pass { IsPassOver (network_in net.now) pass.now }
+    requires best { length best.old ≡ net.now.nodes }
+    requires fits { length waiting.old.inside ≡ net.now.nodes }
+    requires working { IsSpreading (network_in net.now) pass.now best.old waiting.old.inside [] }
+    ensures fits { length waiting.new.inside ≡ net.now.nodes }
+    ensures working { IsSpreading (network_in net.now) pass.now best.new waiting.new.inside [] }
+    ensures idle { waiting.new.count ≡ 0 }
     ensures above { (v : ℕ) → slice_index best.old v ≤ slice_index best.new v }
 {
-    let mut waiting = before;
-    'nodes: while waiting > 0 {
-        waiting -= 1;
-        let node = stack[waiting];
-        waiting = visit(net, pass, Side::Left, node, best, stack, waiting);
-        waiting = visit(net, pass, Side::Right, node, best, stack, waiting);
+    'nodes: while waiting.count > 0 {
+        let node = waiting.take_last();
+        visit(net, pass, Side::Left, node, best, waiting);
+        visit(net, pass, Side::Right, node, best, waiting);
     }
 }

@@ -1,22 +1,23 @@
 //! One step of a part of a network.
 
-ghost use Rattle.std.specs.Prelude.{◌≡◌, ◌<◌, ◌*◌, ℕ, All, length, slice_index};
-ghost use Rattle.switch_net.specs.Arrays.{AreMarksFor, AreStrengthsFor};
+ghost use Rattle.std.specs.Prelude.{◌≡◌, ◌<◌, ℕ, All, length, slice_index};
+ghost use Rattle.switch_net.specs.Arrays.{AreStrengthsFor};
 ghost use Rattle.switch_net.specs.Path.{state_of};
 ghost use Rattle.switch_net.specs.Steady.{IsStep, IsSteadyValue};
 ghost use Rattle.switch_net.specs.Vicinity.{IsReached};
 ghost use Rattle.steady_state.specs.Levels.{AreLow, AreLowStrengths, AreSteady, KeepsOthers};
 ghost use Rattle.steady_state.specs.Levels.{IsLevelOf, IsWritten};
-ghost use Rattle.steady_state.specs.Marked.{AreMarked, IsInside, IsQuiet, States};
+ghost use Rattle.switch_net.specs.Sets.{IsInside};
+ghost use Rattle.steady_state.specs.Marked.{AreMarked, IsQuiet, States};
 ghost use Rattle.steady_state.specs.Parts.{IsPartOf};
 ghost use Rattle.steady_state.specs.Wired.{network_in};
 
 use crate::beginning::find_strongest;
 use crate::kinds::PathKind;
-use crate::marking::{close, collect, mark_all, unmark_all};
+use crate::marking::{close, collect, mark_all};
 use crate::part::{Part, Pass};
 use crate::wiring::Wiring;
-use switch_net::{Level, Marks, Strengths};
+use switch_net::{Level, NodeSet, Strengths};
 
 /// The level of a node, by the strengths of the strongest unblocked paths from roots other than one
 /// and other than zero.
@@ -67,7 +68,7 @@ fn step_over(
     definite: &mut [u8],
     one: &mut [u8],
     zero: &mut [u8],
-    stack: &mut [u32],
+    waiting: &mut NodeSet,
     next: &mut [Level],
 )
     requires part { IsPartOf (network_in net.now) part.now }
@@ -75,7 +76,8 @@ fn step_over(
     requires one { length one.old ≡ net.now.nodes }
     requires zero { length zero.old ≡ net.now.nodes }
     requires next { length next.old ≡ net.now.nodes }
-    requires room { net.now.nodes * 7 < length stack.old }
+    requires fits { length waiting.old.inside ≡ net.now.nodes }
+    requires idle { waiting.old.count ≡ 0 }
     requires low_definite { AreLow definite.old }
     requires low_one { AreLow one.old }
     requires low_zero { AreLow zero.old }
@@ -84,6 +86,8 @@ fn step_over(
     ensures low_definite { AreLow definite.new }
     ensures low_one { AreLow one.new }
     ensures low_zero { AreLow zero.new }
+    ensures fits { length waiting.new.inside ≡ net.now.nodes }
+    ensures idle { waiting.new.count ≡ 0 }
 {
     clear_at(part.order, one);
     let definite_paths = Pass {
@@ -91,19 +95,19 @@ fn step_over(
         part: *part,
         floor: one,
     };
-    find_strongest(net, &definite_paths, definite, stack);
+    find_strongest(net, &definite_paths, definite, waiting);
     let not_from_one = Pass {
         kind: PathKind::FromOther(Level::One),
         part: *part,
         floor: definite,
     };
-    find_strongest(net, &not_from_one, one, stack);
+    find_strongest(net, &not_from_one, one, waiting);
     let not_from_zero = Pass {
         kind: PathKind::FromOther(Level::Zero),
         part: *part,
         floor: definite,
     };
-    find_strongest(net, &not_from_zero, zero, stack);
+    find_strongest(net, &not_from_zero, zero, waiting);
     write_levels(part, one, zero, next);
 }
 
@@ -122,7 +126,7 @@ fn step_part(net: &Wiring<'_>, part: &Part<'_>, strengths: &mut Strengths, next:
         strengths.definite.items_mut(),
         strengths.other_than_one.items_mut(),
         strengths.other_than_zero.items_mut(),
-        strengths.stack.items_mut(),
+        &mut strengths.waiting,
         next,
     );
 }
@@ -135,6 +139,7 @@ pub(crate) fn clear_strengths(strengths: &mut Strengths)
     clear(strengths.definite.items_mut());
     clear(strengths.other_than_one.items_mut());
     clear(strengths.other_than_zero.items_mut());
+    strengths.waiting.clear();
 }
 
 fn clear(entries: &mut [u8])
@@ -143,63 +148,60 @@ fn clear(entries: &mut [u8])
     entries.fill(0);
 }
 
-/// A step of the vicinities of the marked nodes, where all other nodes keep their states. Says how
-/// many nodes are marked then.
+/// A step of the vicinities of the marked nodes, where all other nodes keep their states.
 pub(crate) fn step_marked(
     net: &Wiring<'_>,
     state: &[Level],
-    marks: &mut Marks,
-    before: usize,
+    marks: &mut NodeSet,
     strengths: &mut Strengths,
     next: &mut [Level],
-) -> usize
+)
     requires state { length state.now ≡ net.now.nodes }
     requires same { next.old ≡ state.now }
-    requires marks { AreMarked (network_in net.now) marks.old before }
+    requires marks { AreMarked (network_in net.now) marks.old }
     requires quiet { IsQuiet (network_in net.now) state.now marks.old.inside }
     requires strengths { AreLowStrengths net.now.nodes strengths.old }
     ensures step { IsStep (network_in net.now) state.now next.new }
-    ensures marks { AreMarked (network_in net.now) marks.new result }
+    ensures marks { AreMarked (network_in net.now) marks.new }
     ensures kept { KeepsOthers marks.new.inside state.now next.new }
     ensures strengths { AreLowStrengths net.now.nodes strengths.new }
 {
-    let count = close(net, state, marks, before);
+    close(net, state, marks);
     let part = Part {
         state,
         inside: marks.inside.items(),
-        order: &marks.order.items()[..count],
+        order: marks.nodes(),
     };
     step_part(net, &part, strengths, next);
-    count
 }
 
 /// Marks every node that stores charge, and no other, whatever was marked before.
-pub(crate) fn mark_afresh(net: &Wiring<'_>, marks: &mut Marks) -> usize
-    requires { AreMarksFor net.now.nodes marks.old }
-    ensures marks { AreMarked (network_in net.now) marks.new result }
+pub(crate) fn mark_afresh(net: &Wiring<'_>, marks: &mut NodeSet)
+    requires { length marks.old.inside ≡ net.now.nodes }
+    ensures marks { AreMarked (network_in net.now) marks.new }
     ensures quiet { (s : States) → IsQuiet (network_in net.now) s marks.new.inside }
 {
-    unmark_all(marks);
-    mark_all(net, marks)
+    marks.clear();
+    mark_all(net, marks);
 }
 
 /// A step of the whole network, whatever the arrays hold.
 pub(crate) fn step_all(
     net: &Wiring<'_>,
     state: &[Level],
-    marks: &mut Marks,
+    marks: &mut NodeSet,
     strengths: &mut Strengths,
     next: &mut [Level],
 )
     requires state { length state.now ≡ net.now.nodes }
     requires same { next.old ≡ state.now }
-    requires marks { AreMarksFor net.now.nodes marks.old }
+    requires marks { length marks.old.inside ≡ net.now.nodes }
     requires strengths { AreStrengthsFor net.now.nodes strengths.old }
     ensures { IsStep (network_in net.now) state.now next.new }
 {
     clear_strengths(strengths);
-    let count = mark_afresh(net, marks);
-    step_marked(net, state, marks, count, strengths, next);
+    mark_afresh(net, marks);
+    step_marked(net, state, marks, strengths, next);
 }
 
 /// A step of the vicinities of the seeds, whatever the arrays hold.
@@ -207,16 +209,16 @@ pub(crate) fn step_seeds(
     net: &Wiring<'_>,
     state: &[Level],
     seeds: &[u32],
-    marks: &mut Marks,
+    marks: &mut NodeSet,
     strengths: &mut Strengths,
     next: &mut [Level],
 )
     requires state { length state.now ≡ net.now.nodes }
     requires seeds { All (λ v. v < net.now.nodes) seeds.now }
-    requires marks { AreMarksFor net.now.nodes marks.old }
+    requires marks { length marks.old.inside ≡ net.now.nodes }
     requires strengths { AreStrengthsFor net.now.nodes strengths.old }
     requires next { length next.old ≡ net.now.nodes }
-    ensures marks { AreMarksFor net.now.nodes marks.new }
+    ensures marks { length marks.new.inside ≡ net.now.nodes }
     ensures strengths { AreStrengthsFor net.now.nodes strengths.new }
     ensures steady { (v : ℕ) → IsReached (network_in net.now) state.now seeds.now v
         → IsSteadyValue (network_in net.now) state.now v (state_of next.new v) }
@@ -224,12 +226,12 @@ pub(crate) fn step_seeds(
         → state_of next.new v ≡ state_of next.old v }
 {
     clear_strengths(strengths);
-    unmark_all(marks);
-    let count = collect(net, state, seeds, marks);
+    marks.clear();
+    collect(net, state, seeds, marks);
     let part = Part {
         state,
         inside: marks.inside.items(),
-        order: &marks.order.items()[..count],
+        order: marks.nodes(),
     };
     step_part(net, &part, strengths, next);
 }

@@ -1,16 +1,15 @@
 //! A network as the functions of a step see it: without the arrays that they change, and with its
-//! switches chained by their nodes.
+//! switches sorted by their nodes.
 
-ghost use Rattle.std.specs.Prelude.{◌≡◌, ◌≤◌, ◌<◌, All, length, slice_index};
+ghost use Rattle.std.specs.Prelude.{◌≡◌, ◌≤◌, ◌<◌, All, length};
 ghost use Rattle.std.proofs.Props.{props};
 ghost use Rattle.switch_net.specs.declared.limits.TheConstants.{MOST_SWITCHES};
 ghost use Rattle.switch_net.specs.Network.{IsWithin, IsSize};
-ghost use Rattle.switch_net.specs.Arrays.{IsAdjacencyFor};
-ghost use Rattle.steady_state.specs.Ends.{AreChained};
+ghost use Rattle.switch_net.specs.Sorted.{AreAllSorted};
 
 use switch_net::{Adjacency, Switch};
 
-/// A network, and the chains of its switches.
+/// A network, and its switches sorted by their nodes.
 #[derive(Clone, Copy)]
 pub(crate) struct Wiring<'a> {
     pub nodes: u32,
@@ -23,6 +22,5 @@ pub(crate) struct Wiring<'a> {
     pub ghost one_size: { length sizes.now ≡ nodes },
     pub ghost one_input: { length inputs.now ≡ nodes },
     pub ghost sizes_in_range: { All IsSize sizes.now } by { Prim.hlevel props },
-    pub ghost adjacency_fits: { IsAdjacencyFor nodes (length switches.now) adjacency.now } by { Prim.hlevel props },
-    pub ghost chained: { AreChained switches.now adjacency.now } by { Prim.hlevel props },
+    pub ghost sorted: { AreAllSorted nodes switches.now adjacency.now } by { Prim.hlevel props },
 }

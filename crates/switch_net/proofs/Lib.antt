@@ -5,3 +5,6 @@ pub mod Phases
 pub mod Locality
 pub mod Sound
 pub mod Vicinities
+pub mod Counting
+pub mod Lent
+pub mod Listing

@@ -1,5 +1,8 @@
 pub mod Network
 pub mod Names
+pub mod Terminals
+pub mod Sorted
+pub mod Sets
 pub mod Arrays
 pub mod Net
 pub mod Path

@@ -28,7 +28,7 @@ pub struct Net {
     pub ghost one_size: { length sizes ≡ nodes },
     pub ghost one_input: { length inputs ≡ nodes },
     pub ghost sizes_in_range: { All IsSize sizes } by { Prim.hlevel props },
-    pub ghost work_fits: { IsWorkFor nodes (length switches) work } by { Prim.hlevel props },
+    pub ghost work_fits: { IsWorkFor nodes switches work } by { Prim.hlevel props },
 }
 
 /// A network with the names of its nodes. A node may have several names, and a name has one node.
@@ -61,7 +61,7 @@ impl Net {
             switches: List::of(Vec::from_slice(alloc, switches)?),
             sizes: List::of(vec![in alloc; 1; count]?),
             inputs: List::of(vec![in alloc; false; count]?),
-            work: Work::build(alloc, nodes, switches.len())?,
+            work: Work::build(alloc, nodes, switches)?,
         })
     }
 

@@ -1,7 +1,8 @@
 use Rattle.std.proofs.Common.{◌≤◌, arith, refl, slice_index}
 use Rattle.switch_net.specs.Path.{root_strength}
 use Rattle.steady_state.specs.Wired.{network_in}
-use Rattle.steady_state.proofs.Within.{by_itself, inside_range}
+use Rattle.switch_net.proofs.Listing.{inside_range}
+use Rattle.steady_state.proofs.Within.{by_itself}
 use Rattle.steady_state.proofs.beginning.alone.Goals as goal
 
 pub returns-then-pass-node-clause-attained : goal.returns-then-pass-node-clause-attained

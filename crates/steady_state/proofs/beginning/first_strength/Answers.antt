@@ -1,6 +1,6 @@
 use Rattle.std.proofs.Common.{◌≡◌, arith, inl, inr}
 use Rattle.std.proofs.lemmas.Bool.{cases_lt}
-use Rattle.steady_state.specs.declared.ends.Side.TheVariants.{Left}
+use Rattle.switch_net.specs.declared.terminals.Side.TheVariants.{Left}
 use Rattle.steady_state.specs.Wired.{network_in}
 use Rattle.steady_state.proofs.Within.{pulled_up}
 use Rattle.steady_state.proofs.beginning.first_strength.Goals as goal

@@ -1,6 +1,6 @@
 use Rattle.std.proofs.Common.{◌≡◌, ◌≤◌, refl, true, slice_index}
 use Rattle.switch_net.specs.Path.{is_input, switch_strength}
-use Rattle.steady_state.specs.Ends.{near_end, far_end}
+use Rattle.switch_net.specs.Terminals.{near_end, far_end}
 use Rattle.steady_state.specs.Kinds.{BeginsAt}
 use Rattle.steady_state.specs.Wired.{network_in}
 use Rattle.steady_state.proofs.Wires.{sound_of}

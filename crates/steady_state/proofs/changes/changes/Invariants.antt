@@ -1,6 +1,6 @@
 use Rattle.std.proofs.Common.{◌≢◌, ◌<◌, ◌≤◌, ℕ, length, slice_index}
 use Rattle.switch_net.specs.Path.{state_of}
-use Rattle.steady_state.specs.Marked.{IsAmong}
+use Rattle.switch_net.specs.Sets.{IsAmong}
 use Rattle.steady_state.proofs.changes.changes.Given as goal
 
 abbrev pub invariant-loop-node : goal.invariant-loop-node

@@ -1,12 +1,13 @@
 use Rattle.std.proofs.Common.{◌<◌, ℕ, slice_index}
 use Rattle.switch_net.specs.Vicinity.{IsStorage}
-use Rattle.steady_state.specs.Marked.{IsInside, AreMarked, IsGated}
+use Rattle.switch_net.specs.Sets.{IsInside}
+use Rattle.steady_state.specs.Marked.{AreMarked, IsGated}
 use Rattle.steady_state.specs.Wired.{network_in}
 use Rattle.steady_state.proofs.changes.mark_changed.Given as goal
 
 abbrev pub invariant-changed : goal.invariant-changed
 invariant-changed l = record {
-  marks : AreMarked (network_in l.net) l.marks l.count;
+  marks : AreMarked (network_in l.net) l.marks;
   changed : (i : ℕ) → i < l.node-index → IsStorage (network_in l.net) (slice_index l.changed i) → IsInside l.marks.inside (slice_index l.changed i);
-  gated : (i : ℕ) → i < l.node-index → IsGated (network_in l.net) l.marks.inside (slice_index l.changed i) 0;
+  gated : (i : ℕ) → i < l.node-index → IsGated (network_in l.net) l.marks.inside (slice_index l.changed i);
 }

@@ -1,44 +1,34 @@
-use Rattle.std.proofs.Common.{◌-◌, ℕ, arith, ◌∙◌, sym}
-use Rattle.steady_state.specs.declared.ends.Terminal.TheVariants.{Gate}
-use Rattle.steady_state.specs.Wired.{network_in, first_of, next_of}
-use Rattle.steady_state.proofs.Chaining.{no_switch}
-use Rattle.steady_state.proofs.Moving.{gated_first, gated_next}
-use Rattle.steady_state.proofs.UnderWay.{next_falls}
-use Rattle.steady_state.proofs.Wires.{chained, switch_at}
+use Rattle.std.proofs.Common.{arith, slice_index, slice_index_or}
+use Rattle.switch_net.specs.declared.terminals.Terminal.TheVariants.{Gate}
+use Rattle.switch_net.proofs.Counting.{no_switch}
+use Rattle.steady_state.specs.Marked.{EndsInside}
+use Rattle.steady_state.specs.Wired.{network_in}
+use Rattle.steady_state.proofs.Moving.{ends_grown}
+use Rattle.steady_state.proofs.Wires.{switch_at, each_at, next_at}
 use Rattle.steady_state.proofs.changes.mark_gated.Goals as goal
 
 pub bounds-net-place : goal.bounds-net-place
-bounds-net-place c = (c.gated.invariant.here (c.gated.cursor - 1) no_switch (omega arith)).0
+bounds-net-place c = c.switches_at-places.ensures.stand c.gated.place-index c.gated-test.true
 
-pub mark_ends-count-requires-clause-switch : goal.mark_ends-count-requires-clause-switch
-mark_ends-count-requires-clause-switch c = switch_at c.args.net.now (c.gated.cursor - 1) no_switch (c.gated.invariant.here (c.gated.cursor - 1) no_switch (omega arith)).0
-
-pub gated-smaller : goal.gated-smaller
-gated-smaller c =
-    let lt = (c.gated.invariant.here (c.gated.cursor - 1) no_switch (omega arith)).0 in
-    let falls = next_falls c.args.net.now.switches.now Gate (first_of Gate c.args.net.now) (next_of Gate c.args.net.now) (chained c.args.net.now Gate) (c.gated.cursor - 1) no_switch lt in
-    omega (arith, falls, c.next-cursor.ensures)
+pub mark_ends-requires-clause-switch : goal.mark_ends-requires-clause-switch
+mark_ends-requires-clause-switch c = switch_at c.args.net.now (slice_index c.switches_at-places.result.now c.gated.place-index) no_switch (c.switches_at-places.ensures.stand c.gated.place-index c.gated-test.true)
 
 pub gated-init : goal.gated-init
-gated-init c =
-    let at = c.first-cursor.ensures in
-    record {
-      marks = c.requires.marks;
-      grown = λ v i. i;
-      gated = rw at (gated_first (network_in c.args.net.now) (first_of Gate c.args.net.now) (next_of Gate c.args.net.now) c.args.marks.now.inside c.args.node (chained c.args.net.now Gate));
-      here = λ k d e. (chained c.args.net.now Gate).first_is c.args.node k d (sym at ∙ e);
-    }
+gated-init c = record { marks = c.requires.marks; grown = λ v i. i; ends = λ i lt. absurd (omega arith) }
 
 pub gated-preserved : goal.gated-preserved
 gated-preserved c =
-    let place : ℕ = c.gated.cursor - 1 in
-    let here = c.gated.invariant.here place no_switch (omega arith) in
-    let at = c.next-cursor.ensures in
-    let step = c.mark_ends-count.ensures in
+    let here = c.mark_ends.ensures in
+    let inv = c.gated.invariant in
     record {
-      marks = step.marks;
-      grown = λ v i. step.grown v (c.gated.invariant.grown v i);
-      gated = rw at (gated_next (network_in c.args.net.now) (first_of Gate c.args.net.now) (next_of Gate c.args.net.now) c.gated.marks.inside c.mark_ends-count.new.marks.inside c.args.node place c.gated.cursor no_switch
-          (chained c.args.net.now Gate) here.0 here.1 (omega arith) step.grown step.left step.right c.gated.invariant.gated);
-      here = λ k e eq. let n = (chained c.args.net.now Gate).next_is k place e here.0 (sym at ∙ eq) in let before = c.gated.invariant.here place e (omega arith) in (omega (arith, n.0, before.0), n.1 ∙ before.1);
+      marks = here.marks;
+      grown = λ v i. here.grown v (inv.grown v i);
+      ends = next_at c.args.net.now.switches.now Gate c.args.node c.switches_at-places.result.now c.switches_at-places.ensures (EndsInside (network_in c.args.net.now) c.mark_ends.new.marks.inside)
+          c.gated.place-index no_switch c.gated-test.true
+          (λ i lt d. ends_grown (network_in c.args.net.now) c.gated.marks.inside c.mark_ends.new.marks.inside (slice_index_or c.args.net.now.switches.now (slice_index c.switches_at-places.result.now i) d) here.grown (inv.ends i lt d)) here.ends;
     }
+
+pub returns-clause-gated : goal.returns-clause-gated
+returns-clause-gated c =
+    each_at c.args.net.now.switches.now Gate c.args.node c.switches_at-places.result.now c.switches_at-places.ensures (EndsInside (network_in c.args.net.now) c.gated.marks.inside)
+    (λ i lt d. c.gated.invariant.ends i (omega arith) d)

@@ -7,16 +7,16 @@ use Rattle.steady_state.proofs.marking.collect.Goals as goal
 pub seeds-init : goal.seeds-init
 seeds-init c = record {
   marks = c.requires.marks;
-  reached = none_reached (network_in c.args.net.now) c.args.state.now c.args.seeds.now c.args.marks.now c.requires.marks;
+  reached = none_reached (network_in c.args.net.now) c.args.state.now c.args.seeds.now c.args.marks.now c.requires.none;
   seeded = λ k d lt. absurd (omega arith);
 }
 
 pub seeds-preserved : goal.seeds-preserved
 seeds-preserved c = record {
-  marks = c.mark-count.ensures.marks;
-  reached = c.mark-count.ensures.reached c.args.state.now c.args.seeds.now c.seeds.invariant.reached
+  marks = c.mark.ensures.marks;
+  reached = c.mark.ensures.reached c.args.state.now c.args.seeds.now c.seeds.invariant.reached
       (λ st. seed_reached (network_in c.args.net.now) c.args.state.now c.args.seeds.now (slice_index c.args.seeds.now c.seeds.seed-index) (Contains-get_or c.args.seeds.now c.seeds.seed-index 0 c.seeds-test.true) st);
-  seeded = seeded_more (network_in c.args.net.now) c.args.seeds.now c.seeds.marks.inside c.mark-count.new.marks.inside c.seeds.seed-index c.seeds-test.true c.mark-count.ensures.adds.grown c.mark-count.ensures.marked c.seeds.invariant.seeded;
+  seeded = seeded_more (network_in c.args.net.now) c.args.seeds.now c.seeds.marks.inside c.mark.new.marks.inside c.seeds.seed-index c.seeds-test.true c.mark.ensures.adds.grown c.mark.ensures.marked c.seeds.invariant.seeded;
 }
 
 pub returns-clause-reached : goal.returns-clause-reached

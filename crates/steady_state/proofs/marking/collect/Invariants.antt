@@ -1,12 +1,13 @@
 use Rattle.std.proofs.Common.{◌<◌, ℕ, slice_index_or}
 use Rattle.switch_net.specs.Vicinity.{IsStorage}
-use Rattle.steady_state.specs.Marked.{IsInside, AreMarked, AreReached}
+use Rattle.switch_net.specs.Sets.{IsInside}
+use Rattle.steady_state.specs.Marked.{AreMarked, AreReached}
 use Rattle.steady_state.specs.Wired.{network_in}
 use Rattle.steady_state.proofs.marking.collect.Given as goal
 
 abbrev pub invariant-seeds : goal.invariant-seeds
 invariant-seeds l = record {
-  marks : AreMarked (network_in l.net) l.marks l.count;
+  marks : AreMarked (network_in l.net) l.marks;
   reached : AreReached (network_in l.net) l.state l.seeds l.marks.inside;
   seeded : (k d : ℕ) → k < l.seed-index → IsStorage (network_in l.net) (slice_index_or l.seeds k d) → IsInside l.marks.inside (slice_index_or l.seeds k d);
 }

@@ -1,46 +1,36 @@
-use Rattle.std.proofs.Common.{◌-◌, ℕ, arith, ◌∙◌, sym}
-use Rattle.steady_state.specs.declared.ends.Terminal.TheVariants.{End}
-use Rattle.steady_state.specs.Wired.{network_in, first_of, next_of}
-use Rattle.steady_state.proofs.Chaining.{no_switch}
-use Rattle.steady_state.proofs.Collecting.{covered_first, covered_next, adds_none, adds_then}
-use Rattle.steady_state.proofs.UnderWay.{next_falls}
-use Rattle.steady_state.proofs.Wires.{chained, switch_at}
+use Rattle.std.proofs.Common.{arith, slice_index, slice_index_or}
+use Rattle.switch_net.specs.declared.terminals.Terminal.TheVariants.{End}
+use Rattle.switch_net.proofs.Counting.{no_switch}
+use Rattle.steady_state.specs.Marked.{LeadsInside}
+use Rattle.steady_state.specs.Wired.{network_in}
+use Rattle.steady_state.proofs.Collecting.{adds_none, adds_then, leads_grown}
+use Rattle.steady_state.proofs.Wires.{switch_at, each_at, next_at}
 use Rattle.steady_state.proofs.marking.walk.Goals as goal
 
 pub bounds-net-place : goal.bounds-net-place
-bounds-net-place c = (c.switches.invariant.here (c.switches.cursor - 1) no_switch (omega arith)).0
+bounds-net-place c = c.switches_at-places.ensures.stand c.switches.place-index c.switches-test.true
 
-pub follow-count-requires-clause-switch : goal.follow-count-requires-clause-switch
-follow-count-requires-clause-switch c = switch_at c.args.net.now (c.switches.cursor - 1) no_switch (c.switches.invariant.here (c.switches.cursor - 1) no_switch (omega arith)).0
-
-pub switches-smaller : goal.switches-smaller
-switches-smaller c =
-    let lt = (c.switches.invariant.here (c.switches.cursor - 1) no_switch (omega arith)).0 in
-    let falls = next_falls c.args.net.now.switches.now (End c.args.side) (first_of (End c.args.side) c.args.net.now) (next_of (End c.args.side) c.args.net.now) (chained c.args.net.now (End c.args.side)) (c.switches.cursor - 1) no_switch lt in
-    omega (arith, falls, c.next-cursor.ensures)
+pub follow-requires-clause-switch : goal.follow-requires-clause-switch
+follow-requires-clause-switch c = switch_at c.args.net.now (slice_index c.switches_at-places.result.now c.switches.place-index) no_switch (c.switches_at-places.ensures.stand c.switches.place-index c.switches-test.true)
 
 pub switches-init : goal.switches-init
-switches-init c =
-    let at = c.first-cursor.ensures in
-    record {
-      marks = c.requires.marks;
-      adds = adds_none c.args.marks.now c.args.before;
-      reached = λ seeds k r. k;
-      covered = rw at (covered_first (network_in c.args.net.now) c.args.state.now c.args.side (first_of (End c.args.side) c.args.net.now) (next_of (End c.args.side) c.args.net.now) c.args.marks.now.inside c.args.node (chained c.args.net.now (End c.args.side)));
-      here = λ k d e. (chained c.args.net.now (End c.args.side)).first_is c.args.node k d (sym at ∙ e);
-    }
+switches-init c = record { marks = c.requires.marks; adds = adds_none c.args.marks.now; reached = λ seeds k r. k; led = λ i lt. absurd (omega arith) }
 
 pub switches-preserved : goal.switches-preserved
 switches-preserved c =
-    let place : ℕ = c.switches.cursor - 1 in
-    let here = c.switches.invariant.here place no_switch (omega arith) in
-    let at = c.next-cursor.ensures in
-    let step = c.follow-count.ensures in
+    let here = c.follow.ensures in
+    let inv = c.switches.invariant in
+    let places = c.switches_at-places.ensures in
     record {
-      marks = step.marks;
-      adds = adds_then c.args.marks.now c.switches.marks c.follow-count.new.marks c.args.before c.switches.count c.follow-count.result c.switches.invariant.adds step.adds;
-      reached = λ seeds k r. step.reached seeds (c.switches.invariant.reached seeds k r) (rw here.1 r);
-      covered = rw at (covered_next (network_in c.args.net.now) c.args.state.now c.args.side (first_of (End c.args.side) c.args.net.now) (next_of (End c.args.side) c.args.net.now) c.switches.marks.inside c.follow-count.new.marks.inside
-          c.args.node place c.switches.cursor no_switch (chained c.args.net.now (End c.args.side)) here.0 here.1 (omega arith) step.adds.grown step.marked c.switches.invariant.covered);
-      here = λ k e eq. let n = (chained c.args.net.now (End c.args.side)).next_is k place e here.0 (sym at ∙ eq) in let before = c.switches.invariant.here place e (omega arith) in (omega (arith, n.0, before.0), n.1 ∙ before.1);
+      marks = here.marks;
+      adds = adds_then c.args.marks.now c.switches.marks c.follow.new.marks inv.adds here.adds;
+      reached = λ seeds k r. here.reached seeds (inv.reached seeds k r) (rw (places.own c.switches.place-index no_switch c.switches-test.true) r);
+      led = next_at c.args.net.now.switches.now (End c.args.side) c.args.node c.switches_at-places.result.now places (LeadsInside (network_in c.args.net.now) c.args.state.now c.args.side c.follow.new.marks.inside)
+          c.switches.place-index no_switch c.switches-test.true
+          (λ i lt d. leads_grown (network_in c.args.net.now) c.args.state.now c.args.side c.switches.marks.inside c.follow.new.marks.inside (slice_index_or c.args.net.now.switches.now (slice_index c.switches_at-places.result.now i) d) here.adds.grown (inv.led i lt d)) here.marked;
     }
+
+pub returns-clause-covered : goal.returns-clause-covered
+returns-clause-covered c =
+    each_at c.args.net.now.switches.now (End c.args.side) c.args.node c.switches_at-places.result.now c.switches_at-places.ensures (LeadsInside (network_in c.args.net.now) c.args.state.now c.args.side c.switches.marks.inside)
+    (λ i lt d. c.switches.invariant.led i (omega arith) d)

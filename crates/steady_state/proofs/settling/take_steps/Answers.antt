@@ -3,8 +3,9 @@ use Rattle.switch_net.specs.declared.switches.Level.{Level}
 use Rattle.switch_net.specs.Path.{state_of}
 use Rattle.switch_net.specs.Phase.{NoneRests}
 use Rattle.switch_net.specs.Steady.{IsStep}
+use Rattle.switch_net.proofs.Listing.{known}
 use Rattle.switch_net.proofs.Phases.{none_more}
-use Rattle.steady_state.specs.Marked.{IsAmong}
+use Rattle.switch_net.specs.Sets.{IsAmong}
 use Rattle.steady_state.specs.Wired.{network_in}
 use Rattle.steady_state.proofs.Collecting.{marked-le, none_marked}
 use Rattle.steady_state.proofs.Moving.{waiting_take, below_take, all_changed, steps_more, same_states, quiet_next}
@@ -13,20 +14,20 @@ use Rattle.steady_state.proofs.settling.take_steps.Goals as goal
 use Rattle.steady_state.proofs.settling.take_steps.Goals.{After-changes-moved, Else-moved-eq0}
 
 -- each node that changed is listed
-found : (c : After-changes-moved) → (v : ℕ) → state_of c.steps.state v ≢ state_of c.step_marked-part.new.next v → IsAmong c.changes-moved.new.changed c.changes-moved.result v
+found : (c : After-changes-moved) → (v : ℕ) → state_of c.steps.state v ≢ state_of c.step_marked.new.next v → IsAmong c.changes-moved.new.changed c.changes-moved.result v
 found c =
-    let marks = c.step_marked-part.ensures.marks in
-    let few = marked-le (network_in c.args.net.now) c.step_marked-part.new.marks c.step_marked-part.result marks in
-    all_changed c.steps.state c.step_marked-part.new.next c.step_marked-part.new.marks.inside c.step_marked-part.new.marks.order c.changes-moved.new.changed c.step_marked-part.result c.changes-moved.result
-    (omega (arith, few, marks.fits.order)) marks.known c.step_marked-part.ensures.kept (rw c.items.ensures at c.changes-moved.ensures.found)
+    let marks = c.step_marked.new.marks in
+    let few = marked-le (network_in c.args.net.now) marks c.step_marked.ensures.marks in
+    all_changed c.steps.state c.step_marked.new.next marks.inside marks.order c.changes-moved.new.changed marks.count c.changes-moved.result
+    (omega (arith, few, marks.listed.room, c.step_marked.ensures.marks.fits)) (λ v ins. known marks.inside marks.order marks.count v marks.listed ins) c.step_marked.ensures.kept (rw c.nodes.ensures at c.changes-moved.ensures.found)
 
 pub returns-then-moved-eq0-clause-phase : goal.returns-then-moved-eq0-clause-phase
 returns-then-moved-eq0-clause-phase c =
     let f = found (goal.at.returns-then-moved-eq0-clause-phase c).After-changes-moved in
-    let same : c.steps.state ≡ c.step_marked-part.new.next = same_states c.steps.state c.step_marked-part.new.next (omega (arith, c.step_marked-part.ensures.step.same_length)) (λ v ne. let q = f v ne in absurd (omega (arith, q.1))) in (
+    let same : c.steps.state ≡ c.step_marked.new.next = same_states c.steps.state c.step_marked.new.next (omega (arith, c.step_marked.ensures.step.same_length)) (λ v ne. let q = f v ne in absurd (omega (arith, q.1))) in (
       record {
         reached = c.steps.invariant.reached;
-        rests = subst (λ (x : List Level). IsStep (network_in c.args.net.now) c.steps.state x) (sym same) c.step_marked-part.ensures.step;
+        rests = subst (λ (x : List Level). IsStep (network_in c.args.net.now) c.steps.state x) (sym same) c.step_marked.ensures.step;
         first = c.steps.invariant.none;
       },
       c.steps.invariant.within,
@@ -34,7 +35,7 @@ returns-then-moved-eq0-clause-phase c =
 
 -- the state still changes
 moved : (c : Else-moved-eq0) → NoneRests (network_in c.args.net.now) (suc c.steps.steps) c.args.state.now
-moved c = none_more (network_in c.args.net.now) (sound_of c.args.net.now) c.args.state.now c.requires.state c.steps.steps c.steps.state c.step_marked-part.new.next c.steps.invariant.reached c.step_marked-part.ensures.step
+moved c = none_more (network_in c.args.net.now) (sound_of c.args.net.now) c.args.state.now c.requires.state c.steps.steps c.steps.state c.step_marked.new.next c.steps.invariant.reached c.step_marked.ensures.step
     (λ e. let d = c.changes-moved.ensures.differ 0 (omega arith) in d (ap (λ (x : List Level). state_of x (slice_index c.changes-moved.new.changed 0)) (sym e))) c.steps.invariant.none
 
 pub returns-then-steps-budget-clause-phase : goal.returns-then-steps-budget-clause-phase
@@ -50,15 +51,14 @@ commit-requires-clause-found c = λ v ne.
     let f = found (goal.at.commit-requires-clause-found c).After-changes-moved in
     waiting_take c.changes-moved.new.changed c.changes-moved.result v c.changes-moved.ensures.few (f v ne)
 
-pub mark_changed-marked-requires-clause-changed : goal.mark_changed-marked-requires-clause-changed
-mark_changed-marked-requires-clause-changed c =
+pub mark_changed-requires-clause-changed : goal.mark_changed-requires-clause-changed
+mark_changed-requires-clause-changed c =
     below_take c.changes-moved.new.changed c.changes-moved.result c.args.net.now.nodes c.changes-moved.ensures.few
-    (λ i lt. let b = c.changes-moved.ensures.below i lt in omega (arith, b, c.step_marked-part.ensures.step.same_length))
+    (λ i lt. let b = c.changes-moved.ensures.below i lt in omega (arith, b, c.step_marked.ensures.step.same_length))
 
-pub mark_changed-marked-requires-clause-marks : goal.mark_changed-marked-requires-clause-marks
-mark_changed-marked-requires-clause-marks c =
-    let fits = c.step_marked-part.ensures.marks.fits in
-    none_marked (network_in c.args.net.now) c.unmark.new.marks (record { inside = c.unmark.ensures.inside ∙ fits.inside; order = ap length c.unmark.ensures.order ∙ fits.order }) c.unmark.ensures.none
+pub mark_changed-requires-clause-marks : goal.mark_changed-requires-clause-marks
+mark_changed-requires-clause-marks c =
+    none_marked (network_in c.args.net.now) c.clear.new.self (c.clear.ensures.fits ∙ c.step_marked.ensures.marks.fits) c.clear.ensures.empty
 
 pub steps-preserved : goal.steps-preserved
 steps-preserved c =
@@ -66,13 +66,13 @@ steps-preserved c =
     let f = found (goal.at.steps-preserved c).After-changes-moved in
     let e = c.commit.ensures in
     record {
-      reached = steps_more (network_in c.args.net.now) c.args.state.now c.steps.state c.step_marked-part.new.next c.commit.new.state c.steps.steps c.steps.invariant.reached c.step_marked-part.ensures.step e;
+      reached = steps_more (network_in c.args.net.now) c.args.state.now c.steps.state c.step_marked.new.next c.commit.new.state c.steps.steps c.steps.invariant.reached c.step_marked.ensures.step e;
       none = rw add-one m;
       within = omega arith;
       same = sym e;
-      marks = c.mark_changed-marked.ensures.marks;
-      quiet = rw e (quiet_next (network_in c.args.net.now) c.steps.state c.step_marked-part.new.next c.mark_changed-marked.new.marks.inside (sound_of c.args.net.now) c.step_marked-part.ensures.step
-          (λ v ne st. let q = waiting_take c.changes-moved.new.changed c.changes-moved.result v c.changes-moved.ensures.few (f v ne) in let at = q.2 in rw at at (c.mark_changed-marked.ensures.changed q.0 q.1 (rw at st)))
-          (λ v ne. let q = waiting_take c.changes-moved.new.changed c.changes-moved.result v c.changes-moved.ensures.few (f v ne) in let at = q.2 in rw at at (c.mark_changed-marked.ensures.gated q.0 q.1)));
-      strengths = c.step_marked-part.ensures.strengths;
+      marks = c.mark_changed.ensures.marks;
+      quiet = rw e (quiet_next (network_in c.args.net.now) c.steps.state c.step_marked.new.next c.mark_changed.new.marks.inside (sound_of c.args.net.now) c.step_marked.ensures.step
+          (λ v ne st. let q = waiting_take c.changes-moved.new.changed c.changes-moved.result v c.changes-moved.ensures.few (f v ne) in let at = q.2 in rw at at (c.mark_changed.ensures.changed q.0 q.1 (rw at st)))
+          (λ v ne. let q = waiting_take c.changes-moved.new.changed c.changes-moved.result v c.changes-moved.ensures.few (f v ne) in let at = q.2 in rw at at (c.mark_changed.ensures.gated q.0 q.1)));
+      strengths = c.step_marked.ensures.strengths;
     }

@@ -11,7 +11,7 @@ invariant-steps l = record {
   none : NoneRests (network_in l.net) l.steps l.fn.state;
   within : l.steps ≤ l.budget;
   same : l.next ≡ l.state;
-  marks : AreMarked (network_in l.net) l.marks l.marked;
+  marks : AreMarked (network_in l.net) l.marks;
   quiet : IsQuiet (network_in l.net) l.state l.marks.inside;
   strengths : AreLowStrengths l.net.nodes l.strengths;
 }

@@ -1,30 +1,32 @@
-use Rattle.std.proofs.Common.{◌-◌, arith}
+use Rattle.std.proofs.Common.{arith, slice_index_or}
+use Rattle.switch_net.specs.declared.terminals.Side.TheVariants.{Left}
 use Rattle.steady_state.specs.Wired.{network_in}
-use Rattle.steady_state.proofs.UnderWay.{total-le, take_one, rest}
+use Rattle.steady_state.proofs.UnderWay.{total-le, take, finish, relaxed_up}
 use Rattle.steady_state.proofs.spreading.drain.Goals as goal
 
-pub offset_bounds-stack-waiting : goal.offset_bounds-stack-waiting
-offset_bounds-stack-waiting c = let most = total-le c.nodes.best c.nodes.invariant.working.low in omega arith
+pub visit-requires-clause-node : goal.visit-requires-clause-node
+visit-requires-clause-node c = c.nodes.invariant.working.waits c.take_last-node.result c.take_last-node.ensures.was
 
-pub bounds-stack-waiting : goal.bounds-stack-waiting
-bounds-stack-waiting c = let most = total-le c.nodes.best c.nodes.invariant.working.low in omega arith
-
-pub visit-waiting-requires-clause-working : goal.visit-waiting-requires-clause-working
-visit-waiting-requires-clause-working c = take_one (network_in c.args.net.now) c.args.pass.now.part.state.now c.args.pass.now.kind c.args.pass.now.part.inside.now c.args.pass.now.floor.now c.nodes.best c.nodes.stack c.nodes.waiting (c.nodes.waiting - 1) (omega arith) c.nodes.invariant.working
+pub visit-requires-clause-working : goal.visit-requires-clause-working
+visit-requires-clause-working c =
+    take (network_in c.args.net.now) c.args.pass.now.part.state.now c.args.pass.now.kind c.args.pass.now.part.inside.now c.args.pass.now.floor.now c.nodes.best c.nodes.waiting.inside c.take_last-node.new.self.inside c.take_last-node.result
+    c.nodes.invariant.working c.take_last-node.ensures.left c.take_last-node.ensures.kept
 
 pub nodes-smaller : goal.nodes-smaller
 nodes-smaller c =
-    let most = total-le c.visit-waiting-in-nodes.new.best c.visit-waiting-in-nodes.ensures.working.low in
-    let a = c.visit-waiting.ensures.raised in
-    let b = c.visit-waiting-in-nodes.ensures.raised in
-    omega (arith, a.paid, a.risen, b.paid, b.risen)
+    let most = total-le c.visit-in-nodes.new.best c.visit-in-nodes.ensures.working.low in
+    let a = c.visit.ensures.raised in
+    let b = c.visit-in-nodes.ensures.raised in
+    omega (arith, most, a.paid, a.risen, b.paid, b.risen, c.take_last-node.ensures.count)
 
 pub nodes-preserved : goal.nodes-preserved
 nodes-preserved c =
-    let a = c.visit-waiting.ensures.raised in
-    let b = c.visit-waiting-in-nodes.ensures.raised in
+    let a = c.visit.ensures in
+    let b = c.visit-in-nodes.ensures in
     record {
-      working = rest (network_in c.args.net.now) c.args.pass.now.part.state.now c.args.pass.now.kind c.args.pass.now.part.inside.now c.args.pass.now.floor.now c.visit-waiting-in-nodes.new.best c.visit-waiting-in-nodes.new.stack c.visit-waiting-in-nodes.result _ 0 c.visit-waiting-in-nodes.ensures.working;
-      above = λ v. omega (arith, c.nodes.invariant.above v, a.above v, b.above v);
-      room = omega (arith, a.paid, b.paid);
+      fits = b.fits;
+      working = finish (network_in c.args.net.now) c.args.pass.now.part.state.now c.args.pass.now.kind c.args.pass.now.part.inside.now c.args.pass.now.floor.now c.visit-in-nodes.new.best c.visit-in-nodes.new.waiting.inside c.take_last-node.result b.working
+          (λ k d lt is. relaxed_up c.args.pass.now.part.state.now c.args.pass.now.kind c.args.pass.now.part.inside.now c.args.pass.now.floor.now c.visit.new.best c.visit-in-nodes.new.best Left (slice_index_or c.args.net.now.switches.now k d)
+          (rw is b.same) b.raised.above (a.relaxed k d lt is)) b.relaxed;
+      above = λ v. omega (arith, c.nodes.invariant.above v, a.raised.above v, b.raised.above v);
     }

@@ -1,14 +1,14 @@
-use Rattle.std.proofs.Common.{◌<◌, ◌≤◌, ◌+◌, ◌-◌, ◌*◌, ℕ, length, slice_index}
+use Rattle.std.proofs.Common.{◌≡◌, ◌≤◌, ◌+◌, ◌-◌, ◌*◌, ℕ, [], length, slice_index}
 use Rattle.steady_state.specs.Wired.{network_in}
 use Rattle.steady_state.specs.Spreading.{IsWorking, total}
 use Rattle.steady_state.proofs.spreading.drain.Given as goal
 
 abbrev pub invariant-nodes : goal.invariant-nodes
 invariant-nodes l = record {
-  working : IsWorking (network_in l.net) l.pass.part.state.now l.pass.kind l.pass.part.inside.now l.pass.floor.now l.best l.stack l.waiting 0 0 0;
+  fits : length l.waiting.inside ≡ l.net.nodes;
+  working : IsWorking (network_in l.net) l.pass.part.state.now l.pass.kind l.pass.part.inside.now l.pass.floor.now l.best l.waiting.inside [];
   above : (v : ℕ) → slice_index l.fn.best v ≤ slice_index l.best v;
-  room : l.waiting + l.net.nodes * 6 < length l.stack + total l.best;
 }
 
 abbrev pub decreases-nodes : goal.decreases-nodes
-decreases-nodes l = (l.net.nodes * 6 - total l.best) * 2 + l.waiting
+decreases-nodes l = (l.net.nodes * 6 - total l.best) * 2 + l.waiting.count
