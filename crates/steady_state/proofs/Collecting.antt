@@ -19,21 +19,6 @@ use Rattle.switch_net.proofs.Vicinities.{in_more, in_self, chain_from}
 use Rattle.steady_state.specs.Marked.{AreMarked, AddsMarks, AreReached, IsCovered, LeadsInside}
 use Rattle.steady_state.proofs.UnderWay.{joins}
 
--- one storage node more is marked
-pub marked_more : (net : Network) (marks new : NodeSet) (v : ℕ) → length new.inside ≡ length marks.inside → ((u : ℕ) → IsInside new.inside u →
-    IsInside marks.inside u ⊎ (u ≡ v)) →
-    IsStorage net v → AreMarked net marks → AreMarked net new
-marked_more net marks new v same others storage k = record {
-  fits = same ∙ k.fits;
-  storage = λ u ins. elim (others u ins) [ inl old ↦ k.storage u old | inr is ↦ rw is storage ];
-}
-
--- where that node is reached, all marked nodes still are
-pub reached_marked : (net : Network) (s : List Level) (seeds : List ℕ) (inside new : List Bool) (v : ℕ) → ((u : ℕ) → IsInside new u →
-    IsInside inside u ⊎ (u ≡ v)) → IsReached net s seeds v →
-    AreReached net s seeds inside → AreReached net s seeds new
-reached_marked net s seeds inside new v others reached k u ins = elim (others u ins) [ inl old ↦ k u old | inr is ↦ rw is reached ]
-
 pub adds_none : (marks : NodeSet) → AddsMarks marks marks
 adds_none marks = record { grown = λ u ins. ins; same = λ i lt. refl; more = omega arith }
 

@@ -139,12 +139,6 @@ steady_of net s sound v p q One a b l = none_other net s sound One v p a l
 steady_of net s sound v p q Zero a b l = none_other net s sound Zero v q b l
 steady_of net s sound v p q X a b l = (some_other net s One v p a l.0, some_other net s Zero v q b l.1)
 
--- what is 0 at each listed node is 0 in the part
-pub zero_inside : (inside : List Bool) (order floor : List ℕ) → ((v : ℕ) → IsInside inside v → IsAmong order (length order) v) → ((i : ℕ) →
-    i < length order → slice_index floor (slice_index order i) ≡ 0) →
-    (v : ℕ) → IsInside inside v → slice_index floor v ≡ 0
-zero_inside inside order floor known zeros v ins = let q = known v ins in let at = q.2 in rw at at (zeros q.0 q.1)
-
 -- the nodes of a part's list are nodes of the network
 pub order_below : (net : Network) (part : Part) → IsPartOf net part → All (λ v. v < net.nodes) part.order.now
 order_below net part p k d lt =

@@ -183,13 +183,6 @@ rise_by_lift net s kind inside floor best lifted waiting new busy side w a b g e
     in_b (floors b in_b)
     (rw (same, eg) refl) lift.1 lift.2 lt here grown others)
 
--- a lift leaves the node that it lifts from
-pub lift_keeps : (floor best lifted : List ℕ) (a b g : ℕ) → IsLift floor best lifted a b g true → slice_index lifted a ≡ slice_index best a
-lift_keeps floor best lifted a b g lift = elim (cases_eq a b) [
-  | inl same ↦ (let f : slice_index best a ≡ slice_index best b = ap (slice_index best) same in absurd (omega (arith, f, lift.1)))
-  | inr other ↦ rw lift.0 (get_or-set_other best b a (min (slice_index best a) g) 0 other)
-]
-
 pub far_below : (side : Side) (w : Switch) (n : ℕ) → w.left < n → w.right < n → far_end side w < n
 far_below Left w n l r = r
 far_below Right w n l r = l

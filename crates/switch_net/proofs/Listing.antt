@@ -30,21 +30,6 @@ set_grown inside v u in_v ins = elim (cases_eq u v) [
   | inr other ↦ rw (get_or-set_other inside v u true false other) ins
 ]
 
--- and adds one alone
-pub set_others : (inside : List Bool) (v u : ℕ) → IsInside (slice_set inside v true) u → IsInside inside u ⊎ (u ≡ v)
-set_others inside v u ins = elim (cases_eq u v) [ inl same ↦ inr same | inr other ↦ inl (rw (get_or-set_other inside v u true false other) at ins) ]
-
--- a mark less adds none
-pub unset_left : (inside : List Bool) (v u : ℕ) → v < length inside → IsInside (slice_set inside v false) u → IsInside inside u
-unset_left inside v u in_v ins = elim (cases_eq u v) [
-  | inl same ↦ absurd (let f = rw (same, get_or-set_same inside v false false in_v) at ins in cc)
-  | inr other ↦ rw (get_or-set_other inside v u false false other) at ins
-]
-
--- and takes one alone
-pub unset_kept : (inside : List Bool) (v u : ℕ) → IsInside inside u → (u ≡ v) ⊎ IsInside (slice_set inside v false) u
-unset_kept inside v u ins = elim (cases_eq u v) [ inl same ↦ inl same | inr other ↦ inr (rw (get_or-set_other inside v u false false other) ins) ]
-
 -- a node that is not known to differ from each listed one is listed
 among : (order : List ℕ) (count v : ℕ) → ¬ ((i : ℕ) → i < count → slice_index order i ≢ v) → IsAmong order count v
 among order zero v not_none = absurd (not_none (λ i lt. absurd (omega arith)))
@@ -126,14 +111,3 @@ pub taken_from : (inside : List Bool) (order : List ℕ) (n v : ℕ) → 0 < n �
     AreListed (slice_set inside v false) order (n - 1)
 taken_from inside order n v pos k is_v = let e : n ≡ (n - 1) + 1 = omega arith in taken inside order (n - 1) v
     (subst (λ (m : ℕ). AreListed inside order m) e k) is_v
-
--- none is marked and none listed
-pub none_listed : (inside : List Bool) (order : List ℕ) → length order ≡ length inside → count_by (λ b. b) inside ≡ 0 → ((v : ℕ) →
-    slice_index_or inside v false ≡ false) → AreListed inside order 0
-none_listed inside order room none free = record {
-  room = room;
-  counted = none;
-  listed = λ i lt. absurd (omega arith);
-  distinct = λ i j lt below. absurd (omega arith);
-  known = λ v ins. absurd (let f = free v in cc);
-}
