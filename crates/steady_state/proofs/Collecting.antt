@@ -19,19 +19,6 @@ use Rattle.switch_net.proofs.Vicinities.{in_more, in_self, chain_from}
 use Rattle.steady_state.specs.Marked.{AreMarked, AddsMarks, AreReached, IsCovered, LeadsInside}
 use Rattle.steady_state.proofs.UnderWay.{joins}
 
--- one storage node more is marked
-pub marked_more : (net : Network) (marks new : NodeSet) (v : ℕ) → length new.inside ≡ length marks.inside → ((u : ℕ) → IsInside new.inside u → IsInside marks.inside u ⊎ (u ≡ v)) →
-    IsStorage net v → AreMarked net marks → AreMarked net new
-marked_more net marks new v same others storage k = record {
-  fits = same ∙ k.fits;
-  storage = λ u ins. elim (others u ins) [ inl old ↦ k.storage u old | inr is ↦ rw is storage ];
-}
-
--- where that node is reached, all marked nodes still are
-pub reached_marked : (net : Network) (s : List Level) (seeds : List ℕ) (inside new : List Bool) (v : ℕ) → ((u : ℕ) → IsInside new u → IsInside inside u ⊎ (u ≡ v)) → IsReached net s seeds v →
-    AreReached net s seeds inside → AreReached net s seeds new
-reached_marked net s seeds inside new v others reached k u ins = elim (others u ins) [ inl old ↦ k u old | inr is ↦ rw is reached ]
-
 pub adds_none : (marks : NodeSet) → AddsMarks marks marks
 adds_none marks = record { grown = λ u ins. ins; same = λ i lt. refl; more = omega arith }
 
@@ -59,13 +46,20 @@ pub leads_grown : (net : Network) (s : List Level) (side : Side) (inside new : L
     LeadsInside net s side inside w → LeadsInside net s side new w
 leads_grown net s side inside new w grown old o st = grown (far_end side w) (old o st)
 
-pub covered_grown : (net : Network) (s : List Level) (side : Side) (inside new : List Bool) (v : ℕ) → ((u : ℕ) → IsInside inside u → IsInside new u) → IsCovered net s side inside v → IsCovered net s side new v
+pub covered_grown : (net : Network) (s : List Level) (side : Side) (inside new : List Bool) (v : ℕ) → ((u : ℕ) → IsInside inside u → IsInside new u) →
+    IsCovered net s side inside v → IsCovered net s side new v
 covered_grown net s side inside new v grown c k d lt near = leads_grown net s side inside new (slice_index_or net.switches k d) grown (c k d lt near)
 
 -- what a reached node leads to is reached
-pub reached_more : (net : Network) (s : List Level) (seeds : List ℕ) (side : Side) (w : Switch) → IsReached net s seeds (near_end side w) → Contains net.switches w → is_closed_or_unknown s w ≡ true →
+pub reached_more : (net : Network) (s : List Level) (seeds : List ℕ) (side : Side) (w : Switch) → IsReached net s seeds (near_end side w) →
+    Contains net.switches w → is_closed_or_unknown s w ≡ true →
     IsStorage net (far_end side w) → IsReached net s seeds (far_end side w)
-reached_more net s seeds side w r c o st = record { seed = r.seed; is_seed = r.is_seed; joined = in_more net s r.seed (near_end side w) (far_end side w) w r.joined c (joins side w) o st }
+reached_more net s seeds side w r c o st = record {
+  seed = r.seed;
+  is_seed = r.is_seed;
+  joined = in_more net s r.seed (near_end side w) (far_end side w) w
+      r.joined c (joins side w) o st;
+}
 
 -- a seed is reached
 pub seed_reached : (net : Network) (s : List Level) (seeds : List ℕ) (v : ℕ) → Contains seeds v → IsStorage net v → IsReached net s seeds v
@@ -73,7 +67,8 @@ seed_reached net s seeds v c st = record { seed = v; is_seed = c; joined = in_se
 
 -- one seed more is marked
 pub seeded_more : (net : Network) (seeds : List ℕ) (inside new : List Bool) (n : ℕ) → n < length seeds → ((u : ℕ) → IsInside inside u → IsInside new u) →
-    (IsStorage net (slice_index seeds n) → IsInside new (slice_index seeds n)) → ((k d : ℕ) → k < n → IsStorage net (slice_index_or seeds k d) → IsInside inside (slice_index_or seeds k d)) →
+    (IsStorage net (slice_index seeds n) → IsInside new (slice_index seeds n)) → ((k d : ℕ) → k < n → IsStorage net (slice_index_or seeds k d) →
+    IsInside inside (slice_index_or seeds k d)) →
     (k d : ℕ) → k < n + 1 → IsStorage net (slice_index_or seeds k d) → IsInside new (slice_index_or seeds k d)
 seeded_more net seeds inside new n in_n grown here old k d lt st = elim (cases_eq k n) [
   | inl same ↦ (let e : slice_index_or seeds k d ≡ slice_index seeds n = rw (same, get_or_default seeds n d 0 in_n) refl in rw e (here (rw e at st)))
@@ -81,8 +76,10 @@ seeded_more net seeds inside new n in_n grown here old k d lt st = elim (cases_e
 ]
 
 -- the nodes that are gone by are covered
-pub covered_more : (net : Network) (s : List Level) (side : Side) (inside new : List Bool) (order after : List ℕ) (n count : ℕ) → n < count → ((u : ℕ) → IsInside inside u → IsInside new u) →
-    ((i : ℕ) → i < count → slice_index after i ≡ slice_index order i) → IsCovered net s side new (slice_index order n) → ((i : ℕ) → i < n → IsCovered net s side inside (slice_index order i)) →
+pub covered_more : (net : Network) (s : List Level) (side : Side) (inside new : List Bool) (order after : List ℕ) (n count : ℕ) → n < count → ((u : ℕ) →
+    IsInside inside u → IsInside new u) →
+    ((i : ℕ) → i < count → slice_index after i ≡ slice_index order i) → IsCovered net s side new (slice_index order n) → ((i : ℕ) → i < n →
+    IsCovered net s side inside (slice_index order i)) →
     (i : ℕ) → i < n + 1 → IsCovered net s side new (slice_index after i)
 covered_more net s side inside new order after n count in_n grown same here old i lt = elim (cases_eq i n) [
   | inl e ↦ (let f : slice_index after i ≡ slice_index order n = same i (omega arith) ∙ ap (slice_index order) e in covered_at f here)
@@ -93,7 +90,8 @@ covered_more net s side inside new order after n count in_n grown same here old 
     covered_at {a} {b} e c = subst (λ (x : ℕ). IsCovered net s side new x) (sym e) c
 
 -- what a chain of the part reaches is in the part
-pub chain_inside : (net : Network) (s : List Level) (inside : List Bool) → ((v : ℕ) → IsInside inside v → IsCovered net s Left inside v) → ((v : ℕ) → IsInside inside v → IsCovered net s Right inside v) →
+pub chain_inside : (net : Network) (s : List Level) (inside : List Bool) → ((v : ℕ) → IsInside inside v → IsCovered net s Left inside v) → ((v : ℕ) →
+    IsInside inside v → IsCovered net s Right inside v) →
     (n : ℕ) (p : List Hop) → IsInside inside n → IsChain net s n p → IsInside inside (end_of n p)
 chain_inside net s inside left right n [] ins i = ins
 chain_inside net s inside left right n (h ∷ p) ins i =
@@ -104,7 +102,8 @@ chain_inside net s inside left right n (h ∷ p) ins i =
       | inr j ↦ (let r = right (end_of n p) before c.0 h.through c.1 (rw c.2 j.0) (rw c.2 i.3) in rw (c.2, j.1) at (r (rw (c.2, j.1) i.4)))
     ]
 
-pub reached_inside : (net : Network) (s : List Level) (seeds : List ℕ) (inside : List Bool) → ((v : ℕ) → IsInside inside v → IsCovered net s Left inside v) → ((v : ℕ) → IsInside inside v → IsCovered net s Right inside v) →
+pub reached_inside : (net : Network) (s : List Level) (seeds : List ℕ) (inside : List Bool) → ((v : ℕ) → IsInside inside v →
+    IsCovered net s Left inside v) → ((v : ℕ) → IsInside inside v → IsCovered net s Right inside v) →
     ((v : ℕ) → Contains seeds v → IsStorage net v → IsInside inside v) → (v : ℕ) → IsReached net s seeds v → IsInside inside v
 reached_inside net s seeds inside left right seeded v r =
     let st = chain_from net s r.seed r.joined.chain r.joined.is_chain in

@@ -22,7 +22,8 @@ use Rattle.switch_net.proofs.Listing.{count-le, known}
 use Rattle.switch_net.proofs.Vicinities.{keeps_value, chain_from, in_self}
 
 -- more marks leave the ends of a switch marked
-pub ends_grown : (net : Network) (inside new : List Bool) (w : Switch) → ((u : ℕ) → IsInside inside u → IsInside new u) → EndsInside net inside w → EndsInside net new w
+pub ends_grown : (net : Network) (inside new : List Bool) (w : Switch) → ((u : ℕ) → IsInside inside u → IsInside new u) → EndsInside net inside w →
+    EndsInside net new w
 ends_grown net inside new w grown ends = (λ st. grown w.left (ends.0 st), λ st. grown w.right (ends.1 st))
 
 pub gated_grown : (net : Network) (inside new : List Bool) (v : ℕ) → ((u : ℕ) → IsInside inside u → IsInside new u) → IsGated net inside v → IsGated net new v
@@ -40,8 +41,10 @@ same_states s t len none = same_lists s t len (λ k d lt.
 
 -- a closed part that is stepped, where the rest is quiet, makes a step
 pub part_steps : (net : Network) (s t : List Level) (before inside : List Bool) → IsSound net → length t ≡ length s → IsQuiet net s before →
-    ((v : ℕ) → IsInside before v → IsInside inside v) → ((n : ℕ) (p : List Hop) → IsInside inside n → IsChain net s n p → IsInside inside (end_of n p)) → ((v : ℕ) → IsInside inside v → IsStorage net v) →
-    ((v : ℕ) → IsInside inside v → IsSteadyValue net s v (state_of t v)) → ((v : ℕ) → slice_index_or inside v false ≡ false → state_of t v ≡ state_of s v) → IsStep net s t
+    ((v : ℕ) → IsInside before v → IsInside inside v) → ((n : ℕ) (p : List Hop) → IsInside inside n → IsChain net s n p → IsInside inside (end_of n p)) →
+    ((v : ℕ) → IsInside inside v → IsStorage net v) →
+    ((v : ℕ) → IsInside inside v → IsSteadyValue net s v (state_of t v)) → ((v : ℕ) → slice_index_or inside v false ≡ false →
+    state_of t v ≡ state_of s v) → IsStep net s t
 part_steps net s t before inside sound len quiet grown closed storage steady kept = record {
   same_length = len;
   each = λ v lt. elim (cases_Bool (slice_index_or inside v false)) [
@@ -54,7 +57,8 @@ part_steps net s t before inside sound len quiet grown closed storage steady kep
 }
 
 -- after a step, the rest of the marked nodes is quiet
-pub quiet_next : (net : Network) (s t : List Level) (inside : List Bool) → IsSound net → IsStep net s t → ((v : ℕ) → state_of s v ≢ state_of t v → IsStorage net v → IsInside inside v) →
+pub quiet_next : (net : Network) (s t : List Level) (inside : List Bool) → IsSound net → IsStep net s t → ((v : ℕ) → state_of s v ≢ state_of t v →
+    IsStorage net v → IsInside inside v) →
     ((v : ℕ) → state_of s v ≢ state_of t v → IsGated net inside v) → IsQuiet net t inside
 quiet_next net s t inside sound step changed gated v st outside =
     keeps_value net sound s t step (λ u. IsStorage net u → IsInside inside u)
@@ -68,15 +72,18 @@ quiet_next net s t inside sound step changed gated v st outside =
 pub waiting_take : (xs : List ℕ) (n v : ℕ) → n ≤ length xs → IsAmong xs n v → IsAmong (take n xs) (length (take n xs)) v
 waiting_take xs n v le q = (q.0, simp length-take (omega (arith, q.1)), rw (get_or-take n xs q.0 0 q.1) q.2)
 
-pub below_take : (xs : List ℕ) (n m : ℕ) → n ≤ length xs → ((i : ℕ) → i < n → slice_index xs i < m) → (k d : ℕ) → k < length (take n xs) → slice_index_or (take n xs) k d < m
+pub below_take : (xs : List ℕ) (n m : ℕ) → n ≤ length xs → ((i : ℕ) → i < n → slice_index xs i < m) → (k d : ℕ) → k < length (take n xs) →
+    slice_index_or (take n xs) k d < m
 below_take xs n m le h k d lt =
     let lt' : k < n = omega (arith, simp length-take at lt) in
     let in_xs : k < length xs = omega arith in
     rw (get_or-take n xs k d lt', get_or_default xs k d 0 in_xs) (h k lt')
 
 -- marked nodes that are closed make a part of the network
-pub part_of : (net : Network) (marks : NodeSet) (part : Part) → length part.state.now ≡ net.nodes → part.inside.now ≡ marks.inside → part.order.now ≡ take marks.count marks.order → AreMarked net marks →
-    ((v : ℕ) → IsInside marks.inside v → IsCovered net part.state.now Left marks.inside v) → ((v : ℕ) → IsInside marks.inside v → IsCovered net part.state.now Right marks.inside v) → IsPartOf net part
+pub part_of : (net : Network) (marks : NodeSet) (part : Part) → length part.state.now ≡ net.nodes → part.inside.now ≡ marks.inside →
+    part.order.now ≡ take marks.count marks.order → AreMarked net marks →
+    ((v : ℕ) → IsInside marks.inside v → IsCovered net part.state.now Left marks.inside v) → ((v : ℕ) → IsInside marks.inside v →
+    IsCovered net part.state.now Right marks.inside v) → IsPartOf net part
 part_of net marks part len is_inside is_order k left right = record {
   state = len;
   inside = ap length is_inside ∙ k.fits;
@@ -98,9 +105,11 @@ part_of net marks part len is_inside is_order k left right = record {
     taken = length-take-le marks.count marks.order in_order
 
 -- each node that changed is listed
-pub all_changed : (s t : List Level) (inside : List Bool) (order changed : List ℕ) (part moved : ℕ) → part ≤ length order → ((v : ℕ) → IsInside inside v → IsAmong order part v) →
+pub all_changed : (s t : List Level) (inside : List Bool) (order changed : List ℕ) (part moved : ℕ) → part ≤ length order → ((v : ℕ) → IsInside inside v →
+    IsAmong order part v) →
     ((v : ℕ) → slice_index_or inside v false ≡ false → state_of t v ≡ state_of s v) →
-    ((i : ℕ) → i < length (take part order) → state_of s (slice_index (take part order) i) ≢ state_of t (slice_index (take part order) i) → IsAmong changed moved (slice_index (take part order) i)) →
+    ((i : ℕ) → i < length (take part order) → state_of s (slice_index (take part order) i) ≢ state_of t (slice_index (take part order) i) →
+    IsAmong changed moved (slice_index (take part order) i)) →
     (v : ℕ) → state_of s v ≢ state_of t v → IsAmong changed moved v
 all_changed s t inside order changed part moved le known kept found v ne = elim (cases_Bool (slice_index_or inside v false)) [
   | inl ins ↦ (let q = waiting_take order part v le (known v ins) in let at = q.2 in rw at at (found q.0 q.1 (rw at ne)))

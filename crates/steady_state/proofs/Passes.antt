@@ -28,11 +28,14 @@ use Rattle.steady_state.specs.Parts.{IsPartOf, IsPassOver}
 use Rattle.switch_net.proofs.Listing.{inside_range}
 use Rattle.steady_state.proofs.Within.{IsSpread, bound}
 
-module _ (net : Network) (s : List Level) (kind : PathKind) (inside : List Bool) (floor order : List ℕ) (known : (v : ℕ) → IsInside inside v → IsAmong order (length order) v) where
+module _ (net : Network) (s : List Level) (kind : PathKind) (inside : List Bool) (floor order : List ℕ) (known : (v : ℕ) → IsInside inside v →
+    IsAmong order (length order) v) where
   -- what has begun is under way
-  pub filled_working : (best : List ℕ) (waiting : List Bool) → IsFilled net s kind inside floor order (length order) best waiting → IsWorking net s kind inside floor best waiting []
+  pub filled_working : (best : List ℕ) (waiting : List Bool) → IsFilled net s kind inside floor order (length order) best waiting →
+      IsWorking net s kind inside floor best waiting []
   filled_working best waiting x = record {
-    attained = λ a ins pos. let q = known a ins in let at = q.2 in let p : 0 < slice_index best (slice_index order q.0) = rw at pos in rw at at ((x.begun q.0 q.1).attained p);
+    attained = λ a ins pos. let q = known a ins in let at = q.2 in let p : 0 < slice_index best (slice_index order q.0) = rw at pos in rw at at
+        ((x.begun q.0 q.1).attained p);
     low = x.low;
     waits = x.inner;
     settled = λ side k d lt ins. inr (go side (slice_index_or net.switches k d) ins);
@@ -46,11 +49,17 @@ module _ (net : Network) (s : List Level) (kind : PathKind) (inside : List Bool)
       ]
 
   -- with none waiting, nothing more is brought
-  pub done : (start best : List ℕ) (waiting idle : List Bool) → IsSound net → IsFilled net s kind inside floor order (length order) start waiting → ((v : ℕ) → slice_index start v ≤ slice_index best v) →
-      ((v : ℕ) → IsInside inside v → IsFloor net s kind v (slice_index floor v)) → ((v : ℕ) → IsInside inside v → IsCovered net s Left inside v) → ((v : ℕ) → IsInside inside v → IsCovered net s Right inside v) →
+  pub done : (start best : List ℕ) (waiting idle : List Bool) → IsSound net → IsFilled net s kind inside floor order (length order) start waiting →
+      ((v : ℕ) → slice_index start v ≤ slice_index best v) →
+      ((v : ℕ) → IsInside inside v → IsFloor net s kind v (slice_index floor v)) → ((v : ℕ) → IsInside inside v → IsCovered net s Left inside v) →
+      ((v : ℕ) → IsInside inside v → IsCovered net s Right inside v) →
       IsWorking net s kind inside floor best idle [] → ((v : ℕ) → IsInside idle v → ⊥) → IsSpread net s kind inside floor best
   done start best waiting idle sound x above floors left right k none = record {
-    closed = λ w a b c j o ins. elim (cases_Bool (is_input net a)) [ inl e ↦ inr e | inr e ↦ inl (covers w a b c j o ins ((ends_in_range net sound w a b c j).0, e)) ];
+    closed = λ w a b c j o ins. elim (cases_Bool (is_input net a)) [
+      | inl e ↦ inr e
+      | inr e ↦ inl
+          (covers w a b c j o ins ((ends_in_range net sound w a b c j).0, e))
+    ];
     floors = floors;
     own = λ v ins adm fl. let r = (begun v ins).own adm fl in omega (arith, r, above v);
     from_inputs = λ w a b c j go inp adm ins le. let r = pulls w a b c j go inp adm ins le in omega (arith, r, above b);
@@ -60,13 +69,17 @@ module _ (net : Network) (s : List Level) (kind : PathKind) (inside : List Bool)
       begun : (v : ℕ) → IsInside inside v → IsFirstStrength net s kind floor v (slice_index start v)
       begun v ins = let q = known v ins in let at = q.2 in rw at at (x.begun q.0 q.1)
 
-      covers : (w : Switch) (a b : ℕ) → Contains net.switches w → Joins w a b → is_closed_or_unknown s w ≡ true → IsInside inside b → IsStorage net a → IsInside inside a
+      covers : (w : Switch) (a b : ℕ) → Contains net.switches w → Joins w a b → is_closed_or_unknown s w ≡ true → IsInside inside b → IsStorage net a →
+          IsInside inside a
       covers w a b c (inl (p, q)) o ins st = let r = right b ins c.0 w c.1 (rw c.2 q) (rw c.2 o) in rw (c.2, p) at (r (rw (c.2, p) st))
       covers w a b c (inr (p, q)) o ins st = let r = left b ins c.0 w c.1 (rw c.2 q) (rw c.2 o) in rw (c.2, p) at (r (rw (c.2, p) st))
 
-      pulls : (w : Switch) (a b : ℕ) → Contains net.switches w → Joins w a b → goes_through s kind w ≡ true → is_input net a ≡ true → BeginsAt s kind a → IsInside inside b → slice_index floor b ≤ switch_strength w.kind → switch_strength w.kind ≤ slice_index start b
-      pulls w a b c (inl (p, q)) go inp adm ins le = let r = (begun b ins).right c.0 w c.1 (rw c.2 q) (rw c.2 go) (rw (c.2, p) inp) (rw (c.2, p) adm) (rw (c.2, q) le) in rw c.2 at r
-      pulls w a b c (inr (p, q)) go inp adm ins le = let r = (begun b ins).left c.0 w c.1 (rw c.2 q) (rw c.2 go) (rw (c.2, p) inp) (rw (c.2, p) adm) (rw (c.2, q) le) in rw c.2 at r
+      pulls : (w : Switch) (a b : ℕ) → Contains net.switches w → Joins w a b → goes_through s kind w ≡ true → is_input net a ≡ true → BeginsAt s kind a →
+          IsInside inside b → slice_index floor b ≤ switch_strength w.kind → switch_strength w.kind ≤ slice_index start b
+      pulls w a b c (inl (p, q)) go inp adm ins le = let r = (begun b ins).right c.0 w c.1 (rw c.2 q) (rw c.2 go) (rw (c.2, p) inp) (rw (c.2, p) adm)
+          (rw (c.2, q) le) in rw c.2 at r
+      pulls w a b c (inr (p, q)) go inp adm ins le = let r = (begun b ins).left c.0 w c.1 (rw c.2 q) (rw c.2 go) (rw (c.2, p) inp) (rw (c.2, p) adm)
+          (rw (c.2, q) le) in rw c.2 at r
 
       settled_at : (side : Side) (w : Switch) → Contains net.switches w → IsInside inside (near_end side w) → IsRelaxed s kind inside floor best side w
       settled_at side w c ins = elim (k.settled side c.0 w c.1 (rw c.2 ins)) [
@@ -74,13 +87,15 @@ module _ (net : Network) (s : List Level) (kind : PathKind) (inside : List Bool)
         | inr y ↦ elim y [ inl q ↦ absurd (none (near_end side w) (rw c.2 at q)) | inr rel ↦ rw c.2 at rel ]
       ]
 
-      relaxes : (w : Switch) (a b : ℕ) → Contains net.switches w → Joins w a b → goes_through s kind w ≡ true → IsInside inside a → IsInside inside b → slice_index floor b ≤ min (slice_index best a) (switch_strength w.kind) →
+      relaxes : (w : Switch) (a b : ℕ) → Contains net.switches w → Joins w a b → goes_through s kind w ≡ true → IsInside inside a → IsInside inside b →
+          slice_index floor b ≤ min (slice_index best a) (switch_strength w.kind) →
           min (slice_index best a) (switch_strength w.kind) ≤ slice_index best b
       relaxes w a b c (inl (p, q)) go in_a in_b le = let r = settled_at Left w c (rw p in_a) go (rw q in_b) (rw (p, q) le) in rw (p, q) at r
       relaxes w a b c (inr (p, q)) go in_a in_b le = let r = settled_at Right w c (rw p in_a) go (rw q in_b) (rw (p, q) le) in rw (p, q) at r
 
   -- so each entry is the strongest
-  pub strongest_of : (best : List ℕ) (idle : List Bool) → IsSound net → IsSpread net s kind inside floor best → IsWorking net s kind inside floor best idle [] → (v : ℕ) → IsInside inside v → IsStrongestOfKind net s kind v (slice_index best v)
+  pub strongest_of : (best : List ℕ) (idle : List Bool) → IsSound net → IsSpread net s kind inside floor best →
+      IsWorking net s kind inside floor best idle [] → (v : ℕ) → IsInside inside v → IsStrongestOfKind net s kind v (slice_index best v)
   strongest_of best idle sound x k v ins = record {
     attained = λ pos. k.attained v ins pos;
     bound = λ j p. let at = p.ends in let b = bound net s sound kind inside floor best x p.root p.path p.of_kind (rw at ins) in
@@ -88,7 +103,8 @@ module _ (net : Network) (s : List Level) (kind : PathKind) (inside : List Bool)
   }
 
 -- the kind of definite paths gives the strongest
-pub definite_of : (net : Network) (s : List Level) → IsSound net → (v k : ℕ) → v < net.nodes → IsStrongestOfKind net s Definite v k → IsStrongestDefinite net s v k
+pub definite_of : (net : Network) (s : List Level) → IsSound net → (v k : ℕ) → v < net.nodes → IsStrongestOfKind net s Definite v k →
+    IsStrongestDefinite net s v k
 definite_of net s sound v k lt x = record {
   attained =
       let own = x.bound (root_strength net v) (record { root = v; path = []; of_kind = (lt, tt); ends = refl; is_strength = refl }) in
@@ -99,25 +115,29 @@ definite_of net s sound v k lt x = record {
 }
 
 -- a kind from roots in another state than this finds nothing exactly where all roots are in this state
-none_other : (net : Network) (s : List Level) → IsSound net → (kept : Level) (v k : ℕ) → IsStrongestOfKind net s (FromOther kept) v k → k ≡ 0 → AllRootsAre net s v kept
+none_other : (net : Network) (s : List Level) → IsSound net → (kept : Level) (v k : ℕ) → IsStrongestOfKind net s (FromOther kept) v k → k ≡ 0 →
+    AllRootsAre net s v kept
 none_other net s sound kept v k x z root path u = elim (level_cases (state_of s root) kept) [
   | inl e ↦ e
-  | inr ne ↦ (let b = x.bound (strength net root path) (record { root = root; path = path; of_kind = (u.is_path, u.is_unblocked, ne); ends = u.ends; is_strength = refl }) in
+  | inr ne ↦ (let b = x.bound (strength net root path) (record {
+    root = root;
+    path = path;
+    of_kind = (u.is_path, u.is_unblocked, ne);
+    ends = u.ends;
+    is_strength = refl;
+  }) in
       let pos = strength-pos net s sound root path u.is_path in absurd (omega arith))
 ]
 
 some_other : (net : Network) (s : List Level) (kept : Level) (v k : ℕ) → IsStrongestOfKind net s (FromOther kept) v k → 0 < k → ¬ (AllRootsAre net s v kept)
-some_other net s kept v k x pos all = let p = x.attained pos in p.of_kind.2 (all p.root p.path (record { is_path = p.of_kind.0; ends = p.ends; is_unblocked = p.of_kind.1 }))
+some_other net s kept v k x pos all = let p = x.attained pos in p.of_kind.2 (all p.root p.path
+    (record { is_path = p.of_kind.0; ends = p.ends; is_unblocked = p.of_kind.1 }))
 
-pub steady_of : (net : Network) (s : List Level) → IsSound net → (v p q : ℕ) (x : Level) → IsStrongestOfKind net s (FromOther One) v p → IsStrongestOfKind net s (FromOther Zero) v q → IsLevelOf p q x → IsSteadyValue net s v x
+pub steady_of : (net : Network) (s : List Level) → IsSound net → (v p q : ℕ) (x : Level) → IsStrongestOfKind net s (FromOther One) v p →
+    IsStrongestOfKind net s (FromOther Zero) v q → IsLevelOf p q x → IsSteadyValue net s v x
 steady_of net s sound v p q One a b l = none_other net s sound One v p a l
 steady_of net s sound v p q Zero a b l = none_other net s sound Zero v q b l
 steady_of net s sound v p q X a b l = (some_other net s One v p a l.0, some_other net s Zero v q b l.1)
-
--- what is 0 at each listed node is 0 in the part
-pub zero_inside : (inside : List Bool) (order floor : List ℕ) → ((v : ℕ) → IsInside inside v → IsAmong order (length order) v) → ((i : ℕ) → i < length order → slice_index floor (slice_index order i) ≡ 0) →
-    (v : ℕ) → IsInside inside v → slice_index floor v ≡ 0
-zero_inside inside order floor known zeros v ins = let q = known v ins in let at = q.2 in rw at at (zeros q.0 q.1)
 
 -- the nodes of a part's list are nodes of the network
 pub order_below : (net : Network) (part : Part) → IsPartOf net part → All (λ v. v < net.nodes) part.order.now
@@ -127,10 +147,12 @@ order_below net part p k d lt =
     rw (get_or_default part.order.now k d 0 lt) below
 
 -- with the definite strengths as floors, a pass over the part for other roots may begin
-pub pass_from_other : (net : Network) (part : Part) (level : Level) (pass : Pass) → IsSound net → IsPartOf net part → pass.part ≡ part → pass.kind ≡ FromOther level → length pass.floor.now ≡ net.nodes →
+pub pass_from_other : (net : Network) (part : Part) (level : Level) (pass : Pass) → IsSound net → IsPartOf net part → pass.part ≡ part →
+    pass.kind ≡ FromOther level → length pass.floor.now ≡ net.nodes →
     ((v : ℕ) → IsInside part.inside.now v → IsStrongestOfKind net part.state.now Definite v (slice_index pass.floor.now v)) → IsPassOver net pass
 pass_from_other net part level pass sound p same_part same_kind fits strongest = record {
   part = rw same_part p;
   floor = fits;
-  floors = rw (same_part, same_kind) (λ v ins. let r = inside_range part.inside.now v ins in definite_of net part.state.now sound v (slice_index pass.floor.now v) (omega (arith, r, p.inside)) (strongest v ins));
+  floors = rw (same_part, same_kind) (λ v ins. let r = inside_range part.inside.now v ins in definite_of net part.state.now sound v
+      (slice_index pass.floor.now v) (omega (arith, r, p.inside)) (strongest v ins));
 }

@@ -42,7 +42,12 @@ extend net s (FromOther kept) w a b k f t c j g fl le =
     record {
       root = t.root;
       path = h ∷ t.path;
-      of_kind = ((t.of_kind.0, c, rw t.ends j, g), unblocked-hop net s t.root h t.path t.of_kind.1 (not_overcome t.root (h ∷ t.path) (λ j d. omega (arith, fl.bound j d, e))), t.of_kind.2);
+      of_kind = (
+        (t.of_kind.0, c, rw t.ends j, g),
+        unblocked-hop net s t.root h t.path t.of_kind.1
+            (not_overcome t.root (h ∷ t.path) (λ j d. omega (arith, fl.bound j d, e))),
+        t.of_kind.2,
+      );
       ends = refl;
       is_strength = e;
     }
@@ -53,7 +58,8 @@ extend net s (FromOther kept) w a b k f t c j g fl le =
 module _ (net : Network) (s : List Level) (kind : PathKind) (inside : List Bool) (floor : List ℕ) where
   -- a node rises and waits
   pub rise : (best : List ℕ) (waiting new : List Bool) (busy : List ℕ) (v : ℕ) (w : Switch) (b c : ℕ) → IsWorking net s kind inside floor best waiting busy →
-      Contains net.switches w → Joins w v b → goes_through s kind w ≡ true → IsInside inside v → IsInside inside b → IsFloor net s kind b (slice_index floor b) →
+      Contains net.switches w → Joins w v b → goes_through s kind w ≡ true → IsInside inside v → IsInside inside b →
+      IsFloor net s kind b (slice_index floor b) →
       c ≡ min (slice_index best v) (switch_strength w.kind) → slice_index best b < c → slice_index floor b ≤ c → b < length best →
       IsInside new b → ((u : ℕ) → IsInside waiting u → IsInside new u) → ((u : ℕ) → IsInside new u → IsInside waiting u ⊎ (u ≡ b)) →
       IsWorking net s kind inside floor (slice_set best b c) new busy
@@ -82,16 +88,19 @@ module _ (net : Network) (s : List Level) (kind : PathKind) (inside : List Bool)
       waits_on side x (inr rel) = elim (cases_eq (near_end side x) b) [
         | inl same ↦ inl (rw same here)
         | inr other ↦ inr (λ go in_far le.
-            let kept : get_or (slice_set best b c) (near_end side x) 0 ≡ get_or best (near_end side x) 0 = get_or-set_other best b (near_end side x) c 0 other in
+            let kept : get_or (slice_set best b c) (near_end side x) 0 ≡ get_or best (near_end side x) 0 = get_or-set_other best b (near_end side x) c 0
+            other in
             let old = rel go in_far (rw kept at le) in
             rw kept (elim (cases_eq (far_end side x) b) [
-              | inl at ↦ rw (at, get_or-set_same best b c 0 in_best) (let f : slice_index best (far_end side x) ≡ slice_index best b = ap (slice_index best) at in omega (arith, old, f, more))
+              | inl at ↦ rw (at, get_or-set_same best b c 0 in_best) (let f : slice_index best (far_end side x) ≡ slice_index best b = ap (slice_index best)
+                  at in omega (arith, old, f, more))
               | inr off ↦ rw (get_or-set_other best b (far_end side x) c 0 off) old
             ]))
       ]
 
   -- a node that waits is taken to be looked at
-  pub take : (best : List ℕ) (waiting new : List Bool) (node : ℕ) → IsWorking net s kind inside floor best waiting [] → ((u : ℕ) → IsInside new u → IsInside waiting u) →
+  pub take : (best : List ℕ) (waiting new : List Bool) (node : ℕ) → IsWorking net s kind inside floor best waiting [] → ((u : ℕ) → IsInside new u →
+      IsInside waiting u) →
       ((u : ℕ) → IsInside waiting u → (u ≡ node) ⊎ IsInside new u) → IsWorking net s kind inside floor best new (node ∷ [])
   take best waiting new node w left kept = record {
     attained = w.attained;
@@ -110,8 +119,10 @@ module _ (net : Network) (s : List Level) (kind : PathKind) (inside : List Bool)
 
   -- it is done with when its switches bring no more
   pub finish : (best : List ℕ) (waiting : List Bool) (node : ℕ) → IsWorking net s kind inside floor best waiting (node ∷ []) →
-      ((k : ℕ) (d : Switch) → k < length net.switches → near_end Left (slice_index_or net.switches k d) ≡ node → IsRelaxed s kind inside floor best Left (slice_index_or net.switches k d)) →
-      ((k : ℕ) (d : Switch) → k < length net.switches → near_end Right (slice_index_or net.switches k d) ≡ node → IsRelaxed s kind inside floor best Right (slice_index_or net.switches k d)) →
+      ((k : ℕ) (d : Switch) → k < length net.switches → near_end Left (slice_index_or net.switches k d) ≡ node →
+      IsRelaxed s kind inside floor best Left (slice_index_or net.switches k d)) →
+      ((k : ℕ) (d : Switch) → k < length net.switches → near_end Right (slice_index_or net.switches k d) ≡ node →
+      IsRelaxed s kind inside floor best Right (slice_index_or net.switches k d)) →
       IsWorking net s kind inside floor best waiting []
   finish best waiting node w left right = record {
     attained = w.attained;
@@ -123,17 +134,21 @@ module _ (net : Network) (s : List Level) (kind : PathKind) (inside : List Bool)
     ];
   }
     where
-      both : (side : Side) (k : ℕ) (d : Switch) → k < length net.switches → near_end side (slice_index_or net.switches k d) ≡ node → IsRelaxed s kind inside floor best side (slice_index_or net.switches k d)
+      both : (side : Side) (k : ℕ) (d : Switch) → k < length net.switches → near_end side (slice_index_or net.switches k d) ≡ node →
+          IsRelaxed s kind inside floor best side (slice_index_or net.switches k d)
       both Left k d lt is = left k d lt is
       both Right k d lt is = right k d lt is
 
 -- a switch that brings no more brings no more when other entries rise
-pub relaxed_up : (s : List Level) (kind : PathKind) (inside : List Bool) (floor best new : List ℕ) (side : Side) (w : Switch) → slice_index new (near_end side w) ≡ slice_index best (near_end side w) →
+pub relaxed_up : (s : List Level) (kind : PathKind) (inside : List Bool) (floor best new : List ℕ) (side : Side) (w : Switch) →
+    slice_index new (near_end side w) ≡ slice_index best (near_end side w) →
     ((a : ℕ) → slice_index best a ≤ slice_index new a) → IsRelaxed s kind inside floor best side w → IsRelaxed s kind inside floor new side w
-relaxed_up s kind inside floor best new side w same above old go ins le = let r = old go ins (rw same at le) in rw same (omega (arith, r, above (far_end side w)))
+relaxed_up s kind inside floor best new side w same above old go ins le = let r = old go ins (rw same at le) in rw same
+    (omega (arith, r, above (far_end side w)))
 
 -- a node rises only for what it pays
-pub raised_more : (best : List ℕ) (before after b c : ℕ) → b < length best → slice_index best b < c → after ≤ before + 1 → IsRaised best (slice_set best b c) before after
+pub raised_more : (best : List ℕ) (before after b c : ℕ) → b < length best → slice_index best b < c → after ≤ before + 1 →
+    IsRaised best (slice_set best b c) before after
 raised_more best before after b c in_b more few = record {
   above = λ a. elim (cases_eq a b) [
     | inl same ↦ rw (same, get_or-set_same best b c 0 in_b) (omega arith)
@@ -147,25 +162,26 @@ pub raised_same : (best : List ℕ) (waiting : ℕ) → IsRaised best best waiti
 raised_same best waiting = record { above = λ a. omega arith; risen = omega arith; paid = omega arith }
 
 pub raised_then : (a b c : List ℕ) (i j k : ℕ) → IsRaised a b i j → IsRaised b c j k → IsRaised a c i k
-raised_then a b c i j k r q = record { above = λ v. omega (arith, r.above v, q.above v); risen = omega (arith, r.risen, q.risen); paid = omega (arith, r.paid, q.paid) }
+raised_then a b c i j k r q = record {
+  above = λ v. omega (arith, r.above v, q.above v);
+  risen = omega (arith, r.risen, q.risen);
+  paid = omega
+      (arith, r.paid, q.paid);
+}
 
 -- a node rises by a lift and waits
-pub rise_by_lift : (net : Network) (s : List Level) (kind : PathKind) (inside : List Bool) (floor best lifted : List ℕ) (waiting new : List Bool) (busy : List ℕ) (side : Side) (w : Switch) (a b g : ℕ) →
-    a ≡ near_end side w → b ≡ far_end side w → g ≡ switch_strength w.kind → IsLift floor best lifted a b g true → goes_through s kind w ≡ true → IsInside inside (near_end side w) → IsInside inside b →
+pub rise_by_lift : (net : Network) (s : List Level) (kind : PathKind) (inside : List Bool) (floor best lifted : List ℕ) (waiting new : List Bool)
+    (busy : List ℕ) (side : Side) (w : Switch) (a b g : ℕ) →
+    a ≡ near_end side w → b ≡ far_end side w → g ≡ switch_strength w.kind → IsLift floor best lifted a b g true → goes_through s kind w ≡ true →
+    IsInside inside (near_end side w) → IsInside inside b →
     ((v : ℕ) → IsInside inside v → IsFloor net s kind v (slice_index floor v)) → Contains net.switches w → b < length best →
     IsInside new b → ((u : ℕ) → IsInside waiting u → IsInside new u) → ((u : ℕ) → IsInside new u → IsInside waiting u ⊎ (u ≡ b)) →
     IsWorking net s kind inside floor best waiting busy → IsWorking net s kind inside floor lifted new busy
 rise_by_lift net s kind inside floor best lifted waiting new busy side w a b g ea eb eg lift go in_a in_b floors con lt here grown others k =
     let same : slice_index best a ≡ slice_index best (near_end side w) = ap (slice_index best) ea in
-    rw lift.0 (rise net s kind inside floor best waiting new busy (near_end side w) w b (min (slice_index best a) g) k con (rw eb (joins side w)) go in_a in_b (floors b in_b)
+    rw lift.0 (rise net s kind inside floor best waiting new busy (near_end side w) w b (min (slice_index best a) g) k con (rw eb (joins side w)) go in_a
+    in_b (floors b in_b)
     (rw (same, eg) refl) lift.1 lift.2 lt here grown others)
-
--- a lift leaves the node that it lifts from
-pub lift_keeps : (floor best lifted : List ℕ) (a b g : ℕ) → IsLift floor best lifted a b g true → slice_index lifted a ≡ slice_index best a
-lift_keeps floor best lifted a b g lift = elim (cases_eq a b) [
-  | inl same ↦ (let f : slice_index best a ≡ slice_index best b = ap (slice_index best) same in absurd (omega (arith, f, lift.1)))
-  | inr other ↦ rw lift.0 (get_or-set_other best b a (min (slice_index best a) g) 0 other)
-]
 
 pub far_below : (side : Side) (w : Switch) (n : ℕ) → w.left < n → w.right < n → far_end side w < n
 far_below Left w n l r = r

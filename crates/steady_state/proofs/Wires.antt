@@ -39,7 +39,8 @@ module _ (xs : List ℕ) (a b : ℕ) (rising : a ≤ b) (within : b ≤ length x
   run_get i lt = get_or-take (b - a) (drop a xs) i 0 lt ∙ get_or-drop a xs i 0
 
 -- a node's run in the sorted switches has its switches
-pub run_is : (nodes : ℕ) (switches : List Switch) (terminal : Terminal) (sorted : SortedSwitches) (v : ℕ) → AreSorted nodes switches terminal sorted → v < nodes →
+pub run_is : (nodes : ℕ) (switches : List Switch) (terminal : Terminal) (sorted : SortedSwitches) (v : ℕ) → AreSorted nodes switches terminal sorted →
+    v < nodes →
     AreSwitchesAt switches terminal v (slice_range sorted.places (slice_index sorted.starts v) (slice_index sorted.starts (v + 1)))
 run_is nodes switches terminal sorted v s lt = record {
   stand = λ i in_run. rw (get i (in_length i in_run)) ((listed i no_switch (in_length i in_run)).0);
@@ -69,7 +70,8 @@ run_is nodes switches terminal sorted v s lt = record {
     in_length : (i : ℕ) → i < length (slice_range sorted.places a b) → i < b - a
     in_length i lt' = omega (arith, lt', run_length sorted.places a b rising within)
 
-    listed : (i : ℕ) (d : Switch) → i < b - a → (slice_index sorted.places (a + i) < length switches) × (node_at terminal (slice_index_or switches (slice_index sorted.places (a + i)) d) ≡ v)
+    listed : (i : ℕ) (d : Switch) → i < b - a → (slice_index sorted.places (a + i) < length switches) ×
+        (node_at terminal (slice_index_or switches (slice_index sorted.places (a + i)) d) ≡ v)
     listed i d lt' = s.listed v (a + i) d lt (omega arith) (omega (arith, lt'))
 
 module _ (switches : List Switch) (terminal : Terminal) (v : ℕ) (places : List ℕ) (at : AreSwitchesAt switches terminal v places) where
@@ -79,7 +81,8 @@ module _ (switches : List Switch) (terminal : Terminal) (v : ℕ) (places : List
   each_at P h k d lt is = let q = at.all k d lt is in let same = q.2 in rw same at (h q.0 q.1 d)
 
   -- one place more is gone by
-  pub next_at : (P : Switch → Type 0) (n : ℕ) (e : Switch) → n < length places → ((i : ℕ) → i < n → (d : Switch) → P (slice_index_or switches (slice_index places i) d)) →
+  pub next_at : (P : Switch → Type 0) (n : ℕ) (e : Switch) → n < length places → ((i : ℕ) → i < n → (d : Switch) →
+      P (slice_index_or switches (slice_index places i) d)) →
       P (slice_index_or switches (slice_index places n) e) → (i : ℕ) → i < n + 1 → (d : Switch) → P (slice_index_or switches (slice_index places i) d)
   next_at P n e lt old here i lt' d = elim (cases_eq i n) [
     | inl same ↦ rw (same, get_or_default switches (slice_index places n) d e (at.stand n lt)) here

@@ -28,15 +28,18 @@ module _ (net : Network) (s : List Level) (sound : IsSound net) where
 
 -- nothing more is brought to a node of the part, by its own strength, from an input or from the part
 pub record IsSpread (net : Network) (s : List Level) (kind : PathKind) (inside : List Bool) (floor best : List ℕ) : Type 0 where
-  pub closed : (w : Switch) (a b : ℕ) → Contains net.switches w → Joins w a b → is_closed_or_unknown s w ≡ true → IsInside inside b → IsInside inside a ⊎ (is_input net a ≡ true)
+  pub closed : (w : Switch) (a b : ℕ) → Contains net.switches w → Joins w a b → is_closed_or_unknown s w ≡ true → IsInside inside b →
+      IsInside inside a ⊎ (is_input net a ≡ true)
   pub floors : (v : ℕ) → IsInside inside v → IsFloor net s kind v (slice_index floor v)
   pub own : (v : ℕ) → IsInside inside v → BeginsAt s kind v → slice_index floor v ≤ root_strength net v → root_strength net v ≤ slice_index best v
-  pub from_inputs : (w : Switch) (a b : ℕ) → Contains net.switches w → Joins w a b → goes_through s kind w ≡ true → is_input net a ≡ true → BeginsAt s kind a → IsInside inside b →
+  pub from_inputs : (w : Switch) (a b : ℕ) → Contains net.switches w → Joins w a b → goes_through s kind w ≡ true → is_input net a ≡ true →
+      BeginsAt s kind a → IsInside inside b →
       slice_index floor b ≤ switch_strength w.kind → switch_strength w.kind ≤ slice_index best b
   pub relaxed : (w : Switch) (a b : ℕ) → Contains net.switches w → Joins w a b → goes_through s kind w ≡ true → IsInside inside a → IsInside inside b →
       slice_index floor b ≤ min (slice_index best a) (switch_strength w.kind) → min (slice_index best a) (switch_strength w.kind) ≤ slice_index best b
 
-pub bound : (net : Network) (s : List Level) → IsSound net → (kind : PathKind) (inside : List Bool) (floor best : List ℕ) → IsSpread net s kind inside floor best →
+pub bound : (net : Network) (s : List Level) → IsSound net → (kind : PathKind) (inside : List Bool) (floor best : List ℕ) →
+    IsSpread net s kind inside floor best →
     (root : ℕ) (p : List Hop) → IsOfKind net s kind root p → IsInside inside (end_of root p) → strength net root p ≤ slice_index best (end_of root p)
 bound net s sound Definite inside floor best x root [] i ins = x.own root ins tt (omega (arith, x.floors root ins))
 bound net s sound Definite inside floor best x root (h ∷ p) i ins =
@@ -45,7 +48,8 @@ bound net s sound Definite inside floor best x root (h ∷ p) i ins =
           let r = x.relaxed h.through (end_of root p) h.to i.0.1 i.0.2 i.1.1 ins_a ins (omega (arith, x.floors h.to ins)) in omega (arith, ih, r))
       | inr input ↦ (let r = x.from_inputs h.through (end_of root p) h.to i.0.1 i.0.2 i.1.1 input tt ins (omega (arith, x.floors h.to ins)) in omega (arith, r))
     ]
-bound net s sound (FromOther kept) inside floor best x root [] i ins = x.own root ins i.2 (above_definite net s sound root [] (slice_index floor root) i.1 (x.floors root ins))
+bound net s sound (FromOther kept) inside floor best x root [] i ins = x.own root ins i.2
+    (above_definite net s sound root [] (slice_index floor root) i.1 (x.floors root ins))
 bound net s sound (FromOther kept) inside floor best x root (h ∷ p) i ins =
     let fl = above_definite net s sound root (h ∷ p) (slice_index floor h.to) i.1 (x.floors h.to ins) in
     let u = drop_unblocked net s root (h ∷ []) p i.1 in
@@ -58,7 +62,8 @@ bound net s sound (FromOther kept) inside floor best x root (h ∷ p) i ins =
     ]
 
 -- an input brings the strength of the switch
-pub brought : (net : Network) (s : List Level) → IsSound net → (kind : PathKind) (w : Switch) (a b f : ℕ) → Contains net.switches w → Joins w a b → goes_through s kind w ≡ true → is_input net a ≡ true → a < net.nodes → BeginsAt s kind a →
+pub brought : (net : Network) (s : List Level) → IsSound net → (kind : PathKind) (w : Switch) (a b f : ℕ) → Contains net.switches w → Joins w a b →
+    goes_through s kind w ≡ true → is_input net a ≡ true → a < net.nodes → BeginsAt s kind a →
     IsFloor net s kind b f → f ≤ switch_strength w.kind → HasPath net s kind b (switch_strength w.kind)
 brought net s sound kind w a b f c j g input in_a adm fl le =
     let six : root_strength net a ≡ 6 = rw input refl in
@@ -76,18 +81,29 @@ joins_back Left w = inr (refl, refl)
 joins_back Right w = inl (refl, refl)
 
 -- what inputs bring at most they bring at most where that is more
-pub brings_up : (net : Network) (s : List Level) (kind : PathKind) (floor : List ℕ) (side : Side) (best new : ℕ) (w : Switch) → best ≤ new → BringsAtMost net s kind floor side best w → BringsAtMost net s kind floor side new w
+pub brings_up : (net : Network) (s : List Level) (kind : PathKind) (floor : List ℕ) (side : Side) (best new : ℕ) (w : Switch) → best ≤ new →
+    BringsAtMost net s kind floor side best w → BringsAtMost net s kind floor side new w
 brings_up net s kind floor side best new w more x go inp adm le = let r = x go inp adm le in omega (arith, r)
 
 -- a node by itself
-pub by_itself : (net : Network) (s : List Level) (kind : PathKind) (v f : ℕ) → v < net.nodes → BeginsAt s kind v → IsFloor net s kind v f → f ≤ root_strength net v → HasPath net s kind v (root_strength net v)
+pub by_itself : (net : Network) (s : List Level) (kind : PathKind) (v f : ℕ) → v < net.nodes → BeginsAt s kind v → IsFloor net s kind v f →
+    f ≤ root_strength net v → HasPath net s kind v (root_strength net v)
 unfolding NotOvercome
 by_itself net s Definite v f lt adm fl le = record { root = v; path = []; of_kind = (lt, tt); ends = refl; is_strength = refl }
-by_itself net s (FromOther kept) v f lt adm fl le = record { root = v; path = []; of_kind = (lt, unblocked-root net s v (λ k d. omega (arith, fl.bound k d)), adm); ends = refl; is_strength = refl }
+by_itself net s (FromOther kept) v f lt adm fl le = record {
+  root = v;
+  path = [];
+  of_kind =
+      (lt, unblocked-root net s v (λ k d. omega (arith, fl.bound k d)), adm);
+  ends = refl;
+  is_strength = refl;
+}
 
 -- one node more has begun
-pub filled_more : (net : Network) (s : List Level) (kind : PathKind) (inside : List Bool) (floor order : List ℕ) (n : ℕ) (best : List ℕ) (waiting new : List Bool) (b : ℕ) →
-    IsFilled net s kind inside floor order n best waiting → slice_index order n < length best → IsInside inside (slice_index order n) → IsFirstStrength net s kind floor (slice_index order n) b →
+pub filled_more : (net : Network) (s : List Level) (kind : PathKind) (inside : List Bool) (floor order : List ℕ) (n : ℕ) (best : List ℕ)
+    (waiting new : List Bool) (b : ℕ) →
+    IsFilled net s kind inside floor order n best waiting → slice_index order n < length best → IsInside inside (slice_index order n) →
+    IsFirstStrength net s kind floor (slice_index order n) b →
     ((v : ℕ) → IsInside waiting v → IsInside new v) → ((v : ℕ) → IsInside new v → IsInside waiting v ⊎ (v ≡ slice_index order n)) →
     (0 < b → IsInside new (slice_index order n)) → IsFilled net s kind inside floor order (n + 1) (slice_set best (slice_index order n) b) new
 filled_more net s kind inside floor order n best waiting new b x in_best ins bg kept others waits = record {
@@ -112,9 +128,17 @@ filled_more net s kind inside floor order n best waiting new b x in_best ins bg 
     before : (i : ℕ) → i < n + 1 → slice_index order i ≢ slice_index order n → i < n
     before i lt ne = elim (cases_eq i n) [ inl e ↦ absurd (ne (ap (slice_index order) e)) | inr other ↦ omega arith ]
 
-pub none_filled : (net : Network) (s : List Level) (kind : PathKind) (inside : List Bool) (floor order best : List ℕ) (waiting : List Bool) → ((v : ℕ) → slice_index best v ≤ 6) →
+pub none_filled : (net : Network) (s : List Level) (kind : PathKind) (inside : List Bool) (floor order best : List ℕ) (waiting : List Bool) → ((v : ℕ) →
+    slice_index best v ≤ 6) →
     ((v : ℕ) → IsInside waiting v → ⊥) → IsFilled net s kind inside floor order 0 best waiting
-none_filled net s kind inside floor order best waiting low none = record { begun = λ i lt. absurd (omega arith); waits = λ i lt. absurd (omega arith); inner = λ v ins. absurd (none v ins); low = low }
+none_filled net s kind inside floor order best waiting low none = record {
+  begun = λ i lt. absurd (omega arith);
+  waits = λ i lt. absurd (omega arith);
+  inner
+      = λ v ins. absurd (none v ins);
+  low = low;
+}
 
-pub pulled_up : (net : Network) (s : List Level) (kind : PathKind) (floor : List ℕ) (side : Side) (v best new : ℕ) → best ≤ new → IsPulled net s kind floor side v best → IsPulled net s kind floor side v new
+pub pulled_up : (net : Network) (s : List Level) (kind : PathKind) (floor : List ℕ) (side : Side) (v best new : ℕ) → best ≤ new →
+    IsPulled net s kind floor side v best → IsPulled net s kind floor side v new
 pulled_up net s kind floor side v best new more x k d lt near = brings_up net s kind floor side best new (slice_index_or net.switches k d) more (x k d lt near)

@@ -37,7 +37,8 @@ LeadsInside net s side inside switch = is_closed_or_unknown s switch ≡ true �
 -- all switches with this end at the node do
 abbrev pub IsCovered : Network → List Level → Side → List Bool → ℕ → Type 0
 IsCovered net s side inside v =
-    (k : ℕ) (d : Switch) → k < length net.switches → near_end side (slice_index_or net.switches k d) ≡ v → LeadsInside net s side inside (slice_index_or net.switches k d)
+    (k : ℕ) (d : Switch) → k < length net.switches → near_end side (slice_index_or net.switches k d) ≡ v →
+    LeadsInside net s side inside (slice_index_or net.switches k d)
 
 -- the ends of the switch are marked, or inputs
 abbrev pub EndsInside : Network → List Bool → Switch → Type 0
@@ -45,7 +46,8 @@ EndsInside net inside switch = (IsStorage net switch.left → IsInside inside sw
 
 -- those of all switches are whose gate is the node
 abbrev pub IsGated : Network → List Bool → ℕ → Type 0
-IsGated net inside v = (k : ℕ) (d : Switch) → k < length net.switches → (slice_index_or net.switches k d).gate ≡ v → EndsInside net inside (slice_index_or net.switches k d)
+IsGated net inside v = (k : ℕ) (d : Switch) → k < length net.switches → (slice_index_or net.switches k d).gate ≡ v →
+    EndsInside net inside (slice_index_or net.switches k d)
 
 -- a storage node in no vicinity of a marked node keeps its state in a step
 abbrev pub IsQuiet : Network → List Level → List Bool → Type 0

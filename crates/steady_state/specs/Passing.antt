@@ -43,7 +43,8 @@ BringsNoMore pass best side switch = IsRelaxed pass.part.state.now pass.kind pas
 -- nor does any switch with this end at the node
 abbrev pub BringsNoMoreFrom : Network → Pass → List ℕ → Side → ℕ → Type 0
 BringsNoMoreFrom net pass best side v =
-    (k : ℕ) (d : Switch) → k < length net.switches → near_end side (slice_index_or net.switches k d) ≡ v → BringsNoMore pass best side (slice_index_or net.switches k d)
+    (k : ℕ) (d : Switch) → k < length net.switches → near_end side (slice_index_or net.switches k d) ≡ v →
+    BringsNoMore pass best side (slice_index_or net.switches k d)
 
 -- the inputs on this side of the node bring no more than this
 abbrev pub InputsBringAtMost : Network → Pass → Side → ℕ → ℕ → Type 0

@@ -15,7 +15,8 @@ use Rattle.finite_sets.specs.Lists.{In}
 -- what a switch of strength g brings from a node to another: the entry is raised to it, or it brings no more
 abbrev pub IsLift : List ℕ → List ℕ → List ℕ → ℕ → ℕ → ℕ → Bool → Type 0
 IsLift floor old new from to g true =
-    (new ≡ slice_set old to (min (slice_index old from) g)) × (slice_index old to < min (slice_index old from) g) × (slice_index floor to ≤ min (slice_index old from) g)
+    (new ≡ slice_set old to (min (slice_index old from) g)) × (slice_index old to < min (slice_index old from) g) ×
+    (slice_index floor to ≤ min (slice_index old from) g)
 IsLift floor old new from to g false = (new ≡ old) × (slice_index floor to ≤ min (slice_index old from) g → min (slice_index old from) g ≤ slice_index old to)
 
 -- the switch brings no more from its end on this side to the other
@@ -26,7 +27,8 @@ IsRelaxed s kind inside floor best side switch =
     min (slice_index best (near_end side switch)) (switch_strength switch.kind) ≤ slice_index best (far_end side switch)
 
 -- Strengths under way. Every switch of the part brings no more, but those at nodes that wait or are just being looked at.
-pub record IsWorking (net : Network) (s : List Level) (kind : PathKind) (inside : List Bool) (floor best : List ℕ) (waiting : List Bool) (busy : List ℕ) : Type 0 where
+pub record IsWorking (net : Network) (s : List Level) (kind : PathKind) (inside : List Bool) (floor best : List ℕ) (waiting : List Bool) (busy : List ℕ) :
+    Type 0 where
   pub attained : (a : ℕ) → IsInside inside a → 0 < slice_index best a → HasPath net s kind a (slice_index best a)
   pub low : (a : ℕ) → slice_index best a ≤ 6
   pub waits : (v : ℕ) → IsInside waiting v → IsInside inside v
@@ -53,7 +55,8 @@ BringsAtMost net s kind floor side best switch =
 -- the inputs at the far ends of the switches at a node bring no more than this
 abbrev pub IsPulled : Network → List Level → PathKind → List ℕ → Side → ℕ → ℕ → Type 0
 IsPulled net s kind floor side v best =
-    (k : ℕ) (d : Switch) → k < length net.switches → near_end side (slice_index_or net.switches k d) ≡ v → BringsAtMost net s kind floor side best (slice_index_or net.switches k d)
+    (k : ℕ) (d : Switch) → k < length net.switches → near_end side (slice_index_or net.switches k d) ≡ v →
+    BringsAtMost net s kind floor side best (slice_index_or net.switches k d)
 
 -- what a node has by itself and from inputs
 pub record IsFirstStrength (net : Network) (s : List Level) (kind : PathKind) (floor : List ℕ) (v best : ℕ) : Type 0 where
@@ -64,7 +67,8 @@ pub record IsFirstStrength (net : Network) (s : List Level) (kind : PathKind) (f
   pub right : IsPulled net s kind floor Right v best
 
 -- the first n nodes of the list have begun, and wait where they have some strength
-pub record IsFilled (net : Network) (s : List Level) (kind : PathKind) (inside : List Bool) (floor order : List ℕ) (n : ℕ) (best : List ℕ) (waiting : List Bool) : Type 0 where
+pub record IsFilled (net : Network) (s : List Level) (kind : PathKind) (inside : List Bool) (floor order : List ℕ) (n : ℕ) (best : List ℕ)
+    (waiting : List Bool) : Type 0 where
   pub begun : (i : ℕ) → i < n → IsFirstStrength net s kind floor (slice_index order i) (slice_index best (slice_index order i))
   pub waits : (i : ℕ) → i < n → 0 < slice_index best (slice_index order i) → IsInside waiting (slice_index order i)
   pub inner : (v : ℕ) → IsInside waiting v → IsInside inside v

@@ -1,5 +1,21 @@
 //! Steps and phases of a network. The first step of a phase looks at the whole network, and every
-//! later one at the vicinities of what changed, and at no other node.
+//! later one at the vicinities of what changed: at the nodes that the step before changed, at both
+//! ends of the switches that these gate, at what closed or unknown switches join to them through
+//! nodes that store charge, and at the switches of all those. So a phase costs a walk over the
+//! network once, and then what its changes cost. It takes no memory.
+//!
+//! # How the proof goes
+//!
+//! A step needs three strengths at each node: that of the strongest definite path, and those of the
+//! strongest unblocked paths from roots in another state than one, and than zero (`Kinds`). Each is
+//! found by a pass. A pass gives each node what it has by itself and from inputs (`Within`), and then
+//! lifts the nodes at the far ends of switches until no switch brings more (`UnderWay`). Every switch
+//! brings no more, but those of nodes that wait and of the node that is looked at; entries only rise,
+//! which also bounds the work. When none waits, each entry bounds all paths of its kind, by a
+//! recursion on the path, and is the strength of one of them (`Within`, `Passes`). The two others say
+//! the steady value: one where no unblocked path has a root in another state than one, and likewise
+//! zero. A step of the marked vicinities is a step of the network where all other nodes are quiet
+//! (`Collecting`, `Moving`), and after it the nodes are quiet that are in no vicinity of what changed.
 #![tactic(auto)]
 
 mod adjacent;

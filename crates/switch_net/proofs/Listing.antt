@@ -8,7 +8,8 @@ use Rattle.std.proofs.Math.ListN.{length-set, get_or-eq_default}
 use Rattle.switch_net.specs.Sets.{IsInside, IsAmong, AreListed}
 
 -- one more is marked
-count-set : (inside : List Bool) (v : ℕ) → v < length inside → slice_index_or inside v false ≡ false → count_by (λ b. b) (slice_set inside v true) ≡ count_by (λ b. b) inside + 1
+count-set : (inside : List Bool) (v : ℕ) → v < length inside → slice_index_or inside v false ≡ false →
+    count_by (λ b. b) (slice_set inside v true) ≡ count_by (λ b. b) inside + 1
 count-set inside v lt e = let r = sum_by-set (λ (b : Bool). cond b 1 0) inside v true false lt in let r' = rw e at r in omega (arith, r')
 
 -- one less is marked
@@ -29,27 +30,13 @@ set_grown inside v u in_v ins = elim (cases_eq u v) [
   | inr other ↦ rw (get_or-set_other inside v u true false other) ins
 ]
 
--- and adds one alone
-pub set_others : (inside : List Bool) (v u : ℕ) → IsInside (slice_set inside v true) u → IsInside inside u ⊎ (u ≡ v)
-set_others inside v u ins = elim (cases_eq u v) [ inl same ↦ inr same | inr other ↦ inl (rw (get_or-set_other inside v u true false other) at ins) ]
-
--- a mark less adds none
-pub unset_left : (inside : List Bool) (v u : ℕ) → v < length inside → IsInside (slice_set inside v false) u → IsInside inside u
-unset_left inside v u in_v ins = elim (cases_eq u v) [
-  | inl same ↦ absurd (let f = rw (same, get_or-set_same inside v false false in_v) at ins in cc)
-  | inr other ↦ rw (get_or-set_other inside v u false false other) at ins
-]
-
--- and takes one alone
-pub unset_kept : (inside : List Bool) (v u : ℕ) → IsInside inside u → (u ≡ v) ⊎ IsInside (slice_set inside v false) u
-unset_kept inside v u ins = elim (cases_eq u v) [ inl same ↦ inl same | inr other ↦ inr (rw (get_or-set_other inside v u false false other) ins) ]
-
 -- a node that is not known to differ from each listed one is listed
 among : (order : List ℕ) (count v : ℕ) → ¬ ((i : ℕ) → i < count → slice_index order i ≢ v) → IsAmong order count v
 among order zero v not_none = absurd (not_none (λ i lt. absurd (omega arith)))
 among order (suc n) v not_none = elim (cases_eq (slice_index order n) v) [
   | inl same ↦ (n, omega arith, same)
-  | inr other ↦ (let r = among order n v (λ none. not_none (λ i lt. elim (cases_eq i n) [ inl e ↦ rw e other | inr ne ↦ none i (omega arith) ])) in (r.0, omega (arith, r.1), r.2))
+  | inr other ↦ (let r = among order n v (λ none. not_none (λ i lt. elim (cases_eq i n) [ inl e ↦ rw e other | inr ne ↦ none i (omega arith) ])) in
+      (r.0, omega (arith, r.1), r.2))
 ]
 
 -- a marked node is listed
@@ -65,7 +52,8 @@ pub count-le : (inside : List Bool) (order : List ℕ) (count : ℕ) → AreList
 count-le inside order count k = omega (arith, count_by-le-length (λ (b : Bool). b) inside, k.counted)
 
 -- a list with an unmarked node has room for it
-pub has_room : (inside : List Bool) (order : List ℕ) (count v : ℕ) → AreListed inside order count → v < length inside → slice_index_or inside v false ≡ false → count < length order
+pub has_room : (inside : List Bool) (order : List ℕ) (count v : ℕ) → AreListed inside order count → v < length inside →
+    slice_index_or inside v false ≡ false → count < length order
 has_room inside order count v k lt free =
     omega (arith, count-set inside v lt free, count_by-le-length (λ (b : Bool). b) (slice_set inside v true), length-set {A = Bool}, k.counted, k.room)
 
@@ -99,7 +87,8 @@ added inside order count v k in_v free = record {
     before i lt = let ne : i ≢ count = omega arith in get_or-set_other order count i v 0 ne
 
 -- the last one is taken
-pub taken : (inside : List Bool) (order : List ℕ) (count v : ℕ) → AreListed inside order (count + 1) → v ≡ slice_index order count → AreListed (slice_set inside v false) order count
+pub taken : (inside : List Bool) (order : List ℕ) (count v : ℕ) → AreListed inside order (count + 1) → v ≡ slice_index order count →
+    AreListed (slice_set inside v false) order count
 taken inside order count v k is_v = record {
   room = simp length-set k.room;
   counted = omega (arith, count-unset inside v in_v (rw is_v (k.listed count (omega arith))), k.counted);
@@ -118,15 +107,7 @@ taken inside order count v k is_v = record {
     in_v : v < length inside
     in_v = inside_range inside v (rw is_v (k.listed count (omega arith)))
 
-pub taken_from : (inside : List Bool) (order : List ℕ) (n v : ℕ) → 0 < n → AreListed inside order n → v ≡ slice_index order (n - 1) → AreListed (slice_set inside v false) order (n - 1)
-taken_from inside order n v pos k is_v = let e : n ≡ (n - 1) + 1 = omega arith in taken inside order (n - 1) v (subst (λ (m : ℕ). AreListed inside order m) e k) is_v
-
--- none is marked and none listed
-pub none_listed : (inside : List Bool) (order : List ℕ) → length order ≡ length inside → count_by (λ b. b) inside ≡ 0 → ((v : ℕ) → slice_index_or inside v false ≡ false) → AreListed inside order 0
-none_listed inside order room none free = record {
-  room = room;
-  counted = none;
-  listed = λ i lt. absurd (omega arith);
-  distinct = λ i j lt below. absurd (omega arith);
-  known = λ v ins. absurd (let f = free v in cc);
-}
+pub taken_from : (inside : List Bool) (order : List ℕ) (n v : ℕ) → 0 < n → AreListed inside order n → v ≡ slice_index order (n - 1) →
+    AreListed (slice_set inside v false) order (n - 1)
+taken_from inside order n v pos k is_v = let e : n ≡ (n - 1) + 1 = omega arith in taken inside order (n - 1) v
+    (subst (λ (m : ℕ). AreListed inside order m) e k) is_v

@@ -5,7 +5,8 @@ use Rattle.switch_net.specs.declared.switches.Level.{Level}
 use Rattle.switch_net.specs.declared.switches.Level.TheVariants.{Zero, One, X}
 use Rattle.switch_net.specs.declared.switches.Switch.{Switch}
 use Rattle.switch_net.specs.Network.{Network, IsSound}
-use Rattle.switch_net.specs.Path.{Hop, Joins, IsPath, IsDefinite, IsBlocked, DefiniteTo, strength, switch_strength, root_strength, is_input, state_of, end_of, is_closed, is_closed_or_unknown}
+use Rattle.switch_net.specs.Path.{Hop, Joins, IsPath, IsDefinite, IsBlocked, DefiniteTo, strength, switch_strength, root_strength, is_input, state_of}
+use Rattle.switch_net.specs.Path.{end_of, is_closed, is_closed_or_unknown}
 use Rattle.switch_net.specs.Steady.{AllRootsAre, IsSteadyValue}
 use Rattle.switch_net.proofs.Paths.{NotOvercome, drop_not_overcome, drop_unblocked, unblocked-hop, unblocked-root}
 use Rattle.switch_net.proofs.Ranges.{strength_low, at_input, end_in_range, input_strength, input_stands}
@@ -31,9 +32,15 @@ record IsMatched (net : Network) (s : List Level) (v k : ℕ) : Type 0 where
   path : DefiniteTo net s v by
   as_strong : k ≤ by
 
-matched : (net : Network) (s t : List Level) (V : ℕ → Type 0) → IsSound net → AgreeOn net s t V → (root : ℕ) (p : List Hop) → IsPath net s root p → IsDefinite s p → V (end_of root p) →
+matched : (net : Network) (s t : List Level) (V : ℕ → Type 0) → IsSound net → AgreeOn net s t V → (root : ℕ) (p : List Hop) → IsPath net s root p →
+    IsDefinite s p → V (end_of root p) →
     IsMatched net t (end_of root p) (strength net root p)
-matched net s t V sound g root [] i d in_v = record { by = root_strength net root; path = record { root = root; path = []; is_path = i; is_definite = tt; ends = refl; is_strength = refl }; as_strong = omega arith }
+matched net s t V sound g root [] i d in_v = record {
+  by = root_strength net root;
+  path = record
+      { root = root; path = []; is_path = i; is_definite = tt; ends = refl; is_strength = refl };
+  as_strong = omega arith;
+}
 matched net s t V sound g root (h ∷ p) i d in_v =
     let e = g.gates h.through (end_of root p) h.to i.1 i.2 in_v in
     let open_t : is_closed_or_unknown t h.through ≡ true = rw e at i.3 in
@@ -56,13 +63,22 @@ matched net s t V sound g root (h ∷ p) i d in_v =
           let six = input_strength net a input in
           record {
             by = min (root_strength net a) (switch_strength h.through.kind);
-            path = record { root = a; path = h ∷ []; is_path = (end_in_range net s sound root p i.0, i.1, i.2, open_t); is_definite = (tt, closed_t); ends = refl; is_strength = refl };
+            path = record {
+              root = a;
+              path = h ∷ [];
+              is_path = (end_in_range net s sound root p i.0, i.1, i.2, open_t);
+              is_definite = (tt, closed_t);
+              ends =
+                  refl;
+              is_strength = refl;
+            };
             as_strong = let low = strength_low net s sound root p in omega (arith, six, low);
           })
     ]
 
 -- what is not overcome in one state is not in the other
-keeps : (net : Network) (s t : List Level) (V : ℕ → Type 0) → IsSound net → AgreeOn net s t V → (root : ℕ) (p : List Hop) → V (end_of root p) → NotOvercome net s root p → NotOvercome net t root p
+keeps : (net : Network) (s t : List Level) (V : ℕ → Type 0) → IsSound net → AgreeOn net s t V → (root : ℕ) (p : List Hop) → V (end_of root p) →
+    NotOvercome net s root p → NotOvercome net t root p
 unfolding NotOvercome
 keeps net s t V sound g root p in_v n = λ k d.
     let at = d.ends in
@@ -76,8 +92,14 @@ pub record IsSame (net : Network) (s t : List Level) (root : ℕ) (p : List Hop)
   pub is_unblocked : ¬ (IsBlocked net t root p)
   pub same_root : state_of s root ≡ state_of t root
 
-same : (net : Network) (s t : List Level) (V : ℕ → Type 0) → IsSound net → AgreeOn net s t V → (root : ℕ) (p : List Hop) → IsPath net s root p → ¬ (IsBlocked net s root p) → V (end_of root p) → IsSame net s t root p
-same net s t V sound g root [] i u in_v = record { is_path = i; is_unblocked = unblocked-root net t root (keeps net s t V sound g root [] in_v (drop_not_overcome net s root [] [] u)); same_root = g.nodes root in_v }
+same : (net : Network) (s t : List Level) (V : ℕ → Type 0) → IsSound net → AgreeOn net s t V → (root : ℕ) (p : List Hop) → IsPath net s root p →
+    ¬ (IsBlocked net s root p) → V (end_of root p) → IsSame net s t root p
+same net s t V sound g root [] i u in_v = record {
+  is_path = i;
+  is_unblocked = unblocked-root net t root
+      (keeps net s t V sound g root [] in_v (drop_not_overcome net s root [] [] u));
+  same_root = g.nodes root in_v;
+}
 same net s t V sound g root (h ∷ p) i u in_v =
     let e = g.gates h.through (end_of root p) h.to i.1 i.2 in_v in
     let open_t : is_closed_or_unknown t h.through ≡ true = rw e at i.3 in
@@ -88,19 +110,25 @@ same net s t V sound g root (h ∷ p) i u in_v =
       | inr input ↦ (let nil = at_input net s sound root p i.0 up input (end_in_range net s sound root p i.0) in
           let root_input : is_input net root ≡ true = rw nil at input in
           let range : root < net.nodes = rw nil at i.0 in
-          let whole : IsSame net s t root [] = record { is_path = range; is_unblocked = unblocked-root net t root (input_stands net t sound root root_input); same_root = g.inputs root root_input } in
+          let whole : IsSame net s t root [] = record {
+            is_path = range;
+            is_unblocked = unblocked-root net t root (input_stands net t sound root root_input);
+            same_root = g.inputs root root_input;
+          } in
           rw nil whole)
     ] in
     record { is_path = (r.is_path, i.1, i.2, open_t); is_unblocked = unblocked-hop net t root h p r.is_unblocked n; same_root = r.same_root }
 
-all_same : (net : Network) (s t : List Level) (V : ℕ → Type 0) → IsSound net → AgreeOn net s t V → (v : ℕ) (x : Level) → V v → AllRootsAre net s v x → AllRootsAre net t v x
+all_same : (net : Network) (s t : List Level) (V : ℕ → Type 0) → IsSound net → AgreeOn net s t V → (v : ℕ) (x : Level) → V v → AllRootsAre net s v x →
+    AllRootsAre net t v x
 all_same net s t V sound g v x in_v all root path u =
     let at = u.ends in
     let r = same net t s V sound (other_way net s t V g) root path u.is_path u.is_unblocked (rw at in_v) in
     r.same_root ∙ all root path (record { is_path = r.is_path; ends = u.ends; is_unblocked = r.is_unblocked })
 
 -- a node of the part has the same steady value in both states
-pub same_steady : (net : Network) (s t : List Level) (V : ℕ → Type 0) → IsSound net → AgreeOn net s t V → (v : ℕ) (x : Level) → V v → IsSteadyValue net s v x → IsSteadyValue net t v x
+pub same_steady : (net : Network) (s t : List Level) (V : ℕ → Type 0) → IsSound net → AgreeOn net s t V → (v : ℕ) (x : Level) → V v →
+    IsSteadyValue net s v x → IsSteadyValue net t v x
 same_steady net s t V sound g v One in_v st = all_same net s t V sound g v One in_v st
 same_steady net s t V sound g v Zero in_v st = all_same net s t V sound g v Zero in_v st
 same_steady net s t V sound g v X in_v st =

@@ -30,7 +30,13 @@ module _ (net : Network) (s : List Level) (root : ℕ) where
 
   pub drop_unblocked : (rest q : List Hop) → ¬ (IsBlocked net s root (rest ++ q)) → ¬ (IsBlocked net s root q)
   drop_unblocked rest q u b =
-      u (record { prefix = b.prefix; is_prefix = (rest ++ b.is_prefix.0, sym (assoc rest b.is_prefix.0 b.prefix) ∙ ap (λ l. rest ++ l) b.is_prefix.1); stronger = b.stronger; blocker = b.blocker; is_stronger = b.is_stronger })
+      u (record {
+        prefix = b.prefix;
+        is_prefix = (rest ++ b.is_prefix.0, sym (assoc rest b.is_prefix.0 b.prefix) ∙ ap (λ l. rest ++ l) b.is_prefix.1);
+        stronger = b.stronger;
+        blocker = b.blocker;
+        is_stronger = b.is_stronger;
+      })
 
   -- a prefix of a longer path is the path, or a prefix of the shorter one
   prefix_cases : (q p : List Hop) (h : Hop) → IsPrefix q (h ∷ p) → (q ≡ h ∷ p) ⊎ IsPrefix q p
@@ -114,7 +120,16 @@ hop_more net s root h p i r (inr absent) =
     }
 
 pub each_has_simple_path : EachHasSimplePath
-each_has_simple_path net s root [] i = record { simple = []; is_path = i; no_repeat = (λ e. e, tt); same_end = refl; as_strong = omega arith; stays_definite = λ d. d; stays_unblocked = λ u. u }
+each_has_simple_path net s root [] i = record {
+  simple = [];
+  is_path = i;
+  no_repeat = (λ e. e, tt);
+  same_end = refl;
+  as_strong = omega arith;
+  stays_definite
+      = λ d. d;
+  stays_unblocked = λ u. u;
+}
 each_has_simple_path net s root (h ∷ p) i =
     let r = each_has_simple_path net s root p i.0 in
     hop_more net s root h p i r (member_cases h.to (nodes_of root r.simple))

@@ -10,7 +10,8 @@ use Rattle.switch_net.specs.declared.switches.Switch.{Switch}
 use Rattle.switch_net.specs.declared.switches.SwitchKind.{SwitchKind}
 use Rattle.switch_net.specs.declared.switches.SwitchKind.TheVariants.{N, P, D}
 use Rattle.switch_net.specs.Network.{Network, IsSound, IsWithin}
-use Rattle.switch_net.specs.Path.{Hop, Joins, IsPath, IsBlocked, DefiniteTo, strength, switch_strength, root_strength, is_input, end_of, is_closed_at, is_closed_or_unknown_at}
+use Rattle.switch_net.specs.Path.{Hop, Joins, IsPath, IsBlocked, DefiniteTo, strength, switch_strength, root_strength, is_input, end_of, is_closed_at}
+use Rattle.switch_net.specs.Path.{is_closed_or_unknown_at}
 use Rattle.switch_net.proofs.Paths.{NotOvercome, drop_not_overcome}
 
 -- entries that are low below the end are low past it too
@@ -100,7 +101,8 @@ module _ (net : Network) (s : List Level) (sound : IsSound net) where
   end_in_range root (h ∷ p) i = (ends_in_range net sound h.through (end_of root p) h.to i.1 i.2).1
 
   -- an unblocked path that ends at an input is that input alone
-  pub at_input : (root : ℕ) (p : List Hop) → IsPath net s root p → ¬ (IsBlocked net s root p) → is_input net (end_of root p) ≡ true → end_of root p < net.nodes → p ≡ []
+  pub at_input : (root : ℕ) (p : List Hop) → IsPath net s root p → ¬ (IsBlocked net s root p) → is_input net (end_of root p) ≡ true →
+      end_of root p < net.nodes → p ≡ []
   unfolding NotOvercome
   at_input root [] i u e lt = refl
   at_input root (h ∷ p) i u e lt =

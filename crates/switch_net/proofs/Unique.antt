@@ -30,7 +30,10 @@ module _ (net : Network) (s : List Level) (sound : IsSound net) where
   -- where nothing overcomes it
   overcome_none : (root : ℕ) (p : List Hop) → (IsOvercome net s (end_of root p) (strength net root p) → ⊥) → NotOvercome net s root p
   unfolding NotOvercome
-  overcome_none root p no_one = λ k d. elim (cases_lt (strength net root p) k) [ inl lt ↦ absurd (no_one (record { by = k; blocker = d; stronger = lt })) | inr le ↦ le ]
+  overcome_none root p no_one = λ k d. elim (cases_lt (strength net root p) k) [
+    | inl lt ↦ absurd (no_one (record { by = k; blocker = d; stronger = lt }))
+    | inr le ↦ le
+  ]
 
   abbrev Claim : ℕ → Type 0
   Claim n = (root : ℕ) (p : List Hop) → 6 ≤ strength net root p + n → IsPath net s root p → IsDefinite s p → (IsBetter net s root p → ⊥) → ⊥
@@ -44,7 +47,16 @@ module _ (net : Network) (s : List Level) (sound : IsSound net) where
         is_path = i;
         is_definite = d;
         is_unblocked = unblocked-root net s root (overcome_none root [] (λ o. stronger root (strength net root []) high o (λ b.
-            k (record { from = b.from; along = b.along; is_path = b.is_path; is_definite = b.is_definite; is_unblocked = b.is_unblocked; same_end = b.same_end ∙ o.blocker.ends; as_strong = omega (arith, b.as_strong, o.stronger, o.blocker.is_strength) }))));
+            k (record {
+              from = b.from;
+              along = b.along;
+              is_path = b.is_path;
+              is_definite = b.is_definite;
+              is_unblocked = b.is_unblocked;
+              same_end =
+                  b.same_end ∙ o.blocker.ends;
+              as_strong = omega (arith, b.as_strong, o.stronger, o.blocker.is_strength);
+            }))));
         same_end = refl;
         as_strong = omega arith;
       })
@@ -58,19 +70,32 @@ module _ (net : Network) (s : List Level) (sound : IsSound net) where
         along = q;
         is_path = iq;
         is_definite = (r.is_definite, d.1);
-        is_unblocked = unblocked-hop net s r.from h r.along r.is_unblocked (overcome_none r.from q (λ o. stronger h.to (strength net r.from q) (omega arith) o (λ b.
-            k (record { from = b.from; along = b.along; is_path = b.is_path; is_definite = b.is_definite; is_unblocked = b.is_unblocked; same_end = b.same_end ∙ o.blocker.ends; as_strong = omega (arith, b.as_strong, o.stronger, o.blocker.is_strength) }))));
+        is_unblocked = unblocked-hop net s r.from h r.along r.is_unblocked (overcome_none r.from q
+            (λ o. stronger h.to (strength net r.from q) (omega arith) o (λ b.
+            k (record {
+              from = b.from;
+              along = b.along;
+              is_path = b.is_path;
+              is_definite = b.is_definite;
+              is_unblocked = b.is_unblocked;
+              same_end =
+                  b.same_end ∙ o.blocker.ends;
+              as_strong = omega (arith, b.as_strong, o.stronger, o.blocker.is_strength);
+            }))));
         same_end = refl;
         as_strong = as_strong;
       }))
 
   claim : (n : ℕ) → Claim n
-  claim zero = level zero (λ v k high o. absurd (let low = strength_low net s sound o.blocker.root o.blocker.path in omega (arith, o.stronger, o.blocker.is_strength, low)))
-  claim (suc n) = level (suc n) (λ v k high o. claim n o.blocker.root o.blocker.path (omega (arith, o.stronger, o.blocker.is_strength)) o.blocker.is_path o.blocker.is_definite)
+  claim zero = level zero (λ v k high o. absurd (let low = strength_low net s sound o.blocker.root o.blocker.path in omega
+      (arith, o.stronger, o.blocker.is_strength, low)))
+  claim (suc n) = level (suc n) (λ v k high o. claim n o.blocker.root o.blocker.path (omega (arith, o.stronger, o.blocker.is_strength)) o.blocker.is_path
+      o.blocker.is_definite)
 
   -- not every node lacks an unblocked path
   pub has_unblocked : (v : ℕ) → v < net.nodes → ((root : ℕ) (path : List Hop) → IsUnblockedTo net s v root path → ⊥) → ⊥
-  has_unblocked v in_v none = claim 6 v [] (omega arith) in_v tt (λ b. none b.from b.along (record { is_path = b.is_path; ends = b.same_end; is_unblocked = b.is_unblocked }))
+  has_unblocked v in_v none = claim 6 v [] (omega arith) in_v tt (λ b. none b.from b.along
+      (record { is_path = b.is_path; ends = b.same_end; is_unblocked = b.is_unblocked }))
 
   -- no node has two steady values
   pub one_value : (v : ℕ) (x y : Level) → v < net.nodes → IsSteadyValue net s v x → IsSteadyValue net s v y → x ≡ y

@@ -24,7 +24,8 @@ module _ (net : Network) (s : List Level) where
   pub in_self : (n : ℕ) → IsStorage net n → IsInVicinity net s n n
   in_self n i = record { chain = []; is_chain = i; ends = refl }
 
-  pub in_more : (n a b : ℕ) (w : Switch) → IsInVicinity net s n a → Contains net.switches w → Joins w a b → is_closed_or_unknown s w ≡ true → IsStorage net b → IsInVicinity net s n b
+  pub in_more : (n a b : ℕ) (w : Switch) → IsInVicinity net s n a → Contains net.switches w → Joins w a b → is_closed_or_unknown s w ≡ true →
+      IsStorage net b → IsInVicinity net s n b
   in_more n a b w v c j o st = record { chain = record { through = w; to = b } ∷ v.chain; is_chain = (v.is_chain, c, rw v.ends j, o, st); ends = refl }
 
   -- a chain goes on along another
@@ -47,7 +48,8 @@ module _ (net : Network) (s : List Level) where
   pub in_turn : (n v : ℕ) → IsInVicinity net s n v → IsInVicinity net s v n
   in_turn n v i = let b = back n i.chain i.is_chain in rw i.ends at b
 
-module _ (net : Network) (sound : IsSound net) (s t : List Level) (step : IsStep net s t) (IsSeed : ℕ → Type 0) (seeds : HoldsSeeds net s t IsSeed) (v : ℕ) (storage : IsStorage net v)
+module _ (net : Network) (sound : IsSound net) (s t : List Level) (step : IsStep net s t) (IsSeed : ℕ →
+    Type 0) (seeds : HoldsSeeds net s t IsSeed) (v : ℕ) (storage : IsStorage net v)
     (outside : (n : ℕ) → IsSeed n → IsInVicinity net t n v → ⊥) where
   -- no node of its vicinity is a seed
   none_seed : (u : ℕ) → IsInVicinity net t v u → IsSeed u → ⊥
@@ -70,5 +72,6 @@ module _ (net : Network) (sound : IsSound net) (s t : List Level) (step : IsStep
   pub keeps_value : IsNextLevel net t v (state_of t v)
   keeps_value =
       let st = (step.each v storage.0).storage storage.1 in
-      let moved = same_steady net s t (IsInVicinity net t v) sound (other_way net t s (IsInVicinity net t v) quiet_part) v (state_of t v) (in_self net t v storage) st in
+      let moved = same_steady net s t (IsInVicinity net t v) sound (other_way net t s (IsInVicinity net t v) quiet_part) v (state_of t v)
+      (in_self net t v storage) st in
       record { input = λ e. absurd (let f = storage.1 in cc); storage = λ e. moved }

@@ -1,5 +1,6 @@
 -- Networks of switches.
 use Rattle.std.specs.Prelude.{◌≡◌, ℕ, ◌<◌, ◌≤◌, List, Bool, All, length}
+use Rattle.switch_net.specs.declared.limits.TheConstants.{LARGEST_SIZE}
 use Rattle.switch_net.specs.declared.switches.Switch.{Switch}
 
 -- a network: the number of its nodes, its switches, and for each node its size and whether it is an input
@@ -15,7 +16,7 @@ IsWithin nodes switch = (switch.gate < nodes) × (switch.left < nodes) × (switc
 
 -- a size of a node
 abbrev pub IsSize : ℕ → Type 0
-IsSize size = (1 ≤ size) × (size ≤ 3)
+IsSize size = (1 ≤ size) × (size ≤ LARGEST_SIZE)
 
 -- the switches' nodes are the network's, and each node has a size and is an input or not
 pub record IsSound (net : Network) : Type 0 where

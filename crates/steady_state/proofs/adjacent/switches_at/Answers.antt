@@ -15,4 +15,5 @@ run_of-requires-clause-within c = rw c.sorted.ensures ((sorted c.args.net.now c.
 pub returns : goal.returns
 returns c =
     rw (c.run_of.ensures, c.sorted.ensures)
-    (run_is c.args.net.now.nodes c.args.net.now.switches.now c.args.terminal (sorted_at c.args.terminal c.args.net.now) c.args.node (sorted c.args.net.now c.args.terminal) c.requires)
+    (run_is c.args.net.now.nodes c.args.net.now.switches.now c.args.terminal (sorted_at c.args.terminal c.args.net.now) c.args.node
+    (sorted c.args.net.now c.args.terminal) c.requires)

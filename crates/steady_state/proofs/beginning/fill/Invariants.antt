@@ -6,5 +6,6 @@ use Rattle.steady_state.proofs.beginning.fill.Given as goal
 abbrev pub invariant-nodes : goal.invariant-nodes
 invariant-nodes l = record {
   fits : length l.waiting.inside ≡ l.net.nodes;
-  filled : IsFilled (network_in l.net) l.pass.part.state.now l.pass.kind l.pass.part.inside.now l.pass.floor.now l.pass.part.order.now l.place l.best l.waiting.inside;
+  filled : IsFilled (network_in l.net) l.pass.part.state.now l.pass.kind l.pass.part.inside.now l.pass.floor.now l.pass.part.order.now l.place l.best
+      l.waiting.inside;
 }

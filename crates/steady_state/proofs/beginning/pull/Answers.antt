@@ -12,7 +12,8 @@ pub bounds-net-place : goal.bounds-net-place
 bounds-net-place c = c.switches_at-places.ensures.stand c.switches.place-index c.switches-test.true
 
 pub pull_one-best-requires-clause-switch : goal.pull_one-best-requires-clause-switch
-pull_one-best-requires-clause-switch c = switch_at c.args.net.now (slice_index c.switches_at-places.result.now c.switches.place-index) no_switch (c.switches_at-places.ensures.stand c.switches.place-index c.switches-test.true)
+pull_one-best-requires-clause-switch c = switch_at c.args.net.now (slice_index c.switches_at-places.result.now c.switches.place-index) no_switch
+    (c.switches_at-places.ensures.stand c.switches.place-index c.switches-test.true)
 
 pub pull_one-best-requires-clause-near : goal.pull_one-best-requires-clause-near
 pull_one-best-requires-clause-near c = rw (c.switches_at-places.ensures.own c.switches.place-index no_switch c.switches-test.true) c.requires.node
@@ -34,9 +35,11 @@ switches-preserved c =
       more = omega (arith, inv.more, here.more);
       low = here.low;
       brought = next_at c.args.net.now.switches.now (End c.args.side) c.args.node c.switches_at-places.result.now places
-          (BringsAtMost (network_in c.args.net.now) c.args.pass.now.part.state.now c.args.pass.now.kind c.args.pass.now.floor.now c.args.side c.pull_one-best.result)
+          (BringsAtMost (network_in c.args.net.now) c.args.pass.now.part.state.now c.args.pass.now.kind c.args.pass.now.floor.now c.args.side
+          c.pull_one-best.result)
           c.switches.place-index no_switch c.switches-test.true
-          (λ i lt d. brings_up (network_in c.args.net.now) c.args.pass.now.part.state.now c.args.pass.now.kind c.args.pass.now.floor.now c.args.side c.switches.best c.pull_one-best.result
+          (λ i lt d. brings_up (network_in c.args.net.now) c.args.pass.now.part.state.now c.args.pass.now.kind c.args.pass.now.floor.now c.args.side
+          c.switches.best c.pull_one-best.result
           (slice_index_or c.args.net.now.switches.now (slice_index c.switches_at-places.result.now i) d) here.more (inv.brought i lt d)) here.pulled;
     }
 

@@ -11,5 +11,6 @@ invariant-switches l = record {
   more : l.before ≤ l.best;
   low : l.best ≤ 6;
   brought : (i : ℕ) → i < l.place-index → (d : Switch) →
-      BringsAtMost (network_in l.net) l.pass.part.state.now l.pass.kind l.pass.floor.now l.side l.best (slice_index_or l.net.switches.now (slice_index l.places i) d);
+      BringsAtMost (network_in l.net) l.pass.part.state.now l.pass.kind l.pass.floor.now l.side l.best
+      (slice_index_or l.net.switches.now (slice_index l.places i) d);
 }

@@ -11,7 +11,8 @@ pub bounds-net-place : goal.bounds-net-place
 bounds-net-place c = c.switches_at-places.ensures.stand c.gated.place-index c.gated-test.true
 
 pub mark_ends-requires-clause-switch : goal.mark_ends-requires-clause-switch
-mark_ends-requires-clause-switch c = switch_at c.args.net.now (slice_index c.switches_at-places.result.now c.gated.place-index) no_switch (c.switches_at-places.ensures.stand c.gated.place-index c.gated-test.true)
+mark_ends-requires-clause-switch c = switch_at c.args.net.now (slice_index c.switches_at-places.result.now c.gated.place-index) no_switch
+    (c.switches_at-places.ensures.stand c.gated.place-index c.gated-test.true)
 
 pub gated-init : goal.gated-init
 gated-init c = record { marks = c.requires.marks; grown = λ v i. i; ends = λ i lt. absurd (omega arith) }
@@ -23,12 +24,15 @@ gated-preserved c =
     record {
       marks = here.marks;
       grown = λ v i. here.grown v (inv.grown v i);
-      ends = next_at c.args.net.now.switches.now Gate c.args.node c.switches_at-places.result.now c.switches_at-places.ensures (EndsInside (network_in c.args.net.now) c.mark_ends.new.marks.inside)
+      ends = next_at c.args.net.now.switches.now Gate c.args.node c.switches_at-places.result.now c.switches_at-places.ensures
+          (EndsInside (network_in c.args.net.now) c.mark_ends.new.marks.inside)
           c.gated.place-index no_switch c.gated-test.true
-          (λ i lt d. ends_grown (network_in c.args.net.now) c.gated.marks.inside c.mark_ends.new.marks.inside (slice_index_or c.args.net.now.switches.now (slice_index c.switches_at-places.result.now i) d) here.grown (inv.ends i lt d)) here.ends;
+          (λ i lt d. ends_grown (network_in c.args.net.now) c.gated.marks.inside c.mark_ends.new.marks.inside
+          (slice_index_or c.args.net.now.switches.now (slice_index c.switches_at-places.result.now i) d) here.grown (inv.ends i lt d)) here.ends;
     }
 
 pub returns-clause-gated : goal.returns-clause-gated
 returns-clause-gated c =
-    each_at c.args.net.now.switches.now Gate c.args.node c.switches_at-places.result.now c.switches_at-places.ensures (EndsInside (network_in c.args.net.now) c.gated.marks.inside)
+    each_at c.args.net.now.switches.now Gate c.args.node c.switches_at-places.result.now c.switches_at-places.ensures
+    (EndsInside (network_in c.args.net.now) c.gated.marks.inside)
     (λ i lt d. c.gated.invariant.ends i (omega arith) d)

@@ -9,5 +9,6 @@ abbrev pub invariant-gated : goal.invariant-gated
 invariant-gated l = record {
   marks : AreMarked (network_in l.net) l.marks;
   grown : (v : ℕ) → IsInside l.fn.marks.inside v → IsInside l.marks.inside v;
-  ends : (i : ℕ) → i < l.place-index → (d : Switch) → EndsInside (network_in l.net) l.marks.inside (slice_index_or l.net.switches.now (slice_index l.places i) d);
+  ends : (i : ℕ) → i < l.place-index → (d : Switch) → EndsInside (network_in l.net) l.marks.inside
+      (slice_index_or l.net.switches.now (slice_index l.places i) d);
 }

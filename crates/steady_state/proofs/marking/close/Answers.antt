@@ -17,10 +17,13 @@ nodes-preserved c =
       marks = b.marks;
       reached = λ seeds k. let now = inv.reached seeds k in let r = now node inside in b.reached seeds (a.reached seeds now (rw same r)) (rw same r);
       grown = λ v i. b.adds.grown v (a.adds.grown v (inv.grown v i));
-      left = covered_more (network_in c.args.net.now) c.args.state.now Left c.nodes.marks.inside c.walk-in-nodes.new.marks.inside c.nodes.marks.order c.walk-in-nodes.new.marks.order c.nodes.scanned c.nodes.marks.count c.nodes-test.true
+      left = covered_more (network_in c.args.net.now) c.args.state.now Left c.nodes.marks.inside c.walk-in-nodes.new.marks.inside c.nodes.marks.order
+          c.walk-in-nodes.new.marks.order c.nodes.scanned c.nodes.marks.count c.nodes-test.true
           (λ u i. b.adds.grown u (a.adds.grown u i)) (λ i lt. b.adds.same i (omega (arith, a.adds.more)) ∙ a.adds.same i lt)
-          (covered_grown (network_in c.args.net.now) c.args.state.now Left c.walk.new.marks.inside c.walk-in-nodes.new.marks.inside node b.adds.grown (rw same at a.covered)) inv.left;
-      right = covered_more (network_in c.args.net.now) c.args.state.now Right c.nodes.marks.inside c.walk-in-nodes.new.marks.inside c.nodes.marks.order c.walk-in-nodes.new.marks.order c.nodes.scanned c.nodes.marks.count c.nodes-test.true
+          (covered_grown (network_in c.args.net.now) c.args.state.now Left c.walk.new.marks.inside c.walk-in-nodes.new.marks.inside node b.adds.grown
+          (rw same at a.covered)) inv.left;
+      right = covered_more (network_in c.args.net.now) c.args.state.now Right c.nodes.marks.inside c.walk-in-nodes.new.marks.inside c.nodes.marks.order
+          c.walk-in-nodes.new.marks.order c.nodes.scanned c.nodes.marks.count c.nodes-test.true
           (λ u i. b.adds.grown u (a.adds.grown u i)) (λ i lt. b.adds.same i (omega (arith, a.adds.more)) ∙ a.adds.same i lt) (rw same at b.covered) inv.right;
       within = omega (arith, a.adds.more, b.adds.more);
     }

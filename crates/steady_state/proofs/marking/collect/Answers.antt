@@ -15,8 +15,10 @@ pub seeds-preserved : goal.seeds-preserved
 seeds-preserved c = record {
   marks = c.mark.ensures.marks;
   reached = c.mark.ensures.reached c.args.state.now c.args.seeds.now c.seeds.invariant.reached
-      (λ st. seed_reached (network_in c.args.net.now) c.args.state.now c.args.seeds.now (slice_index c.args.seeds.now c.seeds.seed-index) (Contains-get_or c.args.seeds.now c.seeds.seed-index 0 c.seeds-test.true) st);
-  seeded = seeded_more (network_in c.args.net.now) c.args.seeds.now c.seeds.marks.inside c.mark.new.marks.inside c.seeds.seed-index c.seeds-test.true c.mark.ensures.adds.grown c.mark.ensures.marked c.seeds.invariant.seeded;
+      (λ st. seed_reached (network_in c.args.net.now) c.args.state.now c.args.seeds.now (slice_index c.args.seeds.now c.seeds.seed-index)
+      (Contains-get_or c.args.seeds.now c.seeds.seed-index 0 c.seeds-test.true) st);
+  seeded = seeded_more (network_in c.args.net.now) c.args.seeds.now c.seeds.marks.inside c.mark.new.marks.inside c.seeds.seed-index c.seeds-test.true
+      c.mark.ensures.adds.grown c.mark.ensures.marked c.seeds.invariant.seeded;
 }
 
 pub returns-clause-reached : goal.returns-clause-reached

@@ -9,5 +9,6 @@ every-preserved c =
     let a = c.mark.ensures in
     record {
       marks = a.marks;
-      every = below_one (λ v. IsStorage (network_in c.args.net.now) v → IsInside c.mark.new.marks.inside v) c.every.node (λ v lt st. a.adds.grown v (c.every.invariant.every v lt st)) a.marked;
+      every = below_one (λ v. IsStorage (network_in c.args.net.now) v →
+          IsInside c.mark.new.marks.inside v) c.every.node (λ v lt st. a.adds.grown v (c.every.invariant.every v lt st)) a.marked;
     }

@@ -11,7 +11,8 @@ pub bounds-net-place : goal.bounds-net-place
 bounds-net-place c = c.switches_at-places.ensures.stand c.switches.place-index c.switches-test.true
 
 pub follow-requires-clause-switch : goal.follow-requires-clause-switch
-follow-requires-clause-switch c = switch_at c.args.net.now (slice_index c.switches_at-places.result.now c.switches.place-index) no_switch (c.switches_at-places.ensures.stand c.switches.place-index c.switches-test.true)
+follow-requires-clause-switch c = switch_at c.args.net.now (slice_index c.switches_at-places.result.now c.switches.place-index) no_switch
+    (c.switches_at-places.ensures.stand c.switches.place-index c.switches-test.true)
 
 pub switches-init : goal.switches-init
 switches-init c = record { marks = c.requires.marks; adds = adds_none c.args.marks.now; reached = λ seeds k r. k; led = λ i lt. absurd (omega arith) }
@@ -25,12 +26,15 @@ switches-preserved c =
       marks = here.marks;
       adds = adds_then c.args.marks.now c.switches.marks c.follow.new.marks inv.adds here.adds;
       reached = λ seeds k r. here.reached seeds (inv.reached seeds k r) (rw (places.own c.switches.place-index no_switch c.switches-test.true) r);
-      led = next_at c.args.net.now.switches.now (End c.args.side) c.args.node c.switches_at-places.result.now places (LeadsInside (network_in c.args.net.now) c.args.state.now c.args.side c.follow.new.marks.inside)
+      led = next_at c.args.net.now.switches.now (End c.args.side) c.args.node c.switches_at-places.result.now places
+          (LeadsInside (network_in c.args.net.now) c.args.state.now c.args.side c.follow.new.marks.inside)
           c.switches.place-index no_switch c.switches-test.true
-          (λ i lt d. leads_grown (network_in c.args.net.now) c.args.state.now c.args.side c.switches.marks.inside c.follow.new.marks.inside (slice_index_or c.args.net.now.switches.now (slice_index c.switches_at-places.result.now i) d) here.adds.grown (inv.led i lt d)) here.marked;
+          (λ i lt d. leads_grown (network_in c.args.net.now) c.args.state.now c.args.side c.switches.marks.inside c.follow.new.marks.inside
+          (slice_index_or c.args.net.now.switches.now (slice_index c.switches_at-places.result.now i) d) here.adds.grown (inv.led i lt d)) here.marked;
     }
 
 pub returns-clause-covered : goal.returns-clause-covered
 returns-clause-covered c =
-    each_at c.args.net.now.switches.now (End c.args.side) c.args.node c.switches_at-places.result.now c.switches_at-places.ensures (LeadsInside (network_in c.args.net.now) c.args.state.now c.args.side c.switches.marks.inside)
+    each_at c.args.net.now.switches.now (End c.args.side) c.args.node c.switches_at-places.result.now c.switches_at-places.ensures
+    (LeadsInside (network_in c.args.net.now) c.args.state.now c.args.side c.switches.marks.inside)
     (λ i lt d. c.switches.invariant.led i (omega arith) d)

@@ -9,6 +9,8 @@ abbrev pub invariant-switches : goal.invariant-switches
 invariant-switches l = record {
   marks : AreMarked (network_in l.net) l.marks;
   adds : AddsMarks l.fn.marks l.marks;
-  reached : (seeds : List ℕ) → AreReached (network_in l.net) l.state seeds l.fn.marks.inside → IsReached (network_in l.net) l.state seeds l.node → AreReached (network_in l.net) l.state seeds l.marks.inside;
-  led : (i : ℕ) → i < l.place-index → (d : Switch) → LeadsInside (network_in l.net) l.state l.side l.marks.inside (slice_index_or l.net.switches.now (slice_index l.places i) d);
+  reached : (seeds : List ℕ) → AreReached (network_in l.net) l.state seeds l.fn.marks.inside → IsReached (network_in l.net) l.state seeds l.node →
+      AreReached (network_in l.net) l.state seeds l.marks.inside;
+  led : (i : ℕ) → i < l.place-index → (d : Switch) → LeadsInside (network_in l.net) l.state l.side l.marks.inside
+      (slice_index_or l.net.switches.now (slice_index l.places i) d);
 }

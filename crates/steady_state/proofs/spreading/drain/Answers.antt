@@ -9,7 +9,8 @@ visit-requires-clause-node c = c.nodes.invariant.working.waits c.take_last-node.
 
 pub visit-requires-clause-working : goal.visit-requires-clause-working
 visit-requires-clause-working c =
-    take (network_in c.args.net.now) c.args.pass.now.part.state.now c.args.pass.now.kind c.args.pass.now.part.inside.now c.args.pass.now.floor.now c.nodes.best c.nodes.waiting.inside c.take_last-node.new.self.inside c.take_last-node.result
+    take (network_in c.args.net.now) c.args.pass.now.part.state.now c.args.pass.now.kind c.args.pass.now.part.inside.now c.args.pass.now.floor.now
+    c.nodes.best c.nodes.waiting.inside c.take_last-node.new.self.inside c.take_last-node.result
     c.nodes.invariant.working c.take_last-node.ensures.left c.take_last-node.ensures.kept
 
 pub nodes-smaller : goal.nodes-smaller
@@ -25,8 +26,10 @@ nodes-preserved c =
     let b = c.visit-in-nodes.ensures in
     record {
       fits = b.fits;
-      working = finish (network_in c.args.net.now) c.args.pass.now.part.state.now c.args.pass.now.kind c.args.pass.now.part.inside.now c.args.pass.now.floor.now c.visit-in-nodes.new.best c.visit-in-nodes.new.waiting.inside c.take_last-node.result b.working
-          (λ k d lt is. relaxed_up c.args.pass.now.part.state.now c.args.pass.now.kind c.args.pass.now.part.inside.now c.args.pass.now.floor.now c.visit.new.best c.visit-in-nodes.new.best Left (slice_index_or c.args.net.now.switches.now k d)
+      working = finish (network_in c.args.net.now) c.args.pass.now.part.state.now c.args.pass.now.kind c.args.pass.now.part.inside.now
+          c.args.pass.now.floor.now c.visit-in-nodes.new.best c.visit-in-nodes.new.waiting.inside c.take_last-node.result b.working
+          (λ k d lt is. relaxed_up c.args.pass.now.part.state.now c.args.pass.now.kind c.args.pass.now.part.inside.now c.args.pass.now.floor.now
+          c.visit.new.best c.visit-in-nodes.new.best Left (slice_index_or c.args.net.now.switches.now k d)
           (rw is b.same) b.raised.above (a.relaxed k d lt is)) b.relaxed;
       above = λ v. omega (arith, c.nodes.invariant.above v, a.raised.above v, b.raised.above v);
     }

@@ -10,7 +10,8 @@ pub bounds-net-place : goal.bounds-net-place
 bounds-net-place c = c.switches_at-places.ensures.stand c.switches.place-index c.switches-test.true
 
 pub relax-requires-clause-switch : goal.relax-requires-clause-switch
-relax-requires-clause-switch c = switch_at c.args.net.now (slice_index c.switches_at-places.result.now c.switches.place-index) no_switch (c.switches_at-places.ensures.stand c.switches.place-index c.switches-test.true)
+relax-requires-clause-switch c = switch_at c.args.net.now (slice_index c.switches_at-places.result.now c.switches.place-index) no_switch
+    (c.switches_at-places.ensures.stand c.switches.place-index c.switches-test.true)
 
 pub relax-requires-clause-near : goal.relax-requires-clause-near
 relax-requires-clause-near c = rw (c.switches_at-places.ensures.own c.switches.place-index no_switch c.switches-test.true) c.requires.node
@@ -34,13 +35,16 @@ switches-preserved c =
     record {
       fits = here.fits;
       working = rw own at (here.working (rw own inv.working));
-      raised = raised_then c.args.best.now c.switches.best c.relax.new.best c.args.waiting.now.count c.switches.waiting.count c.relax.new.waiting.count inv.raised here.raised;
+      raised = raised_then c.args.best.now c.switches.best c.relax.new.best c.args.waiting.now.count c.switches.waiting.count c.relax.new.waiting.count
+          inv.raised here.raised;
       same = same ∙ inv.same;
       relaxed = next_at c.args.net.now.switches.now (End c.args.side) c.args.node c.switches_at-places.result.now places
           (IsRelaxed c.args.pass.now.part.state.now c.args.pass.now.kind c.args.pass.now.part.inside.now c.args.pass.now.floor.now c.relax.new.best c.args.side)
           c.switches.place-index no_switch c.switches-test.true
-          (λ i lt d. relaxed_up c.args.pass.now.part.state.now c.args.pass.now.kind c.args.pass.now.part.inside.now c.args.pass.now.floor.now c.switches.best c.relax.new.best c.args.side
-          (slice_index_or c.args.net.now.switches.now (slice_index c.switches_at-places.result.now i) d) (rw (places.own i d (omega arith)) same) here.raised.above (inv.relaxed i lt d)) here.relaxed;
+          (λ i lt d. relaxed_up c.args.pass.now.part.state.now c.args.pass.now.kind c.args.pass.now.part.inside.now c.args.pass.now.floor.now c.switches.best
+          c.relax.new.best c.args.side
+          (slice_index_or c.args.net.now.switches.now (slice_index c.switches_at-places.result.now i) d) (rw (places.own i d (omega arith)) same)
+          here.raised.above (inv.relaxed i lt d)) here.relaxed;
     }
 
 pub returns-clause-relaxed : goal.returns-clause-relaxed

@@ -11,5 +11,6 @@ invariant-switches l = record {
   raised : IsRaised l.fn.best l.best l.fn.waiting.count l.waiting.count;
   same : slice_index l.best l.node ≡ slice_index l.fn.best l.node;
   relaxed : (i : ℕ) → i < l.place-index → (d : Switch) →
-      IsRelaxed l.pass.part.state.now l.pass.kind l.pass.part.inside.now l.pass.floor.now l.best l.side (slice_index_or l.net.switches.now (slice_index l.places i) d);
+      IsRelaxed l.pass.part.state.now l.pass.kind l.pass.part.inside.now l.pass.floor.now l.best l.side
+      (slice_index_or l.net.switches.now (slice_index l.places i) d);
 }

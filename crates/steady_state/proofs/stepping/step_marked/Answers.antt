@@ -7,12 +7,15 @@ use Rattle.steady_state.proofs.Wires.{sound_of}
 use Rattle.steady_state.proofs.stepping.step_marked.Goals as goal
 
 pub step_part-requires-clause-part : goal.step_part-requires-clause-part
-step_part-requires-clause-part c = part_of (network_in c.args.net.now) c.close.new.marks _ c.requires.state c.items.ensures c.nodes.ensures c.close.ensures.marks c.close.ensures.left c.close.ensures.right
+step_part-requires-clause-part c = part_of (network_in c.args.net.now) c.close.new.marks _ c.requires.state c.items.ensures c.nodes.ensures
+    c.close.ensures.marks c.close.ensures.left c.close.ensures.right
 
 pub returns-clause-step : goal.returns-clause-step
 returns-clause-step c =
     let same_length = ap length c.requires.same in
     let inside = c.items.ensures in
-    part_steps (network_in c.args.net.now) c.args.state.now c.step_part.new.next c.args.marks.now.inside c.close.new.marks.inside (sound_of c.args.net.now) (omega arith) c.requires.quiet c.close.ensures.grown
-    (chain_inside (network_in c.args.net.now) c.args.state.now c.close.new.marks.inside c.close.ensures.left c.close.ensures.right) c.close.ensures.marks.storage
+    part_steps (network_in c.args.net.now) c.args.state.now c.step_part.new.next c.args.marks.now.inside c.close.new.marks.inside (sound_of c.args.net.now)
+    (omega arith) c.requires.quiet c.close.ensures.grown
+    (chain_inside (network_in c.args.net.now) c.args.state.now c.close.new.marks.inside c.close.ensures.left c.close.ensures.right)
+    c.close.ensures.marks.storage
     (rw inside at c.step_part.ensures.steady) (λ v out. c.step_part.ensures.kept v (rw inside out) ∙ ap (λ x. state_of x v) c.requires.same)

@@ -4,7 +4,8 @@ use Rattle.switch_net.specs.Network.{IsSize}
 use Rattle.switch_net.proofs.network.Net.build.Goals as goal
 
 pub invariant_of-result-clause-switches_within : goal.invariant_of-result-clause-switches_within
-invariant_of-result-clause-switches_within c = let same : c.of.result ≡ c.args.switches.now = c.of.ensures ∙ c.in_ok-from_slice.ensures.items in rw same c.requires.switches_within
+invariant_of-result-clause-switches_within c = let same : c.of.result ≡ c.args.switches.now = c.of.ensures ∙ c.in_ok-from_slice.ensures.items in rw same
+    c.requires.switches_within
 
 pub invariant_of-result-clause-sizes_in_range : goal.invariant_of-result-clause-sizes_in_range
 invariant_of-result-clause-sizes_in_range c =
