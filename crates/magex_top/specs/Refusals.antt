@@ -8,7 +8,8 @@ use Rattle.tech_model.specs.declared.faults.Section.TheVariants as sections
 use Rattle.tech_model.specs.declared.faults.Table.{Table}
 use Rattle.tech_model.specs.declared.faults.Table.TheVariants as tables
 use Rattle.tech_model.specs.declared.faults.TechFault.{TechFault}
-use Rattle.tech_model.specs.declared.faults.TechFault.TheVariants.{NoSection, NoPlane, NoType, Twice, SameSet, ContactPart, NotMonotone, FetTerminal, FetName, BadForm, TypeExpression, Memory}
+use Rattle.tech_model.specs.declared.faults.TechFault.TheVariants.{NoSection, NoPlane, NoType, Twice, SameSet, ContactPart, NotMonotone, FetTerminal}
+use Rattle.tech_model.specs.declared.faults.TechFault.TheVariants.{FetName, BadForm, TypeExpression, Memory}
 use Rattle.tech_model.specs.declared.faults.TechFault.TheVariants as faults
 use Rattle.session_model.specs.declared.report.Cause.{Cause}
 use Rattle.session_model.specs.declared.report.Cause.TheVariants.{Inside, Absent, TooLong}

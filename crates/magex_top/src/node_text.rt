@@ -2,6 +2,7 @@
 ghost use Rattle.std.specs.Prelude.{◌≡◌, ◌++◌, List, ℤ, true, map, length, codes, All, IfOk, OnOk, IsTrue};
 ghost use Rattle.text_scan.specs.Decimal.{decimal};
 ghost use Rattle.tech_model.specs.Types.{is_type};
+ghost use Rattle.tech_model.specs.WellFormed.{IsWellFormed};
 ghost use Rattle.layout_model.specs.Nodes.{Node, AreNodes};
 ghost use Rattle.layout_model.specs.Technologies.{capacitance, rules_of};
 ghost use Rattle.cell_paint.specs.Paints.{layout_of};
@@ -27,11 +28,10 @@ pub fn node_text(
     requires kinds { paint.now.kinds ≡ tech.now.types }
     requires planes { length paint.now.planes ≡ length tech.now.planes }
     requires plain { is_plain tech.now ≡ true }
+    requires formed { IsWellFormed tech.now }
     ensures { IfOk result (λ lines. (nodes : List Node) × AreNodes (rules_of tech.now) (layout_of paint.now) nodes
         × (lines.items ≡ node_lines (rules_of tech.now) nodes)) }
 {
-    // The contract of this call says that the lists of the technology fit together.
-    let _ = tech.raw();
     let Ok(pieces) = paint.tiles_in(0, PAINT_RANGE) else {
         return Err(AllocError);
     };

@@ -18,13 +18,15 @@ returns-in-Text-clause-effect g c files told =
     let none : length session.cells.items ≡ 0 = search rules in
     let file : c.in_ok-file_name.field-0 ≡ cell_file c.args.cell.now = search rules in
     IfOk-weaker c.load_text.result _ _
-    (λ lines is. load_read c.args.number session after c.in-Some.tech files c.args.cell.now c.in_ok-file_name.field-0 c.in-Text.text.items lines.items some none refl file fetched.0 fetched.1 is)
+    (λ lines is. load_read c.args.number session after c.in-Some.tech files c.args.cell.now c.in_ok-file_name.field-0 c.in-Text.text.items lines.items
+    some none refl file fetched.0 fetched.1 is)
     (rw c.deref.ensures.value at c.load_text.ensures.effect)
 
 pub returns-in-Text-clause-causes : goal.returns-in-Text-clause-causes
 returns-in-Text-clause-causes g c =
     let causes = c.in_ok-text.ensures.causes in
-    causes_of_inside g.F.Shelf c.args.shelf.now c.fetch_text.new.shelf c.load_text.result c.load_text.ensures.memory c.load_text.ensures.inside causes.calm causes.no_store causes.more_absences causes.more_overlengths
+    causes_of_inside g.F.Shelf c.args.shelf.now c.fetch_text.new.shelf c.load_text.result c.load_text.ensures.memory c.load_text.ensures.inside
+    causes.calm causes.no_store causes.more_absences causes.more_overlengths
 
 pub returns-in-Refused-clause-effect : goal.returns-in-Refused-clause-effect
 returns-in-Refused-clause-effect g c files told =
@@ -36,5 +38,6 @@ returns-in-Refused-clause-effect g c files told =
     let none : length session.cells.items ≡ 0 = search rules in
     let file : c.in_ok-file_name.field-0 ≡ cell_file c.args.cell.now = search rules in
     IfOk-weaker c.refuse-in-Refused.result _ _
-    (λ lines said. load_refused c.args.number session c.in-Some.tech files c.args.cell.now c.in_ok-file_name.field-0 fault lines.items some none file fetched said)
+    (λ lines said. load_refused c.args.number session c.in-Some.tech files c.args.cell.now c.in_ok-file_name.field-0 fault lines.items some none file
+    fetched said)
     c.refuse-in-Refused.ensures.lines

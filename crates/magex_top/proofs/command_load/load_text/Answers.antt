@@ -16,7 +16,8 @@ pub returns-in_default-clause-effect : goal.returns-in_default-clause-effect
 returns-in_default-clause-effect c =
     let raw = c.args.tech.now in
     let none : plain_cell raw c.args.text.now ≡ None = search rules in
-    IfOk-weaker c.refuse.result _ _ (λ lines told. load_not_plain c.args.number raw c.args.cell.now c.args.text.now c.args.cells.now.items lines.items none told) c.refuse.ensures.lines
+    IfOk-weaker c.refuse.result _ _ (λ lines told. load_not_plain c.args.number raw c.args.cell.now c.args.text.now c.args.cells.now.items lines.items
+    none told) c.refuse.ensures.lines
 
 pub returns-in_default-2-clause-effect : goal.returns-in_default-2-clause-effect
 returns-in_default-2-clause-effect c =
@@ -25,7 +26,9 @@ returns-in_default-2-clause-effect c =
     let plain : plain_cell raw c.args.text.now ≡ Some drawn = search rules in
     let full : PassesLimit raw c.deref.result.now = rw c.in_default-2.is at c.in_ok-paint.ensures.full in
     let passes : PassesLimit raw drawn = rw c.deref.ensures.value at full in
-    IfOk-weaker c.refuse-in_default-2.result _ _ (λ lines told. load_full c.args.number raw c.args.cell.now c.args.text.now c.args.cells.now.items drawn lines.items plain passes told) c.refuse-in_default-2.ensures.lines
+    IfOk-weaker c.refuse-in_default-2.result _ _
+    (λ lines told. load_full c.args.number raw c.args.cell.now c.args.text.now c.args.cells.now.items drawn lines.items plain passes told)
+    c.refuse-in_default-2.ensures.lines
 
 pub returns-clause-effect : goal.returns-clause-effect
 returns-clause-effect c =
@@ -38,7 +41,8 @@ returns-clause-effect c =
     let replied : c.in_ok-lines.lines.items ≡ reply (loaded_text c.args.cell.now) ∷ [] = search rules in
     let shown : (place : Place) → layout_of one.paint place ≡ painted_all raw c.deref.result.now place = rw c.in-Some-2.is at c.in_ok-paint.ensures.painted in
     let painted = rw c.deref.ensures.value at shown in
-    load_done c.args.number raw c.args.cell.now c.args.text.now c.args.cells.now.items c.add_cell.new.cells.items drawn one c.in_ok-lines.lines.items plain added named painted replied
+    load_done c.args.number raw c.args.cell.now c.args.text.now c.args.cells.now.items c.add_cell.new.cells.items drawn one c.in_ok-lines.lines.items
+    plain added named painted replied
 
 pub returns-clause-kept : goal.returns-clause-kept
 returns-clause-kept c =

@@ -33,7 +33,8 @@ returns-clause-effect c =
     let some : session.tech ≡ Some c.in-Some.tech = search rules in
     let there : kept_cell_named c.args.name.now session.cells.items ≡ Some c.in-Some-find_cell.cell.now = search rules in
     let plain : is_plain c.in-Some.tech ≡ true = search rules in
-    nodes_told c.args.number session c.in-Some.tech c.args.name.now c.in-Some-find_cell.cell.now c.in_ok-node_text.field-0.items some there plain c.in_ok-node_text.ensures
+    nodes_told c.args.number session c.in-Some.tech c.args.name.now c.in-Some-find_cell.cell.now c.in_ok-node_text.field-0.items some there plain
+    c.in_ok-node_text.ensures
 
 pub returns-clause-inside : goal.returns-clause-inside
 returns-clause-inside c =

@@ -31,7 +31,8 @@ lines_of_nodes-requires-clause-types c =
     let paint = c.args.paint.now in
     let nodes = c.in_ok-nodes.nodes.items in
     let found = subst (λ (l : List Piece). AreNodes uniform (tiles.layout_of l) (map node_of nodes)) c.deref.ensures.value c.in_ok-nodes.ensures in
-    let are = nodes_of_paint raw paint c.in-Ok.pieces.items (map node_of nodes) c.raw.ensures.well_formed c.requires.kinds c.requires.planes c.requires.plain c.in-Ok.ensures.tiles c.in-Ok.ensures.sound found in
+    let are = nodes_of_paint raw paint c.in-Ok.pieces.items (map node_of nodes) c.requires.formed c.requires.kinds c.requires.planes
+    c.requires.plain c.in-Ok.ensures.tiles c.in-Ok.ensures.sound found in
     subst (λ (l : List PlainNode). All (λ (node : PlainNode). IsTrue (is_type raw node.kind)) l) (sym c.deref-2.ensures.value)
     (nodes_have_types raw paint nodes c.requires.kinds c.requires.planes c.requires.plain c.in-Ok.ensures.sound are)
 
@@ -44,6 +45,7 @@ returns c =
     let paint = c.args.paint.now in
     let nodes = c.in_ok-nodes.nodes.items in
     let found = subst (λ (l : List Piece). AreNodes uniform (tiles.layout_of l) (map node_of nodes)) c.deref.ensures.value c.in_ok-nodes.ensures in
-    let are = nodes_of_paint raw paint c.in-Ok.pieces.items (map node_of nodes) c.raw.ensures.well_formed c.requires.kinds c.requires.planes c.requires.plain c.in-Ok.ensures.tiles c.in-Ok.ensures.sound found in
+    let are = nodes_of_paint raw paint c.in-Ok.pieces.items (map node_of nodes) c.requires.formed c.requires.kinds c.requires.planes
+    c.requires.plain c.in-Ok.ensures.tiles c.in-Ok.ensures.sound found in
     let same = ap (λ (l : List PlainNode). node_lines (rules_of raw) (map node_of l)) c.deref-2.ensures.value in
     IfOk-weaker c.lines_of_nodes.result _ _ (λ text is. (map node_of nodes, are, is ∙ same)) c.lines_of_nodes.ensures

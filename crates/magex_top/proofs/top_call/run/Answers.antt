@@ -1,4 +1,5 @@
-use Rattle.std.proofs.Common.{◌≡◌, ◌∙◌, sym, ap, subst, refl, List, [], ◌∷◌, map, ◌≤◌, ◌<◌, Global, Err, string_bytes, ℕ, Bool, true, false, ◌==◌, length, arith}
+use Rattle.std.proofs.Common.{◌≡◌, ◌∙◌, sym, ap, subst, refl, List, [], ◌∷◌, map, ◌≤◌, ◌<◌, Global, Err, string_bytes, ℕ, Bool, true, false, ◌==◌, length}
+use Rattle.std.proofs.Common.{arith}
 use Rattle.std.proofs.lemmas.Bool.Decides.{nat_tests}
 use Rattle.outside_io.specs.Counts.{Rose}
 use Rattle.outside_io.specs.Files.{Files}
@@ -27,7 +28,8 @@ returns-then-not-is_empty-clause-meaning g c text before files text_told told fi
     let lines = reply usage_text ∷ [] in (
       lines,
       files,
-      subst (λ (status : Status). RunMeans (map (string_bytes {Z = Global}) c.args.words.now) text files lines files status) (sym h.0) (usage_run (string_bytes {Z = Global}) c.args.words.now text files some),
+      subst (λ (status : Status). RunMeans (map (string_bytes {Z = Global}) c.args.words.now) text files lines files status) (sym h.0)
+          (usage_run (string_bytes {Z = Global}) c.args.words.now text files some),
       h.1 ∙ ap (λ (t : Told). with_back t (text_of lines)) told,
       files_told,
       usage_comes g.F.Shelf c.args.shelf.now c.args.shelf.now,
@@ -78,8 +80,15 @@ returns-then-not-is_empty-clause-beginning g c text before files text_told told 
 pub returns-in-Err-TooLong-clause-meaning : goal.returns-in-Err-TooLong-clause-meaning
 returns-in-Err-TooLong-clause-meaning g c text before files text_told told files_told ends =
     let none = no_words c.args.words.now c.is_empty.result c.is_empty.ensures c.if-not-is_empty.false in
-    let long = rw text_told at (c.in-Err-TooLong.ensures.too_long (ap (λ (f : ReadAllFault). Err f) c.in-Err-TooLong.field-0-is)) in
-    ([], files, long_run (string_bytes {Z = Global}) c.args.words.now text files none long, nothing_more _ before told, files_told, no_refusals g.F.Shelf c.args.shelf.now c.args.shelf.now)
+    let long = rw text_told at (c.in-Err-TooLong.ensures.too_long (ap (λ (f : ReadAllFault). Err f) c.in-Err-TooLong.field-0-is)) in (
+      [],
+      files,
+      long_run (string_bytes {Z = Global}) c.args.words.now text files none long,
+      nothing_more _ before told,
+      files_told,
+      no_refusals
+          g.F.Shelf c.args.shelf.now c.args.shelf.now,
+    )
 
 pub returns-in-Err-TooLong-clause-beginning : goal.returns-in-Err-TooLong-clause-beginning
 returns-in-Err-TooLong-clause-beginning g c text before files text_told told files_told =

@@ -19,29 +19,56 @@ done_status told holds is quiet = rw (sym is ∙ quiet) refl
 pub returns-in-Ok-true-clause-meaning : goal.returns-in-Ok-true-clause-meaning
 returns-in-Ok-true-clause-meaning g c before files told files_told ends =
     let h = c.in-Ok-true.ensures.effect before files told files_told in
-    let means = subst (λ (s : State). LinesMean LineMeans 1 s files (lines_of c.args.text.now) h.0) c.new_session-session.ensures.state h.1 in
-    (h.0.lines, with_stores files h.0.stores, (h.0, means, refl, refl, told_status (is_told h.0.lines) c.in-Ok-true.field-0 h.4 c.in-Ok-true.field-0-test), h.2, h.3, h.5)
+    let means = subst (λ (s : State). LinesMean LineMeans 1 s files (lines_of c.args.text.now) h.0) c.new_session-session.ensures.state h.1 in (
+      h.0.lines,
+      with_stores files h.0.stores,
+      (h.0, means, refl, refl, told_status (is_told h.0.lines) c.in-Ok-true.field-0 h.4 c.in-Ok-true.field-0-test),
+      h.2,
+      h.3,
+      h.5,
+    )
 
 pub returns-in-Ok-false-clause-meaning : goal.returns-in-Ok-false-clause-meaning
 returns-in-Ok-false-clause-meaning g c before files told files_told ends =
     let h = c.in-Ok-false.ensures.effect before files told files_told in
-    let means = subst (λ (s : State). LinesMean LineMeans 1 s files (lines_of c.args.text.now) h.0) c.new_session-session.ensures.state h.1 in
-    (h.0.lines, with_stores files h.0.stores, (h.0, means, refl, refl, done_status (is_told h.0.lines) c.in-Ok-false.field-0 h.4 c.in-Ok-false.field-0-test), h.2, h.3, h.5)
+    let means = subst (λ (s : State). LinesMean LineMeans 1 s files (lines_of c.args.text.now) h.0) c.new_session-session.ensures.state h.1 in (
+      h.0.lines,
+      with_stores files h.0.stores,
+      (h.0, means, refl, refl, done_status (is_told h.0.lines) c.in-Ok-false.field-0 h.4 c.in-Ok-false.field-0-test),
+      h.2,
+      h.3,
+      h.5,
+    )
 
 pub returns-in-Ok-true-clause-beginning : goal.returns-in-Ok-true-clause-beginning
 returns-in-Ok-true-clause-beginning g c before files told files_told =
     let h = c.run_lines.ensures.progress before files told files_told in
-    let Fails = Rose (g.F.Shelf.store_faults c.args.shelf.now) (g.F.Shelf.store_faults c.run_lines.new.shelf) in
-    (h.0, h.1, subst (λ (s : State). Progress LineMeans false Fails s files (lines_of c.args.text.now) h.0 h.1) c.new_session-session.ensures.state h.2, h.3, h.4)
+    let Fails = Rose (g.F.Shelf.store_faults c.args.shelf.now) (g.F.Shelf.store_faults c.run_lines.new.shelf) in (
+      h.0,
+      h.1,
+      subst (λ (s : State). Progress LineMeans false Fails s files (lines_of c.args.text.now) h.0 h.1) c.new_session-session.ensures.state h.2,
+      h.3,
+      h.4,
+    )
 
 pub returns-in-Ok-false-clause-beginning : goal.returns-in-Ok-false-clause-beginning
 returns-in-Ok-false-clause-beginning g c before files told files_told =
     let h = c.run_lines.ensures.progress before files told files_told in
-    let Fails = Rose (g.F.Shelf.store_faults c.args.shelf.now) (g.F.Shelf.store_faults c.run_lines.new.shelf) in
-    (h.0, h.1, subst (λ (s : State). Progress LineMeans false Fails s files (lines_of c.args.text.now) h.0 h.1) c.new_session-session.ensures.state h.2, h.3, h.4)
+    let Fails = Rose (g.F.Shelf.store_faults c.args.shelf.now) (g.F.Shelf.store_faults c.run_lines.new.shelf) in (
+      h.0,
+      h.1,
+      subst (λ (s : State). Progress LineMeans false Fails s files (lines_of c.args.text.now) h.0 h.1) c.new_session-session.ensures.state h.2,
+      h.3,
+      h.4,
+    )
 
 pub returns-clause-beginning : goal.returns-clause-beginning
 returns-clause-beginning g c before files told files_told =
     let h = c.run_lines.ensures.progress before files told files_told in
-    let Fails = Rose (g.F.Shelf.store_faults c.args.shelf.now) (g.F.Shelf.store_faults c.run_lines.new.shelf) in
-    (h.0, h.1, subst (λ (s : State). Progress LineMeans false Fails s files (lines_of c.args.text.now) h.0 h.1) c.new_session-session.ensures.state h.2, h.3, h.4)
+    let Fails = Rose (g.F.Shelf.store_faults c.args.shelf.now) (g.F.Shelf.store_faults c.run_lines.new.shelf) in (
+      h.0,
+      h.1,
+      subst (λ (s : State). Progress LineMeans false Fails s files (lines_of c.args.text.now) h.0 h.1) c.new_session-session.ensures.state h.2,
+      h.3,
+      h.4,
+    )

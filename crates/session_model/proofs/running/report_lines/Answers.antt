@@ -7,4 +7,5 @@ use Rattle.session_model.proofs.running.report_lines.Goals as goal
 pub returns-clause-some : goal.returns-clause-some
 returns-clause-some g c =
     let text = c.deref.ensures.value ∙ c.in_ok-text.ensures ∙ ap (report_of c.args.quiet) c.as_slice.ensures.value in
-    subst (λ (t : List ℕ). OnErr c.write_text.result (AppendsPrefix (g.K.Sink.written c.args.report.now) (g.K.Sink.written c.write_text.new.report) t)) text c.write_text.ensures.some
+    subst (λ (t : List ℕ). OnErr c.write_text.result (AppendsPrefix (g.K.Sink.written c.args.report.now) (g.K.Sink.written c.write_text.new.report) t))
+    text c.write_text.ensures.some
