@@ -10,7 +10,7 @@ use Rattle.magex_top.proofs.plain_techs.is_plain.Goals as goal
 use Rattle.magex_top.proofs.plain_techs.is_plain.Goals.{then-items-eq1, else-items-eq1, then-are_no_contacts, else-are_no_contacts, then-are_atoms}
 use Rattle.magex_top.proofs.plain_techs.is_plain.Goals.{else-are_atoms, then-connect_alone, else-connect_alone}
 
-pub returns-then-items-eq1-2-clause-plain : goal.returns-then-items-eq1-2
+pub returns-then-items-eq1-2-clause-plain : goal.returns-then-items-eq1-2-clause-plain
 unfolding is_plain
 returns-then-items-eq1-2-clause-plain c =
     let raw = c.args.tech.now in
