@@ -1,3 +1,4 @@
+pub mod CauseLaws
 pub mod CornerLaws
 pub mod DrawingSteps
 pub mod FileLaws
@@ -12,7 +13,6 @@ pub mod PlainTechText
 pub mod PlainTechTiles
 pub mod RectBounds
 pub mod RunLaws
-pub mod SessionLaws
 pub mod TakeOffLaws
 pub mod TechLaws
 pub mod UniformLaws

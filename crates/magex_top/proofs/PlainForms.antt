@@ -9,7 +9,8 @@ use Rattle.tech_model.specs.Types.{layer_number}
 use Rattle.magex_top.specs.declared.plain_mag.Drawn.{Drawn}
 use Rattle.magex_top.specs.declared.plain_mag.PlainLine.{PlainLine}
 use Rattle.magex_top.specs.declared.plain_mag.PlainLine.TheVariants.{Magic, Tech, Timestamp, Group, Area, End, Other}
-use Rattle.magex_top.specs.PlainMag.{PlainGroup, lines_of_group, drawn_of_group, IsHeader, bare, named, dated, named_dated, dated_named, IsPlainForm, in_group, in_header, from_first_line}
+use Rattle.magex_top.specs.PlainMag.{PlainGroup, lines_of_group, drawn_of_group, IsHeader, bare, named, dated, named_dated, dated_named, IsPlainForm}
+use Rattle.magex_top.specs.PlainMag.{in_group, in_header, from_first_line}
 
 -- the lines of rectangles
 abbrev area_lines : List Rect → List PlainLine

@@ -1,60 +1,78 @@
 -- What a run means in each case of its words and its script.
-use Rattle.std.proofs.Common.{◌≡◌, ℕ, ◌<◌, ◌≤◌, ◌∙◌, inl, List, [], ◌∷◌, ◌++◌, map, length, Some, refl, sym, ap}
+use Rattle.std.proofs.Common.{◌≡◌, ℕ, ◌<◌, ◌≤◌, ◌∙◌, inl, List, [], ◌∷◌, ◌++◌, map, length, Some, None, refl, sym, ap, take, drop, take-append-drop}
 use Rattle.std.proofs.lemmas.List.{append-nil}
 use Rattle.std.specs.Prelude.{nat_lt, MatchBool, true, false}
 use Rattle.text_scan.specs.Lines.{lines_of}
 use Rattle.outside_io.specs.Files.{Files}
 use Rattle.outside_io.specs.ToldBytes.{ToldBytes}
+use Rattle.outside_io.specs.declared.limits.TheConstants.{LONGEST_FILE}
+use Rattle.session_model.specs.declared.report.ReportLine.{ReportLine}
+use Rattle.outside_io.specs.declared.outside.Shelf.{Ghosts as ShelfWords}
+use Rattle.session_model.specs.Causes.{ComeFrom, line_kinds}
+use Rattle.session_model.specs.Effects.{no_effect}
+use Rattle.session_model.specs.Progress.{BeginsNext, IsPrefixOf}
+use Rattle.session_model.specs.Reports.{text_of}
 use Rattle.magex_top.specs.declared.status.Status.{Status}
 use Rattle.magex_top.specs.declared.status.Status.TheVariants.{Usage, ScriptTooLong}
-use Rattle.magex_top.specs.Runs.{RunMeans, RunBegins, ScriptMeans, IsBegun, ReportsBeginningOf, first_state, usage_line}
-use Rattle.magex_top.specs.Sessions.{accepted, most_bytes}
+use Rattle.magex_top.specs.Runs.{RunMeans, RunReaches, ScriptMeans, ScriptReaches, usage_text}
+use Rattle.magex_top.specs.Sessions.{LineMeans}
+use Rattle.magex_top.specs.States.{first_state, reply}
 use Rattle.magex_top.proofs.FileLaws.{fits_test, long_test}
 
 -- with words it is a usage fault
-pub usage_run : {X : Type 0} (f : X → List ℕ) (words : List X) (text : List ℕ) (files : Files) → (words ≡ [] → ⊥) → RunMeans (map f words) text files usage_line files Usage
+pub usage_run : {X : Type 0} (f : X → List ℕ) (words : List X) (text : List ℕ) (files : Files) → (words ≡ [] → ⊥)
+    → RunMeans (map f words) text files (reply usage_text ∷ []) files Usage
 usage_run f [] text files some = absurd (some refl)
 usage_run f (word ∷ words) text files some = (refl, refl, refl)
 
 -- a script that is not too long means what its lines mean
-pub script_run : {X : Type 0} (f : X → List ℕ) (words : List X) (text : List ℕ) (files : Files) (reply : List ℕ) (after : Files) (status : Status) → words ≡ [] → length text ≤ most_bytes
-    → ScriptMeans text files reply after status → RunMeans (map f words) text files reply after status
-script_run f words text files reply after status none fits means = rw (none, fits_test (length text) fits) means
+pub script_run : {X : Type 0} (f : X → List ℕ) (words : List X) (text : List ℕ) (files : Files) (lines : List ReportLine) (after : Files) (status : Status)
+    → words ≡ [] → length text ≤ LONGEST_FILE → ScriptMeans text files lines after status → RunMeans (map f words) text files lines after status
+script_run f words text files lines after status none fits means = rw (none, fits_test (length text) fits) means
 
 -- a script that is too long means that and an empty report
-pub long_run : {X : Type 0} (f : X → List ℕ) (words : List X) (text : List ℕ) (files : Files) → words ≡ [] → most_bytes < length text → RunMeans (map f words) text files [] files ScriptTooLong
+pub long_run : {X : Type 0} (f : X → List ℕ) (words : List X) (text : List ℕ) (files : Files) → words ≡ [] → LONGEST_FILE < length text
+    → RunMeans (map f words) text files [] files ScriptTooLong
 long_run f words text files none long = rw (none, long_test (length text) long) (refl, refl, refl)
 
 pub nothing_more : (written : ToldBytes) (before : List ℕ) → written ≡ Some before → written ≡ Some (before ++ [])
 nothing_more written before is = is ∙ ap (λ (xs : List ℕ). Some xs) (sym (append-nil before))
 
--- what a run with words has reported
-pub begun_usage : {X : Type 0} (f : X → List ℕ) (words : List X) (text : List ℕ) (files : Files) (before : List ℕ) (written : ToldBytes) → (words ≡ [] → ⊥)
-    → ReportsBeginningOf written before usage_line → RunBegins (map f words) text files before written
-begun_usage f [] text files before written some begun = absurd (some refl)
-begun_usage f (word ∷ words) text files before written some begun = begun
+-- what a run with words reaches
+pub usage_reached : {X : Type 0} (f : X → List ℕ) (words : List X) (text : List ℕ) (files : Files) (Failed : Type 0) (reported : List ℕ) → (words ≡ [] → ⊥)
+    → IsPrefixOf reported (text_of (reply usage_text ∷ [])) → RunReaches (map f words) text files Failed reported files
+usage_reached f [] text files Failed reported some prefix = absurd (some refl)
+usage_reached f (word ∷ words) text files Failed reported some prefix = (prefix, refl)
 
--- what a run without words has reported of a script that is not too long
-pub begun_script : {X : Type 0} (f : X → List ℕ) (words : List X) (text : List ℕ) (files : Files) (before : List ℕ) (written : ToldBytes) → words ≡ [] → length text ≤ most_bytes
-    → IsBegun text files before written → RunBegins (map f words) text files before written
-begun_script f words text files before written none fits begun = rw (none, fits_test (length text) fits) begun
+-- what a run without words reaches in a script that is not too long
+pub script_reached : {X : Type 0} (f : X → List ℕ) (words : List X) (text : List ℕ) (files : Files) (Failed : Type 0) (reported : List ℕ) (after : Files)
+    → words ≡ [] → length text ≤ LONGEST_FILE → ScriptReaches text files Failed reported after → RunReaches (map f words) text files Failed reported after
+script_reached f words text files Failed reported after none fits reached = rw (none, fits_test (length text) fits) reached
 
--- nothing is reported before the script was read
-nothing_begun : (text : List ℕ) (files : Files) (before : List ℕ) (written : ToldBytes) → written ≡ Some before → IsBegun text files before written
-nothing_begun text files before written is = record {
+-- no line of a script was begun
+nothing_begun : (text : List ℕ) (files : Files) (Failed : Type 0) → ScriptReaches text files Failed [] files
+nothing_begun text files Failed = record {
   past = [];
   left = lines_of text;
   split = refl;
-  done = accepted (first_state files) [];
+  done = no_effect first_state;
   means = refl;
   front = [];
-  next = inl refl;
-  reported = is ∙ ap (λ (xs : List ℕ). Some xs) (sym (append-nil before));
+  next = elim (lines_of text) as (λ (left : List (List ℕ)). BeginsNext LineMeans false Failed 1 first_state files left [] files) [
+    | [] ↦ (refl, refl)
+    | line ∷ lines ↦ inl (refl, refl)
+  ];
+  reported = refl;
 }
 
-pub begun_nothing : {X : Type 0} (f : X → List ℕ) (words : List X) (text : List ℕ) (files : Files) (before : List ℕ) (written : ToldBytes) → words ≡ []
-    → written ≡ Some before → RunBegins (map f words) text files before written
-begun_nothing f words text files before written none is = rw none (elim (nat_lt most_bytes (length text)) as (λ test. MatchBool test (written ≡ Some before) (IsBegun text files before written)) [
-  | true ↦ is
-  | false ↦ nothing_begun text files before written is
+-- nothing is reached before the script was read
+pub nothing_reached : {X : Type 0} (f : X → List ℕ) (words : List X) (text : List ℕ) (files : Files) (Failed : Type 0) → words ≡ []
+    → RunReaches (map f words) text files Failed [] files
+nothing_reached f words text files Failed none = rw none (elim (nat_lt LONGEST_FILE (length text)) as (λ test. MatchBool test ((◌≡◌ {A = List ℕ} [] []) × (files ≡ files)) (ScriptReaches text files Failed [] files)) [
+  | true ↦ (refl, refl)
+  | false ↦ nothing_begun text files Failed
 ])
+
+-- the usage line refuses no line
+pub usage_comes : {F : Type 0} (shelf : ShelfWords F) (old new : F) → ComeFrom shelf old new (line_kinds (reply usage_text ∷ []))
+usage_comes shelf old new = record { absent = λ some. cc; too_long = λ some. cc }

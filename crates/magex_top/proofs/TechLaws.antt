@@ -1,47 +1,88 @@
 -- What `tech` does in each case.
-use Rattle.std.proofs.Common.{◌≡◌, ◌≤◌, ℕ, List, [], ◌∷◌, length, Option, Some, None, refl, sym, ◌∙◌, ap, subst, arith}
-use Rattle.std.specs.Prelude.{map}
+use Rattle.std.proofs.Common.{◌≡◌, ◌≤◌, ◌⊎◌, ℕ, List, [], ◌∷◌, length, Option, Some, None, Err, refl, sym, ◌∙◌, ap, subst, arith}
+use Rattle.geo_core.specs.declared.limits.Limit.TheVariants.{Bytes}
 use Rattle.outside_io.specs.Files.{Files, bytes_of}
+use Rattle.outside_io.specs.declared.limits.TheConstants.{LONGEST_FILE}
+use Rattle.session_model.specs.declared.report.ReportLine.{ReportLine}
+use Rattle.session_model.specs.Effects.{Effect}
 use Rattle.tech_model.specs.declared.raw.RawTech.{RawTech}
+use Rattle.tech_file.specs.declared.reading.TechAt.{TechAt}
 use Rattle.tech_file.specs.Reading.{technology_of}
 use Rattle.magex_top.specs.declared.cells.Cell.{Cell}
-use Rattle.magex_top.specs.declared.cells.Session.{Session}
-use Rattle.magex_top.specs.declared.replies.Answer.{Answer}
-use Rattle.magex_top.specs.Answers.{answered, cell_state, effect_of, state_of, with_tech, AreCellsOf}
-use Rattle.magex_top.specs.Sessions.{State, Effect, TechMeans, tech_effect, tech_file, most_bytes}
-use Rattle.magex_top.proofs.FileLaws.{file_text}
+use Rattle.magex_top.specs.declared.cells.LayoutSession.{LayoutSession}
+use Rattle.magex_top.specs.declared.faults.TopFault.{TopFault}
+use Rattle.magex_top.specs.declared.faults.TopFault.TheVariants.{NoFile, Tech, TechAgain, TooMany}
+use Rattle.magex_top.specs.Answers.{AreCellsOf, Does, state_of, state_with}
+use Rattle.magex_top.specs.CommandTech.{TechMeans, tech_effect, tech_file}
+use Rattle.magex_top.specs.Fetches.{IsLongFile}
+use Rattle.magex_top.specs.Refusals.{refusal}
+use Rattle.magex_top.specs.States.{State, refused}
+use Rattle.magex_top.proofs.FileLaws.{file_refused, file_text}
 
 no_items : {X : Type 0} (xs : List X) → length xs ≡ 0 → xs ≡ []
 no_items [] none = refl
 no_items (x ∷ xs) none = absurd (omega arith)
 
 -- the state of a session without cells
-pub state_without_cells : (session : Session) (files : Files) → length session.cells.items ≡ 0 → state_of session files ≡ with_tech session.tech files
-state_without_cells session files none =
-    let cells = no_items session.cells.items none in
-    let with_list : List Cell → State = λ cells. record { technology = session.tech; cells = map cell_state cells; files = files } in
-    ap with_list cells
+pub state_without_cells : (session : LayoutSession) → length session.cells.items ≡ 0 → state_of session ≡ state_with session.tech []
+state_without_cells session none = ap (λ (cells : List Cell). state_with session.tech cells) (no_items session.cells.items none)
 
 -- a session without a technology has no cells
-pub cells_without_tech : (session : Session) → session.tech ≡ None → AreCellsOf session.tech session.cells.items → length session.cells.items ≡ 0
+pub cells_without_tech : (session : LayoutSession) → session.tech ≡ None → AreCellsOf session.tech session.cells.items → length session.cells.items ≡ 0
 cells_without_tech session none are = subst (λ (tech : Option RawTech). AreCellsOf tech session.cells.items) none are
 
-state_at_first : (session : Session) (files : Files) → session.tech ≡ None → AreCellsOf session.tech session.cells.items → state_of session files ≡ with_tech None files
-state_at_first session files none are =
-    state_without_cells session files (cells_without_tech session none are) ∙ ap (λ (tech : Option RawTech). with_tech tech files) none
+state_at_first : (session : LayoutSession) → session.tech ≡ None → AreCellsOf session.tech session.cells.items → state_of session ≡ state_with None []
+state_at_first session none are =
+    state_without_cells session (cells_without_tech session none are) ∙ ap (λ (tech : Option RawTech). state_with tech []) none
+
+-- where the effect that refuses a line is meant, so are the lines that refuse it
+pub does_refuse : (Means : Effect State → Type 0) (number : ℕ) (state : State) (fault : TopFault) (fetched : List (List ℕ)) (lines : List ReportLine)
+    → lines ≡ refusal number fault ∷ [] → Means (refused number state fault fetched) → Does Means state lines
+does_refuse Means number state fault fetched lines told means =
+    (fetched, subst (λ (xs : List ReportLine). Means (record { state = state; lines = xs; stores = []; fetched = fetched })) (sym told) means)
+
+-- a technology was read already
+pub tech_again : (number : ℕ) (session : LayoutSession) (raw : RawTech) (files : Files) (name : List ℕ) (lines : List ReportLine)
+    → session.tech ≡ Some raw → lines ≡ refusal number TechAgain ∷ [] → Does (TechMeans number (state_of session) files name) (state_of session) lines
+tech_again number session raw files name lines some told =
+    let cells = session.cells.items in
+    does_refuse (TechMeans number (state_of session) files name) number (state_of session) TechAgain [] lines told
+    (subst (λ (t : Option RawTech). TechMeans number (state_with t cells) files name (refused number (state_with t cells) TechAgain [])) (sym some) refl)
+
+-- the file is refused
+pub tech_refused : (number : ℕ) (session : LayoutSession) (files : Files) (name file : List ℕ) (fault : TopFault) (lines : List ReportLine)
+    → session.tech ≡ None → AreCellsOf session.tech session.cells.items → file ≡ tech_file name
+    → ((fault ≡ NoFile file) × (bytes_of files file ≡ None)) ⊎ ((fault ≡ TooMany Bytes) × IsLongFile files file)
+    → lines ≡ refusal number fault ∷ [] → Does (TechMeans number (state_of session) files name) (state_of session) lines
+tech_refused number session files name file fault lines none are file_is refusal_is told =
+    let first : State = state_with None [] in
+    let here = subst (λ (f : List ℕ). ((fault ≡ NoFile f) × (bytes_of files f ≡ None)) ⊎ ((fault ≡ TooMany Bytes) × IsLongFile files f)) file_is refusal_is in
+    let body : TechMeans number first files name (refused number first fault (tech_file name ∷ [])) =
+    file_refused number first files (tech_file name) (λ text done. done ≡ tech_effect number first (tech_file name) (technology_of text)) fault here in
+    does_refuse (TechMeans number (state_of session) files name) number (state_of session) fault (tech_file name ∷ []) lines told
+    (subst (λ (s : State). TechMeans number s files name (refused number s fault (tech_file name ∷ []))) (sym (state_at_first session none are)) body)
 
 -- a text that was asked for decides
-pub tech_read : (number : ℕ) (session after : Session) (files : Files) (name file text : List ℕ) (answer : Answer)
+pub tech_read : (number : ℕ) (session after : LayoutSession) (files : Files) (name file text : List ℕ) (lines : List ReportLine)
     → session.tech ≡ None → AreCellsOf session.tech session.cells.items → after.cells.items ≡ session.cells.items → file ≡ tech_file name
-    → bytes_of files file ≡ Some text → length text ≤ most_bytes
-    → answered number (with_tech after.tech files) answer ≡ tech_effect number (with_tech None files) file (technology_of text)
-    → TechMeans number (state_of session files) name (effect_of number after files answer)
-tech_read number session after files name file text answer none are same_cells file_is there fits is =
+    → bytes_of files file ≡ Some text → length text ≤ LONGEST_FILE
+    → ◌≡◌ {A = Effect State} (record { state = state_with after.tech []; lines = lines; stores = []; fetched = file ∷ [] }) (tech_effect number (state_with None []) file (technology_of text))
+    → Does (TechMeans number (state_of session) files name) (state_of after) lines
+tech_read number session after files name file text lines none are same_cells file_is there fits is =
     let no_cells = ap (λ (cells : List Cell). length cells) same_cells ∙ cells_without_tech session none are in
-    let first : State = with_tech None files in
-    let effect : Effect = effect_of number after files answer in
+    let first : State = state_with None [] in
+    let effect : Effect State = record { state = state_of after; lines = lines; stores = []; fetched = file ∷ [] } in
+    let with_state : State → Effect State = λ state. record { state = state; lines = lines; stores = []; fetched = file ∷ [] } in
     let effect_is : effect ≡ tech_effect number first (tech_file name) (technology_of text) =
-    ap (λ (state : State). answered number state answer) (state_without_cells after files no_cells) ∙ is ∙ ap (λ (f : List ℕ). tech_effect number first f (technology_of text)) file_is in
-    let here = subst (λ (f : List ℕ). bytes_of files f ≡ Some text) file_is there in
-    subst (λ (state : State). TechMeans number state name effect) (sym (state_at_first session files none are))
-    (file_text number first (tech_file name) (λ text done. done ≡ tech_effect number first (tech_file name) (technology_of text)) text effect here fits effect_is)
+    ap with_state (state_without_cells after no_cells) ∙ is ∙ ap (λ (f : List ℕ). tech_effect number first f (technology_of text)) file_is in
+    let here = subst (λ (f : List ℕ). bytes_of files f ≡ Some text) file_is there in (
+      file ∷ [],
+      subst (λ (state : State). TechMeans number state files name effect) (sym (state_at_first session none are))
+          (file_text number first files (tech_file name) (λ text done. done ≡ tech_effect number first (tech_file name) (technology_of text)) text effect here fits effect_is),
+    )
+
+-- a text with a fault refuses the line
+pub tech_faulty : (number : ℕ) (tech : Option RawTech) (file text : List ℕ) (at : TechAt) (lines : List ReportLine)
+    → tech ≡ None → technology_of text ≡ Err at → lines ≡ refusal number (Tech file at) ∷ []
+    → ◌≡◌ {A = Effect State} (record { state = state_with tech []; lines = lines; stores = []; fetched = file ∷ [] }) (tech_effect number (state_with None []) file (technology_of text))
+tech_faulty number tech file text at lines none faulty told = rw (none, faulty, told) refl

@@ -1,4 +1,7 @@
 pub mod Answers
+pub mod CommandLoad
+pub mod CommandNodes
+pub mod CommandTech
 pub mod Commands
 pub mod Drawings
 pub mod Fetches
@@ -13,5 +16,6 @@ pub mod PlainTechs
 pub mod Refusals
 pub mod Runs
 pub mod Sessions
+pub mod States
 pub mod Statuses
 pub mod Uniform

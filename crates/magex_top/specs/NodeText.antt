@@ -1,9 +1,10 @@
 -- Names of nodes, and the lines by which they are written.
-use Rattle.std.specs.Prelude.{ℕ, ℤ, pos, negsuc, suc, List, [], ◌∷◌, ◌++◌, codes}
-use Rattle.std.specs.List.{flat_map}
+use Rattle.std.specs.Prelude.{ℕ, ℤ, pos, negsuc, suc, List, [], ◌∷◌, ◌++◌, map, codes}
 use Rattle.text_scan.specs.Decimal.{decimal}
 use Rattle.layout_model.specs.Technologies.{Technology, capacitance}
 use Rattle.layout_model.specs.Nodes.{Node}
+use Rattle.session_model.specs.declared.report.ReportLine.{ReportLine}
+use Rattle.magex_top.specs.States.{reply}
 
 -- a coordinate in a name: a negative number is written with `n` for its sign
 abbrev pub coordinate : ℤ → List ℕ
@@ -40,7 +41,8 @@ node_place technology node =
 -- `node "NAME" 0 C x y TYPE a1 p1 .. aN pN`, with an area and a perimeter for each class
 unfoldable pub node_line : Technology → Node → List ℕ
 node_line technology node =
-    node_title technology node ++ node_place technology node ++ measures_text node.measures ++ codes "\n"
+    node_title technology node ++ node_place technology node ++ measures_text node.measures
 
-abbrev pub node_lines : Technology → List Node → List ℕ
-node_lines technology nodes = flat_map (node_line technology) nodes
+-- a line for each node
+abbrev pub node_lines : Technology → List Node → List ReportLine
+node_lines technology nodes = map (λ node. reply (node_line technology node)) nodes

@@ -8,8 +8,13 @@ use Rattle.tech_model.specs.declared.faults.Section.TheVariants as sections
 use Rattle.tech_model.specs.declared.faults.Table.{Table}
 use Rattle.tech_model.specs.declared.faults.Table.TheVariants as tables
 use Rattle.tech_model.specs.declared.faults.TechFault.{TechFault}
-use Rattle.tech_model.specs.declared.faults.TechFault.TheVariants.{NoSection, NoPlane, NoType, Twice, SameSet, ContactPart, NotMonotone, FetTerminal, FetName, BadForm, TypeExpression, Memory}
+use Rattle.tech_model.specs.declared.faults.TechFault.TheVariants.{NoSection, NoPlane, NoType, Twice, SameSet, ContactPart, NotMonotone, FetTerminal}
+use Rattle.tech_model.specs.declared.faults.TechFault.TheVariants.{FetName, BadForm, TypeExpression, Memory}
 use Rattle.tech_model.specs.declared.faults.TechFault.TheVariants as faults
+use Rattle.session_model.specs.declared.report.Cause.{Cause}
+use Rattle.session_model.specs.declared.report.Cause.TheVariants.{Inside, Absent, TooLong}
+use Rattle.session_model.specs.declared.report.LineKind.TheVariants.{Refusal}
+use Rattle.session_model.specs.declared.report.ReportLine.{ReportLine}
 use Rattle.magex_top.specs.declared.faults.TopFault.{TopFault}
 use Rattle.magex_top.specs.declared.faults.TopFault.TheVariants.{NoTech, Tech, NoFile, NoCell, TooMany, TechAgain, NotBuilt}
 
@@ -71,6 +76,25 @@ fault_text (TooMany limit) = codes "E18 too many " ++ limit_word limit
 fault_text TechAgain = codes "E22 technology again"
 fault_text NotBuilt = codes "E26 not built"
 
+-- what a limit's refusal comes from
+abbrev pub limit_cause : Limit → Cause
+limit_cause limits.Bytes = TooLong
+limit_cause _ = Inside
+
+-- what a refusal comes from
+abbrev pub cause_of : TopFault → Cause
+cause_of NoTech = Inside
+cause_of (Tech file at) = Inside
+cause_of (NoFile file) = Absent
+cause_of (NoCell cell) = Inside
+cause_of (TooMany limit) = limit_cause limit
+cause_of TechAgain = Inside
+cause_of NotBuilt = Inside
+
 -- `line N: ` and the fault, with N the number of the script's line from 1
-abbrev pub refusal_line : ℕ → TopFault → List ℕ
-refusal_line number fault = codes "line " ++ decimal (pos number) ++ codes ": " ++ fault_text fault ++ codes "\n"
+abbrev pub refusal_text : ℕ → TopFault → List ℕ
+refusal_text number fault = codes "line " ++ decimal (pos number) ++ codes ": " ++ fault_text fault
+
+-- the line that refuses a line
+abbrev pub refusal : ℕ → TopFault → ReportLine
+refusal number fault = record { kind = Refusal (cause_of fault); text = refusal_text number fault }

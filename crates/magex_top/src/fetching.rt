@@ -1,14 +1,13 @@
 //! The files that commands ask for.
-ghost use Rattle.std.specs.Prelude.{◌≡◌, Some, IfOk, IsErrOf};
-ghost use Rattle.outside_io.specs.Counts.{Rose};
+ghost use Rattle.std.specs.Prelude.{◌≡◌, Some, IfOk};
 ghost use Rattle.outside_io.specs.Files.{Files};
-ghost use Rattle.magex_top.specs.Answers.{UnlessReadFault};
-ghost use Rattle.magex_top.specs.Fetches.{FetchMeans, IsAbsent, IsTooLong};
+ghost use Rattle.session_model.specs.Causes.{HasCauses};
+ghost use Rattle.magex_top.specs.Fetches.{FetchMeans, kinds_of_fetched};
 
 use crate::faults::TopFault;
-use crate::status::Halt;
 use geo_core::{Limit, Name};
 use outside_io::{Shelf, ShelfFault};
+use session_model::Halt;
 use std::alloc::Global;
 
 /// The text of a file, or why a line that asks for it is refused.
@@ -18,18 +17,11 @@ pub enum Fetched {
     Refused(TopFault),
 }
 
-/// Asks the shelf for a file of at most 16 MiB.
+/// Asks the shelf for a file of at most `LONGEST_FILE` bytes.
 pub fn fetch_text<F: Shelf>(alloc: Global, shelf: &mut F, file: Name) -> Result<Fetched, Halt>
     ensures effect { (files : Files) → F.files shelf.old ≡ Some files → IfOk result (λ fetched. FetchMeans files file fetched) }
     ensures files { F.files shelf.new ≡ F.files shelf.old }
-
-    // It says that there is no file, or that it is too long, only where the shelf said so.
-    ensures absent { IfOk result (λ fetched. IsAbsent fetched → Rose (F.absences shelf.old) (F.absences shelf.new)) }
-    ensures too_long { IfOk result (λ fetched. IsTooLong fetched → Rose (F.overlengths shelf.old) (F.overlengths shelf.new)) }
-    ensures cause { IsErrOf result Halt.ReadFault → Rose (F.fetch_faults shelf.old) (F.fetch_faults shelf.new) }
-    ensures never { IsErrOf result Halt.WriteFault → ⊥ }
-    ensures calm { UnlessReadFault result (F.fetch_faults shelf.new ≡ F.fetch_faults shelf.old) }
-    ensures no_store { F.store_faults shelf.new ≡ F.store_faults shelf.old }
+    ensures causes { HasCauses F.Shelf shelf.old shelf.new kinds_of_fetched result }
 {
     match shelf.fetch(alloc, &file) {
         Ok(text) => Ok(Fetched::Text(text)),

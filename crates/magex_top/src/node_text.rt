@@ -2,61 +2,73 @@
 ghost use Rattle.std.specs.Prelude.{◌≡◌, ◌++◌, List, ℤ, true, map, length, codes, All, IfOk, OnOk, IsTrue};
 ghost use Rattle.text_scan.specs.Decimal.{decimal};
 ghost use Rattle.tech_model.specs.Types.{is_type};
+ghost use Rattle.tech_model.specs.WellFormed.{IsWellFormed};
 ghost use Rattle.layout_model.specs.Nodes.{Node, AreNodes};
 ghost use Rattle.layout_model.specs.Technologies.{capacitance, rules_of};
 ghost use Rattle.cell_paint.specs.Paints.{layout_of};
 ghost use Rattle.magex_top.specs.NodeText.{coordinate, generated_name, node_line, node_lines, node_place, node_title, measures_text};
+ghost use Rattle.magex_top.specs.States.{reply};
 ghost use Rattle.magex_top.specs.PlainNodes.{node_of};
 ghost use Rattle.magex_top.specs.PlainTechs.{is_plain};
 
 use crate::nodes::{PlainNode, nodes_of};
+use crate::replies::reply;
 use cell_paint::{CellPaint, PAINT_RANGE};
+use session_model::ReportLine;
 use std::alloc::{AllocError, Global};
 use tech_model::{Tech, TypeId};
 use text_scan::append_decimal;
 
 /// The lines of the nodes of a cell's paint, in a plain technology. Want of memory alone refuses.
-pub fn node_text(alloc: Global, tech: &Tech, paint: &CellPaint) -> Result<Vec<u8>, AllocError>
+pub fn node_text(
+    alloc: Global,
+    tech: &Tech,
+    paint: &CellPaint,
+) -> Result<Vec<ReportLine>, AllocError>
     requires kinds { paint.now.kinds ≡ tech.now.types }
     requires planes { length paint.now.planes ≡ length tech.now.planes }
     requires plain { is_plain tech.now ≡ true }
-    ensures { IfOk result (λ text. (nodes : List Node) × AreNodes (rules_of tech.now) (layout_of paint.now) nodes
-        × (text.items ≡ node_lines (rules_of tech.now) nodes)) }
+    requires formed { IsWellFormed tech.now }
+    ensures { IfOk result (λ lines. (nodes : List Node) × AreNodes (rules_of tech.now) (layout_of paint.now) nodes
+        × (lines.items ≡ node_lines (rules_of tech.now) nodes)) }
 {
-    // The contract of this call says that the lists of the technology fit together.
-    let _ = tech.raw();
     let Ok(pieces) = paint.tiles_in(0, PAINT_RANGE) else {
         return Err(AllocError);
     };
     let nodes = nodes_of(alloc, &pieces)?;
-    append_nodes(alloc, tech, &nodes)
+    lines_of_nodes(alloc, tech, &nodes)
 }
 
 // The lines of these nodes.
-fn append_nodes(alloc: Global, tech: &Tech, nodes: &[PlainNode]) -> Result<Vec<u8>, AllocError>
+fn lines_of_nodes(
+    alloc: Global,
+    tech: &Tech,
+    nodes: &[PlainNode],
+) -> Result<Vec<ReportLine>, AllocError>
     requires types { All (λ node. IsTrue (is_type tech.now node.kind)) nodes.now }
     requires one_class { length tech.now.classes ≡ 1 }
-    ensures { IfOk result (λ text. text.items ≡ node_lines (rules_of tech.now) (map node_of nodes.now)) }
+    ensures { IfOk result (λ lines. lines.items ≡ node_lines (rules_of tech.now) (map node_of nodes.now)) }
 {
-    let mut text = Vec::new(alloc);
+    let mut lines = Vec::new(alloc);
     for node in nodes {
-        append_node(&mut text, tech, node)?;
+        let line = line_of_node(alloc, tech, node)?;
+        lines.push(line)?;
     }
-    Ok(text)
+    Ok(lines)
 }
 
-// Writes the line of a node.
+// The line of a node.
 #[tactic(auto, unfolding(crate::specs::NodeText::node_line))]
-fn append_node(text: &mut Vec<u8>, tech: &Tech, node: &PlainNode) -> Result<(), AllocError>
+fn line_of_node(alloc: Global, tech: &Tech, node: &PlainNode) -> Result<ReportLine, AllocError>
     requires kind { IsTrue (is_type tech.now node.now.kind) }
     requires one_class { length tech.now.classes ≡ 1 }
-    ensures { OnOk result (text.new.items ≡ text.old.items ++ node_line (rules_of tech.now) (node_of node.now)) }
+    ensures { IfOk result (λ line. line ≡ reply (node_line (rules_of tech.now) (node_of node.now))) }
 {
-    append_title(text, tech, node)?;
-    append_place(text, tech, node)?;
-    append_measures(text, node)?;
-    text.push(b'\n')?;
-    Ok(())
+    let mut text = Vec::new(alloc);
+    append_title(&mut text, tech, node)?;
+    append_place(&mut text, tech, node)?;
+    append_measures(&mut text, node)?;
+    Ok(reply(text))
 }
 
 // Writes the least place of a node and its type.

@@ -2,6 +2,7 @@
 ghost use Rattle.std.specs.Prelude.{◌≡◌, ◌==◌, length};
 ghost use Rattle.std.specs.List.{list_all};
 ghost use Rattle.tech_model.specs.Rules.{types_of};
+ghost use Rattle.tech_model.specs.WellFormed.{IsWellFormed};
 ghost use Rattle.magex_top.specs.PlainTechs.{is_plain, is_atom, connects_alone, class_of_all, is_in_class};
 
 use tech_model::{Tech, TypeId};
@@ -10,7 +11,10 @@ use tech_model::{Tech, TypeId};
 /// and one class that has all types.
 #[tactic(auto, unfolding(crate::specs::PlainTechs::is_plain))]
 pub fn is_plain(tech: &Tech) -> bool
-    ensures { result ≡ is_plain tech.now }
+    ensures plain { result ≡ is_plain tech.now }
+
+    // The lists of a technology fit together.
+    ensures formed { IsWellFormed tech.now }
 {
     let raw = tech.raw();
     raw.planes.items().len() == 1

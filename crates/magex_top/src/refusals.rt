@@ -1,25 +1,39 @@
 //! The texts of refusals.
 ghost use Rattle.std.specs.Prelude.{◌≡◌, ◌++◌, codes, IfOk, OnOk};
-ghost use Rattle.magex_top.specs.Refusals.{section_word, table_word, limit_word, tech_fault_text, fault_text, refusal_line};
+ghost use Rattle.magex_top.specs.Refusals.{cause_of, fault_text, limit_word, refusal, section_word, table_word, tech_fault_text};
 
 use crate::faults::TopFault;
-use geo_core::{Limit, Name};
+use geo_core::{Limit, List, Name};
+use session_model::{Cause, LineKind, ReportLine};
 use std::alloc::{AllocError, Global};
 use tech_file::TechAt;
 use tech_model::{Section, Table, TechFault};
 use text_scan::append_decimal;
 
-/// The line that refuses a line: `line N: ` and the fault.
-pub fn refusal_line(alloc: Global, number: usize, fault: &TopFault) -> Result<Vec<u8>, AllocError>
-    ensures { IfOk result (λ text. text.items ≡ refusal_line number fault.now) }
+/// The line that refuses the script's line of this number: `line N: ` and the fault.
+pub fn refusal(alloc: Global, number: usize, fault: &TopFault) -> Result<ReportLine, AllocError>
+    ensures { IfOk result (λ line. line ≡ refusal number fault.now) }
 {
     let mut text = Vec::new(alloc);
     text.extend_from_slice(b"line ")?;
     append_decimal(&mut text, number as i128)?;
     text.extend_from_slice(b": ")?;
     append_fault(&mut text, fault)?;
-    text.push(b'\n')?;
-    Ok(text)
+    Ok(ReportLine {
+        kind: LineKind::Refusal(cause_of(fault)),
+        text: List::of(text),
+    })
+}
+
+// What a refusal comes from.
+fn cause_of(fault: &TopFault) -> Cause
+    ensures { result ≡ cause_of fault.now }
+{
+    match fault {
+        TopFault::NoFile(_) => Cause::Absent,
+        TopFault::TooMany(Limit::Bytes) => Cause::TooLong,
+        _ => Cause::Inside,
+    }
 }
 
 // Writes what is written of a fault.

@@ -1,35 +1,67 @@
-//! What answers a line.
-ghost use Rattle.std.specs.Prelude.{◌≡◌, ◌++◌, pos, IfOk, OnOk, IsOkUnless};
+//! The lines that answer a line.
+ghost use Rattle.std.specs.Prelude.{◌≡◌, ◌++◌, ◌∷◌, [], pos, IfOk, OnOk, IsOkUnless};
 ghost use Rattle.text_scan.specs.Decimal.{decimal};
-ghost use Rattle.magex_top.specs.Sessions.{loaded_text, tech_text};
+ghost use Rattle.magex_top.specs.CommandLoad.{loaded_text};
+ghost use Rattle.magex_top.specs.CommandTech.{tech_text};
+ghost use Rattle.magex_top.specs.Refusals.{refusal};
+ghost use Rattle.magex_top.specs.States.{reply};
 
 use crate::faults::TopFault;
-use crate::refusals::append_with_name;
-use crate::status::Halt;
-use geo_core::Name;
+use crate::refusals::{append_with_name, refusal};
+use geo_core::{List, Name};
+use session_model::{Halt, LineKind, ReportLine};
 use std::alloc::{AllocError, Global};
 use tech_model::Tech;
 use text_scan::append_decimal;
 
-/// What answers a line: the reply to one that is accepted, or why it is refused.
-#[derive(Debug, Drop)]
-pub enum Answer {
-    Reply(Vec<u8>),
-    Refused(TopFault),
+/// A line of a reply.
+pub fn reply(text: Vec<u8>) -> ReportLine
+    ensures { result ≡ reply text.items }
+{
+    ReportLine {
+        kind: LineKind::Reply,
+        text: List::of(text),
+    }
+}
+
+/// One line alone.
+pub fn one_line(alloc: Global, line: ReportLine) -> Result<Vec<ReportLine>, AllocError>
+    ensures { IfOk result (λ lines. lines.items ≡ line ∷ []) }
+{
+    let mut lines = Vec::new(alloc);
+    lines.push(line)?;
+    Ok(lines)
+}
+
+/// The line that refuses the script's line of this number.
+pub fn refuse(alloc: Global, number: usize, fault: TopFault) -> Result<Vec<ReportLine>, Halt>
+    ensures lines { IfOk result (λ lines. lines.items ≡ refusal number fault ∷ []) }
+    ensures memory { IsOkUnless result Halt.Memory }
+{
+    let line = refusal(alloc, number, &fault)?;
+    Ok(one_line(alloc, line)?)
 }
 
 /// The reply to a `load` that made a cell.
-pub fn loaded(alloc: Global, cell: &Name) -> Result<Vec<u8>, AllocError>
-    ensures { IfOk result (λ text. text.items ≡ loaded_text cell.now) }
+pub fn loaded(alloc: Global, cell: &Name) -> Result<Vec<ReportLine>, AllocError>
+    ensures { IfOk result (λ lines. lines.items ≡ reply (loaded_text cell.now) ∷ []) }
 {
     let mut text = Vec::new(alloc);
     append_with_name(&mut text, b"load ", cell)?;
-    text.extend_from_slice(b": 1 cells\n")?;
-    Ok(text)
+    text.extend_from_slice(b": 1 cells")?;
+    one_line(alloc, reply(text))
 }
 
 /// The reply to a `tech` that read a technology.
-pub fn tech_reply(alloc: Global, tech: &Tech) -> Result<Vec<u8>, AllocError>
+pub fn tech_reply(alloc: Global, tech: &Tech) -> Result<Vec<ReportLine>, AllocError>
+    ensures { IfOk result (λ lines. lines.items ≡ reply (tech_text tech.now) ∷ []) }
+{
+    let text = tech_counts(alloc, tech)?;
+    one_line(alloc, reply(text))
+}
+
+// The text of the reply to a `tech`.
+fn tech_counts(alloc: Global, tech: &Tech) -> Result<Vec<u8>, AllocError>
     ensures { IfOk result (λ text. text.items ≡ tech_text tech.now) }
 {
     let raw = tech.raw();
@@ -37,7 +69,7 @@ pub fn tech_reply(alloc: Global, tech: &Tech) -> Result<Vec<u8>, AllocError>
     append_with_name(&mut text, b"tech ", &raw.name)?;
     append_count(&mut text, b": ", raw.types.items().len(), b" types")?;
     append_count(&mut text, b" ", raw.classes.items().len(), b" classes")?;
-    append_count(&mut text, b" ", raw.fets.items().len(), b" fets\n")?;
+    append_count(&mut text, b" ", raw.fets.items().len(), b" fets")?;
     Ok(text)
 }
 

@@ -1,15 +1,15 @@
 //! How a run ends.
-ghost use Rattle.std.specs.Prelude.{◌≡◌, ◌<◌};
+ghost use Rattle.std.specs.Prelude.{◌≡◌};
+ghost use Rattle.magex_top.specs.Statuses.{code_of};
 
-use geo_core::GeoFault;
-use std::alloc::AllocError;
+use session_model::Halt;
 
 /// How a run ended. Its number is the exit status of the program.
 #[derive(Clone, Copy, Debug, PartialEq, Eq)]
 pub enum Status {
     /// Every line was accepted.
     Done = 0,
-    /// The run came to its end, and the report tells of a line that was refused.
+    /// The run came to its end, and its report has a line that tells of something refused, offending or unsettled.
     Told = 1,
     /// The words after the program's name are not of its form.
     Usage = 2,
@@ -26,56 +26,24 @@ pub enum Status {
 impl Status {
     /// The exit status of the program.
     pub fn code(self) -> u8
-        ensures { result < 7 }
+        ensures { result ≡ code_of self }
     {
         self as u8
     }
 }
 
-/// What ends a run in the midst of its script.
-#[derive(Clone, Copy, Debug, PartialEq, Eq)]
-pub enum Halt {
-    /// A file could not be read.
-    ReadFault,
-    /// The report could not be written.
-    WriteFault,
-    /// There was not enough memory.
-    Memory,
-}
-
-impl Halt {
+/// The status of a run that is ended in the midst of its script.
+impl From<Halt> for Status {
+    ghost use Rattle.std.specs.Prelude.{◌≡◌};
     ghost use Rattle.magex_top.specs.Statuses.{status_of};
 
-    /// The status of a run that it ends.
-    pub fn status(self) -> Status
-        ensures { result ≡ status_of self }
-    {
-        match self {
+    ghost from_gives = { λ halt status. status ≡ status_of halt };
+
+    fn from(halt: Halt) -> Status {
+        match halt {
             Halt::ReadFault => Status::ReadFault,
             Halt::WriteFault => Status::WriteFault,
             Halt::Memory => Status::Memory,
         }
-    }
-}
-
-impl From<AllocError> for Halt {
-    ghost use Rattle.std.specs.Prelude.{◌≡◌};
-    ghost use Rattle.magex_top.specs.declared.status.Halt.TheVariants.{Memory};
-
-    ghost from_gives = { λ _ halt. halt ≡ Memory };
-
-    fn from(_error: AllocError) -> Halt {
-        Halt::Memory
-    }
-}
-
-impl From<GeoFault> for Halt {
-    ghost use Rattle.std.specs.Prelude.{◌≡◌};
-    ghost use Rattle.magex_top.specs.declared.status.Halt.TheVariants.{Memory};
-
-    ghost from_gives = { λ _ halt. halt ≡ Memory };
-
-    fn from(_fault: GeoFault) -> Halt {
-        Halt::Memory
     }
 }

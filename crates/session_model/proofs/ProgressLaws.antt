@@ -1,9 +1,10 @@
 -- How a run goes on from line to line.
-use Rattle.std.proofs.Common.{◌≡◌, ◌+◌, ◌||◌, ℕ, Bool, false, List, [], ◌∷◌, ◌++◌, length, Option, Some, refl, sym, ◌∙◌, ap, subst, append_assoc, append-nil, take, drop, take-append-drop, arith, length-append}
+use Rattle.std.proofs.Common.{◌≡◌, ◌+◌, ◌||◌, ℕ, Bool, false, List, [], ◌∷◌, ◌++◌, length, Option, Some, refl, sym, ◌∙◌, ap, subst, append_assoc}
+use Rattle.std.proofs.Common.{append-nil, take, drop, take-append-drop, arith, length-append}
 use Rattle.std.proofs.lemmas.List.Folds.{list_any-append}
 use Rattle.std.specs.Prelude.{Result, Ok, Err, OnErr}
 use Rattle.outside_io.specs.Files.{Files}
-use Rattle.outside_io.specs.Told.{AppendsPrefix, Told as ToldBytes, with_back}
+use Rattle.outside_io.specs.ToldBytes.{AppendsPrefix, ToldBytes, with_back}
 use Rattle.session_model.specs.declared.report.ReportLine.{ReportLine}
 use Rattle.session_model.specs.Effects.{Effect, and_then, no_effect, with_stores}
 use Rattle.session_model.specs.Progress.{BeginsNext, IsPrefixOf, Progress}

@@ -3,7 +3,7 @@ ghost use Rattle.std.specs.Prelude.{◌≡◌, ◌⊎◌, ◌≤◌, [], ◌∷�
 ghost use Rattle.text_scan.specs.Lines.{lines_of};
 ghost use Rattle.outside_io.specs.Counts.{Rose};
 ghost use Rattle.outside_io.specs.Files.{Files};
-ghost use Rattle.outside_io.specs.Told.{AppendsPrefix, with_back};
+ghost use Rattle.outside_io.specs.ToldBytes.{AppendsPrefix, with_back};
 ghost use Rattle.session_model.specs.Causes.{ComeFrom, EndsFor, line_kinds, UnlessWriteFault};
 ghost use Rattle.session_model.specs.Effects.{Answers, Effect, with_stores};
 ghost use Rattle.session_model.specs.Progress.{BeginsNext, DoesPart, Progress, StoresSome};

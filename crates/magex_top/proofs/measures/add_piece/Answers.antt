@@ -27,7 +27,8 @@ returns-then-number-len c =
     let measured = subst IsMeasured (sym c.index_mut-node.ensures.value) (c.requires.measured c.args.number node inside) in
     adds_to_old c.args.number c.args.piece.now nodes node _ _ inside c.index_mut-node.ensures.value
     (sum_as_read node.area c.area_of.result _ measured.area c.area_of.ensures.not_negative c.area_of.ensures.small c.area_of.ensures.value)
-    (sum_as_read node.perimeter c.perimeter_of.result _ measured.perimeter c.perimeter_of.ensures.not_negative c.perimeter_of.ensures.small c.perimeter_of.ensures.value)
+    (sum_as_read node.perimeter c.perimeter_of.result _ measured.perimeter c.perimeter_of.ensures.not_negative c.perimeter_of.ensures.small
+    c.perimeter_of.ensures.value)
 
 pub returns-in_ok-push : goal.returns-in_ok-push
 returns-in_ok-push c =

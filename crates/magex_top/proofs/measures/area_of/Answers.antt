@@ -8,13 +8,15 @@ pub overflow_mul-result : goal.overflow_mul-result
 overflow_mul-result c =
     let width = to_z w128 (of_z w128 c.from.result) in
     let height = to_z w128 (of_z w128 c.from-2.result) in
-    product_fits c.args.rect.now (width *ℤ height) c.requires.proper c.requires.near (area_by_product c.args.rect.now width height (omega (arith, ints)) (omega (arith, ints)))
+    product_fits c.args.rect.now (width *ℤ height) c.requires.proper c.requires.near
+    (area_by_product c.args.rect.now width height (omega (arith, ints)) (omega (arith, ints)))
 
 pub returns-clause-value : goal.returns-clause-value
 returns-clause-value c =
     let width = to_z w128 (of_z w128 c.from.result) in
     let height = to_z w128 (of_z w128 c.from-2.result) in
-    area_as_read c.args.rect.now (width *ℤ height) c.requires.proper c.requires.near (area_by_product c.args.rect.now width height (omega (arith, ints)) (omega (arith, ints)))
+    area_as_read c.args.rect.now (width *ℤ height) c.requires.proper c.requires.near
+    (area_by_product c.args.rect.now width height (omega (arith, ints)) (omega (arith, ints)))
 
 pub returns-clause-not_negative : goal.returns-clause-not_negative
 returns-clause-not_negative c =

@@ -23,8 +23,10 @@ shorten-requires-clause-room c =
     let contact = get_or contacts index no_contact in
     let few : length (take index contacts) < 2 ^ 64 = omega (arith, length-take index contacts) in
     let short = c.requires.short index no_contact c.loop-contact-test.true in
-    let roomy = taken_off_is_roomy c.args.numbers.now (take index contacts) c.args.nodes.now c.loop-contact.nodes c.requires.measured (All-take IsShort index contacts c.requires.short) few c.loop-contact.invariant in
-    subst (λ (z : ℤ). HasRoom c.loop-contact.nodes z) (sym (short_as_read contact short)) (roomy_has_room c.loop-contact.nodes contact.length roomy short.not_negative short.short)
+    let roomy = taken_off_is_roomy c.args.numbers.now (take index contacts) c.args.nodes.now c.loop-contact.nodes c.requires.measured
+    (All-take IsShort index contacts c.requires.short) few c.loop-contact.invariant in
+    subst (λ (z : ℤ). HasRoom c.loop-contact.nodes z) (sym (short_as_read contact short))
+    (roomy_has_room c.loop-contact.nodes contact.length roomy short.not_negative short.short)
 
 pub shorten-requires-in-loop-contact-clause-room : goal.shorten-requires-in-loop-contact-clause-room
 shorten-requires-in-loop-contact-clause-room c =
@@ -35,7 +37,8 @@ shorten-requires-in-loop-contact-clause-room c =
     let few : length (take index contacts) < 2 ^ 64 = omega (arith, length-take index contacts) in
     let short = c.requires.short index no_contact c.loop-contact-test.true in
     let read = short_as_read contact short in
-    let roomy = taken_off_is_roomy numbers (take index contacts) c.args.nodes.now c.loop-contact.nodes c.requires.measured (All-take IsShort index contacts c.requires.short) few c.loop-contact.invariant in
+    let roomy = taken_off_is_roomy numbers (take index contacts) c.args.nodes.now c.loop-contact.nodes c.requires.measured
+    (All-take IsShort index contacts c.requires.short) few c.loop-contact.invariant in
     let first = subst (λ (z : ℤ). Shortens (get_or numbers contact.first 0) z c.loop-contact.nodes c.shorten.new.nodes) read c.shorten.ensures in
     subst (λ (z : ℤ). HasRoom c.shorten.new.nodes z) (sym read)
     (shorter_has_room c.loop-contact.nodes c.shorten.new.nodes (get_or numbers contact.first 0) contact.length roomy short.not_negative short.short first)

@@ -15,4 +15,6 @@ returns c =
     let y : to_z w64 (of_z w64 node.least.y) ≡ node.least.y = omega (arith, ints) in
     name_text text ((rules_of c.args.tech.now).word node.kind) (coordinate node.least.x) (coordinate node.least.y) _ _ _ _ _ _
     (c.in_ok-extend_from_slice.ensures.items ∙ ap (λ (w : List ℕ). text ++ w) c.word.ensures)
-    c.in_ok-push.ensures.items (c.in_ok-append_coordinate.ensures ∙ ap (λ (z : ℤ). c.push.new.self.items ++ coordinate z) x) c.in_ok-push-2.ensures.items (c.in_ok-append_coordinate-2.ensures ∙ ap (λ (z : ℤ). c.push-2.new.self.items ++ coordinate z) y) c.in_ok-push-3.ensures.items
+    c.in_ok-push.ensures.items (c.in_ok-append_coordinate.ensures ∙ ap (λ (z : ℤ). c.push.new.self.items ++ coordinate z) x)
+    c.in_ok-push-2.ensures.items (c.in_ok-append_coordinate-2.ensures ∙ ap (λ (z : ℤ). c.push-2.new.self.items ++ coordinate z) y)
+    c.in_ok-push-3.ensures.items

@@ -25,18 +25,19 @@ nodes_of-requires-clause-tiles c =
     subst (λ (l : List Piece). tiles.AreTiles l) (sym c.deref.ensures.value)
     (tiles_are_pieces (kinds_on (layout_of c.args.paint.now) 0) paint_range c.in-Ok.pieces.items range_is_near c.in-Ok.ensures.tiles)
 
-pub append_nodes-requires-clause-types : goal.append_nodes-requires-clause-types
-append_nodes-requires-clause-types c =
+pub lines_of_nodes-requires-clause-types : goal.lines_of_nodes-requires-clause-types
+lines_of_nodes-requires-clause-types c =
     let raw = c.args.tech.now in
     let paint = c.args.paint.now in
     let nodes = c.in_ok-nodes.nodes.items in
     let found = subst (λ (l : List Piece). AreNodes uniform (tiles.layout_of_tiles l) (map node_of nodes)) c.deref.ensures.value c.in_ok-nodes.ensures in
-    let are = nodes_of_paint raw paint c.in-Ok.pieces.items (map node_of nodes) c.raw.ensures.well_formed c.requires.kinds c.requires.planes c.requires.plain c.in-Ok.ensures.tiles c.in-Ok.ensures.sound found in
+    let are = nodes_of_paint raw paint c.in-Ok.pieces.items (map node_of nodes) c.requires.formed c.requires.kinds c.requires.planes
+    c.requires.plain c.in-Ok.ensures.tiles c.in-Ok.ensures.sound found in
     subst (λ (l : List PlainNode). All (λ (node : PlainNode). IsTrue (is_type raw node.kind)) l) (sym c.deref-2.ensures.value)
     (nodes_have_types raw paint nodes c.requires.kinds c.requires.planes c.requires.plain c.in-Ok.ensures.sound are)
 
-pub append_nodes-requires-clause-one_class : goal.append_nodes-requires-clause-one_class
-append_nodes-requires-clause-one_class c = (plain_parts c.args.tech.now c.requires.plain).one_class
+pub lines_of_nodes-requires-clause-one_class : goal.lines_of_nodes-requires-clause-one_class
+lines_of_nodes-requires-clause-one_class c = (plain_parts c.args.tech.now c.requires.plain).one_class
 
 pub returns : goal.returns
 returns c =
@@ -44,6 +45,7 @@ returns c =
     let paint = c.args.paint.now in
     let nodes = c.in_ok-nodes.nodes.items in
     let found = subst (λ (l : List Piece). AreNodes uniform (tiles.layout_of_tiles l) (map node_of nodes)) c.deref.ensures.value c.in_ok-nodes.ensures in
-    let are = nodes_of_paint raw paint c.in-Ok.pieces.items (map node_of nodes) c.raw.ensures.well_formed c.requires.kinds c.requires.planes c.requires.plain c.in-Ok.ensures.tiles c.in-Ok.ensures.sound found in
+    let are = nodes_of_paint raw paint c.in-Ok.pieces.items (map node_of nodes) c.requires.formed c.requires.kinds c.requires.planes
+    c.requires.plain c.in-Ok.ensures.tiles c.in-Ok.ensures.sound found in
     let same = ap (λ (l : List PlainNode). node_lines (rules_of raw) (map node_of l)) c.deref-2.ensures.value in
-    IfOk-weaker c.append_nodes.result _ _ (λ text is. (map node_of nodes, are, is ∙ same)) c.append_nodes.ensures
+    IfOk-weaker c.lines_of_nodes.result _ _ (λ text is. (map node_of nodes, are, is ∙ same)) c.lines_of_nodes.ensures

@@ -23,7 +23,8 @@ use Rattle.magex_top.proofs.nodes.nodes_of.Goals as goal
 
 pub touching-requires-clause-proper : goal.touching-requires-clause-proper
 touching-requires-clause-proper c =
-    subst (λ (rects : List Rect). All IsProper rects) (sym (c.deref-2.ensures.value ∙ c.in_ok-areas.ensures)) (rects_are_proper c.args.pieces.now c.requires.tiles)
+    subst (λ (rects : List Rect). All IsProper rects) (sym (c.deref-2.ensures.value ∙ c.in_ok-areas.ensures))
+    (rects_are_proper c.args.pieces.now c.requires.tiles)
 
 pub touching-requires-clause-near : goal.touching-requires-clause-near
 touching-requires-clause-near c =
@@ -31,7 +32,8 @@ touching-requires-clause-near c =
 
 pub touching-requires-clause-disjoint : goal.touching-requires-clause-disjoint
 touching-requires-clause-disjoint c =
-    subst (λ (rects : List Rect). AllPairs AreDisjoint rects) (sym (c.deref-2.ensures.value ∙ c.in_ok-areas.ensures)) (rects_are_disjoint c.args.pieces.now c.requires.tiles)
+    subst (λ (rects : List Rect). AllPairs AreDisjoint rects) (sym (c.deref-2.ensures.value ∙ c.in_ok-areas.ensures))
+    (rects_are_disjoint c.args.pieces.now c.requires.tiles)
 
 pub take_off-requires-clause-measured : goal.take_off-requires-clause-measured
 take_off-requires-clause-measured c =
@@ -76,13 +78,15 @@ take_off-requires-clause-short c =
     let pieces = c.args.pieces.now in
     let contacts = c.in-Ok-touching.contacts.items in
     let listed = subst (λ (rects : List Rect). Lists (IsSharedEdge rects) contacts) (c.deref-2.ensures.value ∙ c.in_ok-areas.ensures) c.in-Ok-touching.ensures in
-    subst (λ (cs : List Contact). All IsShort cs) (sym c.deref-4.ensures.value) (contacts_are_short (rects_of pieces) contacts (rects_are_near pieces c.requires.tiles) listed)
+    subst (λ (cs : List Contact). All IsShort cs) (sym c.deref-4.ensures.value)
+    (contacts_are_short (rects_of pieces) contacts (rects_are_near pieces c.requires.tiles) listed)
 
 -- the list that a slice of the whole list leaves
 after_write : (before after : List PlainNode) (len : ℕ) → length after ≡ len → take len (after ++ drop (length after) before) ≡ after
 after_write before after len long = take_at after (drop (length after) before) len long
 
-taken_off : (numbers numbers' : List ℕ) (contacts contacts' : List Contact) (before before' after : List PlainNode) → numbers' ≡ numbers → contacts' ≡ contacts → before' ≡ before
+taken_off : (numbers numbers' : List ℕ) (contacts contacts' : List Contact)
+    (before before' after : List PlainNode) → numbers' ≡ numbers → contacts' ≡ contacts → before' ≡ before
     → AreTakenOff numbers' contacts' before' after → AreTakenOff numbers contacts before after
 taken_off numbers numbers' contacts contacts' before before' after same_numbers same_contacts same_before taken =
     subst (λ (ns : List ℕ). AreTakenOff ns contacts before after) same_numbers
@@ -98,6 +102,7 @@ returns c =
     let after = c.take_off.new.nodes in
     let gathered = subst (λ (ns : List ℕ). AreGathered pieces ns nodes) c.deref.ensures.value c.in_ok-nodes.ensures in
     let listed = subst (λ (rects : List Rect). Lists (IsSharedEdge rects) contacts) (c.deref-2.ensures.value ∙ c.in_ok-areas.ensures) c.in-Ok-touching.ensures in
-    let taken = taken_off numbers c.deref-3.result.now contacts c.deref-4.result.now nodes c.deref_mut.result.now after c.deref-3.ensures.value c.deref-4.ensures.value c.deref_mut.ensures.value c.take_off.ensures in
+    let taken = taken_off numbers c.deref-3.result.now contacts c.deref-4.result.now nodes c.deref_mut.result.now after c.deref-3.ensures.value
+    c.deref-4.ensures.value c.deref_mut.ensures.value c.take_off.ensures in
     subst (λ (ns : List PlainNode). AreNodes uniform (layout_of_tiles pieces) (map node_of ns)) (sym (after_write nodes after c.in_ok-nodes.nodes.len (omega arith)))
     (nodes_are_found pieces numbers contacts nodes after c.requires.tiles c.requires.in_order c.in-Ok.ensures listed gathered taken)

@@ -10,7 +10,8 @@ returns-then-kinds-t c =
     let t = c.loop-t.t in
     let same : c.items-kinds.result.now ≡ raw.types = c.items-kinds.ensures ∙ ap (λ raw. raw.types) c.raw.ensures.value in
     let long : length c.items-kinds.result.now ≡ length raw.types = ap (λ (l : List TypeRec). length l) same in
-    let fails : is_atom raw t ≡ false = atom_test raw c.items-kinds.result.now t same (omega arith) (omega arith) ∙ test_fails _ _ _ c.if-kinds-t.true (bit_is (t - 1) (omega (arith, c.raw.ensures.well_formed.types_limit))) in
+    let fails : is_atom raw t ≡ false = atom_test raw c.items-kinds.result.now t same (omega arith) (omega arith) ∙ test_fails _ _ _ c.if-kinds-t.true
+    (bit_is (t - 1) (omega (arith, c.raw.ensures.well_formed.types_limit))) in
     sym (c.loop-t.invariant ∙ all_fails (is_atom raw) t (length raw.types + 1 - t) (length raw.types + 1 - (t + 1)) (omega arith) fails)
 
 pub loop-t-preserved : goal.loop-t-preserved
@@ -19,5 +20,6 @@ loop-t-preserved c =
     let t = c.loop-t.t in
     let same : c.items-kinds.result.now ≡ raw.types = c.items-kinds.ensures ∙ ap (λ raw. raw.types) c.raw.ensures.value in
     let long : length c.items-kinds.result.now ≡ length raw.types = ap (λ (l : List TypeRec). length l) same in
-    let passes : is_atom raw t ≡ true = atom_test raw c.items-kinds.result.now t same (omega arith) (omega arith) ∙ test_holds _ _ _ c.if-kinds-t.false (bit_is (t - 1) (omega (arith, c.raw.ensures.well_formed.types_limit))) in
+    let passes : is_atom raw t ≡ true = atom_test raw c.items-kinds.result.now t same (omega arith) (omega arith) ∙ test_holds _ _ _ c.if-kinds-t.false
+    (bit_is (t - 1) (omega (arith, c.raw.ensures.well_formed.types_limit))) in
     c.loop-t.invariant ∙ all_rest (is_atom raw) t (length raw.types + 1 - t) (length raw.types + 1 - (t + 1)) (omega arith) passes

@@ -1,30 +1,74 @@
-use Rattle.std.proofs.Common.{◌≡◌, ◌∙◌, sym, ap, refl, Bool, true, false, Some, if◌then◌else◌}
-use Rattle.outside_io.specs.Files.{Files}
+use Rattle.std.proofs.Common.{◌≡◌, ◌∙◌, sym, refl, subst, Bool, true, false, if◌then◌else◌}
+use Rattle.text_scan.specs.Lines.{lines_of}
+use Rattle.outside_io.specs.Counts.{Rose}
+use Rattle.session_model.specs.Effects.{with_stores}
+use Rattle.session_model.specs.Progress.{Progress}
+use Rattle.session_model.specs.Reports.{is_told}
+use Rattle.session_model.specs.Scripts.{LinesMean}
 use Rattle.magex_top.specs.declared.status.Status.TheVariants.{Done, Told}
+use Rattle.magex_top.specs.Sessions.{LineMeans}
+use Rattle.magex_top.specs.States.{State}
 use Rattle.magex_top.proofs.top_call.run_script.Goals as goal
 
-told_status : (told holds : Bool) → told ≡ holds → holds ≡ true → Told ≡ (if told then Told else Done)
-told_status told holds is tells = rw (is, tells) refl
+told_status : (told holds : Bool) → holds ≡ told → holds ≡ true → Told ≡ (if told then Told else Done)
+told_status told holds is tells = rw (sym is ∙ tells) refl
 
-done_status : (told holds : Bool) → told ≡ holds → holds ≡ false → Done ≡ (if told then Told else Done)
-done_status told holds is quiet = rw (is, quiet) refl
+done_status : (told holds : Bool) → holds ≡ told → holds ≡ false → Done ≡ (if told then Told else Done)
+done_status told holds is quiet = rw (sym is ∙ quiet) refl
 
 pub returns-in-Ok-true-clause-meaning : goal.returns-in-Ok-true-clause-meaning
 returns-in-Ok-true-clause-meaning g c before files told files_told ends =
-    let h = c.in-Ok-true.ensures.effect files before files_told told in (
-      h.0.reply,
-      h.0.state.files,
-      (h.0, h.1, refl, refl, told_status h.0.told c.in-Ok-true.field-0 h.4 c.in-Ok-true.field-0-test),
+    let h = c.in-Ok-true.ensures.effect before files told files_told in
+    let means = subst (λ (s : State). LinesMean LineMeans 1 s files (lines_of c.args.text.now) h.0) c.new_session-session.ensures.state h.1 in (
+      h.0.lines,
+      with_stores files h.0.stores,
+      (h.0, means, refl, refl, told_status (is_told h.0.lines) c.in-Ok-true.field-0 h.4 c.in-Ok-true.field-0-test),
       h.2,
-      c.in-Ok-true.ensures.files ∙ files_told ∙ ap (λ (f : Files). Some f) (sym h.3),
+      h.3,
+      h.5,
     )
 
 pub returns-in-Ok-false-clause-meaning : goal.returns-in-Ok-false-clause-meaning
 returns-in-Ok-false-clause-meaning g c before files told files_told ends =
-    let h = c.in-Ok-false.ensures.effect files before files_told told in (
-      h.0.reply,
-      h.0.state.files,
-      (h.0, h.1, refl, refl, done_status h.0.told c.in-Ok-false.field-0 h.4 c.in-Ok-false.field-0-test),
+    let h = c.in-Ok-false.ensures.effect before files told files_told in
+    let means = subst (λ (s : State). LinesMean LineMeans 1 s files (lines_of c.args.text.now) h.0) c.new_session-session.ensures.state h.1 in (
+      h.0.lines,
+      with_stores files h.0.stores,
+      (h.0, means, refl, refl, done_status (is_told h.0.lines) c.in-Ok-false.field-0 h.4 c.in-Ok-false.field-0-test),
       h.2,
-      c.in-Ok-false.ensures.files ∙ files_told ∙ ap (λ (f : Files). Some f) (sym h.3),
+      h.3,
+      h.5,
+    )
+
+pub returns-in-Ok-true-clause-beginning : goal.returns-in-Ok-true-clause-beginning
+returns-in-Ok-true-clause-beginning g c before files told files_told =
+    let h = c.run_lines.ensures.progress before files told files_told in
+    let Fails = Rose (g.F.Shelf.store_faults c.args.shelf.now) (g.F.Shelf.store_faults c.run_lines.new.shelf) in (
+      h.0,
+      h.1,
+      subst (λ (s : State). Progress LineMeans false Fails s files (lines_of c.args.text.now) h.0 h.1) c.new_session-session.ensures.state h.2,
+      h.3,
+      h.4,
+    )
+
+pub returns-in-Ok-false-clause-beginning : goal.returns-in-Ok-false-clause-beginning
+returns-in-Ok-false-clause-beginning g c before files told files_told =
+    let h = c.run_lines.ensures.progress before files told files_told in
+    let Fails = Rose (g.F.Shelf.store_faults c.args.shelf.now) (g.F.Shelf.store_faults c.run_lines.new.shelf) in (
+      h.0,
+      h.1,
+      subst (λ (s : State). Progress LineMeans false Fails s files (lines_of c.args.text.now) h.0 h.1) c.new_session-session.ensures.state h.2,
+      h.3,
+      h.4,
+    )
+
+pub returns-clause-beginning : goal.returns-clause-beginning
+returns-clause-beginning g c before files told files_told =
+    let h = c.run_lines.ensures.progress before files told files_told in
+    let Fails = Rose (g.F.Shelf.store_faults c.args.shelf.now) (g.F.Shelf.store_faults c.run_lines.new.shelf) in (
+      h.0,
+      h.1,
+      subst (λ (s : State). Progress LineMeans false Fails s files (lines_of c.args.text.now) h.0 h.1) c.new_session-session.ensures.state h.2,
+      h.3,
+      h.4,
     )
