@@ -1,5 +1,5 @@
-//! Tests of the public calls on squares, rectangles, planes, classes, nodes and paint: tables worked by hand, and lists of
-//! real size, which say that the calls find memory and take little time.
+//! Tests of the public calls on squares, rectangles, planes, classes, nodes and paint, and of the count of steps that stands
+//! as low: tables worked by hand, and lists of real size, which say that the calls find memory and take little time.
 #![tactic(auto)]
 
 #[cfg(test)]
@@ -20,5 +20,7 @@ mod place_tests;
 mod plane_tests;
 #[cfg(test)]
 mod random;
+#[cfg(test)]
+mod step_tests;
 #[cfg(test)]
 mod strip_tests;
