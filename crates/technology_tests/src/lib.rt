@@ -1,11 +1,9 @@
-//! Tests of the public calls of technologies, and of cells that are painted in one: tables of questions, each with its answer as worked out by hand.
+//! Tests of the public calls of technologies: tables of questions, each with its answer as worked out by hand.
 //!
 //! What a text of a technology may be, and each fault that it may have, stands in the cases of `run_tests`.
 #![tactic(auto)]
 
 #[cfg(test)]
 mod nm;
-#[cfg(test)]
-mod painting;
 #[cfg(test)]
 mod questions;
