@@ -1,17 +1,14 @@
 -- Where the answer to a line comes from: from what the shelf said, or from inside.
-use Rattle.std.proofs.Common.{◌≡◌, ◌≤◌, ℕ, Bool, true, false, List, [], ◌∷◌, Global, refl, sym, ◌∙◌, ap, subst}
-use Rattle.std.specs.List.{list_any}
+use Rattle.std.proofs.Common.{◌≡◌, ◌≤◌, ℕ, Bool, true, false, List, [], ◌∷◌, Global, sym, subst}
 use Rattle.std.specs.Prelude.{Vec, Result, Ok, Err, IfOk, IsOkUnless}
-use Rattle.outside_io.specs.Counts.{Rose}
 use Rattle.outside_io.specs.declared.outside.Shelf.{Ghosts as ShelfWords}
 use Rattle.session_model.specs.declared.answer.Halt.{Halt}
 use Rattle.session_model.specs.declared.answer.Halt.TheVariants.{ReadFault, WriteFault, Memory}
-use Rattle.session_model.specs.declared.report.LineKind.{LineKind}
 use Rattle.session_model.specs.declared.report.ReportLine.{ReportLine}
-use Rattle.session_model.specs.Causes.{ComeFrom, HasCauses, UnlessReadFault, line_kinds}
+use Rattle.session_model.specs.Causes.{ComeFrom, HasCauses, line_kinds}
 use Rattle.magex_top.specs.declared.faults.TopFault.{TopFault}
 use Rattle.magex_top.specs.declared.fetching.Fetched.{Fetched}
-use Rattle.magex_top.specs.declared.fetching.Fetched.TheVariants.{Text, Refused}
+use Rattle.magex_top.specs.declared.fetching.Fetched.TheVariants.{Refused}
 use Rattle.magex_top.specs.Answers.{IsOfInside, kinds_in}
 use Rattle.magex_top.specs.Fetches.{kinds_of_fetched}
 use Rattle.magex_top.specs.Refusals.{refusal}

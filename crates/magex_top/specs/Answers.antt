@@ -1,5 +1,5 @@
 -- The state and the effects of a session as the program keeps them.
-use Rattle.std.specs.Prelude.{◌≡◌, ℕ, List, length, map, All, find, [], Bool, false, Option, Some, None, Vec}
+use Rattle.std.specs.Prelude.{◌≡◌, ℕ, List, length, map, All, find, [], false, Option, Some, None, Vec}
 use Rattle.std.specs.declared.alloc.Global.{Global}
 use Rattle.std.specs.List.{list_any}
 use Rattle.std.specs.Str.{bytes_eq}

@@ -1,7 +1,6 @@
 use Rattle.std.proofs.Common.{◌≡◌, ℕ, List, sym, ◌∙◌, subst, refl, arith}
 use Rattle.std.proofs.lemmas.Result.{IfOk-weaker}
 use Rattle.outside_io.specs.Files.{Files}
-use Rattle.session_model.specs.Effects.{Effect}
 use Rattle.session_model.specs.declared.report.ReportLine.{ReportLine}
 use Rattle.magex_top.specs.declared.commands.Command.{Command}
 use Rattle.magex_top.specs.declared.commands.Command.TheVariants.{Tech, Load, Nodes}

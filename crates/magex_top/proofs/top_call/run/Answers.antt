@@ -2,7 +2,6 @@ use Rattle.std.proofs.Common.{◌≡◌, ◌∙◌, sym, ap, subst, refl, List, 
 use Rattle.std.proofs.Common.{arith}
 use Rattle.std.proofs.lemmas.Bool.Decides.{nat_tests}
 use Rattle.outside_io.specs.Counts.{Rose}
-use Rattle.outside_io.specs.Files.{Files}
 use Rattle.outside_io.specs.ToldBytes.{ToldBytes, with_back}
 use Rattle.outside_io.specs.declared.faults.ReadAllFault.{ReadAllFault}
 use Rattle.outside_io.specs.declared.limits.TheConstants.{LONGEST_FILE}
