@@ -3,9 +3,9 @@ use Rattle.std.proofs.Common.{◌≡◌, ℕ, true, false, List, [], ◌∷◌, 
 use Rattle.std.specs.Prelude.{map}
 use Rattle.std.specs.Option.{option_map}
 use Rattle.std.specs.Str.{bytes_eq}
+use Rattle.finite_sets.proofs.Searches.{find-map}
 use Rattle.session_model.specs.declared.report.ReportLine.{ReportLine}
 use Rattle.tech_model.specs.declared.raw.RawTech.{RawTech}
-use Rattle.tech_model.proofs.PairSearch.{find-map}
 use Rattle.layout_model.specs.Nodes.{Node, AreNodes}
 use Rattle.layout_model.specs.Technologies.{Technology, rules_of}
 use Rattle.cell_paint.specs.Paints.{layout_of}

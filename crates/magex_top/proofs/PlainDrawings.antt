@@ -8,6 +8,7 @@ use Rattle.std.specs.Str.{bytes_eq}
 use Rattle.std.proofs.lemmas.Bool.{cases_Bool}
 use Rattle.std.proofs.lemmas.Bool.Decides.{nat_tests}
 use Rattle.std.proofs.lemmas.List.Elements.{All-nil, All-cons}
+use Rattle.finite_sets.proofs.Searches.{position_from-below}
 use Rattle.geo_core.specs.declared.squares.Rect.{Rect}
 use Rattle.geo_core.specs.Areas.{has_square}
 use Rattle.text_scan.specs.Lines.{lines_of}
@@ -81,21 +82,6 @@ IsDrawableLine-area raw None drawable = tt
 IsDrawableLine-layer : (raw : RawTech) (found : Option ℕ) → ((layer : ℕ) → found ≡ Some layer → layer < length raw.layers) → IsDrawableLine raw (option_map_or (λ layer. Group (layer_number layer)) found Other)
 IsDrawableLine-layer raw (Some layer) below = below layer refl
 IsDrawableLine-layer raw None below = tt
-
--- the index at which a test first passes is one of the list's
-position_from-below : {X : Type 0} (test : X → Bool) (i : ℕ) (xs : List X) (n : ℕ) → position_from test i xs ≡ Some n → n < i + length xs
-position_from-below test i [] n found = absurd (cc)
-position_from-below test i (x ∷ xs) n found =
-    elim (cases_Bool (test x)) [
-      | inl passes ↦
-          let here : position_from test i (x ∷ xs) ≡ Some i = ap (λ (b : Bool). cond b (Some i) (position_from test (i + 1) xs)) passes in
-          let same : i ≡ n = cc in
-          omega arith
-      | inr fails ↦
-          let later : position_from test i (x ∷ xs) ≡ position_from test (i + 1) xs = ap (λ (b : Bool). cond b (Some i) (position_from test (i + 1) xs)) fails in
-          let below = position_from-below test (i + 1) xs n (sym later ∙ found) in
-          omega arith
-    ]
 
 -- a layer that a word names is one of the technology
 layer_named-below : (raw : RawTech) (word : List ℕ) (layer : ℕ) → layer_named raw word ≡ Some layer → layer < length raw.layers

@@ -8,13 +8,13 @@ use Rattle.std.specs.List.{list_all, list_any, range_with_len}
 use Rattle.std.proofs.lemmas.Bool.{and_parts, or_cases, eq-eqb, eqb-true, not-true, true≢false}
 use Rattle.std.proofs.lemmas.Bool.Decides.{nat_tests}
 use Rattle.finite_sets.specs.Lists.{In}
+use Rattle.finite_sets.proofs.Searches.{range_split, list_all-In, one_thing}
 use Rattle.tech_model.specs.declared.raw.ClassRec.{ClassRec}
 use Rattle.tech_model.specs.declared.raw.RawTech.{RawTech}
 use Rattle.tech_model.specs.declared.raw.TypeId.{TypeId}
 use Rattle.tech_model.specs.declared.raw.TypeRec.{TypeRec}
 use Rattle.tech_model.specs.Rules.{types_of}
 use Rattle.tech_model.specs.Types.{is_type, connects, no_type, type_at}
-use Rattle.tech_model.proofs.PairSearch.{range_split}
 use Rattle.tech_model.proofs.RuleLaws.{In-types_of}
 use Rattle.tech_model.proofs.TypeLaws.{or_left, or_right}
 use Rattle.tech_model.proofs.WellFormedLaws.{type_bounds, type_from_bounds}
@@ -30,12 +30,6 @@ pub all_fails : (p : ℕ → Bool) (a n m : ℕ) → n ≡ m + 1 → p a ≡ fal
 all_fails p a n m more fails =
     ap (list_all p) (range_split a n m more) ∙ ap (λ (b : Bool). b && list_all p (range_with_len (a + 1) m)) fails
 
--- where all pass, each passes
-all_passes : {X : Type 0} (p : X → Bool) (xs : List X) (x : X) → list_all p xs ≡ true → In x xs → p x ≡ true
-all_passes p [] x all is = absurd is
-all_passes p (y ∷ ys) x all (inl same) = ap p (sym same) ∙ (and_parts (p y) (list_all p ys) all).0
-all_passes p (y ∷ ys) x all (inr later) = all_passes p ys x (and_parts (p y) (list_all p ys) all).1 later
-
 -- What a plain technology has: one plane, types that connect to themselves alone, and one class with all of them.
 pub record IsPlain (raw : RawTech) : Type 0 where
   pub one_plane : length raw.planes ≡ 1
@@ -46,7 +40,7 @@ pub record IsPlain (raw : RawTech) : Type 0 where
 -- a type that passes the test connects to itself alone
 alone_of : (raw : RawTech) (s t : ℕ) → connects_alone raw s ≡ true → IsTrue (is_type raw t) → connects raw s t ≡ true → s ≡ t
 alone_of raw s t alone t_is joined =
-    elim (or_cases (s == t) (not (connects raw s t)) (all_passes (λ (t : ℕ). s == t || not (connects raw s t)) (types_of raw) t alone (In-types_of raw t t_is))) [
+    elim (or_cases (s == t) (not (connects raw s t)) (list_all-In (λ (t : ℕ). s == t || not (connects raw s t)) (types_of raw) t alone (In-types_of raw t t_is))) [
       | inl same ↦ eqb-true s t same
       | inr apart ↦ absurd (true≢false (sym joined ∙ not-true (connects raw s t) apart))
     ]
@@ -68,16 +62,10 @@ plain_parts raw is =
     let to_planes = and_parts planes layers to_layers.0 in
     record {
       one_plane = eqb-true (length raw.planes) 1 to_planes.0;
-      alone = λ s t s_is t_is joined. alone_of raw s t (all_passes (connects_alone raw) (types_of raw) s to_atoms.1 (In-types_of raw s s_is)) t_is joined;
+      alone = λ s t s_is t_is joined. alone_of raw s t (list_all-In (connects_alone raw) (types_of raw) s to_atoms.1 (In-types_of raw s s_is)) t_is joined;
       one_class = eqb-true (length raw.classes) 1 to_alone.1;
-      in_class = λ t t_is. all_passes (is_in_class raw) (types_of raw) t to_classes.1 (In-types_of raw t t_is);
+      in_class = λ t t_is. list_all-In (is_in_class raw) (types_of raw) t to_classes.1 (In-types_of raw t t_is);
     }
-
--- a list of one thing
-pub one_thing : (xs : List ClassRec) (d : ClassRec) → length xs ≡ 1 → xs ≡ get_or xs 0 d ∷ []
-one_thing [] d one = absurd (omega arith)
-one_thing (x ∷ []) d one = refl
-one_thing (x ∷ y ∷ ys) d one = absurd (omega arith)
 
 -- a plain technology has the class of all
 pub classes_are_one : (raw : RawTech) → length raw.classes ≡ 1 → raw.classes ≡ class_of_all raw ∷ []

@@ -9,6 +9,7 @@ use Rattle.std.proofs.lemmas.List.Quantifiers.{all_pairs_push}
 use Rattle.std.proofs.lemmas.Iterator.Adapters.{position_from-zero}
 use Rattle.finite_sets.specs.Lists.{In}
 use Rattle.finite_sets.proofs.Members.{In-get_or}
+use Rattle.finite_sets.proofs.Searches.{position_from-none, list_any-In, option_or-none}
 use Rattle.text_scan.specs.Numbers.{number_of}
 use Rattle.text_scan.specs.declared.numeral.NumFault.{NumFault}
 use Rattle.tech_model.specs.declared.raw.TypeId.{TypeId}
@@ -23,9 +24,8 @@ use Rattle.tech_draft.specs.Entries.{pieces_of, name_part, is_entry_list, entry_
 use Rattle.tech_draft.specs.Entries.{fault_if, first_where}
 use Rattle.tech_draft.specs.ListLines.{class_of, has_class, resist_fault, class_with, with_class, no_class, class_at, class_of_list, with_cap}
 use Rattle.tech_draft.specs.Sound.{HasLists, HasSoundLists}
-use Rattle.tech_model.proofs.FirstPlaces.{position_none}
-use Rattle.tech_draft.proofs.ListFacts.{any_none, apart_set}
-use Rattle.tech_draft.proofs.NoFaults.{both_none, no_fault, first_none, none_of}
+use Rattle.tech_draft.proofs.ListFacts.{apart_set}
+use Rattle.tech_draft.proofs.NoFaults.{no_fault, first_none, none_of}
 use Rattle.tech_draft.proofs.Keeps.{same-keeps, kept_layers, kept_classes, kept_fets, kept_pairs}
 use Rattle.tech_draft.proofs.EntryTypes.{list_source, list_types}
 use Rattle.tech_model.specs.declared.limits.TheConstants.{MOST_CLASSES, LARGEST_MEASURE}
@@ -76,19 +76,19 @@ unclassed : (raw : RawTech) (t : TypeId) (class : ClassRec) → is_some (class_o
 unclassed raw t class none class_in is =
     let test : ClassRec → Bool = λ class. has_type class.types t in
     let found = sym (position_from-zero test raw.classes) ∙ none_of (class_of raw t) none in
-    true≢false (sym (eq-eqb t.0 t.0 refl) ∙ any_none (λ (u : TypeId). u.0 == t.0) class.types t (position_none test 0 raw.classes class found class_in) is)
+    true≢false (sym (eq-eqb t.0 t.0 refl) ∙ list_any-In (λ (u : TypeId). u.0 == t.0) class.types t (position_from-none test 0 raw.classes class found class_in) is)
 
 free_type : (raw : RawTech) (entry : List ℕ) (t : TypeId) → has_class raw entry ≡ false → In t (entry_types raw entry) → is_some (class_of raw t) ≡ false
 unfolding has_class
-free_type raw entry t none is = any_none (λ (t : TypeId). is_some (class_of raw t)) (entry_types raw entry) t none is
+free_type raw entry t none is = list_any-In (λ (t : TypeId). is_some (class_of raw t)) (entry_types raw entry) t none is
 
 new_class : (draft : Drafted) (list value : List ℕ) → HasSoundLists draft → resist_fault draft (list ∷ value ∷ []) ≡ None → HasSoundLists (with_class draft (list ∷ value ∷ []))
 unfolding resist_fault
 new_class draft list value lists none =
     let raw = draft.raw in
-    let form = both_none (fault_if (not (is_entry_list list) || is_none (measure_of value)) BadForm) _ none in
-    let known = both_none (entries_fault raw (pieces_of list)) _ form.1 in
-    let once = both_none (first_where (has_class raw) (λ entry. Twice (name_part entry)) (pieces_of list)) (fault_if (nat_le MOST_CLASSES (length raw.classes)) (TooMany Classes)) known.1 in
+    let form = option_or-none (fault_if (not (is_entry_list list) || is_none (measure_of value)) BadForm) _ none in
+    let known = option_or-none (entries_fault raw (pieces_of list)) _ form.1 in
+    let once = option_or-none (first_where (has_class raw) (λ entry. Twice (name_part entry)) (pieces_of list)) (fault_if (nat_le MOST_CLASSES (length raw.classes)) (TooMany Classes)) known.1 in
     let few = leb-false MOST_CLASSES (length raw.classes) (no_fault (nat_le MOST_CLASSES (length raw.classes)) (TooMany Classes) once.1) in
     let class : ClassRec = class_with (types_of_list raw list) (unwrap_or (measure_of value) 0) in
     classes-lists raw (raw.classes ++ class ∷ []) lists (omega (arith, few, length_push raw.classes class))

@@ -5,6 +5,7 @@ use Rattle.std.proofs.lemmas.Bool.{or_parts, not-false, not-true, ltb-false, eqb
 use Rattle.std.proofs.lemmas.List.{length-map}
 use Rattle.finite_sets.specs.Lists.{In, Distinct}
 use Rattle.finite_sets.proofs.Members.{In-push, In-append_left, In-map_source, In-filter_source, In-filter_passes}
+use Rattle.finite_sets.proofs.Searches.{list_any-In, All-from_In, option_or-none}
 use Rattle.tech_model.specs.declared.raw.TypeId.{TypeId}
 use Rattle.tech_model.specs.declared.raw.RawTech.{RawTech}
 use Rattle.tech_model.specs.declared.faults.TechFault.TheVariants.{BadForm, NoType, Twice, TooMany, TypeExpression}
@@ -16,8 +17,8 @@ use Rattle.tech_draft.specs.SetLines.{layer_of_word, type_of_word, plane_of_word
 use Rattle.tech_draft.specs.SetLines.{are_misplaced, contact_part_fault, is_contact_form, contact_rules_fault, contact_fault, other_residues, own_pair}
 use Rattle.tech_draft.specs.SetLines.{with_contact}
 use Rattle.tech_draft.specs.Sound.{HasLists, HasSoundLists}
-use Rattle.tech_draft.proofs.ListFacts.{All_from_In, any_none, one_thing, map_map, Distinct-map_filter, filter_fewer}
-use Rattle.tech_draft.proofs.NoFaults.{both_none, no_fault, first_none}
+use Rattle.tech_draft.proofs.ListFacts.{one_thing, map_map, Distinct-map_filter, filter_fewer}
+use Rattle.tech_draft.proofs.NoFaults.{no_fault, first_none}
 use Rattle.tech_draft.proofs.WordTypes.{named_below, listed_layer, word_type}
 use Rattle.tech_draft.proofs.ContactLists.{HasRoom, imaged-lists}
 use Rattle.tech_model.specs.declared.limits.TheConstants.{MOST_TYPES}
@@ -30,7 +31,7 @@ repeat_none before (m ∷ numbers) none =
     let rest = repeat_none (before ++ m ∷ []) numbers parts.1 in (
       ((λ is. rest.1 m (In-push before m) is), rest.0),
       λ n is among. elim among [
-        | inl same ↦ eqb-false n m (any_none (λ (k : ℕ). k == m) before n parts.0 is) (sym same)
+        | inl same ↦ eqb-false n m (list_any-In (λ (k : ℕ). k == m) before n parts.0 is) (sym same)
         | inr later ↦ rest.1 n (In-append_left n before (m ∷ []) is) later
       ],
     )
@@ -38,7 +39,7 @@ repeat_none before (m ∷ numbers) none =
 -- the words name layers
 pub words_named : (raw : RawTech) (words : List (List ℕ)) (word : List ℕ) → layer_words_fault raw words ≡ None → In word words → is_none (layer_named raw word) ≡ false
 words_named raw words word none is =
-    let parts = both_none (first_where is_expression TypeExpression words) (first_where (λ word. is_none (layer_named raw word)) NoType words) none in
+    let parts = option_or-none (first_where is_expression TypeExpression words) (first_where (λ word. is_none (layer_named raw word)) NoType words) none in
     first_none (λ word. is_none (layer_named raw word)) NoType words word parts.1 is
 
 -- a word's layer that is no contact has one image
@@ -76,7 +77,7 @@ other_planes raw base residues well =
 
 others_types : (raw : RawTech) (base : List ℕ) (residues : List (List ℕ)) → HasLists raw → ((word : List ℕ) → In word residues → is_none (layer_named raw word) ≡ false)
     → All (λ t. IsTrue (is_type raw t.0)) (other_residues raw base residues)
-others_types raw base residues lists named = All_from_In (λ (t : TypeId). IsTrue (is_type raw t.0)) (other_residues raw base residues) (λ t is.
+others_types raw base residues lists named = All-from_In (λ (t : TypeId). IsTrue (is_type raw t.0)) (other_residues raw base residues) (λ t is.
     let source = In-map_source (type_of_word raw) t (elsewhere raw base residues) is in
     let among = In-filter_source (λ (word : List ℕ). not (plane_of_word raw word == plane_of_word raw base)) source.0 residues source.1.0 in
     subst (λ (t : TypeId). IsTrue (is_type raw t.0)) source.1.1 (word_type raw source.0 lists (named source.0 among)))
@@ -92,11 +93,11 @@ pub contact_room : (draft : Drafted) (base : List ℕ) (residues : List (List �
 unfolding contact_fault
 contact_room draft base residues lists none =
     let raw = draft.raw in
-    let form = both_none (fault_if (not (is_contact_form (base ∷ residues))) BadForm) _ none in
-    let words = both_none (layer_words_fault raw (base ∷ residues)) (contact_rules_fault draft base residues) form.1 in
-    let rules = both_none (fault_if (are_misplaced raw base residues) BadForm) _ words.1 in
-    let once = both_none (fault_if (is_contact raw base) (Twice base)) _ rules.1 in
-    let part = both_none (contact_part_fault draft base residues) _ once.1 in
+    let form = option_or-none (fault_if (not (is_contact_form (base ∷ residues))) BadForm) _ none in
+    let words = option_or-none (layer_words_fault raw (base ∷ residues)) (contact_rules_fault draft base residues) form.1 in
+    let rules = option_or-none (fault_if (are_misplaced raw base residues) BadForm) _ words.1 in
+    let once = option_or-none (fault_if (is_contact raw base) (Twice base)) _ rules.1 in
+    let part = option_or-none (contact_part_fault draft base residues) _ once.1 in
     let well = no_fault (are_misplaced raw base residues) BadForm rules.0 in
     let named : (word : List ℕ) → In word (base ∷ residues) → is_none (layer_named raw word) ≡ false = λ word is. words_named raw (base ∷ residues) word words.0 is in
     let few = no_fault (nat_lt MOST_TYPES (length raw.types + (length residues - 1))) (TooMany Types) part.1 in

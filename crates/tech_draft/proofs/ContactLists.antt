@@ -5,6 +5,7 @@ use Rattle.std.proofs.lemmas.Bool.{cases_eq}
 use Rattle.std.proofs.lemmas.List.{length-set}
 use Rattle.std.proofs.lemmas.List.Elements.{All-set}
 use Rattle.finite_sets.specs.Lists.{In, Distinct}
+use Rattle.finite_sets.proofs.Searches.{All-from_In}
 use Rattle.tech_model.specs.declared.raw.TypeId.{TypeId}
 use Rattle.tech_model.specs.declared.raw.LayerRec.{LayerRec}
 use Rattle.tech_model.specs.declared.raw.RawTech.{RawTech}
@@ -13,7 +14,7 @@ use Rattle.tech_model.specs.WellFormed.{IsLayer}
 use Rattle.tech_model.proofs.WellFormedLaws.{type_from_bounds}
 use Rattle.tech_draft.specs.SetLines.{numbered_from}
 use Rattle.tech_draft.specs.Sound.{HasLists}
-use Rattle.tech_draft.proofs.ListFacts.{All_from_In, apart_set}
+use Rattle.tech_draft.proofs.ListFacts.{apart_set}
 use Rattle.tech_draft.proofs.Keeps.{kept_type, kept_layers, kept_classes, kept_fets, kept_pairs}
 use Rattle.tech_draft.proofs.WordTypes.{listed_layer, image_type}
 use Rattle.tech_draft.proofs.ContactImages.{imaged, imaged-length, imaged-keeps, imaged_cases, imaged_here, imaged_other, new_plane, new_layer, In-numbered}
@@ -73,7 +74,7 @@ contact_layer raw layer own others lists room =
       named = was.named;
       names = was.names;
       placed = omega arith;
-      images = All_from_In (λ (t : TypeId). IsTrue (is_type next t.0)) (own.0 ∷ new_types raw others) (image_known raw layer own others lists room);
+      images = All-from_In (λ (t : TypeId). IsTrue (is_type next t.0)) (own.0 ∷ new_types raw others) (image_known raw layer own others lists room);
       planes = subst (λ (ps : List ℕ). Distinct ps) (sym (images_planes raw layer own others lists room)) room.planes;
     }
 

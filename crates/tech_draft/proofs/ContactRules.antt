@@ -6,6 +6,7 @@ use Rattle.std.proofs.Common.{refl, ap, sym, ◌∙◌, arith, inl, inr}
 use Rattle.std.proofs.lemmas.Bool.{cases_Bool, ltb-false, ltb-true, or_cases}
 use Rattle.std.proofs.lemmas.List.{length-map}
 use Rattle.finite_sets.specs.Lists.{In}
+use Rattle.finite_sets.proofs.Searches.{length-filter}
 use Rattle.tech_model.specs.declared.raw.RawTech.{RawTech}
 use Rattle.tech_model.specs.declared.raw.TypeId.{TypeId}
 use Rattle.tech_model.specs.declared.faults.TechFault.TheVariants.{BadForm, NoType, Twice, ContactPart, TypeExpression, TooMany}
@@ -59,19 +60,6 @@ length-numbered_from : (n : ℕ) (residues : List TypeId) → length (numbered_f
 length-numbered_from n [] = refl
 length-numbered_from n (residue ∷ residues) = ap suc (length-numbered_from (n + 1) residues)
 
-filter_short : {X : Type 0} (test : X → Bool) (xs : List X) → length (filter test xs) ≤ length xs
-filter_short test [] = omega arith
-filter_short test (x ∷ xs) =
-    let rest = filter_short test xs in
-    elim (cases_Bool (test x)) [
-      | inl passes ↦
-          let e : length (filter test (x ∷ xs)) ≡ length (x ∷ filter test xs) = ap (λ (b : Bool). length (cond b (x ∷ filter test xs) (filter test xs))) passes in
-          omega arith
-      | inr fails ↦
-          let e : length (filter test (x ∷ xs)) ≡ length (filter test xs) = ap (λ (b : Bool). length (cond b (x ∷ filter test xs) (filter test xs))) fails in
-          omega arith
-    ]
-
 -- some residue stands on the base's plane, so it is left out
 others_fewer : (raw : RawTech) (plane : ℕ) (residues : List (List ℕ)) → has_number (map (plane_of_word raw) residues) plane ≡ true
     → length (filter (λ word. not (plane_of_word raw word == plane)) residues) + 1 ≤ length residues
@@ -81,7 +69,7 @@ others_fewer raw plane (word ∷ words) placed =
       | inl here ↦
           let e : length (filter (λ w. not (plane_of_word raw w == plane)) (word ∷ words)) ≡ length (filter (λ w. not (plane_of_word raw w == plane)) words) =
           ap (λ (b : Bool). length (cond (not b) (word ∷ filter (λ w. not (plane_of_word raw w == plane)) words) (filter (λ w. not (plane_of_word raw w == plane)) words))) here in
-          let short = filter_short (λ w. not (plane_of_word raw w == plane)) words in
+          let short = length-filter (λ w. not (plane_of_word raw w == plane)) words in
           omega arith
       | inr elsewhere ↦
           let e : length (filter (λ w. not (plane_of_word raw w == plane)) (word ∷ words)) ≡ length (word ∷ filter (λ w. not (plane_of_word raw w == plane)) words) =

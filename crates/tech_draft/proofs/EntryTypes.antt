@@ -5,13 +5,13 @@ use Rattle.std.specs.Option.{option_map_or}
 use Rattle.std.proofs.lemmas.Bool.{cases_Bool}
 use Rattle.finite_sets.specs.Lists.{In}
 use Rattle.finite_sets.proofs.Members.{In-filter_source, In-push_cases}
+use Rattle.finite_sets.proofs.Searches.{All-from_In}
 use Rattle.tech_model.specs.declared.raw.TypeId.{TypeId}
 use Rattle.tech_model.specs.declared.raw.RawTech.{RawTech}
 use Rattle.tech_model.specs.Types.{is_type, plane_of, images_of, layer_named}
 use Rattle.tech_draft.specs.Entries.{has_slash, name_part, plane_part, plane_named, named_types, types_on, entry_types, has_type, with_type_once}
 use Rattle.tech_draft.specs.Entries.{types_of_list, pieces_of}
 use Rattle.tech_draft.specs.Sound.{HasLists}
-use Rattle.tech_draft.proofs.ListFacts.{All_from_In}
 use Rattle.tech_draft.proofs.WordTypes.{layer_named-below, image_type}
 
 -- the images of the layer that a word may name
@@ -68,4 +68,4 @@ list_type raw list t lists is = let source = list_source raw list t is in entry_
 
 -- the types of a list are types
 pub list_types : (raw : RawTech) (list : List ℕ) → HasLists raw → All (λ t. IsTrue (is_type raw t.0)) (types_of_list raw list)
-list_types raw list lists = All_from_In (λ (t : TypeId). IsTrue (is_type raw t.0)) (types_of_list raw list) (λ t is. list_type raw list t lists is)
+list_types raw list lists = All-from_In (λ (t : TypeId). IsTrue (is_type raw t.0)) (types_of_list raw list) (λ t is. list_type raw list t lists is)

@@ -10,6 +10,7 @@ use Rattle.tech_model.specs.declared.faults.Section.{Section}
 use Rattle.tech_model.specs.declared.faults.TechFault.{TechFault}
 use Rattle.tech_model.specs.declared.faults.TechFault.TheVariants.{Memory}
 use Rattle.std.specs.Option.{option_or}
+use Rattle.finite_sets.proofs.Searches.{option_map-none}
 use Rattle.tech_draft.specs.Drafts.{Drafted}
 use Rattle.tech_draft.specs.Entries.{fault_if, first_where}
 use Rattle.tech_draft.specs.Lines.{line_fault, with_line, line_in}
@@ -57,10 +58,6 @@ find-none test (y ∷ ys) e x i =
           ]
     ]
 
-none_from_map : {X Y : Type 0} (f : X → Y) (o : Option X) → option_map f o ≡ None → o ≡ None
-none_from_map f None e = refl
-none_from_map f (Some x) e = absurd (cc)
-
 -- where no word is told, no word in the list passes
 pub first_where-none : (test : List ℕ → Bool) (fault : List ℕ → TechFault) (words : List (List ℕ)) → first_where test fault words ≡ None → (word : List ℕ) → In word words → test word ≡ false
-first_where-none test fault words e = find-none test words (none_from_map fault (find test words) e)
+first_where-none test fault words e = find-none test words (option_map-none fault (find test words) e)

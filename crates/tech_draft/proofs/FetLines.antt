@@ -8,6 +8,7 @@ use Rattle.std.proofs.lemmas.List.Elements.{All-push}
 use Rattle.finite_sets.specs.Lists.{In, Distinct}
 use Rattle.finite_sets.proofs.Members.{In-get_or, In-map_source}
 use Rattle.finite_sets.proofs.Distincts.{Distinct-push}
+use Rattle.finite_sets.proofs.Searches.{list_any-In, option_or-none}
 use Rattle.text_scan.specs.PlainNames.{is_plain_name}
 use Rattle.tech_model.specs.declared.raw.TypeId.{TypeId}
 use Rattle.tech_model.specs.declared.raw.FetRule.{FetRule}
@@ -22,8 +23,7 @@ use Rattle.tech_draft.specs.Entries.{has_odd_byte, pieces_of, name_part, plane_p
 use Rattle.tech_draft.specs.Entries.{first_where}
 use Rattle.tech_draft.specs.ListLines.{fet_type, is_fet_form, fet_type_fault, fet_fault, fet_with, with_fet}
 use Rattle.tech_draft.specs.Sound.{HasLists, HasSoundLists}
-use Rattle.tech_draft.proofs.ListFacts.{any_none}
-use Rattle.tech_draft.proofs.NoFaults.{both_none, no_fault, first_none}
+use Rattle.tech_draft.proofs.NoFaults.{no_fault, first_none}
 use Rattle.tech_draft.proofs.Keeps.{same-keeps, kept_layers, kept_classes, kept_fets, kept_pairs}
 use Rattle.tech_draft.proofs.EntryTypes.{entry_type, list_types}
 use Rattle.tech_model.specs.declared.limits.TheConstants.{MOST_FETS}
@@ -61,8 +61,8 @@ fets-lists raw fets lists few all differ =
 pub entry_means : (raw : RawTech) (entries : List (List ℕ)) (entry : List ℕ) → entries_fault raw entries ≡ None → In entry entries → 0 < length (entry_types raw entry)
 unfolding entries_fault
 entry_means raw entries entry none is =
-    let plain = both_none (first_where has_odd_byte TypeExpression entries) _ none in
-    let placed = both_none (first_where (names_no_plane raw) (λ entry. NoPlane (plane_part entry)) entries) (first_where (means_no_type raw) (λ entry. NoType (name_part entry)) entries) plain.1 in
+    let plain = option_or-none (first_where has_odd_byte TypeExpression entries) _ none in
+    let placed = option_or-none (first_where (names_no_plane raw) (λ entry. NoPlane (plane_part entry)) entries) (first_where (means_no_type raw) (λ entry. NoType (name_part entry)) entries) plain.1 in
     let some = first_none (means_no_type raw) (λ entry. NoType (name_part entry)) entries entry placed.1 is in
     let apart : length (entry_types raw entry) ≢ 0 = eqb-false (length (entry_types raw entry)) 0 some in
     omega arith
@@ -76,10 +76,10 @@ new_fet : (draft : Drafted) (kind list name substrate : List ℕ) → HasSoundLi
 unfolding fet_fault
 new_fet draft kind list name substrate lists none =
     let raw = draft.raw in
-    let form = both_none (fault_if (not (is_fet_form kind list name substrate)) BadForm) _ none in
-    let known = both_none (entries_fault raw (kind ∷ pieces_of list)) (fet_type_fault draft kind) form.1 in
-    let one = both_none (fault_if (nat_lt 1 (length (entry_types raw kind))) BadForm) _ known.1 in
-    let once = both_none (fault_if (list_any (λ fet. fet.kind.0 == (fet_type raw kind).0) raw.fets) (Twice (name_part kind))) (fault_if (nat_le MOST_FETS (length raw.fets)) (TooMany Fets)) one.1 in
+    let form = option_or-none (fault_if (not (is_fet_form kind list name substrate)) BadForm) _ none in
+    let known = option_or-none (entries_fault raw (kind ∷ pieces_of list)) (fet_type_fault draft kind) form.1 in
+    let one = option_or-none (fault_if (nat_lt 1 (length (entry_types raw kind))) BadForm) _ known.1 in
+    let once = option_or-none (fault_if (list_any (λ fet. fet.kind.0 == (fet_type raw kind).0) raw.fets) (Twice (name_part kind))) (fault_if (nat_le MOST_FETS (length raw.fets)) (TooMany Fets)) one.1 in
     let good = not-false (is_fet_form kind list name substrate) (no_fault (not (is_fet_form kind list name substrate)) BadForm form.0) in
     let label = and_parts _ (is_naming_label substrate) good in
     let plain = and_parts _ (is_plain_name name) label.0 in
@@ -96,7 +96,7 @@ new_fet draft kind list name substrate lists none =
     (subst (λ (kinds : List TypeId). Distinct kinds) (sym (map_push (λ (f : FetRule). f.kind) raw.fets fet))
     (Distinct-push (map (λ (f : FetRule). f.kind) raw.fets) fet.kind lists.fets_differ (λ is.
     let source = In-map_source (λ (f : FetRule). f.kind) fet.kind raw.fets is in
-    let apart = any_none (λ (f : FetRule). f.kind.0 == (fet_type raw kind).0) raw.fets source.0 new source.1.0 in
+    let apart = list_any-In (λ (f : FetRule). f.kind.0 == (fet_type raw kind).0) raw.fets source.0 new source.1.0 in
     eqb-false source.0.kind.0 (fet_type raw kind).0 apart (ap (λ (t : TypeId). t.0) source.1.1))))
 
 -- a line `fet` keeps the lists sound

@@ -8,28 +8,7 @@ use Rattle.std.proofs.lemmas.List.{get_or-set_same, get_or-set_other, set_past, 
 use Rattle.finite_sets.specs.Lists.{In, Distinct}
 use Rattle.tech_model.specs.WellFormed.{AreApart}
 use Rattle.finite_sets.proofs.Members.{In-get_or, In-map_source, In-map, In-filter_source}
-
--- what holds of each thing in a list holds of all of it
-pub All_from_In : {X : Type 0} (P : X → Type 0) (xs : List X) → ((x : X) → In x xs → P x) → All P xs
-All_from_In P xs each = λ k d below. each (get_or xs k d) (In-get_or xs k d below)
-
--- where no thing of a list passes, none does that is in it
-pub any_none : {X : Type 0} (test : X → Bool) (xs : List X) (x : X) → list_any test xs ≡ false → In x xs → test x ≡ false
-any_none test [] x none absent = absurd absent
-any_none test (y ∷ ys) x none (inl same) = ap test (sym same) ∙ (or_parts (test y) (list_any test ys) none).0
-any_none test (y ∷ ys) x none (inr later) = any_none test ys x (or_parts (test y) (list_any test ys) none).1 later
-
--- where nothing is found, nothing that is in the list passes
-pub find_none : {X : Type 0} (test : X → Bool) (xs : List X) (x : X) → find test xs ≡ None → In x xs → test x ≡ false
-find_none test [] x none absent = absurd absent
-find_none test (y ∷ ys) x none (inl same) = elim (cases_Bool (test y)) [
-  | inl passes ↦ let found : Some y ≡ None = rw passes at none in absurd (cc)
-  | inr fails ↦ ap test (sym same) ∙ fails
-]
-find_none test (y ∷ ys) x none (inr later) = elim (cases_Bool (test y)) [
-  | inl passes ↦ let found : Some y ≡ None = rw passes at none in absurd (cc)
-  | inr fails ↦ find_none test ys x (rw fails at none) later
-]
+use Rattle.finite_sets.proofs.Searches.{length-filter}
 
 -- a write of something with the same f changes no f
 pub set_same : {X Y : Type 0} (f : X → Y) (xs : List X) (i : ℕ) (v d : X) → f v ≡ f (get_or xs i d) → (k : ℕ) → f (get_or (set xs i v) k d) ≡ f (get_or xs k d)
@@ -62,14 +41,6 @@ Distinct-map_filter f test (x ∷ xs) distinct = elim (cases_Bool (test x)) [
     Distinct-map_filter f test xs distinct.1,
   )
   | inr fails ↦ rw fails (Distinct-map_filter f test xs distinct.1)
-]
-
--- what passes is no more than there is
-pub length-filter : {X : Type 0} (test : X → Bool) (xs : List X) → length (filter test xs) ≤ length xs
-length-filter test [] = omega arith
-length-filter test (x ∷ xs) = let rest = length-filter test xs in elim (cases_Bool (test x)) [
-  | inl passes ↦ rw passes (omega arith)
-  | inr fails ↦ rw fails (omega arith)
 ]
 
 -- a part that leaves something out is shorter

@@ -7,6 +7,7 @@ use Rattle.std.proofs.lemmas.Bool.{or_parts, not-false, leb-false}
 use Rattle.std.proofs.lemmas.List.{length_push}
 use Rattle.std.proofs.lemmas.List.Elements.{All-push}
 use Rattle.finite_sets.proofs.Distincts.{Distinct-push}
+use Rattle.finite_sets.proofs.Searches.{option_or-none}
 use Rattle.text_scan.specs.PlainNames.{is_plain_name}
 use Rattle.tech_model.specs.declared.raw.RawTech.{RawTech}
 use Rattle.tech_model.specs.declared.faults.TechFault.TheVariants.{BadForm, Twice, TooMany}
@@ -15,7 +16,7 @@ use Rattle.tech_draft.specs.Drafts.{Drafted}
 use Rattle.tech_draft.specs.Entries.{is_empty, fault_if}
 use Rattle.tech_draft.specs.TypeLines.{tech_fault, with_name, plane_fault, with_plane}
 use Rattle.tech_draft.specs.Sound.{HasLists, HasSoundLists}
-use Rattle.tech_draft.proofs.NoFaults.{both_none, no_fault, absent_word}
+use Rattle.tech_draft.proofs.NoFaults.{no_fault, absent_word}
 use Rattle.tech_draft.proofs.Keeps.{same-keeps, kept_layers, kept_classes, kept_fets, kept_pairs}
 use Rattle.tech_model.specs.declared.limits.TheConstants.{MOST_PLANES}
 
@@ -90,8 +91,8 @@ plane-lists raw name lists plain new few =
 plane_line : (draft : Drafted) (name : List ℕ) → HasSoundLists draft → plane_fault draft (name ∷ []) ≡ None → HasSoundLists (with_plane draft (name ∷ []))
 unfolding plane_fault
 plane_line draft name lists none =
-    let form = both_none (fault_if (not (is_plain_name name)) BadForm) _ none in
-    let once = both_none (fault_if (list_any (bytes_eq name) draft.raw.planes) (Twice name)) (fault_if (nat_le MOST_PLANES (length draft.raw.planes)) (TooMany Planes)) form.1 in
+    let form = option_or-none (fault_if (not (is_plain_name name)) BadForm) _ none in
+    let once = option_or-none (fault_if (list_any (bytes_eq name) draft.raw.planes) (Twice name)) (fault_if (nat_le MOST_PLANES (length draft.raw.planes)) (TooMany Planes)) form.1 in
     plane-lists draft.raw name lists
     (not-false (is_plain_name name) (no_fault (not (is_plain_name name)) BadForm form.0))
     (no_fault (list_any (bytes_eq name) draft.raw.planes) (Twice name) once.0)

@@ -7,30 +7,21 @@ use Rattle.std.specs.Str.{bytes_eq}
 use Rattle.std.proofs.lemmas.Bool.{true≢false}
 use Rattle.std.proofs.lemmas.Slice.Eq.{bytes_eq-Decides}
 use Rattle.finite_sets.specs.Lists.{In}
+use Rattle.finite_sets.proofs.Searches.{list_any-In, find-none, option_map-none}
 use Rattle.tech_model.specs.declared.faults.Section.{Section}
 use Rattle.tech_model.specs.declared.faults.TechFault.{TechFault}
 use Rattle.tech_draft.specs.Drafts.{Drafted}
 use Rattle.tech_draft.specs.Entries.{fault_if, first_where}
 use Rattle.tech_draft.specs.Lines.{line_fault, with_line, line_in, unless}
-use Rattle.tech_draft.proofs.ListFacts.{find_none, any_none}
-
--- where the first of two has nothing, neither has
-pub both_none : {X : Type 0} (a b : Option X) → option_or a b ≡ None → (a ≡ None) × (b ≡ None)
-both_none None b none = (refl, none)
-both_none (Some x) b none = absurd (cc)
 
 -- a test whose fault is not told has failed
 pub no_fault : (holds : Bool) (fault : TechFault) → fault_if holds fault ≡ None → holds ≡ false
 no_fault true fault none = absurd (cc)
 no_fault false fault none = refl
 
-map_none : {X Y : Type 0} (f : X → Y) (o : Option X) → option_map f o ≡ None → o ≡ None
-map_none f None none = refl
-map_none f (Some x) none = absurd (cc)
-
 -- no word passes the test
 pub first_none : (test : List ℕ → Bool) (fault : List ℕ → TechFault) (words : List (List ℕ)) (word : List ℕ) → first_where test fault words ≡ None → In word words → test word ≡ false
-first_none test fault words word none is = find_none test words word (map_none fault (find test words) none) is
+first_none test fault words word none is = find-none test words word (option_map-none fault (find test words) none) is
 
 -- a number that is there lies below the limit
 pub some_below : (o : Option ℕ) (n : ℕ) → is_none o ≡ false → ((k : ℕ) → o ≡ Some k → k < n) → unwrap_or o 0 < n
@@ -54,4 +45,4 @@ none_of (Some x) none = absurd (cc)
 
 -- the word is none of these
 pub absent_word : (word : List ℕ) (words : List (List ℕ)) → list_any (bytes_eq word) words ≡ false → In word words → ⊥
-absent_word word words none is = true≢false (sym ((bytes_eq-Decides word word).1 refl) ∙ any_none (bytes_eq word) words word none is)
+absent_word word words none is = true≢false (sym ((bytes_eq-Decides word word).1 refl) ∙ list_any-In (bytes_eq word) words word none is)

@@ -9,13 +9,13 @@ use Rattle.std.proofs.lemmas.List.Folds.{find-append}
 use Rattle.finite_sets.specs.Lists.{In, Distinct}
 use Rattle.finite_sets.proofs.Distincts.{Distinct-append}
 use Rattle.finite_sets.proofs.Members.{In-map_source, In-append_cases, In-get_or}
+use Rattle.finite_sets.proofs.Searches.{find-In, none_found}
 use Rattle.tech_model.specs.declared.raw.TypeId.{TypeId}
 use Rattle.tech_model.specs.declared.raw.TypeRec.{TypeRec}
 use Rattle.tech_model.specs.declared.raw.RawTech.{RawTech}
 use Rattle.tech_model.specs.Types.{is_type, type_at, layer_at, no_type, no_layer, plane_of, layer_of, parts_of, images_of, type_number}
 use Rattle.tech_model.specs.WellFormed.{IsSimple}
 use Rattle.tech_model.proofs.WellFormedLaws.{type_bounds, type_from_bounds}
-use Rattle.tech_model.proofs.PairSearch.{None-find, find-In}
 use Rattle.tech_draft.specs.Drafts.{Drafted}
 use Rattle.tech_draft.specs.SetLines.{mark_bit, numbered_from, image_record, contact_raw, with_contact_images}
 use Rattle.tech_draft.specs.Residues.{residue_of}
@@ -264,7 +264,7 @@ residue_after draft layer own others t = find-append (λ (pair : TypeId × TypeI
 no_residue_own : (draft : Drafted) (layer : ℕ) (own : TypeId × TypeId) (others : List TypeId) → HasSoundSets draft → IsContactLine draft layer own others
     → residue_of draft own.0.0 ≡ None
 no_residue_own draft layer own others sets line =
-    None-find (λ (pair : TypeId × TypeId). pair.0.0 == own.0.0) draft.residues
+    none_found (λ (pair : TypeId × TypeId). pair.0.0 == own.0.0) draft.residues
     (λ pair inside. ne_eqb pair.0.0 own.0.0 (λ (same : pair.0.0 ≡ own.0.0).
     let many = (sets.residues pair.0 pair.1 inside).1 in
     let one : length (images_of draft.raw (layer_of draft.raw pair.0.0)) ≡ 1 =
@@ -274,7 +274,7 @@ no_residue_own draft layer own others sets line =
 
 no_residue_added : (draft : Drafted) (t : ℕ) → HasSoundSets draft → length draft.raw.types < t → residue_of draft t ≡ None
 no_residue_added draft t sets above =
-    None-find (λ (pair : TypeId × TypeId). pair.0.0 == t) draft.residues
+    none_found (λ (pair : TypeId × TypeId). pair.0.0 == t) draft.residues
     (λ pair inside. ne_eqb pair.0.0 t (λ (same : pair.0.0 ≡ t).
     let bounds = type_bounds draft.raw pair.0.0 (sets.residues pair.0 pair.1 inside).0 in
     omega (arith, bounds.1)))

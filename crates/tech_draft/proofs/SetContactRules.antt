@@ -7,12 +7,12 @@ use Rattle.std.proofs.lemmas.Bool.{cases_Bool, cases_lt, le-ltb, cases_eq, eqb-t
 use Rattle.std.proofs.lemmas.List.{length-map}
 use Rattle.finite_sets.specs.Lists.{In}
 use Rattle.finite_sets.proofs.Members.{In-map_source, In-filter, In-filter_source, In-index}
+use Rattle.finite_sets.proofs.Searches.{find-In, find-passes}
 use Rattle.tech_model.specs.declared.raw.TypeId.{TypeId}
 use Rattle.tech_model.specs.declared.raw.RawTech.{RawTech}
 use Rattle.tech_model.specs.declared.faults.TechFault.TheVariants.{BadForm, NoType, Twice, ContactPart}
 use Rattle.tech_model.specs.Types.{is_type, plane_of, layer_named}
 use Rattle.tech_model.specs.WellFormed.{IsSimple}
-use Rattle.tech_model.proofs.PairSearch.{find-In, find-passes}
 use Rattle.tech_draft.specs.Drafts.{Drafted}
 use Rattle.tech_draft.specs.Entries.{has_type}
 use Rattle.tech_draft.specs.SetLines.{is_contact_form, layer_of_word, type_of_word, plane_of_word, is_contact, is_part, has_number, has_repeat, are_misplaced}

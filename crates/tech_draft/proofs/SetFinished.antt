@@ -8,6 +8,7 @@ use Rattle.std.proofs.lemmas.Bool.{cases_eq, eqb-true}
 use Rattle.std.proofs.lemmas.Nat.{or_comm}
 use Rattle.std.proofs.lemmas.Nat.Bits.{bit_at-pow_other, and_pow}
 use Rattle.finite_sets.proofs.Members.{In-get_or}
+use Rattle.finite_sets.proofs.Searches.{find-In, find-passes}
 use Rattle.tech_model.specs.declared.raw.TypeId.{TypeId}
 use Rattle.tech_model.specs.declared.raw.TypeRec.{TypeRec}
 use Rattle.tech_model.specs.Types.{is_type, type_at, no_type, no_layer, layer_of, parts_of, images_of}
@@ -15,7 +16,6 @@ use Rattle.tech_model.specs.WellFormed.{IsSimple, IsUnion, HasSet, IsMarked, IsC
 use Rattle.tech_model.specs.WellFormed as well
 use Rattle.tech_model.proofs.WellFormedLaws.{type_bounds, type_from_bounds}
 use Rattle.tech_model.proofs.SetLaws.{or_bit_cases, bit_cases}
-use Rattle.tech_model.proofs.PairSearch.{find-In, find-passes}
 use Rattle.tech_draft.specs.Drafts.{Drafted}
 use Rattle.tech_draft.specs.Residues.{residue_of}
 use Rattle.tech_draft.proofs.FinishedTypes.{residue_parts, finished_type, finished_from, finished_each}

@@ -6,12 +6,12 @@ use Rattle.std.proofs.lemmas.Bool.{cases_eq, eq-eqb, ne_eqb}
 use Rattle.std.proofs.lemmas.List.{length-set, get_or-set_same, get_or-set_other, ext_get_or}
 use Rattle.finite_sets.specs.Lists.{In, Distinct}
 use Rattle.finite_sets.proofs.Members.{In-map}
+use Rattle.finite_sets.proofs.Searches.{find-In, none_found}
 use Rattle.tech_model.specs.declared.raw.TypeId.{TypeId}
 use Rattle.tech_model.specs.declared.raw.TypeRec.{TypeRec}
 use Rattle.tech_model.specs.declared.raw.RawTech.{RawTech}
 use Rattle.tech_model.specs.Types.{is_type, type_at, no_type, layer_of, parts_of, images_of}
 use Rattle.tech_model.proofs.WellFormedLaws.{type_bounds, type_from_bounds}
-use Rattle.tech_model.proofs.PairSearch.{None-find, find-In}
 use Rattle.tech_draft.specs.Drafts.{Drafted}
 use Rattle.tech_draft.specs.Finished.{with_residue, finished}
 use Rattle.tech_draft.specs.SetLines.{with_set}
@@ -87,7 +87,7 @@ found_same raw pair pairs t (Some p) all is =
 
 none_later : (raw : RawTech) (pair : TypeId × TypeId) (pairs : List (TypeId × TypeId)) → AreNoted raw (pair ∷ pairs) → find (λ p. p.0.0 == pair.0.0) pairs ≡ None
 none_later raw pair pairs all =
-    None-find (λ (p : TypeId × TypeId). p.0.0 == pair.0.0) pairs
+    none_found (λ (p : TypeId × TypeId). p.0.0 == pair.0.0) pairs
     (λ p inside. ne_eqb p.0.0 pair.0.0 (λ (same : p.0.0 ≡ pair.0.0).
     all.once.0 (subst (λ (x : TypeId). In x (map (λ (pair : TypeId × TypeId). pair.0) pairs)) (ap (λ (n : ℕ). let x : TypeId = record { 0 = n } in x) same) (In-map (λ (pair : TypeId × TypeId). pair.0) p pairs inside))))
 

@@ -5,13 +5,13 @@ use Rattle.std.specs.List.{list_any}
 use Rattle.std.specs.Option.{option_map, option_or}
 use Rattle.std.proofs.lemmas.Bool.{cond-true, eqb-false, or_parts}
 use Rattle.finite_sets.specs.Lists.{In}
+use Rattle.finite_sets.proofs.Searches.{find-none, option_map-none}
 use Rattle.tech_model.specs.declared.raw.TypeId.{TypeId}
 use Rattle.tech_model.specs.declared.raw.RawTech.{RawTech}
 use Rattle.tech_model.specs.declared.faults.Section.{Section}
 use Rattle.tech_model.specs.declared.faults.TechFault.{TechFault}
 use Rattle.tech_model.specs.Types.{is_type, type_at, plane_of, layer_of, parts_of, images_of, type_number}
 use Rattle.tech_model.specs.WellFormed.{IsSimple, IsUnion}
-use Rattle.tech_model.proofs.PairSearch.{find-None}
 use Rattle.tech_draft.specs.Drafts.{Drafted}
 use Rattle.tech_draft.specs.Entries.{fault_if, first_where, has_type}
 use Rattle.tech_draft.specs.Residues.{residue_of}
@@ -41,14 +41,10 @@ pub fault_if_none : (holds : Bool) (fault : TechFault) → fault_if holds fault 
 fault_if_none true fault is = absurd (cc)
 fault_if_none false fault is = refl
 
-none_mapped : {X Y : Type 0} (f : X → Y) (o : Option X) → option_map f o ≡ None → o ≡ None
-none_mapped f None is = refl
-none_mapped f (Some x) is = absurd (cc)
-
 -- where no word is told, no word passes
 pub first_where_none : (test : List ℕ → Bool) (fault : List ℕ → TechFault) (words : List (List ℕ)) → first_where test fault words ≡ None
     → (word : List ℕ) → In word words → test word ≡ false
-first_where_none test fault words is word inside = find-None test words word (none_mapped fault (find test words) is) inside
+first_where_none test fault words is word inside = find-none test words word (option_map-none fault (find test words) is) inside
 
 -- a test that nothing passes
 pub list_any_false : {X : Type 0} (test : X → Bool) (xs : List X) → list_any test xs ≡ false → (x : X) → In x xs → test x ≡ false

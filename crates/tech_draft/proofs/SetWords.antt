@@ -4,7 +4,7 @@ use Rattle.std.specs.Prelude.{IsTrue, Option, Some, None, is_none, unwrap_or}
 use Rattle.std.specs.List.{position_from}
 use Rattle.std.proofs.lemmas.Bool.{cases_Bool, ltb-false, true≢false}
 use Rattle.finite_sets.proofs.Members.{In-get_or}
-use Rattle.tech_model.proofs.FirstPlaces.{position_below}
+use Rattle.finite_sets.proofs.Searches.{position_from-below, one_thing}
 use Rattle.tech_model.specs.Types.{is_type, no_layer, layer_of, images_of, layer_named, has_name, type_number}
 use Rattle.tech_model.specs.WellFormed.{IsSimple}
 use Rattle.tech_draft.specs.Drafts.{Drafted}
@@ -28,7 +28,7 @@ word_named draft word lists named =
     let raw = draft.raw in
     let found = some_of (layer_named raw word) named in
     let number : layer_of_word raw word ≡ found.0 = ap (λ (o : Option ℕ). unwrap_or o 0) found.1 in
-    let within = position_below (has_name word) 0 raw.layers found.0 found.1 in
+    let within = position_from-below (has_name word) 0 raw.layers found.0 found.1 in
     let below : layer_of_word raw word < length raw.layers = omega (arith, number, within) in
     let layer = lists.layers (layer_of_word raw word) no_layer below in
     record {
@@ -48,11 +48,6 @@ one_image draft word named is =
 pub simple_word : (draft : Drafted) (word : List ℕ) → IsNamed draft word → is_contact draft.raw word ≡ false → IsSimple draft.raw (type_of_word draft.raw word).0
 simple_word draft word named is = ap (λ (l : ℕ). length (images_of draft.raw l)) named.layer ∙ one_image draft word named is
 
-one_only : {X : Type 0} (xs : List X) (d : X) → length xs ≡ 1 → xs ≡ get_or xs 0 d ∷ []
-one_only [] d one = absurd (omega arith)
-one_only (x ∷ []) d one = refl
-one_only (x ∷ y ∷ ys) d one = absurd (omega arith)
-
 -- which is the word's type
 pub single_word : (draft : Drafted) (word : List ℕ) → IsNamed draft word → is_contact draft.raw word ≡ false → images_of draft.raw (layer_of_word draft.raw word) ≡ type_of_word draft.raw word ∷ []
-single_word draft word named is = one_only (images_of draft.raw (layer_of_word draft.raw word)) (type_number 0) (one_image draft word named is)
+single_word draft word named is = one_thing (images_of draft.raw (layer_of_word draft.raw word)) (type_number 0) (one_image draft word named is)

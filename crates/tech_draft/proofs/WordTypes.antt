@@ -3,6 +3,7 @@ use Rattle.std.proofs.Common.{◌≡◌, ◌<◌, ℕ, false, List, length, arit
 use Rattle.std.specs.Prelude.{IsTrue, Some, is_none}
 use Rattle.finite_sets.specs.Lists.{In}
 use Rattle.finite_sets.proofs.Members.{In-get_or}
+use Rattle.finite_sets.proofs.Searches.{position_from-below}
 use Rattle.tech_model.specs.declared.raw.TypeId.{TypeId}
 use Rattle.tech_model.specs.declared.raw.RawTech.{RawTech}
 use Rattle.tech_model.specs.Types.{type_number, is_type, layer_at, images_of, layer_named, no_layer, has_name}
@@ -10,12 +11,11 @@ use Rattle.tech_model.specs.WellFormed.{IsLayer}
 use Rattle.tech_model.proofs.WellFormedLaws.{All_In}
 use Rattle.tech_draft.specs.SetLines.{layer_of_word, type_of_word, own_image}
 use Rattle.tech_draft.specs.Sound.{HasLists}
-use Rattle.tech_model.proofs.FirstPlaces.{position_below}
 use Rattle.tech_draft.proofs.NoFaults.{some_below}
 
 -- a layer that a word names is one of the list
 pub layer_named-below : (raw : RawTech) (word : List ℕ) (layer : ℕ) → layer_named raw word ≡ Some layer → layer < length raw.layers
-layer_named-below raw word layer found = let below = position_below (has_name word) 0 raw.layers layer found in omega arith
+layer_named-below raw word layer found = let below = position_from-below (has_name word) 0 raw.layers layer found in omega arith
 
 -- a word that names a layer
 pub named_below : (raw : RawTech) (word : List ℕ) → is_none (layer_named raw word) ≡ false → layer_of_word raw word < length raw.layers

@@ -5,13 +5,13 @@ use Rattle.std.specs.Prelude.{Some, None, IsTrue, nat_lt, unwrap_or}
 use Rattle.std.specs.Int.{bit_at}
 use Rattle.std.proofs.lemmas.Bool.{cases_Bool, eqb-true, ltb-true, ltb-false}
 use Rattle.std.proofs.lemmas.Nat.Bits.{bit_at-zero}
+use Rattle.finite_sets.proofs.Searches.{find-In, find-passes}
 use Rattle.tech_model.specs.declared.raw.TypeId.{TypeId}
 use Rattle.tech_model.specs.declared.raw.RawTech.{RawTech}
 use Rattle.tech_model.specs.Types.{is_type, plane_of, parts_of, images_of, is_on, image_on, joined, is_subset}
 use Rattle.tech_model.specs.WellFormed.{IsWellFormed}
 use Rattle.tech_model.specs.Columns.{painted_by, erased_by, where_image, on_planes_from, mark_of, type_on, has_mark_everywhere, without_mark, layer_mark_kept}
 use Rattle.tech_model.specs.ColumnForms.{IsOnPlane, IsColumn}
-use Rattle.tech_model.proofs.PairSearch.{find-In, find-passes}
 use Rattle.tech_model.proofs.WellFormedLaws.{All_In, layer_well_formed}
 use Rattle.tech_model.proofs.JoinedLaws.{joined-found}
 

@@ -30,23 +30,3 @@ position_found test i (x ∷ xs) k d is = elim (cases_Bool (test x)) [
       let next : k - i ≡ suc (k - (i + 1)) = omega arith in
       (omega arith, omega arith, rw next found.2)
 ]
-
--- the place is one of the list
-pub position_below : {X : Type 0} (test : X → Bool) (n : ℕ) (xs : List X) (k : ℕ) → position_from test n xs ≡ Some k → k < n + length xs
-position_below test n [] k found = absurd (cc)
-position_below test n (x ∷ xs) k found = elim (cases_Bool (test x)) [
-  | inl passes ↦ let here : Some n ≡ Some k = rw passes at found in let same : n ≡ k = cc in omega arith
-  | inr fails ↦ let later = position_below test (n + 1) xs k (rw fails at found) in omega arith
-]
-
--- nothing passes where no place was found
-pub position_none : {X : Type 0} (test : X → Bool) (n : ℕ) (xs : List X) (x : X) → position_from test n xs ≡ None → In x xs → test x ≡ false
-position_none test n [] x none absent = absurd absent
-position_none test n (y ∷ ys) x none (inl same) = elim (cases_Bool (test y)) [
-  | inl passes ↦ let found : Some n ≡ None = rw passes at none in absurd (cc)
-  | inr fails ↦ ap test (sym same) ∙ fails
-]
-position_none test n (y ∷ ys) x none (inr later) = elim (cases_Bool (test y)) [
-  | inl passes ↦ let found : Some n ≡ None = rw passes at none in absurd (cc)
-  | inr fails ↦ position_none test (n + 1) ys x (rw fails at none) later
-]

@@ -9,6 +9,7 @@ use Rattle.std.proofs.lemmas.Bool.{cases_Bool, cases_eq, ltb-true, true≢false,
 use Rattle.std.proofs.lemmas.List.Sums.{fold_more}
 use Rattle.std.proofs.lemmas.Nat.Bits.{bit_at-zero}
 use Rattle.finite_sets.specs.Lists.{In}
+use Rattle.finite_sets.proofs.Searches.{find-In, find-none}
 use Rattle.tech_model.specs.declared.raw.TypeId.{TypeId}
 use Rattle.tech_model.specs.declared.raw.LayerRec.{LayerRec}
 use Rattle.tech_model.specs.declared.raw.RawTech.{RawTech}
@@ -17,7 +18,6 @@ use Rattle.tech_model.specs.WellFormed.{IsWellFormed, IsContact}
 use Rattle.tech_model.specs.Columns.{painted_by, erased_by, where_image, on_planes_from, mark_of, type_on, has_mark_everywhere, without_mark, layer_mark_kept}
 use Rattle.tech_model.specs.Columns.{marks_kept, painted_column, erased_column}
 use Rattle.tech_model.specs.ColumnForms.{IsOnPlane, IsColumn, HasWholeContacts}
-use Rattle.tech_model.proofs.PairSearch.{find-In, find-None}
 use Rattle.tech_model.proofs.JoinedLaws.{joined-found}
 use Rattle.tech_model.proofs.WellFormedLaws.{All_In, layer_well_formed}
 use Rattle.tech_model.proofs.SetLaws.{bit_cases, without_bit_source, or_bit_cases, or_bit_right, mark_part, mark_part_bit, image_mark, mark_layer}
@@ -320,7 +320,7 @@ painted_has_option raw plane old image k (Some t) is bit =
 painted_has : (raw : RawTech) (layer plane t : ℕ) (contact : IsContact raw layer) (o : Option TypeId) (old : TypeId) → In (record { 0 = t }) (images_of raw layer) → plane_of raw t ≡ plane
     → image_on raw layer plane ≡ o → bit_of raw contact.bit (where_image (painted_by raw plane) o old).0 ≡ 1
 painted_has raw layer plane t contact None old t_in at is =
-    absurd (true≢false (sym (eq-eqb (plane_of raw t) plane at) ∙ find-None (is_on raw plane) (images_of raw layer) (record { 0 = t }) is t_in))
+    absurd (true≢false (sym (eq-eqb (plane_of raw t) plane at) ∙ find-none (is_on raw plane) (images_of raw layer) (record { 0 = t }) is t_in))
 painted_has raw layer plane t contact (Some image) old t_in at is =
     painted_has_option raw plane old.0 image.0 contact.bit (joined raw plane (bit_or (parts_of raw old.0) (parts_of raw image.0))) refl
     (image_mark raw layer image.0 contact (find-In (is_on raw plane) (images_of raw layer) image is))

@@ -9,6 +9,7 @@ use Rattle.finite_sets.specs.Range.{pairs_of}
 use Rattle.finite_sets.proofs.Members.{In-append_left, In-append_right, In-append_cases, In-map, In-map_source, In-filter, In-filter_source, In-filter_passes}
 use Rattle.finite_sets.proofs.Members.{In-get_or}
 use Rattle.finite_sets.proofs.Ranges.{In-pairs_of, In-pairs_of_first, In-pairs_of_second}
+use Rattle.finite_sets.proofs.Searches.{find-In, find-none, none_found, option_or-none, option_map-none}
 use Rattle.tech_model.specs.declared.raw.TypeId.{TypeId}
 use Rattle.tech_model.specs.declared.raw.FetRule.{FetRule}
 use Rattle.tech_model.specs.declared.raw.RawTech.{RawTech}
@@ -19,7 +20,6 @@ use Rattle.tech_model.specs.WellFormed.{IsWellFormed, IsFet}
 use Rattle.tech_model.specs.Rules.{HaveOwnSets, FetsAreApart, FetsAreNamed, IsMonotone, KeepsRules, types_of, have_one_set, fet_terminals, is_bad_terminal}
 use Rattle.tech_model.specs.Rules.{are_within, widenings, breaks_law, same_set_fault, fet_terminal_fault, fet_name_fault, monotone_fault, rule_fault}
 use Rattle.tech_model.proofs.TypeLaws.{connects_types, within_type}
-use Rattle.tech_model.proofs.PairSearch.{find-In, find-None, None-find}
 use Rattle.tech_model.proofs.WellFormedLaws.{All_In, In-range_with_len, range_bounds, type_bounds, type_from_bounds}
 
 -- the numbers of the types are those that are types
@@ -73,18 +73,10 @@ terminal_types raw pair w is =
 
 -- ---- where no fault is found
 
-option_or-None : {X : Type 0} (a b : Option X) → option_or a b ≡ None → (a ≡ None) × (b ≡ None)
-option_or-None None b is = (refl, is)
-option_or-None (Some x) b is = cc
-
-option_map-None : {X Y : Type 0} (f : X → Y) (o : Option X) → option_map f o ≡ None → o ≡ None
-option_map-None f None is = refl
-option_map-None f (Some x) is = cc
-
 own_sets_below : (raw : RawTech) → same_set_fault raw ≡ None → (s t : ℕ) → s < t → IsTrue (is_type raw s) → IsTrue (is_type raw t)
     → plane_of raw s ≡ plane_of raw t → parts_of raw s ≡ parts_of raw t → ⊥
 own_sets_below raw none s t below s_is t_is planes sets =
-    let absent = find-None (have_one_set raw) (pairs_of (types_of raw) (types_of raw)) (s, t) (option_map-None _ _ none)
+    let absent = find-none (have_one_set raw) (pairs_of (types_of raw) (types_of raw)) (s, t) (option_map-none _ _ none)
     (In-pairs_of s t (types_of raw) (types_of raw) (In-types_of raw s s_is) (In-types_of raw t t_is)) in
     let present : have_one_set raw (s, t) ≡ true =
     and_from (nat_lt s t && plane_of raw s == plane_of raw t) (parts_of raw s == parts_of raw t)
@@ -103,14 +95,14 @@ fets_apart_hold : (raw : RawTech) → fet_terminal_fault raw ≡ None → FetsAr
 fets_apart_hold raw none = λ i fet' i_below j t' j_below.
     let fet = get_or raw.fets i fet' in
     let t = get_or fet.terminals j t' in
-    find-None (is_bad_terminal raw) (fet_terminals raw) (fet.kind, t) (option_map-None _ _ none)
+    find-none (is_bad_terminal raw) (fet_terminals raw) (fet.kind, t) (option_map-none _ _ none)
     (In-flat_map (λ (fet : FetRule). map (λ t. (fet.kind, t)) fet.terminals) fet (fet.kind, t) raw.fets (In-get_or raw.fets i fet' i_below)
     (In-map (λ (t : TypeId). (fet.kind, t)) t fet.terminals (In-get_or fet.terminals j t' j_below)))
 
 fets_named_hold : (raw : RawTech) → fet_name_fault raw ≡ None → FetsAreNamed raw
 fets_named_hold raw none = λ i fet' below.
     let fet = get_or raw.fets i fet' in
-    not-false (is_fet_name fet.name) (find-None (λ (fet : FetRule). not (is_fet_name fet.name)) raw.fets fet (option_map-None _ _ none) (In-get_or raw.fets i fet' below))
+    not-false (is_fet_name fet.name) (find-none (λ (fet : FetRule). not (is_fet_name fet.name)) raw.fets fet (option_map-none _ _ none) (In-get_or raw.fets i fet' below))
 
 In-widenings : (raw : RawTech) (s t : ℕ) → IsTrue (is_type raw s) → IsTrue (is_within raw s t) → In (s, t) (widenings raw)
 In-widenings raw s t s_is within =
@@ -121,7 +113,7 @@ monotone_holds : (raw : RawTech) → monotone_fault raw ≡ None → IsMonotone 
 monotone_holds raw none s t wide_s wide_t s_within t_within joined =
     let types = connects_types raw s t joined in
     let two : (ℕ × ℕ) × (ℕ × ℕ) = ((s, wide_s), (t, wide_t)) in
-    let absent = find-None (breaks_law raw) (pairs_of (widenings raw) (widenings raw)) two (option_map-None _ _ none)
+    let absent = find-none (breaks_law raw) (pairs_of (widenings raw) (widenings raw)) two (option_map-none _ _ none)
     (In-pairs_of (s, wide_s) (t, wide_t) (widenings raw) (widenings raw) (In-widenings raw s wide_s types.0 s_within) (In-widenings raw t wide_t types.1 t_within)) in
     elim (cases_Bool (connects raw wide_s wide_t)) [
       | inl holds ↦ holds
@@ -131,9 +123,9 @@ monotone_holds raw none s t wide_s wide_t s_within t_within joined =
 -- a technology without a fault keeps the rules
 pub rules_hold : (raw : RawTech) → rule_fault raw ≡ None → KeepsRules raw
 rules_hold raw none =
-    let first = option_or-None (same_set_fault raw) _ none in
-    let second = option_or-None (fet_terminal_fault raw) _ first.1 in
-    let third = option_or-None (fet_name_fault raw) (monotone_fault raw) second.1 in
+    let first = option_or-none (same_set_fault raw) _ none in
+    let second = option_or-none (fet_terminal_fault raw) _ first.1 in
+    let third = option_or-none (fet_name_fault raw) (monotone_fault raw) second.1 in
     record {
       own_sets = own_sets_hold raw first.0;
       fets_apart = fets_apart_hold raw second.0;
@@ -144,7 +136,7 @@ rules_hold raw none =
 -- ---- where the rules are kept
 
 no_same_set : (raw : RawTech) → HaveOwnSets raw → same_set_fault raw ≡ None
-no_same_set raw own = ap (option_map _) (None-find (have_one_set raw) (pairs_of (types_of raw) (types_of raw)) (λ pair is. elim (cases_Bool (have_one_set raw pair)) [
+no_same_set raw own = ap (option_map _) (none_found (have_one_set raw) (pairs_of (types_of raw) (types_of raw)) (λ pair is. elim (cases_Bool (have_one_set raw pair)) [
   | inr fails ↦ fails
   | inl holds ↦
       let types = pair_types raw pair is in
@@ -156,7 +148,7 @@ no_same_set raw own = ap (option_map _) (None-find (have_one_set raw) (pairs_of 
 ]))
 
 no_terminal : (raw : RawTech) → FetsAreApart raw → fet_terminal_fault raw ≡ None
-no_terminal raw apart = ap (option_map _) (None-find (is_bad_terminal raw) (fet_terminals raw) (λ pair is.
+no_terminal raw apart = ap (option_map _) (none_found (is_bad_terminal raw) (fet_terminals raw) (λ pair is.
     let found = In-flat_map_source (λ (fet : FetRule). map (λ t. (fet.kind, t)) fet.terminals) pair raw.fets is in
     let fet : FetRule = found.0 in
     let terminal = In-map_source (λ (t : TypeId). (fet.kind, t)) pair fet.terminals found.1.1 in
@@ -165,11 +157,11 @@ no_terminal raw apart = ap (option_map _) (None-find (is_bad_terminal raw) (fet_
     (All_In (λ (t : TypeId). connects raw fet.kind.0 t.0 ≡ false) fet.terminals terminal.0 each terminal.1.0)))
 
 no_name : (raw : RawTech) → FetsAreNamed raw → fet_name_fault raw ≡ None
-no_name raw named = ap (option_map _) (None-find (λ (fet : FetRule). not (is_fet_name fet.name)) raw.fets
+no_name raw named = ap (option_map _) (none_found (λ (fet : FetRule). not (is_fet_name fet.name)) raw.fets
     (λ fet is. ap not (All_In (λ (fet : FetRule). IsTrue (is_fet_name fet.name)) raw.fets fet named is)))
 
 no_break : (raw : RawTech) → IsMonotone raw → monotone_fault raw ≡ None
-no_break raw law = ap (option_map _) (None-find (breaks_law raw) (pairs_of (widenings raw) (widenings raw)) (λ two is. elim (cases_Bool (breaks_law raw two)) [
+no_break raw law = ap (option_map _) (none_found (breaks_law raw) (pairs_of (widenings raw) (widenings raw)) (λ two is. elim (cases_Bool (breaks_law raw two)) [
   | inr fails ↦ fails
   | inl holds ↦
       let parts = and_parts (connects raw two.0.0 two.1.0) (not (connects raw two.0.1 two.1.1)) holds in

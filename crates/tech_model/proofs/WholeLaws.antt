@@ -9,6 +9,7 @@ use Rattle.std.proofs.lemmas.Bool.{cases_Bool, cases_eq, and_parts, true≢false
 use Rattle.std.proofs.lemmas.List.Sums.{fold_more}
 use Rattle.std.proofs.lemmas.Nat.Bits.{bit_at-zero, bit_at-pow_same}
 use Rattle.finite_sets.specs.Lists.{In}
+use Rattle.finite_sets.proofs.Searches.{list_all-In}
 use Rattle.tech_model.specs.declared.raw.TypeId.{TypeId}
 use Rattle.tech_model.specs.declared.raw.LayerRec.{LayerRec}
 use Rattle.tech_model.specs.declared.raw.RawTech.{RawTech}
@@ -27,12 +28,6 @@ abbrev pub IsWhole : RawTech → ℕ → List TypeId → Type 0
 IsWhole raw layer column =
     (s t : ℕ) → IsTrue (is_type raw s) → IsTrue (is_type raw t) → layer_of raw s ≡ layer → layer_of raw t ≡ layer
     → type_on column (plane_of raw s) ≡ s → type_on column (plane_of raw t) ≡ t
-
--- what passes for a whole list passes for each thing in it
-pub list_all_In : {X : Type 0} (p : X → Bool) (xs : List X) (x : X) → list_all p xs ≡ true → In x xs → p x ≡ true
-list_all_In p [] x all none = absurd none
-list_all_In p (y ∷ ys) x all (inl same) = ap p (sym same) ∙ (and_parts (p y) (list_all p ys) all).0
-list_all_In p (y ∷ ys) x all (inr later) = list_all_In p ys x (and_parts (p y) (list_all p ys) all).1 later
 
 -- the types of a layer with one image are one
 one_of_one : (xs : List TypeId) (a b : TypeId) → length xs ≡ 1 → In a xs → In b xs → a ≡ b
@@ -151,7 +146,7 @@ whole_here raw layer column w below is s t s_is t_is s_layer t_layer stands = el
         | inl (same, inl few) ↦ absurd (omega arith)
         | inl (same, inr everywhere) ↦
             let here = type_on column (plane_of raw t) in
-            let part = list_all_In (λ (image : TypeId). is_subset (mark_of raw (images_of raw layer)) (parts_of raw (type_on column (plane_of raw image.0)))) (images_of raw layer) (record { 0 = t }) everywhere t_in in
+            let part = list_all-In (λ (image : TypeId). is_subset (mark_of raw (images_of raw layer)) (parts_of raw (type_on column (plane_of raw image.0)))) (images_of raw layer) (record { 0 = t }) everywhere t_in in
             let bit = mark_part_bit (parts_of raw here) contact.bit (subst (λ (m : ℕ). is_subset m (parts_of raw here) ≡ true) mark part) in
             let type = bit_type raw (plane_of raw t) here contact.bit (is (plane_of raw t)) bit in
             subst (λ (c : List TypeId). type_on c (plane_of raw t) ≡ t) (sym same)

@@ -1,6 +1,7 @@
 use Rattle.std.proofs.Common.{◌∙◌, ◌+◌, ◌-◌, sym, arith}
+use Rattle.finite_sets.proofs.Searches.{range_split}
 use Rattle.tech_model.specs.Rules.{types_of, have_one_set}
-use Rattle.tech_model.proofs.PairSearch.{pairs_rest, pairs_here, range_split}
+use Rattle.tech_model.proofs.PairSearch.{pairs_rest, pairs_here}
 use Rattle.tech_model.proofs.rules.first_of_one_set.Goals as goal
 
 pub returns-in-Some : goal.returns-in-Some

@@ -1,7 +1,8 @@
 use Rattle.std.proofs.Common.{◌∙◌, sym, get_or, subst, ap, ◌<◌, length, List}
+use Rattle.finite_sets.proofs.Searches.{find-In, drop_split}
 use Rattle.tech_model.specs.declared.raw.FetRule.{FetRule}
 use Rattle.tech_model.specs.Rules.{is_bad_terminal}
-use Rattle.tech_model.proofs.PairSearch.{find-In, each_rest, each_here, drop_split}
+use Rattle.tech_model.proofs.PairSearch.{each_rest, each_here}
 use Rattle.tech_model.proofs.RuleLaws.{terminal_types}
 use Rattle.tech_model.proofs.rules.first_terminal.Goals as goal
 
