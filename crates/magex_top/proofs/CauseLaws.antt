@@ -1,17 +1,12 @@
 -- Where the answer to a line comes from: from what the shelf said, or from inside.
-use Rattle.std.proofs.Common.{◌≡◌, ◌≤◌, ℕ, Bool, true, false, List, [], ◌∷◌, Global, sym, subst}
+use Rattle.std.proofs.Common.{◌≡◌, ◌≤◌, Bool, true, false, List, Global}
 use Rattle.std.specs.Prelude.{Vec, Result, Ok, Err, IfOk, IsOkUnless}
 use Rattle.outside_io.specs.declared.outside.Shelf.{Ghosts as ShelfWords}
 use Rattle.session_model.specs.declared.answer.Halt.{Halt}
 use Rattle.session_model.specs.declared.answer.Halt.TheVariants.{ReadFault, WriteFault, Memory}
 use Rattle.session_model.specs.declared.report.ReportLine.{ReportLine}
 use Rattle.session_model.specs.Causes.{ComeFrom, HasCauses, line_kinds}
-use Rattle.magex_top.specs.declared.faults.TopFault.{TopFault}
-use Rattle.magex_top.specs.declared.fetching.Fetched.{Fetched}
-use Rattle.magex_top.specs.declared.fetching.Fetched.TheVariants.{Refused}
 use Rattle.magex_top.specs.Answers.{IsOfInside, kinds_in}
-use Rattle.magex_top.specs.Fetches.{kinds_of_fetched}
-use Rattle.magex_top.specs.Refusals.{refusal}
 
 not_both : (b : Bool) → b ≡ false → b ≡ true → ⊥
 not_both b is_no is_yes = cc
@@ -49,33 +44,3 @@ causes_of_inside shelf old new (Err Memory) memory inside same no_store absences
   more_absences = absences;
   more_overlengths = overlengths;
 }
-
--- a line that is refused since its file is
-pub causes_of_refused : {F : Type 0} (shelf : ShelfWords F) (old new : F) (number : ℕ) (fault : TopFault) (fetched : Result Fetched Halt) (result : Result (Vec ReportLine Global) Halt)
-    → fetched ≡ Ok (Refused fault) → HasCauses shelf old new kinds_of_fetched fetched
-    → IsOkUnless result Memory → IfOk result (λ lines. lines.items ≡ refusal number fault ∷ [])
-    → HasCauses shelf old new kinds_in result
-causes_of_refused shelf old new number fault fetched (Ok lines) is causes memory told =
-    let here = subst (λ (f : Result Fetched Halt). HasCauses shelf old new kinds_of_fetched f) is causes in
-    record {
-      refusals = subst (λ (xs : List ReportLine). ComeFrom shelf old new (line_kinds xs)) (sym told) here.refusals;
-      read_fault = λ fault. cc;
-      write_fault = λ fault. cc;
-      calm = here.calm;
-      no_store = here.no_store;
-      more_absences = here.more_absences;
-      more_overlengths = here.more_overlengths;
-    }
-causes_of_refused shelf old new number fault fetched (Err ReadFault) is causes memory told = absurd (cc)
-causes_of_refused shelf old new number fault fetched (Err WriteFault) is causes memory told = absurd (cc)
-causes_of_refused shelf old new number fault fetched (Err Memory) is causes memory told =
-    let here = subst (λ (f : Result Fetched Halt). HasCauses shelf old new kinds_of_fetched f) is causes in
-    record {
-      refusals = tt;
-      read_fault = λ fault. cc;
-      write_fault = λ fault. cc;
-      calm = here.calm;
-      no_store = here.no_store;
-      more_absences = here.more_absences;
-      more_overlengths = here.more_overlengths;
-    }

@@ -1,5 +1,4 @@
 pub mod CauseLaws
-pub mod CornerLaws
 pub mod DrawingSteps
 pub mod FileLaws
 pub mod FoundNodes

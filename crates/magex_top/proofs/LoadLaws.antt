@@ -1,7 +1,6 @@
 -- What `load` does in each case.
-use Rattle.std.proofs.Common.{◌≡◌, ◌⊎◌, inl, inr, ◌≤◌, ◌<◌, ℕ, true, false, List, [], ◌∷◌, ◌++◌, length, Option, Some, None, refl, sym, ◌∙◌, ap, subst, arith}
+use Rattle.std.proofs.Common.{◌≡◌, ◌⊎◌, inl, inr, ◌≤◌, ℕ, false, List, [], ◌∷◌, ◌++◌, length, Option, Some, None, refl, sym, ◌∙◌, ap, subst}
 use Rattle.std.specs.Prelude.{map, nat_lt}
-use Rattle.std.proofs.lemmas.Bool.Decides.{nat_tests}
 use Rattle.std.proofs.lemmas.List.{length-map, map-append}
 use Rattle.geo_core.specs.declared.limits.Limit.TheVariants.{Bytes, Tiles}
 use Rattle.outside_io.specs.Files.{Files, bytes_of}
@@ -15,7 +14,7 @@ use Rattle.cell_paint.specs.Paints.{layout_of}
 use Rattle.magex_top.specs.declared.cells.Cell.{Cell}
 use Rattle.magex_top.specs.declared.cells.LayoutSession.{LayoutSession}
 use Rattle.magex_top.specs.declared.faults.TopFault.{TopFault}
-use Rattle.magex_top.specs.declared.faults.TopFault.TheVariants.{NoFile, NoTech, NotBuilt, TooMany}
+use Rattle.magex_top.specs.declared.faults.TopFault.TheVariants.{NoFile, NotBuilt, TooMany}
 use Rattle.magex_top.specs.declared.plain_mag.Drawn.{Drawn}
 use Rattle.magex_top.specs.Answers.{Does, cell_state, state_of, state_with}
 use Rattle.magex_top.specs.CommandLoad.{DrawnMeans, LoadMeans, cell_file, loaded_text}
@@ -67,26 +66,6 @@ load_full number raw cell text cells drawn lines plain passes told =
     let state = state_with (Some raw) cells in
     does_refuse (DrawnMeans number state raw cell (plain_cell raw text)) number state (TooMany Tiles) (cell_file cell ∷ []) lines told
     (subst (λ (d : Option (List Drawn)). DrawnMeans number state raw cell d (refused number state (TooMany Tiles) (cell_file cell ∷ []))) (sym plain) (inr (passes, refl)))
-
--- no technology was read
-pub load_no_tech : (number : ℕ) (session : LayoutSession) (files : Files) (cell : List ℕ) (lines : List ReportLine)
-    → session.tech ≡ None → lines ≡ refusal number NoTech ∷ [] → Does (LoadMeans number (state_of session) files cell) (state_of session) lines
-load_no_tech number session files cell lines none told =
-    let cells = session.cells.items in
-    does_refuse (LoadMeans number (state_of session) files cell) number (state_of session) NoTech [] lines told
-    (subst (λ (t : Option RawTech). LoadMeans number (state_with t cells) files cell (refused number (state_with t cells) NoTech [])) (sym none) refl)
-
--- a cell was loaded already
-pub load_second : (number : ℕ) (session : LayoutSession) (raw : RawTech) (files : Files) (cell : List ℕ) (lines : List ReportLine)
-    → session.tech ≡ Some raw → 0 < length session.cells.items → lines ≡ refusal number NotBuilt ∷ []
-    → Does (LoadMeans number (state_of session) files cell) (state_of session) lines
-load_second number session raw files cell lines some more told =
-    let state = state_with (Some raw) session.cells.items in
-    let count : length (map cell_state session.cells.items) ≡ length session.cells.items = length-map session.cells.items cell_state in
-    let test : nat_lt 0 (length (map cell_state session.cells.items)) ≡ true = grind (arith, nat_tests, count, more) in
-    let body : LoadMeans number state files cell (refused number state NotBuilt []) = rw test refl in
-    does_refuse (LoadMeans number (state_of session) files cell) number (state_of session) NotBuilt [] lines told
-    (subst (λ (s : State). LoadMeans number s files cell (refused number s NotBuilt [])) (sym (state_with_tech session raw some)) body)
 
 -- the first load of a session with a technology: the file is refused
 pub load_refused : (number : ℕ) (session : LayoutSession) (raw : RawTech) (files : Files) (cell file : List ℕ) (fault : TopFault) (lines : List ReportLine)

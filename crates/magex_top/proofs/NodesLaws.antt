@@ -1,5 +1,5 @@
 -- What `nodes` does in each case.
-use Rattle.std.proofs.Common.{◌≡◌, ℕ, true, false, List, [], ◌∷◌, Option, Some, None, refl, sym, ◌∙◌, ap, subst}
+use Rattle.std.proofs.Common.{◌≡◌, ℕ, true, false, List, [], ◌∷◌, Some, None, refl, sym, ◌∙◌, ap, subst}
 use Rattle.std.specs.Prelude.{map}
 use Rattle.std.specs.Option.{option_map}
 use Rattle.std.specs.Str.{bytes_eq}
@@ -11,7 +11,7 @@ use Rattle.layout_model.specs.Technologies.{Technology, rules_of}
 use Rattle.cell_paint.specs.Paints.{layout_of}
 use Rattle.magex_top.specs.declared.cells.Cell.{Cell}
 use Rattle.magex_top.specs.declared.cells.LayoutSession.{LayoutSession}
-use Rattle.magex_top.specs.declared.faults.TopFault.TheVariants.{NoCell, NoTech, NotBuilt}
+use Rattle.magex_top.specs.declared.faults.TopFault.TheVariants.{NoCell, NotBuilt}
 use Rattle.magex_top.specs.Answers.{Does, IsOfInside, cell_state, kept_cell_named, state_of, state_with}
 use Rattle.magex_top.specs.CommandNodes.{NodesMeans}
 use Rattle.magex_top.specs.NodeText.{node_lines}
@@ -24,14 +24,6 @@ use Rattle.magex_top.proofs.TechLaws.{does_refuse}
 -- the cell of a name in the state is the one that is kept under it
 named : (name : List ℕ) (cells : List Cell) → cell_named name (map cell_state cells) ≡ option_map cell_state (kept_cell_named name cells)
 named name cells = find-map cell_state (λ (cell : CellState). bytes_eq cell.name name) cells
-
--- no technology was read
-pub nodes_no_tech : (number : ℕ) (session : LayoutSession) (name : List ℕ) (lines : List ReportLine)
-    → session.tech ≡ None → lines ≡ refusal number NoTech ∷ [] → Does (NodesMeans number (state_of session) name) (state_of session) lines
-nodes_no_tech number session name lines none told =
-    let cells = session.cells.items in
-    does_refuse (NodesMeans number (state_of session) name) number (state_of session) NoTech [] lines told
-    (subst (λ (t : Option RawTech). NodesMeans number (state_with t cells) name (refused number (state_with t cells) NoTech [])) (sym none) refl)
 
 -- there is no cell of the name
 pub nodes_unknown : (number : ℕ) (session : LayoutSession) (raw : RawTech) (name given : List ℕ) (lines : List ReportLine)

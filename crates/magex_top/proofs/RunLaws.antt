@@ -1,5 +1,5 @@
 -- What a run means in each case of its words and its script.
-use Rattle.std.proofs.Common.{◌≡◌, ℕ, ◌<◌, ◌≤◌, ◌∙◌, inl, List, [], ◌∷◌, ◌++◌, map, length, Some, refl, sym, ap}
+use Rattle.std.proofs.Common.{◌≡◌, ℕ, ◌<◌, ◌≤◌, ◌∙◌, inl, List, [], ◌∷◌, ◌++◌, map, length, Some, refl, sym, ap, subst, Option}
 use Rattle.std.proofs.lemmas.List.{append-nil}
 use Rattle.std.specs.Prelude.{nat_lt, MatchBool, true, false}
 use Rattle.text_scan.specs.Lines.{lines_of}
@@ -10,13 +10,13 @@ use Rattle.session_model.specs.declared.report.ReportLine.{ReportLine}
 use Rattle.outside_io.specs.declared.outside.Shelf.{Ghosts as ShelfWords}
 use Rattle.session_model.specs.Causes.{ComeFrom, line_kinds}
 use Rattle.session_model.specs.Effects.{no_effect}
-use Rattle.session_model.specs.Progress.{BeginsNext, IsPrefixOf}
+use Rattle.session_model.specs.Progress.{BeginsNext, IsPrefixOf, Progress}
 use Rattle.session_model.specs.Reports.{text_of}
 use Rattle.magex_top.specs.declared.status.Status.{Status}
 use Rattle.magex_top.specs.declared.status.Status.TheVariants.{Usage, ScriptTooLong}
 use Rattle.magex_top.specs.Runs.{RunMeans, RunReaches, ScriptMeans, ScriptReaches, usage_text}
 use Rattle.magex_top.specs.Sessions.{LineMeans}
-use Rattle.magex_top.specs.States.{first_state, reply}
+use Rattle.magex_top.specs.States.{State, first_state, reply}
 use Rattle.magex_top.proofs.FileLaws.{fits_test, long_test}
 
 -- with words it is a usage fault
@@ -76,3 +76,12 @@ nothing_reached f words text files Failed none = rw none (elim (nat_lt LONGEST_F
 -- the usage line refuses no line
 pub usage_comes : {F : Type 0} (shelf : ShelfWords F) (old new : F) → ComeFrom shelf old new (line_kinds (reply usage_text ∷ []))
 usage_comes shelf old new = record { absent = λ some. cc; too_long = λ some. cc }
+
+-- what a run from the state at the start has reached
+pub reached_from_first : (state : State) (text : List ℕ) (files : Files) (Failed : Type 0) (before : List ℕ) (written : ToldBytes) (left : Option Files)
+    → state ≡ first_state
+    → (reported : List ℕ) × (after : Files) × Progress LineMeans false Failed state files (lines_of text) reported after
+    × (written ≡ Some (before ++ reported)) × (left ≡ Some after)
+    → (reported : List ℕ) × (after : Files) × ScriptReaches text files Failed reported after × (written ≡ Some (before ++ reported)) × (left ≡ Some after)
+reached_from_first state text files Failed before written left is h =
+    (h.0, h.1, subst (λ (s : State). Progress LineMeans false Failed s files (lines_of text) h.0 h.1) is h.2, h.3, h.4)

@@ -1,17 +1,16 @@
 -- What `tech` does in each case.
-use Rattle.std.proofs.Common.{◌≡◌, ◌≤◌, ◌⊎◌, ℕ, List, [], ◌∷◌, length, Option, Some, None, Err, refl, sym, ◌∙◌, ap, subst, arith}
+use Rattle.std.proofs.Common.{◌≡◌, ◌≤◌, ◌⊎◌, ℕ, List, [], ◌∷◌, length, Option, Some, None, refl, sym, ◌∙◌, ap, subst, arith}
 use Rattle.geo_core.specs.declared.limits.Limit.TheVariants.{Bytes}
 use Rattle.outside_io.specs.Files.{Files, bytes_of}
 use Rattle.outside_io.specs.declared.limits.TheConstants.{LONGEST_FILE}
 use Rattle.session_model.specs.declared.report.ReportLine.{ReportLine}
 use Rattle.session_model.specs.Effects.{Effect}
 use Rattle.tech_model.specs.declared.raw.RawTech.{RawTech}
-use Rattle.tech_file.specs.declared.reading.TechAt.{TechAt}
 use Rattle.tech_file.specs.Reading.{technology_of}
 use Rattle.magex_top.specs.declared.cells.Cell.{Cell}
 use Rattle.magex_top.specs.declared.cells.LayoutSession.{LayoutSession}
 use Rattle.magex_top.specs.declared.faults.TopFault.{TopFault}
-use Rattle.magex_top.specs.declared.faults.TopFault.TheVariants.{NoFile, Tech, TechAgain, TooMany}
+use Rattle.magex_top.specs.declared.faults.TopFault.TheVariants.{NoFile, TooMany}
 use Rattle.magex_top.specs.Answers.{AreCellsOf, Does, state_of, state_with}
 use Rattle.magex_top.specs.CommandTech.{TechMeans, tech_effect, tech_file}
 use Rattle.magex_top.specs.Fetches.{IsLongFile}
@@ -40,14 +39,6 @@ pub does_refuse : (Means : Effect State → Type 0) (number : ℕ) (state : Stat
     → lines ≡ refusal number fault ∷ [] → Means (refused number state fault fetched) → Does Means state lines
 does_refuse Means number state fault fetched lines told means =
     (fetched, subst (λ (xs : List ReportLine). Means (record { state = state; lines = xs; stores = []; fetched = fetched })) (sym told) means)
-
--- a technology was read already
-pub tech_again : (number : ℕ) (session : LayoutSession) (raw : RawTech) (files : Files) (name : List ℕ) (lines : List ReportLine)
-    → session.tech ≡ Some raw → lines ≡ refusal number TechAgain ∷ [] → Does (TechMeans number (state_of session) files name) (state_of session) lines
-tech_again number session raw files name lines some told =
-    let cells = session.cells.items in
-    does_refuse (TechMeans number (state_of session) files name) number (state_of session) TechAgain [] lines told
-    (subst (λ (t : Option RawTech). TechMeans number (state_with t cells) files name (refused number (state_with t cells) TechAgain [])) (sym some) refl)
 
 -- the file is refused
 pub tech_refused : (number : ℕ) (session : LayoutSession) (files : Files) (name file : List ℕ) (fault : TopFault) (lines : List ReportLine)
@@ -80,9 +71,3 @@ tech_read number session after files name file text lines none are same_cells fi
       subst (λ (state : State). TechMeans number state files name effect) (sym (state_at_first session none are))
           (file_text number first files (tech_file name) (λ text done. done ≡ tech_effect number first (tech_file name) (technology_of text)) text effect here fits effect_is),
     )
-
--- a text with a fault refuses the line
-pub tech_faulty : (number : ℕ) (tech : Option RawTech) (file text : List ℕ) (at : TechAt) (lines : List ReportLine)
-    → tech ≡ None → technology_of text ≡ Err at → lines ≡ refusal number (Tech file at) ∷ []
-    → ◌≡◌ {A = Effect State} (record { state = state_with tech []; lines = lines; stores = []; fetched = file ∷ [] }) (tech_effect number (state_with None []) file (technology_of text))
-tech_faulty number tech file text at lines none faulty told = rw (none, faulty, told) refl

@@ -2,12 +2,13 @@ use Rattle.std.proofs.Common.{◌≡◌, ◌∙◌, sym, refl, subst, Bool, true
 use Rattle.text_scan.specs.Lines.{lines_of}
 use Rattle.outside_io.specs.Counts.{Rose}
 use Rattle.session_model.specs.Effects.{with_stores}
-use Rattle.session_model.specs.Progress.{Progress}
 use Rattle.session_model.specs.Reports.{is_told}
 use Rattle.session_model.specs.Scripts.{LinesMean}
 use Rattle.magex_top.specs.declared.status.Status.TheVariants.{Done, Told}
+use Rattle.magex_top.specs.Answers.{state_of}
 use Rattle.magex_top.specs.Sessions.{LineMeans}
 use Rattle.magex_top.specs.States.{State}
+use Rattle.magex_top.proofs.RunLaws.{reached_from_first}
 use Rattle.magex_top.proofs.top_call.run_script.Goals as goal
 
 told_status : (told holds : Bool) → holds ≡ told → holds ≡ true → Told ≡ (if told then Told else Done)
@@ -42,33 +43,21 @@ returns-in-Ok-false-clause-meaning g c before files told files_told ends =
 
 pub returns-in-Ok-true-clause-beginning : goal.returns-in-Ok-true-clause-beginning
 returns-in-Ok-true-clause-beginning g c before files told files_told =
-    let h = c.run_lines.ensures.progress before files told files_told in
-    let Fails = Rose (g.F.Shelf.store_faults c.args.shelf.now) (g.F.Shelf.store_faults c.run_lines.new.shelf) in (
-      h.0,
-      h.1,
-      subst (λ (s : State). Progress LineMeans false Fails s files (lines_of c.args.text.now) h.0 h.1) c.new_session-session.ensures.state h.2,
-      h.3,
-      h.4,
-    )
+    let Fails = Rose (g.F.Shelf.store_faults c.args.shelf.now) (g.F.Shelf.store_faults c.run_lines.new.shelf) in
+    reached_from_first (state_of c.new_session-session.result) c.args.text.now files Fails before
+    (g.K.Sink.written c.run_lines.new.report) (g.F.Shelf.files c.run_lines.new.shelf) c.new_session-session.ensures.state
+    (c.run_lines.ensures.progress before files told files_told)
 
 pub returns-in-Ok-false-clause-beginning : goal.returns-in-Ok-false-clause-beginning
 returns-in-Ok-false-clause-beginning g c before files told files_told =
-    let h = c.run_lines.ensures.progress before files told files_told in
-    let Fails = Rose (g.F.Shelf.store_faults c.args.shelf.now) (g.F.Shelf.store_faults c.run_lines.new.shelf) in (
-      h.0,
-      h.1,
-      subst (λ (s : State). Progress LineMeans false Fails s files (lines_of c.args.text.now) h.0 h.1) c.new_session-session.ensures.state h.2,
-      h.3,
-      h.4,
-    )
+    let Fails = Rose (g.F.Shelf.store_faults c.args.shelf.now) (g.F.Shelf.store_faults c.run_lines.new.shelf) in
+    reached_from_first (state_of c.new_session-session.result) c.args.text.now files Fails before
+    (g.K.Sink.written c.run_lines.new.report) (g.F.Shelf.files c.run_lines.new.shelf) c.new_session-session.ensures.state
+    (c.run_lines.ensures.progress before files told files_told)
 
 pub returns-clause-beginning : goal.returns-clause-beginning
 returns-clause-beginning g c before files told files_told =
-    let h = c.run_lines.ensures.progress before files told files_told in
-    let Fails = Rose (g.F.Shelf.store_faults c.args.shelf.now) (g.F.Shelf.store_faults c.run_lines.new.shelf) in (
-      h.0,
-      h.1,
-      subst (λ (s : State). Progress LineMeans false Fails s files (lines_of c.args.text.now) h.0 h.1) c.new_session-session.ensures.state h.2,
-      h.3,
-      h.4,
-    )
+    let Fails = Rose (g.F.Shelf.store_faults c.args.shelf.now) (g.F.Shelf.store_faults c.run_lines.new.shelf) in
+    reached_from_first (state_of c.new_session-session.result) c.args.text.now files Fails before
+    (g.K.Sink.written c.run_lines.new.report) (g.F.Shelf.files c.run_lines.new.shelf) c.new_session-session.ensures.state
+    (c.run_lines.ensures.progress before files told files_told)
