@@ -13,6 +13,7 @@ use Rattle.finite_sets.proofs.Members.{In-get_or}
 use Rattle.finite_sets.proofs.Sums.{sum_on-push}
 use Rattle.rect_contacts.specs.declared.contacts.Contact.{Contact}
 use Rattle.geo_core.specs.Areas.{IsNear}
+use Rattle.geo_core.specs.declared.limits.TheConstants.{PLANE_EDGE}
 use Rattle.rect_contacts.specs.Rects.{rect_at}
 use Rattle.rect_contacts.specs.Contacts.{overlap, shared_beside, shared_upon, shared_length, IsSharedEdge}
 use Rattle.rect_contacts.proofs.Shared.{shared_beside-cases, shared_upon-cases}
@@ -139,7 +140,7 @@ shorter_has_room nodes after number shared roomy not_negative short shortens = �
     (twice_fits (get_or nodes k d).perimeter (cond (eqb number k) shared (pos 0)) shared node.low node.high not_negative short gate.0 gate.1)
 
 -- rectangles whose bounds are near share no long edges
-short_overlap : (lo hi lo' hi' : ℤ) → neg_ℤ (pos (2 ^ 28)) <ℤ lo → hi <ℤ pos (2 ^ 28) → overlap lo hi lo' hi' <ℤ pos (2 ^ 29)
+short_overlap : (lo hi lo' hi' : ℤ) → neg_ℤ PLANE_EDGE <ℤ lo → hi <ℤ PLANE_EDGE → overlap lo hi lo' hi' <ℤ pos (2 ^ 29)
 unfolding overlap
 short_overlap lo hi lo' hi' low high = omega (arith, ints, clamps)
 

@@ -28,7 +28,8 @@ touching-requires-clause-proper c =
 
 pub touching-requires-clause-near : goal.touching-requires-clause-near
 touching-requires-clause-near c =
-    subst (λ (rects : List Rect). All IsNear rects) (sym (c.deref-2.ensures.value ∙ c.in_ok-areas.ensures)) (rects_are_near c.args.pieces.now c.requires.tiles)
+    subst (λ (rects : List Rect). All IsNear rects) (sym (c.deref-2.ensures.value ∙ c.in_ok-areas.ensures))
+    (rects_are_near c.args.pieces.now c.requires.tiles)
 
 pub touching-requires-clause-disjoint : goal.touching-requires-clause-disjoint
 touching-requires-clause-disjoint c =
@@ -59,7 +60,8 @@ pub take_off-requires-clause-first : goal.take_off-requires-clause-first
 take_off-requires-clause-first c =
     let pieces = c.args.pieces.now in
     let contacts = c.in-Ok-touching.contacts.items in
-    let listed = subst (λ (rects : List Rect). Lists (IsSharedEdge rects) contacts) (c.deref-2.ensures.value ∙ c.in_ok-areas.ensures) c.in-Ok-touching.ensures in
+    let listed = subst (λ (rects : List Rect). Lists (IsSharedEdge rects) contacts)
+    (c.deref-2.ensures.value ∙ c.in_ok-areas.ensures) c.in-Ok-touching.ensures in
     let so_many = length-map pieces (λ (p : Piece). p.area) ∙ sym c.in-Ok.ensures.one_each ∙ ap (λ (ns : List ℕ). length ns) (sym c.deref-3.ensures.value) in
     subst (λ (cs : List Contact). All (λ (x : Contact). x.first < length c.deref-3.result.now) cs) (sym c.deref-4.ensures.value)
     (contacts_first (rects_of pieces) contacts (length c.deref-3.result.now) so_many listed)
@@ -68,7 +70,8 @@ pub take_off-requires-clause-second : goal.take_off-requires-clause-second
 take_off-requires-clause-second c =
     let pieces = c.args.pieces.now in
     let contacts = c.in-Ok-touching.contacts.items in
-    let listed = subst (λ (rects : List Rect). Lists (IsSharedEdge rects) contacts) (c.deref-2.ensures.value ∙ c.in_ok-areas.ensures) c.in-Ok-touching.ensures in
+    let listed = subst (λ (rects : List Rect). Lists (IsSharedEdge rects) contacts)
+    (c.deref-2.ensures.value ∙ c.in_ok-areas.ensures) c.in-Ok-touching.ensures in
     let so_many = length-map pieces (λ (p : Piece). p.area) ∙ sym c.in-Ok.ensures.one_each ∙ ap (λ (ns : List ℕ). length ns) (sym c.deref-3.ensures.value) in
     subst (λ (cs : List Contact). All (λ (x : Contact). x.second < length c.deref-3.result.now) cs) (sym c.deref-4.ensures.value)
     (contacts_second (rects_of pieces) contacts (length c.deref-3.result.now) so_many listed)
@@ -77,7 +80,8 @@ pub take_off-requires-clause-short : goal.take_off-requires-clause-short
 take_off-requires-clause-short c =
     let pieces = c.args.pieces.now in
     let contacts = c.in-Ok-touching.contacts.items in
-    let listed = subst (λ (rects : List Rect). Lists (IsSharedEdge rects) contacts) (c.deref-2.ensures.value ∙ c.in_ok-areas.ensures) c.in-Ok-touching.ensures in
+    let listed = subst (λ (rects : List Rect). Lists (IsSharedEdge rects) contacts)
+    (c.deref-2.ensures.value ∙ c.in_ok-areas.ensures) c.in-Ok-touching.ensures in
     subst (λ (cs : List Contact). All IsShort cs) (sym c.deref-4.ensures.value)
     (contacts_are_short (rects_of pieces) contacts (rects_are_near pieces c.requires.tiles) listed)
 
@@ -101,8 +105,10 @@ returns c =
     let contacts = c.in-Ok-touching.contacts.items in
     let after = c.take_off.new.nodes in
     let gathered = subst (λ (ns : List ℕ). AreGathered pieces ns nodes) c.deref.ensures.value c.in_ok-nodes.ensures in
-    let listed = subst (λ (rects : List Rect). Lists (IsSharedEdge rects) contacts) (c.deref-2.ensures.value ∙ c.in_ok-areas.ensures) c.in-Ok-touching.ensures in
+    let listed = subst (λ (rects : List Rect). Lists (IsSharedEdge rects) contacts)
+    (c.deref-2.ensures.value ∙ c.in_ok-areas.ensures) c.in-Ok-touching.ensures in
     let taken = taken_off numbers c.deref-3.result.now contacts c.deref-4.result.now nodes c.deref_mut.result.now after c.deref-3.ensures.value
     c.deref-4.ensures.value c.deref_mut.ensures.value c.take_off.ensures in
-    subst (λ (ns : List PlainNode). AreNodes uniform (layout_of_tiles pieces) (map node_of ns)) (sym (after_write nodes after c.in_ok-nodes.nodes.len (omega arith)))
+    subst (λ (ns : List PlainNode). AreNodes uniform (layout_of_tiles pieces) (map node_of ns))
+    (sym (after_write nodes after c.in_ok-nodes.nodes.len (omega arith)))
     (nodes_are_found pieces numbers contacts nodes after c.requires.tiles c.requires.in_order c.in-Ok.ensures listed gathered taken)
