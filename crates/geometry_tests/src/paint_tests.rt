@@ -11,8 +11,17 @@ use tech_model::{LayerId, Layers, Tech, TypeId};
 
 /// nMOS: contacts, a composed type, three classes. Its types are poly, diff, efet, dfet, pc, dc, metal,
 /// pc/metal, dc/metal, numbered from 1.
-const NM: &[u8] =
-    b"tech\n nm\nend\nplanes\n active\n metal\nend\ntypes\n active poly,p,red\n active diff,d,green\n active efet\n active dfet\n active pc\n active dc\n metal metal,m,blue\nend\ncontact\n pc poly metal\n dc diff metal\nend\ncompose\n compose efet poly diff\nend\nconnect\n poly,pc/active,efet,dfet poly,pc/active,efet,dfet\n diff,dc/active diff,dc/active\n metal,pc/metal,dc/metal metal,pc/metal,dc/metal\nend\nextract\n resist poly,pc/active 30000\n resist diff,dc/active 10000\n resist metal,pc/metal,dc/metal 30\n cap poly,pc/active 400 100\n cap diff,dc/active 1000 200\n cap metal,pc/metal,dc/metal 300 100\n fet efet diff,dc efet GND!\n fet dfet diff,dc dfet GND!\nend\n";
+const NM: &[u8] = b"\
+tech\n nm\nend\n\
+planes\n active\n metal\nend\n\
+types\n active poly,p,red\n active diff,d,green\n active efet\n active dfet\n active pc\n active dc\n metal metal,m,blue\nend\n\
+contact\n pc poly metal\n dc diff metal\nend\n\
+compose\n compose efet poly diff\nend\n\
+connect\n poly,pc/active,efet,dfet poly,pc/active,efet,dfet\n diff,dc/active diff,dc/active\n \
+metal,pc/metal,dc/metal metal,pc/metal,dc/metal\nend\n\
+extract\n resist poly,pc/active 30000\n resist diff,dc/active 10000\n resist metal,pc/metal,dc/metal 30\n \
+cap poly,pc/active 400 100\n cap diff,dc/active 1000 200\n cap metal,pc/metal,dc/metal 300 100\n \
+fet efet diff,dc efet GND!\n fet dfet diff,dc dfet GND!\nend\n";
 
 /// What is done with a layer over an area.
 #[derive(Clone, Copy)]
