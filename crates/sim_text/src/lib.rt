@@ -1,0 +1,14 @@
+//! Sim texts: the transistors, capacitances and aliases of a circuit, read and written.
+#![tactic(auto)]
+
+mod faults;
+mod files;
+mod limits;
+mod line_forms;
+mod parts;
+mod reading;
+
+pub use faults::{SimAt, SimFault};
+pub use files::{SimFet, SimFile, SimLine};
+pub use limits::{CAP_EDGE, LONGEST_SIM_NAME, LONGEST_TEXT};
+pub use reading::read_sim;
