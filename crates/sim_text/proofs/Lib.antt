@@ -1,0 +1,3 @@
+pub mod WrittenLines
+pub mod WrittenBack
+pub mod AppendedText
