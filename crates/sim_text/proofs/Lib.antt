@@ -1,3 +1,4 @@
 pub mod WrittenLines
 pub mod WrittenBack
 pub mod AppendedText
+pub mod SpelledTexts
