@@ -2,3 +2,4 @@ pub mod WrittenLines
 pub mod WrittenBack
 pub mod AppendedText
 pub mod SpelledTexts
+pub mod RefusedTexts

@@ -159,6 +159,18 @@ tech_of sim (Cap node cap ∷ said) all = tech_of (with_line sim (Cap node cap))
 tech_of sim (Alias node alias ∷ said) all = tech_of (with_line sim (Alias node alias)) said all.1
 tech_of sim (Nothing ∷ said) all = tech_of sim said all.1
 
+-- a text with a first line has a technology's name
+pub tech_said : (line : List ℕ) (lines : List (List ℕ)) (said : List SimLine)
+    → AreSaid says 1 (line ∷ lines) said → (length (fold with_line nothing_yet said).tech == 0) ≡ false
+tech_said line lines [] are = absurd are
+tech_said line lines (Header name ∷ said) are =
+    ap (λ (n : List ℕ). length n == 0) (tech_of (record nothing_yet { tech = name }) said (all_further 2 lines said (omega arith) are.1))
+    ∙ has_name name (first_said line (Header name) are.0)
+tech_said line lines (Fet fet ∷ said) are = absurd (first_said line (Fet fet) are.0)
+tech_said line lines (Cap node cap ∷ said) are = absurd (first_said line (Cap node cap) are.0)
+tech_said line lines (Alias node alias ∷ said) are = absurd (first_said line (Alias node alias) are.0)
+tech_said line lines (Nothing ∷ said) are = absurd (first_said line Nothing are.0)
+
 abbrev circuit : List ℕ → List SimFet → List (List ℕ × ℤ) → List (List ℕ × List ℕ) → SimFile
 circuit tech fets caps aliases = record { tech = tech; fets = fets; caps = caps; aliases = aliases }
 

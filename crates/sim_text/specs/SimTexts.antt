@@ -1,8 +1,8 @@
 -- The circuit that a sim text spells.
-use Rattle.std.specs.Prelude.{◌≡◌, ◌==◌, ℕ, ℤ, if◌then◌else◌, List, [], ◌∷◌, ◌++◌, length, filter_map, Option, Some, None, Result, Ok, Err}
+use Rattle.std.specs.Prelude.{◌≡◌, ◌==◌, ◌⊎◌, ◌+◌, ℕ, ℤ, if◌then◌else◌, List, [], ◌∷◌, ◌++◌, length, filter_map, Option, Some, None, Result, Ok, Err}
 use Rattle.text_scan.specs.Lines.{lines_of}
 use Rattle.text_form.specs.declared.reading.At.{At}
-use Rattle.text_form.specs.Folds.{text_state}
+use Rattle.text_form.specs.Folds.{fault_at, text_state}
 use Rattle.text_form.specs.SaidLines.{AreSaid, saying}
 use Rattle.sim_text.specs.declared.faults.SimFault.{SimFault}
 use Rattle.sim_text.specs.declared.faults.SimFault.TheVariants.{Header as NoHeader}
@@ -33,6 +33,21 @@ pub record IsSimText (lines : List (List ℕ)) (sim : SimFile) : Type 0 where
   pub fets_are : sim.fets ≡ filter_map fet_said said
   pub caps_are : sim.caps ≡ filter_map cap_said said
   pub aliases_are : sim.aliases ≡ filter_map alias_said said
+
+-- The first faulty line of these: the lines before it say something, and it has the fault. The first of all is line 1.
+pub record IsFirstFaultyLine (lines : List (List ℕ)) (at : At SimFault) : Type 0 where
+  pub before : List (List ℕ)
+  pub line : List ℕ
+  pub after : List (List ℕ)
+  pub said : List SimLine
+  pub lines_are : lines ≡ before ++ line ∷ after
+  pub fine : AreSaid says 1 before said
+  pub numbered : at.line ≡ 1 + length before
+  pub faulty : says (1 + length before) line ≡ Err at.fault
+
+-- The lines are no sim text: they have a first faulty line, or there is none, and so no header on line 1.
+abbrev pub IsRefusedText : List (List ℕ) → At SimFault → Type 0
+IsRefusedText lines at = IsFirstFaultyLine lines at ⊎ ((lines ≡ []) × (at ≡ fault_at 1 NoHeader))
 
 abbrev pub nothing_yet : SimFile
 nothing_yet = record { tech = []; fets = []; caps = []; aliases = [] }

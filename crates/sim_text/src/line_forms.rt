@@ -2,7 +2,6 @@
 ghost use Rattle.std.specs.Prelude.{◌≡◌, ◌≢◌, ◌∷◌, Ok, Err, IfOk, IfErr};
 ghost use Rattle.text_scan.specs.Words.{words_of};
 ghost use Rattle.sim_text.specs.declared.faults.SimFault.TheVariants.{Memory as OutOfMemory};
-ghost use Rattle.sim_text.specs.Parts.{four_numbers_in};
 ghost use Rattle.sim_text.specs.LineForms.{fet_line, cap_of_node, cap_line, alias_line, words_say, begins_with_bar};
 ghost use Rattle.sim_text.specs.LineForms.{further_line_says, header_words_say, begins_with_units, first_line_says, says};
 
@@ -92,32 +91,37 @@ fn long_line(
         return Err(SimFault::BadLine);
     };
     match rest.next() {
-        None => fet_line(alloc, letter, gate, source, drain, l, w, x, y),
+        None => fet_line(
+            alloc,
+            letter,
+            gate,
+            source,
+            drain,
+            four_numbers_in(l, w, x, y),
+        ),
         Some(_) => Err(SimFault::BadLine),
     }
 }
 
+// The line of a transistor. What its numbers are counts only once its letter and its names are such.
 fn fet_line(
     alloc: Global,
     letter: &[u8],
     gate: &[u8],
     source: &[u8],
     drain: &[u8],
-    l: &[u8],
-    w: &[u8],
-    x: &[u8],
-    y: &[u8],
+    numbers: Result<[i128; 4], SimFault>,
 ) -> Result<SimLine, SimFault>
     ensures read { IfOk result (λ said.
-        fet_line letter.now gate.now source.now drain.now (four_numbers_in l.now w.now x.now y.now) ≡ Ok said) }
+        fet_line letter.now gate.now source.now drain.now numbers ≡ Ok said) }
     ensures refused { IfErr result (λ fault. fault ≢ OutOfMemory →
-        fet_line letter.now gate.now source.now drain.now (four_numbers_in l.now w.now x.now y.now) ≡ Err fault) }
+        fet_line letter.now gate.now source.now drain.now numbers ≡ Err fault) }
 {
     let letter = letter_in(letter)?;
     let gate = name_in(alloc, gate)?;
     let source = name_in(alloc, source)?;
     let drain = name_in(alloc, drain)?;
-    let numbers = four_numbers_in(l, w, x, y)?;
+    let numbers = numbers?;
     Ok(SimLine::Fet(SimFet {
         letter,
         gate,
