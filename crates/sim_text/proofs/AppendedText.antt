@@ -1,5 +1,5 @@
 -- What is appended, one part behind the other, is the text.
-use Rattle.std.proofs.Common.{◌≡◌, ◌<◌, ◌+◌, ℕ, ℤ, List, [], ◌∷◌, ◌++◌, length, map, refl, sym, subst, ap, ◌∙◌, arith, append_assoc, append-nil}
+use Rattle.std.proofs.Common.{◌≡◌, ◌+◌, ℕ, ℤ, List, [], ◌∷◌, ◌++◌, length, map, refl, sym, subst, ap, ◌∙◌, arith, append_assoc, append-nil}
 use Rattle.std.proofs.lemmas.List.{length-append}
 use Rattle.std.specs.Prelude.{codes}
 use Rattle.std.specs.List.{join_with_byte}
@@ -60,7 +60,9 @@ sim_text-parts sim =
     let behind : text_of (map line_saying (map saying_cap sim.caps ++ map saying_alias sim.aliases)) ≡ others =
     records_text saying_cap sim.caps (map saying_alias sim.aliases)
     ∙ ap (λ (rest : List ℕ). lines_saying saying_cap sim.caps ++ rest) (last_records_text saying_alias sim.aliases) in
-    let body = records_text Fet sim.fets (map saying_cap sim.caps ++ map saying_alias sim.aliases) ∙ ap (λ (rest : List ℕ). lines_saying Fet sim.fets ++ rest) behind in
+    let body =
+    records_text Fet sim.fets (map saying_cap sim.caps ++ map saying_alias sim.aliases)
+    ∙ ap (λ (rest : List ℕ). lines_saying Fet sim.fets ++ rest) behind in
     ap (λ (rest : List ℕ). header ++ 10 ∷ rest) body ∙ sym (append_assoc header (10 ∷ []) (lines_saying Fet sim.fets ++ others))
 
 pub circuit_appended : (sim : SimFile) (out a b c d : List ℕ)

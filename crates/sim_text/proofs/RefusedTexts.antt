@@ -1,11 +1,11 @@
 -- A text is refused exactly at its first faulty line.
-use Rattle.std.proofs.Common.{◌≡◌, ◌+◌, ◌≤◌, ◌==◌, ◌⊎◌, inl, inr, ℕ, Bool, true, false, cond, List, [], ◌∷◌, length, Result, Ok, Err, refl, sym, ap, ◌∙◌, arith}
+use Rattle.std.proofs.Common.{◌≡◌, ◌↔◌, ◌+◌, ◌==◌, inl, inr, ℕ, Bool, true, false, cond, List}
+use Rattle.std.proofs.Common.{[], ◌∷◌, length, Result, Ok, Err, refl, sym, ap, ◌∙◌}
 use Rattle.std.specs.Prelude.{fold}
 use Rattle.text_scan.specs.Lines.{lines_of}
 use Rattle.text_form.specs.declared.reading.At.{At}
 use Rattle.text_form.specs.Folds.{fault_at, first_fault_or, text_state, finished, last_number, ended_at}
-use Rattle.text_form.specs.FirstFaults.{IsFirstFault}
-use Rattle.text_form.specs.SaidLines.{and_then, saying, AreSaid}
+use Rattle.text_form.specs.SaidLines.{and_then, saying}
 use Rattle.text_form.proofs.FoldLaws.{first_fault_or-first, first_fault_or-refused}
 use Rattle.text_form.proofs.SaidLaws.{read_said, said_of}
 use Rattle.sim_text.specs.declared.faults.SimFault.{SimFault}
@@ -73,7 +73,7 @@ refused_whole : (lines : List (List ℕ)) (at : At SimFault) → IsRefusedText l
 refused_whole lines at (inl is) = ap (finished with_header (last_number lines)) (line_refuses lines at is)
 refused_whole lines at (inr is) = ap (text_state (saying says with_line) with_header nothing_yet) is.0 ∙ ap Err (sym is.1)
 
-pub sim_in-refused : (text : List ℕ) (at : At SimFault) → (sim_in text ≡ Err at → IsRefusedText (lines_of text) at) × (IsRefusedText (lines_of text) at → sim_in text ≡ Err at)
+pub sim_in-refused : (text : List ℕ) (at : At SimFault) → (sim_in text ≡ Err at) ↔ IsRefusedText (lines_of text) at
 unfolding sim_in
 sim_in-refused text at =
     let lines = lines_of text in

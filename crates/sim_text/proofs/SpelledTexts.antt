@@ -1,5 +1,5 @@
 -- A text is read as a circuit exactly where its lines spell the circuit, and is refused exactly at its first faulty line.
-use Rattle.std.proofs.Common.{◌≡◌, ◌+◌, ◌≤◌, ◌==◌, ◌&&◌, ℕ, ℤ, Bool, true, false, cond, List, [], ◌∷◌, ◌++◌, length, Result, Ok, Err, refl, sym}
+use Rattle.std.proofs.Common.{◌≡◌, ◌↔◌, ◌+◌, ◌≤◌, ◌==◌, ◌&&◌, ℕ, ℤ, Bool, true, false, cond, List, [], ◌∷◌, ◌++◌, length, Result, Ok, Err, refl, sym}
 use Rattle.std.proofs.Common.{subst, ap, ◌∙◌, arith, append_assoc, append-nil}
 use Rattle.std.specs.Prelude.{fold, filter_map, codes}
 use Rattle.std.specs.List.{AllByRecursion}
@@ -51,7 +51,8 @@ further_cap true false (Ok node) cap = tt
 further_cap true true (Ok node) (Err fault) = tt
 further_cap true true (Ok node) (Ok cap) = tt
 
-further_alias : (key : Bool) (node alias : Result (List ℕ) SimFault) → SaysFurther (cond key (and_then node (λ node. and_then alias (λ alias. Ok (Alias node alias)))) (Err BadLine))
+further_alias : (key : Bool) (node alias : Result (List ℕ) SimFault)
+    → SaysFurther (cond key (and_then node (λ node. and_then alias (λ alias. Ok (Alias node alias)))) (Err BadLine))
 further_alias false node alias = tt
 further_alias true (Err fault) alias = tt
 further_alias true (Ok node) (Err fault) = tt
@@ -191,8 +192,9 @@ spelled_read (line ∷ lines) sim is =
     (fets_of start is.said ∙ sym is.fets_are) (caps_of start is.said ∙ sym is.caps_are) (aliases_of start is.said ∙ sym is.aliases_are) in
     let read : first_fault_or (saying says with_line) 1 nothing_yet (line ∷ lines) ≡ Ok sim =
     read_said says with_line 1 nothing_yet (line ∷ lines) (Header sim.tech ∷ is.said) is.lines_are ∙ ap Ok same in
+    let named = has_name sim.tech (first_said line (Header sim.tech) is.lines_are.0) in
     text_state-ended (saying says with_line) with_header nothing_yet (line ∷ lines) sim read
-    ∙ ap (λ (b : Bool). ended_at (last_number (line ∷ lines)) (cond b (Err NoHeader) (Ok sim))) (has_name sim.tech (first_said line (Header sim.tech) is.lines_are.0))
+    ∙ ap (λ (b : Bool). ended_at (last_number (line ∷ lines)) (cond b (Err NoHeader) (Ok sim))) named
 
 -- and back
 end_of : (empty : Bool) (state sim : SimFile) → cond empty (Err NoHeader) (Ok state) ≡ Ok sim → (empty ≡ false) × (state ≡ sim)
@@ -226,6 +228,6 @@ read_spelled lines sim e =
     let told = said_of says with_line 1 nothing_yet lines p.0 p.1 in
     from_said lines told.0 sim told.1 (told.2 ∙ end.1) (sym (ap (λ (s : SimFile). length s.tech == 0) end.1) ∙ end.0)
 
-pub sim_in-spelled : (text : List ℕ) (sim : SimFile) → (sim_in text ≡ Ok sim → IsSimText (lines_of text) sim) × (IsSimText (lines_of text) sim → sim_in text ≡ Ok sim)
+pub sim_in-spelled : (text : List ℕ) (sim : SimFile) → (sim_in text ≡ Ok sim) ↔ IsSimText (lines_of text) sim
 unfolding sim_in
 sim_in-spelled text sim = (read_spelled (lines_of text) sim, spelled_read (lines_of text) sim)

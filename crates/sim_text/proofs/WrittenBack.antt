@@ -1,5 +1,5 @@
 -- A written text is read as the circuit that it was written from.
-use Rattle.std.proofs.Common.{◌≡◌, ◌≤◌, ℕ, ℤ, Bool, cond, List, [], ◌∷◌, ◌++◌, length, map, Ok, Err, refl, sym, ap, ◌∙◌, append_assoc, append-nil}
+use Rattle.std.proofs.Common.{◌≡◌, ◌≤◌, ℕ, ℤ, Bool, cond, List, [], ◌∷◌, ◌++◌, map, Ok, Err, sym, ap, ◌∙◌, append_assoc, append-nil}
 use Rattle.std.specs.Prelude.{fold}
 use Rattle.std.specs.List.{AllByRecursion}
 use Rattle.std.proofs.lemmas.List.Sums.{fold-append}
@@ -76,9 +76,11 @@ fets_added sim (fet ∷ fets) =
 caps_added : (sim : SimFile) (caps : List (List ℕ × ℤ)) → fold with_line sim (map saying_cap caps) ≡ record sim { caps = sim.caps ++ caps }
 caps_added sim [] = ap (λ (l : List (List ℕ × ℤ)). record sim { caps = l }) (sym (append-nil sim.caps))
 caps_added sim (cap ∷ caps) =
-    caps_added (record sim { caps = sim.caps ++ cap ∷ [] }) caps ∙ ap (λ (l : List (List ℕ × ℤ)). record sim { caps = l }) (append_assoc sim.caps (cap ∷ []) caps)
+    caps_added (record sim { caps = sim.caps ++ cap ∷ [] }) caps
+    ∙ ap (λ (l : List (List ℕ × ℤ)). record sim { caps = l }) (append_assoc sim.caps (cap ∷ []) caps)
 
-aliases_added : (sim : SimFile) (aliases : List (List ℕ × List ℕ)) → fold with_line sim (map saying_alias aliases) ≡ record sim { aliases = sim.aliases ++ aliases }
+aliases_added : (sim : SimFile) (aliases : List (List ℕ × List ℕ))
+    → fold with_line sim (map saying_alias aliases) ≡ record sim { aliases = sim.aliases ++ aliases }
 aliases_added sim [] = ap (λ (l : List (List ℕ × List ℕ)). record sim { aliases = l }) (sym (append-nil sim.aliases))
 aliases_added sim (pair ∷ aliases) =
     aliases_added (record sim { aliases = sim.aliases ++ pair ∷ [] }) aliases

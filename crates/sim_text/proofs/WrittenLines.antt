@@ -1,6 +1,6 @@
 -- A written line is read as what it says.
 use Rattle.std.proofs.Common.{◌≡◌, ◌≤◌, ◌==◌, ◌&&◌, ℕ, ℤ, Bool, true, false, cond, List, [], ◌∷◌, length, map, Ok, Err, FitsSigned, get_or, refl}
-use Rattle.std.proofs.Common.{sym, subst, ap, ◌∙◌, arith}
+use Rattle.std.proofs.Common.{ap, ◌∙◌, arith}
 use Rattle.std.specs.Prelude.{codes, nat_le, int_lt, neg_ℤ, ◌<ℤ◌}
 use Rattle.std.specs.Char.{is_ascii_graphic}
 use Rattle.std.specs.Int.{w128}
@@ -17,13 +17,12 @@ use Rattle.text_scan.proofs.WrittenLemmas.{IsWord-decimal, IsWord-test, words_of
 use Rattle.text_form.specs.SaidLines.{and_then}
 use Rattle.sim_text.specs.declared.faults.SimFault.TheVariants.{Header as NoHeader, Letter, Name, Range}
 use Rattle.sim_text.specs.declared.files.SimFet.{SimFet}
-use Rattle.sim_text.specs.declared.files.SimLine.{SimLine}
 use Rattle.sim_text.specs.declared.files.SimLine.TheVariants.{Header, Fet, Cap, Alias, Nothing}
 use Rattle.sim_text.specs.declared.limits.TheConstants.{LONGEST_SIM_NAME, CAP_EDGE}
 use Rattle.sim_text.specs.Parts.{is_sim_name, is_letter, is_within_edge, name_in, letter_in, or_bad_line, number_in, within_edge, cap_in, four_numbers_in}
 use Rattle.sim_text.specs.LineForms.{fet_line, words_say, begins_with_bar, further_line_says, header_words_say, begins_with_units, says}
 use Rattle.sim_text.specs.WrittenTexts.{words_saying, line_saying}
-use Rattle.sim_text.specs.Writable.{AreFour, IsWritableFet, IsWritableCap, IsWritableAlias}
+use Rattle.sim_text.specs.Writable.{AreFour, IsWritableFet}
 
 -- names, letters and numbers are words
 graphic_separates : (byte : ℕ) → is_ascii_graphic byte ≡ true → is_separator byte ≡ false
@@ -72,7 +71,9 @@ words-Header name is = (
 
 pub words-Fet : (fet : SimFet) → IsWritableFet fet → AllByRecursion IsWord (words_saying (Fet fet))
 words-Fet fet is =
-    (IsWord-letter fet.letter is.letter, (IsWord-name fet.gate is.gate, (IsWord-name fet.source is.source, (IsWord-name fet.drain is.drain, words-decimals fet.numbers))))
+    let others : AllByRecursion IsWord (fet.source ∷ fet.drain ∷ map decimal fet.numbers) =
+    (IsWord-name fet.source is.source, (IsWord-name fet.drain is.drain, words-decimals fet.numbers)) in
+    (IsWord-letter fet.letter is.letter, (IsWord-name fet.gate is.gate, others))
 
 pub words-Cap : (node : List ℕ) (cap : ℤ) → is_sim_name node ≡ true → AllByRecursion IsWord (words_saying (Cap node cap))
 words-Cap node cap is = (IsWord-test (codes "C") refl, (IsWord-name node is, (IsWord-test (codes "GND!") refl, (IsWord-decimal cap, tt))))
@@ -90,7 +91,8 @@ letter_in-letter byte is = ap (λ (b : Bool). cond b (Ok byte) (Err Letter)) is
 number_in-decimal : (z : ℤ) → FitsSigned w128 z → number_in (decimal z) ≡ Ok z
 number_in-decimal z fits = ap or_bad_line (wide_of-decimal z fits)
 
-four_numbers_in-decimals : (l w x y : ℤ) → AreFour (l ∷ w ∷ x ∷ y ∷ []) → four_numbers_in (decimal l) (decimal w) (decimal x) (decimal y) ≡ Ok (l ∷ w ∷ x ∷ y ∷ [])
+four_numbers_in-decimals : (l w x y : ℤ) → AreFour (l ∷ w ∷ x ∷ y ∷ [])
+    → four_numbers_in (decimal l) (decimal w) (decimal x) (decimal y) ≡ Ok (l ∷ w ∷ x ∷ y ∷ [])
 four_numbers_in-decimals l w x y four =
     rw (number_in-decimal l four.0, number_in-decimal w four.1, number_in-decimal x four.2, number_in-decimal y four.3) refl
 
@@ -116,7 +118,8 @@ behind_first k above = grind (arith, nat_tests)
 pub says-further : (k : ℕ) (line : List ℕ) → 2 ≤ k → says k line ≡ further_line_says line
 says-further k line above = ap (λ (b : Bool). cond b (says 1 line) (further_line_says line)) (behind_first k above)
 
-says-words : (k : ℕ) (words : List (List ℕ)) → 2 ≤ k → begins_with_bar (line_of words) ≡ false → AllByRecursion IsWord words → says k (line_of words) ≡ words_say words
+says-words : (k : ℕ) (words : List (List ℕ))
+    → 2 ≤ k → begins_with_bar (line_of words) ≡ false → AllByRecursion IsWord words → says k (line_of words) ≡ words_say words
 says-words k words above bar all =
     says-further k (line_of words) above
     ∙ (ap (λ (b : Bool). cond b (Ok Nothing) (words_say (words_of (line_of words)))) bar ∙ ap words_say (words_of-line_of words all))
@@ -131,7 +134,8 @@ says-Header name is =
     ∙ ap (λ found. and_then found (λ (n : List ℕ). Ok (Header n))) (name_in-name name is))
 
 fet_line-parts : (letter : ℕ) (gate source drain l w x y : List ℕ) (numbers : List ℤ)
-    → letter_in (letter ∷ []) ≡ Ok letter → name_in gate ≡ Ok gate → name_in source ≡ Ok source → name_in drain ≡ Ok drain → four_numbers_in l w x y ≡ Ok numbers
+    → letter_in (letter ∷ []) ≡ Ok letter → name_in gate ≡ Ok gate → name_in source ≡ Ok source → name_in drain ≡ Ok drain
+    → four_numbers_in l w x y ≡ Ok numbers
     → fet_line (letter ∷ []) gate source drain (four_numbers_in l w x y)
     ≡ Ok (Fet (record { letter = letter; gate = gate; source = source; drain = drain; numbers = numbers }))
 fet_line-parts letter gate source drain l w x y numbers h1 h2 h3 h4 h5 = rw (h1, h2, h3, h4, h5) refl
@@ -157,13 +161,15 @@ by_numbers k fet (l ∷ w ∷ x ∷ y ∷ z ∷ more) above four is = absurd fou
 pub says-Fet : (k : ℕ) (fet : SimFet) → 2 ≤ k → IsWritableFet fet → says k (line_saying (Fet fet)) ≡ Ok (Fet fet)
 says-Fet k fet above is = by_numbers k fet fet.numbers above is.numbers is
 
-pub says-Cap : (k : ℕ) (node : List ℕ) (cap : ℤ) → 2 ≤ k → is_sim_name node ≡ true → is_within_edge cap ≡ true → says k (line_saying (Cap node cap)) ≡ Ok (Cap node cap)
+pub says-Cap : (k : ℕ) (node : List ℕ) (cap : ℤ) → 2 ≤ k → is_sim_name node ≡ true → is_within_edge cap ≡ true
+    → says k (line_saying (Cap node cap)) ≡ Ok (Cap node cap)
 says-Cap k node cap above is within =
     says-words k (words_saying (Cap node cap)) above refl (words-Cap node cap is)
     ∙ (ap (λ found. and_then found (λ (n : List ℕ). and_then (cap_in (decimal cap)) (λ c. Ok (Cap n c)))) (name_in-name node is)
     ∙ ap (λ found. and_then found (λ c. Ok (Cap node c))) (cap_in-decimal cap within))
 
-pub says-Alias : (k : ℕ) (node alias : List ℕ) → 2 ≤ k → is_sim_name node ≡ true → is_sim_name alias ≡ true → says k (line_saying (Alias node alias)) ≡ Ok (Alias node alias)
+pub says-Alias : (k : ℕ) (node alias : List ℕ) → 2 ≤ k → is_sim_name node ≡ true → is_sim_name alias ≡ true
+    → says k (line_saying (Alias node alias)) ≡ Ok (Alias node alias)
 says-Alias k node alias above is other =
     says-words k (words_saying (Alias node alias)) above refl (words-Alias node alias is other)
     ∙ (ap (λ found. and_then found (λ (n : List ℕ). and_then (name_in alias) (λ (a : List ℕ). Ok (Alias n a)))) (name_in-name node is)
