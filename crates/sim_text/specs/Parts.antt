@@ -10,7 +10,7 @@ use Rattle.sim_text.specs.declared.faults.SimFault.{SimFault}
 use Rattle.sim_text.specs.declared.faults.SimFault.TheVariants.{BadLine, Letter, Range, Name}
 use Rattle.sim_text.specs.declared.limits.TheConstants.{LONGEST_SIM_NAME, CAP_EDGE}
 
--- one or more bytes that print and are no blank, and no more than a name may have
+-- one or more bytes from `!` to `~`, and no more than a name may have
 abbrev pub is_sim_name : List ℕ → Bool
 is_sim_name word = nat_le 1 (length word) && nat_le (length word) LONGEST_SIM_NAME && list_all is_ascii_graphic word
 
