@@ -1,0 +1,5 @@
+pub mod WrittenLines
+pub mod WrittenBack
+pub mod AppendedText
+pub mod SpelledTexts
+pub mod RefusedTexts
