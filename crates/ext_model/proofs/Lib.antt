@@ -1,0 +1,4 @@
+pub mod NameKinds
+pub mod NameOrders
+pub mod PathOrders
+pub mod EntryLaws

@@ -1,0 +1,25 @@
+-- What the name order is held to.
+use Rattle.std.specs.Prelude.{◌≡◌, ◌≢◌, ◌⊎◌, ℕ, List, []}
+use Rattle.std.specs.declared.cmp.Ordering.TheVariants.{Equal}
+use Rattle.ext_model.specs.NameOrder.{name_rank, name_cmp, StandsNoLater}
+use Rattle.ext_model.specs.Paths.{path_text}
+
+-- of any two names one stands no later than the other
+abbrev pub IsTotal : Type 0
+IsTotal = (a b : List ℕ) → StandsNoLater a b ⊎ StandsNoLater b a
+
+-- two names that each stand no later than the other are one name
+abbrev pub IsAntisymmetric : Type 0
+IsAntisymmetric = (a b : List ℕ) → StandsNoLater a b → StandsNoLater b a → a ≡ b
+
+-- what the order takes for equal is equal
+abbrev pub IsExact : Type 0
+IsExact = (a b : List ℕ) → name_cmp a b ≡ Equal → a ≡ b
+
+-- names with the same rank are one name
+abbrev pub RanksTellNamesApart : Type 0
+RanksTellNamesApart = (a b : List ℕ) → name_rank a ≡ name_rank b → a ≡ b
+
+-- Names stand in the same order with the same elements' names before them.
+abbrev pub PathsKeepTheOrder : Type 0
+PathsKeepTheOrder = (ids : List (List ℕ)) (a b : List ℕ) → a ≢ [] → b ≢ [] → name_cmp (path_text ids a) (path_text ids b) ≡ name_cmp a b

@@ -1,0 +1,24 @@
+//! What a circuit file says of a cell: its uses, nodes, transistors and merges; the flat circuit that such records make; the
+//! order in which names of nodes stand; and a table of the records of cells.
+//!
+//! # Which records are lawful
+//!
+//! The records are plain data. Which of them a circuit file may have is said by `IsLawful` in `specs/Lawful.antt`: the forms
+//! and ranges of names and numbers, that no two nodes share a name, and that whatever is named is there.
+#![tactic(auto)]
+
+mod circuits;
+mod faults;
+mod laws;
+mod limits;
+mod names;
+mod records;
+mod tables;
+
+pub use circuits::Circuit;
+pub use faults::ExtModelFault;
+pub use laws::{full_names_are_in_order_below, name_order_is_total};
+pub use limits::{FET_EDGE, LENGTHS_EDGE, MEASURE_EDGE, MOST_CLASSES, SHIFT_EDGE};
+pub use names::{GENERATED_MARK, GLOBAL_MARK, NameKind, SLASH, compare_names, kind_of_name};
+pub use records::{CellExt, FetRec, MergeRec, NodeRec, TermRec, UseRec};
+pub use tables::{CellKey, ExtEntry, ExtTable};
