@@ -2,3 +2,4 @@ pub mod NameKinds
 pub mod NameOrders
 pub mod PathOrders
 pub mod EntryLaws
+pub mod PathNames

@@ -24,7 +24,7 @@ pub name_kind-behind : (id rest : List ℕ) → rest ≢ [] → name_kind (id ++
 name_kind-behind id rest some = rw (ends_in-behind GLOBAL_MARK id rest some, ends_in-behind GENERATED_MARK id rest some) refl
 
 -- the slashes behind one more slash
-slashes_in-slash : (rest : List ℕ) → slashes_in (SLASH ∷ rest) ≡ 1 + slashes_in rest
+pub slashes_in-slash : (rest : List ℕ) → slashes_in (SLASH ∷ rest) ≡ 1 + slashes_in rest
 slashes_in-slash rest = sum_by-cons (λ (byte : ℕ). cond (byte == SLASH) 1 0) SLASH rest
 
 -- the slashes of a path are those of its first name, the one behind it, and those of the rest

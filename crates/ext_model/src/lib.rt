@@ -17,7 +17,7 @@ mod tables;
 
 pub use circuits::Circuit;
 pub use faults::ExtModelFault;
-pub use laws::{full_names_are_in_order_below, name_order_is_total};
+pub use laws::{full_names_are_taken_below, kinds_tell_global_names, name_order_is_total};
 pub use limits::{FET_EDGE, LENGTHS_EDGE, MEASURE_EDGE, MOST_CLASSES, SHIFT_EDGE};
 pub use names::{GENERATED_MARK, GLOBAL_MARK, NameKind, SLASH, compare_names, kind_of_name};
 pub use records::{CellExt, FetRec, MergeRec, NodeRec, TermRec, UseRec};
