@@ -1,7 +1,7 @@
 //! The order in which names of nodes stand.
 ghost use Rattle.std.specs.Prelude.{◌≡◌};
 ghost use Rattle.ext_model.specs.NodeNames.{ends_in, name_kind, slashes_in};
-ghost use Rattle.ext_model.specs.NameOrder.{kind_rank, order_within_kind, name_cmp};
+ghost use Rattle.ext_model.specs.NameOrder.{order_within_kind, name_cmp};
 
 use std::cmp::Ordering;
 
@@ -15,7 +15,7 @@ pub const GLOBAL_MARK: u8 = b'!';
 pub const GENERATED_MARK: u8 = b'#';
 
 /// What a node has its name from. In the name order those of an earlier kind come first.
-#[derive(Clone, Copy, Debug, PartialEq, Eq)]
+#[derive(Clone, Copy, Debug, PartialEq, Eq, PartialOrd, Ord)]
 pub enum NameKind {
     /// A label whose nodes are one in all cells: its last byte is `!`.
     Global,
@@ -23,19 +23,6 @@ pub enum NameKind {
     Label,
     /// The type and the place of a node without a label: its last byte is `#`.
     Generated,
-}
-
-impl NameKind {
-    // how many kinds come before it in the name order
-    fn rank(self) -> u8
-        ensures { result ≡ kind_rank self }
-    {
-        match self {
-            NameKind::Global => 0,
-            NameKind::Label => 1,
-            NameKind::Generated => 2,
-        }
-    }
 }
 
 // whether this is the last byte of the name
@@ -72,10 +59,10 @@ fn slashes_in(path: &[u8]) -> usize
 fn compare_within_kind(first: &[u8], second: &[u8]) -> Ordering
     ensures { result ≡ order_within_kind first.now second.now }
 {
-    match slashes_in(first).cmp(&slashes_in(second)) {
-        Ordering::Equal => first.len().cmp(&second.len()).then(first.cmp(second)),
-        unlike => unlike,
-    }
+    slashes_in(first)
+        .cmp(&slashes_in(second))
+        .then(first.len().cmp(&second.len()))
+        .then_with(|| first.cmp(second))
 }
 
 /// Which of two names stands first in the name order: by the kind of the last name, global ones first and generated ones last,
@@ -83,8 +70,7 @@ fn compare_within_kind(first: &[u8], second: &[u8]) -> Ordering
 pub fn compare_names(first: &[u8], second: &[u8]) -> Ordering
     ensures { result ≡ name_cmp first.now second.now }
 {
-    match kind_of_name(first).rank().cmp(&kind_of_name(second).rank()) {
-        Ordering::Equal => compare_within_kind(first, second),
-        unlike => unlike,
-    }
+    kind_of_name(first)
+        .cmp(&kind_of_name(second))
+        .then_with(|| compare_within_kind(first, second))
 }
