@@ -3,3 +3,4 @@ pub mod NameOrders
 pub mod PathOrders
 pub mod EntryLaws
 pub mod PathNames
+pub mod PartOrders

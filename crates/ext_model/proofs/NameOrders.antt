@@ -8,7 +8,7 @@ use Rattle.std.specs.declared.cmp.Ordering.{Ordering}
 use Rattle.std.specs.declared.cmp.Ordering.TheVariants.{Less, Equal, Greater}
 use Rattle.finite_sets.specs.Laws.{IsReflexive, IsTransitive}
 use Rattle.ext_model.specs.NameOrder.{name_rank, name_cmp, StandsNoLater}
-use Rattle.ext_model.specs.NameLaws.{IsTotal, IsAntisymmetric, IsExact, RanksTellNamesApart}
+use Rattle.ext_model.specs.NameLaws.{NameOrderIsTotal, NameOrderIsAntisymmetric, NameOrderIsExact, RanksTellNamesApart}
 
 -- the laws of a comparison, as sorting asks for them
 pub name_cmp_total : IsTotalOrder name_cmp
@@ -17,7 +17,7 @@ name_cmp_total = on_total name_rank nat_list_cmp_total
 pub ranks_tell_names_apart : RanksTellNamesApart
 ranks_tell_names_apart a b same = cc
 
-pub name_cmp_exact : IsExact
+pub name_cmp_exact : NameOrderIsExact
 name_cmp_exact a b tied = ranks_tell_names_apart a b (slice_cmp-IsAntisymmetric nat_cmp-IsAntisymmetric (name_rank a) (name_rank b) tied)
 
 pub no_later_reflexive : IsReflexive StandsNoLater
@@ -32,7 +32,7 @@ one_is_not_greater there Less e = inr refl
 one_is_not_greater there Equal e = inr refl
 one_is_not_greater there Greater e = inl (ap is_gt e)
 
-pub no_later_total : IsTotal
+pub no_later_total : NameOrderIsTotal
 no_later_total a b = one_is_not_greater (name_cmp a b) (name_cmp b a) (name_cmp_total.antisymm a b)
 
 -- where neither of two answers that are each other's reverse is Greater, both are Equal
@@ -41,5 +41,5 @@ both_are_equal there Less e p q = cc
 both_are_equal there Equal e p q = e
 both_are_equal there Greater e p q = cc
 
-pub no_later_antisymmetric : IsAntisymmetric
+pub no_later_antisymmetric : NameOrderIsAntisymmetric
 no_later_antisymmetric a b p q = name_cmp_exact a b (both_are_equal (name_cmp a b) (name_cmp b a) (name_cmp_total.antisymm a b) p q)

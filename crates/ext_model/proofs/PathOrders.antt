@@ -64,7 +64,7 @@ name_cmp-behind id a b some_a some_b =
     λ i. ordering_then (kinds i) (ordering_then (slashes i) (ordering_then (lengths i) (bytes i)))
 
 -- a path is not empty where its last name is not
-path_text_some : (ids : List (List ℕ)) (name : List ℕ) → name ≢ [] → path_text ids name ≢ []
+pub path_text_some : (ids : List (List ℕ)) (name : List ℕ) → name ≢ [] → path_text ids name ≢ []
 path_text_some [] name some = some
 path_text_some ([] ∷ ids) name some = λ e. cc
 path_text_some ((byte ∷ id) ∷ ids) name some = λ e. cc

@@ -7,16 +7,16 @@ use Rattle.ext_model.specs.NameOrder.{name_rank, name_cmp, StandsNoLater}
 use Rattle.ext_model.specs.Paths.{path_text, full_name}
 
 -- of any two names one stands no later than the other
-abbrev pub IsTotal : Type 0
-IsTotal = (a b : List ℕ) → StandsNoLater a b ⊎ StandsNoLater b a
+abbrev pub NameOrderIsTotal : Type 0
+NameOrderIsTotal = (a b : List ℕ) → StandsNoLater a b ⊎ StandsNoLater b a
 
 -- two names that each stand no later than the other are one name
-abbrev pub IsAntisymmetric : Type 0
-IsAntisymmetric = (a b : List ℕ) → StandsNoLater a b → StandsNoLater b a → a ≡ b
+abbrev pub NameOrderIsAntisymmetric : Type 0
+NameOrderIsAntisymmetric = (a b : List ℕ) → StandsNoLater a b → StandsNoLater b a → a ≡ b
 
 -- what the order takes for equal is equal
-abbrev pub IsExact : Type 0
-IsExact = (a b : List ℕ) → name_cmp a b ≡ Equal → a ≡ b
+abbrev pub NameOrderIsExact : Type 0
+NameOrderIsExact = (a b : List ℕ) → name_cmp a b ≡ Equal → a ≡ b
 
 -- names with the same rank are one name
 abbrev pub RanksTellNamesApart : Type 0

@@ -1,15 +1,17 @@
 //! Laws of names. The functions here do nothing: the contract of each is a law that the name order has to keep to be one.
 ghost use Rattle.ext_model.specs.NameOrder.{StandsNoLater};
-ghost use Rattle.ext_model.specs.NameLaws.{IsTotal, IsAntisymmetric, IsExact, RanksTellNamesApart, PathsKeepTheOrder, PathsNameBelow, KindsTellGlobalNames};
+ghost use Rattle.ext_model.specs.NameLaws.{NameOrderIsTotal, NameOrderIsAntisymmetric, NameOrderIsExact, RanksTellNamesApart};
+ghost use Rattle.ext_model.specs.NameLaws.{PathsKeepTheOrder, PathsNameBelow, KindsTellGlobalNames};
+ghost use Rattle.ext_model.specs.NameParts.{PathsCompareByParts};
 ghost use Rattle.finite_sets.specs.Laws.{IsReflexive, IsTransitive};
 
 /// The name order is a total order of all names, and tells any two of them apart.
 pub fn name_order_is_total()
     ensures reflexive { IsReflexive StandsNoLater }
-    ensures antisymmetric { IsAntisymmetric }
+    ensures antisymmetric { NameOrderIsAntisymmetric }
     ensures transitive { IsTransitive StandsNoLater }
-    ensures total { IsTotal }
-    ensures exact { IsExact }
+    ensures total { NameOrderIsTotal }
+    ensures exact { NameOrderIsExact }
     ensures ranks { RanksTellNamesApart }
 {}
 
@@ -18,8 +20,10 @@ pub fn kinds_tell_global_names()
     ensures { KindsTellGlobalNames }
 {}
 
-/// Paths below the same elements are in the order of what follows, and full names can be taken path by path.
-pub fn full_names_are_taken_below()
+/// Full names without their being written out: paths are in the order of their parts, so that below the same elements they are in the
+/// order of what follows, and a path is taken from an element to an element.
+pub fn full_names_go_by_parts()
+    ensures parts { PathsCompareByParts }
     ensures order { PathsKeepTheOrder }
     ensures below { PathsNameBelow }
 {}

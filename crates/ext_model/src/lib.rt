@@ -5,6 +5,13 @@
 //!
 //! The records are plain data. Which of them a circuit file may have is said by `IsLawful` in `specs/Lawful.antt`: the forms
 //! and ranges of names and numbers, that no two nodes share a name, and that whatever is named is there.
+//!
+//! # How the proof goes
+//!
+//! The name order compares lists of numbers, so its laws are those of lists (`NameOrders`). Laws of paths go by recursion on the
+//! names of the elements: `PathOrders` has what one name before a path changes of its kind, slashes, length and bytes, `PartOrders`
+//! takes the bytes apart at their slashes, and `PathNames` finds the last name. `NameKinds` ties kinds to last bytes. `EntryLaws`
+//! shows the entries of a hash table as a finite map, which a change of one entry changes as it should.
 #![tactic(auto)]
 
 mod circuits;
@@ -17,7 +24,7 @@ mod tables;
 
 pub use circuits::Circuit;
 pub use faults::ExtModelFault;
-pub use laws::{full_names_are_taken_below, kinds_tell_global_names, name_order_is_total};
+pub use laws::{full_names_go_by_parts, kinds_tell_global_names, name_order_is_total};
 pub use limits::{FET_EDGE, LENGTHS_EDGE, MEASURE_EDGE, MOST_CLASSES, SHIFT_EDGE};
 pub use names::{GENERATED_MARK, GLOBAL_MARK, NameKind, SLASH, compare_names, kind_of_name};
 pub use records::{CellExt, FetRec, MergeRec, NodeRec, TermRec, UseRec};

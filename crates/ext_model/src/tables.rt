@@ -24,8 +24,9 @@ pub struct ExtEntry {
 /// The records of cells, at most one for each key.
 ///
 /// Contracts see the entries as a finite map from the numbers of keys, and beside it `spare`: for how many more cells there is
-/// room. Each call but `reserve` looks one key up in a hash table, in a time that does not grow with the table; `reserve` moves
-/// all entries where the table has to grow. An entry takes room in the table whatever its key is.
+/// room, whatever their keys are. Each call but `reserve` looks one key up in a hash table, in a time that does not grow with the
+/// table as long as few keys collide. `reserve` moves all entries where the table has to grow: it takes a time in proportion to the
+/// entries and `n`, and memory for their sum.
 #[derive(Drop)]
 pub struct ExtTable {
     entries: HashMap<usize, ExtEntry>,
