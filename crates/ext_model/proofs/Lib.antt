@@ -4,3 +4,4 @@ pub mod PathOrders
 pub mod EntryLaws
 pub mod PathNames
 pub mod PartOrders
+pub mod RecordNameLaws

@@ -6,3 +6,4 @@ pub mod NameLaws
 pub mod RecordNames
 pub mod Lawful
 pub mod Tables
+pub mod RecordLaws

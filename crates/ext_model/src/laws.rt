@@ -1,8 +1,10 @@
-//! Laws of names. The functions here do nothing: the contract of each is a law that the name order has to keep to be one.
+//! Laws of names and of records. The functions here do nothing: the contract of each is a law that the definitions have to keep to
+//! be worth believing.
 ghost use Rattle.ext_model.specs.NameOrder.{StandsNoLater};
 ghost use Rattle.ext_model.specs.NameLaws.{NameOrderIsTotal, NameOrderIsAntisymmetric, NameOrderIsExact, RanksTellNamesApart};
 ghost use Rattle.ext_model.specs.NameLaws.{PathsKeepTheOrder, PathsNameBelow, KindsTellGlobalNames};
 ghost use Rattle.ext_model.specs.NameParts.{PathsCompareByParts};
+ghost use Rattle.ext_model.specs.RecordLaws.{PathsWithoutSlashNameNodes, PathsWithSlashLeadIntoElements};
 ghost use Rattle.finite_sets.specs.Laws.{IsReflexive, IsTransitive};
 
 /// The name order is a total order of all names, and tells any two of them apart.
@@ -26,4 +28,11 @@ pub fn full_names_go_by_parts()
     ensures parts { PathsCompareByParts }
     ensures order { PathsKeepTheOrder }
     ensures below { PathsNameBelow }
+{}
+
+/// A path of a lawful record is a name of one of its nodes where it has no slash, and begins with the name of one of its elements
+/// where it has one.
+pub fn paths_name_nodes_or_lead_into_elements()
+    ensures whole { PathsWithoutSlashNameNodes }
+    ensures slashed { PathsWithSlashLeadIntoElements }
 {}

@@ -10,7 +10,7 @@
 //!
 //! The name order compares lists of numbers, so its laws are those of lists (`NameOrders`). Laws of paths go by recursion on the
 //! names of the elements: `PathOrders` has what one name before a path changes of its kind, slashes, length and bytes, `PartOrders`
-//! takes the bytes apart at their slashes, and `PathNames` finds the last name. `NameKinds` ties kinds to last bytes. `EntryLaws`
+//! takes the bytes apart at their slashes, and `PathNames` finds the last name. `NameKinds` ties kinds to last bytes, `RecordNameLaws` the paths of a record to its names. `EntryLaws`
 //! shows the entries of a hash table as a finite map, which a change of one entry changes as it should.
 #![tactic(auto)]
 
@@ -24,7 +24,10 @@ mod tables;
 
 pub use circuits::Circuit;
 pub use faults::ExtModelFault;
-pub use laws::{full_names_go_by_parts, kinds_tell_global_names, name_order_is_total};
+pub use laws::{
+    full_names_go_by_parts, kinds_tell_global_names, name_order_is_total,
+    paths_name_nodes_or_lead_into_elements,
+};
 pub use limits::{FET_EDGE, LENGTHS_EDGE, MEASURE_EDGE, MOST_CLASSES, SHIFT_EDGE};
 pub use names::{GENERATED_MARK, GLOBAL_MARK, NameKind, SLASH, compare_names, kind_of_name};
 pub use records::{CellExt, FetRec, MergeRec, NodeRec, TermRec, UseRec};
