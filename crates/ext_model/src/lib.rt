@@ -10,8 +10,9 @@
 //!
 //! The name order compares lists of numbers, so its laws are those of lists (`NameOrders`). Laws of paths go by recursion on the
 //! names of the elements: `PathOrders` has what one name before a path changes of its kind, slashes, length and bytes, `PartOrders`
-//! takes the bytes apart at their slashes, and `PathNames` finds the last name. `NameKinds` ties kinds to last bytes, `RecordNameLaws` the paths of a record to its names. `EntryLaws`
-//! shows the entries of a hash table as a finite map, which a change of one entry changes as it should.
+//! takes the bytes apart at their slashes, and `PathNames` finds the last name. `NameKinds` ties kinds to last bytes, and
+//! `RecordNameLaws` the paths of a record to its names. `EntryLaws` shows the entries of a hash table as a finite map, which a change
+//! of one entry changes as it should.
 #![tactic(auto)]
 
 mod circuits;

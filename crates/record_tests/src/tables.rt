@@ -10,6 +10,7 @@ use std::test::Fail;
 enum Asked {
     Reserve(usize),
     Put(usize, u64, u64, Option<u64>),
+    Replace(usize, u64, u64, Option<u64>),
     Take(usize, Option<u64>),
     Record(usize, Option<u64>),
     Stamp(usize, Option<u64>),
@@ -29,7 +30,9 @@ const CALLS: &[Asked] = &[
     Asked::Record(0, Some(2)),
     Asked::Stamp(usize::MAX, Some(12)),
     Asked::Record(1, None),
-    Asked::Put(4, 4, 13, Some(1)),
+    Asked::Replace(4, 4, 13, Some(1)),
+    Asked::Replace(1, 9, 9, None),
+    Asked::Record(1, None),
     Asked::Record(4, Some(4)),
     Asked::Stamp(4, Some(13)),
     Asked::Stamp(0, Some(11)),
@@ -84,10 +87,28 @@ fn put(
     Ok(serial_of(table.put(CellKey(key), entry)))
 }
 
+// the same without more room, where the cell has an entry
+fn replace(
+    table: &mut ExtTable,
+    alloc: Global,
+    key: usize,
+    serial: u64,
+    stamp: u64,
+) -> Result<Option<u64>, Fail> {
+    let entry = new_entry(alloc, serial, stamp)?;
+    if table.get(CellKey(key)).is_none() {
+        return Ok(None);
+    }
+    Ok(serial_of(table.put(CellKey(key), entry)))
+}
+
 fn is_answered(table: &mut ExtTable, alloc: Global, asked: Asked) -> Result<bool, Fail> {
     Ok(match asked {
         Asked::Reserve(count) => table.reserve(count).is_ok(),
         Asked::Put(key, serial, stamp, old) => put(table, alloc, key, serial, stamp)? == old,
+        Asked::Replace(key, serial, stamp, old) => {
+            replace(table, alloc, key, serial, stamp)? == old
+        }
         Asked::Take(key, old) => serial_of(table.take(CellKey(key))) == old,
         Asked::Record(key, class) => class_of(table.get(CellKey(key))) == class,
         Asked::Stamp(key, stamp) => table.stamp(CellKey(key)) == stamp,
