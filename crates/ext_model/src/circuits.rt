@@ -1,0 +1,17 @@
+//! Flat circuits.
+
+use crate::records::{FetRec, NodeRec};
+use geo_core::{List, Name};
+
+/// A flat circuit: all nodes and transistors of a cell and the cells below it, under the full names and at the points that they
+/// have from the cell.
+///
+/// It is in the technology of that name, and `classes` are the values of its classes, in milliohms per square. Nodes stand in
+/// the name order of their names; transistors by the element that has them, in the order of elements, and then as there.
+#[derive(Debug, Drop)]
+pub struct Circuit {
+    pub tech: Name,
+    pub classes: List<u64>,
+    pub nodes: List<NodeRec>,
+    pub fets: List<FetRec>,
+}
