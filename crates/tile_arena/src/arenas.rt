@@ -96,6 +96,13 @@ impl<T: Copy> Arena<T> {
         Id(id)
     }
 
+    /// How many ids are live.
+    pub fn len(&self) -> u32
+        ensures { result ≡ count_live self.now }
+    {
+        self.live
+    }
+
     /// Whether an id is live.
     pub fn is_live(&self, id: Id) -> bool
         ensures { result ≡ is_some (value_at self.now id) }
