@@ -1,0 +1,18 @@
+-- The tile that a stitch leads to, where the tile does not end at the edge of the range.
+use Rattle.std.proofs.Common.{ℕ, ◌<ℤ◌, arith}
+use Rattle.std.proofs.lemmas.Int.{ints}
+use Rattle.geo_core.specs.Planes.{plane_range}
+use Rattle.tile_plane.specs.Tiles.{Tiles, tile_at, IsTaken, Owns, IsPartition, HasStitches, square_above, square_right, square_below, square_left}
+
+module _ (tiles : Tiles) (id : ℕ) (partition : IsPartition tiles) (stitches : HasStitches tiles) (taken : IsTaken tiles id) where
+  pub next_right : (tile_at tiles id).area.xhi <ℤ plane_range.xhi → Owns tiles (tile_at tiles id).right (square_right (tile_at tiles id))
+  next_right inside = stitches.right id taken (let within = partition.within id taken in let proper = taken.proper in omega (arith, ints))
+
+  pub next_left : plane_range.xlo <ℤ (tile_at tiles id).area.xlo → Owns tiles (tile_at tiles id).left (square_left (tile_at tiles id))
+  next_left inside = stitches.left id taken (let within = partition.within id taken in let proper = taken.proper in omega (arith, ints))
+
+  pub next_above : (tile_at tiles id).area.yhi <ℤ plane_range.yhi → Owns tiles (tile_at tiles id).above (square_above (tile_at tiles id))
+  next_above inside = stitches.above id taken (let within = partition.within id taken in let proper = taken.proper in omega (arith, ints))
+
+  pub next_below : plane_range.ylo <ℤ (tile_at tiles id).area.ylo → Owns tiles (tile_at tiles id).below (square_below (tile_at tiles id))
+  next_below inside = stitches.below id taken (let within = partition.within id taken in let proper = taken.proper in omega (arith, ints))

@@ -1,0 +1,181 @@
+use Rattle.std.proofs.Common.{◌≡◌, true, false, ℤ, ◌≤ℤ◌, ◌<ℤ◌, FitsSigned, w64, to_z, of_z, [], refl, sym, ◌∙◌, ap, arith, rules}
+use Rattle.std.specs.Int.{int_max}
+use lib.Signed.{lt_z, le_z}
+use Rattle.std.proofs.lemmas.Int.{ints, to_z-of_z}
+use Rattle.std.proofs.lemmas.List.{append-nil}
+use Rattle.tile_plane.specs.declared.tiles.Tile.{Tile}
+use Rattle.tile_plane.specs.Tiles.{tile_at}
+use Rattle.tile_plane.specs.Listings.{low_row}
+use Rattle.tile_plane.proofs.FollowerLaws.{next_taken, no_followers, adding_begins, adding_goes_on, adding_passes, adding_falls, adding_ends}
+use Rattle.tile_plane.proofs.listings.push_followers.Goals as goal
+use Rattle.tile_plane.proofs.listings.push_followers.Goals.{else-low-y-via-then-low-y+else-y-area, else-low-y-via-else-low-y}
+
+-- the greater of two numbers in bits
+max_in_bits : (m a b x : ℤ) → FitsSigned w64 m → FitsSigned w64 a → FitsSigned w64 b → m ≡ int_max (to_z w64 (of_z w64 a)) (to_z w64 (of_z w64 b)) → a ≡ x
+    → to_z w64 (of_z w64 m) ≡ int_max x b
+max_in_bits m a b x p q r is same =
+    to_z-of_z w64 m p ∙ is ∙ ap (λ (z : ℤ). int_max z (to_z w64 (of_z w64 b))) (to_z-of_z w64 a q ∙ same) ∙ ap (λ (z : ℤ). int_max x z) (to_z-of_z w64 b r)
+
+-- tests of numbers that are equal to these
+is_less : (a b x y : ℤ) → a ≡ x → b ≡ y → lt_z a b ≡ true → x <ℤ y
+is_less a b x y p q test = omega (arith, ints)
+
+is_at_most : (a b x y : ℤ) → a ≡ x → b ≡ y → le_z a b ≡ true → x ≤ℤ y
+is_at_most a b x y p q test = omega (arith, ints)
+
+is_not_less : (a b x y : ℤ) → a ≡ x → b ≡ y → lt_z a b ≡ false → x <ℤ y → ⊥
+is_not_less a b x y p q test less = omega (arith, ints)
+
+is_not_at_most : (a b x y : ℤ) → a ≡ x → b ≡ y → le_z a b ≡ false → x ≤ℤ y → ⊥
+is_not_at_most a b x y p q test most = omega (arith, ints)
+
+no_more : (l low y : ℤ) → l ≡ low → lt_z l y ≡ false → y ≤ℤ low
+no_more l low y same test = omega (arith, ints)
+
+pub returns-then-area-tile : goal.returns-then-area-tile
+returns-then-area-tile c =
+    let tiles = c.args.store.now in
+    let area = c.args.area.now in
+    let is = ap (λ (t : Tile). t.area.xhi) c.get-tile.ensures in
+    let test = c.if-area-tile.true in
+    let past : area.xhi ≤ℤ (tile_at tiles c.args.id).area.xhi = omega (arith, ints) in
+    record {
+      more = [];
+      lists = no_followers tiles area c.requires.partition c.requires.stitches c.requires.near c.args.id c.requires.meets past;
+      joined = sym (append-nil c.args.found.now.items);
+    }
+
+pub loop-y-init : goal.loop-y-init
+loop-y-init c =
+    let tiles = c.args.store.now in
+    let area = c.args.area.now in
+    let edge = ap (λ (t : Tile). t.area.xhi) c.get-tile.ensures in
+    let test = c.if-area-tile.false in
+    let inside : (tile_at tiles c.args.id).area.xhi <ℤ area.xhi = omega (arith, ints) in
+    let same : to_z w64 (of_z w64 c.get-tile.result.area.yhi) ≡ c.get-tile.result.area.yhi = to_z-of_z w64 c.get-tile.result.area.yhi (search rules) in
+    adding_begins tiles area c.requires.partition c.requires.stitches c.requires.near c.args.id c.requires.meets inside c.args.found.now.items
+    (to_z w64 (of_z w64 c.get-tile.result.area.yhi)) c.get-tile.result.right
+    (same ∙ ap (λ (t : Tile). t.area.yhi) c.get-tile.ensures) (ap (λ (t : Tile). t.right) c.get-tile.ensures)
+
+pub get-follower-requires : goal.get-follower-requires
+get-follower-requires c =
+    let tiles = c.args.store.now in
+    let area = c.args.area.now in
+    let edge = ap (λ (t : Tile). t.area.xhi) c.get-tile.ensures in
+    let bottom = ap (λ (t : Tile). t.area.ylo) c.get-tile.ensures in
+    let test = c.if-area-tile.false in
+    let inside : (tile_at tiles c.args.id).area.xhi <ℤ area.xhi = omega (arith, ints) in
+    let low : to_z w64 (of_z w64 c.max-low.result) ≡ low_row tiles area c.args.id =
+    max_in_bits c.max-low.result c.get-tile.result.area.ylo area.ylo (tile_at tiles c.args.id).area.ylo
+    (search rules) (search rules) (search rules) c.max-low.ensures.value bottom in
+    let left = is_less (to_z w64 (of_z w64 c.max-low.result)) (to_z w64 c.loop-y.y-bits) (low_row tiles area c.args.id) (to_z w64 c.loop-y.y-bits)
+    low refl c.loop-y-test.true in
+    next_taken tiles area c.requires.partition c.requires.stitches c.requires.near c.args.id c.requires.meets inside (to_z w64 c.loop-y.y-bits) c.loop-y.next
+    c.loop-y.invariant.more c.loop-y.invariant.from left
+
+pub loop-y-smaller-in_ok-push : goal.loop-y-smaller-in_ok-push
+loop-y-smaller-in_ok-push c =
+    let tiles = c.args.store.now in
+    let area = c.args.area.now in
+    let edge = ap (λ (t : Tile). t.area.xhi) c.get-tile.ensures in
+    let bottom = ap (λ (t : Tile). t.area.ylo) c.get-tile.ensures in
+    let test = c.if-area-tile.false in
+    let inside : (tile_at tiles c.args.id).area.xhi <ℤ area.xhi = omega (arith, ints) in
+    let low : to_z w64 (of_z w64 c.max-low.result) ≡ low_row tiles area c.args.id =
+    max_in_bits c.max-low.result c.get-tile.result.area.ylo area.ylo (tile_at tiles c.args.id).area.ylo
+    (search rules) (search rules) (search rules) c.max-low.ensures.value bottom in
+    let left = is_less (to_z w64 (of_z w64 c.max-low.result)) (to_z w64 c.loop-y.y-bits) (low_row tiles area c.args.id) (to_z w64 c.loop-y.y-bits)
+    low refl c.loop-y-test.true in
+    let h = to_z w64 (of_z w64 c.max-y.result) in
+    let at : h ≡ low_row tiles area c.loop-y.next =
+    max_in_bits c.max-y.result c.get-follower.result.area.ylo area.ylo (tile_at tiles c.loop-y.next).area.ylo
+    (search rules) (search rules) (search rules) c.max-y.ensures.value (ap (λ (t : Tile). t.area.ylo) c.get-follower.ensures) in
+    let is = ap (λ (t : Tile). t.below) c.get-follower.ensures in
+    adding_falls tiles area c.requires.partition c.requires.stitches c.requires.near c.args.id c.requires.meets inside c.args.found.now.items
+    (to_z w64 c.loop-y.y-bits) h c.loop-y.next c.get-follower.result.below c.loop-y.found.items c.loop-y.invariant left at is
+
+pub loop-y-preserved-in_ok-push : goal.loop-y-preserved-in_ok-push
+loop-y-preserved-in_ok-push c =
+    let tiles = c.args.store.now in
+    let area = c.args.area.now in
+    let edge = ap (λ (t : Tile). t.area.xhi) c.get-tile.ensures in
+    let bottom = ap (λ (t : Tile). t.area.ylo) c.get-tile.ensures in
+    let test = c.if-area-tile.false in
+    let inside : (tile_at tiles c.args.id).area.xhi <ℤ area.xhi = omega (arith, ints) in
+    let low : to_z w64 (of_z w64 c.max-low.result) ≡ low_row tiles area c.args.id =
+    max_in_bits c.max-low.result c.get-tile.result.area.ylo area.ylo (tile_at tiles c.args.id).area.ylo
+    (search rules) (search rules) (search rules) c.max-low.ensures.value bottom in
+    let left = is_less (to_z w64 (of_z w64 c.max-low.result)) (to_z w64 c.loop-y.y-bits) (low_row tiles area c.args.id) (to_z w64 c.loop-y.y-bits)
+    low refl c.loop-y-test.true in
+    let h = to_z w64 (of_z w64 c.max-y.result) in
+    let at : h ≡ low_row tiles area c.loop-y.next =
+    max_in_bits c.max-y.result c.get-follower.result.area.ylo area.ylo (tile_at tiles c.loop-y.next).area.ylo
+    (search rules) (search rules) (search rules) c.max-y.ensures.value (ap (λ (t : Tile). t.area.ylo) c.get-follower.ensures) in
+    let is = ap (λ (t : Tile). t.below) c.get-follower.ensures in
+    adding_goes_on tiles area c.requires.partition c.requires.stitches c.requires.near c.args.id c.requires.meets inside c.args.found.now.items
+    (to_z w64 c.loop-y.y-bits) h c.loop-y.next c.get-follower.result.below c.loop-y.found.items c.loop-y.invariant left at is
+    c.push.new.self.items c.in_ok-push.ensures.items
+    (is_at_most (to_z w64 (of_z w64 c.max-low.result)) h (low_row tiles area c.args.id) h low refl c.if-low-y.true)
+    (is_less h (to_z w64 (of_z w64 area.yhi)) h area.yhi refl (to_z-of_z w64 area.yhi (search rules)) c.if-y-area.true)
+
+pub loop-y-smaller : goal.loop-y-smaller
+loop-y-smaller c =
+    let tiles = c.args.store.now in
+    let area = c.args.area.now in
+    let edge = ap (λ (t : Tile). t.area.xhi) c.get-tile.ensures in
+    let bottom = ap (λ (t : Tile). t.area.ylo) c.get-tile.ensures in
+    let test = c.if-area-tile.false in
+    let inside : (tile_at tiles c.args.id).area.xhi <ℤ area.xhi = omega (arith, ints) in
+    let low : to_z w64 (of_z w64 c.max-low.result) ≡ low_row tiles area c.args.id =
+    max_in_bits c.max-low.result c.get-tile.result.area.ylo area.ylo (tile_at tiles c.args.id).area.ylo
+    (search rules) (search rules) (search rules) c.max-low.ensures.value bottom in
+    let left = is_less (to_z w64 (of_z w64 c.max-low.result)) (to_z w64 c.loop-y.y-bits) (low_row tiles area c.args.id) (to_z w64 c.loop-y.y-bits)
+    low refl c.loop-y-test.true in
+    let h = to_z w64 (of_z w64 c.max-y.result) in
+    let at : h ≡ low_row tiles area c.loop-y.next =
+    max_in_bits c.max-y.result c.get-follower.result.area.ylo area.ylo (tile_at tiles c.loop-y.next).area.ylo
+    (search rules) (search rules) (search rules) c.max-y.ensures.value (ap (λ (t : Tile). t.area.ylo) c.get-follower.ensures) in
+    let is = ap (λ (t : Tile). t.below) c.get-follower.ensures in
+    adding_falls tiles area c.requires.partition c.requires.stitches c.requires.near c.args.id c.requires.meets inside c.args.found.now.items
+    (to_z w64 c.loop-y.y-bits) h c.loop-y.next c.get-follower.result.below c.loop-y.found.items c.loop-y.invariant left at is
+
+pub loop-y-preserved : goal.loop-y-preserved
+loop-y-preserved c =
+    let tiles = c.args.store.now in
+    let area = c.args.area.now in
+    let edge = ap (λ (t : Tile). t.area.xhi) c.get-tile.ensures in
+    let bottom = ap (λ (t : Tile). t.area.ylo) c.get-tile.ensures in
+    let test = c.if-area-tile.false in
+    let inside : (tile_at tiles c.args.id).area.xhi <ℤ area.xhi = omega (arith, ints) in
+    let low : to_z w64 (of_z w64 c.max-low.result) ≡ low_row tiles area c.args.id =
+    max_in_bits c.max-low.result c.get-tile.result.area.ylo area.ylo (tile_at tiles c.args.id).area.ylo
+    (search rules) (search rules) (search rules) c.max-low.ensures.value bottom in
+    let left = is_less (to_z w64 (of_z w64 c.max-low.result)) (to_z w64 c.loop-y.y-bits) (low_row tiles area c.args.id) (to_z w64 c.loop-y.y-bits)
+    low refl c.loop-y-test.true in
+    let h = to_z w64 (of_z w64 c.max-y.result) in
+    let at : h ≡ low_row tiles area c.loop-y.next =
+    max_in_bits c.max-y.result c.get-follower.result.area.ylo area.ylo (tile_at tiles c.loop-y.next).area.ylo
+    (search rules) (search rules) (search rules) c.max-y.ensures.value (ap (λ (t : Tile). t.area.ylo) c.get-follower.ensures) in
+    let is = ap (λ (t : Tile). t.below) c.get-follower.ensures in
+    let out : low_row tiles area c.args.id ≤ℤ h → h <ℤ area.yhi → ⊥ = λ at_low under. elim c.else-low-y.branch [
+      | else-low-y-via-then-low-y+else-y-area w ↦ is_not_less h (to_z w64 (of_z w64 area.yhi)) h area.yhi refl
+          (to_z-of_z w64 area.yhi (search rules)) w.if-y-area.false under
+      | else-low-y-via-else-low-y w ↦ is_not_at_most (to_z w64 (of_z w64 c.max-low.result)) h (low_row tiles area c.args.id) h low refl w.if-low-y.false at_low
+    ] in
+    adding_passes tiles area c.requires.partition c.requires.stitches c.requires.near c.args.id c.requires.meets inside c.args.found.now.items
+    (to_z w64 c.loop-y.y-bits) h c.loop-y.next c.get-follower.result.below c.loop-y.found.items c.loop-y.invariant left at is out
+
+pub returns : goal.returns
+returns c =
+    let tiles = c.args.store.now in
+    let area = c.args.area.now in
+    let edge = ap (λ (t : Tile). t.area.xhi) c.get-tile.ensures in
+    let bottom = ap (λ (t : Tile). t.area.ylo) c.get-tile.ensures in
+    let test = c.if-area-tile.false in
+    let inside : (tile_at tiles c.args.id).area.xhi <ℤ area.xhi = omega (arith, ints) in
+    let low : to_z w64 (of_z w64 c.max-low.result) ≡ low_row tiles area c.args.id =
+    max_in_bits c.max-low.result c.get-tile.result.area.ylo area.ylo (tile_at tiles c.args.id).area.ylo
+    (search rules) (search rules) (search rules) c.max-low.ensures.value bottom in
+    adding_ends tiles area c.requires.partition c.requires.stitches c.requires.near c.args.id c.requires.meets inside c.args.found.now.items
+    (to_z w64 c.loop-y.y-bits) c.loop-y.next c.loop-y.found.items c.loop-y.invariant
+    (no_more (to_z w64 (of_z w64 c.max-low.result)) (low_row tiles area c.args.id) (to_z w64 c.loop-y.y-bits) low c.loop-y-test.false)

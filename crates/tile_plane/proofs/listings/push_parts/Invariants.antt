@@ -1,0 +1,7 @@
+-- The parts of the tiles before the index are added.
+use Rattle.std.proofs.Common.{◌≡◌, ◌++◌, map, take}
+use Rattle.tile_plane.specs.Listings.{part_in}
+use Rattle.tile_plane.proofs.listings.push_parts.Given as goal
+
+abbrev pub invariant-loop-id : goal.invariant-loop-id
+invariant-loop-id l = l.parts.items ≡ l.initial.parts.items ++ map (part_in l.store l.area) (take l.id-index l.id-items)

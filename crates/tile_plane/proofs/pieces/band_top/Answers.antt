@@ -1,0 +1,51 @@
+use Rattle.std.proofs.Common.{◌≡◌, ℤ, pos, ◌-ℤ◌, ◌≤ℤ◌, ◌<ℤ◌, w64, to_z, of_z, sym, ap, subst, arith, rules}
+use Rattle.std.proofs.lemmas.Int.{ints, to_z-of_z}
+use Rattle.tile_plane.specs.declared.tiles.Tile.{Tile}
+use Rattle.tile_plane.specs.Tiles.{tile_at, Owns}
+use Rattle.tile_plane.specs.Walks.{square_at}
+use Rattle.tile_plane.proofs.TopLaws.{IsTopWalk, IsLowered, top_begins, top_on, top_nearer, top_ends}
+use Rattle.tile_plane.proofs.pieces.band_top.Goals as goal
+
+pub row-init : goal.row-init
+row-init c =
+    let tiles = c.args.store.now in
+    let area = c.args.area.now in
+    let id = c.left_of-id.result in
+    let top = c.lower_top-top.result in
+    let same : to_z w64 (of_z w64 top) ≡ top = to_z-of_z w64 top (search rules) in
+    let same_high : to_z w64 (of_z w64 area.yhi) ≡ area.yhi = to_z-of_z w64 area.yhi (search rules) in
+    let owns : Owns tiles id (square_at (area.xlo -ℤ pos 1) area.ylo) = subst (λ (v : ℤ). Owns tiles id (square_at (v -ℤ pos 1) area.ylo)) c.requires.begins c.left_of-id.ensures in
+    let made = c.lower_top-top.ensures in
+    let within = made.within in
+    let low : IsLowered (tile_at tiles id).area.yhi area.yhi top = record { within = omega (arith, ints); reach = made.reach; above = λ y p q. made.above y (omega (arith, ints)) q } in
+    subst (λ (v : ℤ). IsTopWalk tiles area id v) (sym same) (top_begins tiles area c.requires.partition c.requires.proper id top owns low)
+
+pub row-preserved : goal.row-preserved
+row-preserved c =
+    let tiles = c.args.store.now in
+    let area = c.args.area.now in
+    let next = c.right_of-id.result in
+    let top = to_z w64 c.row.top-bits in
+    let new = c.lower_top-top-in-row.result in
+    let same : to_z w64 (of_z w64 new) ≡ new = to_z-of_z w64 new (search rules) in
+    let made = c.lower_top-top-in-row.ensures in
+    let low : IsLowered (tile_at tiles next).area.yhi top new = record { within = made.within; reach = made.reach; above = made.above } in
+    subst (λ (v : ℤ). IsTopWalk tiles area next v) (sym same) (top_on tiles area c.requires.partition c.requires.proper c.row.id next top new c.row.invariant c.right_of-id.ensures low)
+
+pub row-smaller : goal.row-smaller
+row-smaller c =
+    let tiles = c.args.store.now in
+    let area = c.args.area.now in
+    let edge = ap (λ (t : Tile). t.area.xhi) c.get.ensures in
+    let test = c.row-test.true in
+    let more : (tile_at tiles c.row.id).area.xhi ≤ℤ area.xhi = omega (arith, ints) in
+    top_nearer tiles area c.requires.partition c.requires.proper c.row.id c.right_of-id.result (to_z w64 c.row.top-bits) (to_z w64 c.row.top-bits) c.row.invariant c.right_of-id.ensures more
+
+pub returns-clause-high : goal.returns-clause-high
+returns-clause-high c =
+    let tiles = c.args.store.now in
+    let area = c.args.area.now in
+    let edge = ap (λ (t : Tile). t.area.xhi) c.get.ensures in
+    let test = c.row-test.false in
+    let past : area.xhi <ℤ (tile_at tiles c.row.id).area.xhi = omega (arith, ints) in
+    top_ends tiles area c.requires.partition c.requires.proper c.row.id (to_z w64 c.row.top-bits) c.row.invariant past

@@ -1,0 +1,8 @@
+use Rattle.std.proofs.Common.{subst}
+use Rattle.tile_plane.specs.Contents.{Contents, value_in}
+use Rattle.tile_plane.specs.Listings.{ArePiecesIn}
+use Rattle.tile_plane.proofs.tile_planes.TilePlane.pieces_in.Goals as goal
+
+pub returns-clause-pieces : goal.returns-clause-pieces
+returns-clause-pieces c =
+    subst (λ (held : Contents). ArePiecesIn (value_in held) c.args.areas.now c.in_ok-pieces.pieces.items) c.self.view_is c.in_ok-pieces.ensures

@@ -1,0 +1,9 @@
+use Rattle.std.proofs.Common.{subst}
+use Rattle.geo_core.specs.Planes.{HasValue}
+use Rattle.geo_core.specs.Strips.{IsStrips}
+use Rattle.tile_plane.specs.Contents.{Contents, value_in}
+use Rattle.tile_plane.proofs.tile_planes.TilePlanePlane.strips.Goals as goal
+
+pub returns-clause-strips : goal.returns-clause-strips
+returns-clause-strips c =
+    subst (λ (held : Contents). IsStrips (HasValue (value_in held) c.args.value) c.in_ok-strips.strips.items) c.self.view_is c.in_ok-strips.ensures.strips

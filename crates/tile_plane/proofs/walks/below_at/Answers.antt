@@ -1,0 +1,54 @@
+use Rattle.std.proofs.Common.{◌≡◌, ◌≤ℤ◌, w64, to_z, of_z, ap, arith}
+use Rattle.std.proofs.lemmas.Int.{ints, to_z-of_z}
+use Rattle.tile_plane.specs.declared.tiles.Tile.{Tile}
+use Rattle.tile_plane.specs.Tiles.{tile_at}
+use Rattle.tile_plane.proofs.WalkLaws.{below_begins, below_goes_on, below_nearer}
+use Rattle.tile_plane.proofs.walks.below_at.Goals as goal
+
+pub rightward-init : goal.rightward-init
+rightward-init c =
+    let end = ap (λ (t : Tile). t.area.ylo) c.get-tile.ensures in
+    let test = c.if-tile.false in
+    let x = to_z w64 (of_z w64 c.args.x) in
+    let same : x ≡ c.args.x = to_z-of_z w64 c.args.x c.ranges.x in
+    let bounds = c.requires in
+    rw c.get-tile.ensures (below_begins c.args.store.now c.args.id x c.requires.partition c.requires.stitches c.requires.taken (omega (arith, ints)) (omega (arith, ints))
+    (omega (arith, ints)))
+
+pub rightward-preserved : goal.rightward-preserved
+rightward-preserved c =
+    let end = ap (λ (t : Tile). t.area.ylo) c.get-tile.ensures in
+    let test = c.if-tile.false in
+    let near = ap (λ (t : Tile). t.area.xhi) c.get.ensures in
+    let x = to_z w64 (of_z w64 c.args.x) in
+    let same : x ≡ c.args.x = to_z-of_z w64 c.args.x c.ranges.x in
+    let bounds = c.requires in
+    let goes_on = c.rightward-test.true in
+    let past : (tile_at c.args.store.now c.rightward.next).area.xhi ≤ℤ x = omega (arith, ints) in
+    let next = below_goes_on c.args.store.now c.args.id x c.requires.partition c.requires.stitches c.requires.taken (omega (arith, ints)) (omega (arith, ints))
+    (omega (arith, ints)) c.rightward.next c.rightward.invariant past in
+    rw c.get-next.ensures next
+
+pub rightward-smaller : goal.rightward-smaller
+rightward-smaller c =
+    let end = ap (λ (t : Tile). t.area.ylo) c.get-tile.ensures in
+    let test = c.if-tile.false in
+    let near = ap (λ (t : Tile). t.area.xhi) c.get.ensures in
+    let x = to_z w64 (of_z w64 c.args.x) in
+    let same : x ≡ c.args.x = to_z-of_z w64 c.args.x c.ranges.x in
+    let bounds = c.requires in
+    let goes_on = c.rightward-test.true in
+    let past : (tile_at c.args.store.now c.rightward.next).area.xhi ≤ℤ x = omega (arith, ints) in
+    let nearer = below_nearer c.args.store.now c.args.id x c.requires.partition c.requires.stitches c.requires.taken (omega (arith, ints)) (omega (arith, ints))
+    (omega (arith, ints)) c.rightward.next c.rightward.invariant past in
+    rw c.get-next.ensures nearer
+
+pub returns : goal.returns
+returns c =
+    let near = ap (λ (t : Tile). t.area.xhi) c.get.ensures in
+    let x = to_z w64 (of_z w64 c.args.x) in
+    let same : x ≡ c.args.x = to_z-of_z w64 c.args.x c.ranges.x in
+    let test = c.rightward-test.false in
+    let way = c.rightward.invariant in
+    let covers = way.owns.covers in
+    λ inside. omega (arith, ints)

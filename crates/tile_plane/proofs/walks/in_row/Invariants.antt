@@ -1,0 +1,17 @@
+-- The tile is one of the plane, and once it does not end under y it never does again.
+use Rattle.std.proofs.Common.{pos, ◌+ℤ◌, ◌<ℤ◌}
+use Rattle.finite_sets.specs.Range.{extent}
+use Rattle.tile_plane.specs.Tiles.{tile_at, IsTaken}
+use Rattle.tile_plane.proofs.walks.in_row.Given as goal
+
+abbrev pub invariant-upward : goal.invariant-upward
+invariant-upward l = IsTaken l.store l.id
+
+abbrev pub decreases-upward : goal.decreases-upward
+decreases-upward l = extent (tile_at l.store l.id).area.yhi (l.y +ℤ pos 1)
+
+abbrev pub invariant-downward : goal.invariant-downward
+invariant-downward l = record { taken : IsTaken l.store l.id; over : l.y <ℤ (tile_at l.store l.id).area.yhi }
+
+abbrev pub decreases-downward : goal.decreases-downward
+decreases-downward l = extent l.y (tile_at l.store l.id).area.ylo

@@ -1,0 +1,58 @@
+-- What a cut of a tile and a join of two do: the squares of an area go from one tile to another.
+use Rattle.std.specs.Prelude.{◌≡◌, ◌≢◌, ◌⊎◌, ℕ, ℤ, ◌<ℤ◌}
+use Rattle.geo_core.specs.declared.squares.Square.{Square}
+use Rattle.geo_core.specs.declared.squares.Rect.{Rect}
+use Rattle.geo_core.specs.Covering.{Covers}
+use Rattle.tile_plane.specs.declared.tiles.Tile.{Tile}
+use Rattle.tile_plane.specs.Tiles.{Tiles, tile_at, IsTaken, Owns}
+
+-- The squares of the area belong to the tile of this number now, and all others to the tiles that had them.
+pub record IsHandedOver (area : Rect) (id : ℕ) (old new : Tiles) : Type 0 where
+  pub given : (square : Square) → Covers area square → Owns new id square
+  pub taker : (k : ℕ) (square : Square) → Owns new k square → Covers area square → k ≡ id
+  pub kept : (k : ℕ) (square : Square) → Owns old k square → (Covers area square → ⊥) → Owns new k square
+  pub source : (k : ℕ) (square : Square) → Owns new k square → (Covers area square → ⊥) → Owns old k square
+
+-- Both tiles have the same squares and one value.
+pub record AreAlike (old new : Tile) : Type 0 where
+  pub area : new.area ≡ old.area
+  pub value : new.value ≡ old.value
+
+-- The tile of the first number is cut at y: it keeps the part below, and the second number, which had no tile, has the part above.
+pub record IsCutAcross (id upper : ℕ) (y : ℤ) (old new : Tiles) : Type 0 where
+  pub free : IsTaken old upper → ⊥
+  pub low : (tile_at new id).area ≡ record (tile_at old id).area { yhi = y }
+  pub high : (tile_at new upper).area ≡ record (tile_at old id).area { ylo = y }
+  pub low_value : (tile_at new id).value ≡ (tile_at old id).value
+  pub high_value : (tile_at new upper).value ≡ (tile_at old id).value
+  pub others : (k : ℕ) → k ≢ id → k ≢ upper → AreAlike (tile_at old k) (tile_at new k)
+
+-- It is cut at x: it keeps the left part, and the second number has the right one.
+pub record IsCutAlong (id right : ℕ) (x : ℤ) (old new : Tiles) : Type 0 where
+  pub free : IsTaken old right → ⊥
+  pub low : (tile_at new id).area ≡ record (tile_at old id).area { xhi = x }
+  pub high : (tile_at new right).area ≡ record (tile_at old id).area { xlo = x }
+  pub low_value : (tile_at new id).value ≡ (tile_at old id).value
+  pub high_value : (tile_at new right).value ≡ (tile_at old id).value
+  pub others : (k : ℕ) → k ≢ id → k ≢ right → AreAlike (tile_at old k) (tile_at new k)
+
+-- The second number has the part of the first tile from y on: it is the tile itself where this begins there, and else what was cut off.
+abbrev pub IsPartFrom : ℕ → ℕ → ℤ → Tiles → Tiles → Type 0
+IsPartFrom id part y old new = (((tile_at old id).area.ylo ≡ y) × (part ≡ id) × (new ≡ old)) ⊎ (((tile_at old id).area.ylo <ℤ y) × IsCutAcross id part y old new)
+
+-- It has the part from x on.
+abbrev pub IsPartAfter : ℕ → ℕ → ℤ → Tiles → Tiles → Type 0
+IsPartAfter id part x old new = (((tile_at old id).area.xlo ≡ x) × (part ≡ id) × (new ≡ old)) ⊎ (((tile_at old id).area.xlo <ℤ x) × IsCutAlong id part x old new)
+
+-- The second tile, which stands upon the first in the same columns, is joined to it.
+pub record IsJoinedUp (lower upper : ℕ) (old new : Tiles) : Type 0 where
+  pub gone : IsTaken new upper → ⊥
+  pub whole : (tile_at new lower).area ≡ record (tile_at old lower).area { yhi = (tile_at old upper).area.yhi }
+  pub value : (tile_at new lower).value ≡ (tile_at old lower).value
+  pub others : (k : ℕ) → k ≢ lower → k ≢ upper → AreAlike (tile_at old k) (tile_at new k)
+
+pub record IsJoinedRight (left right : ℕ) (old new : Tiles) : Type 0 where
+  pub gone : IsTaken new right → ⊥
+  pub whole : (tile_at new left).area ≡ record (tile_at old left).area { xhi = (tile_at old right).area.xhi }
+  pub value : (tile_at new left).value ≡ (tile_at old left).value
+  pub others : (k : ℕ) → k ≢ left → k ≢ right → AreAlike (tile_at old k) (tile_at new k)

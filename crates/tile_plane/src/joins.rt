@@ -1,0 +1,131 @@
+//! Joining two tiles into one.
+
+ghost use Rattle.std.specs.Prelude.{◌≡◌, true, false, ℤ, pos, ◌+ℤ◌, ◌≤ℤ◌, ◌<ℤ◌};
+ghost use Rattle.geo_core.specs.Planes.{AreSame, plane_range};
+ghost use Rattle.tile_plane.specs.Tiles.{tile_at, IsTaken, IsPartition, HasStitches, value_at};
+ghost use Rattle.tile_plane.specs.Cuts.{IsJoinedUp, IsJoinedRight};
+ghost use Rattle.tile_plane.specs.Tall.{IsTallAt, AreGrown};
+
+use crate::mends::{mend_right_end, mend_upper_end};
+use crate::stores::Store;
+use crate::tiles::Tile;
+use crate::walks::{above_at, find};
+use geo_core::{Rect, Square};
+
+/// Joins a tile with the one upon it, of the same columns. It keeps the number of the lower one.
+pub fn join_up(store: &mut Store, lower: u32, upper: u32)
+    requires partition { IsPartition store.old }
+    requires stitches { HasStitches store.old }
+    requires taken { IsTaken store.old lower }
+    requires other_taken { IsTaken store.old upper }
+    requires meet { (tile_at store.old upper).area.ylo ≡ (tile_at store.old lower).area.yhi }
+    requires low { (tile_at store.old upper).area.xlo ≡ (tile_at store.old lower).area.xlo }
+    requires high { (tile_at store.old upper).area.xhi ≡ (tile_at store.old lower).area.xhi }
+    requires value { (tile_at store.old upper).value ≡ (tile_at store.old lower).value }
+    ensures partition { IsPartition store.new }
+    ensures stitches { HasStitches store.new }
+    ensures same { AreSame (value_at store.old) (value_at store.new) }
+    ensures joined { IsJoinedUp lower upper store.old store.new }
+{
+    let tile = store.get(lower);
+    let part = store.get(upper);
+    let whole = up_whole(&tile, &part);
+    store.put(lower, whole);
+    store.remove(upper);
+    mend_upper_end(store, &part, lower);
+}
+
+/// The tile that goes round both.
+fn up_whole(tile: &Tile, part: &Tile) -> Tile
+    ensures { result ≡ record tile.now { area = record tile.now.area { yhi = part.now.area.yhi }; above = part.now.above; right = part.now.right } }
+{
+    Tile {
+        area: Rect {
+            yhi: part.area.yhi,
+            ..tile.area
+        },
+        above: part.above,
+        right: part.right,
+        ..*tile
+    }
+}
+
+/// Joins a tile with the one to its right, of the same rows. It keeps the number of the left one.
+pub fn join_right(store: &mut Store, left: u32, right: u32)
+    requires partition { IsPartition store.old }
+    requires stitches { HasStitches store.old }
+    requires taken { IsTaken store.old left }
+    requires other_taken { IsTaken store.old right }
+    requires meet { (tile_at store.old right).area.xlo ≡ (tile_at store.old left).area.xhi }
+    requires low { (tile_at store.old right).area.ylo ≡ (tile_at store.old left).area.ylo }
+    requires high { (tile_at store.old right).area.yhi ≡ (tile_at store.old left).area.yhi }
+    requires value { (tile_at store.old right).value ≡ (tile_at store.old left).value }
+    ensures partition { IsPartition store.new }
+    ensures stitches { HasStitches store.new }
+    ensures same { AreSame (value_at store.old) (value_at store.new) }
+    ensures joined { IsJoinedRight left right store.old store.new }
+{
+    let tile = store.get(left);
+    let part = store.get(right);
+    let whole = right_whole(&tile, &part);
+    store.put(left, whole);
+    store.remove(right);
+    mend_right_end(store, &part, left);
+}
+
+/// The tile that goes round both.
+fn right_whole(tile: &Tile, part: &Tile) -> Tile
+    ensures { result ≡ record tile.now { area = record tile.now.area { xhi = part.now.area.xhi }; right = part.now.right; above = part.now.above } }
+{
+    Tile {
+        area: Rect {
+            xhi: part.area.xhi,
+            ..tile.area
+        },
+        above: part.above,
+        right: part.right,
+        ..*tile
+    }
+}
+
+/// Whether the two have one value and the same columns.
+fn may_join(lower: &Tile, upper: &Tile) -> bool
+    ensures yes { result ≡ true → (lower.now.area.xlo ≡ upper.now.area.xlo) × (lower.now.area.xhi ≡ upper.now.area.xhi) × (lower.now.value ≡ upper.now.value) }
+    ensures no { result ≡ false → lower.now.area.xlo ≡ upper.now.area.xlo → lower.now.area.xhi ≡ upper.now.area.xhi → lower.now.value ≡ upper.now.value → ⊥ }
+{
+    lower.value == upper.value
+        && lower.area.xlo == upper.area.xlo
+        && lower.area.xhi == upper.area.xhi
+}
+
+/// Joins the tiles of a column that meet at a height from `ylo` to `yhi` where they can be. The result is
+/// the tile of the column that has squares at `yhi`.
+pub fn join_column(store: &mut Store, x: i64, ylo: i64, yhi: i64, hint: u32) -> u32
+    requires partition { IsPartition store.old }
+    requires stitches { HasStitches store.old }
+    requires taken { IsTaken store.old hint }
+    requires left { plane_range.xlo ≤ℤ x }
+    requires right { x <ℤ plane_range.xhi }
+    requires low { plane_range.ylo <ℤ ylo }
+    requires in_order { ylo ≤ℤ yhi }
+    requires high { yhi <ℤ plane_range.yhi }
+    ensures partition { IsPartition store.new }
+    ensures stitches { HasStitches store.new }
+    ensures taken { IsTaken store.new result }
+    ensures same { AreSame (value_at store.old) (value_at store.new) }
+    ensures grown { AreGrown store.old store.new }
+    ensures tall { (y : ℤ) → ylo ≤ℤ (y +ℤ pos 1) → y <ℤ yhi → IsTallAt store.new x y }
+{
+    let mut id = find(store, Square { x, y: ylo - 1 }, hint);
+    'column: while store.get(id).area.yhi <= yhi {
+        let next = above_at(store, id, x);
+        let lower = store.get(id);
+        let upper = store.get(next);
+        if may_join(&lower, &upper) {
+            join_up(store, id, next);
+        } else {
+            id = next;
+        }
+    }
+    id
+}

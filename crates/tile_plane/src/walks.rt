@@ -1,0 +1,128 @@
+//! Walks from tile to tile along stitches.
+ghost use Rattle.std.specs.Prelude.{ℤ, pos, ◌-ℤ◌, ◌≤ℤ◌, ◌<ℤ◌};
+ghost use Rattle.geo_core.specs.Covering.{Covers};
+ghost use Rattle.geo_core.specs.Planes.{plane_range};
+ghost use Rattle.tile_plane.specs.Tiles.{tile_at, IsTaken, Owns, IsPartition, HasStitches, Leads};
+ghost use Rattle.tile_plane.specs.Walks.{square_at};
+
+use crate::stores::Store;
+use geo_core::{PLANE_EDGE, Square};
+
+/// The tile of the square, from any tile. It is found sooner from one that is near.
+pub fn find(store: &Store, square: Square, hint: u32) -> u32
+    requires partition { IsPartition store.now }
+    requires stitches { HasStitches store.now }
+    requires taken { IsTaken store.now hint }
+    requires inside { Covers plane_range square }
+    ensures { Owns store.now result square }
+{
+    let mut id = in_row(store, square.y, hint);
+    'rightward: while store.get(id).area.xhi <= square.x {
+        id = right_at(store, id, square.y);
+    }
+    'leftward: while square.x < store.get(id).area.xlo {
+        id = left_at(store, id, square.y);
+    }
+    id
+}
+
+/// A tile that has squares at y, from any tile.
+fn in_row(store: &Store, y: i64, hint: u32) -> u32
+    requires partition { IsPartition store.now }
+    requires stitches { HasStitches store.now }
+    requires taken { IsTaken store.now hint }
+    requires low { plane_range.ylo ≤ℤ y }
+    requires high { y <ℤ plane_range.yhi }
+    ensures taken { IsTaken store.now result }
+    ensures from { (tile_at store.now result).area.ylo ≤ℤ y }
+    ensures to { y <ℤ (tile_at store.now result).area.yhi }
+{
+    let mut id = hint;
+    'upward: while store.get(id).area.yhi <= y {
+        id = store.get(id).above;
+    }
+    'downward: while y < store.get(id).area.ylo {
+        id = store.get(id).below;
+    }
+    id
+}
+
+/// The tile to the right of a tile at y. Any tile where the range ends there.
+pub fn right_at(store: &Store, id: u32, y: i64) -> u32
+    requires partition { IsPartition store.now }
+    requires stitches { HasStitches store.now }
+    requires taken { IsTaken store.now id }
+    requires from { (tile_at store.now id).area.ylo ≤ℤ y }
+    requires to { y <ℤ (tile_at store.now id).area.yhi }
+    ensures { Leads store.now result (square_at (tile_at store.now id).area.xhi y) }
+{
+    let tile = store.get(id);
+    if PLANE_EDGE <= tile.area.xhi {
+        return id;
+    }
+    let mut next = tile.right;
+    'downward: while y < store.get(next).area.ylo {
+        next = store.get(next).below;
+    }
+    next
+}
+
+/// The tile to the left of a tile at y. Any tile where the range ends there.
+pub fn left_at(store: &Store, id: u32, y: i64) -> u32
+    requires partition { IsPartition store.now }
+    requires stitches { HasStitches store.now }
+    requires taken { IsTaken store.now id }
+    requires from { (tile_at store.now id).area.ylo ≤ℤ y }
+    requires to { y <ℤ (tile_at store.now id).area.yhi }
+    ensures { Leads store.now result (square_at ((tile_at store.now id).area.xlo -ℤ pos 1) y) }
+{
+    let tile = store.get(id);
+    if tile.area.xlo <= -PLANE_EDGE {
+        return id;
+    }
+    let mut next = tile.left;
+    'upward: while store.get(next).area.yhi <= y {
+        next = store.get(next).above;
+    }
+    next
+}
+
+/// The tile above a tile at x. Any tile where the range ends there.
+pub fn above_at(store: &Store, id: u32, x: i64) -> u32
+    requires partition { IsPartition store.now }
+    requires stitches { HasStitches store.now }
+    requires taken { IsTaken store.now id }
+    requires from { (tile_at store.now id).area.xlo ≤ℤ x }
+    requires to { x <ℤ (tile_at store.now id).area.xhi }
+    ensures { Leads store.now result (square_at x (tile_at store.now id).area.yhi) }
+{
+    let tile = store.get(id);
+    if PLANE_EDGE <= tile.area.yhi {
+        return id;
+    }
+    let mut next = tile.above;
+    'leftward: while x < store.get(next).area.xlo {
+        next = store.get(next).left;
+    }
+    next
+}
+
+/// The tile below a tile at x. Any tile where the range ends there.
+pub fn below_at(store: &Store, id: u32, x: i64) -> u32
+    requires partition { IsPartition store.now }
+    requires stitches { HasStitches store.now }
+    requires taken { IsTaken store.now id }
+    requires from { (tile_at store.now id).area.xlo ≤ℤ x }
+    requires to { x <ℤ (tile_at store.now id).area.xhi }
+    ensures { Leads store.now result (square_at x ((tile_at store.now id).area.ylo -ℤ pos 1)) }
+{
+    let tile = store.get(id);
+    if tile.area.ylo <= -PLANE_EDGE {
+        return id;
+    }
+    let mut next = tile.below;
+    'rightward: while store.get(next).area.xhi <= x {
+        next = store.get(next).right;
+    }
+    next
+}
