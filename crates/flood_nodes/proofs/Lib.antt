@@ -7,3 +7,12 @@ pub mod TileLinks
 pub mod TileMeasures
 pub mod TileRects
 pub mod Walks
+pub mod ShareLaws
+pub mod TileEdges
+pub mod EdgeTotals
+pub mod GatherLaws
+pub mod OpenEdges
+pub mod LayoutRegions
+pub mod StackLaws
+pub mod LinkLaws
+pub mod Renumbering

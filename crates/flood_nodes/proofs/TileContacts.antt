@@ -1,21 +1,17 @@
 -- The contacts of tiles, and the pairs of those between tiles of one value.
 use Rattle.std.proofs.Common.{◌≡◌, ℕ, ◌<◌, ℤ, pos, ◌<ℤ◌, true, List, [], ◌∷◌, ◌++◌, eqb, map, filter, length, get_or, All, sym, ◌∙◌, ap, subst, arith}
-use Rattle.std.specs.Prelude.{AllPairs}
 use Rattle.std.proofs.lemmas.Bool.Decides.{nat_tests}
 use Rattle.std.proofs.lemmas.List.{length-map, get_or-map, map-append}
-use Rattle.std.proofs.lemmas.List.Elements.{All-map, filter-append}
+use Rattle.std.proofs.lemmas.List.Elements.{filter-append}
 use Rattle.std.proofs.lemmas.Option.{slice_get-get_or, slice_get_within, get_or_from_slice_get}
 use Rattle.geo_core.specs.declared.squares.Rect.{Rect}
 use Rattle.geo_core.specs.declared.squares.Piece.{Piece}
-use Rattle.geo_core.specs.Covering.{IsProper}
 use Rattle.finite_sets.specs.Lists.{Lists}
 use Rattle.finite_sets.proofs.Members.{In-map, In-map_source, In-filter, In-filter_source, In-filter_passes, In-get_or}
 use Rattle.rect_contacts.specs.declared.contacts.Contact.{Contact}
-use Rattle.geo_core.specs.Areas.{AreDisjoint, IsNear}
 use Rattle.rect_contacts.specs.Rects.{rect_at}
 use Rattle.rect_contacts.specs.Contacts.{shared_length, IsSharedEdge}
 use Rattle.partition.specs.Divides.{IsPair}
-use Rattle.flood_nodes.specs.Tiles.{AreTiles}
 use Rattle.flood_nodes.specs.Alike.{rects_of, piece_at, is_alike, alike_pairs}
 use Rattle.flood_nodes.proofs.TileLinks.{TouchAlike}
 use Rattle.flood_nodes.proofs.RegionLaws.{JoinAlike}

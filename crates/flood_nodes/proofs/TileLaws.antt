@@ -7,7 +7,6 @@ use Rattle.std.specs.Prelude.{slice_get, All}
 use Rattle.geo_core.specs.declared.squares.Square.{Square}
 use Rattle.geo_core.specs.declared.squares.Piece.{Piece}
 use Rattle.geo_core.specs.Covering.{Covers, IsProper}
-use Rattle.geo_core.specs.Areas.{IsNear}
 use Rattle.layout_model.specs.Places.{Place}
 use Rattle.layout_model.specs.Layouts.{painted}
 use Rattle.layout_model.proofs.PaintLaws.{painted_over-cases}

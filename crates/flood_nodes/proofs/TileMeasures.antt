@@ -1,16 +1,16 @@
 -- Areas and perimeters of tiles.
-use Rattle.std.proofs.Common.{◌≡◌, ◌≢◌, ℕ, ◌<◌, pos, ◌-ℤ◌, Bool, true, false, not, cond, List, map}
-use Rattle.std.proofs.Common.{length, get_or, Some, inl, inr, refl, sym, ◌∙◌, ap, subst, arith}
+use Rattle.std.proofs.Common.{◌≡◌, ◌≢◌, ℕ, pos, ◌-ℤ◌, Bool, true, false, not, cond, List, map}
+use Rattle.std.proofs.Common.{get_or, Some, inl, inr, refl, sym, ◌∙◌, ap, subst, arith}
 use Rattle.std.proofs.lemmas.Bool.Decides.{nat_tests}
 use Rattle.std.proofs.lemmas.List.{get_or-map, length-map}
 use Rattle.std.proofs.lemmas.List.Elements.{All-map}
 use Rattle.std.proofs.lemmas.List.Folds.{list_any_at, list_any_none}
 use Rattle.std.proofs.lemmas.Option.{slice_get_within, slice_get-get_or, get_or_from_slice_get, same_Some}
-use Rattle.std.specs.Prelude.{slice_get, All, AllPairs}
+use Rattle.std.specs.Prelude.{slice_get}
 use Rattle.geo_core.specs.declared.squares.Square.{Square}
 use Rattle.geo_core.specs.declared.squares.Rect.{Rect}
 use Rattle.geo_core.specs.declared.squares.Piece.{Piece}
-use Rattle.geo_core.specs.Covering.{Covers, IsProper, is_covered}
+use Rattle.geo_core.specs.Covering.{Covers, is_covered}
 use Rattle.geo_core.specs.Neighbours.{edge_neighbours}
 use Rattle.geo_core.proofs.CoveringLaws.{Covers-is_covered, is_covered-Covers}
 use Rattle.finite_sets.specs.Lists.{In, Lists}
@@ -19,7 +19,6 @@ use Rattle.finite_sets.proofs.Members.{In-map, In-get_or}
 use Rattle.finite_sets.proofs.Listings.{Lists-iff, Lists-map}
 use Rattle.finite_sets.proofs.Sums.{sum_on-map, sum_on-same}
 use Rattle.finite_sets.proofs.Totals.{Total-at, Total-from_list}
-use Rattle.geo_core.specs.Areas.{AreDisjoint, IsNear}
 use Rattle.rect_contacts.specs.Contacts.{shared_length}
 use Rattle.rect_contacts.specs.Squares.{squares_of, area_of, perimeter_of, is_covered_by_any}
 use Rattle.rect_contacts.proofs.Leading.{Lists-squares_of, sum_on-squares_of}

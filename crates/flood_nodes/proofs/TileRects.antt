@@ -1,5 +1,5 @@
 -- The rectangles of tiles are as `touching` asks.
-use Rattle.std.proofs.Common.{ℕ, ◌<◌, List, length, arith}
+use Rattle.std.proofs.Common.{◌<◌, List, length, arith}
 use Rattle.std.specs.Prelude.{All, AllPairs}
 use Rattle.std.proofs.lemmas.List.{get_or-map, length-map}
 use Rattle.std.proofs.lemmas.List.Elements.{All-map}

@@ -11,7 +11,13 @@
 #![tactic(auto)]
 
 mod faults;
-mod regions;
+mod flooding;
+mod found;
+mod gathering;
+mod linking;
+mod pieces;
 
 pub use faults::FloodFault;
-pub use regions::{flood, rects_of};
+pub use flooding::regions;
+pub use found::Regions;
+pub use pieces::{flood, rects_of};

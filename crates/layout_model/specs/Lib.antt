@@ -1,7 +1,12 @@
+pub mod ChannelRoles
+pub mod EdgeCounts
 pub mod Laws
+pub mod LayerTypes
 pub mod Layouts
 pub mod Links
 pub mod Measures
 pub mod Nodes
 pub mod Places
+pub mod RegionTiles
 pub mod Technologies
+pub mod Transistors

@@ -3,6 +3,10 @@
 
 ghost use Rattle.layout_model.specs.Laws.{HasOneNodeList};
 
+mod region_tiles;
+
+pub use region_tiles::RegionTile;
+
 /// The law that a layout has one list of nodes, whatever the technology. It does nothing.
 pub fn node_list_is_unique()
     ensures { HasOneNodeList }

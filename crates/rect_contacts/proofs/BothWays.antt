@@ -13,6 +13,7 @@ use Rattle.geo_core.specs.Covering.{IsProper}
 use Rattle.finite_sets.specs.Lists.{In, Lists}
 use Rattle.finite_sets.specs.Total.{sum_on}
 use Rattle.finite_sets.specs.Range.{pairs_of}
+use Rattle.finite_sets.proofs.Listings.{Lists-iff}
 use Rattle.finite_sets.proofs.Members.{In-map, In-map_source, In-filter, In-filter_source, In-filter_passes, In-index, In-get_or}
 use Rattle.finite_sets.proofs.Distincts.{Distinct-map, Distinct-filter, Distinct-from_places}
 use Rattle.finite_sets.proofs.Sums.{sum_on-append, sum_on-map, sum_on-same, sum_on-add, sum_on-swap, sum_on-filter, sum_on-same_things}
@@ -24,10 +25,9 @@ use Rattle.rect_contacts.specs.EdgeLaws.{ContactsCountBothWays}
 use Rattle.rect_contacts.proofs.Counting.{distributes_right}
 use Rattle.rect_contacts.proofs.Shared.{shared_length-same, shared_length-not_negative, shared_length-comm}
 
--- the places of a list
-pub Lists-places_of : (rects : List Rect) → Lists (λ k. k < length rects) (places_of rects)
-Lists-places_of rects =
-    let n = length rects in
+-- the numbers below n
+pub Lists-below : (n : ℕ) → Lists (λ k. k < n) (range_with_len 0 n)
+Lists-below n =
     let places = range_with_len 0 n in
     let long = length-range_with_len 0 n in (
       Distinct-from_places places (λ i j d less below e.
@@ -42,6 +42,10 @@ Lists-places_of rects =
           let a = get_or-range_with_len 0 n r.0 0 (omega (arith, long, r.1.0)) in
           omega (arith, long, r.1.0, a, r.1.1 0)),
     )
+
+-- the places of a list
+pub Lists-places_of : (rects : List Rect) → Lists (λ k. k < length rects) (places_of rects)
+Lists-places_of rects = Lists-below (length rects)
 
 -- a sum over pairs is a sum over the first of sums over the second
 pub sum_on-nested : {X Y : Type 0} (w : X × Y → ℤ) (xs : List X) (ys : List Y) → sum_on w (pairs_of xs ys) ≡ sum_on (λ x. sum_on (λ y. w (x, y)) ys) xs
@@ -104,34 +108,47 @@ positive_from_test z h = grind (arith, ints)
 none_from_test : (z : ℤ) → pos 0 ≤ℤ z → int_lt (pos 0) z ≡ false → z ≡ pos 0
 none_from_test z h k = grind (arith, ints)
 
-module _ (rects : List Rect) (proper : All IsProper rects) (weight : ℕ → ℕ → ℤ) where
-  abbrev shared_at : ℕ → ℕ → ℤ
-  shared_at i j = shared_length (rect_at rects i) (rect_at rects j)
+-- Two numbers below n share this length, which is not 0. The lesser is named first.
+pub record IsShare (n : ℕ) (shared_at : ℕ → ℕ → ℤ) (contact : Contact) : Type 0 where
+  pub in_order : contact.first < contact.second
+  pub in_list : contact.second < n
+  pub length_is : contact.length ≡ shared_at contact.first contact.second
+  pub not_none : pos 0 <ℤ contact.length
+
+-- What numbers share is shared both ways, is not negative, and none shares anything with itself.
+pub record AreShares (n : ℕ) (shared_at : ℕ → ℕ → ℤ) : Type 0 where
+  pub both : (i j : ℕ) → shared_at i j ≡ shared_at j i
+  pub not_negative : (i j : ℕ) → pos 0 ≤ℤ shared_at i j
+  pub alone : (i : ℕ) → i < n → shared_at i i ≡ pos 0
+
+module _ (n : ℕ) (shared_at : ℕ → ℕ → ℤ) (shares : AreShares n shared_at) (weight : ℕ → ℕ → ℤ) where
+  abbrev places : List ℕ
+  places = range_with_len 0 n
 
   -- what two places count, when they stand in order
   abbrev both_ways : ℕ × ℕ → ℤ
   both_ways p = (weight p.0 p.1 +ℤ weight p.1 p.0) *ℤ shared_at p.0 p.1
 
-  below_end : (k : ℕ) → In k (places_of rects) → k < length rects
-  below_end k i = (Lists-places_of rects).2 k i
+  below_end : (k : ℕ) → In k places → k < n
+  below_end k i = (Lists-below n).2 k i
 
   join : (i j : ℕ) → only_if (nat_lt i j) (weight i j *ℤ shared_at i j) +ℤ only_if (nat_lt i j) (weight j i *ℤ shared_at j i) ≡ only_if (nat_lt i j)
       (both_ways (i, j))
   join i j =
       only_if-add (nat_lt i j) (weight i j *ℤ shared_at i j) (weight j i *ℤ shared_at j i)
-      ∙ ap (only_if (nat_lt i j)) (ap (λ (z : ℤ). (weight i j *ℤ shared_at i j) +ℤ (weight j i *ℤ z)) (shared_length-comm (rect_at rects j) (rect_at rects i))
+      ∙ ap (only_if (nat_lt i j)) (ap (λ (z : ℤ). (weight i j *ℤ shared_at i j) +ℤ (weight j i *ℤ z)) (shares.both j i)
       ∙ distributes_right (weight i j) (weight j i) (shared_at i j))
 
-  split : (i j : ℕ) → i < length rects
+  split : (i j : ℕ) → i < n
       → weight i j *ℤ shared_at i j ≡ only_if (nat_lt i j) (weight i j *ℤ shared_at i j) +ℤ only_if (nat_lt j i) (weight i j *ℤ shared_at i j)
   split i j below = one_order i j (weight i j *ℤ shared_at i j) (λ e.
-      ap (λ (z : ℤ). weight i j *ℤ z) (ap (λ (k : ℕ). shared_at i k) (sym e) ∙ shared_length-same (rect_at rects i) (proper i _ below)) ∙ *ℤ-zero (weight i j))
+      ap (λ (z : ℤ). weight i j *ℤ z) (ap (λ (k : ℕ). shared_at i k) (sym e) ∙ shares.alone i below) ∙ *ℤ-zero (weight i j))
 
   -- the sum over all i and j, as a sum over those in order
-  sum_in_order : sum_on (λ i. sum_on (λ j. weight i j *ℤ shared_at i j) (places_of rects)) (places_of rects)
-      ≡ sum_on (λ i. sum_on (λ j. only_if (nat_lt i j) (both_ways (i, j))) (places_of rects)) (places_of rects)
+  sum_in_order : sum_on (λ i. sum_on (λ j. weight i j *ℤ shared_at i j) places) places
+      ≡ sum_on (λ i. sum_on (λ j. only_if (nat_lt i j) (both_ways (i, j))) places) places
   sum_in_order =
-      let all = places_of rects in
+      let all = places in
       let u : ℕ → ℕ → ℤ = λ i j. only_if (nat_lt i j) (weight i j *ℤ shared_at i j) in
       let v : ℕ → ℕ → ℤ = λ i j. only_if (nat_lt j i) (weight i j *ℤ shared_at i j) in
       sum_on-same (λ i. sum_on (λ j. weight i j *ℤ shared_at i j) all) (λ i. sum_on (u i) all +ℤ sum_on (v i) all) all
@@ -149,10 +166,10 @@ module _ (rects : List Rect) (proper : All IsProper rects) (weight : ℕ → ℕ
 
   only_touching : (i j : ℕ) → only_if (nat_lt i j) (both_ways (i, j)) ≡ only_if (do_touch (i, j)) (both_ways (i, j))
   only_touching i j = only_if-and (nat_lt i j) (int_lt (pos 0) (shared_at i j)) (both_ways (i, j))
-      (λ f. ap (λ (z : ℤ). (weight i j +ℤ weight j i) *ℤ z) (none_from_test (shared_at i j) (shared_length-not_negative (rect_at rects i) (rect_at rects j)) f)
+      (λ f. ap (λ (z : ℤ). (weight i j +ℤ weight j i) *ℤ z) (none_from_test (shared_at i j) (shares.not_negative i j) f)
       ∙ *ℤ-zero (weight i j +ℤ weight j i))
 
-  module _ (contacts : List Contact) (lists : Lists (IsSharedEdge rects) contacts) where
+  module _ (contacts : List Contact) (lists : Lists (IsShare n shared_at) contacts) where
     abbrev places_in : Contact → ℕ × ℕ
     places_in c = (c.first, c.second)
 
@@ -165,11 +182,10 @@ module _ (rects : List Rect) (proper : All IsProper rects) (weight : ℕ → ℕ
         λ k. record { first = (e k).0; second = (e k).1; length = length k }
 
     abbrev pairs : List (ℕ × ℕ)
-    pairs = pairs_of (places_of rects) (places_of rects)
+    pairs = pairs_of places places
 
-    pairs_listed : Lists {X = ℕ × ℕ} (λ p. (p.0 < length rects) × (p.1 < length rects)) pairs
-    pairs_listed = Lists-pairs_of (λ k. k < length rects) (λ k. k < length rects) (places_of rects) (places_of rects) (Lists-places_of rects)
-        (Lists-places_of rects)
+    pairs_listed : Lists {X = ℕ × ℕ} (λ p. (p.0 < n) × (p.1 < n)) pairs
+    pairs_listed = Lists-pairs_of (λ k. k < n) (λ k. k < n) places places (Lists-below n) (Lists-below n)
 
     touching_pairs : (p : ℕ × ℕ) → In p (filter do_touch pairs) → In p (map places_in contacts)
     touching_pairs p i =
@@ -189,14 +205,14 @@ module _ (rects : List Rect) (proper : All IsProper rects) (weight : ℕ → ℕ
         let c = source.0 in
         let is = lists.2 c source.1.0 in
         let order : c.first < c.second = is.in_order in
-        let last : c.second < length rects = is.in_list in
+        let last : c.second < n = is.in_list in
         let long : pos 0 <ℤ shared_at c.first c.second = subst (λ (z : ℤ). pos 0 <ℤ z) is.length_is is.not_none in
         subst (λ (q : ℕ × ℕ). In q (filter do_touch pairs)) source.1.1
         (In-filter do_touch (places_in c) pairs (pairs_listed.1 (places_in c) (omega arith, last))
         (passes_both c.first c.second (shared_at c.first c.second) order long))
 
     sum_over_contacts : sum_on (λ c. (weight c.first c.second +ℤ weight c.second c.first) *ℤ c.length) contacts
-        ≡ sum_on (λ i. sum_on (λ j. only_if (nat_lt i j) (both_ways (i, j))) (places_of rects)) (places_of rects)
+        ≡ sum_on (λ i. sum_on (λ j. only_if (nat_lt i j) (both_ways (i, j))) places) places
     sum_over_contacts =
         sum_on-same (λ c. (weight c.first c.second +ℤ weight c.second c.first) *ℤ c.length) (λ c. both_ways (places_in c)) contacts
         (λ c i. ap (λ (z : ℤ). (weight c.first c.second +ℤ weight c.second c.first) *ℤ z) (lists.2 c i).length_is)
@@ -206,8 +222,26 @@ module _ (rects : List Rect) (proper : All IsProper rects) (weight : ℕ → ℕ
         ∙ sum_on-filter do_touch both_ways pairs
         ∙ sum_on-same {X = ℕ × ℕ} (λ p. cond (do_touch p) (both_ways p) (pos 0)) (λ p. only_if (nat_lt p.0 p.1) (both_ways p)) pairs
         (λ p i. sym (only_touching p.0 p.1))
-        ∙ sum_on-nested (λ p. only_if (nat_lt p.0 p.1) (both_ways p)) (places_of rects) (places_of rects)
+        ∙ sum_on-nested (λ p. only_if (nat_lt p.0 p.1) (both_ways p)) places places
+
+-- each counts for both of its numbers
+pub shares_both_ways : (n : ℕ) (shared_at : ℕ → ℕ → ℤ) (contacts : List Contact) (weight : ℕ → ℕ → ℤ) → AreShares n shared_at
+    → Lists (IsShare n shared_at) contacts
+    → sum_on (λ c. (weight c.first c.second +ℤ weight c.second c.first) *ℤ c.length) contacts
+    ≡ sum_on (λ i. sum_on (λ j. weight i j *ℤ shared_at i j) (range_with_len 0 n)) (range_with_len 0 n)
+shares_both_ways n shared_at contacts weight shares lists =
+    sum_over_contacts n shared_at shares weight contacts lists ∙ sym (sum_in_order n shared_at shares weight)
 
 -- each contact counts for both of its rectangles
 pub contacts_both_ways : ContactsCountBothWays
-contacts_both_ways rects contacts weight proper lists = sum_over_contacts rects proper weight contacts lists ∙ sym (sum_in_order rects proper weight)
+contacts_both_ways rects contacts weight proper lists =
+    let shared_at : ℕ → ℕ → ℤ = λ i j. shared_length (rect_at rects i) (rect_at rects j) in
+    shares_both_ways (length rects) shared_at contacts weight
+    (record {
+      both = λ i j. shared_length-comm (rect_at rects i) (rect_at rects j);
+      not_negative = λ i j. shared_length-not_negative (rect_at rects i) (rect_at rects j);
+      alone = λ i below. shared_length-same (rect_at rects i) (proper i _ below);
+    })
+    (Lists-iff (IsSharedEdge rects) (IsShare (length rects) shared_at) contacts
+    (λ c e. record { in_order = e.in_order; in_list = e.in_list; length_is = e.length_is; not_none = e.not_none })
+    (λ c e. record { in_order = e.in_order; in_list = e.in_list; length_is = e.length_is; not_none = e.not_none }) lists)

@@ -16,7 +16,7 @@ use Rattle.rect_contacts.specs.Squares.{squares_of, edges_between}
 use Rattle.rect_contacts.specs.EdgeLaws.{SquaresAreCovered, AreaCountsSquares, SharedLengthCountsEdges, PerimeterLeadsOut}
 use Rattle.rect_contacts.proofs.Apart.{AreApart, AreApart-sym, apart_from_disjoint}
 use Rattle.rect_contacts.proofs.Counting.{count_moved, sum_on-pairs_of}
-use Rattle.rect_contacts.proofs.Overlaps.{overlap-comm, overlap-before, overlap-after}
+use Rattle.rect_contacts.proofs.Intervals.{overlap-comm, overlap-before, overlap-after}
 use Rattle.rect_contacts.proofs.Shared.{shared_beside-cases, shared_upon-cases}
 
 -- how many edges lead to the right, and how many upward

@@ -1,4 +1,4 @@
-pub mod Overlaps
+pub mod Intervals
 pub mod Apart
 pub mod Sweep
 pub mod Sorting
@@ -8,3 +8,6 @@ pub mod Counting
 pub mod Leading
 pub mod Opening
 pub mod BothWays
+pub mod EventOrder
+pub mod RowLaws
+pub mod CommonSweep

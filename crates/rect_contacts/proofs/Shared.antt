@@ -7,7 +7,7 @@ use Rattle.std.proofs.lemmas.Int.{ints}
 use Rattle.geo_core.specs.declared.squares.Rect.{Rect}
 use Rattle.geo_core.specs.Covering.{IsProper}
 use Rattle.rect_contacts.specs.Contacts.{overlap, shared_beside, shared_upon, shared_length}
-use Rattle.rect_contacts.proofs.Overlaps.{overlap-not_negative, overlap-from_before_to, overlap-to_after_from}
+use Rattle.rect_contacts.proofs.Intervals.{overlap-not_negative, overlap-from_before_to, overlap-to_after_from}
 
 -- a choice by whether two integers are equal
 chosen : (m n v : ℤ) → ((m ≡ n) × (cond (int_eq m n) v (pos 0) ≡ v)) ⊎ ((m ≢ n) × (cond (int_eq m n) v (pos 0) ≡ pos 0))

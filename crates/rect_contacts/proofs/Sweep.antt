@@ -13,7 +13,7 @@ use Rattle.rect_contacts.specs.declared.contacts.Contact.{Contact}
 use Rattle.rect_contacts.specs.declared.sides.Side.{Side}
 use Rattle.rect_contacts.specs.Contacts.{overlap}
 use Rattle.rect_contacts.specs.Sides.{EndsBefore, ReachesNoFarther, AreOpposite, Meet, contact_of, IsMeeting, AddsContact}
-use Rattle.rect_contacts.proofs.Overlaps.{overlap-before, overlap-comm}
+use Rattle.rect_contacts.proofs.Intervals.{overlap-before, overlap-comm}
 
 -- The contacts are those of sides of the two lists that meet, each once, but for sides that are both among what is left of their lists.
 pub record Swept (lowers uppers lowers_left uppers_left : List Side) (contacts : List Contact) : Type 0 where

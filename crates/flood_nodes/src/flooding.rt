@@ -1,0 +1,74 @@
+//! The regions of a layout: classes of tiles that chains of links join.
+ghost use Rattle.std.specs.Prelude.{◌≡◌, length, IfOk};
+ghost use Rattle.geo_core.specs.Areas.{IsNear};
+ghost use Rattle.geo_core.specs.Covering.{IsProper};
+ghost use Rattle.tech_model.specs.Types.{connects};
+ghost use Rattle.layout_model.specs.LayerTypes.{AreTypesOf, seen_in};
+ghost use Rattle.layout_model.specs.RegionTiles.{AreRegions};
+ghost use Rattle.flood_nodes.specs.Renumbered.{AreRenumbered};
+
+use crate::faults::FloodFault;
+use crate::found::Regions;
+use crate::gathering::{Gathered, gather};
+use crate::linking::links;
+use geo_core::{List, Rect};
+use layout_model::RegionTile;
+use partition::{Labelling, classes};
+use std::alloc::{AllocError, Global};
+use tech_model::{Layers, Tech};
+
+/// The tiles with these numbers.
+fn renumbered(
+    alloc: Global,
+    tiles: &[RegionTile],
+    labels: &[usize],
+) -> Result<Vec<RegionTile>, AllocError>
+    requires { length labels.now ≡ length tiles.now }
+    ensures { IfOk result (λ numbered. AreRenumbered tiles.now labels.now numbered.items) }
+{
+    let mut numbered = Vec::with_capacity(alloc, tiles.len())?;
+    for (place, tile) in tiles.iter().enumerate() {
+        let RegionTile {
+            plane,
+            area,
+            kind,
+            region: _,
+        } = *tile;
+        numbered.push(RegionTile {
+            plane,
+            area,
+            kind,
+            region: labels[place],
+        })?;
+    }
+    Ok(numbered)
+}
+
+/// The regions of what is seen of layers in an area: two places have one number exactly where a chain of links joins
+/// them. Links join edge neighbours of one plane whose types connect, and places of one square on two planes whose
+/// types connect.
+///
+/// The area has a square and bounds below 2^28 in absolute value, and each type of the layers is the technology's and
+/// of its plane. Want of memory alone refuses. It takes time for a sort of the tiles of each plane, for each edge that
+/// two share, and for each square of contacts that two planes have in common.
+pub fn regions<Y: Layers>(
+    alloc: Global,
+    tech: &Tech,
+    layers: &Y,
+    area: Rect,
+) -> Result<Regions, FloodFault>
+    requires proper { IsProper area }
+    requires near { IsNear area }
+    requires types { AreTypesOf tech.now (Y.kind layers.now) }
+    ensures { IfOk result (λ found. AreRegions (connects tech.now) (seen_in area (Y.kind layers.now)) found.tiles found.count) }
+{
+    let Gathered { tiles, contacts } = gather(alloc, tech, layers, area)?;
+    let links = links(alloc, tech, tiles.as_slice(), contacts.as_slice())?;
+    let Labelling { labels, count } = classes(alloc, tiles.len(), links.as_slice())?;
+    let numbered = renumbered(alloc, tiles.as_slice(), labels.as_slice())?;
+    Ok(Regions {
+        tiles: List::of(numbered),
+        count,
+        contacts: List::of(contacts),
+    })
+}

@@ -1,0 +1,3 @@
+pub mod RectSizes
+pub mod AmountLaws
+pub mod MeasureLaws

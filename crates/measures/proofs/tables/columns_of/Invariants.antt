@@ -1,0 +1,6 @@
+use Rattle.std.proofs.Common.{take}
+use Rattle.measures.specs.Columns.{AreColumns}
+use Rattle.measures.proofs.tables.columns_of.Given as goal
+
+abbrev pub invariant-loop-class : goal.invariant-loop-class
+invariant-loop-class l = AreColumns (take l.class-index l.classes) l.tiles l.contacts l.count l.columns.items

@@ -1,0 +1,9 @@
+//! Areas and perimeters of regions, by class.
+#![tactic(auto)]
+
+mod columns;
+mod sizes;
+mod tables;
+
+pub use sizes::{area_of, perimeter_of};
+pub use tables::{MeasureRow, Measures, measure};

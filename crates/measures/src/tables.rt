@@ -1,0 +1,89 @@
+//! The measures of all regions in all classes.
+ghost use Rattle.std.specs.Prelude.{◌≡◌, ◌<◌, All, length, map, IfOk};
+ghost use Rattle.finite_sets.specs.Lists.{Lists};
+ghost use Rattle.tech_model.specs.Types.{connects};
+ghost use Rattle.layout_model.specs.Layouts.{Layout as OneLayout};
+ghost use Rattle.layout_model.specs.RegionTiles.{AreRegions, AreMeasured};
+ghost use Rattle.layout_model.specs.Technologies.{class_of};
+ghost use Rattle.flood_nodes.specs.SoundTiles.{IsSoundTile};
+ghost use Rattle.flood_nodes.specs.TileShares.{IsTileContact};
+ghost use Rattle.measures.specs.Columns.{AreColumns, pairs_at};
+
+use crate::columns::{Column, measured_in};
+use flood_nodes::Regions;
+use geo_core::List;
+use layout_model::RegionTile;
+use rect_contacts::Contact;
+use std::alloc::{AllocError, Global};
+use tech_model::{ClassRec, Tech};
+
+/// The measures of a region: an area and a perimeter for each class, in the order of the technology's classes.
+#[derive(Debug, Drop)]
+pub struct MeasureRow {
+    pub pairs: List<(i128, i128)>,
+}
+
+/// A row for each region, in their order.
+#[derive(Debug, Drop)]
+pub struct Measures {
+    pub rows: List<MeasureRow>,
+}
+
+/// The measures in each class.
+fn columns_of(
+    alloc: Global,
+    classes: &[ClassRec],
+    tiles: &[RegionTile],
+    contacts: &[Contact],
+    count: usize,
+) -> Result<Vec<Column>, AllocError>
+    requires sound { All (IsSoundTile count) tiles.now }
+    requires contacts { Lists (IsTileContact tiles.now) contacts.now }
+    ensures { IfOk result (λ columns. AreColumns classes.now tiles.now contacts.now count columns.items) }
+{
+    let mut columns = Vec::with_capacity(alloc, classes.len())?;
+    for class in classes {
+        columns.push(measured_in(alloc, tiles, contacts, count, class)?)?;
+    }
+    Ok(columns)
+}
+
+/// The measures of a region.
+fn row_at(alloc: Global, columns: &[Column], region: usize) -> Result<Vec<(i128, i128)>, AllocError>
+    requires areas { All (λ column. region < length column.areas.items) columns.now }
+    requires perimeters { All (λ column. region < length column.perimeters.items) columns.now }
+    ensures { IfOk result (λ row. row.items ≡ pairs_at region columns.now) }
+{
+    let mut row = Vec::with_capacity(alloc, columns.len())?;
+    for column in columns {
+        row.push((column.areas[region], column.perimeters[region]))?;
+    }
+    Ok(row)
+}
+
+/// The areas and perimeters of regions, by class, in lambda: how many squares of the region are of the class, and how many
+/// edges lead from these to squares of the plane that are not. Want of memory alone refuses. For each class it takes a step
+/// for each tile and for each edge that two share.
+pub fn measure(alloc: Global, tech: &Tech, regions: &Regions) -> Result<Measures, AllocError>
+    ensures { IfOk result (λ made. (layout : OneLayout) → AreRegions (connects tech.now) layout regions.now.tiles regions.now.count
+        → AreMeasured (map class_of tech.now.classes) layout regions.now.tiles regions.now.count (map (λ row. row.pairs) made.rows)) }
+{
+    let classes = tech.raw().classes.items();
+    let columns = columns_of(
+        alloc,
+        classes,
+        regions.tiles.items(),
+        regions.contacts(),
+        regions.count,
+    )?;
+    let mut rows = Vec::with_capacity(alloc, regions.count)?;
+    for region in 0..regions.count {
+        let row = row_at(alloc, columns.as_slice(), region)?;
+        rows.push(MeasureRow {
+            pairs: List::of(row),
+        })?;
+    }
+    Ok(Measures {
+        rows: List::of(rows),
+    })
+}
