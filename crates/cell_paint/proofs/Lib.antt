@@ -1,5 +1,6 @@
-pub mod ChangeCodes
-pub mod ChangeStrips
+pub mod AgainLaws
+pub mod AreaLaws
+pub mod ChangeLaws
 pub mod ColumnsLaws
 pub mod PaintLaws
 pub mod PaintTiles

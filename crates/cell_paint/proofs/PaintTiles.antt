@@ -1,5 +1,5 @@
 -- Planes of a cell's paint: what is read of one, and its tiles with their types.
-use Rattle.std.proofs.Common.{◌≡◌, ℕ, ◌<◌, List, length, get_or, map, sym, ◌∙◌, ap, subst, arith, Some}
+use Rattle.std.proofs.Common.{◌≡◌, ℕ, ◌<◌, ◌≤◌, List, [], length, get_or, map, sym, ◌∙◌, ap, subst, arith, Some}
 use Rattle.std.proofs.lemmas.List.{get_or_default, get_or-map, length-map}
 use Rattle.finite_sets.proofs.Members.{In-map, In-map_source}
 use Rattle.geo_core.specs.declared.squares.Square.{Square}
@@ -12,6 +12,7 @@ use Rattle.tech_model.specs.declared.raw.TypeId.{TypeId}
 use Rattle.tech_model.specs.LayerTiles.{IsTileOf, AreTilesOf}
 use Rattle.cell_paint.specs.Painting.{kinds_on}
 use Rattle.cell_paint.specs.Paints.{PlaneValue, Paint, number_on, no_plane, layout_of, seen_kind}
+use Rattle.cell_paint.proofs.PlaneLaws.{space_past}
 
 -- a plane that was read shows what the paint has on it
 pub plane_seen : (paint : Paint) (planes : List PlaneValue) (index plane : ℕ) (read : PlaneValue) → planes ≡ paint.planes → index ≡ plane
@@ -55,3 +56,13 @@ typed_tiles paint plane area tiles are =
           let found = are.whole square covers (λ space. some (sym value ∙ space)) in
           (with_type found.0, (In-map with_type found.0 tiles found.1, found.2));
     }
+
+-- past the last plane there are none
+pub no_tiles : (paint : Paint) (plane : ℕ) (area : Rect) → length paint.planes ≤ plane → AreTilesOf (seen_kind paint plane) area []
+no_tiles paint plane area past = record {
+  each = λ tile none. absurd none;
+  apart = λ i j d less below. absurd (omega arith);
+  every = λ square t covers is some.
+      let value : kinds_on (layout_of paint) plane square ≡ t = cc in
+      absurd (some (sym value ∙ space_past paint.planes plane square past));
+}

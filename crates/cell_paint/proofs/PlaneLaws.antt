@@ -1,11 +1,11 @@
 -- Lists of planes: setting one plane, setting pieces plane after plane, and the box of all planes.
-use Rattle.std.proofs.Common.{◌≡◌, ◌≢◌, inl, inr, ℕ, ◌+◌, ◌<◌, ◌≤◌, List, length, get_or, set, sym, ◌∙◌}
+use Rattle.std.proofs.Common.{◌≡◌, ◌≢◌, inl, inr, ℕ, ◌+◌, ◌<◌, ◌≤◌, List, [], ◌∷◌, ◌++◌, length, length-append, get_or, set, sym, ◌∙◌}
 use Rattle.std.proofs.Common.{ap, subst, arith, Option, Some, None, get_or-set_same, get_or-set_other}
 use Rattle.std.proofs.Math.ListN.{length-set}
 use Rattle.std.specs.Prelude.{MatchOption, slice_index_or, Vec}
 use Rattle.std.specs.declared.alloc.Global.{Global}
 use Rattle.std.proofs.lemmas.Bool.{cases_eq, cases_lt}
-use Rattle.std.proofs.lemmas.List.{get_or_default, get_or_past}
+use Rattle.std.proofs.lemmas.List.{get_or_default, get_or_past, get_or_push, get_or_append_left}
 use Rattle.geo_core.specs.declared.squares.Square.{Square}
 use Rattle.geo_core.specs.declared.squares.Rect.{Rect}
 use Rattle.geo_core.specs.declared.squares.Piece.{Piece}
@@ -13,6 +13,7 @@ use Rattle.geo_core.specs.Areas.{LiesWithin, joined_rect}
 use Rattle.geo_core.specs.Covering.{Covers}
 use Rattle.geo_core.specs.Planes.{AreSame, AreSet, IsBox}
 use Rattle.geo_core.proofs.CoveringLaws.{covers_joined_left, covers_joined_right, joined_within}
+use Rattle.tile_plane.proofs.ContentsLaws.{no_contents_is_space}
 use Rattle.layout_model.specs.Places.{Place}
 use Rattle.layout_model.specs.Layouts.{IsMaterial}
 use Rattle.cell_paint.specs.Painting.{place_at}
@@ -25,7 +26,20 @@ plane_at planes plane = slice_index_or planes plane no_plane
 
 -- past the last plane all is space
 pub space_past : (planes : List PlaneValue) (plane : ℕ) (square : Square) → length planes ≤ plane → number_on (plane_at planes plane) square ≡ 0
-space_past planes plane square past = ap (λ (p : PlaneValue). number_on p square) (get_or_past planes plane no_plane past)
+space_past planes plane square past = ap (λ (p : PlaneValue). number_on p square) (get_or_past planes plane no_plane past) ∙ no_contents_is_space square
+
+-- one more plane without paint
+pub empty_more : (planes : List PlaneValue) (new : PlaneValue) → ((place : Place) → layout_on planes place ≡ 0) → ((square : Square) → number_on new square ≡ 0)
+    → (place : Place) → layout_on (planes ++ new ∷ []) place ≡ 0
+empty_more planes new empty space place = elim (cases_lt place.plane (length planes)) [
+  | inl below ↦
+      ap (λ (p : PlaneValue). number_on p place.square) (get_or_append_left planes (new ∷ []) no_plane place.plane below) ∙ empty place
+  | inr above ↦ elim (cases_eq place.plane (length planes)) [
+    | inl last ↦
+        ap (λ (p : PlaneValue). number_on p place.square) (get_or_push planes new no_plane place.plane (sym last)) ∙ space place.square
+    | inr past ↦ space_past (planes ++ new ∷ []) place.plane place.square (omega (arith, length-append planes (new ∷ [])))
+  ]
+]
 
 -- the list with one plane set has it there
 pub set_here : (planes : List PlaneValue) (index : ℕ) (new : PlaneValue) → index < length planes → plane_at (set planes index new) index ≡ new

@@ -1,14 +1,16 @@
 -- What a cell's paint is seen as, and what holds of it.
-use Rattle.std.specs.Prelude.{◌≡◌, ◌<◌, ◌≤◌, ℕ, IsTrue, List, [], length, slice_index_or, Option, Some}
+use Rattle.std.specs.Prelude.{◌≡◌, ◌<◌, ◌≤◌, ℕ, IsTrue, List, length, slice_index_or, Option, Some, refl}
+use Rattle.std.specs.Coded.{Coded, code_by, coded×, coded_list}
 use Rattle.geo_core.specs.declared.squares.Square.{Square}
 use Rattle.geo_core.specs.declared.squares.Rect.{Rect}
 use Rattle.geo_core.specs.declared.squares.Piece.{Piece}
 use Rattle.geo_core.specs.Areas.{LiesWithin}
 use Rattle.geo_core.specs.Covering.{Covers}
-use Rattle.run_plane.specs.Contents.{Contents, number_in, IsReady}
+use Rattle.tile_plane.specs.Contents.{Contents, contents_code, no_contents, value_in, IsReady}
 use Rattle.tech_model.specs.declared.limits.TheConstants.{MOST_PLANES}
 use Rattle.tech_model.specs.declared.raw.RawTech.{RawTech}
 use Rattle.tech_model.specs.declared.raw.TypeRec.{TypeRec}
+use Rattle.tech_model.specs.contracts.raw.TypeRec.{the_row as type_row}
 use Rattle.tech_model.specs.Types.{is_type, plane_of}
 use Rattle.tech_model.specs.ColumnForms.{IsColumn, HasWholeContacts}
 use Rattle.layout_model.specs.Places.{Place}
@@ -21,7 +23,7 @@ PlaneValue = Contents
 
 -- the number at a square
 abbrev pub number_on : PlaneValue → Square → ℕ
-number_on = number_in
+number_on = value_in
 
 -- A plane is ready for pieces.
 abbrev pub IsReadyFor : PlaneValue → List Piece → Type 0
@@ -29,12 +31,18 @@ IsReadyFor = IsReady
 
 -- a plane without paint
 abbrev pub no_plane : PlaneValue
-no_plane = record { rows = []; next = [] }
+no_plane = no_contents
 
 -- the paint of a cell: the tile types of its technology, and its planes
 pub record Paint : Type 0 where
   pub kinds : List TypeRec
   pub planes : List PlaneValue
+
+-- a paint is stored as the pair of its fields
+abbrev pub paint_code : Coded Paint
+paint_code =
+    code_by (List TypeRec × List PlaneValue) (coded× (coded_list type_row.coded) (coded_list contents_code)) (λ p. (p.kinds, p.planes))
+    (λ p. record { kinds = p.0; planes = p.1 }) (λ _. refl)
 
 -- the layout on these planes, with space past the last
 abbrev pub layout_on : List PlaneValue → Layout

@@ -13,7 +13,7 @@ pub enum PaintFault {
     /// A coordinate of the area is more than `PAINT_EDGE` in absolute value.
     #[error("out of range")]
     OutOfRange,
-    /// A plane would need more tiles than there may be.
+    /// A plane has no room for its tiles. The planes of today run out of memory before, so no call answers it.
     #[error("too many tiles")]
     TooManyTiles,
     /// There was not enough memory.

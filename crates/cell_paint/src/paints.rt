@@ -1,26 +1,28 @@
 //! The paint of a cell.
-ghost use Rattle.std.specs.Prelude.{◌≡◌, ◌≢◌, ◌<◌, ◌↔◌, ◌&&◌, false, true, length, IfOk, IfSome, IsNone, OnOk};
-ghost use Rattle.std.specs.Prelude.{OnErr, IsErrOf, IsOkUnless, Some, map, All, vec_len, [], ◌∷◌, ◌++◌};
+ghost use Rattle.std.specs.Prelude.{◌≡◌, ◌≢◌, ◌⊎◌, ◌<◌, ◌↔◌, ◌&&◌, false, true, length, IfOk, IfErr, IfSome, IsNone, OnOk};
+ghost use Rattle.std.specs.Prelude.{OnErr, IsErrOf, IsOkUnless, Some, None, map, All, AllPairs, vec_len, [], ◌∷◌, ◌++◌};
 ghost use Rattle.geo_core.specs.declared.squares.Square.{Square as OneSquare};
-ghost use Rattle.geo_core.specs.Areas.{has_square, IsNear};
-ghost use Rattle.geo_core.specs.Covering.{IsProper};
+ghost use Rattle.geo_core.specs.Areas.{AreDisjoint, has_square, IsNear};
+ghost use Rattle.geo_core.specs.Covering.{is_covered, IsProper};
 ghost use Rattle.geo_core.specs.Planes.{HasValue, AreTilesIn};
-ghost use Rattle.geo_core.specs.Strips.{IsStrips};
+ghost use Rattle.geo_core.specs.Strips.{IsInUnion, IsStrips};
 ghost use Rattle.tech_model.specs.LayerTiles.{AreTilesOf};
 ghost use Rattle.layout_model.specs.Places.{Place};
 ghost use Rattle.cell_paint.specs.Changes.{brushed};
-ghost use Rattle.cell_paint.specs.Painting.{kinds_on, with_columns, with_paint, with_erased, is_coordinate, is_in_range, PassesPaintLimit};
-ghost use Rattle.cell_paint.specs.Paints.{layout_of, layout_on, IsPaintBox, IsSoundPaint, AreCellPlanes};
+ghost use Rattle.cell_paint.specs.Painting.{kinds_on, with_columns_where, is_in_some, with_paint, with_all_painted, with_erased};
+ghost use Rattle.cell_paint.specs.Painting.{is_coordinate, is_in_range, area_fault, first_area_fault};
+ghost use Rattle.cell_paint.specs.Paints.{layout_of, layout_on, number_on, KeepsTypes, IsPaintBox, IsSoundPaint, AreCellPlanes};
 ghost use Rattle.cell_paint.specs.Settings.{AreAllChanges};
 
 use crate::brushes::{Brush, Stroke};
 use crate::changes::changes_on;
 use crate::faults::PaintFault;
 use crate::planes::{PaintPlane, box_of, commit_all, kind_at, reserve_all};
-use geo_core::{List, PAINT_EDGE, Piece, Plane, Rect, Square};
+use geo_core::{List, PAINT_EDGE, Piece, Plane, Rect, Square, strips};
 use std::alloc::{AllocError, Global};
 use std::marker::Model;
 use tech_model::{LayerId, Layers, Tech, TechFault, TypeId, TypeRec};
+use tile_plane::TilePlane;
 
 /// All squares that may have paint.
 pub const PAINT_RANGE: Rect = Rect {
@@ -43,9 +45,11 @@ pub struct CellPaint {
 }
 
 impl Model for CellPaint {
-    ghost use Rattle.cell_paint.specs.Paints.{Paint, AreCellPlanes};
+    ghost use Rattle.cell_paint.specs.Paints.{Paint, paint_code, AreCellPlanes};
 
     ghost Value = { Paint };
+
+    ghost coded = { paint_code };
 
     ghost view = { λ paint. record { kinds = paint.kinds; planes = paint.planes.items } };
 
@@ -73,8 +77,7 @@ impl CellPaint {
     /// Paints the layer over the area: on each plane of the layer a square gets the type with the parts of what stood
     /// there and of the layer's image, where there is one, and else the image.
     ///
-    /// An area without a square is refused, then one that goes past the range, then a change for which a plane would
-    /// need too many tiles. A refusal changes nothing.
+    /// An area without a square is refused, and then one that goes past the range. A refusal changes nothing.
     pub fn paint(&mut self, tech: &Tech, layer: LayerId, area: Rect) -> Result<(), PaintFault>
         requires kinds { self.old.kinds ≡ tech.now.types }
         requires layer { layer.0 < length tech.now.layers }
@@ -84,15 +87,42 @@ impl CellPaint {
         ensures planes { length self.new.planes ≡ length self.old.planes }
         ensures empty { IsErrOf result PaintFault.EmptyRect ↔ (has_square area ≡ false) }
         ensures range { IsErrOf result PaintFault.OutOfRange ↔ ((has_square area ≡ true) × (is_in_range area ≡ false)) }
-        ensures tiles { IsErrOf result PaintFault.TooManyTiles →
-            PassesPaintLimit (layout_of self.old) (with_paint tech.now layer.0 area (layout_of self.old)) }
+        ensures never { IsErrOf result PaintFault.TooManyTiles → ⊥ }
     {
         let stroke = Stroke {
             tech,
             brush: Brush::Paint,
             layer,
         };
-        self.change(&stroke, area)
+        self.change_one(&stroke, area)
+    }
+
+    /// Paints the layer over each of the areas in order, and takes the time of one paint of what they cover.
+    ///
+    /// It is refused for the first of the areas for which `paint` would be. A refusal changes nothing.
+    pub fn paint_all(
+        &mut self,
+        tech: &Tech,
+        layer: LayerId,
+        areas: &[Rect],
+    ) -> Result<(), PaintFault>
+        requires kinds { self.old.kinds ≡ tech.now.types }
+        requires layer { layer.0 < length tech.now.layers }
+        ensures painted { OnOk result ((place : Place) → layout_of self.new place ≡ with_all_painted tech.now layer.0 areas.now (layout_of self.old) place) }
+        ensures refused { OnErr result ((place : Place) → layout_of self.new place ≡ layout_of self.old place) }
+        ensures kinds { self.new.kinds ≡ self.old.kinds }
+        ensures planes { length self.new.planes ≡ length self.old.planes }
+        ensures fits { OnOk result (first_area_fault areas.now ≡ None) }
+        ensures fault { IfErr result (λ fault. (first_area_fault areas.now ≡ Some fault) ⊎ ((first_area_fault areas.now ≡ None) × (fault ≡ PaintFault.Memory))) }
+    {
+        // The proof takes from this call that the technology keeps the rules.
+        let _ = tech.raw();
+        let stroke = Stroke {
+            tech,
+            brush: Brush::Paint,
+            layer,
+        };
+        self.change(&stroke, areas)
     }
 
     /// Erases the layer from the area: on each plane of the layer the parts of its image are taken away where all of
@@ -108,33 +138,48 @@ impl CellPaint {
         ensures planes { length self.new.planes ≡ length self.old.planes }
         ensures empty { IsErrOf result PaintFault.EmptyRect ↔ (has_square area ≡ false) }
         ensures range { IsErrOf result PaintFault.OutOfRange ↔ ((has_square area ≡ true) × (is_in_range area ≡ false)) }
-        ensures tiles { IsErrOf result PaintFault.TooManyTiles →
-            PassesPaintLimit (layout_of self.old) (with_erased tech.now layer.0 area (layout_of self.old)) }
+        ensures never { IsErrOf result PaintFault.TooManyTiles → ⊥ }
     {
         let stroke = Stroke {
             tech,
             brush: Brush::Erase,
             layer,
         };
-        self.change(&stroke, area)
+        self.change_one(&stroke, area)
     }
 
     // What `paint` and `erase` do.
-    fn change(&mut self, stroke: &Stroke, area: Rect) -> Result<(), PaintFault>
+    fn change_one(&mut self, stroke: &Stroke, area: Rect) -> Result<(), PaintFault>
         requires kinds { self.old.kinds ≡ stroke.now.tech.now.types }
         requires layer { stroke.now.layer.0 < length stroke.now.tech.now.layers }
         ensures changed { OnOk result ((place : Place) → layout_of self.new place
-            ≡ with_columns (brushed stroke.now.brush stroke.now.tech.now stroke.now.layer.0) area (layout_of self.old) place) }
+            ≡ with_columns_where (brushed stroke.now.brush stroke.now.tech.now stroke.now.layer.0) (is_covered area) (layout_of self.old) place) }
         ensures refused { OnErr result ((place : Place) → layout_of self.new place ≡ layout_of self.old place) }
         ensures kinds { self.new.kinds ≡ self.old.kinds }
         ensures planes { length self.new.planes ≡ length self.old.planes }
         ensures empty { IsErrOf result PaintFault.EmptyRect ↔ (has_square area ≡ false) }
         ensures range { IsErrOf result PaintFault.OutOfRange ↔ ((has_square area ≡ true) × (is_in_range area ≡ false)) }
-        ensures tiles { IsErrOf result PaintFault.TooManyTiles →
-            PassesPaintLimit (layout_of self.old) (with_columns (brushed stroke.now.brush stroke.now.tech.now stroke.now.layer.0) area (layout_of self.old)) }
+        ensures never { IsErrOf result PaintFault.TooManyTiles → ⊥ }
     {
-        check_area(&area)?;
-        change_planes(self.alloc, stroke, self.planes.as_mut_slice(), area)
+        self.change(stroke, &[area])
+    }
+
+    // Changes the paint as the stroke goes over the areas.
+    fn change(&mut self, stroke: &Stroke, areas: &[Rect]) -> Result<(), PaintFault>
+        requires kinds { self.old.kinds ≡ stroke.now.tech.now.types }
+        requires layer { stroke.now.layer.0 < length stroke.now.tech.now.layers }
+        ensures changed { OnOk result ((place : Place) → layout_of self.new place
+            ≡ with_columns_where (brushed stroke.now.brush stroke.now.tech.now stroke.now.layer.0) (is_in_some areas.now) (layout_of self.old) place) }
+        ensures refused { OnErr result ((place : Place) → layout_of self.new place ≡ layout_of self.old place) }
+        ensures kinds { self.new.kinds ≡ self.old.kinds }
+        ensures planes { length self.new.planes ≡ length self.old.planes }
+        ensures fits { OnOk result (first_area_fault areas.now ≡ None) }
+        ensures fault { IfErr result (λ fault. (first_area_fault areas.now ≡ Some fault) ⊎ ((first_area_fault areas.now ≡ None) × (fault ≡ PaintFault.Memory))) }
+        ensures sound { KeepsTypes self.old.kinds (layout_of self.old) }
+    {
+        let planes = self.planes.as_mut_slice();
+        check_areas(areas)?;
+        change_planes(self.alloc, stroke, planes, areas)
     }
 
     /// The strips of every type of the plane that meet the area, each cut to it, by the `ylo` and then the `xlo` of the
@@ -161,6 +206,14 @@ impl CellPaint {
     {
         let strips = self.planes[usize::from(plane)].strips(kind.0)?;
         Ok(strips)
+    }
+
+    /// The plane that is kept: its value at each square is the number of the type there. It takes no memory.
+    pub fn stitched(&self, plane: u8) -> &TilePlane
+        requires { plane < length self.now.planes }
+        ensures { (square : OneSquare) → number_on result.now square ≡ kinds_on (layout_of self.now) plane square }
+    {
+        &self.planes[usize::from(plane)]
     }
 
     /// The smallest rectangle that holds all paint. It takes no memory.
@@ -199,42 +252,65 @@ impl Layers for CellPaint {
 }
 
 // So many planes without paint.
-fn empty_planes(alloc: Global, count: usize) -> Result<Vec<PaintPlane>, AllocError>
+fn empty_planes(alloc: Global, count: usize) -> Result<Vec<PaintPlane>, PaintFault>
     ensures count { IfOk result (λ planes. vec_len planes ≡ count) }
     ensures empty { IfOk result (λ planes. (place : Place) → layout_on planes.items place ≡ 0) }
+    ensures memory { IsOkUnless result PaintFault.Memory }
 {
     let mut planes = Vec::with_capacity(alloc, count)?;
     for _ in 0..count {
-        planes.push(PaintPlane::new(alloc))?;
+        let plane = PaintPlane::new(alloc)?;
+        add_plane(&mut planes, plane)?;
     }
     Ok(planes)
 }
 
-// Changes the planes as the stroke goes over the area, which paint may.
+// Adds the next plane.
+fn add_plane(planes: &mut Vec<PaintPlane>, plane: PaintPlane) -> Result<(), AllocError>
+    ensures { OnOk result (planes.new.items ≡ planes.old.items ++ plane ∷ []) }
+{
+    planes.push(plane)?;
+    Ok(())
+}
+
+// Changes the planes as the stroke goes over areas, which paint may.
 fn change_planes(
     alloc: Global,
     stroke: &Stroke,
     planes: &mut [PaintPlane],
-    area: Rect,
+    areas: &[Rect],
 ) -> Result<(), PaintFault>
     requires layer { stroke.now.layer.0 < length stroke.now.tech.now.layers }
     requires whole { AreCellPlanes stroke.now.tech.now.types planes.old }
-    requires proper { has_square area ≡ true }
-    requires range { is_in_range area ≡ true }
+    requires fits { first_area_fault areas.now ≡ None }
     ensures changed { OnOk result ((place : Place) → layout_on planes.new place
-        ≡ with_columns (brushed stroke.now.brush stroke.now.tech.now stroke.now.layer.0) area (layout_on planes.old) place) }
+        ≡ with_columns_where (brushed stroke.now.brush stroke.now.tech.now stroke.now.layer.0) (is_in_some areas.now) (layout_on planes.old) place) }
     ensures refused { OnErr result ((place : Place) → layout_on planes.new place ≡ layout_on planes.old place) }
     ensures whole { AreCellPlanes stroke.now.tech.now.types planes.new }
-    ensures tiles { IsErrOf result PaintFault.TooManyTiles →
-        PassesPaintLimit (layout_on planes.old) (with_columns (brushed stroke.now.brush stroke.now.tech.now stroke.now.layer.0) area (layout_on planes.old)) }
-    ensures never { (IsErrOf result PaintFault.EmptyRect → ⊥) × (IsErrOf result PaintFault.OutOfRange → ⊥) }
+    ensures memory { IsOkUnless result PaintFault.Memory }
 {
     // The contract of this call says that the lists of the technology fit together.
     let _ = stroke.tech.raw();
-    let changes = all_changes(alloc, stroke, planes, area)?;
+    let apart = strips_of(alloc, areas)?;
+    let changes = all_changes(alloc, stroke, planes, apart.as_slice())?;
     reserve_all(planes, changes.as_slice())?;
     commit_all(planes, changes.as_slice());
     Ok(())
+}
+
+// The strips of what the areas cover, which paint may go over.
+fn strips_of(alloc: Global, areas: &[Rect]) -> Result<Vec<Rect>, PaintFault>
+    requires fits { first_area_fault areas.now ≡ None }
+    ensures proper { IfOk result (λ found. All IsProper found.items) }
+    ensures near { IfOk result (λ found. All IsNear found.items) }
+    ensures apart { IfOk result (λ found. AllPairs AreDisjoint found.items) }
+    ensures same { IfOk result (λ found. (square : OneSquare) → is_in_some found.items square ≡ is_in_some areas.now square) }
+    ensures memory { IsOkUnless result PaintFault.Memory }
+{
+    let Ok(found) = strips(alloc, areas) else {
+        return Err(PaintFault::Memory);
+    };
+    Ok(found)
 }
 
 // The changes of each plane.
@@ -242,22 +318,23 @@ fn all_changes(
     alloc: Global,
     stroke: &Stroke,
     planes: &[PaintPlane],
-    area: Rect,
+    areas: &[Rect],
 ) -> Result<Vec<Vec<Piece>>, PaintFault>
     requires layer { stroke.now.layer.0 < length stroke.now.tech.now.layers }
     requires whole { AreCellPlanes stroke.now.tech.now.types planes.now }
-    requires proper { IsProper area }
-    requires near { IsNear area }
+    requires proper { All IsProper areas.now }
+    requires near { All IsNear areas.now }
+    requires apart { AllPairs AreDisjoint areas.now }
     ensures one_each { IfOk result (λ changes. vec_len changes ≡ length planes.now) }
     ensures changes { IfOk result (λ changes. AreAllChanges (layout_on planes.now)
-        (with_columns (brushed stroke.now.brush stroke.now.tech.now stroke.now.layer.0) area (layout_on planes.now)) changes.items) }
+        (with_columns_where (brushed stroke.now.brush stroke.now.tech.now stroke.now.layer.0) (is_in_some areas.now) (layout_on planes.now)) changes.items) }
     ensures memory { IsOkUnless result PaintFault.Memory }
 {
     let mut changes = Vec::with_capacity(alloc, planes.len())?;
     for plane in 0..planes.len() {
         add_changes(
             &mut changes,
-            changes_on(alloc, stroke, planes, plane, area)?,
+            changes_on(alloc, stroke, planes, plane, areas)?,
         )?;
     }
     Ok(changes)
@@ -281,20 +358,30 @@ fn with_types(alloc: Global, tiles: &[Piece]) -> Result<Vec<(Rect, TypeId)>, All
         .collect(alloc)
 }
 
-// Whether paint may go over the area.
-fn check_area(area: &Rect) -> Result<(), PaintFault>
-    ensures empty { IsErrOf result PaintFault.EmptyRect ↔ (has_square area.now ≡ false) }
-    ensures range { IsErrOf result PaintFault.OutOfRange ↔ ((has_square area.now ≡ true) × (is_in_range area.now ≡ false)) }
-    ensures never { (IsErrOf result PaintFault.TooManyTiles → ⊥) × (IsErrOf result PaintFault.Memory → ⊥) }
-    ensures fits { OnOk result ((has_square area.now ≡ true) × (is_in_range area.now ≡ true)) }
+// Whether paint may go over the areas.
+fn check_areas(areas: &[Rect]) -> Result<(), PaintFault>
+    ensures fits { OnOk result (first_area_fault areas.now ≡ None) }
+    ensures fault { IfErr result (λ fault. first_area_fault areas.now ≡ Some fault) }
 {
-    if !area.has_square() {
-        return Err(PaintFault::EmptyRect);
-    }
-    if !is_in_range(area) {
-        return Err(PaintFault::OutOfRange);
+    for area in areas {
+        if let Some(fault) = area_fault(area) {
+            return Err(fault);
+        }
     }
     Ok(())
+}
+
+// Why paint may not go over the area.
+fn area_fault(area: &Rect) -> Option<PaintFault>
+    ensures { result ≡ area_fault area.now }
+{
+    if !area.has_square() {
+        return Some(PaintFault::EmptyRect);
+    }
+    if !is_in_range(area) {
+        return Some(PaintFault::OutOfRange);
+    }
+    None
 }
 
 fn is_in_range(area: &Rect) -> bool

@@ -1,21 +1,21 @@
 //! The planes of a cell.
-ghost use Rattle.std.specs.Prelude.{◌≡◌, ◌≢◌, ◌<◌, ◌≤◌, ℕ, length, All, AllPairs, OnOk, OnErr, IsErrOf, MatchOption};
+ghost use Rattle.std.specs.Prelude.{◌≡◌, ◌≢◌, ◌<◌, ◌≤◌, ℕ, length, All, AllPairs, OnOk, IsOkUnless, MatchOption};
 ghost use Rattle.geo_core.specs.declared.squares.Square.{Square as OneSquare};
 ghost use Rattle.geo_core.specs.Areas.{AreDisjoint, IsNear};
 ghost use Rattle.geo_core.specs.Covering.{IsProper};
 ghost use Rattle.layout_model.specs.Places.{Place};
 ghost use Rattle.cell_paint.specs.Painting.{column_at};
 ghost use Rattle.cell_paint.specs.Paints.{layout_on, IsPaintBox};
-ghost use Rattle.cell_paint.specs.Settings.{AreSettable, AreAllReady, AreAllSet, PassesSomewhere};
+ghost use Rattle.cell_paint.specs.Settings.{AreSettable, AreAllReady, AreAllSet};
 
 use crate::faults::PaintFault;
 use geo_core::{Piece, Plane, Rect, Square};
-use run_plane::RunPlane;
 use std::array;
 use tech_model::{MOST_PLANES, TypeId};
+use tile_plane::TilePlane;
 
 /// A plane of a cell. The kind of planes that cells have is named here alone.
-pub type PaintPlane = RunPlane;
+pub type PaintPlane = TilePlane;
 
 /// The type at a square of a plane, and space past the last plane.
 pub fn kind_at(planes: &[PaintPlane], plane: usize, square: Square) -> TypeId
@@ -40,8 +40,7 @@ pub fn reserve_all(planes: &mut [PaintPlane], changes: &[Vec<Piece>]) -> Result<
     requires settable { AreSettable changes.now }
     ensures ready { OnOk result (AreAllReady planes.new changes.now) }
     ensures same { (place : Place) → layout_on planes.new place ≡ layout_on planes.old place }
-    ensures full { IsErrOf result PaintFault.TooManyTiles → PassesSomewhere planes.old changes.now }
-    ensures never { (IsErrOf result PaintFault.EmptyRect → ⊥) × (IsErrOf result PaintFault.OutOfRange → ⊥) }
+    ensures memory { IsOkUnless result PaintFault.Memory }
 {
     for index in 0..changes.len() {
         let plane = &mut planes[index];

@@ -1,7 +1,7 @@
 -- The planes below the index have their changes.
 use Rattle.std.proofs.Common.{◌≡◌, length}
 use Rattle.cell_paint.specs.Changes.{brushed}
-use Rattle.cell_paint.specs.Painting.{with_columns}
+use Rattle.cell_paint.specs.Painting.{with_columns_where, is_in_some}
 use Rattle.cell_paint.specs.Paints.{layout_on}
 use Rattle.cell_paint.specs.Settings.{AreAllChanges}
 use Rattle.cell_paint.proofs.paints.all_changes.Given as goal
@@ -9,6 +9,6 @@ use Rattle.cell_paint.proofs.paints.all_changes.Given as goal
 abbrev pub invariant-loop-plane : goal.invariant-loop-plane
 invariant-loop-plane l = record {
   long : length l.changes.items ≡ l.plane;
-  each : AreAllChanges (layout_on l.planes) (with_columns (brushed l.stroke.brush l.stroke.tech.now l.stroke.layer.0) l.area (layout_on l.planes))
-      l.changes.items;
+  each : AreAllChanges (layout_on l.planes)
+      (with_columns_where (brushed l.stroke.brush l.stroke.tech.now l.stroke.layer.0) (is_in_some l.areas) (layout_on l.planes)) l.changes.items;
 }

@@ -1,12 +1,12 @@
-use Rattle.std.proofs.Common.{ℕ, List, map, sym, ◌∙◌, ap, subst}
+use Rattle.std.proofs.Common.{◌≡◌, ◌≤◌, ℕ, List, length, map, sym, ◌∙◌, ap, subst, rules}
 use Rattle.geo_core.specs.declared.squares.Square.{Square}
 use Rattle.geo_core.specs.declared.squares.Rect.{Rect}
 use Rattle.geo_core.specs.declared.squares.Piece.{Piece}
 use Rattle.geo_core.specs.Planes.{AreTilesIn}
 use Rattle.tech_model.specs.declared.raw.TypeId.{TypeId}
 use Rattle.tech_model.specs.LayerTiles.{AreTilesOf}
-use Rattle.cell_paint.specs.Paints.{Paint, seen_kind}
-use Rattle.cell_paint.proofs.PaintTiles.{plane_seen, with_type, typed_tiles}
+use Rattle.cell_paint.specs.Paints.{Paint, PlaneValue, seen_kind}
+use Rattle.cell_paint.proofs.PaintTiles.{plane_seen, with_type, typed_tiles, no_tiles}
 use Rattle.cell_paint.proofs.paints.CellPaintLayers.tiles.Goals as goal
 
 pub returns-clause-tiles : goal.returns-clause-tiles
@@ -19,3 +19,13 @@ returns-clause-tiles c =
     (sym (c.in_ok-with_types.ensures ∙ ap (λ (tiles : List Piece). map with_type tiles) c.as_slice.ensures.value))
     (typed_tiles paint c.args.plane c.args.area c.in-Ok.tiles.items
     (subst (λ (kinds : Square → ℕ). AreTilesIn kinds c.args.area c.in-Ok.tiles.items) seen c.in-Ok.ensures.tiles))
+
+pub returns-in_default-clause-tiles : goal.returns-in_default-clause-tiles
+returns-in_default-clause-tiles c =
+    let paint = c.args.self.now in
+    let same : c.deref.result.now ≡ paint.planes = c.deref.ensures.value ∙ ap (λ (p : Paint). p.planes) c.self.view_is in
+    let past : length c.deref.result.now ≤ c.from.result = search rules in
+    let beyond : length paint.planes ≤ c.args.plane =
+    subst (λ (n : ℕ). length paint.planes ≤ n) c.from.ensures (subst (λ (planes : List PlaneValue). length planes ≤ c.from.result) same past) in
+    subst (λ (found : List (Rect × TypeId)). AreTilesOf (seen_kind paint c.args.plane) c.args.area found) (sym c.new.ensures.items)
+    (no_tiles paint c.args.plane c.args.area beyond)

@@ -1,0 +1,15 @@
+use Rattle.std.proofs.Common.{refl}
+use Rattle.cell_paint.specs.Changes.{brushed, kind_after}
+use Rattle.cell_paint.specs.Painting.{kinds_on}
+use Rattle.cell_paint.specs.Paints.{layout_on}
+use Rattle.cell_paint.proofs.ChangeLaws.{none_known}
+use Rattle.cell_paint.proofs.changes.changed.Goals as goal
+
+pub loop-piece-init : goal.loop-piece-init
+loop-piece-init c =
+    let stroke = c.args.stroke.now in
+    let layout = layout_on c.args.planes.now in record {
+      long = refl;
+      known = none_known (kinds_on layout c.args.plane) (kind_after (brushed stroke.brush stroke.tech.now stroke.layer.0) layout c.args.plane) 256;
+      found = c.new-found.ensures.items;
+    }
