@@ -2,7 +2,7 @@
 use Rattle.std.proofs.Common.{◌≡◌, ◌⊎◌, inl, inr, ◌≤◌, ℕ, false, List, [], ◌∷◌, ◌++◌, length, Option, Some, None, refl, sym, ◌∙◌, ap, subst}
 use Rattle.std.specs.Prelude.{map, nat_lt}
 use Rattle.std.proofs.lemmas.List.{length-map, map-append}
-use Rattle.geo_core.specs.declared.limits.Limit.TheVariants.{Bytes, Tiles}
+use Rattle.geo_core.specs.declared.limits.Limit.TheVariants.{Bytes}
 use Rattle.outside_io.specs.Files.{Files, bytes_of}
 use Rattle.outside_io.specs.declared.limits.TheConstants.{LONGEST_FILE}
 use Rattle.session_model.specs.declared.report.ReportLine.{ReportLine}
@@ -18,7 +18,7 @@ use Rattle.magex_top.specs.declared.faults.TopFault.TheVariants.{NoFile, NotBuil
 use Rattle.magex_top.specs.declared.plain_mag.Drawn.{Drawn}
 use Rattle.magex_top.specs.Answers.{Does, cell_state, state_of, state_with}
 use Rattle.magex_top.specs.CommandLoad.{DrawnMeans, LoadMeans, cell_file, loaded_text}
-use Rattle.magex_top.specs.Drawings.{PassesLimit, painted_all}
+use Rattle.magex_top.specs.Drawings.{painted_all}
 use Rattle.magex_top.specs.Fetches.{IsLongFile}
 use Rattle.magex_top.specs.PlainMag.{plain_cell}
 use Rattle.magex_top.specs.Refusals.{refusal}
@@ -47,7 +47,7 @@ load_done number raw cell text cells after drawn one lines plain added named pai
     let state_is : state_with (Some raw) after ≡ with_cell state cell (painted_all raw drawn) = ap with_state all in
     let effect : State → List ReportLine → Effect State = λ state lines. accepted state lines (cell_file cell ∷ []) in
     let is : effect (state_with (Some raw) after) lines ≡ effect (with_cell state cell (painted_all raw drawn)) (reply (loaded_text cell) ∷ []) = rw (state_is, replied) refl in
-    (cell_file cell ∷ [], subst (λ (d : Option (List Drawn)). DrawnMeans number state raw cell d (effect (state_with (Some raw) after) lines)) (sym plain) (inl is))
+    (cell_file cell ∷ [], subst (λ (d : Option (List Drawn)). DrawnMeans number state raw cell d (effect (state_with (Some raw) after) lines)) (sym plain) is)
 
 -- a text that is not plain
 pub load_not_plain : (number : ℕ) (raw : RawTech) (cell text : List ℕ) (cells : List Cell) (lines : List ReportLine)
@@ -57,15 +57,6 @@ load_not_plain number raw cell text cells lines none told =
     let state = state_with (Some raw) cells in
     does_refuse (DrawnMeans number state raw cell (plain_cell raw text)) number state NotBuilt (cell_file cell ∷ []) lines told
     (subst (λ (d : Option (List Drawn)). DrawnMeans number state raw cell d (refused number state NotBuilt (cell_file cell ∷ []))) (sym none) refl)
-
--- a plain text whose paint has too many tiles
-pub load_full : (number : ℕ) (raw : RawTech) (cell text : List ℕ) (cells : List Cell) (drawn : List Drawn) (lines : List ReportLine)
-    → plain_cell raw text ≡ Some drawn → PassesLimit raw drawn → lines ≡ refusal number (TooMany Tiles) ∷ []
-    → Does (DrawnMeans number (state_with (Some raw) cells) raw cell (plain_cell raw text)) (state_with (Some raw) cells) lines
-load_full number raw cell text cells drawn lines plain passes told =
-    let state = state_with (Some raw) cells in
-    does_refuse (DrawnMeans number state raw cell (plain_cell raw text)) number state (TooMany Tiles) (cell_file cell ∷ []) lines told
-    (subst (λ (d : Option (List Drawn)). DrawnMeans number state raw cell d (refused number state (TooMany Tiles) (cell_file cell ∷ []))) (sym plain) (inr (passes, refl)))
 
 -- the first load of a session with a technology: the file is refused
 pub load_refused : (number : ℕ) (session : LayoutSession) (raw : RawTech) (files : Files) (cell file : List ℕ) (fault : TopFault) (lines : List ReportLine)

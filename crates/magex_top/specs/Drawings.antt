@@ -1,9 +1,9 @@
 -- The rectangles of a cell's file, and what painting them in order gives.
-use Rattle.std.specs.Prelude.{◌≡◌, ◌<◌, true, List, ◌∷◌, ◌++◌, length, All, fold}
+use Rattle.std.specs.Prelude.{◌≡◌, ◌<◌, true, ℕ, pos, List, length, All, fold, slice_index_or}
 use Rattle.geo_core.specs.Areas.{has_square}
 use Rattle.tech_model.specs.declared.raw.RawTech.{RawTech}
 use Rattle.layout_model.specs.Layouts.{Layout}
-use Rattle.cell_paint.specs.Painting.{is_in_range, with_paint, PassesPaintLimit}
+use Rattle.cell_paint.specs.Painting.{is_in_range, with_paint}
 use Rattle.magex_top.specs.declared.plain_mag.Drawn.{Drawn}
 
 -- A rectangle that may be painted: it is of a layer of the technology, has a square, and lies within the range of paint.
@@ -26,10 +26,10 @@ with_drawn raw layout drawn = with_paint raw drawn.layer.0 drawn.area layout
 abbrev pub painted_all : RawTech → List Drawn → Layout
 painted_all raw drawn = fold (with_drawn raw) empty_layout drawn
 
--- Painting some rectangle of the list, after those before it, passes the limit of tiles.
-pub record PassesLimit (raw : RawTech) (drawn : List Drawn) : Type 0 where
-  pub before : List Drawn
-  pub one : Drawn
-  pub after : List Drawn
-  pub split : drawn ≡ before ++ one ∷ after
-  pub passes : PassesPaintLimit (painted_all raw before) (with_drawn raw (painted_all raw before) one)
+-- what stands past the end of a list of rectangles
+abbrev pub no_drawn : Drawn
+no_drawn = record { layer = record { 0 = 0 }; area = record { xlo = pos 0; ylo = pos 0; xhi = pos 0; yhi = pos 0 } }
+
+-- the rectangle at an index
+abbrev pub drawn_at : List Drawn → ℕ → Drawn
+drawn_at drawn index = slice_index_or drawn index no_drawn

@@ -12,7 +12,7 @@ use crate::fetching::{Fetched, fetch_text};
 use crate::painting::paint_all;
 use crate::plain_mag::plain_cell;
 use crate::replies::{file_name, loaded, refuse};
-use geo_core::{Limit, Name};
+use geo_core::Name;
 use outside_io::Shelf;
 use session_model::{Halt, ReportLine};
 use std::alloc::{AllocError, Global};
@@ -65,9 +65,7 @@ fn load_text(
     let Some(drawn) = plain_cell(alloc, tech, text)? else {
         return refuse(alloc, number, TopFault::NotBuilt);
     };
-    let Some(paint) = paint_all(alloc, tech, &drawn)? else {
-        return refuse(alloc, number, TopFault::TooMany(Limit::Tiles));
-    };
+    let paint = paint_all(alloc, tech, &drawn)?;
     let lines = loaded(alloc, cell)?;
     let name = cell.copy(alloc)?;
     add_cell(cells, Cell { name, paint })?;
