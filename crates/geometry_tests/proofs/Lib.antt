@@ -1,2 +1,3 @@
+pub mod PaintTypes
 pub mod PieceRects
 pub mod Rows

@@ -1,8 +1,8 @@
-//! Contacts worked by hand, and lists of real size.
+//! Contacts and overlaps worked by hand, and lists of real size.
 
 use crate::areas::{Bounds, are_several, rect, rects};
 use geo_core::Rect;
-use rect_contacts::{Contact, touching};
+use rect_contacts::{Contact, overlaps, touching};
 use std::alloc::{AllocError, Global};
 use std::test::Fail;
 
@@ -116,5 +116,65 @@ fn a_grid_has_its_inner_edges(rt: HostRuntime) -> Result<(), Fail> {
         contacts_of(rt.alloc(), grid.as_slice())?.len(),
         2 * 300 * 299
     );
+    Ok(())
+}
+
+/// Two lists of rectangles that lie apart, and the pairs of their places that have squares in common.
+struct Upon {
+    first: &'static [Bounds],
+    second: &'static [Bounds],
+    pairs: &'static [(usize, usize)],
+}
+
+const UPON: &[Upon] = &[
+    // An edge and a corner have no square.
+    Upon {
+        first: &[[0, 0, 2, 2]],
+        second: &[[2, 0, 4, 2], [2, 2, 4, 4]],
+        pairs: &[],
+    },
+    // One square of a corner, one that holds another, and bars that cross.
+    Upon {
+        first: &[[0, 0, 2, 2], [5, 0, 9, 9], [-4, -6, -1, -5]],
+        second: &[[1, 1, 4, 4], [6, 3, 7, 4], [-3, -9, -2, 0]],
+        pairs: &[(0, 0), (1, 1), (2, 2)],
+    },
+    // One upon several.
+    Upon {
+        first: &[[0, 0, 9, 1]],
+        second: &[[-1, 0, 1, 1], [2, 0, 3, 5], [8, -3, 9, 2], [9, 0, 10, 1]],
+        pairs: &[(0, 0), (0, 1), (0, 2)],
+    },
+];
+
+/// The pairs of rectangles of two lists that have squares in common, where those of each list lie apart, and none of others.
+fn pairs_of(
+    alloc: Global,
+    first: &[Rect],
+    second: &[Rect],
+) -> Result<Vec<(usize, usize)>, AllocError> {
+    if !are_several(first) || !are_several(second) {
+        return Ok(Vec::new(alloc));
+    }
+    overlaps(alloc, first, second)
+}
+
+fn has_pairs(alloc: Global, row: &Upon) -> Result<bool, AllocError> {
+    let first = rects(alloc, row.first)?;
+    let second = rects(alloc, row.second)?;
+    let found = pairs_of(alloc, first.as_slice(), second.as_slice())?;
+    for pair in row.pairs {
+        if !found.contains(pair) {
+            return Ok(false);
+        }
+    }
+    Ok(found.len() == row.pairs.len())
+}
+
+#[test]
+fn overlaps_are_found(rt: HostRuntime) -> Result<(), Fail> {
+    for row in UPON {
+        assert!(rt; has_pairs(rt.alloc(), row)?);
+    }
     Ok(())
 }

@@ -1,4 +1,4 @@
-//! Tests of the public calls on squares, rectangles, planes, classes, nodes and paint, and of the count of steps that stands
+//! Tests of the public calls on squares, rectangles, planes, classes, nodes, regions and paint, and of the count of steps that stands
 //! as low: tables worked by hand, and lists of real size, which say that the calls find memory and take little time.
 #![tactic(auto)]
 
@@ -21,6 +21,10 @@ mod plane_tests;
 #[cfg(test)]
 mod random;
 #[cfg(test)]
+mod region_tests;
+#[cfg(test)]
 mod step_tests;
 #[cfg(test)]
 mod strip_tests;
+#[cfg(test)]
+mod tile_tests;

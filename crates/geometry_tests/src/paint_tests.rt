@@ -3,7 +3,7 @@ ghost use Rattle.std.specs.Prelude.{◌≡◌, ◌<◌, length, IfOk, IfSome, Is
 
 use crate::areas::{Bounds, is_sound, pieces, rect, rects};
 use cell_paint::{CellPaint, PaintFault};
-use geo_core::{Piece, Rect, Square};
+use geo_core::{Piece, Plane, PlaneFault, Rect, Square};
 use std::alloc::Global;
 use std::test::Fail;
 use tech_file::read_tech;
@@ -11,7 +11,7 @@ use tech_model::{LayerId, Layers, Tech, TypeId};
 
 /// nMOS: contacts, a composed type, three classes. Its types are poly, diff, efet, dfet, pc, dc, metal,
 /// pc/metal, dc/metal, numbered from 1.
-const NM: &[u8] = b"\
+pub const NM: &[u8] = b"\
 tech\n nm\nend\n\
 planes\n active\n metal\nend\n\
 types\n active poly,p,red\n active diff,d,green\n active efet\n active dfet\n active pc\n active dc\n metal metal,m,blue\nend\n\
@@ -25,12 +25,12 @@ fet efet diff,dc efet GND!\n fet dfet diff,dc dfet GND!\nend\n";
 
 /// What is done with a layer over an area.
 #[derive(Clone, Copy)]
-enum Act {
+pub enum Act {
     Paint,
     Erase,
 }
 
-type Step = (Act, &'static [u8], Bounds);
+pub type Step = (Act, &'static [u8], Bounds);
 
 /// Steps, and then the number of the type at `x y` on a plane, 0 being active and 1 metal.
 struct Row {
@@ -178,7 +178,7 @@ fn take(tech: &Tech, cell: &mut CellPaint, step: &Step) -> Result<(), PaintFault
 }
 
 /// A cell after these steps.
-fn painted(alloc: Global, tech: &Tech, steps: &[Step]) -> Result<CellPaint, PaintFault>
+pub fn painted(alloc: Global, tech: &Tech, steps: &[Step]) -> Result<CellPaint, PaintFault>
     ensures kinds { IfOk result (λ cell. cell.kinds ≡ tech.now.types) }
     ensures planes { IfOk result (λ cell. length cell.planes ≡ length tech.now.planes) }
 {
@@ -222,6 +222,8 @@ enum Asked {
     /// The same, as `Layers` has them.
     Material(Bounds, &'static [(Bounds, u8)]),
     Strips(u8, &'static [Bounds]),
+    /// The strips of a number on the plane that is kept.
+    Stitched(u8, &'static [Bounds]),
     Box(Bounds),
 }
 
@@ -238,6 +240,8 @@ const QUESTIONS: &[Asked] = &[
     Asked::Material([-1, -1, 9, 1], &[([2, 0, 4, 1], 2)]),
     Asked::Strips(1, &[[0, 2, 2, 4], [4, 2, 6, 4]]),
     Asked::Strips(9, &[]),
+    Asked::Stitched(2, &[[2, 0, 4, 2], [2, 4, 4, 6]]),
+    Asked::Stitched(3, &[[2, 2, 4, 4]]),
     Asked::Box([0, 0, 6, 6]),
 ];
 
@@ -257,6 +261,15 @@ fn has_strips(cell: &CellPaint, kind: u8, want: &[Rect]) -> Result<bool, PaintFa
         return Ok(false);
     }
     Ok(cell.strips(0, TypeId(kind))?.as_slice() == want)
+}
+
+fn has_stitched(cell: &CellPaint, value: u8, want: &[Rect]) -> Result<bool, PlaneFault>
+    requires { 0 < length cell.now.planes }
+{
+    if value == 0 {
+        return Ok(false);
+    }
+    Ok(cell.stitched(0).strips(value)?.as_slice() == want)
 }
 
 fn has_material(alloc: Global, cell: &CellPaint, area: Rect, want: &[Piece]) -> Result<bool, Fail> {
@@ -285,6 +298,9 @@ fn is_answered(alloc: Global, cell: &CellPaint, asked: Asked) -> Result<bool, Fa
             has_material(alloc, cell, rect(area), pieces(alloc, want)?.as_slice())
         }
         Asked::Strips(kind, want) => Ok(has_strips(cell, kind, rects(alloc, want)?.as_slice())?),
+        Asked::Stitched(value, want) => {
+            Ok(has_stitched(cell, value, rects(alloc, want)?.as_slice())?)
+        }
         Asked::Box(want) => Ok(cell.box_of() == Some(rect(want))),
     }
 }
@@ -333,6 +349,125 @@ fn bad_areas_are_refused(rt: HostRuntime) -> Result<(), Fail> {
     let tech = read_tech(rt.alloc(), NM)?;
     for (bounds, why) in REFUSED {
         assert!(rt; is_refused(rt.alloc(), &tech, rect(*bounds), *why)?);
+    }
+    Ok(())
+}
+
+/// Lists of areas of one layer, painted one list after the other. Areas overlap within a list and over lists.
+const SECTIONS: &[(&[u8], &[Bounds])] = &[
+    (
+        b"poly",
+        &[[0, 0, 6, 4], [4, 2, 9, 7], [5, 3, 6, 4], [12, 0, 13, 9]],
+    ),
+    (b"diff", &[[2, 1, 5, 9], [2, 1, 5, 3], [8, 0, 14, 2]]),
+    (b"dc", &[[3, 5, 8, 8], [7, 7, 9, 9]]),
+    (b"metal", &[[0, 6, 14, 7], [6, 0, 7, 14]]),
+    (b"pc", &[]),
+];
+
+/// Paints a list of areas, all at once.
+fn take_together(
+    alloc: Global,
+    tech: &Tech,
+    cell: &mut CellPaint,
+    name: &[u8],
+    list: &[Bounds],
+) -> Result<(), PaintFault>
+    requires { cell.old.kinds ≡ tech.now.types }
+    ensures { cell.new.kinds ≡ tech.now.types }
+{
+    match layer_of(tech, name) {
+        Some(layer) => cell.paint_all(tech, layer, rects(alloc, list)?.as_slice()),
+        None => Ok(()),
+    }
+}
+
+/// Paints a list of areas, one after the other.
+fn take_in_turn(
+    tech: &Tech,
+    cell: &mut CellPaint,
+    name: &[u8],
+    list: &[Bounds],
+) -> Result<(), PaintFault>
+    requires { cell.old.kinds ≡ tech.now.types }
+    ensures { cell.new.kinds ≡ tech.now.types }
+{
+    for area in list {
+        if let Some(layer) = layer_of(tech, name) {
+            cell.paint(tech, layer, rect(*area))?;
+        }
+    }
+    Ok(())
+}
+
+/// Whether two cells show the same types from -1 to 15 on the first three planes.
+fn are_alike(cell: &CellPaint, other: &CellPaint) -> bool {
+    for plane in 0..3 {
+        for y in -1..16 {
+            for x in -1..16 {
+                if cell.kind_at(plane, Square { x, y }) != other.kind_at(plane, Square { x, y }) {
+                    return false;
+                }
+            }
+        }
+    }
+    true
+}
+
+/// Whether lists painted all at once give what they give one after the other, each time.
+fn lists_are_painted(alloc: Global, tech: &Tech) -> Result<bool, PaintFault> {
+    let mut cell = CellPaint::new(alloc, tech)?;
+    let mut other = CellPaint::new(alloc, tech)?;
+    for &(name, list) in SECTIONS {
+        take_together(alloc, tech, &mut cell, name, list)?;
+        take_in_turn(tech, &mut other, name, list)?;
+        if !are_alike(&cell, &other) {
+            return Ok(false);
+        }
+    }
+    Ok(true)
+}
+
+#[test]
+fn areas_are_painted_together(rt: HostRuntime) -> Result<(), Fail> {
+    let tech = read_tech(rt.alloc(), NM)?;
+    assert!(rt; lists_are_painted(rt.alloc(), &tech)?);
+    Ok(())
+}
+
+/// Lists of areas that are refused for the first bad one, and why.
+const REFUSED_LISTS: &[(&[Bounds], PaintFault)] = &[
+    (
+        &[[0, 0, 5, 5], [0, 0, 0, 5], [67108858, 0, 67108859, 1]],
+        PaintFault::EmptyRect,
+    ),
+    (
+        &[[0, 0, 5, 5], [67108858, 0, 67108859, 1], [0, 0, 0, 5]],
+        PaintFault::OutOfRange,
+    ),
+];
+
+/// Whether the list isn't painted, for the reason, and the cell stays empty.
+fn is_list_refused(
+    alloc: Global,
+    tech: &Tech,
+    list: &[Rect],
+    why: PaintFault,
+) -> Result<bool, PaintFault> {
+    let Some(layer) = layer_of(tech, b"poly") else {
+        return Ok(false);
+    };
+    let mut cell = CellPaint::new(alloc, tech)?;
+    let refused = cell.paint_all(tech, layer, list) == Err(why);
+    Ok(refused && cell.box_of().is_none())
+}
+
+#[test]
+fn the_first_bad_area_of_a_list_is_told(rt: HostRuntime) -> Result<(), Fail> {
+    let tech = read_tech(rt.alloc(), NM)?;
+    for (list, why) in REFUSED_LISTS {
+        let areas = rects(rt.alloc(), list)?;
+        assert!(rt; is_list_refused(rt.alloc(), &tech, areas.as_slice(), *why)?);
     }
     Ok(())
 }

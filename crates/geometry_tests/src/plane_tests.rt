@@ -1,4 +1,4 @@
-//! A plane asked and changed as worked by hand, and a plane beside a grid of numbers.
+//! Planes asked and changed as worked by hand, and planes beside a grid of numbers.
 ghost use Rattle.std.specs.Prelude.{◌<◌};
 
 use crate::areas::{Bounds, are_settable, is_sound, pieces, rect, rects};
@@ -7,6 +7,7 @@ use geo_core::{Piece, Plane, PlaneFault, Rect, Square};
 use run_plane::RunPlane;
 use std::alloc::{AllocError, Global};
 use std::test::Fail;
+use tile_plane::TilePlane;
 
 /// What is done to a plane, or asked of it with the answer.
 #[derive(Clone, Copy)]
@@ -45,7 +46,7 @@ const STEPS: &[Step] = &[
     Step::Box(Some([0, 0, 9, 6])),
 ];
 
-fn set(plane: &mut RunPlane, area: Rect, value: u8) -> Result<bool, PlaneFault> {
+pub fn set<P: Plane>(plane: &mut P, area: Rect, value: u8) -> Result<bool, PlaneFault> {
     if !is_sound(&area) {
         return Ok(false);
     }
@@ -53,7 +54,7 @@ fn set(plane: &mut RunPlane, area: Rect, value: u8) -> Result<bool, PlaneFault> 
     Ok(true)
 }
 
-fn set_all(alloc: Global, plane: &mut RunPlane, pieces: &[Piece]) -> Result<bool, PlaneFault> {
+fn set_all<P: Plane>(alloc: Global, plane: &mut P, pieces: &[Piece]) -> Result<bool, PlaneFault> {
     if !are_settable(alloc, pieces)? {
         return Ok(false);
     }
@@ -62,14 +63,14 @@ fn set_all(alloc: Global, plane: &mut RunPlane, pieces: &[Piece]) -> Result<bool
     Ok(true)
 }
 
-fn has_strips(plane: &RunPlane, value: u8, want: &[Rect]) -> Result<bool, PlaneFault> {
+pub fn has_strips<P: Plane>(plane: &P, value: u8, want: &[Rect]) -> Result<bool, PlaneFault> {
     if value == 0 {
         return Ok(false);
     }
     Ok(plane.strips(value)?.as_slice() == want)
 }
 
-fn has_tiles(plane: &RunPlane, area: Rect, want: &[Piece]) -> Result<bool, PlaneFault> {
+fn has_tiles<P: Plane>(plane: &P, area: Rect, want: &[Piece]) -> Result<bool, PlaneFault> {
     if !is_sound(&area) {
         return Ok(false);
     }
@@ -77,7 +78,7 @@ fn has_tiles(plane: &RunPlane, area: Rect, want: &[Piece]) -> Result<bool, Plane
 }
 
 /// Whether the step could be done, or was answered as it says.
-fn is_taken(alloc: Global, plane: &mut RunPlane, step: Step) -> Result<bool, PlaneFault> {
+fn is_taken<P: Plane>(alloc: Global, plane: &mut P, step: Step) -> Result<bool, PlaneFault> {
     match step {
         Step::Set(area, value) => set(plane, rect(area), value),
         Step::SetAll(table) => set_all(alloc, plane, pieces(alloc, table)?.as_slice()),
@@ -88,12 +89,27 @@ fn is_taken(alloc: Global, plane: &mut RunPlane, step: Step) -> Result<bool, Pla
     }
 }
 
-#[test]
-fn a_plane_answers_as_worked_by_hand(rt: HostRuntime) -> Result<(), Fail> {
-    let mut plane = RunPlane::new(rt.alloc());
+/// Whether all steps could be done, one after the other, and were answered as they say.
+fn are_taken<P: Plane>(alloc: Global, plane: &mut P) -> Result<bool, PlaneFault> {
     for step in STEPS {
-        assert!(rt; is_taken(rt.alloc(), &mut plane, *step)?);
+        if !is_taken(alloc, plane, *step)? {
+            return Ok(false);
+        }
     }
+    Ok(true)
+}
+
+#[test]
+fn a_plane_of_runs_answers_as_worked_by_hand(rt: HostRuntime) -> Result<(), Fail> {
+    let mut plane = RunPlane::new(rt.alloc());
+    assert!(rt; are_taken(rt.alloc(), &mut plane)?);
+    Ok(())
+}
+
+#[test]
+fn a_plane_of_tiles_answers_as_worked_by_hand(rt: HostRuntime) -> Result<(), Fail> {
+    let mut plane = TilePlane::new(rt.alloc())?;
+    assert!(rt; are_taken(rt.alloc(), &mut plane)?);
     Ok(())
 }
 
@@ -202,7 +218,7 @@ fn random_rect(state: u64) -> (Rect, u64) {
     (area, next(high))
 }
 
-fn has_squares(plane: &RunPlane, grid: &Grid) -> bool {
+fn has_squares<P: Plane>(plane: &P, grid: &Grid) -> bool {
     for y in -1..SIDE + 1 {
         for x in -1..SIDE + 1 {
             if plane.at(Square { x, y }) != number(grid, x, y) {
@@ -213,7 +229,7 @@ fn has_squares(plane: &RunPlane, grid: &Grid) -> bool {
     true
 }
 
-fn has_all_strips(alloc: Global, plane: &RunPlane, grid: &Grid) -> Result<bool, PlaneFault> {
+fn has_all_strips<P: Plane>(alloc: Global, plane: &P, grid: &Grid) -> Result<bool, PlaneFault> {
     for value in 1..VALUES {
         let want = strips_of_grid(alloc, grid, value)?;
         if !has_strips(plane, value, want.as_slice())? {
@@ -224,7 +240,7 @@ fn has_all_strips(alloc: Global, plane: &RunPlane, grid: &Grid) -> Result<bool, 
 }
 
 /// The plane says of each square, of strips and of tiles what the grid says.
-fn agrees(alloc: Global, plane: &RunPlane, grid: &Grid, area: Rect) -> Result<bool, PlaneFault> {
+fn agrees<P: Plane>(alloc: Global, plane: &P, grid: &Grid, area: Rect) -> Result<bool, PlaneFault> {
     if !has_squares(plane, grid) || !has_all_strips(alloc, plane, grid)? {
         return Ok(false);
     }
@@ -233,8 +249,7 @@ fn agrees(alloc: Global, plane: &RunPlane, grid: &Grid, area: Rect) -> Result<bo
 }
 
 /// Sets random rectangles of a plane and of a grid, and compares them each time.
-fn is_as_a_grid(alloc: Global, times: u32) -> Result<bool, PlaneFault> {
-    let mut plane = RunPlane::new(alloc);
+fn is_as_a_grid<P: Plane>(alloc: Global, plane: &mut P, times: u32) -> Result<bool, PlaneFault> {
     let mut grid = Vec::new(alloc);
     let mut state = 7;
     for _ in 0..times {
@@ -242,11 +257,11 @@ fn is_as_a_grid(alloc: Global, times: u32) -> Result<bool, PlaneFault> {
         let (window, after) = random_rect(then);
         let value = pick(after, VALUES);
         state = next(after);
-        if !set(&mut plane, area, value)? {
+        if !set(plane, area, value)? {
             return Ok(false);
         }
         grid = painted(alloc, &grid, &area, value)?;
-        if !agrees(alloc, &plane, &grid, window)? {
+        if !agrees(alloc, plane, &grid, window)? {
             return Ok(false);
         }
     }
@@ -254,7 +269,15 @@ fn is_as_a_grid(alloc: Global, times: u32) -> Result<bool, PlaneFault> {
 }
 
 #[test]
-fn a_plane_is_as_a_grid(rt: HostRuntime) -> Result<(), Fail> {
-    assert!(rt; is_as_a_grid(rt.alloc(), 60)?);
+fn a_plane_of_runs_is_as_a_grid(rt: HostRuntime) -> Result<(), Fail> {
+    let mut plane = RunPlane::new(rt.alloc());
+    assert!(rt; is_as_a_grid(rt.alloc(), &mut plane, 60)?);
+    Ok(())
+}
+
+#[test]
+fn a_plane_of_tiles_is_as_a_grid(rt: HostRuntime) -> Result<(), Fail> {
+    let mut plane = TilePlane::new(rt.alloc())?;
+    assert!(rt; is_as_a_grid(rt.alloc(), &mut plane, 60)?);
     Ok(())
 }
