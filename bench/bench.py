@@ -61,22 +61,34 @@ class Run:
         self.seconds, self.megabytes, self.status = seconds, megabytes, status
 
 
+def peak_of(pid):
+    """The most megabytes that a running process has had, 0 where that can't be read."""
+    try:
+        with open(f"/proc/{pid}/status") as lines:
+            return max((int(it.split()[1]) for it in lines if it.startswith("VmHWM:")), default=0) / 1024
+    except OSError:
+        return 0
+
+
 def timed(command, script, folder):
-    """Runs a command on a script, and waits for it."""
+    """Runs a command on a script, and waits for it. Its peak is read while it runs: what the system tells of an ended
+    process counts the memory of this one, which started it."""
+    peak = 0
     with open(script, "rb") as source, open(os.devnull, "wb") as sink:
         began = time.perf_counter()
         child = subprocess.Popen(command, stdin=source, stdout=sink, stderr=sink, cwd=folder)
         while True:
-            pid, status, usage = os.wait4(child.pid, os.WNOHANG)
+            peak = max(peak, peak_of(child.pid))
+            pid, status = os.waitpid(child.pid, os.WNOHANG)
             if pid:
                 break
             if time.perf_counter() - began > SECONDS_AT_MOST:
                 child.kill()
-                _, status, usage = os.wait4(child.pid, 0)
+                _, status = os.waitpid(child.pid, 0)
                 break
             time.sleep(0.002)
         child.returncode = os.waitstatus_to_exitcode(status)
-        return Run(time.perf_counter() - began, usage.ru_maxrss / 1024, child.returncode)
+        return Run(time.perf_counter() - began, peak, child.returncode)
 
 
 def run_program(program, rects, folder):
