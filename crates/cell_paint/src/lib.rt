@@ -3,9 +3,11 @@
 //! # How the proof goes
 //!
 //! What a brush leaves on one plane of a square depends on what stood on that plane alone, where contacts stand whole
-//! (`ColumnsLaws`, over `tech_model`). So a whole tile of a plane changes as its corner does, and space as space does.
-//! On a plane of its own each tile of the area is laid with the code of its change (`ChangeCodes`); the strips of the
-//! codes are then the strips of the squares that change, for each new type (`ChangeStrips`).
+//! (`ColumnsLaws`, over `tech_model`). So a whole piece of one type changes as its corner does, space too, and what
+//! becomes of a type is found once. The pieces of the areas that change are then the changes of the plane (`ChangeLaws`).
+//!
+//! Areas go in as the strips of what they cover, which lie apart (`AreaLaws`). Painting a layer twice is painting it once
+//! (`AgainLaws`), so paint over all areas at once is paint over each of them in order (`PaintLaws`).
 //!
 //! The changes of all planes are made ready, and only then is any of them set (`PlaneLaws`). When all are set the
 //! layout is the changed one, and what holds of every cell's paint holds of it (`PaintLaws`). What a plane lists of
