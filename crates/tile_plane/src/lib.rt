@@ -2,6 +2,15 @@
 //!
 //! # How the proof goes
 //!
+//! Tiles are looked at by number, and a number without a tile has no square, so nothing has to say which numbers are live. A cut or a join
+//! hands the squares of an area over from one tile to another (`HandLaws`); the tiles along its sides get their stitches mended (`MendLaws`),
+//! and the partition and all stitches stand again. What goes along a row (`RowCuts`) goes along a column with x and y exchanged
+//! (`Transposed`, `ColumnCuts`). Walks follow stitches, and get nearer with each step (`WalkLaws`).
+//!
+//! A piece is cut free at its sides and set band by band: in the rows of a band all tiles of it and beside it go on. A band laid is one
+//! relation, which composes: its squares are one tile, and all others keep the columns and values of their tiles (`LaidLaws`, `BandLaws`).
+//! When all bands are set, rows are wide, and only three columns can have tiles that may be joined (`StripLaws`, `AgainLaws`).
+//!
 //! Listings: the tiles in the first column of an area come from below, and then with each tile its followers, those that begin where it
 //! ends and have their lowest row in the area beside it (`FollowerLaws`). Each tile that meets the area stands in the first column or
 //! follows exactly one other, so a queue gets all of them, each once (`QueueLaws`). Their parts are the pieces of the area, and those of

@@ -323,7 +323,7 @@ fn cut_around(store: &mut Store, area: &Rect, hint: u32) -> Result<u32, ArenaFau
     ensures state { OnOk result (IsOpenFrom area.now area.now.ylo store.new) }
     ensures kept { OnOk result (AreKept area.now store.old store.new) }
 {
-    // The walks begin at tiles of the row of the area: those above may be as wide as the field, and
+    // The walks begin at tiles of the row of the area: those above may be as wide as the plane, and
     // their stitches lead far away.
     let low = cut_across(store, area, area.ylo, hint)?;
     let _high = cut_across(store, area, area.yhi, low)?;
