@@ -1,3 +1,4 @@
 pub mod RectSizes
 pub mod AmountLaws
 pub mod MeasureLaws
+pub mod BoundLaws

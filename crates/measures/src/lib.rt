@@ -6,4 +6,4 @@ mod sizes;
 mod tables;
 
 pub use sizes::{area_of, perimeter_of};
-pub use tables::{MeasureRow, Measures, measure};
+pub use tables::{MeasureRow, Measures, measure, measure_tiles};

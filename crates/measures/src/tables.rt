@@ -1,9 +1,8 @@
 //! The measures of all regions in all classes.
 ghost use Rattle.std.specs.Prelude.{◌≡◌, ◌<◌, All, length, map, IfOk};
 ghost use Rattle.finite_sets.specs.Lists.{Lists};
-ghost use Rattle.tech_model.specs.Types.{connects};
 ghost use Rattle.layout_model.specs.Layouts.{Layout as OneLayout};
-ghost use Rattle.layout_model.specs.RegionTiles.{AreRegions, AreMeasured};
+ghost use Rattle.layout_model.specs.RegionTiles.{AreLayoutTiles, AreMeasured};
 ghost use Rattle.layout_model.specs.Technologies.{class_of};
 ghost use Rattle.flood_nodes.specs.SoundTiles.{IsSoundTile};
 ghost use Rattle.flood_nodes.specs.TileShares.{IsTileContact};
@@ -61,23 +60,25 @@ fn row_at(alloc: Global, columns: &[Column], region: usize) -> Result<Vec<(i128,
     Ok(row)
 }
 
-/// The areas and perimeters of regions, by class, in lambda: how many squares of the region are of the class, and how many
-/// edges lead from these to squares of the plane that are not. Want of memory alone refuses. For each class it takes a step
-/// for each tile and for each edge that two share.
-pub fn measure(alloc: Global, tech: &Tech, regions: &Regions) -> Result<Measures, AllocError>
-    ensures { IfOk result (λ made. (layout : OneLayout) → AreRegions (connects tech.now) layout regions.now.tiles regions.now.count
-        → AreMeasured (map class_of tech.now.classes) layout regions.now.tiles regions.now.count (map (λ row. row.pairs) made.rows)) }
+/// The areas and perimeters of groups of tiles, by class, in lambda: how many squares of the group are of the class, and how many
+/// edges lead from these to squares of the plane that are not. The region of a tile is the number of its group. Want of memory
+/// alone refuses. For each class it takes a step for each tile and for each edge that two share.
+pub fn measure_tiles(
+    alloc: Global,
+    tech: &Tech,
+    tiles: &[RegionTile],
+    contacts: &[Contact],
+    count: usize,
+) -> Result<Measures, AllocError>
+    requires sound { All (IsSoundTile count) tiles.now }
+    requires contacts { Lists (IsTileContact tiles.now) contacts.now }
+    ensures { IfOk result (λ made. (layout : OneLayout) → AreLayoutTiles layout tiles.now
+        → AreMeasured (map class_of tech.now.classes) layout tiles.now count (map (λ row. row.pairs) made.rows)) }
 {
     let classes = tech.raw().classes.items();
-    let columns = columns_of(
-        alloc,
-        classes,
-        regions.tiles.items(),
-        regions.contacts(),
-        regions.count,
-    )?;
-    let mut rows = Vec::with_capacity(alloc, regions.count)?;
-    for region in 0..regions.count {
+    let columns = columns_of(alloc, classes, tiles, contacts, count)?;
+    let mut rows = Vec::with_capacity(alloc, count)?;
+    for region in 0..count {
         let row = row_at(alloc, columns.as_slice(), region)?;
         rows.push(MeasureRow {
             pairs: List::of(row),
@@ -86,4 +87,13 @@ pub fn measure(alloc: Global, tech: &Tech, regions: &Regions) -> Result<Measures
     Ok(Measures {
         rows: List::of(rows),
     })
+}
+
+/// The areas and perimeters of regions, by class, as `measure_tiles` gives them. Want of memory alone refuses.
+pub fn measure(alloc: Global, tech: &Tech, regions: &Regions) -> Result<Measures, AllocError>
+    ensures { IfOk result (λ made. (layout : OneLayout) → AreLayoutTiles layout regions.now.tiles
+        → AreMeasured (map class_of tech.now.classes) layout regions.now.tiles regions.now.count (map (λ row. row.pairs) made.rows)) }
+{
+    let tiles = regions.tiles.items();
+    measure_tiles(alloc, tech, tiles, regions.contacts(), regions.count)
 }
