@@ -252,7 +252,7 @@ pub crossings_within : (raw : RawTech) (tiles : List RegionTile) (crossings : Li
 crossings_within raw tiles crossings listed = λ k d below. (listed.2 (get_or crossings k d) (In-get_or crossings k d below)).0
 
 -- a contact is a place where tiles meet
-contact_meets : (tiles : List RegionTile) (c : Contact) → IsTileContact tiles c → MeetAt tiles c.first c.second
+pub contact_meets : (tiles : List RegionTile) (c : Contact) → IsTileContact tiles c → MeetAt tiles c.first c.second
 contact_meets tiles c is =
     let order = is.in_order in let last = is.in_list in
     record {

@@ -154,7 +154,7 @@ join_within connects tiles links join = λ k d below.
     (slice_get_within tiles pair.0 linked.first linked.first_there, slice_get_within tiles pair.1 linked.second linked.second_there)
 
 -- what a test finds in a list
-found_by : {X : Type 0} (test : X → Bool) (xs : List X) → list_any test xs ≡ true → (x : X) × (In x xs × (test x ≡ true))
+pub found_by : {X : Type 0} (test : X → Bool) (xs : List X) → list_any test xs ≡ true → (x : X) × (In x xs × (test x ≡ true))
 found_by test [] h = absurd (false≢true h)
 found_by test (x ∷ xs) h = elim (cases_Bool (test x)) [
   | inl passes ↦ (x, (inl refl, passes))

@@ -20,7 +20,7 @@ one_plane m n same = grind (arith, nat_tests)
 pub two_planes : (m n : ℕ) → m ≢ n → eqb m n ≡ false
 two_planes m n other = grind (arith, nat_tests)
 
-eqb-comm : (m n : ℕ) → eqb m n ≡ eqb n m
+pub eqb-comm : (m n : ℕ) → eqb m n ≡ eqb n m
 eqb-comm m n = grind (arith, nat_tests)
 
 cond_zero : (test : Bool) (v : ℤ) → v ≡ pos 0 → cond test v (pos 0) ≡ pos 0

@@ -1,0 +1,15 @@
+pub mod PlaceOrders
+pub mod TakingLaws
+pub mod BlockLaws
+pub mod CountingLaws
+pub mod TextMaps
+pub mod FirstTileLaws
+pub mod GroupLaws
+pub mod NamingLaws
+pub mod TextLists
+pub mod NodeLists
+pub mod AttachLaws
+pub mod JoinedRegions
+pub mod AttachmentLists
+pub mod NamedNodeLaws
+pub mod TypedTiles

@@ -1,0 +1,5 @@
+use Rattle.names.specs.Groups.{key_at, AreGroupsBy}
+use Rattle.names.proofs.groups.grouped.Given as goal
+
+abbrev pub invariant-loop-member : goal.invariant-loop-member
+invariant-loop-member l = AreGroupsBy (key_at l.keys) l.member l.count l.groups.items

@@ -1,0 +1,6 @@
+use Rattle.std.proofs.Common.{◌≡◌, map, take}
+use Rattle.names.specs.Groups.{class_in}
+use Rattle.names.proofs.groups.label_keys.Given as goal
+
+abbrev pub invariant-loop-region : goal.invariant-loop-region
+invariant-loop-region l = l.keys.items ≡ map (class_in l.classes) (take l.region-index l.named)

@@ -1,0 +1,6 @@
+use Rattle.std.proofs.Common.{◌≡◌, map, take}
+use Rattle.names.specs.CountedLabels.{text_at}
+use Rattle.names.proofs.naming.texts_at.Given as goal
+
+abbrev pub invariant-loop-index : goal.invariant-loop-index
+invariant-loop-index l = l.texts.items ≡ map (text_at l.labels) (take l.index-index l.indices)

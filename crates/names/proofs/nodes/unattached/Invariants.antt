@@ -1,0 +1,6 @@
+use Rattle.names.specs.Attachments.{AreTextsOf}
+use Rattle.names.proofs.TextLists.{IsLeftBelow}
+use Rattle.names.proofs.nodes.unattached.Given as goal
+
+abbrev pub invariant-loop-index : goal.invariant-loop-index
+invariant-loop-index l = AreTextsOf l.labels (IsLeftBelow l.named l.index) l.texts.items
