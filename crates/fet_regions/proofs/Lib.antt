@@ -1,0 +1,9 @@
+pub mod AlikeTiles
+pub mod ChannelLaws
+pub mod ContactLaws
+pub mod FetLaws
+pub mod LengthLaws
+pub mod LowestLaws
+pub mod MapLaws
+pub mod RoleLaws
+pub mod SizeLaws

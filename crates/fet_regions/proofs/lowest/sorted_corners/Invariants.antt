@@ -1,0 +1,10 @@
+use Rattle.std.proofs.Common.{◌≡◌, map, filter}
+use Rattle.std.specs.List.{range_with_len}
+use Rattle.flood_nodes.specs.TileShares.{tile_at}
+use Rattle.fet_regions.specs.Lowest.{corner_at}
+use Rattle.fet_regions.specs.Roles.{channel_in}
+use Rattle.fet_regions.proofs.lowest.sorted_corners.Given as goal
+
+abbrev pub invariant-loop-place : goal.invariant-loop-place
+invariant-loop-place l =
+    l.corners.items ≡ filter (λ corner. channel_in l.roles (tile_at l.tiles corner.tile).kind.0) (map (corner_at l.tiles) (range_with_len 0 l.place))
