@@ -1,0 +1,7 @@
+pub mod NumberLaws
+pub mod CapacitanceLaws
+pub mod GroupLaws
+pub mod NodePlaces
+pub mod PaintTypes
+pub mod PaintLaws
+pub mod RecordLaws

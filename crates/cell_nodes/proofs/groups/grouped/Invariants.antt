@@ -1,0 +1,11 @@
+use Rattle.std.proofs.Common.{◌≡◌, ℕ, ◌<◌, length}
+use Rattle.std.specs.Prelude.{slice_index}
+use Rattle.flood_nodes.specs.Renumbered.{with_region}
+use Rattle.flood_nodes.specs.TileShares.{tile_at}
+use Rattle.cell_nodes.proofs.groups.grouped.Given as goal
+
+abbrev pub invariant-loop-tile : goal.invariant-loop-tile
+invariant-loop-tile l = record {
+  so_many : length l.grouped.items ≡ l.tile-index;
+  each : (k : ℕ) → k < l.tile-index → tile_at l.grouped.items k ≡ with_region (tile_at l.tiles k) (slice_index l.numbers (tile_at l.tiles k).region);
+}

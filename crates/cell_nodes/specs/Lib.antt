@@ -1,0 +1,3 @@
+pub mod NodeNumbers
+pub mod NodeRecords
+pub mod Records
