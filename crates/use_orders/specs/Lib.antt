@@ -1,0 +1,5 @@
+pub mod Uses
+pub mod LibraryOrder
+pub mod Walks
+pub mod NewCells
+pub mod Searches
