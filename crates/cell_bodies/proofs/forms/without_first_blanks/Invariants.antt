@@ -1,0 +1,9 @@
+use Rattle.std.proofs.Common.{◌≡◌, length}
+use Rattle.cell_bodies.specs.Words.{without_first_blanks}
+use Rattle.cell_bodies.proofs.forms.without_first_blanks.Given as goal
+
+abbrev pub invariant-loop-inner : goal.invariant-loop-inner
+invariant-loop-inner l = without_first_blanks l.inner ≡ without_first_blanks l.bytes
+
+abbrev pub decreases-loop-inner : goal.decreases-loop-inner
+decreases-loop-inner l = length l.inner

@@ -1,0 +1,14 @@
+-- How far the rectangles of a list are painted, where those of one layer that follow each other are painted together.
+use Rattle.std.proofs.Common.{◌≡◌, ℕ, List, take}
+use Rattle.geo_core.specs.declared.squares.Rect.{Rect}
+use Rattle.tech_model.specs.declared.raw.RawTech.{RawTech}
+use Rattle.layout_model.specs.Places.{Place}
+use Rattle.layout_model.specs.Layouts.{Layout}
+use Rattle.cell_paint.specs.Painting.{with_all_painted}
+use Rattle.mag_text.specs.declared.files.Drawn.{Drawn}
+use Rattle.mag_text.specs.Drawings.{painted_all, drawn_at}
+
+-- the rectangles before an index are painted once those that are gathered are
+abbrev pub AreGathered : RawTech → List Drawn → ℕ → List Rect → Layout → Type 0
+AreGathered raw drawn index areas layout =
+    (place : Place) → with_all_painted raw (drawn_at drawn index).layer.0 areas layout place ≡ painted_all raw (take index drawn) place

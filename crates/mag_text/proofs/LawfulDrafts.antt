@@ -1,0 +1,397 @@
+-- What was read is lawful, line by line.
+use Rattle.std.proofs.Common.{◌≡◌, ◌<◌, ℕ, ℤ, Bool, true, false, cond, List, [], ◌∷◌, ◌++◌, length, Some, Result, Ok, Err, refl, sym, ap, ◌∙◌, subst, inl, inr}
+use Rattle.std.specs.Prelude.{◌||◌, IfOk, IfSome, IsTrue, All}
+use Rattle.std.specs.List.{list_any}
+use Rattle.std.specs.Str.{bytes_eq}
+use Rattle.std.proofs.lemmas.Bool.{or_parts}
+use Rattle.std.proofs.lemmas.Slice.Eq.{bytes_eq-Decides}
+use Rattle.std.proofs.lemmas.List.{map-append}
+use Rattle.std.proofs.lemmas.List.Elements.{All-nil, All-push}
+use Rattle.finite_sets.specs.Lists.{In, Distinct}
+use Rattle.finite_sets.proofs.Distincts.{Distinct-push}
+use Rattle.text_scan.specs.Lines.{lines_of}
+use Rattle.text_scan.specs.PlainNames.{is_plain_name}
+use Rattle.text_form.specs.SaidLines.{and_then}
+use Rattle.text_form.specs.Folds.{text_state}
+use Rattle.text_form.proofs.FoldLaws.{first_fault_or-keeps, text_state-Ok}
+use Rattle.text_scan.specs.Words.{words_of}
+use Rattle.geo_core.specs.declared.grids.Grid.{Grid}
+use Rattle.geo_core.specs.declared.squares.Rect.{Rect}
+use Rattle.tech_model.specs.declared.raw.LayerId.{LayerId}
+use Rattle.tech_model.specs.declared.raw.Label.{Label as OneLabel}
+use Rattle.tech_model.specs.declared.raw.RawTech.{RawTech}
+use Rattle.cell_bodies.specs.declared.bodies.CellUse.{CellUse}
+use Rattle.cell_bodies.specs.Bodies.{ids_of, IsUse, IsLabel, IsBody}
+use Rattle.cell_bodies.specs.Words.{is_use_id}
+use Rattle.cell_bodies.specs.Numbers.{is_grid, is_placing, is_scale_number}
+use Rattle.mag_text.specs.declared.faults.MagFault.{MagFault}
+use Rattle.mag_text.specs.declared.faults.MagFault.TheVariants.{UseTwice, Magic, BadLine}
+use Rattle.mag_text.specs.declared.files.Group.{Group as OneGroup}
+use Rattle.mag_text.specs.declared.files.Group.TheVariants.{Paint, Labels, ReadOver}
+use Rattle.mag_text.specs.declared.files.MagLine.{MagLine}
+use Rattle.mag_text.specs.declared.files.MagLine.TheVariants.{Nothing, Tech, Timestamp, Scale, Group, End, Area, Label, Use, Array, Transform, Box}
+use Rattle.mag_text.specs.declared.files.Section.{Section}
+use Rattle.mag_text.specs.declared.files.Section.TheVariants.{Start, Header, Inside, Use as InUse, Between, Ended}
+use Rattle.mag_text.specs.declared.files.Seen.{Seen}
+use Rattle.mag_text.specs.declared.files.UsePart.{UsePart}
+use Rattle.mag_text.specs.declared.files.UsePart.TheVariants.{Named, Arrayed, Dated, Placed}
+use Rattle.mag_text.specs.Drafts.{Draft, nothing_yet, none_seen, has_id, use_named, opens, takes_in_header, takes_in_group, takes_in_use, takes_said, takes_in}
+use Rattle.mag_text.specs.Drafts.{with_grid, with_time, with_six, ends_read_over, is_magic, begins, line_taken, line_in, step, ended, finish}
+use Rattle.mag_text.specs.LineForms.{says}
+use Rattle.cell_bodies.specs.declared.bodies.CellBody.{CellBody}
+use Rattle.mag_text.specs.Drawings.{IsDrawn, AreDrawn}
+use Rattle.mag_text.specs.MagTexts.{mag_in, HasAllOf}
+use Rattle.mag_text.proofs.LawfulLines.{IsGoodLine, IsGoodGroup, IsGoodScale, IsPainted, says-good}
+
+-- the use that is being read has a cell, an id that no other has, and a grid if any
+pub record IsPending (draft : Draft) : Type 0 where
+  pub cell : IsTrue (is_plain_name draft.pending.cell)
+  pub id : IsTrue (is_use_id draft.pending.id)
+  pub grid : IfSome draft.pending.grid (λ grid. IsTrue (is_grid grid))
+  pub new : has_id draft.pending.id draft.uses ≡ false
+
+abbrev IsPendingIn : UsePart → Draft → Type 0
+IsPendingIn Named draft = IsPending draft
+IsPendingIn Arrayed draft = IsPending draft
+IsPendingIn Dated draft = IsPending draft
+IsPendingIn Placed draft = Unit {0}
+
+-- what the section adds: the layer of a group is the technology's, and the use that is being read is of its form
+abbrev IsInPlace : RawTech → Section → Draft → Type 0
+IsInPlace raw Start draft = Unit {0}
+IsInPlace raw (Header seen) draft = Unit {0}
+IsInPlace raw (Inside group) draft = IsGoodGroup raw group
+IsInPlace raw (InUse part) draft = IsPendingIn part draft
+IsInPlace raw Between draft = Unit {0}
+IsInPlace raw Ended draft = Unit {0}
+
+-- what was read so far is lawful
+pub record HasLawful (raw : RawTech) (draft : Draft) : Type 0 where
+  pub drawn : AreDrawn raw draft.drawn
+  pub uses : All IsUse draft.uses
+  pub ids_differ : Distinct (ids_of draft.uses)
+  pub labels : All (IsLabel raw) draft.labels
+  pub numerator : IsTrue (is_scale_number draft.scale.0)
+  pub denominator : IsTrue (is_scale_number draft.scale.1)
+
+pub record IsLawfulDraft (raw : RawTech) (draft : Draft) : Type 0 where
+  pub has : HasLawful raw draft
+  pub place : IsInPlace raw draft.section draft
+
+nothing_yet-lawful : (raw : RawTech) → IsLawfulDraft raw nothing_yet
+nothing_yet-lawful raw = record {
+  has = record { drawn = All-nil (IsDrawn raw); uses = All-nil IsUse; ids_differ = tt; labels = All-nil (IsLabel raw); numerator = refl; denominator = refl };
+  place = tt;
+}
+
+-- the section and the use that is being read are nothing to what was read
+kept : (raw : RawTech) (draft : Draft) (section : Section) (pending : CellUse) → HasLawful raw draft → HasLawful raw (record draft { section = section; pending = pending })
+kept raw draft section pending has = record {
+  drawn = has.drawn;
+  uses = has.uses;
+  ids_differ = has.ids_differ;
+  labels = has.labels;
+  numerator = has.numerator;
+  denominator = has.denominator;
+}
+
+-- what comes of a value, if it is one
+then_good : {A : Type 0} (P : Draft → Type 0) (Q : A → Type 0) (found : Result A MagFault) (next : A → Result Draft MagFault)
+    → IfOk found Q → ((a : A) → Q a → IfOk (next a) P) → IfOk (and_then found next) P
+then_good P Q (Ok a) next holds more = more a holds
+then_good P Q (Err fault) next holds more = tt
+
+then_any : {A : Type 0} (P : Draft → Type 0) (found : Result A MagFault) (next : A → Result Draft MagFault) → ((a : A) → IfOk (next a) P) → IfOk (and_then found next) P
+then_any P (Ok a) next more = more a
+then_any P (Err fault) next more = tt
+
+unless_good : (P : Draft → Type 0) (test : Bool) (fault : MagFault) (found : Result Draft MagFault) → (test ≡ false → IfOk found P) → IfOk (cond test (Err fault) found) P
+unless_good P true fault found good = tt
+unless_good P false fault found good = good refl
+
+opens-lawful : (raw : RawTech) (draft : Draft) (said : MagLine) → HasLawful raw draft → IsGoodLine raw said → IfOk (opens draft said) (IsLawfulDraft raw)
+opens-lawful raw draft Nothing has good = tt
+opens-lawful raw draft Tech has good = tt
+opens-lawful raw draft (Timestamp time) has good = tt
+opens-lawful raw draft (Scale scale) has good = tt
+opens-lawful raw draft (Group group) has good =
+    then_good (IsLawfulDraft raw) (IsGoodGroup raw) group (λ group. Ok (record draft { section = Inside group })) good (λ group is. record { has = kept raw draft (Inside group) draft.pending has; place = is })
+opens-lawful raw draft End has good = record { has = kept raw draft Ended draft.pending has; place = tt }
+opens-lawful raw draft (Area area) has good = tt
+opens-lawful raw draft (Label label) has good = tt
+opens-lawful raw draft (Use cell id) has good =
+    unless_good (IsLawfulDraft raw) (has_id id draft.uses) UseTwice _
+    (λ new. record { has = kept raw draft (InUse Named) (use_named cell id) has; place = record { cell = good.0; id = good.1; grid = tt; new = new } })
+opens-lawful raw draft (Array grid) has good = tt
+opens-lawful raw draft (Transform six) has good = tt
+opens-lawful raw draft Box has good = tt
+
+header-lawful : (raw : RawTech) (seen : Seen) (draft : Draft) (said : MagLine) → HasLawful raw draft → IsGoodLine raw said → IfOk (takes_in_header seen draft said) (IsLawfulDraft raw)
+header-lawful raw seen draft Nothing has good = tt
+header-lawful raw seen draft Tech has good =
+    unless_good (IsLawfulDraft raw) seen.tech BadLine _ (λ new. record { has = kept raw draft (Header (record seen { tech = true })) draft.pending has; place = tt })
+header-lawful raw seen draft (Timestamp time) has good =
+    unless_good (IsLawfulDraft raw) seen.timestamp BadLine _ (λ new.
+    then_any (IsLawfulDraft raw) time _ (λ t. record { has = kept raw draft (Header (record seen { timestamp = true })) draft.pending has; place = tt }))
+header-lawful raw seen draft (Scale scale) has good =
+    unless_good (IsLawfulDraft raw) seen.scale BadLine _ (λ new.
+    then_good (IsLawfulDraft raw) IsGoodScale scale _ good (λ s is. record {
+      has = record { drawn = has.drawn; uses = has.uses; ids_differ = has.ids_differ; labels = has.labels; numerator = is.0; denominator = is.1 };
+      place = tt;
+    }))
+header-lawful raw seen draft (Group group) has good = opens-lawful raw draft (Group group) has good
+header-lawful raw seen draft End has good = opens-lawful raw draft End has good
+header-lawful raw seen draft (Area area) has good = tt
+header-lawful raw seen draft (Label label) has good = tt
+header-lawful raw seen draft (Use cell id) has good = opens-lawful raw draft (Use cell id) has good
+header-lawful raw seen draft (Array grid) has good = tt
+header-lawful raw seen draft (Transform six) has good = tt
+header-lawful raw seen draft Box has good = tt
+
+area-lawful : (raw : RawTech) (layer : LayerId) (draft : Draft) (area : Result Rect MagFault)
+    → IsLawfulDraft raw draft → draft.section ≡ Inside (Paint layer) → layer.0 < length raw.layers → IfOk area IsPainted
+    → IfOk (takes_in_group (Paint layer) draft (Area area)) (IsLawfulDraft raw)
+area-lawful raw layer draft area lawful there below good =
+    let has = lawful.has in
+    then_good (IsLawfulDraft raw) IsPainted area _ good (λ a is. record {
+      has = record {
+        drawn = All-push (IsDrawn raw) draft.drawn _ has.drawn (record { layer = below; square = is.0; range = is.1 });
+        uses = has.uses;
+        ids_differ = has.ids_differ;
+        labels = has.labels;
+        numerator = has.numerator;
+        denominator = has.denominator;
+      };
+      place = subst (λ (section : Section). IsInPlace raw section (record draft { drawn = draft.drawn ++ (record { layer = layer; area = a }) ∷ [] })) (sym there) below;
+    })
+
+label-lawful : (raw : RawTech) (draft : Draft) (label : Result OneLabel MagFault)
+    → IsLawfulDraft raw draft → draft.section ≡ Inside Labels → IfOk label (IsLabel raw) → IfOk (takes_in_group Labels draft (Label label)) (IsLawfulDraft raw)
+label-lawful raw draft label lawful there good =
+    let has = lawful.has in
+    then_good (IsLawfulDraft raw) (IsLabel raw) label _ good (λ l is. record {
+      has = record {
+        drawn = has.drawn;
+        uses = has.uses;
+        ids_differ = has.ids_differ;
+        labels = All-push (IsLabel raw) draft.labels l has.labels is;
+        numerator = has.numerator;
+        denominator = has.denominator;
+      };
+      place = subst (λ (section : Section). IsInPlace raw section (record draft { labels = draft.labels ++ l ∷ [] })) (sym there) tt;
+    })
+
+group-lawful : (raw : RawTech) (group : OneGroup) (draft : Draft) (said : MagLine)
+    → IsLawfulDraft raw draft → draft.section ≡ Inside group → IsGoodGroup raw group → IsGoodLine raw said → IfOk (takes_in_group group draft said) (IsLawfulDraft raw)
+group-lawful raw (Paint layer) draft (Area area) lawful there below good = area-lawful raw layer draft area lawful there below good
+group-lawful raw (Paint layer) draft (Label label) lawful there below good = tt
+group-lawful raw (Paint layer) draft Nothing lawful there below good = tt
+group-lawful raw (Paint layer) draft Tech lawful there below good = tt
+group-lawful raw (Paint layer) draft (Timestamp time) lawful there below good = tt
+group-lawful raw (Paint layer) draft (Scale scale) lawful there below good = tt
+group-lawful raw (Paint layer) draft (Group group) lawful there below good = opens-lawful raw draft (Group group) lawful.has good
+group-lawful raw (Paint layer) draft End lawful there below good = opens-lawful raw draft End lawful.has good
+group-lawful raw (Paint layer) draft (Use cell id) lawful there below good = opens-lawful raw draft (Use cell id) lawful.has good
+group-lawful raw (Paint layer) draft (Array grid) lawful there below good = tt
+group-lawful raw (Paint layer) draft (Transform six) lawful there below good = tt
+group-lawful raw (Paint layer) draft Box lawful there below good = tt
+group-lawful raw Labels draft (Label label) lawful there below good = label-lawful raw draft label lawful there good
+group-lawful raw Labels draft (Area area) lawful there below good = tt
+group-lawful raw Labels draft Nothing lawful there below good = tt
+group-lawful raw Labels draft Tech lawful there below good = tt
+group-lawful raw Labels draft (Timestamp time) lawful there below good = tt
+group-lawful raw Labels draft (Scale scale) lawful there below good = tt
+group-lawful raw Labels draft (Group group) lawful there below good = opens-lawful raw draft (Group group) lawful.has good
+group-lawful raw Labels draft End lawful there below good = opens-lawful raw draft End lawful.has good
+group-lawful raw Labels draft (Use cell id) lawful there below good = opens-lawful raw draft (Use cell id) lawful.has good
+group-lawful raw Labels draft (Array grid) lawful there below good = tt
+group-lawful raw Labels draft (Transform six) lawful there below good = tt
+group-lawful raw Labels draft Box lawful there below good = tt
+group-lawful raw ReadOver draft said lawful there below good = opens-lawful raw draft said lawful.has good
+
+no_id : (id : List ℕ) (ids : List (List ℕ)) → list_any (bytes_eq id) ids ≡ false → In id ids → ⊥
+no_id id [] none there = there
+no_id id (x ∷ ids) none (inl same) =
+    let is : bytes_eq id x ≡ true = subst (λ (w : List ℕ). bytes_eq id w ≡ true) (sym same) ((bytes_eq-Decides id id).1 refl) in
+    let some : list_any (bytes_eq id) (x ∷ ids) ≡ true = ap (λ (b : Bool). b || list_any (bytes_eq id) ids) is in
+    absurd (let no : true ≡ false = sym some ∙ none in let none : ⊥ = cc in none)
+no_id id (x ∷ ids) none (inr there) = no_id id ids (or_parts (bytes_eq id x) (list_any (bytes_eq id) ids) none).1 there
+
+six-lawful : (raw : RawTech) (draft : Draft) (six : Result (List ℤ) MagFault) → HasLawful raw draft → IsPending draft → IfOk six (λ six. IsTrue (is_placing six))
+    → IfOk (and_then six (λ six. Ok (with_six draft six))) (IsLawfulDraft raw)
+six-lawful raw draft six has pending good =
+    then_good (IsLawfulDraft raw) (λ six. IsTrue (is_placing six)) six _ good (λ s is.
+    let placed : CellUse = record draft.pending { six = s } in
+    let ids : ids_of (draft.uses ++ placed ∷ []) ≡ ids_of draft.uses ++ draft.pending.id ∷ [] = map-append (λ (u : CellUse). u.id) draft.uses (placed ∷ []) in
+    record {
+      has = record {
+        drawn = has.drawn;
+        uses = All-push IsUse draft.uses placed has.uses (record { cell = pending.cell; id = pending.id; six = is; grid = pending.grid });
+        ids_differ = subst (λ (ids : List (List ℕ)). Distinct ids) (sym ids)
+            (Distinct-push (ids_of draft.uses) draft.pending.id has.ids_differ (no_id draft.pending.id (ids_of draft.uses) pending.new));
+        labels = has.labels;
+        numerator = has.numerator;
+        denominator = has.denominator;
+      };
+      place = tt;
+    })
+
+time-lawful : (raw : RawTech) (draft : Draft) (time : Result ℤ MagFault) → HasLawful raw draft → IsPending draft → IfOk (and_then time (λ _. Ok (with_time draft))) (IsLawfulDraft raw)
+time-lawful raw draft time has pending =
+    then_any (IsLawfulDraft raw) time _ (λ t. record {
+      has = kept raw draft (InUse Dated) draft.pending has;
+      place = record { cell = pending.cell; id = pending.id; grid = pending.grid; new = pending.new };
+    })
+
+grid-lawful : (raw : RawTech) (draft : Draft) (grid : Result Grid MagFault) → HasLawful raw draft → IsPending draft → IfOk grid (λ grid. IsTrue (is_grid grid))
+    → IfOk (and_then grid (λ grid. Ok (with_grid draft grid))) (IsLawfulDraft raw)
+grid-lawful raw draft grid has pending good =
+    then_good (IsLawfulDraft raw) (λ grid. IsTrue (is_grid grid)) grid _ good (λ g is. record {
+      has = kept raw draft (InUse Arrayed) (record draft.pending { grid = Some g }) has;
+      place = record { cell = pending.cell; id = pending.id; grid = is; new = pending.new };
+    })
+
+use-lawful : (raw : RawTech) (part : UsePart) (draft : Draft) (said : MagLine) → HasLawful raw draft → IsPendingIn part draft → IsGoodLine raw said
+    → IfOk (takes_in_use part draft said) (IsLawfulDraft raw)
+use-lawful raw Named draft (Array grid) has pending good = grid-lawful raw draft grid has pending good
+use-lawful raw Named draft (Timestamp time) has pending good = time-lawful raw draft time has pending
+use-lawful raw Named draft (Transform six) has pending good = six-lawful raw draft six has pending good
+use-lawful raw Arrayed draft (Timestamp time) has pending good = time-lawful raw draft time has pending
+use-lawful raw Arrayed draft (Transform six) has pending good = six-lawful raw draft six has pending good
+use-lawful raw Dated draft (Transform six) has pending good = six-lawful raw draft six has pending good
+use-lawful raw Placed draft Box has pending good = record { has = kept raw draft Between draft.pending has; place = tt }
+use-lawful raw Named draft Nothing has pending good = tt
+use-lawful raw Named draft Tech has pending good = tt
+use-lawful raw Named draft (Scale scale) has pending good = tt
+use-lawful raw Named draft (Group group) has pending good = tt
+use-lawful raw Named draft End has pending good = tt
+use-lawful raw Named draft (Area area) has pending good = tt
+use-lawful raw Named draft (Label label) has pending good = tt
+use-lawful raw Named draft (Use cell id) has pending good = tt
+use-lawful raw Named draft Box has pending good = tt
+use-lawful raw Arrayed draft Nothing has pending good = tt
+use-lawful raw Arrayed draft Tech has pending good = tt
+use-lawful raw Arrayed draft (Scale scale) has pending good = tt
+use-lawful raw Arrayed draft (Group group) has pending good = tt
+use-lawful raw Arrayed draft End has pending good = tt
+use-lawful raw Arrayed draft (Area area) has pending good = tt
+use-lawful raw Arrayed draft (Label label) has pending good = tt
+use-lawful raw Arrayed draft (Use cell id) has pending good = tt
+use-lawful raw Arrayed draft (Array grid) has pending good = tt
+use-lawful raw Arrayed draft Box has pending good = tt
+use-lawful raw Dated draft Nothing has pending good = tt
+use-lawful raw Dated draft Tech has pending good = tt
+use-lawful raw Dated draft (Timestamp time) has pending good = tt
+use-lawful raw Dated draft (Scale scale) has pending good = tt
+use-lawful raw Dated draft (Group group) has pending good = tt
+use-lawful raw Dated draft End has pending good = tt
+use-lawful raw Dated draft (Area area) has pending good = tt
+use-lawful raw Dated draft (Label label) has pending good = tt
+use-lawful raw Dated draft (Use cell id) has pending good = tt
+use-lawful raw Dated draft (Array grid) has pending good = tt
+use-lawful raw Dated draft Box has pending good = tt
+use-lawful raw Placed draft Nothing has pending good = tt
+use-lawful raw Placed draft Tech has pending good = tt
+use-lawful raw Placed draft (Timestamp time) has pending good = tt
+use-lawful raw Placed draft (Scale scale) has pending good = tt
+use-lawful raw Placed draft (Group group) has pending good = tt
+use-lawful raw Placed draft End has pending good = tt
+use-lawful raw Placed draft (Area area) has pending good = tt
+use-lawful raw Placed draft (Label label) has pending good = tt
+use-lawful raw Placed draft (Use cell id) has pending good = tt
+use-lawful raw Placed draft (Array grid) has pending good = tt
+use-lawful raw Placed draft (Transform six) has pending good = tt
+
+in_place : (raw : RawTech) (draft : Draft) (section : Section) → draft.section ≡ section → IsLawfulDraft raw draft → IsInPlace raw section draft
+in_place raw draft section there lawful = subst (λ (s : Section). IsInPlace raw s draft) there lawful.place
+
+said-lawful : (raw : RawTech) (section : Section) (draft : Draft) (said : MagLine) → IsLawfulDraft raw draft → draft.section ≡ section → IsGoodLine raw said
+    → IfOk (takes_said section draft said) (IsLawfulDraft raw)
+said-lawful raw Start draft said lawful there good = opens-lawful raw draft said lawful.has good
+said-lawful raw (Header seen) draft said lawful there good = header-lawful raw seen draft said lawful.has good
+said-lawful raw (Inside group) draft said lawful there good = group-lawful raw group draft said lawful there (in_place raw draft (Inside group) there lawful) good
+said-lawful raw (InUse part) draft said lawful there good = use-lawful raw part draft said lawful.has (in_place raw draft (InUse part) there lawful) good
+said-lawful raw Between draft said lawful there good = opens-lawful raw draft said lawful.has good
+said-lawful raw Ended draft said lawful there good = opens-lawful raw draft said lawful.has good
+
+in-lawful : (raw : RawTech) (section : Section) (draft : Draft) (said : MagLine) → IsLawfulDraft raw draft → draft.section ≡ section → IsGoodLine raw said
+    → IfOk (takes_in section draft said) (IsLawfulDraft raw)
+in-lawful raw section draft Nothing lawful there good = lawful
+in-lawful raw section draft Tech lawful there good = said-lawful raw section draft Tech lawful there good
+in-lawful raw section draft (Timestamp time) lawful there good = said-lawful raw section draft (Timestamp time) lawful there good
+in-lawful raw section draft (Scale scale) lawful there good = said-lawful raw section draft (Scale scale) lawful there good
+in-lawful raw section draft (Group group) lawful there good = said-lawful raw section draft (Group group) lawful there good
+in-lawful raw section draft End lawful there good = said-lawful raw section draft End lawful there good
+in-lawful raw section draft (Area area) lawful there good = said-lawful raw section draft (Area area) lawful there good
+in-lawful raw section draft (Label label) lawful there good = said-lawful raw section draft (Label label) lawful there good
+in-lawful raw section draft (Use cell id) lawful there good = said-lawful raw section draft (Use cell id) lawful there good
+in-lawful raw section draft (Array grid) lawful there good = said-lawful raw section draft (Array grid) lawful there good
+in-lawful raw section draft (Transform six) lawful there good = said-lawful raw section draft (Transform six) lawful there good
+in-lawful raw section draft Box lawful there good = said-lawful raw section draft Box lawful there good
+
+taken-lawful : (raw : RawTech) (draft : Draft) (line : List ℕ) → IsLawfulDraft raw draft → IfOk (line_taken raw draft line) (IsLawfulDraft raw)
+taken-lawful raw draft line lawful =
+    then_good (IsLawfulDraft raw) (IsGoodLine raw) (says raw line) _ (says-good raw line) (λ said good. in-lawful raw draft.section draft said lawful refl good)
+
+begun : (raw : RawTech) (draft : Draft) (test : Bool) → IsLawfulDraft raw draft
+    → IfOk (cond test (Ok (record draft { section = Header none_seen })) (Err Magic)) (IsLawfulDraft raw)
+begun raw draft true lawful = record { has = kept raw draft (Header none_seen) draft.pending lawful.has; place = tt }
+begun raw draft false lawful = tt
+
+begins-lawful : (raw : RawTech) (draft : Draft) (line : List ℕ) → IsLawfulDraft raw draft → IfOk (begins draft line) (IsLawfulDraft raw)
+begins-lawful raw draft line lawful = begun raw draft (is_magic (words_of line)) lawful
+
+read_over-lawful : (raw : RawTech) (draft : Draft) (line : List ℕ) (test : Bool) → IsLawfulDraft raw draft
+    → IfOk (cond test (line_taken raw draft line) (Ok draft)) (IsLawfulDraft raw)
+read_over-lawful raw draft line true lawful = taken-lawful raw draft line lawful
+read_over-lawful raw draft line false lawful = lawful
+
+line-lawful : (raw : RawTech) (section : Section) (draft : Draft) (line : List ℕ) → IsLawfulDraft raw draft → IfOk (line_in raw section draft line) (IsLawfulDraft raw)
+line-lawful raw Start draft line lawful = begins-lawful raw draft line lawful
+line-lawful raw (Header seen) draft line lawful = taken-lawful raw draft line lawful
+line-lawful raw (Inside (Paint layer)) draft line lawful = taken-lawful raw draft line lawful
+line-lawful raw (Inside Labels) draft line lawful = taken-lawful raw draft line lawful
+line-lawful raw (Inside ReadOver) draft line lawful = read_over-lawful raw draft line (ends_read_over line) lawful
+line-lawful raw (InUse part) draft line lawful = taken-lawful raw draft line lawful
+line-lawful raw Between draft line lawful = taken-lawful raw draft line lawful
+line-lawful raw Ended draft line lawful = lawful
+
+step-lawful : (raw : RawTech) (number : ℕ) (draft : Draft) (line : List ℕ) (next : Draft) → IsLawfulDraft raw draft → step raw number draft line ≡ Ok next → IsLawfulDraft raw next
+step-lawful raw number draft line next lawful is =
+    let all = line-lawful raw draft.section draft line lawful in
+    subst (λ (found : Result Draft MagFault). IfOk found (IsLawfulDraft raw)) is all
+
+ended_same : (section : Section) (draft last : Draft) → ended section draft ≡ Ok last → draft ≡ last
+ended_same Start draft last e = absurd (let no : ⊥ = cc in no)
+ended_same (Header seen) draft last e = absurd (let no : ⊥ = cc in no)
+ended_same (Inside group) draft last e = absurd (let no : ⊥ = cc in no)
+ended_same (InUse part) draft last e = absurd (let no : ⊥ = cc in no)
+ended_same Between draft last e = absurd (let no : ⊥ = cc in no)
+ended_same Ended draft last e = let same : draft ≡ last = cc in same
+
+-- what a text without fault says is lawful
+pub mag_in-lawful : (raw : RawTech) (text : List ℕ) (draft : Draft) → mag_in raw text ≡ Ok draft → HasLawful raw draft
+unfolding mag_in
+mag_in-lawful raw text draft is =
+    let read = text_state-Ok (step raw) finish nothing_yet (lines_of text) draft is in
+    let lawful = first_fault_or-keeps (IsLawfulDraft raw) (step raw) (step-lawful raw) 1 nothing_yet (lines_of text) read.0 (nothing_yet-lawful raw) read.1 in
+    let same : read.0 ≡ draft = ended_same read.0.section read.0 draft read.2 in
+    subst (HasLawful raw) same lawful.has
+
+-- the body that has what was read is lawful
+pub body-lawful : (raw : RawTech) (draft : Draft) (body : CellBody) → HasLawful raw draft → HasAllOf raw draft body → body.paint.kinds ≡ raw.types
+    → length body.paint.planes ≡ length raw.planes → IsBody raw body
+body-lawful raw draft body has all kinds planes = record {
+  kinds = kinds;
+  planes = planes;
+  uses = subst (All IsUse) (sym all.uses_are) has.uses;
+  ids_differ = subst (λ (uses : List CellUse). Distinct (ids_of uses)) (sym all.uses_are) has.ids_differ;
+  labels = subst (All (IsLabel raw)) (sym all.labels_are) has.labels;
+  numerator = subst (λ (scale : ℕ × ℕ). IsTrue (is_scale_number scale.0)) (sym all.scale_is) has.numerator;
+  denominator = subst (λ (scale : ℕ × ℕ). IsTrue (is_scale_number scale.1)) (sym all.scale_is) has.denominator;
+}
+
+-- what is read from nothing is what the text says
+pub mag_in-read : (raw : RawTech) (text : List ℕ) (start last : Draft) → start ≡ nothing_yet → text_state (step raw) finish start (lines_of text) ≡ Ok last → mag_in raw text ≡ Ok last
+unfolding mag_in
+mag_in-read raw text start last is read = ap (λ (s : Draft). text_state (step raw) finish s (lines_of text)) (sym is) ∙ read

@@ -1,0 +1,12 @@
+pub mod DrawingSteps
+pub mod UseIdLaws
+pub mod LawfulLines
+pub mod LawfulDrafts
+pub mod RefusedTexts
+pub mod WrittenTextLaws
+pub mod ReadLines
+pub mod LayerNames
+pub mod ReadLabels
+pub mod ReadBack
+pub mod ReadText
+pub mod StripLaws

@@ -1,0 +1,10 @@
+pub mod NumberForms
+pub mod WordForms
+pub mod LineForms
+pub mod UseIds
+pub mod Drafts
+pub mod Drawings
+pub mod MagTexts
+pub mod WrittenTexts
+pub mod WrittenLaws
+pub mod ReadBack

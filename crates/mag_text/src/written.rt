@@ -1,0 +1,22 @@
+//! What is written as a mag text.
+
+use geo_core::{Grid, List, Name, Rect};
+
+/// A use as it is written: its child's name, its id, where it stands, its grid, and the hull of the child in the child's own
+/// coordinates, where it has one.
+#[derive(Debug, Drop)]
+pub struct WrittenUse<'a> {
+    pub cell: &'a Name,
+    pub id: &'a Name,
+    pub six: [i64; 6],
+    pub grid: Option<Grid>,
+    pub hull: Option<Rect>,
+}
+
+/// The strips of a layer's image on its own plane.
+#[derive(Debug, Drop)]
+pub struct LayerStrips {
+    /// The number of the layer.
+    pub layer: usize,
+    pub areas: List<Rect>,
+}
