@@ -1,0 +1,5 @@
+pub mod FrontLaws
+pub mod LabelLaws
+pub mod NumberForms
+pub mod ReadLaws
+pub mod SixLaws
