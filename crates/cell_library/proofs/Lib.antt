@@ -1,0 +1,16 @@
+pub mod BoxLaws
+pub mod BoxSteps
+pub mod ContentLaws
+pub mod EditLaws
+pub mod FaultLaws
+pub mod LimitLaws
+pub mod MaterialLaws
+pub mod MoveEdits
+pub mod NewCells
+pub mod OwnEdits
+pub mod PaintEdits
+pub mod SizeLaws
+pub mod UseEdits
+pub mod UseLists
+pub mod UseSteps
+pub mod ViewLaws

@@ -1,0 +1,171 @@
+-- Paint and labels of one cell: what becomes of the library, and what it is refused for.
+use Rattle.std.proofs.Common.{◌≡◌, ◌<◌, ◌≤◌, ℕ, true, false, Bool, List, [], length, Option, refl, sym, ap, subst, ◌∙◌, arith, inl, inr, true≢false}
+use Rattle.std.specs.Prelude.{Some, slice_get, slice_set, slice_index_or}
+use Rattle.std.proofs.lemmas.Bool.{cases_lt}
+use Rattle.geo_core.specs.declared.squares.Rect.{Rect}
+use Rattle.geo_core.specs.Areas.{has_square}
+use Rattle.geo_core.proofs.CoveringLaws.{IsProper-has_square}
+use Rattle.tech_model.specs.declared.limits.TheConstants.{MOST_PLANES}
+use Rattle.tech_model.specs.declared.raw.TypeRec.{TypeRec}
+use Rattle.tech_model.specs.declared.raw.RawTech.{RawTech}
+use Rattle.tech_model.specs.Types.{plane_of}
+use Rattle.tech_model.specs.WellFormed.{IsWellFormed}
+use Rattle.tech_model.specs.Rules.{KeepsRules}
+use Rattle.layout_model.specs.Places.{Place}
+use Rattle.layout_model.specs.Layouts.{Layout, IsMaterial}
+use Rattle.cell_paint.specs.Painting.{place_at, with_paint}
+use Rattle.cell_paint.specs.Paints.{Paint, layout_of, KeepsTypes, IsSoundPaint}
+use Rattle.cell_paint.proofs.PlaneLaws.{space_past}
+use Rattle.cell_tree.specs.declared.sizes.Dimension.TheVariants.{Hull}
+use Rattle.cell_tree.specs.Sizes.{CellState}
+use Rattle.cell_tree.specs.Trees.{Tree, IsLawfulTree, cell_at, empty_cell as empty_state}
+use Rattle.cell_library.specs.declared.faults.LibFault.{LibFault}
+use Rattle.cell_library.specs.CellEdits.{with_area, BoxIsRefused, IsPaintedIn}
+use Rattle.cell_library.specs.Contents.{Held, held_at, no_held}
+use Rattle.cell_library.specs.Edits.{painted}
+use Rattle.cell_library.specs.Libraries.{LibraryParts, IsLawfulLibrary, IsLawfulHeld, cells_seen, uses_in, seen, edits_of}
+use Rattle.cell_library.specs.Limits.{AreStatesOf, GoesPast}
+use Rattle.cell_library.specs.OwnBoxes.{OwnBoxIs, IsOwnBox, box_with}
+use Rattle.cell_library.specs.Refusals.{EditIsRefused, AreaIsRefused, PaintIsRefused, HasFaultOrLacksMemory}
+use Rattle.cell_library.specs.Seen.{cell_view}
+use Rattle.cell_library.specs.Views.{CellView, changed_at}
+use Rattle.cell_library.proofs.BoxLaws.{filled_box}
+use Rattle.cell_library.proofs.EditLaws.{edit_seen, edit_lawful}
+use Rattle.cell_library.proofs.FaultLaws.{first_of_map, not_first, or_memory_map, not_full}
+use Rattle.cell_library.proofs.LimitLaws.{never_past, would_go_past}
+use Rattle.cell_library.proofs.MaterialLaws.{painted_keeps, painted_fills, painted_only, some_image}
+use Rattle.cell_library.proofs.ViewLaws.{cell_seen, cell_viewed, uses_at, state_there, states_changed}
+
+-- ---- the cell that is edited
+
+module _ (library : LibraryParts) (lawful : IsLawfulLibrary library) (cell : ℕ) (below : cell < length library.contents) where
+  -- what it has of its own is lawful
+  pub held_lawful : IsLawfulHeld library.tech (held_at library.contents cell)
+  held_lawful = lawful.each cell no_held below
+
+  -- and its box is that of its paint and labels
+  pub own_is : OwnBoxIs (layout_of (held_at library.contents cell).paint) (held_at library.contents cell).labels (cell_at library.tree.cells cell).own
+  own_is =
+      let many = lawful.so_many in
+      subst (λ (view : CellView). OwnBoxIs view.own view.labels (cell_at library.tree.cells cell).own)
+      (cell_viewed library.contents (uses_in library.tree.cells) cell below)
+      (state_there (cells_seen library.contents library.tree) library.tree.cells cell lawful.boxes (omega arith))
+
+  -- what is seen of it
+  pub seen_here : (body : CellView) → slice_get (cells_seen library.contents library.tree) cell ≡ Some body
+      → body ≡ cell_view (held_at library.contents cell) (cell_at library.tree.cells cell).uses
+  seen_here body is =
+      let many = lawful.so_many in
+      let there : Some body ≡ Some (cell_view (held_at library.contents cell) (slice_index_or (uses_in library.tree.cells) cell [])) =
+      sym is ∙ cell_seen library.contents (uses_in library.tree.cells) cell below in
+      let same : body ≡ cell_view (held_at library.contents cell) (slice_index_or (uses_in library.tree.cells) cell []) = cc in
+      same ∙ ap (cell_view (held_at library.contents cell)) (uses_at library.tree.cells cell (omega arith))
+
+  -- the states of the cells, after a change of this one
+  pub states_after : (change : CellView → CellView) (state : CellState)
+      → OwnBoxIs (change (cell_view (held_at library.contents cell) (cell_at library.tree.cells cell).uses)).own
+      (change (cell_view (held_at library.contents cell) (cell_at library.tree.cells cell).uses)).labels state.own
+      → state.uses ≡ (change (cell_view (held_at library.contents cell) (cell_at library.tree.cells cell).uses)).uses
+      → AreStatesOf (changed_at (cells_seen library.contents library.tree) cell change) (slice_set library.tree.cells cell state)
+  states_after change state own uses =
+      states_changed (cells_seen library.contents library.tree) library.tree.cells cell change state lawful.boxes (λ body is.
+      subst (λ (view : CellView). OwnBoxIs (change view).own (change view).labels state.own × (state.uses ≡ (change view).uses)) (sym (seen_here body is))
+      (own, uses))
+
+-- ---- paint
+
+-- material stands on planes that there may be
+pub material_few : (paint : Paint) → length paint.planes ≤ MOST_PLANES → (place : Place) → IsMaterial (layout_of paint) place → place.plane < MOST_PLANES
+material_few paint few place material = elim (cases_lt place.plane (length paint.planes)) [
+  | inl below ↦ omega arith
+  | inr past ↦ absurd (material (space_past paint.planes place.plane place.square past))
+]
+
+-- the box after paint goes round the old one and the area
+pub painted_own_box : (raw : RawTech) (layer : ℕ) (area : Rect) (held : Held) (box : Option Rect) (library : LibraryParts) → IsLawfulLibrary library → raw ≡ library.tech
+    → layer < length raw.layers → IsLawfulHeld raw held → IsSoundPaint held.paint.kinds (layout_of held.paint) → OwnBoxIs (layout_of held.paint) held.labels box
+    → has_square area ≡ true → IsOwnBox (with_paint raw layer area (layout_of held.paint)) held.labels (box_with box area)
+painted_own_box raw layer area held box library lawful same layer_below held_is sound is square =
+    let w = subst IsWellFormed (sym same) lawful.well_formed in
+    let rules = subst KeepsRules (sym same) lawful.rules in
+    let keeps : KeepsTypes raw.types (layout_of held.paint) = subst (λ (kinds : List TypeRec). KeepsTypes kinds (layout_of held.paint)) held_is.kinds sound.types in
+    let image = some_image raw layer w layer_below in
+    let limit = w.planes_limit in
+    let planes = held_is.planes in
+    let few : length held.paint.planes ≤ MOST_PLANES = omega arith in
+    filled_box (layout_of held.paint) (with_paint raw layer area (layout_of held.paint)) held.labels box area is (IsProper-has_square area square)
+    (λ place material. painted_keeps raw layer area (layout_of held.paint) w layer_below keeps place rules.own_sets (material_few held.paint few place material) material)
+    (λ s covers. (place_at (plane_of raw image.0.0) s, (painted_fills raw layer area (layout_of held.paint) w layer_below keeps image.0 s rules.own_sets image.1 covers, refl)))
+    (painted_only raw layer area (layout_of held.paint) w layer_below keeps)
+
+module _ (library : LibraryParts) (lawful : IsLawfulLibrary library) (cell : ℕ) (below : cell < length library.contents) (layer : ℕ)
+    (layer_below : layer < length library.tech.layers) (area : Rect)
+    (sound : IsSoundPaint (held_at library.contents cell).paint.kinds (layout_of (held_at library.contents cell).paint)) where
+  -- the tree's refusal of the box is that of a hull
+  pub paint_fault : (told : LibFault)
+      → HasFaultOrLacksMemory (EditIsRefused (edits_of library) (AreaIsRefused area (BoxIsRefused library.tree cell area))) told
+      → HasFaultOrLacksMemory (EditIsRefused (edits_of library) (PaintIsRefused (seen library) cell layer area)) told
+  paint_fault told =
+      let Past : Type 0 = GoesPast Hull (painted (seen library) cell layer area) in
+      or_memory_map (first_of_map (λ few.
+      first_of_map (λ square.
+      first_of_map (λ near refused. elim refused [
+        | inl passes ↦ inl (
+          would_go_past (painted (seen library) cell layer area) library.tree cell (with_area library.tree cell area) Hull
+              (states_after library lawful cell below (λ body. record body { own = with_paint library.tech layer area body.own }) (with_area library.tree cell area)
+              (painted_own_box library.tech layer area (held_at library.contents cell) (cell_at library.tree.cells cell).own library lawful refl layer_below
+              (held_lawful library lawful cell below) sound (own_is library lawful cell below) (is_true (has_square area) square)) refl)
+              passes.0,
+          passes.1,
+        )
+        | inr none ↦ absurd none.1
+      ]))))
+    where
+      is_true : (b : Bool) → (b ≡ false → ⊥) → b ≡ true
+      is_true true some = refl
+      is_true false some = absurd (some refl)
+
+  module _ (contents : List Held) (tree : Tree) (done : IsPaintedIn library.tech layer area cell library.contents contents library.tree tree) (tree_lawful : IsLawfulTree tree) where
+    after_held : Held
+    after_held = record (held_at library.contents cell) { paint = done.painted.paint }
+
+    after_layout : layout_of done.painted.paint ≡ with_paint library.tech layer area (layout_of (held_at library.contents cell).paint)
+    after_layout = λ i place. done.painted.layout place i
+
+    -- what is seen of the cells is what paint makes of them
+    pub painted_seen : cells_seen contents tree
+        ≡ changed_at (cells_seen library.contents library.tree) cell (λ body. record body { own = with_paint library.tech layer area body.own })
+    unfolding after_held
+    painted_seen =
+        edit_seen library contents tree cell after_held (with_area library.tree cell area) (λ body. record body { own = with_paint library.tech layer area body.own })
+        lawful below done.painted.is done.edited
+        (ap (λ (own : Layout). record (cell_view (held_at library.contents cell) (cell_at library.tree.cells cell).uses) { own = own }) after_layout)
+
+    -- and the library is lawful
+    pub painted_lawful : IsLawfulLibrary (record { tech = library.tech; scale = library.scale; contents = contents; tree = tree })
+    unfolding after_held
+    painted_lawful =
+        let held = held_lawful library lawful cell below in
+        let many = lawful.so_many in
+        edit_lawful library contents tree cell after_held (with_area library.tree cell area) lawful below done.painted.is done.edited tree_lawful refl
+        (record {
+          name = held.name;
+          kinds = done.painted.kinds ∙ held.kinds;
+          planes = done.painted.planes ∙ held.planes;
+          labels = held.labels;
+        })
+        (lawful.ids cell empty_state (omega arith))
+        (subst (λ (own : Layout). IsOwnBox own (held_at library.contents cell).labels (box_with (cell_at library.tree.cells cell).own area)) (sym after_layout)
+        (painted_own_box library.tech layer area (held_at library.contents cell) (cell_at library.tree.cells cell).own library lawful refl layer_below
+        held sound (own_is library lawful cell below) done.proper))
+
+    -- nothing refused it
+    pub painted_unrefused : (fault : LibFault) → EditIsRefused (edits_of library) (PaintIsRefused (seen library) cell layer area) fault → ⊥
+    painted_unrefused fault =
+        not_first (not_full _ done.edits)
+        (not_first (λ none. true≢false (sym done.proper ∙ none))
+        (not_first (λ far. true≢false (sym done.near ∙ far))
+        (not_first
+        (never_past (painted (seen library) cell layer area) tree Hull tree_lawful
+        (subst (λ (cells : List CellView). AreStatesOf cells tree.cells) painted_seen painted_lawful.boxes))
+        (λ none. none))))

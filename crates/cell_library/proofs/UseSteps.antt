@@ -1,0 +1,128 @@
+-- Steps of edits of uses.
+use Rattle.std.proofs.Common.{◌≡◌, ◌≢◌, ◌<◌, ◌&&◌, ℕ, true, List, [], ◌∷◌, length, Option, refl, sym, ap, ◌∙◌, arith}
+use Rattle.std.specs.Prelude.{Some, None, IfSome, IfNone, ℤ, pos, neg_ℤ, ◌+ℤ◌, ◌≤ℤ◌, ◌<ℤ◌, ◌^◌, find}
+use Rattle.std.specs.Option.{option_map}
+use Rattle.std.specs.Ordering.{int_eq}
+use Rattle.std.proofs.lemmas.Bool.Decides.{Decides-int_eq}
+use Rattle.finite_sets.proofs.Searches.{find-passes}
+use Rattle.geo_core.specs.Orientation.{matrix}
+use Rattle.std.proofs.lemmas.Int.{ints, to_z-of_z}
+use mir.Val.{SFits, of_z, to_z}
+use mir.Syntax.{w64}
+use Rattle.std.proofs.lemmas.Bool.{and_parts}
+use Rattle.std.proofs.lemmas.Option.{slice_get_within}
+use Rattle.geo_core.specs.declared.orients.Orient.{Orient}
+use Rattle.geo_core.specs.declared.orients.Orient.TheVariants.{R0, R90, R180, R270, Mx, My, Mx90, My90}
+use Rattle.geo_core.specs.declared.transforms.Transform.{Transform}
+use Rattle.geo_core.specs.Images.{six_of}
+use Rattle.cell_bodies.specs.Numbers.{is_displacement, is_index, has_factors, all_orients}
+use Rattle.cell_tree.specs.declared.use_tables.UseBody.{UseBody}
+use Rattle.cell_tree.specs.Uses.{HasIdAt, IsShift, IsLawfulUse}
+use Rattle.cell_tree.specs.Sizes.{CellState}
+use Rattle.cell_tree.specs.Trees.{Tree, IsLawfulTree, cell_at}
+use Rattle.cell_library.specs.CellEdits.{HasUseAt}
+use Rattle.cell_library.specs.Edits.{transform_of, single_use}
+use Rattle.cell_library.specs.Refusals.{has_id, are_displacements}
+use Rattle.cell_library.proofs.SizeLaws.{cell_there}
+use Rattle.cell_library.proofs.UseLists.{has_there}
+
+-- a displacement that a use may have is one that the tree takes
+pub shift_of : (z : ℤ) → is_displacement z ≡ true → IsShift z
+shift_of z is = record { low = grind (arith, ints); high = grind (arith, ints) }
+
+-- a use of a lawful tree is lawful
+pub use_lawful : (tree : Tree) (cell : ℕ) (id : List ℕ) (k : ℕ) (used : UseBody) → IsLawfulTree tree → cell < length tree.cells
+    → HasUseAt (cell_at tree.cells cell) id k used → IsLawfulUse used
+use_lawful tree cell id k used lawful below has =
+    (lawful.cells.uses cell (cell_at tree.cells cell) (cell_there tree.cells cell below) k (id, used) has.is).0
+
+-- and stands among the uses
+pub use_within : (cell : CellState) (id : List ℕ) (k : ℕ) (used : UseBody) → HasUseAt cell id k used → k < length cell.uses
+use_within cell id k used has = slice_get_within cell.uses k (id, used) has.is
+
+-- where some use has the id, the list has it
+pub has_at : (uses : List (List ℕ × UseBody)) (k : ℕ) (id : List ℕ) → HasIdAt uses k id → has_id uses id ≡ true
+has_at uses k id has = has_there uses k id has.entry.1 (has.stands ∙ (λ i. Some (has.same i, has.entry.1)))
+
+-- the transform of a transform's six numbers is that transform
+transform_back : (t : Transform) → transform_of (six_of t) ≡ Some t
+transform_back t = by t.orient
+  where
+    by : (orient : Orient) → transform_of (six_of (record { orient = orient; dx = t.dx; dy = t.dy })) ≡ Some (record { orient = orient; dx = t.dx; dy = t.dy })
+    by R0 = refl
+    by R90 = refl
+    by R180 = refl
+    by R270 = refl
+    by Mx = refl
+    by My = refl
+    by Mx90 = refl
+    by My90 = refl
+
+-- six numbers of a transform are those of it
+pub transform_found : (six : List ℤ) (t : Transform) → six_of t ≡ six → transform_of six ≡ Some t
+transform_found six t is = ap transform_of (sym is) ∙ transform_back t
+
+-- its displacements are the third and the last
+pub displacements_same : (six : List ℤ) (t : Transform) → six_of t ≡ six → are_displacements six ≡ (is_displacement t.dx && is_displacement t.dy)
+displacements_same six t is = ap are_displacements (sym is)
+
+-- a new use at such displacements is lawful
+pub single_lawful : (child : ℕ) (six : List ℤ) (t : Transform) → six_of t ≡ six → are_displacements six ≡ true → IsLawfulUse (single_use child t)
+single_lawful child six t is near =
+    let both = and_parts (is_displacement t.dx) (is_displacement t.dy) (sym (displacements_same six t is) ∙ near) in
+    record { dx = shift_of t.dx both.0; dy = shift_of t.dy both.1; grid = λ grid none. absurd (cc) }
+
+-- ---- six numbers of no transform
+
+has_same : (a b d e : ℤ) (orient : Orient) → has_factors a b d e orient ≡ true → (c f : ℤ)
+    → six_of (record { orient = orient; dx = c; dy = f }) ≡ a ∷ b ∷ c ∷ d ∷ e ∷ f ∷ []
+has_same a b d e orient is c f =
+    let m = matrix orient in
+    let first = and_parts (int_eq a m.a && int_eq b m.b && int_eq d m.d) (int_eq e m.e) is in
+    let second = and_parts (int_eq a m.a && int_eq b m.b) (int_eq d m.d) first.0 in
+    let third = and_parts (int_eq a m.a) (int_eq b m.b) second.0 in
+    let a_is = sym ((Decides-int_eq a m.a).0 third.0) in
+    let b_is = sym ((Decides-int_eq b m.b).0 third.1) in
+    let d_is = sym ((Decides-int_eq d m.d).0 second.1) in
+    let e_is = sym ((Decides-int_eq e m.e).0 first.1) in
+    λ i. a_is i ∷ b_is i ∷ c ∷ d_is i ∷ e_is i ∷ f ∷ []
+
+some_orient : (a b c d e f : ℤ) (t : Transform) (o : Option Orient) → find (has_factors a b d e) all_orients ≡ o
+    → option_map (λ orient. record { orient = orient; dx = c; dy = f }) o ≡ Some t → six_of t ≡ a ∷ b ∷ c ∷ d ∷ e ∷ f ∷ []
+some_orient a b c d e f t None found is = absurd (cc)
+some_orient a b c d e f t (Some orient) found is =
+    let passes = find-passes (has_factors a b d e) all_orients orient found in
+    let same : record { orient = orient; dx = c; dy = f } ≡ t = cc in
+    ap six_of (sym same) ∙ has_same a b d e orient passes c f
+
+-- a transform is one of its six numbers
+transform_sound : (six : List ℤ) (t : Transform) → transform_of six ≡ Some t → six_of t ≡ six
+transform_sound [] t is = absurd (cc)
+transform_sound (a ∷ []) t is = absurd (cc)
+transform_sound (a ∷ b ∷ []) t is = absurd (cc)
+transform_sound (a ∷ b ∷ c ∷ []) t is = absurd (cc)
+transform_sound (a ∷ b ∷ c ∷ d ∷ []) t is = absurd (cc)
+transform_sound (a ∷ b ∷ c ∷ d ∷ e ∷ []) t is = absurd (cc)
+transform_sound (a ∷ b ∷ c ∷ d ∷ e ∷ f ∷ []) t is = some_orient a b c d e f t (find (has_factors a b d e) all_orients) refl is
+transform_sound (a ∷ b ∷ c ∷ d ∷ e ∷ f ∷ g ∷ more) t is = absurd (cc)
+
+none_found_by : (six : List ℤ) (o : Option Transform) → transform_of six ≡ o → ((t : Transform) → six_of t ≢ six) → None ≡ transform_of six
+none_found_by six None is none = sym is
+none_found_by six (Some t) is none = absurd (none t (transform_sound six t is))
+
+-- what a search for a transform answers
+pub transform_answer : (six : List ℤ) (o : Option Transform) → IfSome o (λ t. six_of t ≡ six) → IfNone o ((t : Transform) → six_of t ≢ six) → o ≡ transform_of six
+transform_answer six None some none = none_found_by six (transform_of six) refl none
+transform_answer six (Some t) is none = sym (transform_found six t is)
+
+-- ---- moves
+
+-- a coordinate that is moved fits
+pub moved_coordinate : (x d : ℤ) → IsShift x → is_index d ≡ true → to_z w64 (of_z w64 (to_z w64 (of_z w64 x) +ℤ to_z w64 (of_z w64 d))) ≡ x +ℤ d
+moved_coordinate x d shift index =
+    let low : neg_ℤ (pos (2 ^ 31)) ≤ℤ d = grind (arith, ints) in
+    let high : d <ℤ pos (2 ^ 31) = grind (arith, ints) in
+    let x_fits : SFits w64 x = record { sfits = grind (arith, ints) } in
+    let d_fits : SFits w64 d = record { sfits = grind (arith, ints) } in
+    let sum_fits : SFits w64 (x +ℤ d) = record { sfits = grind (arith, ints) } in
+    (λ i. to_z w64 (of_z w64 (to_z-of_z w64 x x_fits i +ℤ to_z-of_z w64 d d_fits i))) ∙ to_z-of_z w64 (x +ℤ d) sum_fits

@@ -1,0 +1,11 @@
+use Rattle.std.proofs.Common.{sym, ap, ◌∙◌}
+use Rattle.std.specs.Map.{values_of}
+use Rattle.std.proofs.Common.{List}
+use Rattle.cell_library.specs.Contents.{Held, held_at}
+use Rattle.cell_library.proofs.ContentLaws.{held_value}
+use Rattle.cell_library.proofs.contents.Contents.get.Goals as goal
+
+pub returns : goal.returns
+returns c =
+    sym (held_value (values_of c.self.inside.entries.entries) c.args.cell c.index.result.now c.index.ensures)
+    ∙ ap (λ (contents : List Held). held_at contents c.args.cell) c.self.view_is

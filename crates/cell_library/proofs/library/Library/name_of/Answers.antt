@@ -1,0 +1,13 @@
+use Rattle.std.proofs.Common.{◌<◌, ◌∙◌, length, sym, ap, subst}
+use Rattle.cell_library.specs.Contents.{Held}
+use Rattle.cell_library.specs.Libraries.{LibraryParts, uses_in}
+use Rattle.cell_library.specs.Views.{CellView}
+use Rattle.cell_library.proofs.ViewLaws.{cell_viewed}
+use Rattle.cell_library.proofs.library.Library.name_of.Goals as goal
+
+pub returns : goal.returns
+returns c =
+    let below : c.args.cell.0 < length c.self.inside.contents = subst (λ (l : LibraryParts). c.args.cell.0 < length l.contents) (sym c.self.view_is) c.requires
+    in
+    let here = cell_viewed c.self.inside.contents (uses_in c.self.inside.tree.cells) c.args.cell.0 below in
+    rw (← c.self.view_is) (ap (λ (held : Held). held.name) c.get.ensures ∙ ap (λ (view : CellView). view.name) (sym here))

@@ -1,0 +1,13 @@
+-- Why a change of a library is refused, where a call below it was.
+use Rattle.geo_core.specs.declared.limits.Limit.TheVariants.{Tiles}
+use Rattle.cell_paint.specs.declared.faults.PaintFault.{PaintFault}
+use Rattle.cell_paint.specs.declared.faults.PaintFault.TheVariants.{EmptyRect as NoSquare, OutOfRange as TooFar, TooManyTiles, Memory as NoMemory}
+use Rattle.cell_library.specs.declared.faults.LibFault.{LibFault}
+use Rattle.cell_library.specs.declared.faults.LibFault.TheVariants.{EmptyRect, OutOfRange, TooMany, Memory}
+
+-- what refuses paint, as a fault of the library
+abbrev pub of_paint : PaintFault → LibFault
+of_paint NoSquare = EmptyRect
+of_paint TooFar = OutOfRange
+of_paint TooManyTiles = TooMany Tiles
+of_paint NoMemory = Memory

@@ -1,0 +1,11 @@
+pub mod Additions
+pub mod CellEdits
+pub mod Contents
+pub mod Edits
+pub mod Faults
+pub mod Libraries
+pub mod Limits
+pub mod OwnBoxes
+pub mod Refusals
+pub mod Seen
+pub mod Views

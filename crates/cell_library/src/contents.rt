@@ -1,0 +1,172 @@
+//! What each cell has of its own, under the cells' names.
+ghost use Rattle.std.specs.Str.{bytes_eq};
+ghost use Rattle.std.specs.Prelude.{◌≡◌, not, ◌<◌, ◌-◌, ◌↔◌, ◌++◌, ◌∷◌, [], true, false, None, length, take, slice_set as set, OnOk, OnErr, IsErrOf};
+ghost use Rattle.geo_core.specs.Areas.{has_square};
+ghost use Rattle.cell_paint.specs.Paints.{layout_of, IsSoundPaint};
+ghost use Rattle.cell_paint.specs.Painting.{with_paint, with_erased, is_in_range};
+
+use cell_paint::{CellPaint, PaintFault};
+use geo_core::{Name, Rect};
+use indexmap::IndexMap;
+use std::alloc::{AllocError, Global};
+use std::marker::Model;
+use tech_model::{Label, LayerId, Tech};
+
+/// What a cell has of its own: its name, its paint, and its labels in order of arrival.
+#[derive(Drop)]
+pub struct Content {
+    pub name: Name,
+    pub paint: CellPaint,
+    pub labels: Vec<Label>,
+}
+
+/// The contents of cells in order of arrival, each found by its name. Contracts see them as a list.
+#[derive(Drop)]
+pub struct Contents {
+    alloc: Global,
+    entries: IndexMap<Vec<u8>, Content>,
+}
+
+impl Model for Contents {
+    ghost use Rattle.std.specs.Prelude.{List};
+    ghost use Rattle.std.specs.Coded.{coded_list};
+    ghost use Rattle.cell_library.specs.Contents.{Held, held_code};
+
+    ghost Value = { List Held };
+
+    ghost coded = { coded_list held_code };
+
+    ghost use Rattle.cell_library.specs.Contents.{held_in, AreUnderNames};
+
+    ghost view = { λ contents. held_in contents.entries.entries };
+
+    ghost invariant = { λ contents. AreUnderNames contents.entries.entries };
+}
+
+impl Contents {
+    ghost use Rattle.cell_library.specs.Contents.{held_at, held_of, position_of, with_label, without_labels, IsRepainted};
+
+    /// No cells. It takes no memory.
+    pub fn new(alloc: Global) -> Contents
+        ensures { result ≡ [] }
+    {
+        Contents {
+            alloc,
+            entries: IndexMap::new(alloc),
+        }
+    }
+
+    /// How many cells there are.
+    pub fn len(&self) -> usize
+        ensures { result ≡ length self.now }
+    {
+        self.entries.len()
+    }
+
+    /// The position of the cell of this name.
+    pub fn find(&self, name: &[u8]) -> Option<usize>
+        ensures { result ≡ position_of name.now self.now }
+    {
+        self.entries.get_index_of(name)
+    }
+
+    /// What the cell at the position has.
+    pub fn get(&self, cell: usize) -> &Content
+        requires { cell < length self.now }
+        ensures { held_of result.now ≡ held_at self.now cell }
+    {
+        &self.entries[cell]
+    }
+
+    /// What holds of the paint of the cell at the position.
+    pub fn sound(&self, cell: usize)
+        requires { cell < length self.now }
+        ensures { IsSoundPaint (held_at self.now cell).paint.kinds (layout_of (held_at self.now cell).paint) }
+    {
+        let _ = self.get(cell).paint.box_of();
+    }
+
+    /// Adds a cell. Want of memory alone refuses, and nothing is changed then.
+    pub fn push(&mut self, content: Content) -> Result<(), AllocError>
+        requires { position_of content.name self.old ≡ None }
+        ensures added { OnOk result (self.new ≡ self.old ++ held_of content ∷ []) }
+        ensures refused { OnErr result (self.new ≡ self.old) }
+    {
+        let key = Vec::from_slice(self.alloc, content.name.bytes())?;
+        self.entries.insert(key, content)?;
+        Ok(())
+    }
+
+    /// Takes the last cell away.
+    pub fn pop(&mut self)
+        ensures { self.new ≡ take (length self.old - 1) self.old }
+    {
+        let _ = self.entries.pop();
+    }
+
+    /// Paints the layer over the area in a cell. It is refused as `CellPaint::paint` is, and then no layout is changed.
+    pub fn paint(
+        &mut self,
+        cell: usize,
+        tech: &Tech,
+        layer: LayerId,
+        area: Rect,
+    ) -> Result<(), PaintFault>
+        requires cell { cell < length self.old }
+        requires kinds { (held_at self.old cell).paint.kinds ≡ tech.now.types }
+        requires layer { layer.0 < length tech.now.layers }
+        ensures painted { OnOk result (IsRepainted self.old self.new cell (with_paint tech.now layer.0 area)) }
+        ensures refused { OnErr result (IsRepainted self.old self.new cell (λ own. own)) }
+        ensures empty { IsErrOf result PaintFault.EmptyRect ↔ (has_square area ≡ false) }
+        ensures range { IsErrOf result PaintFault.OutOfRange ↔ ((has_square area ≡ true) × (is_in_range area ≡ false)) }
+        ensures never { IsErrOf result PaintFault.TooManyTiles → ⊥ }
+    {
+        let content = &mut self.entries[cell];
+        content.paint.paint(tech, layer, area)
+    }
+
+    /// Erases the layer from the area in a cell. It is refused as `CellPaint::erase` is, and then no layout is changed.
+    pub fn erase(
+        &mut self,
+        cell: usize,
+        tech: &Tech,
+        layer: LayerId,
+        area: Rect,
+    ) -> Result<(), PaintFault>
+        requires cell { cell < length self.old }
+        requires kinds { (held_at self.old cell).paint.kinds ≡ tech.now.types }
+        requires layer { layer.0 < length tech.now.layers }
+        ensures erased { OnOk result (IsRepainted self.old self.new cell (with_erased tech.now layer.0 area)) }
+        ensures refused { OnErr result (IsRepainted self.old self.new cell (λ own. own)) }
+        ensures empty { IsErrOf result PaintFault.EmptyRect ↔ (has_square area ≡ false) }
+        ensures range { IsErrOf result PaintFault.OutOfRange ↔ ((has_square area ≡ true) × (is_in_range area ≡ false)) }
+        ensures never { IsErrOf result PaintFault.TooManyTiles → ⊥ }
+    {
+        let content = &mut self.entries[cell];
+        content.paint.erase(tech, layer, area)
+    }
+
+    /// Adds a label to a cell. Want of memory alone refuses, and nothing is changed then.
+    pub fn push_label(&mut self, cell: usize, label: Label) -> Result<(), AllocError>
+        requires { cell < length self.old }
+        ensures added { OnOk result (self.new ≡ set self.old cell (with_label (held_at self.old cell) label)) }
+        ensures refused { OnErr result (self.new ≡ self.old) }
+    {
+        let content = &mut self.entries[cell];
+        content.labels.push(label)?;
+        Ok(())
+    }
+
+    /// Takes each label with the text away from a cell.
+    pub fn remove_labels(&mut self, cell: usize, text: &[u8])
+        requires { cell < length self.old }
+        ensures { self.new ≡ set self.old cell (without_labels (held_at self.old cell) text.now) }
+    {
+        let content = &mut self.entries[cell];
+        content.labels.retain(
+            |label: &Label| -> bool
+                ensures { result ≡ not (bytes_eq label.now.text text.entry.now) }
+            { label.text.bytes() != text },
+        );
+    }
+}

@@ -1,0 +1,35 @@
+//! A library of cells: their paint, their labels, and the uses that they have of each other.
+//!
+//! What is seen of a library is its technology, its scale, and for each cell its name, its layout, its labels and its uses (`Views`).
+//! What an edit makes of that is one function (`Edits`), and what it is refused for, in order, one relation (`Refusals`).
+//!
+//! # How the proof goes
+//!
+//! A library keeps the contents of its cells under their names, seen as a list (`ContentLaws`), and the tree of its cells. An edit changes
+//! one cell in both. Functions over these two parts do the edits, and say of the parts what they did (`CellEdits`); the laws of each
+//! kind of edit say what that means for what is seen, for what is lawful, and for what refuses it (`PaintEdits`, `OwnEdits`, `UseEdits`,
+//! `MoveEdits`, `NewCells`, over `EditLaws` and `ViewLaws`).
+//!
+//! The tree holds the box of what a cell has of its own. Paint takes nothing away and fills the area, and erasing adds nothing
+//! (`MaterialLaws`), so the box is known before paint is tried (`BoxLaws`, `BoxSteps`).
+//!
+//! Limits are said of any sizes that are right for the cells (`GoesPast`). Cells have one list of sizes, and an edit changes those of the
+//! cell and of what stands above it alone (`SizeLaws`), so the tree's refusals are the library's (`LimitLaws`). That a lawful library goes
+//! past no limit excludes each later refusal of an accepted edit.
+#![tactic(auto)]
+
+mod adding;
+mod checks;
+mod contents;
+mod faults;
+mod library;
+mod limits;
+mod own_boxes;
+mod painting;
+mod reader;
+mod uses;
+
+pub use faults::LibFault;
+pub use library::Library;
+pub use limits::{MOST_CELLS, MOST_EDITS};
+pub use reader::Reader;

@@ -1,0 +1,376 @@
+//! The library.
+ghost use Rattle.std.specs.Prelude.{◌≡◌, ◌<◌, ℕ, None, [], length, IsTrue, IfOk, IfSome, OnOk, OnErr, slice_get};
+ghost use Rattle.std.specs.Option.{option_map};
+ghost use Rattle.text_scan.specs.PlainNames.{is_plain_name};
+ghost use Rattle.cell_paint.specs.Paints.{layout_of};
+ghost use Rattle.cell_bodies.specs.Words.{is_use_id, is_label_text};
+ghost use Rattle.cell_bodies.specs.Numbers.{is_index, is_position};
+ghost use Rattle.cell_tree.specs.Trees.{empty_tree, stamp_at};
+ghost use Rattle.cell_library.specs.Edits.{with_new_cell, painted, erased, labelled, unlabelled, placed, with_grid, moved, without_use};
+ghost use Rattle.cell_library.specs.Limits.{HullIs};
+ghost use Rattle.cell_library.specs.Refusals.{Answers, AnswersOrLacksMemory, EditIsRefused, NewCellIsRefused, PaintIsRefused, EraseIsRefused};
+ghost use Rattle.cell_library.specs.Refusals.{LabelIsRefused, UnlabelIsRefused, PlaceIsRefused, ArrayIsRefused, MoveIsRefused, DeleteIsRefused};
+ghost use Rattle.cell_library.specs.Views.{cell_named, view_at};
+
+use crate::adding::new_cell;
+use crate::contents::Contents;
+use crate::faults::LibFault;
+use crate::painting::{erase_cell, label_cell, paint_cell, unlabel_cell};
+use crate::reader::Reader;
+use crate::uses::{delete_use, move_use, place_array, place_use};
+use cell_paint::CellPaint;
+use cell_tree::{CellTree, UseBody};
+use ext_model::CellKey;
+use geo_core::{Grid, Name, Rect};
+use std::alloc::Global;
+use std::marker::Model;
+use tech_model::{Label, LayerId, Tech};
+
+/// Cells in order of arrival, each with its paint, its labels and its uses of other cells, over one technology.
+///
+/// A cell's key is its position: cells never leave. The library is lawful at any time, as `lawful` says. Keys and layers that are handed
+/// in are the library's, cell names are plain, ids of uses and labels are of their forms, and the indices of a grid fit 32 bits with
+/// sign. An edit is all or nothing, and takes its memory first. It raises the stamps of its cell and of all above it, and no others.
+#[derive(Drop)]
+pub struct Library {
+    alloc: Global,
+    tech: Tech,
+    scale: Option<(u32, u32)>,
+    contents: Contents,
+    tree: CellTree,
+}
+
+impl Model for Library {
+    ghost use Rattle.cell_library.specs.Libraries.{LibraryParts, parts_code};
+
+    ghost Value = { LibraryParts };
+
+    ghost coded = { parts_code };
+
+    ghost use Rattle.cell_library.specs.Libraries.{IsLawfulLibrary};
+
+    ghost view = { λ library. record { tech = library.tech; scale = library.scale; contents = library.contents; tree = library.tree } };
+
+    ghost invariant = { λ library. IsLawfulLibrary (record { tech = library.tech; scale = library.scale; contents = library.contents; tree = library.tree }) };
+}
+
+impl Library {
+    ghost use Rattle.cell_library.specs.Libraries.{seen, edits_of, IsLawfulLibrary, IsNextCell, IsNextEdit, IsSame};
+
+    /// A library without cells. It takes no memory now.
+    pub fn new(alloc: Global, tech: Tech) -> Library
+        ensures { result ≡ record { tech = tech; scale = None; contents = []; tree = empty_tree } }
+    {
+        let _ = tech.raw();
+        Library {
+            alloc,
+            tech,
+            scale: None,
+            contents: Contents::new(alloc),
+            tree: CellTree::new(alloc),
+        }
+    }
+
+    /// What holds of each library.
+    pub fn lawful(&self)
+        ensures { IsLawfulLibrary self.now }
+    {
+        let _ = &self.tech;
+    }
+
+    /// The cell of this name.
+    pub fn find(&self, name: &[u8]) -> Option<CellKey>
+        ensures { option_map (λ key. key.0) result ≡ cell_named (seen self.now) name.now }
+    {
+        match self.contents.find(name) {
+            Some(cell) => Some(CellKey(cell)),
+            None => None,
+        }
+    }
+
+    /// How many cells there are.
+    pub fn cell_count(&self) -> usize
+        ensures { result ≡ length self.now.contents }
+    {
+        self.contents.len()
+    }
+
+    /// The scale: lambda is the first number divided by the second. None exactly where there is no cell.
+    pub fn scale(&self) -> Option<(u32, u32)>
+        ensures { result ≡ self.now.scale }
+    {
+        self.scale
+    }
+
+    /// The technology.
+    pub fn tech(&self) -> &Tech
+        ensures { result.now ≡ self.now.tech }
+    {
+        &self.tech
+    }
+
+    /// The number of the edit that last changed the cell or a cell below it.
+    pub fn stamp(&self, cell: CellKey) -> u64
+        requires { cell.0 < length self.now.contents }
+        ensures { result ≡ stamp_at self.now.tree.stamps cell.0 }
+    {
+        self.tree.stamp(cell.0)
+    }
+
+    /// The smallest rectangle that holds the cell's own material, its labels and the hulls of its elements.
+    pub fn hull(&self, cell: CellKey) -> Option<Rect>
+        requires { cell.0 < length self.now.contents }
+        ensures { HullIs (seen self.now) cell.0 result }
+    {
+        self.tree.hull(cell.0)
+    }
+
+    /// The name of the cell.
+    pub fn name_of(&self, cell: CellKey) -> &Name
+        requires { cell.0 < length self.now.contents }
+        ensures { result.now ≡ (view_at (seen self.now) cell.0).name }
+    {
+        &self.contents.get(cell.0).name
+    }
+
+    /// The cell's own paint.
+    pub fn paint_of(&self, cell: CellKey) -> &CellPaint
+        requires { cell.0 < length self.now.contents }
+        ensures own { layout_of result.now ≡ (view_at (seen self.now) cell.0).own }
+        ensures kinds { result.now.kinds ≡ self.now.tech.types }
+        ensures planes { length result.now.planes ≡ length self.now.tech.planes }
+    {
+        &self.contents.get(cell.0).paint
+    }
+
+    /// The cell's labels, in order of arrival.
+    pub fn labels_of(&self, cell: CellKey) -> &[Label]
+        requires { cell.0 < length self.now.contents }
+        ensures { result.now ≡ (view_at (seen self.now) cell.0).labels }
+    {
+        self.contents.get(cell.0).labels.as_slice()
+    }
+
+    /// The id and the body of the k-th use of the cell, counted from 0. None exactly past the last.
+    pub fn use_at(&self, cell: CellKey, k: usize) -> Option<(&[u8], &UseBody)>
+        requires { cell.0 < length self.now.contents }
+        ensures { option_map (λ found. (found.0.now, found.1.now)) result ≡ slice_get (view_at (seen self.now) cell.0).uses k }
+    {
+        self.tree.use_at(cell.0, k)
+    }
+
+    /// Adds an empty cell. The first cell gives the library the scale 1 1.
+    ///
+    /// # Errors
+    ///
+    /// `CellExists` where there is a cell of the name, else `TooMany(Cells)`.
+    pub fn new_cell(&mut self, name: Name) -> Result<CellKey, LibFault>
+        requires { IsTrue (is_plain_name name) }
+        ensures answers { AnswersOrLacksMemory (EditIsRefused (edits_of self.old) (NewCellIsRefused (seen self.old) name)) result }
+        ensures added { OnOk result (seen self.new ≡ with_new_cell (seen self.old) name) }
+        ensures key { IfOk result (λ key. key.0 ≡ length self.old.contents) }
+        ensures edit { OnOk result (IsNextCell self.old self.new) }
+        ensures refused { OnErr result (IsSame self.old self.new) }
+    {
+        let done = new_cell(
+            self.alloc,
+            &self.tech,
+            &mut self.scale,
+            &mut self.contents,
+            &mut self.tree,
+            name,
+        );
+        self.tree.lawful();
+        done
+    }
+
+    /// Paints the layer over the area in the cell.
+    ///
+    /// # Errors
+    ///
+    /// `EmptyRect` where the area has no square; else `OutOfRange` where it goes past the range of paint or the hull of some cell would.
+    pub fn paint(&mut self, cell: CellKey, layer: LayerId, area: Rect) -> Result<(), LibFault>
+        requires cell { cell.0 < length self.old.contents }
+        requires layer { layer.0 < length self.old.tech.layers }
+        ensures answers { AnswersOrLacksMemory (EditIsRefused (edits_of self.old) (PaintIsRefused (seen self.old) cell.0 layer.0 area)) result }
+        ensures painted { OnOk result (seen self.new ≡ painted (seen self.old) cell.0 layer.0 area) }
+        ensures edit { OnOk result (IsNextEdit self.old self.new cell.0) }
+        ensures refused { OnErr result (IsSame self.old self.new) }
+    {
+        self.contents.sound(cell.0);
+        let done = paint_cell(
+            &self.tech,
+            &mut self.contents,
+            &mut self.tree,
+            cell.0,
+            layer,
+            area,
+        );
+        self.tree.lawful();
+        done
+    }
+
+    /// Erases the layer from the area in the cell.
+    ///
+    /// # Errors
+    ///
+    /// As `paint`.
+    pub fn erase(&mut self, cell: CellKey, layer: LayerId, area: Rect) -> Result<(), LibFault>
+        requires cell { cell.0 < length self.old.contents }
+        requires layer { layer.0 < length self.old.tech.layers }
+        ensures answers { AnswersOrLacksMemory (EditIsRefused (edits_of self.old) (EraseIsRefused (seen self.old) cell.0 layer.0 area)) result }
+        ensures erased { OnOk result (seen self.new ≡ erased (seen self.old) cell.0 layer.0 area) }
+        ensures edit { OnOk result (IsNextEdit self.old self.new cell.0) }
+        ensures refused { OnErr result (IsSame self.old self.new) }
+    {
+        let done = erase_cell(
+            &self.tech,
+            &mut self.contents,
+            &mut self.tree,
+            cell.0,
+            layer,
+            area,
+        );
+        self.tree.lawful();
+        done
+    }
+
+    /// Adds a label at the end of the cell's.
+    ///
+    /// # Errors
+    ///
+    /// `EmptyRect` where an edge of its rectangle goes past the one on its other side; else `OutOfRange` where the rectangle goes past
+    /// the range of paint or the hull of some cell would.
+    pub fn label(&mut self, cell: CellKey, label: Label) -> Result<(), LibFault>
+        requires cell { cell.0 < length self.old.contents }
+        requires layer { IfSome label.layer (λ layer. layer.0 < length self.old.tech.layers) }
+        requires position { IsTrue (is_position label.position) }
+        requires text { IsTrue (is_label_text label.text) }
+        ensures answers { AnswersOrLacksMemory (EditIsRefused (edits_of self.old) (LabelIsRefused (seen self.old) cell.0 label)) result }
+        ensures labelled { OnOk result (seen self.new ≡ labelled (seen self.old) cell.0 label) }
+        ensures edit { OnOk result (IsNextEdit self.old self.new cell.0) }
+        ensures refused { OnErr result (IsSame self.old self.new) }
+    {
+        let done = label_cell(&mut self.contents, &mut self.tree, cell.0, label);
+        self.tree.lawful();
+        done
+    }
+
+    /// Takes each label with the text away from the cell. It takes no memory.
+    ///
+    /// # Errors
+    ///
+    /// `NoLabel` where no label has the text.
+    pub fn unlabel(&mut self, cell: CellKey, text: &[u8]) -> Result<(), LibFault>
+        requires { cell.0 < length self.old.contents }
+        ensures answers { Answers (EditIsRefused (edits_of self.old) (UnlabelIsRefused (seen self.old) cell.0 text.now)) result }
+        ensures unlabelled { OnOk result (seen self.new ≡ unlabelled (seen self.old) cell.0 text.now) }
+        ensures edit { OnOk result (IsNextEdit self.old self.new cell.0) }
+        ensures refused { OnErr result (IsSame self.old self.new) }
+    {
+        let done = unlabel_cell(&mut self.contents, &mut self.tree, cell.0, text);
+        self.tree.lawful();
+        done
+    }
+
+    /// Adds a use of the child at the end of the cell's. The child stands as the transform of the six numbers takes it, once.
+    ///
+    /// # Errors
+    ///
+    /// The first of these: `UseExists` where the cell has a use of the id; `BadTransform` where `six[0] six[1] six[3] six[4]` is no
+    /// orientation; `OutOfRange` where `six[2]` or `six[5]` is; `Cycle` with the child's name where the child is the cell or has it
+    /// below; `TooMany(Uses)`; `TooMany(Depth)`, `TooMany(Elements)` or `OutOfRange` where some cell would stand too deep, have too many
+    /// elements, or a hull that goes past the range of paint.
+    pub fn place(
+        &mut self,
+        cell: CellKey,
+        child: CellKey,
+        id: Name,
+        six: [i64; 6],
+    ) -> Result<(), LibFault>
+        requires cell { cell.0 < length self.old.contents }
+        requires child { child.0 < length self.old.contents }
+        requires id { IsTrue (is_use_id id) }
+        ensures answers { AnswersOrLacksMemory (EditIsRefused (edits_of self.old) (PlaceIsRefused (seen self.old) cell.0 child.0 id six)) result }
+        ensures placed { OnOk result (seen self.new ≡ placed (seen self.old) cell.0 child.0 id six) }
+        ensures edit { OnOk result (IsNextEdit self.old self.new cell.0) }
+        ensures refused { OnErr result (IsSame self.old self.new) }
+    {
+        let done = place_use(
+            self.alloc,
+            &self.contents,
+            &mut self.tree,
+            cell.0,
+            child,
+            id,
+            six,
+        );
+        self.tree.lawful();
+        done
+    }
+
+    /// Gives the use with the id this grid, in place of any earlier one. It takes no memory.
+    ///
+    /// # Errors
+    ///
+    /// The first of these: `NoUse`; `OutOfRange` where a separation is; `TooMany(Elements)` where the grid or some cell would have too
+    /// many; `OutOfRange` where the hull of some cell would go past the range of paint.
+    pub fn place_array(&mut self, cell: CellKey, id: &[u8], grid: Grid) -> Result<(), LibFault>
+        requires cell { cell.0 < length self.old.contents }
+        requires xlo { IsTrue (is_index grid.xlo) }
+        requires xhi { IsTrue (is_index grid.xhi) }
+        requires ylo { IsTrue (is_index grid.ylo) }
+        requires yhi { IsTrue (is_index grid.yhi) }
+        ensures answers { Answers (EditIsRefused (edits_of self.old) (ArrayIsRefused (seen self.old) cell.0 id.now grid)) result }
+        ensures placed { OnOk result (seen self.new ≡ with_grid (seen self.old) cell.0 id.now grid) }
+        ensures edit { OnOk result (IsNextEdit self.old self.new cell.0) }
+        ensures refused { OnErr result (IsSame self.old self.new) }
+    {
+        let done = place_array(&mut self.tree, cell.0, id, grid);
+        self.tree.lawful();
+        done
+    }
+
+    /// Moves the use with the id by so much to the right and upward. It takes no memory.
+    ///
+    /// # Errors
+    ///
+    /// `NoUse`; else `OutOfRange` where a displacement would be, or the hull of some cell would go past the range of paint.
+    pub fn move_use(&mut self, cell: CellKey, id: &[u8], dx: i64, dy: i64) -> Result<(), LibFault>
+        requires cell { cell.0 < length self.old.contents }
+        requires dx { IsTrue (is_index dx) }
+        requires dy { IsTrue (is_index dy) }
+        ensures answers { Answers (EditIsRefused (edits_of self.old) (MoveIsRefused (seen self.old) cell.0 id.now dx dy)) result }
+        ensures moved { OnOk result (seen self.new ≡ moved (seen self.old) cell.0 id.now dx dy) }
+        ensures edit { OnOk result (IsNextEdit self.old self.new cell.0) }
+        ensures refused { OnErr result (IsSame self.old self.new) }
+    {
+        let done = move_use(&mut self.tree, cell.0, id, dx, dy);
+        self.tree.lawful();
+        done
+    }
+
+    /// Takes the use with the id away. The others keep their order. It takes no memory.
+    ///
+    /// # Errors
+    ///
+    /// `NoUse`.
+    pub fn delete_use(&mut self, cell: CellKey, id: &[u8]) -> Result<(), LibFault>
+        requires { cell.0 < length self.old.contents }
+        ensures answers { Answers (EditIsRefused (edits_of self.old) (DeleteIsRefused (seen self.old) cell.0 id.now)) result }
+        ensures deleted { OnOk result (seen self.new ≡ without_use (seen self.old) cell.0 id.now) }
+        ensures edit { OnOk result (IsNextEdit self.old self.new cell.0) }
+        ensures refused { OnErr result (IsSame self.old self.new) }
+    {
+        let done = delete_use(&mut self.tree, cell.0, id);
+        self.tree.lawful();
+        done
+    }
+
+    /// A reader of this library.
+    pub fn reader(&self) -> Reader<'_>
+        ensures { result ≡ self.now }
+    {
+        Reader::of(self)
+    }
+}

@@ -1,0 +1,142 @@
+//! Reading a library.
+ghost use Rattle.std.specs.Prelude.{◌≡◌, ◌+◌, ◌<◌, length, slice_get};
+ghost use Rattle.std.specs.Option.{option_map};
+ghost use Rattle.cell_paint.specs.Paints.{layout_of};
+ghost use Rattle.cell_tree.specs.Trees.{stamp_at};
+ghost use Rattle.cell_library.specs.Limits.{HullIs};
+ghost use Rattle.cell_library.specs.Views.{cell_named, view_at};
+
+use crate::library::Library;
+use cell_paint::CellPaint;
+use cell_tree::UseBody;
+use ext_model::CellKey;
+use geo_core::{Name, Rect};
+use std::marker::Model;
+use std::sync::ledger::Ledger;
+use step_count::Steps;
+use tech_model::{Label, Tech};
+
+/// A reader of a library: it tells what the library does, but hands out a cell's paint for a step alone.
+#[derive(Drop)]
+pub struct Reader<'a> {
+    library: &'a Library,
+}
+
+impl<'a> Model for Reader<'a> {
+    ghost use Rattle.cell_library.specs.Libraries.{LibraryParts, parts_code};
+
+    ghost Value = { LibraryParts };
+
+    ghost coded = { parts_code };
+
+    ghost view = { λ reader. reader.library.now };
+}
+
+impl<'a> Reader<'a> {
+    ghost use Rattle.cell_library.specs.Libraries.{seen, IsLawfulLibrary};
+
+    /// A reader of this library. It takes no memory.
+    pub fn of(library: &'a Library) -> Reader<'a>
+        ensures { result ≡ library.now }
+    {
+        Reader { library }
+    }
+
+    /// What holds of each library.
+    pub fn lawful(&self)
+        ensures { IsLawfulLibrary self.now }
+    {
+        let library = self.library;
+        library.lawful()
+    }
+
+    /// The cell of this name.
+    pub fn find(&self, name: &[u8]) -> Option<CellKey>
+        ensures { option_map (λ key. key.0) result ≡ cell_named (seen self.now) name.now }
+    {
+        let library = self.library;
+        library.find(name)
+    }
+
+    /// How many cells there are.
+    pub fn cell_count(&self) -> usize
+        ensures { result ≡ length self.now.contents }
+    {
+        let library = self.library;
+        library.cell_count()
+    }
+
+    /// The scale: lambda is the first number divided by the second. None exactly where there is no cell.
+    pub fn scale(&self) -> Option<(u32, u32)>
+        ensures { result ≡ self.now.scale }
+    {
+        let library = self.library;
+        library.scale()
+    }
+
+    /// The technology.
+    pub fn tech(&self) -> &Tech
+        ensures { result.now ≡ self.now.tech }
+    {
+        let library = self.library;
+        library.tech()
+    }
+
+    /// The number of the edit that last changed the cell or a cell below it.
+    pub fn stamp(&self, cell: CellKey) -> u64
+        requires { cell.0 < length self.now.contents }
+        ensures { result ≡ stamp_at self.now.tree.stamps cell.0 }
+    {
+        let library = self.library;
+        library.stamp(cell)
+    }
+
+    /// The smallest rectangle that holds the cell's own material, its labels and the hulls of its elements.
+    pub fn hull(&self, cell: CellKey) -> Option<Rect>
+        requires { cell.0 < length self.now.contents }
+        ensures { HullIs (seen self.now) cell.0 result }
+    {
+        let library = self.library;
+        library.hull(cell)
+    }
+
+    /// The name of the cell.
+    pub fn name_of(&self, cell: CellKey) -> &Name
+        requires { cell.0 < length self.now.contents }
+        ensures { result.now ≡ (view_at (seen self.now) cell.0).name }
+    {
+        let library = self.library;
+        library.name_of(cell)
+    }
+
+    /// The cell's labels, in order of arrival.
+    pub fn labels_of(&self, cell: CellKey) -> &[Label]
+        requires { cell.0 < length self.now.contents }
+        ensures { result.now ≡ (view_at (seen self.now) cell.0).labels }
+    {
+        let library = self.library;
+        library.labels_of(cell)
+    }
+
+    /// The id and the body of the k-th use of the cell, counted from 0. None exactly past the last.
+    pub fn use_at(&self, cell: CellKey, k: usize) -> Option<(&[u8], &UseBody)>
+        requires { cell.0 < length self.now.contents }
+        ensures { option_map (λ found. (found.0.now, found.1.now)) result ≡ slice_get (view_at (seen self.now) cell.0).uses k }
+    {
+        let library = self.library;
+        library.use_at(cell, k)
+    }
+
+    /// The cell's own paint, for one step.
+    pub fn open<L: Ledger>(&self, cell: CellKey, steps: &mut Steps<L>) -> &CellPaint
+        requires { cell.0 < length self.now.contents }
+        ensures own { layout_of result.now ≡ (view_at (seen self.now) cell.0).own }
+        ensures kinds { result.now.kinds ≡ self.now.tech.types }
+        ensures planes { length result.now.planes ≡ length self.now.tech.planes }
+        ensures step { steps.new ≡ steps.old + 1 }
+    {
+        steps.tick();
+        let library = self.library;
+        library.paint_of(cell)
+    }
+}

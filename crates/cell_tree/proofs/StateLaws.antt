@@ -1,0 +1,302 @@
+-- Which states a cell may take: with one more use, with a use placed otherwise, and with one use less.
+use Rattle.std.proofs.Common.{◌≡◌, ◌≢◌, ◌⊎◌, ◌↔◌, inl, inr, ℕ, zero, suc, ◌<◌, ◌≤◌, List, [], ◌∷◌, ◌++◌, length, map, take, drop, max, get_or, slice_get, Some, refl, Contains, sym, ap, subst, ◌∙◌, arith}
+use Rattle.std.proofs.lemmas.List.{length-append}
+use Rattle.std.proofs.lemmas.Option.{same_Some}
+use Rattle.finite_sets.specs.Lists.{In, Distinct}
+use Rattle.cell_tree.specs.declared.cells.TreeCell.{TreeCell}
+use Rattle.cell_tree.specs.declared.limits.TheConstants.{MOST_USES}
+use Rattle.cell_tree.specs.declared.size_books.SizeBook.{SizeBook}
+use Rattle.cell_tree.specs.declared.use_tables.UseBody.{UseBody}
+use Rattle.cell_tree.specs.Uses.{HasChild, HasIdAt, IsLawfulUse, with_use_at, moved_at}
+use Rattle.ext_model.specs.declared.tables.CellKey.{CellKey}
+use Rattle.cell_tree.specs.declared.sizes.Dimension.{Dimension}
+use Rattle.cell_tree.specs.declared.sizes.Dimension.TheVariants.{Depth, Elements, Hull}
+use Rattle.cell_tree.specs.declared.sizes.Size.{Size}
+use Rattle.cell_tree.specs.Sizes.{CellState, size_at, size_of, with_use, depth_below, AreUsesBelow}
+use Rattle.cell_tree.specs.Trials.{IsTried, PassesFirst}
+use Rattle.cell_tree.specs.Books.{IsReady, SaysTheSame}
+use Rattle.cell_tree.specs.Edits.{AreUsersKept}
+use Rattle.cell_tree.specs.Cells.{state_of, states, Uses, IsAbove}
+use Rattle.cell_tree.specs.Trees.{cell_at, with_placed, with_use_set, with_uses, without_use, fault_of, IsLawfulTree, RefusesMove, RefusesUse, WouldPass}
+use Rattle.cell_tree.specs.Whole.{tree_of, IsWhole}
+use Rattle.cell_tree.proofs.EditLaws.{child_is_not_above}
+use Rattle.cell_tree.proofs.FindLaws.{length-states}
+use Rattle.cell_tree.proofs.ShrinkLaws.{AreAmong, none, both, skip, among_removed}
+use Rattle.cell_tree.proofs.SizeLaws.{size_of-placed, body_at}
+use Rattle.cell_tree.proofs.CellLaws.{cell_at-states}
+use Rattle.std.specs.Option.{option_map}
+use Rattle.cell_tree.proofs.WholeLaws.{IsLawfulState, cell_is, would_pass}
+use Rattle.cell_tree.proofs.TreeLaws.{never_passes}
+
+abbrev Entry : Type 0
+Entry = List ℕ × UseBody
+
+-- what stands in a list with one more at its end
+get_push : (xs : List Entry) (y e : Entry) (k : ℕ) → slice_get (xs ++ y ∷ []) k ≡ Some e → (slice_get xs k ≡ Some e) ⊎ (y ≡ e)
+get_push [] y e zero is = inr (same_Some y e is)
+get_push [] y e (suc k) is = absurd (cc)
+get_push (x ∷ xs) y e zero is = inl is
+get_push (x ∷ xs) y e (suc k) is = get_push xs y e k is
+
+get_more : (xs : List Entry) (y e : Entry) (k : ℕ) → slice_get xs k ≡ Some e → slice_get (xs ++ y ∷ []) k ≡ Some e
+get_more [] y e k is = absurd (cc)
+get_more (x ∷ xs) y e zero is = is
+get_more (x ∷ xs) y e (suc k) is = get_more xs y e k is
+
+In-id : (xs : List Entry) (id : List ℕ) → In id (map (λ entry. entry.0) xs) → (k : ℕ) × HasIdAt xs k id
+In-id [] id stands = absurd stands
+In-id (x ∷ xs) id (inl same) = (0, record { entry = x; stands = refl; same = same })
+In-id (x ∷ xs) id (inr later) = let r = In-id xs id later in (suc r.0, record { entry = r.1.entry; stands = r.1.stands; same = r.1.same })
+
+In-push_id : (xs : List Entry) (y : Entry) (id : List ℕ) → In id (map (λ entry. entry.0) (xs ++ y ∷ [])) → In id (map (λ entry. entry.0) xs) ⊎ (y.0 ≡ id)
+In-push_id [] y id (inl same) = inr same
+In-push_id [] y id (inr later) = absurd later
+In-push_id (x ∷ xs) y id (inl same) = inl (inl same)
+In-push_id (x ∷ xs) y id (inr later) = elim (In-push_id xs y id later) [ inl stands ↦ inl (inr stands) | inr same ↦ inr same ]
+
+distinct_push : (xs : List Entry) (y : Entry) → Distinct (map (λ entry. entry.0) xs) → (In y.0 (map (λ entry. entry.0) xs) → ⊥) → Distinct (map (λ entry. entry.0) (xs ++ y ∷ []))
+distinct_push [] y apart new = ((λ never. never), tt)
+distinct_push (x ∷ xs) y apart new = (
+  (λ stands. elim (In-push_id xs y x.0 stands) [ inl old ↦ apart.0 old | inr same ↦ new (inl (sym same)) ]),
+  distinct_push xs y apart.1 (λ stands. new (inr stands)),
+)
+
+ids-set : (xs : List Entry) (k : ℕ) (used : UseBody) → map (λ (entry : Entry). entry.0) (with_use_at xs k used) ≡ map (λ (entry : Entry). entry.0) xs
+ids-set [] k used = refl
+ids-set (x ∷ xs) zero used = refl
+ids-set (x ∷ xs) (suc k) used = ap (λ (ids : List (List ℕ)). x.0 ∷ ids) (ids-set xs k used)
+
+length-with_use_at : (xs : List Entry) (k : ℕ) (used : UseBody) → length (with_use_at xs k used) ≡ length xs
+length-with_use_at [] k used = refl
+length-with_use_at (x ∷ xs) zero used = refl
+length-with_use_at (x ∷ xs) (suc k) used = ap suc (length-with_use_at xs k used)
+
+get_set : (xs : List Entry) (k : ℕ) (used : UseBody) (j : ℕ) (e : Entry) → slice_get (with_use_at xs k used) j ≡ Some e → (slice_get xs j ≡ Some e) ⊎ ((used ≡ e.1) × (j ≡ k))
+get_set [] k used j e is = absurd (cc)
+get_set (x ∷ xs) zero used zero e is = inr (ap (λ (f : Entry). f.1) (same_Some _ _ is), refl)
+get_set (x ∷ xs) zero used (suc j) e is = inl is
+get_set (x ∷ xs) (suc k) used zero e is = inl is
+get_set (x ∷ xs) (suc k) used (suc j) e is = elim (get_set xs k used j e is) [ inl old ↦ inl old | inr new ↦ inr (new.0, ap suc new.1) ]
+
+-- the children of uses of which one got another body of the same child
+-- children stay where one use got another body of the same child
+pub child_set : (xs : List Entry) (k : ℕ) (used : UseBody) (id : List ℕ) (body : UseBody) → slice_get xs k ≡ Some (id, body) → used.child.0 ≡ body.child.0
+    → (key : ℕ) → HasChild (with_use_at xs k used) key ↔ HasChild xs key
+child_set [] k used id body is same key = absurd (cc)
+child_set (x ∷ xs) zero used id body is same key =
+    let here : x.1.child.0 ≡ body.child.0 = ap (λ (e : Entry). e.1.child.0) (same_Some x (id, body) is) in
+    ((λ has. forth here has.k has.entry has.stands has.same), (λ has. back here has.k has.entry has.stands has.same))
+  where
+    forth : x.1.child.0 ≡ body.child.0 → (j : ℕ) (e : Entry) → slice_get ((x.0, used) ∷ xs) j ≡ Some e → e.1.child.0 ≡ key → HasChild (x ∷ xs) key
+    forth here zero e stands child = record { k = 0; entry = x; stands = refl; same = here ∙ sym same ∙ ap (λ (f : Entry). f.1.child.0) (same_Some _ _ stands) ∙ child }
+    forth here (suc j) e stands child = record { k = suc j; entry = e; stands = stands; same = child }
+
+    back : x.1.child.0 ≡ body.child.0 → (j : ℕ) (e : Entry) → slice_get (x ∷ xs) j ≡ Some e → e.1.child.0 ≡ key → HasChild ((x.0, used) ∷ xs) key
+    back here zero e stands child = record { k = 0; entry = (x.0, used); stands = refl; same = same ∙ sym here ∙ ap (λ (f : Entry). f.1.child.0) (same_Some _ _ stands) ∙ child }
+    back here (suc j) e stands child = record { k = suc j; entry = e; stands = stands; same = child }
+child_set (x ∷ xs) (suc k) used id body is same key =
+    let r = child_set xs k used id body is same key in
+    ((λ has. forth r has.k has.entry has.stands has.same), (λ has. back r has.k has.entry has.stands has.same))
+  where
+    forth : (HasChild (with_use_at xs k used) key ↔ HasChild xs key) → (j : ℕ) (e : Entry) → slice_get (x ∷ with_use_at xs k used) j ≡ Some e → e.1.child.0 ≡ key → HasChild (x ∷ xs) key
+    forth r zero e stands child = record { k = 0; entry = e; stands = stands; same = child }
+    forth r (suc j) e stands child = let h = r.0 (record { k = j; entry = e; stands = stands; same = child }) in record { k = suc h.k; entry = h.entry; stands = h.stands; same = h.same }
+
+    back : (HasChild (with_use_at xs k used) key ↔ HasChild xs key) → (j : ℕ) (e : Entry) → slice_get (x ∷ xs) j ≡ Some e → e.1.child.0 ≡ key → HasChild (x ∷ with_use_at xs k used) key
+    back r zero e stands child = record { k = 0; entry = e; stands = stands; same = child }
+    back r (suc j) e stands child = let h = r.1 (record { k = j; entry = e; stands = stands; same = child }) in record { k = suc h.k; entry = h.entry; stands = h.stands; same = h.same }
+
+-- another body that keeps the child moves the use
+pub moved-set : (xs : List Entry) (k : ℕ) (used : UseBody) (id : List ℕ) (body : UseBody) → slice_get xs k ≡ Some (id, body) → used.child ≡ body.child
+    → with_use_at xs k used ≡ moved_at xs k used.placed used.grid
+moved-set [] k used id body is same = absurd (cc)
+moved-set (x ∷ xs) zero used id body is same =
+    let child : used.child ≡ x.1.child = same ∙ sym (ap (λ (e : Entry). e.1.child) (same_Some x (id, body) is)) in
+    ap (λ c. (x.0, record { child = c; placed = used.placed; grid = used.grid }) ∷ xs) child
+moved-set (x ∷ xs) (suc k) used id body is same = ap (λ (rest : List Entry). x ∷ rest) (moved-set xs k used id body is same)
+
+among_get : {xs ys : List Entry} → AreAmong xs ys → (k : ℕ) (e : Entry) → slice_get xs k ≡ Some e → (j : ℕ) × (slice_get ys j ≡ Some e)
+among_get none k e is = absurd (cc)
+among_get (both x rest) zero e is = (0, is)
+among_get (both x rest) (suc k) e is = let r = among_get rest k e is in (suc r.0, r.1)
+among_get (skip x rest) k e is = let r = among_get rest k e is in (suc r.0, r.1)
+
+among_length : {xs ys : List Entry} → AreAmong xs ys → length xs ≤ length ys
+among_length none = omega arith
+among_length (both x rest) = omega (arith, among_length rest)
+among_length (skip x rest) = omega (arith, among_length rest)
+
+among_id : {xs ys : List Entry} → AreAmong xs ys → (id : List ℕ) → In id (map (λ entry. entry.0) xs) → In id (map (λ entry. entry.0) ys)
+among_id none id stands = stands
+among_id (both x rest) id (inl same) = inl same
+among_id (both x rest) id (inr later) = inr (among_id rest id later)
+among_id (skip x rest) id stands = inr (among_id rest id stands)
+
+among_distinct : {xs ys : List Entry} → AreAmong xs ys → Distinct (map (λ entry. entry.0) ys) → Distinct (map (λ entry. entry.0) xs)
+among_distinct none apart = tt
+among_distinct (both x rest) apart = ((λ stands. apart.0 (among_id rest x.0 stands)), among_distinct rest apart.1)
+among_distinct (skip x rest) apart = among_distinct rest apart.1
+
+-- the children but one of uses of which one of it is taken away
+pub child_removed : (xs : List Entry) (k : ℕ) (id : List ℕ) (body : UseBody) → slice_get xs k ≡ Some (id, body) → (key : ℕ) → key ≢ body.child.0 → HasChild (take k xs ++ drop (suc k) xs) key ↔ HasChild xs key
+child_removed xs k id body is key differs = (
+  (λ has. let r = among_get (among_removed xs k) has.k has.entry has.stands in record { k = r.0; entry = has.entry; stands = r.1; same = has.same }),
+  (λ has. back xs k is has.k has.entry has.stands has.same),
+)
+  where
+    back : (xs : List Entry) (k : ℕ) → slice_get xs k ≡ Some (id, body) → (j : ℕ) (e : Entry) → slice_get xs j ≡ Some e → e.1.child.0 ≡ key → HasChild (take k xs ++ drop (suc k) xs) key
+    back [] k is j e stands child = absurd (cc)
+    back (x ∷ xs) zero is zero e stands child = absurd (differs (sym child ∙ sym (ap (λ (f : Entry). f.1.child.0) (same_Some x e stands)) ∙ ap (λ (f : Entry). f.1.child.0) (same_Some x (id, body) is)))
+    back (x ∷ xs) zero is (suc j) e stands child = record { k = j; entry = e; stands = stands; same = child }
+    back (x ∷ xs) (suc k) is zero e stands child = record { k = 0; entry = e; stands = stands; same = child }
+    back (x ∷ xs) (suc k) is (suc j) e stands child = let r = back xs k is j e stands child in record { k = suc r.k; entry = r.entry; stands = r.stands; same = r.same }
+
+-- and but the child of a use that came
+pub child_pushed : (xs : List Entry) (y : Entry) (key : ℕ) → key ≢ y.1.child.0 → HasChild (xs ++ y ∷ []) key ↔ HasChild xs key
+child_pushed xs y key differs = (
+  (λ has. elim (get_push xs y has.entry has.k has.stands) [
+    | inl old ↦ record { k = has.k; entry = has.entry; stands = old; same = has.same }
+    | inr new ↦ absurd (differs (sym has.same ∙ sym (ap (λ (f : Entry). f.1.child.0) new)))
+  ]),
+  (λ has. record { k = has.k; entry = has.entry; stands = get_more xs y has.entry has.k has.stands; same = has.same }),
+)
+
+module _ (cells : List TreeCell) (book : SizeBook) (whole : IsWhole cells book) (changed : ℕ) (inside : changed < length cells) where
+  in_states : changed < length (states cells)
+  in_states = omega (arith, inside, length-states cells)
+
+  pub was : slice_get (states cells) changed ≡ Some (cell_at (states cells) changed)
+  was = cell_is (states cells) changed in_states
+
+  old_free : (k : ℕ) (entry : Entry) → slice_get (cell_at (states cells) changed).uses k ≡ Some entry → IsAbove (states cells) changed entry.1.child.0 → ⊥
+  old_free k entry stands above =
+      child_is_not_above (states cells) book.sizes.items whole.lawful.cells whole.lawful.sizes changed entry.1.child.0
+      (record { cell = cell_at (states cells) changed; is = was; k = k; entry = entry; stands = stands; child = refl }) above
+
+  old_below : AreUsesBelow (length (states cells)) (cell_at (states cells) changed).uses
+  old_below = whole.lawful.cells.uses changed _ was
+
+  -- one more use of a child that doesn't stand above
+  pub placed_lawful : (id : List ℕ) (used : UseBody) → IsLawfulUse used → used.child.0 < length cells → (IsAbove (states cells) changed used.child.0 → ⊥)
+      → length (cell_at (states cells) changed).uses < MOST_USES → ((k : ℕ) → HasIdAt (cell_at (states cells) changed).uses k id → ⊥)
+      → IsLawfulState (states cells) changed (with_placed (cell_at (states cells) changed) id used)
+  placed_lawful id used lawful child free few new =
+      record {
+        few = omega (arith, few, length-append (cell_at (states cells) changed).uses ((id, used) ∷ []));
+        uses = λ k entry is. elim (get_push (cell_at (states cells) changed).uses (id, used) entry k is) [
+          | inl old ↦ old_below k entry old
+          | inr same ↦ subst (λ (e : Entry). IsLawfulUse e.1 × (e.1.child.0 < length (states cells))) same (lawful, omega (arith, child, length-states cells))
+        ];
+        cell = record {
+          ids = distinct_push (cell_at (states cells) changed).uses (id, used) (whole.lawful.each changed _ was).ids
+              (λ stands. let r = In-id (cell_at (states cells) changed).uses id stands in new r.0 r.1);
+          own = (whole.lawful.each changed _ was).own;
+        };
+        free = λ k entry is. elim (get_push (cell_at (states cells) changed).uses (id, used) entry k is) [
+          | inl old ↦ old_free k entry old
+          | inr same ↦ subst (λ (e : Entry). IsAbove (states cells) changed e.1.child.0 → ⊥) same free
+        ];
+      }
+
+  -- a use placed otherwise
+  pub moved_lawful : (k : ℕ) (used : UseBody) (id : List ℕ) (body : UseBody) → slice_get (cell_at (states cells) changed).uses k ≡ Some (id, body) → used.child.0 ≡ body.child.0 → IsLawfulUse used
+      → IsLawfulState (states cells) changed (with_use_set (cell_at (states cells) changed) k used)
+  moved_lawful k used id body is same lawful =
+      record {
+        few = omega (arith, whole.lawful.cells.few changed _ was, length-with_use_at (cell_at (states cells) changed).uses k used);
+        uses = λ j entry stands. elim (get_set (cell_at (states cells) changed).uses k used j entry stands) [
+          | inl old ↦ old_below j entry old
+          | inr new ↦ subst (λ (u : UseBody). IsLawfulUse u × (u.child.0 < length (states cells))) new.0 (lawful, subst (λ n. n < length (states cells)) (sym same) (old_below k (id, body) is).1)
+        ];
+        cell = record { ids = subst Distinct (sym (ids-set (cell_at (states cells) changed).uses k used)) (whole.lawful.each changed _ was).ids; own = (whole.lawful.each changed _ was).own };
+        free = λ j entry stands. elim (get_set (cell_at (states cells) changed).uses k used j entry stands) [
+          | inl old ↦ old_free j entry old
+          | inr new ↦ subst (λ (u : UseBody). IsAbove (states cells) changed u.child.0 → ⊥) new.0 (subst (λ n. IsAbove (states cells) changed n → ⊥) (sym same) (old_free k (id, body) is))
+        ];
+      }
+
+  -- one use less
+  pub removed_lawful : (k : ℕ) → IsLawfulState (states cells) changed (without_use (cell_at (states cells) changed) k)
+  removed_lawful k =
+      let among = among_removed (cell_at (states cells) changed).uses k in
+      record {
+        few = omega (arith, whole.lawful.cells.few changed _ was, among_length among);
+        uses = λ j entry stands. let r = among_get among j entry stands in old_below r.0 entry r.1;
+        cell = record { ids = among_distinct among (whole.lawful.each changed _ was).ids; own = (whole.lawful.each changed _ was).own };
+        free = λ j entry stands. let r = among_get among j entry stands in old_free r.0 entry r.1;
+      }
+
+depth_set : (f : ℕ → Size) (xs : List Entry) (k : ℕ) (used : UseBody) (id : List ℕ) (body : UseBody) → slice_get xs k ≡ Some (id, body) → used.child.0 ≡ body.child.0
+    → depth_below f (with_use_at xs k used) ≡ depth_below f xs
+depth_set f [] k used id body is same = absurd (cc)
+depth_set f (x ∷ xs) zero used id body is same =
+    ap (λ c. max (f c).depth (depth_below f xs)) (same ∙ sym (ap (λ (e : Entry). e.1.child.0) (same_Some x (id, body) is)))
+depth_set f (x ∷ xs) (suc k) used id body is same = ap (max (f x.1.child.0).depth) (depth_set f xs k used id body is same)
+
+-- a use placed otherwise leaves the depth
+pub moved_depth : (f : ℕ → Size) (cell : CellState) (k : ℕ) (used : UseBody) (id : List ℕ) (body : UseBody) → slice_get cell.uses k ≡ Some (id, body) → used.child.0 ≡ body.child.0
+    → (size_of f (with_use_set cell k used)).depth ≡ (size_of f cell).depth
+unfolding size_of
+moved_depth f cell k used id body is same = ap suc (depth_set f cell.uses k used id body is same)
+
+-- what a use placed otherwise passes first
+pub moved_refused : (cells : List TreeCell) (book : SizeBook) (whole : IsWhole cells book) (changed : ℕ) (inside : changed < length cells) (k : ℕ) (used : UseBody) (id : List ℕ) (body : UseBody)
+    → slice_get (cell_at (states cells) changed).uses k ≡ Some (id, body) → used.child ≡ body.child → IsLawfulUse used → (dimension : Dimension)
+    → ((tried : List Size) → IsTried (states cells) book.sizes.items tried changed (size_of (size_at book.sizes.items) (with_use_set (cell_at (states cells) changed) k used)) → PassesFirst dimension (states cells) changed tried)
+    → RefusesMove (tree_of cells book) changed k used.placed used.grid (fault_of dimension)
+moved_refused cells book whole changed inside k used id body is same lawful Depth passes =
+    never_passes cells book whole changed inside Depth _
+    (omega (
+      arith,
+      moved_depth (size_at book.sizes.items) (cell_at (states cells) changed) k used id body is (ap (λ (c : CellKey). c.0) same),
+      ap (λ (s : Size). s.depth) (whole.lawful.sizes.right changed _ (was cells book whole changed inside)),
+    )) passes
+moved_refused cells book whole changed inside k used id body is same lawful Elements passes =
+    subst (WouldPass Elements (tree_of cells book) changed) (ap (with_uses (cell_at (states cells) changed)) (moved-set (cell_at (states cells) changed).uses k used id body is same))
+    (would_pass cells book changed _ whole inside (moved_lawful cells book whole changed inside k used id body is (ap (λ (c : CellKey). c.0) same) lawful) Elements passes)
+moved_refused cells book whole changed inside k used id body is same lawful Hull passes =
+    subst (WouldPass Hull (tree_of cells book) changed) (ap (with_uses (cell_at (states cells) changed)) (moved-set (cell_at (states cells) changed).uses k used id body is same))
+    (would_pass cells book changed _ whole inside (moved_lawful cells book whole changed inside k used id body is (ap (λ (c : CellKey). c.0) same) lawful) Hull passes)
+
+-- what one more use passes first
+pub placed_refused : (cells : List TreeCell) (book : SizeBook) (whole : IsWhole cells book) (changed : ℕ) (inside : changed < length cells) (id : List ℕ) (used : UseBody)
+    → IsLawfulUse used → used.child.0 < length cells → (IsAbove (states cells) changed used.child.0 → ⊥)
+    → length (cell_at (states cells) changed).uses < MOST_USES → ((k : ℕ) → HasIdAt (cell_at (states cells) changed).uses k id → ⊥) → (dimension : Dimension)
+    → ((tried : List Size) → IsTried (states cells) book.sizes.items tried changed (size_of (size_at book.sizes.items) (with_placed (cell_at (states cells) changed) id used)) → PassesFirst dimension (states cells) changed tried)
+    → RefusesUse (tree_of cells book) changed id used (fault_of dimension)
+placed_refused cells book whole changed inside id used lawful child free few new Depth passes =
+    record { free = free; few = few; passes = would_pass cells book changed _ whole inside (placed_lawful cells book whole changed inside id used lawful child free few new) Depth passes }
+placed_refused cells book whole changed inside id used lawful child free few new Elements passes =
+    record { free = free; few = few; passes = would_pass cells book changed _ whole inside (placed_lawful cells book whole changed inside id used lawful child free few new) Elements passes }
+placed_refused cells book whole changed inside id used lawful child free few new Hull passes =
+    record { free = free; few = few; passes = would_pass cells book changed _ whole inside (placed_lawful cells book whole changed inside id used lawful child free few new) Hull passes }
+
+-- the size of a cell with one more use
+pub placed_size : (cells : List TreeCell) (book : SizeBook) (whole : IsWhole cells book) (changed : ℕ) (inside : changed < length cells) (id : List ℕ) (used : UseBody)
+    → with_use (size_at book.sizes.items changed) used (size_at book.sizes.items used.child.0) ≡ size_of (size_at book.sizes.items) (with_placed (cell_at (states cells) changed) id used)
+placed_size cells book whole changed inside id used =
+    ap (λ (s : Size). with_use s used (size_at book.sizes.items used.child.0)) (whole.lawful.sizes.right changed _ (was cells book whole changed inside))
+    ∙ sym (size_of-placed (size_at book.sizes.items) (cell_at (states cells) changed) id used)
+
+-- A tree of cells of the same states and users is whole, with a book that says the same.
+pub whole_same : (cells cells' : List TreeCell) (book book' : SizeBook) → IsWhole cells book → states cells' ≡ states cells → AreUsersKept cells cells' → SaysTheSame book book' → IsReady book' (length cells) → IsWhole cells' book'
+whole_same cells cells' book book' whole are kept same ready =
+    record {
+      lawful = subst IsLawfulTree trees whole.lawful;
+      users = record {
+        known = λ key user uses. subst (λ ks. Contains ks user) (sym (kept key)) (whole.users.known key user (subst (λ s. Uses s user key) are uses));
+        none = λ key user knows. subst (λ s. Uses s user key) (sym are) (whole.users.none key user (subst (λ ks. Contains ks user) (kept key) knows));
+      };
+      ready = subst (IsReady book') (sym (sym (length-states cells') ∙ ap length are ∙ length-states cells)) ready;
+    }
+  where
+    trees : tree_of cells book ≡ tree_of cells' book'
+    trees =
+        let whole : record { cells = states cells; sizes = book.sizes.items; stamps = book.stamps.items; edits = book.edits } ≡ tree_of cells' book' = rw (← are, ← same.sizes, ← same.stamps, ← same.edits) refl in whole
+
+-- the use that is read of a cell
+pub stands_at : (cells : List TreeCell) (key : ℕ) (d : TreeCell) (k : ℕ) (used : UseBody) → key < length cells → d ≡ get_or cells key d
+    → option_map (λ (entry : Entry). entry.1) (slice_get d.uses.entries k) ≡ Some used → (id : List ℕ) × (slice_get (cell_at (states cells) key).uses k ≡ Some (id, used))
+stands_at cells key d k used within is at =
+    let r = body_at d.uses.entries k used at in
+    (r.0, subst (λ (c : CellState). slice_get c.uses k ≡ Some (r.0, used)) (sym (cell_at-states cells key d within ∙ ap state_of (sym is))) r.1)

@@ -1,0 +1,100 @@
+-- Tables of uses: what a look-up by an id finds, and what an edit of the map makes of the uses.
+use Rattle.std.proofs.Common.{◌≡◌, inl, inr, ℕ, zero, suc, Bool, true, eqb, true≢false, List, [], ◌∷◌, ◌++◌, take, drop, map, Some, None, refl, sym, ap, subst, ◌∙◌, Vec, Global}
+use Rattle.std.specs.Prelude.{slice_get, remove, Result, Ok, Err, IsOk, OnOk, IfErr}
+use Rattle.std.specs.Option.{option_map}
+use Rattle.std.specs.Cmp.Lexicographic.{pointwise, bytes_decides}
+use Rattle.std.specs.Map.{lookup, lookup_key}
+use Rattle.indexmap.specs.IndexMap.{set_value_at}
+use Rattle.std.proofs.lemmas.Bool.{cases_Bool}
+use Rattle.std.proofs.lemmas.Option.{same_Some, slice_get-map, none-some}
+use Rattle.std.proofs.lemmas.List.{map-append, take-map, drop-map}
+use Rattle.cell_tree.specs.declared.use_tables.UseBody.{UseBody}
+use Rattle.cell_tree.specs.Uses.{HasIdAt, with_use_at}
+
+-- an entry of the map, as contracts see it
+abbrev pub bare : Vec ℕ Global × UseBody → List ℕ × UseBody
+bare entry = (entry.0.items, entry.1)
+
+abbrev is_id : List ℕ → Vec ℕ Global → Bool
+is_id id key = pointwise eqb id key.items
+
+-- where the clause of a value holds and there is one, what it says
+pub on_ok : {A E : Type 0} (r : Result A E) (P : Type 0) → IsOk r → OnOk r P → P
+on_ok (Ok x) P is holds = holds
+on_ok (Err e) P is holds = absurd (cc)
+
+-- what is not found has no place
+pub lookup_none : (id : List ℕ) (es : List (Vec ℕ Global × UseBody)) → lookup (λ key. pointwise eqb id key.items) es ≡ None → (k : ℕ) → HasIdAt (map (λ entry. (entry.0.items, entry.1)) es) k id → ⊥
+lookup_none id [] none k has = none-some has.entry has.stands
+lookup_none id (e ∷ es) none zero has = elim (cases_Bool (pointwise eqb id e.0.items)) [
+  | inl passes ↦ none-some e.1 (sym (rw passes at none))
+  | inr fails ↦
+      let same : (e.0.items, e.1) ≡ has.entry = same_Some _ _ has.stands in
+      true≢false (sym ((bytes_decides id e.0.items).1 (sym has.same ∙ sym (ap (λ (f : List ℕ × UseBody). f.0) same))) ∙ fails)
+]
+lookup_none id (e ∷ es) none (suc k) has = elim (cases_Bool (pointwise eqb id e.0.items)) [
+  | inl passes ↦ none-some e.1 (sym (rw passes at none))
+  | inr fails ↦ lookup_none id es (rw fails at none) k (record { entry = has.entry; stands = has.stands; same = has.same })
+]
+
+-- where no use has the id, a look-up finds none
+pub lookup_absent : (id : List ℕ) (es : List (Vec ℕ Global × UseBody)) → ((k : ℕ) → HasIdAt (map (λ entry. (entry.0.items, entry.1)) es) k id → ⊥) → lookup (λ key. pointwise eqb id key.items) es ≡ None
+lookup_absent id [] absent = refl
+lookup_absent id (e ∷ es) absent = elim (cases_Bool (pointwise eqb id e.0.items)) [
+  | inl passes ↦ absurd (absent 0 (record { entry = (e.0.items, e.1); stands = refl; same = sym ((bytes_decides id e.0.items).0 passes) }))
+  | inr fails ↦ rw fails (lookup_absent id es (λ k has. absent (suc k) (record { entry = has.entry; stands = has.stands; same = has.same })))
+]
+
+lookup_key_passes : (id : List ℕ) (es : List (Vec ℕ Global × UseBody)) (key : Vec ℕ Global) → lookup_key (λ key. pointwise eqb id key.items) es ≡ Some key → pointwise eqb id key.items ≡ true
+lookup_key_passes id [] key found = absurd (none-some key found)
+lookup_key_passes id (e ∷ es) key found = elim (cases_Bool (pointwise eqb id e.0.items)) [
+  | inl passes ↦ let same : e.0 ≡ key = same_Some _ _ (rw passes at found) in ap (λ (k : Vec ℕ Global). pointwise eqb id k.items) (sym same) ∙ passes
+  | inr fails ↦ lookup_key_passes id es key (rw fails at found)
+]
+
+-- what is found stands in its place under its id
+pub lookup_found : (id : List ℕ) (es : List (Vec ℕ Global × UseBody)) (k : ℕ) (key : Vec ℕ Global) (used : UseBody)
+    → lookup_key (λ key. pointwise eqb id key.items) es ≡ Some key → slice_get es k ≡ Some (key, used) → HasIdAt (map (λ entry. (entry.0.items, entry.1)) es) k id
+lookup_found id es k key used found stands =
+    record {
+      entry = (key.items, used);
+      stands = slice_get-map (λ entry. (entry.0.items, entry.1)) es k ∙ ap (option_map (λ (entry : Vec ℕ Global × UseBody). (entry.0.items, entry.1))) stands;
+      same = sym ((bytes_decides id key.items).0 (lookup_key_passes id es key found));
+    }
+
+-- taking an entry away
+pub map-remove : {X Y : Type 0} (f : X → Y) (xs : List X) (k : ℕ) → map f (remove xs k) ≡ remove (map f xs) k
+map-remove f xs k =
+    map-append f (take k xs) (drop (suc k) xs) ∙ ap (λ front. front ++ map f (drop (suc k) xs)) (sym (take-map f k xs))
+    ∙ ap (λ back. take k (map f xs) ++ back) (sym (drop-map f (suc k) xs))
+
+-- giving an entry another value
+pub map-set_value : (es : List (Vec ℕ Global × UseBody)) (k : ℕ) (used : UseBody)
+    → map (λ entry. (entry.0.items, entry.1)) (set_value_at es k used) ≡ with_use_at (map (λ entry. (entry.0.items, entry.1)) es) k used
+map-set_value [] k used = refl
+map-set_value (e ∷ es) zero used = refl
+map-set_value (e ∷ es) (suc k) used = ap (λ (rest : List (List ℕ × UseBody)). (e.0.items, e.1) ∷ rest) (map-set_value es k used)
+
+-- what two clauses of a value give together
+pub on_ok_both : {A E : Type 0} (r : Result A E) (P Q R : Type 0) → OnOk r P → OnOk r Q → (P → Q → R) → OnOk r R
+on_ok_both (Ok x) P Q R p q both = both p q
+on_ok_both (Err e) P Q R p q both = tt
+
+-- what holds at all holds of a value
+pub on_ok_from : {A E : Type 0} (r : Result A E) (P : Type 0) → P → OnOk r P
+on_ok_from (Ok x) P p = p
+on_ok_from (Err e) P p = tt
+
+-- what holds of a fault holds of a result that is it
+pub if_err_from : {A E : Type 0} (r : Result A E) (P : E → Type 0) (e : E) → r ≡ Err e → P e → IfErr r P
+if_err_from (Ok x) P e is p = absurd (cc)
+if_err_from (Err d) P e is p = let same : e ≡ d = cc in subst P same p
+
+-- and of a value that is none
+pub if_ok_none : {A E : Type 0} (r : Result A E) (P : Type 0) (e : E) → r ≡ Err e → OnOk r P
+if_ok_none (Ok x) P e is = absurd (cc)
+if_ok_none (Err d) P e is = tt
+
+pub if_err_none : {A E : Type 0} (r : Result A E) (P : E → Type 0) (x : A) → r ≡ Ok x → IfErr r P
+if_err_none (Ok y) P x is = tt
+if_err_none (Err d) P x is = absurd (cc)

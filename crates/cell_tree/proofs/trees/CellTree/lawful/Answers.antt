@@ -1,0 +1,6 @@
+use Rattle.std.proofs.Common.{subst}
+use Rattle.cell_tree.specs.Trees.{IsLawfulTree}
+use Rattle.cell_tree.proofs.trees.CellTree.lawful.Goals as goal
+
+pub returns : goal.returns
+returns c = subst IsLawfulTree c.self.view_is c.self.invariant.lawful

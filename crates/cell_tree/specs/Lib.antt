@@ -1,0 +1,10 @@
+pub mod Uses
+pub mod Hulls
+pub mod Sizes
+pub mod Cells
+pub mod Above
+pub mod Trials
+pub mod Trees
+pub mod Books
+pub mod Whole
+pub mod Edits
