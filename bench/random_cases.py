@@ -3,11 +3,13 @@
 
     random_cases.py technologies >crates/run_tests/data/random_technologies.cases
     random_cases.py cells >crates/run_tests/data/random_cells.cases
+    random_cases.py layouts >crates/run_tests/data/random_layouts.cases
 
 The answers are worked out here, from the rules that stand in this file, and never by running the program: a
 technology is read line by line with sets of names, and the nodes of a cell are flooded square by square.
 """
 import itertools
+import os
 import random
 import re
 import sys
@@ -37,7 +39,7 @@ class Technology:
         self.planes, self.layers, self.types = [], [], []
         self.layer_of = {}
         self.contacts, self.residues_of, self.results, self.parts = {}, {}, {}, set()
-        self.pairs, self.classes, self.capped, self.fets = set(), [], set(), []
+        self.pairs, self.classes, self.capped, self.fets = set(), [], {}, []
 
     # A layer is a dict of its plane, its number and its images, a dict from planes to numbers of types.
     def layer(self, word):
@@ -195,9 +197,9 @@ class Technology:
         classes = {self.class_of(t) for entry in types for t in entry}
         if len(classes) > 1 or None in classes:
             raise Fault("T11")
-        if classes <= self.capped:
+        if classes <= set(self.capped):
             raise Fault("T4", text.split(",")[0].split("/")[0])
-        self.capped |= classes
+        self.capped.update((c, tuple(map(int, numbers))) for c in classes)
 
     def read_fet(self, kind, text, name, substrate):
         naming = re.match(r"[!-~]{1,255}\Z", substrate) and not re.search(r"[/\"]|#\Z", substrate)
@@ -529,6 +531,98 @@ def cell_cases(dice, count):
         yield "cell %d" % number, [("plain.tech", tech), ("c.mag", text)], script, report, status
 
 
+# ---- random cells of any technology
+def paint_column(tech, column, layer):
+    """A square after a layer was painted on it: a set of parts for each plane."""
+    sets = {(plane, tech.type_set(t)) for t, (plane, _) in enumerate(tech.types)}
+    for plane, image in layer["images"].items():
+        whole = column.get(plane, frozenset()) | tech.type_set(image)
+        column[plane] = whole if (plane, whole) in sets else tech.type_set(image)
+    for base in tech.contacts.values():
+        mark = {"mark of " + base["name"]}
+        if any(not mark <= column.get(plane, frozenset()) for plane in base["images"]):
+            for plane in column:
+                column[plane] -= mark
+
+
+def painted_places(tech, drawn):
+    """The type at each place: a plane, y and x."""
+    columns = {}
+    for layer, xlo, ylo, xhi, yhi in drawn:
+        for x, y in itertools.product(range(xlo, xhi), range(ylo, yhi)):
+            paint_column(tech, columns.setdefault((x, y), {}), layer)
+    of_set = {(plane, tech.type_set(t)): t for t, (plane, _) in enumerate(tech.types)}
+    return {(plane, y, x): of_set[plane, parts] for (x, y), column in columns.items() for plane, parts in column.items() if parts}
+
+
+def beside(place):
+    plane, y, x = place
+    return [(plane, y + 1, x), (plane, y - 1, x), (plane, y, x + 1), (plane, y, x - 1)]
+
+
+def layout_nodes(tech, places):
+    """The lines of the nodes: places that chains of links join, by their least places."""
+    left, lines = set(places), []
+    planes = range(len(tech.planes))
+    for least in sorted(places):
+        if least not in left:
+            continue
+        found, todo = set(), [least]
+        left.discard(least)
+        while todo:
+            place = todo.pop()
+            found.add(place)
+            for other in beside(place) + [(plane,) + place[1:] for plane in planes]:
+                if other in left and tech.connects(places[place], places[other]):
+                    left.discard(other)
+                    todo.append(other)
+        lines.append(node_line(tech, places, least, found))
+    return lines
+
+
+def node_line(tech, places, least, found):
+    """A node's line: its measures are counted place by place, in each class."""
+    measures, capacitance = [], 0
+    for number, types in enumerate(tech.classes):
+        inside = [place for place in found if places[place] in types]
+        edges = sum(places.get(other) not in types for place in inside for other in beside(place))
+        of_area, of_edge = tech.capped.get(number, (0, 0))
+        capacitance += len(inside) * of_area + edges * of_edge
+        measures += [len(inside), edges]
+    word = tech.types[places[least]][1]["name"]
+    name = "%s_%s_%s#" % (word, written(least[2]), written(least[1]))
+    return " ".join(['node "%s" 0 %d %d %d %s' % (name, capacitance, least[2], least[1], word)] + list(map(str, measures)))
+
+
+def any_technology(dice):
+    """The example technology, or a random one without fault that has a layer: its text and its lists."""
+    if dice.random() < 0.4:
+        with open(os.path.join(os.path.dirname(__file__), "../crates/run_tests/data/nm.tech")) as file:
+            text = file.read()
+        return text, read_technology(text)[0]
+    while True:
+        text = "\n".join(random_lines(dice)) + "\n"
+        tech, fault = read_technology(text)
+        if fault is None and tech.layers:
+            return text, tech
+
+
+def layout_cases(dice, count):
+    for number in range(1, count + 1):
+        text, tech = any_technology(dice)
+        drawn = []
+        for _ in range(dice.randint(1, 12)):
+            x, y = dice.randint(-4, 4), dice.randint(-4, 4)
+            drawn.append((dice.choice(tech.layers), x, y, x + dice.randint(1, 4), y + dice.randint(1, 4)))
+        lines = ["magic"]
+        for layer, *bounds in drawn:
+            lines += ["<< %s >>" % layer["name"], "rect %d %d %d %d" % tuple(bounds)]
+        cell = "\n".join(lines + ["<< end >>"]) + "\n"
+        told, _ = answer("t.tech", text)
+        report = [told, "load c: 1 cells"] + layout_nodes(tech, painted_places(tech, drawn))
+        yield "layout %d" % number, [("t.tech", text), ("c.mag", cell)], ["tech t", "load c", "nodes c"], report, 0
+
+
 def written_cases(cases):
     for name, files, script, report, status in cases:
         print("\ncase " + name)
@@ -553,6 +647,8 @@ def main():
         written_cases(technology_cases(random.Random(11), 7))
     elif kind == "cells":
         written_cases(cell_cases(random.Random(12), 60))
+    elif kind == "layouts":
+        written_cases(layout_cases(random.Random(13), 90))
 
 
 if __name__ == "__main__":

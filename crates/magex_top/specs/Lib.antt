@@ -5,17 +5,11 @@ pub mod CommandTech
 pub mod Commands
 pub mod Drawings
 pub mod Fetches
-pub mod Gathering
-pub mod NodeText
-pub mod PieceOrder
 pub mod PlainLines
 pub mod PlainMag
-pub mod PlainNodes
 pub mod PlainSections
-pub mod PlainTechs
 pub mod Refusals
 pub mod Runs
 pub mod Sessions
 pub mod States
 pub mod Statuses
-pub mod Uniform

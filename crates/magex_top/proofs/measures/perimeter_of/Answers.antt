@@ -1,9 +1,0 @@
-use Rattle.std.proofs.Common.{arith}
-use Rattle.std.proofs.lemmas.Int.{ints}
-use Rattle.magex_top.proofs.measures.perimeter_of.Goals as goal
-
-pub returns-clause-value : goal.returns-clause-value
-returns-clause-value c = omega (arith, ints)
-
-pub returns-clause-small : goal.returns-clause-small
-returns-clause-small c = omega (arith, ints)

@@ -1,9 +1,0 @@
-use Rattle.std.proofs.Common.{◌≡◌, ◌<◌, ℕ, length, get_or, []}
-use Rattle.measures.specs.Columns.{pairs_at}
-use Rattle.measures.proofs.tables.measure.Given as goal
-
-abbrev pub invariant-loop-region : goal.invariant-loop-region
-invariant-loop-region l = record {
-  so_many : length l.rows.items ≡ l.region;
-  each : (k : ℕ) → k < l.region → (get_or l.rows.items k (record { pairs = [] })).pairs ≡ pairs_at k l.columns.items;
-}
