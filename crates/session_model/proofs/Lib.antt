@@ -1,4 +1,5 @@
 pub mod CauseLaws
 pub mod EffectLaws
+pub mod FetchLaws
 pub mod ProgressLaws
 pub mod StoreLaws

@@ -1,5 +1,6 @@
 pub mod Causes
 pub mod Effects
+pub mod Fetches
 pub mod Progress
 pub mod Reports
 pub mod Scripts

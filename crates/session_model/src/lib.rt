@@ -1,7 +1,8 @@
 //! What any session of lines is, apart from what a line does: its effects, its report, and its runs.
 //!
 //! A `Session` says what one line means, and answers it. `run_lines` runs a script of lines over it: their stores, their
-//! report, and why it ends. What is proved of a run is proved once, over any meaning of one line.
+//! report, and why it ends. What is proved of a run is proved once, over any meaning of one line. `fetch_text` is what asking for a file
+//! gives, whichever line asks.
 //!
 //! # How the proof goes
 //!
@@ -13,11 +14,13 @@
 #![tactic(auto)]
 
 mod answer;
+mod fetching;
 mod report;
 mod running;
 mod session;
 
 pub use answer::{Answer, Halt, Store};
+pub use fetching::{FetchFault, Fetched, fetch_text};
 pub use report::{Cause, LineKind, ReportLine, is_told, report_text};
 pub use running::{run_lines, write_text};
 pub use session::Session;

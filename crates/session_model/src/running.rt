@@ -42,7 +42,6 @@ pub fn run_lines<S: Session, K: Sink, F: Shelf>(
         (reported : List ℕ) × (after : Files)
         × Progress S.means quiet (Rose (F.store_faults shelf.old) (F.store_faults shelf.new)) (S.state session.old) files (lines_of text.now) reported after
         × (K.written report.new ≡ Some (before ++ reported)) × (F.files shelf.new ≡ Some after) }
-    ensures storeless { S.never_stores → (F.files shelf.new ≡ F.files shelf.old) × (F.store_faults shelf.new ≡ F.store_faults shelf.old) }
     ensures causes { EndsFor K.Sink F.Shelf report.old report.new shelf.old shelf.new result }
 {
     let mut told = false;
@@ -78,7 +77,6 @@ fn run_line<S: Session, K: Sink, F: Shelf>(
         OnErr result ((front : List ℕ) × (after : Files)
         × BeginsNext S.means quiet (Rose (F.store_faults shelf.old) (F.store_faults shelf.new)) number (S.state session.old) files (line.now ∷ []) front after
         × (K.written report.new ≡ Some (before ++ front)) × (F.files shelf.new ≡ Some after)) }
-    ensures storeless { S.never_stores → (F.files shelf.new ≡ F.files shelf.old) × (F.store_faults shelf.new ≡ F.store_faults shelf.old) }
     ensures sound { S.is_sound session.new }
     ensures causes { EndsFor K.Sink F.Shelf report.old report.new shelf.old shelf.new result }
     ensures more_absences { F.absences shelf.old ≤ F.absences shelf.new }
@@ -104,7 +102,6 @@ fn carry_out<K: Sink, F: Shelf>(
         OnErr result ((front : List ℕ) × (after : Files)
         × DoesPart quiet (Rose (F.store_faults shelf.old) (F.store_faults shelf.new)) files answer.now.lines.items answer.now.stores.items front after
         × (K.written report.new ≡ Some (before ++ front)) × (F.files shelf.new ≡ Some after)) }
-    ensures storeless { answer.now.stores.items ≡ [] → shelf.new ≡ shelf.old }
     ensures no_read { IsErrOf result Halt.ReadFault → ⊥ }
     ensures write_fault { IsErrOf result Halt.WriteFault →
         Rose (K.faults report.old) (K.faults report.new) ⊎ Rose (F.store_faults shelf.old) (F.store_faults shelf.new) }
@@ -123,7 +120,6 @@ fn store_all<F: Shelf>(shelf: &mut F, stores: &[Store]) -> Result<(), Halt>
     ensures all { (files : Files) → F.files shelf.old ≡ Some files → OnOk result (F.files shelf.new ≡ Some (with_stores files stores.now)) }
     ensures some { (files : Files) → F.files shelf.old ≡ Some files → OnErr result ((after : Files)
         × StoresSome (Rose (F.store_faults shelf.old) (F.store_faults shelf.new)) files stores.now after × (F.files shelf.new ≡ Some after)) }
-    ensures none { stores.now ≡ [] → shelf.new ≡ shelf.old }
     ensures no_read { IsErrOf result Halt.ReadFault → ⊥ }
     ensures write_fault { IsErrOf result Halt.WriteFault → Rose (F.store_faults shelf.old) (F.store_faults shelf.new) }
     ensures calm { UnlessWriteFault result (F.store_faults shelf.new ≡ F.store_faults shelf.old) }

@@ -1,5 +1,5 @@
 //! What a session is for its runs: a state, and what a line of a script does to it.
-ghost use Rattle.std.specs.Prelude.{◌≡◌, ℕ, List, [], Some, IfOk};
+ghost use Rattle.std.specs.Prelude.{◌≡◌, ℕ, List, Some, IfOk};
 ghost use Rattle.outside_io.specs.Files.{Files};
 ghost use Rattle.session_model.specs.Causes.{HasCauses, kinds_of};
 ghost use Rattle.session_model.specs.Effects.{Answers, Effect};
@@ -22,9 +22,6 @@ pub trait Session {
     /// What a line means: by its number, the state and the files before it and its bytes, it has this effect.
     ghost means: { ℕ → State → Files → List ℕ → Effect State → Type 0 };
 
-    /// No line stores a file.
-    ghost never_stores: { Type 0 };
-
     /// Does what the line of this number asks for, but for its stores, and answers it.
     fn answer_line<F: Shelf>(
         &mut self,
@@ -36,7 +33,6 @@ pub trait Session {
         requires { is_sound self.old }
         ensures effect { (files : Files) → F.files shelf.old ≡ Some files → IfOk result (λ answer.
             Answers (means number (state self.old) files line.now) (state self.new) answer) }
-        ensures storeless { never_stores → IfOk result (λ answer. answer.stores.items ≡ []) }
         ensures sound { is_sound self.new }
         ensures files { F.files shelf.new ≡ F.files shelf.old }
         ensures causes { HasCauses F.Shelf shelf.old shelf.new kinds_of result };

@@ -18,7 +18,6 @@ loop-line-init g c =
     record {
       numbered = rw c.into_iter-line-iterator.ensures.into_iter_gives (rw zero-add c.lines-line-items.ensures.count);
       sound = c.requires;
-      storeless = λ _. refl;
       same_store = refl;
       same_fetch = refl;
       same_report = refl;
@@ -52,7 +51,6 @@ pub loop-line-preserved : goal.loop-line-preserved
 loop-line-preserved g c = record {
   numbered = omega (arith, ap length c.in-Some.ensures.steps, c.loop-line.invariant.numbered);
   sound = c.in_ok-tells.ensures.sound;
-  storeless = λ never. (c.in_ok-tells.ensures.storeless never).0 ∙ c.loop-line.invariant.storeless never;
   same_store = c.in_ok-tells.ensures.causes.calm_store ∙ c.loop-line.invariant.same_store;
   same_fetch = c.in_ok-tells.ensures.causes.calm_fetch ∙ c.loop-line.invariant.same_fetch;
   same_report = c.in_ok-tells.ensures.causes.calm_report ∙ c.loop-line.invariant.same_report;

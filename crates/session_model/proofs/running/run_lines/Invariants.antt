@@ -9,7 +9,6 @@ abbrev pub invariant-loop-line : goal.invariant-loop-line
 invariant-loop-line g l = record {
   numbered : l.number + length l.line-iterator ≤ length l.text;
   sound : g.S.Session.is_sound l.session;
-  storeless : g.S.Session.never_stores → g.F.Shelf.files l.shelf ≡ g.F.Shelf.files l.fn.shelf;
   same_store : g.F.Shelf.store_faults l.shelf ≡ g.F.Shelf.store_faults l.fn.shelf;
   same_fetch : g.F.Shelf.fetch_faults l.shelf ≡ g.F.Shelf.fetch_faults l.fn.shelf;
   same_report : g.K.Sink.faults l.report ≡ g.K.Sink.faults l.fn.report;
