@@ -18,23 +18,23 @@ use Rattle.cell_tree.specs.Whole.{IsWhole}
 use Rattle.cell_tree.proofs.SizeLaws.{size_of-same}
 use Rattle.cell_tree.proofs.FindLaws.{length-states}
 
-get_push : {X : Type 0} (xs : List X) (y e : X) (k : ℕ) → slice_get (xs ++ y ∷ []) k ≡ Some e → (slice_get xs k ≡ Some e) ⊎ ((k ≡ length xs) × (y ≡ e))
+pub get_push : {X : Type 0} (xs : List X) (y e : X) (k : ℕ) → slice_get (xs ++ y ∷ []) k ≡ Some e → (slice_get xs k ≡ Some e) ⊎ ((k ≡ length xs) × (y ≡ e))
 get_push [] y e zero is = inr (refl, same_Some y e is)
 get_push [] y e (suc k) is = absurd (cc)
 get_push (x ∷ xs) y e zero is = inl is
 get_push (x ∷ xs) y e (suc k) is = elim (get_push xs y e k is) [ inl old ↦ inl old | inr new ↦ inr (ap suc new.0, new.1) ]
 
-get_more : {X : Type 0} (xs : List X) (y e : X) (k : ℕ) → slice_get xs k ≡ Some e → slice_get (xs ++ y ∷ []) k ≡ Some e
+pub get_more : {X : Type 0} (xs : List X) (y e : X) (k : ℕ) → slice_get xs k ≡ Some e → slice_get (xs ++ y ∷ []) k ≡ Some e
 get_more [] y e k is = absurd (cc)
 get_more (x ∷ xs) y e zero is = is
 get_more (x ∷ xs) y e (suc k) is = get_more xs y e k is
 
-get_before : {X : Type 0} (xs : List X) (y : X) (k : ℕ) → k < length xs → slice_get (xs ++ y ∷ []) k ≡ slice_get xs k
+pub get_before : {X : Type 0} (xs : List X) (y : X) (k : ℕ) → k < length xs → slice_get (xs ++ y ∷ []) k ≡ slice_get xs k
 get_before [] y k within = absurd (omega (arith, within))
 get_before (x ∷ xs) y zero within = refl
 get_before (x ∷ xs) y (suc k) within = get_before xs y k (omega (arith, within))
 
-get_end : {X : Type 0} (xs : List X) (y : X) → slice_get (xs ++ y ∷ []) (length xs) ≡ Some y
+pub get_end : {X : Type 0} (xs : List X) (y : X) → slice_get (xs ++ y ∷ []) (length xs) ≡ Some y
 get_end [] y = refl
 get_end (x ∷ xs) y = get_end xs y
 
@@ -47,7 +47,8 @@ empty_within Depth = omega arith
 empty_within Elements = omega arith
 empty_within Hull = tt
 
-none_within : (dimension : Dimension) → IsWithin dimension no_size
+-- a cell that isn't there keeps within all limits
+pub none_within : (dimension : Dimension) → IsWithin dimension no_size
 none_within Depth = omega arith
 none_within Elements = omega arith
 none_within Hull = tt

@@ -18,3 +18,10 @@ pub mod UserLaws
 pub mod TreeLaws
 pub mod StateLaws
 pub mod AddLaws
+pub mod GraphLaws
+pub mod ArrivalLaws
+pub mod OrderLaws
+pub mod TellLaws
+pub mod BookLaws
+pub mod PushLaws
+pub mod ComeLaws

@@ -1,6 +1,6 @@
 -- Tables of uses: what a look-up by an id finds, and what an edit of the map makes of the uses.
 use Rattle.std.proofs.Common.{◌≡◌, inl, inr, ℕ, zero, suc, Bool, true, eqb, true≢false, List, [], ◌∷◌, ◌++◌, take, drop, map, Some, None, refl, sym, ap, subst, ◌∙◌, Vec, Global}
-use Rattle.std.specs.Prelude.{slice_get, remove, Result, Ok, Err, IsOk, OnOk, IfErr}
+use Rattle.std.specs.Prelude.{slice_get, remove, Result, Ok, Err, IsOk, OnOk, OnErr, IfErr}
 use Rattle.std.specs.Option.{option_map}
 use Rattle.std.specs.Cmp.Lexicographic.{pointwise, bytes_decides}
 use Rattle.std.specs.Map.{lookup, lookup_key}
@@ -84,6 +84,10 @@ on_ok_both (Err e) P Q R p q both = tt
 pub on_ok_from : {A E : Type 0} (r : Result A E) (P : Type 0) → P → OnOk r P
 on_ok_from (Ok x) P p = p
 on_ok_from (Err e) P p = tt
+
+pub on_err_from : {A E : Type 0} (r : Result A E) (P : Type 0) → P → OnErr r P
+on_err_from (Ok x) P p = tt
+on_err_from (Err e) P p = p
 
 -- what holds of a fault holds of a result that is it
 pub if_err_from : {A E : Type 0} (r : Result A E) (P : E → Type 0) (e : E) → r ≡ Err e → P e → IfErr r P

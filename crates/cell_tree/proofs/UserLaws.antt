@@ -34,14 +34,14 @@ push_rest ks key user differs has =
 push_more : (ks : List ℕ) (key user : ℕ) → Contains ks user → Contains (ks ++ key ∷ []) user
 push_more ks key user has = (has.0, omega (arith, has.1, length-append ks (key ∷ [])), get_or_append_left ks (key ∷ []) user has.0 has.1 ∙ has.2)
 
-insert_rest : (ks : List ℕ) (key user : ℕ) → user ≢ key → Contains (insert_key nat_eq ks key) user → Contains ks user
+pub insert_rest : (ks : List ℕ) (key user : ℕ) → user ≢ key → Contains (insert_key nat_eq ks key) user → Contains ks user
 insert_rest ks key user differs has =
     elim (cases_Bool (list_any (nat_eq key) ks)) [
       | inl there ↦ rw there at has
       | inr new ↦ push_rest ks key user differs (rw new at has)
     ]
 
-insert_more : (ks : List ℕ) (key user : ℕ) → Contains ks user → Contains (insert_key nat_eq ks key) user
+pub insert_more : (ks : List ℕ) (key user : ℕ) → Contains ks user → Contains (insert_key nat_eq ks key) user
 insert_more ks key user has =
     elim (cases_Bool (list_any (nat_eq key) ks)) [
       | inl there ↦ rw there has

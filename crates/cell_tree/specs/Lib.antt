@@ -8,3 +8,5 @@ pub mod Trees
 pub mod Books
 pub mod Whole
 pub mod Edits
+pub mod Additions
+pub mod Arrivals

@@ -1,5 +1,8 @@
 //! Why a call of this crate is refused.
+ghost use Rattle.std.specs.Prelude.{◌≡◌};
+ghost use Rattle.cell_tree.specs.Trees.{fault_of};
 
+use crate::sizes::Dimension;
 use geo_core::Limit;
 use std::alloc::AllocError;
 use thiserror::Error;
@@ -29,5 +32,16 @@ impl From<AllocError> for TreeFault {
 
     fn from(_error: AllocError) -> TreeFault {
         TreeFault::Memory
+    }
+}
+
+/// What refuses an edit that would pass the limit of this dimension.
+pub fn fault_of(dimension: Dimension) -> TreeFault
+    ensures { result ≡ fault_of dimension }
+{
+    match dimension {
+        Dimension::Depth => TreeFault::TooMany(Limit::Depth),
+        Dimension::Elements => TreeFault::TooMany(Limit::Elements),
+        Dimension::Hull => TreeFault::OutOfRange,
     }
 }

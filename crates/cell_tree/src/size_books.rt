@@ -1,5 +1,6 @@
 //! What is kept of all cells beside the cells: sizes and stamps, and the room in which a trial works.
-ghost use Rattle.std.specs.Prelude.{◌≡◌, ◌↔◌, ℕ, suc, ◌<◌, ◌++◌, ◌∷◌, [], false, length, IsTrue, None, OnOk, OnErr, IfErr, slice_index_or, vec_capacity, List as Items};
+ghost use Rattle.std.specs.Prelude.{◌≡◌, ◌↔◌, ℕ, suc, ◌<◌, ◌++◌, ◌∷◌, [], ◌-◌, ◌≤◌, false, length, replicate, IsTrue, None, OnOk, OnErr, IfErr};
+ghost use Rattle.std.specs.Prelude.{slice_index_or, vec_capacity, List as Items};
 ghost use Rattle.cell_tree.specs.declared.sizes.Dimension.{Dimension as IsDimension};
 ghost use Rattle.cell_tree.specs.declared.sizes.Size.{Size as IsSize};
 ghost use Rattle.cell_tree.specs.Cells.{states, IsAbove};
@@ -8,8 +9,11 @@ ghost use Rattle.cell_tree.specs.Above.{at, IsSeen, StandsIn};
 ghost use Rattle.cell_tree.specs.Trials.{FitsIn, IsTried, PassesFirst};
 ghost use Rattle.cell_tree.specs.Trees.{stamp_at};
 ghost use Rattle.cell_tree.specs.Books.{ListsAbove, AreListed, IsReady, HasRoom, IsFound, SaysTheSame, AreLawful, IsBooked};
+ghost use Rattle.cell_tree.specs.Additions.{PassesWithAll};
+ghost use Rattle.cell_tree.specs.Arrivals.{HasRoomForAll, MayBeSized, IsExtended};
 
 use crate::above::find_above;
+use crate::arrivals::{NewOrder, resize_all};
 use crate::cells::TreeCell;
 use crate::sizes::{Dimension, Size, own_size};
 use crate::trials::try_size;
@@ -181,6 +185,68 @@ impl SizeBook {
         tried
     }
 
+    /// Makes room for so many cells. The book says the same.
+    pub fn reserve_all(&mut self, count: usize) -> Result<(), AllocError>
+        requires ready { IsReady self.old (length self.old.sizes.items) }
+        ensures ready { IsReady self.new (length self.old.sizes.items) }
+        ensures same { SaysTheSame self.old self.new }
+        ensures room { OnOk result (HasRoomForAll self.new count) }
+    {
+        let more = count.saturating_sub(self.sizes.len());
+        self.sizes.reserve(more)?;
+        self.next.reserve(more)?;
+        self.stamps.reserve(more)?;
+        self.seen.reserve(more)?;
+        self.order.reserve(count)
+    }
+
+    /// Adds the sizes of the cells that come, as one more edit. Else the first dimension whose limit one of them would pass, and the book
+    /// says the same. It takes no memory.
+    pub fn extend(&mut self, cells: &[TreeCell], new: &NewOrder) -> Result<(), Dimension>
+        requires ready { IsReady self.old new.now.first }
+        requires room { HasRoomForAll self.old (length cells.now) }
+        requires sized { MayBeSized (states cells.now) new.now.first new.now.order.items self.old.sizes.items }
+        requires grows { new.now.first ≤ length cells.now }
+        requires edits { self.old.edits < u64.MAX }
+        ensures extended { OnOk result (IsExtended (states cells.now) new.now.first (length cells.now) self.old self.new) }
+        ensures refused { IfErr result (λ dimension. PassesWithAll dimension (states cells.now)) }
+        ensures same { OnErr result (SaysTheSame self.old self.new) }
+        ensures ready { OnErr result (IsReady self.new new.now.first) }
+    {
+        fill(&mut self.next, cells.len(), own_size(None));
+        let sized = resize_all(cells, new, self.next.as_mut_slice());
+        match &sized {
+            Ok(()) => self.take_over(new.order.as_slice(), cells.len()),
+            Err(_) => self.next.truncate(new.first),
+        }
+        sized
+    }
+
+    // Takes over the sizes of so many cells, of which those of the order come, as one more edit.
+    fn take_over(&mut self, order: &[usize], count: usize)
+        requires room { HasRoomForAll self.old count }
+        requires next { length self.old.next.items ≡ count }
+        requires grows { length self.old.sizes.items ≤ count }
+        requires stamps { length self.old.stamps.items ≡ length self.old.sizes.items }
+        requires seen { length self.old.seen.items ≡ length self.old.sizes.items }
+        requires unseen { (key : ℕ) → slice_index_or self.old.seen.items key false ≡ false }
+        requires order { self.old.order.items ≡ [] }
+        requires within { (place : ℕ) → place < length order.now → at order.now place < count }
+        requires others { (key : ℕ) → key < length self.old.sizes.items → size_at self.old.sizes.items key ≡ size_at self.old.next.items key }
+        requires all { (key : ℕ) → length self.old.sizes.items ≤ key → key < count → StandsIn order.now key }
+        requires edits { self.old.edits < u64.MAX }
+        ensures ready { IsReady self.new count }
+        ensures sizes { self.new.sizes.items ≡ self.old.next.items }
+        ensures edits { self.new.edits ≡ suc self.old.edits }
+        ensures stamps { self.new.stamps.items ≡ self.old.stamps.items ++ replicate (count - length self.old.stamps.items) self.new.edits }
+    {
+        self.edits += 1;
+        fill(&mut self.sizes, count, own_size(None));
+        fill(&mut self.stamps, count, self.edits);
+        fill(&mut self.seen, count, false);
+        copy_sizes(order, self.sizes.as_mut_slice(), self.next.as_slice());
+    }
+
     // Takes over the sizes that were tried, as one more edit.
     fn commit(&mut self)
         requires order { AreListed self.old }
@@ -254,5 +320,17 @@ fn raise_stamps(order: &[usize], stamps: &mut [u64], stamp: u64)
 {
     for key in order {
         stamps[*key] = stamp;
+    }
+}
+
+// Fills the list up to so many with this value. It takes no memory.
+fn fill<T: Copy>(list: &mut Vec<T>, count: usize, value: T)
+    requires room { count ≤ vec_capacity list.old }
+    requires grows { length list.old.items ≤ count }
+    ensures filled { list.new.items ≡ list.old.items ++ replicate (count - length list.old.items) value }
+    ensures capacity { vec_capacity list.old ≤ vec_capacity list.new }
+{
+    for _ in list.len()..count {
+        let _ = list.push(value);
     }
 }

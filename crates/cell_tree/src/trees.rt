@@ -2,26 +2,31 @@
 ghost use Rattle.std.specs.Prelude.{◌≡◌, ◌↔◌, ℕ, ◌<◌, length, IsTrue, Some, OnOk, OnErr, IfOk, IfErr, IfSome, IfNone, slice_get};
 ghost use Rattle.std.specs.Option.{option_map};
 ghost use Rattle.geo_core.specs.declared.grids.Grid.{Grid as IsGrid};
+ghost use Rattle.use_orders.specs.LibraryOrder.{IsLibraryOrder};
 ghost use Rattle.cell_tree.specs.Uses.{HasIdAt, IsShift, IsLawfulGrid, IsLawfulUse};
 ghost use Rattle.cell_tree.specs.Hulls.{IsInside};
 ghost use Rattle.cell_tree.specs.Cells.{IsAbove};
 ghost use Rattle.cell_tree.specs.Sizes.{size_at};
-ghost use Rattle.cell_tree.specs.Trees.{cell_at, empty_tree, stamp_at, with_own, with_placed, with_moved, without_use, fault_of};
+ghost use Rattle.cell_tree.specs.Trees.{cell_at, empty_tree, stamp_at, with_own, with_placed, with_moved, without_use};
+ghost use Rattle.cell_tree.specs.Additions.{AreAdded, MayAllCome, RefusesAll, children_of, new_states};
 ghost use Rattle.cell_tree.specs.Trees.{IsAdded, IsEdited, IsFree, IsLawfulOwn, IsLawfulTree, RefusesBox, RefusesMove, RefusesUse, WouldKeepWithin};
 
+use crate::additions::add_all;
 use crate::cells::TreeCell;
 use crate::edits::{add_use, drop_use, reserve_use, set_body, set_own};
-use crate::faults::TreeFault;
+use crate::faults::{TreeFault, fault_of};
+use crate::graphs::CellGraph;
 use crate::limits::MOST_USES;
+use crate::new_cells::NewCell;
 use crate::resizes::{size_with_box, size_with_placed, size_with_use};
 use crate::size_books::SizeBook;
-use crate::sizes::Dimension;
 use crate::use_tables::{UseBody, UseTable};
 use ext_model::CellKey;
 use geo_core::{Grid, Limit, Rect, Transform};
 use indexmap::IndexSet;
 use std::alloc::{AllocError, Global};
 use std::marker::Model;
+use use_orders::below;
 
 /// Cells that use each other, known by their positions 0, 1, 2.. in order of arrival: cells never leave.
 ///
@@ -164,6 +169,39 @@ impl CellTree {
         let _ = self.cells.push(empty);
         self.book.add();
         Ok(cell)
+    }
+
+    /// The library order below a cell: the cell and all that stands below it in the order of uses, children before parents, each once, and
+    /// the cell last. Want of memory alone refuses.
+    pub fn below(&self, root: usize) -> Result<Vec<usize>, AllocError>
+        requires { root < length self.now.cells }
+        ensures { IfOk result (λ order. IsLibraryOrder (children_of self.now.cells) root order.items) }
+    {
+        let cells = self.cells.as_slice();
+        below(self.alloc, &CellGraph { cells }, root)
+    }
+
+    /// Adds cells with their uses at the end, in their order, as one edit. A use may be of a cell that was there or of one that comes.
+    ///
+    /// # Errors
+    ///
+    /// `Cycle` with the position that the first cell would have that stands below itself; else `TooMany(Depth)`, `TooMany(Elements)` or
+    /// `OutOfRange`, the first whose limit some cell would pass; and `Memory`. Nothing is changed then.
+    pub fn add_all(&mut self, cells: Vec<NewCell>) -> Result<(), TreeFault>
+        requires cells { MayAllCome self.old (new_states cells.items) }
+        requires edits { self.old.edits < u64.MAX }
+        ensures added { OnOk result (AreAdded self.old self.new (new_states cells.items)) }
+        ensures refused { IfErr result (RefusesAll self.old (new_states cells.items)) }
+        ensures same { OnErr result (self.new ≡ self.old) }
+    {
+        let first = self.cells.len();
+        match add_all(self.alloc, &mut self.cells, &mut self.book, cells) {
+            Ok(()) => Ok(()),
+            Err(fault) => {
+                self.cells.truncate(first);
+                Err(fault)
+            }
+        }
     }
 
     /// Whether `set_box` would be accepted. It takes no memory, and changes nothing.
@@ -357,16 +395,5 @@ impl CellTree {
         }
         add_use(self.cells.as_mut_slice(), cell, id, used);
         Ok(())
-    }
-}
-
-// What refuses an edit that would pass the limit of this dimension.
-fn fault_of(dimension: Dimension) -> TreeFault
-    ensures { result ≡ fault_of dimension }
-{
-    match dimension {
-        Dimension::Depth => TreeFault::TooMany(Limit::Depth),
-        Dimension::Elements => TreeFault::TooMany(Limit::Elements),
-        Dimension::Hull => TreeFault::OutOfRange,
     }
 }

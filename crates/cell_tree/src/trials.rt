@@ -12,7 +12,7 @@ use crate::cells::TreeCell;
 use crate::sizes::{Dimension, Size, is_within, measured, with_dimension};
 
 /// Works out one dimension of a cell's size. `false` where it passes its limit.
-fn resize_one(dimension: Dimension, cells: &[TreeCell], key: usize, next: &mut [Size]) -> bool
+pub fn resize_one(dimension: Dimension, cells: &[TreeCell], key: usize, next: &mut [Size]) -> bool
     requires within { key < length cells.now }
     requires long { length next.old ≡ length cells.now }
     requires lawful { AreLawfulCells (states cells.now) }

@@ -1,7 +1,8 @@
 //! The uses of a cell, in order of arrival under their ids.
-ghost use Rattle.std.specs.Prelude.{◌≡◌, ◌↔◌, ℕ, ◌<◌, ◌++◌, ◌∷◌, [], length, remove, slice_get, IsTrue, Some, OnOk, IfSome, IfNone};
+ghost use Rattle.std.specs.Prelude.{◌≡◌, ◌↔◌, ℕ, ◌<◌, ◌++◌, ◌∷◌, [], length, remove, map, slice_get, IsTrue, Some, OnOk, IfOk, IfSome, IfNone};
 ghost use Rattle.std.specs.Option.{option_map};
 ghost use Rattle.cell_tree.specs.Uses.{HasChild, HasIdAt, with_use_at};
+ghost use Rattle.cell_tree.specs.Arrivals.{HaveOwnIds};
 
 use ext_model::CellKey;
 use geo_core::{Grid, Transform};
@@ -42,6 +43,19 @@ impl UseTable {
         UseTable {
             entries: IndexMap::new(alloc),
         }
+    }
+
+    /// The uses with these ids. It takes its memory now.
+    pub fn from_uses(alloc: Global, uses: Vec<(Vec<u8>, UseBody)>) -> Result<UseTable, AllocError>
+        requires { HaveOwnIds (map (λ entry. (entry.0.items, entry.1)) uses.items) }
+        ensures { IfOk result (λ table. table.entries ≡ map (λ entry. (entry.0.items, entry.1)) uses.items) }
+    {
+        let mut table = UseTable::new(alloc);
+        for (id, used) in uses {
+            table.reserve()?;
+            table.push(id, used);
+        }
+        Ok(table)
     }
 
     /// How many uses there are.
