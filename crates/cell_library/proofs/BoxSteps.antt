@@ -79,7 +79,7 @@ sides : (area : Rect) → IsTrue (has_sides area) → (area.xlo ≤ℤ area.xhi)
 sides area is = (grind (arith, ints), grind (arith, ints))
 
 -- an own box is not turned inside out
-own_box_wide : (own : Layout) (labels : List Label) (box : Rect) → IsOwnBox own labels box → All (λ label. IsTrue (has_sides label.area)) labels
+pub own_box_wide : (own : Layout) (labels : List Label) (box : Rect) → IsOwnBox own labels box → All (λ label. IsTrue (has_sides label.area)) labels
     → (box.xlo ≤ℤ box.xhi) × (box.ylo ≤ℤ box.yhi)
 own_box_wide own labels box is upright = elim is.some [
   | inl material ↦ (let covers : Covers box material.0.square = is.holds.material material.0 material.1 in (omega (arith, ints), omega (arith, ints)))

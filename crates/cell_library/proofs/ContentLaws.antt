@@ -1,5 +1,5 @@
 -- The contents of cells in a hash table, seen as a list.
-use Rattle.std.proofs.Common.{◌≡◌, ◌+◌, ◌≤◌, ℕ, zero, suc, Bool, List, [], ◌∷◌, ◌++◌, length, map, set, refl, sym, ap, ◌∙◌, arith, inl, inr}
+use Rattle.std.proofs.Common.{◌≡◌, ◌+◌, ◌≤◌, ℕ, zero, suc, Bool, List, [], ◌∷◌, ◌++◌, length, map, take, set, refl, sym, ap, ◌∙◌, arith, inl, inr}
 use Rattle.std.specs.Prelude.{Some, None, not, slice_get, Vec, cond, nat_lt}
 use Rattle.std.specs.List.{position, position_or_len}
 use Rattle.std.specs.Map.{keys_of, values_of}
@@ -7,7 +7,7 @@ use Rattle.std.specs.Str.{bytes_eq}
 use Rattle.std.specs.declared.alloc.Global.{Global}
 use Rattle.indexmap.specs.IndexMap.{set_value_at}
 use Rattle.std.proofs.lemmas.Bool.{cases_Bool, ltb-false}
-use Rattle.std.proofs.lemmas.List.{length-map, map-set, map-append, set-get_or}
+use Rattle.std.proofs.lemmas.List.{length-map, map-set, map-append, take-map, set-get_or}
 use Rattle.indexmap.specs.IndexMap.{insert_entry}
 use Rattle.tech_model.specs.declared.raw.Label.{Label}
 use Rattle.layout_model.specs.Places.{Place}
@@ -29,7 +29,7 @@ position-map f test xs =
     ∙ ap (λ (n : ℕ). cond (nat_lt (position_or_len (λ x. test (f x)) xs) n) (Some (position_or_len (λ x. test (f x)) xs)) None) (length-map xs f)
 
 -- a map of a map
-map-map : {X Y Z : Type 0} (f : X → Y) (g : Y → Z) (xs : List X) → map g (map f xs) ≡ map (λ x. g (f x)) xs
+pub map-map : {X Y Z : Type 0} (f : X → Y) (g : Y → Z) (xs : List X) → map g (map f xs) ≡ map (λ x. g (f x)) xs
 map-map f g [] = refl
 map-map f g (x ∷ xs) = ap (λ ys. g (f x) ∷ ys) (map-map f g xs)
 
@@ -172,3 +172,20 @@ pub held_more : (entries : List (Vec ℕ Global × Content)) (key : Vec ℕ Glob
 held_more entries key content =
     ap (map held_of) (map-append (λ (e : Vec ℕ Global × Content). e.1) entries ((key, content) ∷ []))
     ∙ map-append held_of (values_of entries) (content ∷ [])
+
+-- ---- the first ones
+
+-- the first of contents stay under their names
+pub under_names_first : (entries : List (Vec ℕ Global × Content)) (count : ℕ) → AreUnderNames entries → AreUnderNames (take count entries)
+under_names_first entries count under =
+    let key : Vec ℕ Global × Content → List ℕ = λ entry. entry.0.items in
+    let name : Vec ℕ Global × Content → List ℕ = λ entry. entry.1.name in
+    map-map (λ (e : Vec ℕ Global × Content). e.0) (λ (k : Vec ℕ Global). k.items) (take count entries) ∙ sym (take-map key count entries)
+    ∙ ap (take count) (sym (map-map (λ (e : Vec ℕ Global × Content). e.0) (λ (k : Vec ℕ Global). k.items) entries) ∙ under
+    ∙ map-map (λ (e : Vec ℕ Global × Content). e.1) (λ (c : Content). c.name) entries)
+    ∙ take-map name count entries ∙ sym (map-map (λ (e : Vec ℕ Global × Content). e.1) (λ (c : Content). c.name) (take count entries))
+
+-- and they are seen as the first
+pub held_first : (entries : List (Vec ℕ Global × Content)) (count : ℕ) → held_in (take count entries) ≡ take count (held_in entries)
+held_first entries count =
+    ap (map held_of) (sym (take-map (λ (e : Vec ℕ Global × Content). e.1) count entries)) ∙ sym (take-map held_of count (values_of entries))

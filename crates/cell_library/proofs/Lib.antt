@@ -1,3 +1,6 @@
+pub mod AddedCells
+pub mod ArrivingCells
+pub mod ArrivingUses
 pub mod BoxLaws
 pub mod BoxSteps
 pub mod ContentLaws

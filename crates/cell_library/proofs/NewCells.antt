@@ -46,7 +46,7 @@ none_passes test (y ∷ ys) x past (inr later) = elim (cases_Bool (test y)) [
 ]
 
 -- a name that isn't found is new
-name_is_new : (name : List ℕ) (contents : List Held) → position_of name contents ≡ None → In name (map (λ held. held.name) contents) → ⊥
+pub name_is_new : (name : List ℕ) (contents : List Held) → position_of name contents ≡ None → In name (map (λ held. held.name) contents) → ⊥
 name_is_new name contents none there =
     true≢false (sym ((bytes_eq-Decides name name).1 refl)
     ∙ none_passes (bytes_eq name) (map (λ (held : Held). held.name) contents) name (position_past (bytes_eq name) (map (λ (held : Held). held.name) contents) none) there)

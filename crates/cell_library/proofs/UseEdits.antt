@@ -50,7 +50,7 @@ use Rattle.cell_library.proofs.ViewLaws.{cell_viewed, uses_at}
 -- ---- chains of uses
 
 -- where a state stands, so does the view, with its uses
-state_of_view : (cells : List CellView) (states : List CellState) → AreStatesOf cells states → (k : ℕ) (of : CellState) → slice_get (map uses_of cells) k ≡ Some of
+pub state_of_view : (cells : List CellView) (states : List CellState) → AreStatesOf cells states → (k : ℕ) (of : CellState) → slice_get (map uses_of cells) k ≡ Some of
     → (state : CellState) × ((slice_get states k ≡ Some state) × (state.uses ≡ of.uses))
 state_of_view [] [] are k of is = absurd (cc)
 state_of_view [] (s ∷ states) are k of is = absurd are
@@ -59,7 +59,7 @@ state_of_view (c ∷ cells) (s ∷ states) are zero of is =
     let same : uses_of c ≡ of = cc in (s, (refl, are.1 ∙ ap (λ (o : CellState). o.uses) same))
 state_of_view (c ∷ cells) (s ∷ states) are (suc k) of is = state_of_view cells states are.2 k of is
 
-view_of_state : (cells : List CellView) (states : List CellState) → AreStatesOf cells states → (k : ℕ) (state : CellState) → slice_get states k ≡ Some state
+pub view_of_state : (cells : List CellView) (states : List CellState) → AreStatesOf cells states → (k : ℕ) (state : CellState) → slice_get states k ≡ Some state
     → (of : CellState) × ((slice_get (map uses_of cells) k ≡ Some of) × (of.uses ≡ state.uses))
 view_of_state [] [] are k state is = absurd (cc)
 view_of_state [] (s ∷ states) are k state is = absurd are
@@ -279,7 +279,7 @@ module _ (library : LibraryParts) (lawful : IsLawfulLibrary library) (cell : ℕ
 -- ---- new uses make no cycle
 
 -- the depth rises along a chain of uses
-rises : (cells : List CellState) (sizes : List Size) → AreSizes cells sizes → (lower upper : ℕ) → IsAbove cells lower upper
+pub rises : (cells : List CellState) (sizes : List Size) → AreSizes cells sizes → (lower upper : ℕ) → IsAbove cells lower upper
     → (size_at sizes lower).depth ≤ (size_at sizes upper).depth
 rises cells sizes right lower upper stay = omega arith
 rises cells sizes right lower upper (go {b = b} used rest) =

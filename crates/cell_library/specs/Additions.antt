@@ -1,5 +1,5 @@
 -- What it means to add cells to a library all at once: which may be added, what becomes of the library, and what refuses them.
-use Rattle.std.specs.Prelude.{◌≡◌, ◌⊎◌, ◌<◌, ◌≤◌, ℕ, IsTrue, List, [], ◌∷◌, ◌++◌, length, map, Option, Some, None, unwrap_or, All}
+use Rattle.std.specs.Prelude.{◌≡◌, ◌⊎◌, ◌<◌, ◌≤◌, ℕ, suc, IsTrue, List, [], ◌∷◌, ◌++◌, length, map, Option, Some, None, unwrap_or, All}
 use Rattle.std.specs.List.{position_or_len}
 use Rattle.std.specs.Option.{option_or}
 use Rattle.std.specs.Str.{bytes_eq}
@@ -11,7 +11,7 @@ use Rattle.cell_paint.specs.Paints.{layout_of}
 use Rattle.cell_tree.specs.declared.limits.TheConstants.{MOST_USES}
 use Rattle.cell_tree.specs.declared.sizes.Dimension.TheVariants.{Depth as DepthOf, Elements as ElementsOf, Hull}
 use Rattle.cell_tree.specs.declared.use_tables.UseBody.{UseBody}
-use Rattle.cell_tree.specs.Cells.{Uses}
+use Rattle.cell_tree.specs.Additions.{IsBelowItself as StandsBelowItself, IsFirstBelowItself as StandsFirstBelowItself}
 use Rattle.cell_bodies.specs.declared.bodies.CellBody.{CellBody}
 use Rattle.cell_bodies.specs.declared.bodies.CellUse.{CellUse}
 use Rattle.cell_bodies.specs.Bodies.{IsBody}
@@ -20,8 +20,9 @@ use Rattle.cell_library.specs.declared.faults.LibFault.TheVariants.{OutOfRange, 
 use Rattle.cell_library.specs.declared.limits.TheConstants.{MOST_CELLS}
 use Rattle.cell_library.specs.Views.{CellView, LibraryView, names_of, view_at}
 use Rattle.cell_library.specs.Edits.{transform_of}
+use Rattle.cell_library.specs.Libraries.{LibraryParts, edits_of}
 use Rattle.cell_library.specs.Limits.{GoesPast}
-use Rattle.cell_library.specs.Refusals.{FirstOf, NothingElse, StandsAbove, uses_of}
+use Rattle.cell_library.specs.Refusals.{FirstOf, NothingElse, uses_of}
 
 -- the names of the cells of the library and of those that are added
 abbrev pub names_with : LibraryView → List (List ℕ × CellBody) → List (List ℕ)
@@ -69,16 +70,22 @@ pub record CanBeAdded (view : LibraryView) (cells : List (List ℕ × CellBody))
   pub few_uses : All (λ cell. length cell.1.uses ≤ MOST_USES) cells
   pub one_scale : All (λ cell. Some cell.1.scale ≡ option_or view.scale (first_scale cells)) cells
 
--- A cell stands below itself: it uses a cell that it stands below, or itself.
-pub record IsBelowItself (view : LibraryView) (cell : ℕ) : Type 0 where
-  pub child : ℕ
-  pub used : Uses (map uses_of view.cells) cell child
-  pub above : StandsAbove view cell child
+-- Cells came: they are the next edit, whose number is the stamp of each, and no other stamp changed.
+pub record AreNextCells (old new : LibraryParts) (cells : List (List ℕ × CellBody)) : Type 0 where
+  pub edits : edits_of new ≡ suc (edits_of old)
+  pub stamps : new.tree.stamps ≡ old.tree.stamps ++ map (λ _. edits_of new) cells
+
+-- the children of each cell, in the order of its uses
+abbrev pub children_in : LibraryView → List (List ℕ)
+children_in view = map (λ cell. map (λ entry. entry.1.child.0) cell.uses) view.cells
+
+-- A cell stands below itself: it uses itself, or a cell that stands above it.
+abbrev pub IsBelowItself : LibraryView → ℕ → Type 0
+IsBelowItself view cell = StandsBelowItself (map uses_of view.cells) cell
 
 -- It is the first such cell.
-pub record IsFirstBelowItself (view : LibraryView) (cell : ℕ) : Type 0 where
-  pub below : IsBelowItself view cell
-  pub first : (other : ℕ) → other < cell → IsBelowItself view other → ⊥
+abbrev pub IsFirstBelowItself : LibraryView → ℕ → Type 0
+IsFirstBelowItself view cell = StandsFirstBelowItself (map uses_of view.cells) cell
 
 -- The end of `load`: some cell would stand below itself, and the first is told; some cell would stand too deep, have too many elements,
 -- or have too far a hull.

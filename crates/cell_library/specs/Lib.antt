@@ -1,3 +1,4 @@
+pub mod AddedCells
 pub mod Additions
 pub mod CellEdits
 pub mod Contents

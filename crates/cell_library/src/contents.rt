@@ -83,7 +83,7 @@ impl Contents {
         requires { cell < length self.now }
         ensures { IsSoundPaint (held_at self.now cell).paint.kinds (layout_of (held_at self.now cell).paint) }
     {
-        let _ = self.get(cell).paint.box_of();
+        self.get(cell).paint.sound();
     }
 
     /// Adds a cell. Want of memory alone refuses, and nothing is changed then.
@@ -102,6 +102,13 @@ impl Contents {
         ensures { self.new ≡ take (length self.old - 1) self.old }
     {
         let _ = self.entries.pop();
+    }
+
+    /// Keeps so many of the first cells. It takes no memory.
+    pub fn truncate(&mut self, count: usize)
+        ensures { self.new ≡ take count self.old }
+    {
+        self.entries.truncate(count);
     }
 
     /// Paints the layer over the area in a cell. It is refused as `CellPaint::paint` is, and then no layout is changed.

@@ -10,6 +10,10 @@
 //! kind of edit say what that means for what is seen, for what is lawful, and for what refuses it (`PaintEdits`, `OwnEdits`, `UseEdits`,
 //! `MoveEdits`, `NewCells`, over `EditLaws` and `ViewLaws`).
 //!
+//! Cells that come all at once come to the contents first, where each use then finds its child, and to the tree next (`ArrivingCells`,
+//! `ArrivingUses`). What the tree refuses is what the library does, since a chain of uses is seen where it stands in the tree
+//! (`AddedCells`).
+//!
 //! The tree holds the box of what a cell has of its own. Paint takes nothing away and fills the area, and erasing adds nothing
 //! (`MaterialLaws`), so the box is known before paint is tried (`BoxLaws`, `BoxSteps`).
 //!
@@ -19,6 +23,7 @@
 #![tactic(auto)]
 
 mod adding;
+mod additions;
 mod checks;
 mod contents;
 mod faults;

@@ -1,11 +1,13 @@
 //! The library.
-ghost use Rattle.std.specs.Prelude.{◌≡◌, ◌<◌, ℕ, None, [], length, IsTrue, IfOk, IfSome, OnOk, OnErr, slice_get};
+ghost use Rattle.std.specs.Prelude.{◌≡◌, ◌<◌, ℕ, map, None, [], length, IsTrue, IfOk, IfSome, OnOk, OnErr, slice_get};
 ghost use Rattle.std.specs.Option.{option_map};
 ghost use Rattle.text_scan.specs.PlainNames.{is_plain_name};
-ghost use Rattle.cell_paint.specs.Paints.{layout_of};
+ghost use Rattle.use_orders.specs.LibraryOrder.{IsLibraryOrder};
+ghost use Rattle.cell_paint.specs.Paints.{layout_of, IsSoundPaint};
 ghost use Rattle.cell_bodies.specs.Words.{is_use_id, is_label_text};
 ghost use Rattle.cell_bodies.specs.Numbers.{is_index, is_position};
 ghost use Rattle.cell_tree.specs.Trees.{empty_tree, stamp_at};
+ghost use Rattle.cell_library.specs.Additions.{AddAllIsRefused, AreNextCells, CanBeAdded, children_in, with_all};
 ghost use Rattle.cell_library.specs.Edits.{with_new_cell, painted, erased, labelled, unlabelled, placed, with_grid, moved, without_use};
 ghost use Rattle.cell_library.specs.Limits.{HullIs};
 ghost use Rattle.cell_library.specs.Refusals.{Answers, AnswersOrLacksMemory, EditIsRefused, NewCellIsRefused, PaintIsRefused, EraseIsRefused};
@@ -13,16 +15,18 @@ ghost use Rattle.cell_library.specs.Refusals.{LabelIsRefused, UnlabelIsRefused, 
 ghost use Rattle.cell_library.specs.Views.{cell_named, view_at};
 
 use crate::adding::new_cell;
+use crate::additions::add_cells;
 use crate::contents::Contents;
 use crate::faults::LibFault;
 use crate::painting::{erase_cell, label_cell, paint_cell, unlabel_cell};
 use crate::reader::Reader;
 use crate::uses::{delete_use, move_use, place_array, place_use};
+use cell_bodies::CellBody;
 use cell_paint::CellPaint;
 use cell_tree::{CellTree, UseBody};
 use ext_model::CellKey;
 use geo_core::{Grid, Name, Rect};
-use std::alloc::Global;
+use std::alloc::{AllocError, Global};
 use std::marker::Model;
 use tech_model::{Label, LayerId, Tech};
 
@@ -95,7 +99,7 @@ impl Library {
         self.contents.len()
     }
 
-    /// The scale: lambda is the first number divided by the second. None exactly where there is no cell.
+    /// The scale, two numbers that are compared one by one. None exactly where there is no cell.
     pub fn scale(&self) -> Option<(u32, u32)>
         ensures { result ≡ self.now.scale }
     {
@@ -143,12 +147,28 @@ impl Library {
         &self.contents.get(cell.0).paint
     }
 
+    /// What holds of the cell's own paint.
+    pub fn sound(&self, cell: CellKey)
+        requires { cell.0 < length self.now.contents }
+        ensures { IsSoundPaint self.now.tech.types (view_at (seen self.now) cell.0).own }
+    {
+        self.contents.sound(cell.0);
+    }
+
     /// The cell's labels, in order of arrival.
     pub fn labels_of(&self, cell: CellKey) -> &[Label]
         requires { cell.0 < length self.now.contents }
         ensures { result.now ≡ (view_at (seen self.now) cell.0).labels }
     {
         self.contents.get(cell.0).labels.as_slice()
+    }
+
+    /// How many uses the cell has.
+    pub fn use_count(&self, cell: CellKey) -> usize
+        requires { cell.0 < length self.now.contents }
+        ensures { result ≡ length (view_at (seen self.now) cell.0).uses }
+    {
+        self.tree.use_count(cell.0)
     }
 
     /// The id and the body of the k-th use of the cell, counted from 0. None exactly past the last.
@@ -179,6 +199,40 @@ impl Library {
             &mut self.contents,
             &mut self.tree,
             name,
+        );
+        self.tree.lawful();
+        done
+    }
+
+    /// The cells at and below the root in library order: in the order of uses, children before parents, each once, and the root last. Want of
+    /// memory alone refuses.
+    pub fn below(&self, root: CellKey) -> Result<Vec<CellKey>, AllocError>
+        requires { root.0 < length self.now.contents }
+        ensures { IfOk result (λ order. IsLibraryOrder (children_in (seen self.now)) root.0 (map (λ key. key.0) order.items)) }
+    {
+        let order = self.tree.below(root.0)?;
+        keys_of(self.alloc, order.as_slice())
+    }
+
+    /// Adds cells with all that they have at the end, in their order, as one edit. The first cell of a library gives it its scale.
+    ///
+    /// # Errors
+    ///
+    /// `Cycle` with the name of the first cell that would stand below itself; else `TooMany(Depth)`, `TooMany(Elements)` or `OutOfRange`
+    /// where some cell would stand too deep, have too many elements, or a hull that goes past the range of paint.
+    pub fn add_all(&mut self, cells: Vec<(Name, CellBody)>) -> Result<(), LibFault>
+        requires { CanBeAdded (seen self.old) cells.items }
+        ensures answers { AnswersOrLacksMemory (EditIsRefused (edits_of self.old) (AddAllIsRefused (seen self.old) cells.items)) result }
+        ensures added { OnOk result (seen self.new ≡ with_all (seen self.old) cells.items) }
+        ensures edit { OnOk result (AreNextCells self.old self.new cells.items) }
+        ensures refused { OnErr result (IsSame self.old self.new) }
+    {
+        let done = add_cells(
+            self.alloc,
+            &mut self.scale,
+            &mut self.contents,
+            &mut self.tree,
+            cells,
         );
         self.tree.lawful();
         done
@@ -373,4 +427,14 @@ impl Library {
     {
         Reader::of(self)
     }
+}
+
+// The keys of cells at these positions. Want of memory alone refuses.
+fn keys_of(alloc: Global, positions: &[usize]) -> Result<Vec<CellKey>, AllocError>
+    ensures { IfOk result (λ keys. keys.items ≡ map (λ position. record { 0 = position }) positions.now) }
+{
+    positions
+        .iter()
+        .map(|position| CellKey(*position))
+        .collect(alloc)
 }

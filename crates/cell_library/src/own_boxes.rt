@@ -1,8 +1,10 @@
 //! The boxes of what cells have of their own.
-ghost use Rattle.std.specs.Prelude.{◌≡◌};
+ghost use Rattle.std.specs.Prelude.{◌≡◌, ◌<◌, length};
 ghost use Rattle.cell_paint.specs.Paints.{layout_of};
+ghost use Rattle.cell_library.specs.Contents.{held_at};
 ghost use Rattle.cell_library.specs.OwnBoxes.{OwnBoxIs, box_with};
 
+use crate::contents::Contents;
 use cell_paint::CellPaint;
 use geo_core::Rect;
 use tech_model::Label;
@@ -26,4 +28,13 @@ pub fn own_box(paint: &CellPaint, labels: &[Label]) -> Option<Rect>
         found = Some(box_with(found, label.area));
     }
     found
+}
+
+/// The box of what the cell has of its own.
+pub fn box_of_own(contents: &Contents, cell: usize) -> Option<Rect>
+    requires { cell < length contents.now }
+    ensures { OwnBoxIs (layout_of (held_at contents.now cell).paint) (held_at contents.now cell).labels result }
+{
+    let content = contents.get(cell);
+    own_box(&content.paint, content.labels.as_slice())
 }

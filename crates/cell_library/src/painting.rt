@@ -14,7 +14,7 @@ use crate::checks::{check_area, check_edits, check_label};
 use crate::contents::Contents;
 use crate::faults::LibFault;
 use crate::limits::MOST_EDITS;
-use crate::own_boxes::{box_with, own_box};
+use crate::own_boxes::{box_of_own, box_with};
 use cell_tree::CellTree;
 use geo_core::Rect;
 use tech_model::{Label, LayerId, Tech};
@@ -50,15 +50,6 @@ fn set_box(tree: &mut CellTree, cell: usize, own: Rect)
         Ok(()) => {}
         Err(_) => unreachable!(),
     }
-}
-
-// The box of what the cell has of its own.
-fn box_of_own(contents: &Contents, cell: usize) -> Option<Rect>
-    requires { cell < length contents.now }
-    ensures { OwnBoxIs (layout_of (held_at contents.now cell).paint) (held_at contents.now cell).labels result }
-{
-    let content = contents.get(cell);
-    own_box(&content.paint, content.labels.as_slice())
 }
 
 /// Paints the layer over the area in a cell, whose box then goes round the area too. A refusal changes no layout and not the tree.

@@ -1,8 +1,10 @@
 //! Reading a library.
-ghost use Rattle.std.specs.Prelude.{◌≡◌, ◌+◌, ◌<◌, length, slice_get};
+ghost use Rattle.std.specs.Prelude.{◌≡◌, ◌+◌, ◌<◌, map, IfOk, length, slice_get};
 ghost use Rattle.std.specs.Option.{option_map};
 ghost use Rattle.cell_paint.specs.Paints.{layout_of};
 ghost use Rattle.cell_tree.specs.Trees.{stamp_at};
+ghost use Rattle.use_orders.specs.LibraryOrder.{IsLibraryOrder};
+ghost use Rattle.cell_library.specs.Additions.{children_in};
 ghost use Rattle.cell_library.specs.Limits.{HullIs};
 ghost use Rattle.cell_library.specs.Views.{cell_named, view_at};
 
@@ -11,6 +13,7 @@ use cell_paint::CellPaint;
 use cell_tree::UseBody;
 use ext_model::CellKey;
 use geo_core::{Name, Rect};
+use std::alloc::AllocError;
 use std::marker::Model;
 use std::sync::ledger::Ledger;
 use step_count::Steps;
@@ -66,7 +69,7 @@ impl<'a> Reader<'a> {
         library.cell_count()
     }
 
-    /// The scale: lambda is the first number divided by the second. None exactly where there is no cell.
+    /// The scale, two numbers that are compared one by one. None exactly where there is no cell.
     pub fn scale(&self) -> Option<(u32, u32)>
         ensures { result ≡ self.now.scale }
     {
@@ -125,6 +128,16 @@ impl<'a> Reader<'a> {
     {
         let library = self.library;
         library.use_at(cell, k)
+    }
+
+    /// The cells at and below the root in library order: in the order of uses, children before parents, each once, and the root last. Want of
+    /// memory alone refuses.
+    pub fn below(&self, root: CellKey) -> Result<Vec<CellKey>, AllocError>
+        requires { root.0 < length self.now.contents }
+        ensures { IfOk result (λ order. IsLibraryOrder (children_in (seen self.now)) root.0 (map (λ key. key.0) order.items)) }
+    {
+        let library = self.library;
+        library.below(root)
     }
 
     /// The cell's own paint, for one step.

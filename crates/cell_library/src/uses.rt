@@ -31,8 +31,8 @@ fn has_use(tree: &CellTree, cell: usize, id: &[u8]) -> bool
     }
 }
 
-// The transform of the six numbers, where they are those of one.
-fn transform_of(six: [i64; 6]) -> Option<Transform>
+/// The transform of the six numbers, where they are those of one.
+pub fn transform_of(six: [i64; 6]) -> Option<Transform>
     ensures is { result ≡ transform_of six }
     ensures six { IfSome result (λ transform. six_of transform ≡ six) }
 {
@@ -84,8 +84,8 @@ fn stands_in_range(transform: &Transform) -> bool
     is_displacement(transform.dx) && is_displacement(transform.dy)
 }
 
-// Why the library refuses what the tree does.
-fn fault_of(alloc: Global, contents: &Contents, refused: TreeFault) -> LibFault
+/// Why the library refuses what the tree does.
+pub fn fault_of(alloc: Global, contents: &Contents, refused: TreeFault) -> LibFault
     requires { (key : ℕ) → refused ≡ TreeFault.Cycle key → key < length contents.now }
     ensures { (result ≡ LibFault.Memory) ⊎ (result ≡ of_tree contents.now refused) }
 {

@@ -28,7 +28,7 @@ use Rattle.tech_model.proofs.WithinLaws.{one_image}
 use Rattle.tech_model.proofs.WholeLaws.{unmarked_keeps, marks_kept-whole}
 
 -- what paint of a layer does on a plane
-abbrev paint : RawTech → ℕ → ℕ → TypeId → TypeId
+abbrev pub paint : RawTech → ℕ → ℕ → TypeId → TypeId
 paint raw layer plane old = where_image (painted_by raw plane) (image_on raw layer plane) old
 
 -- the column after the marks of the first n layers were looked at
@@ -73,7 +73,7 @@ changed_from_at f p (old ∷ column) (suc k) below =
     let next : p + 1 + k ≡ p + suc k = omega arith in
     changed_from_at f (p + 1) column k (omega arith) ∙ ap (λ (n : ℕ). (f n (type_number (type_on column k))).0) next
 
-changed_at : (f : ℕ → TypeId → TypeId) (column : List TypeId) (k : ℕ) → k < length column
+pub changed_at : (f : ℕ → TypeId → TypeId) (column : List TypeId) (k : ℕ) → k < length column
     → type_on (on_planes_from 0 f column) k ≡ (f k (type_number (type_on column k))).0
 changed_at f column k below =
     let same : 0 + k ≡ k = omega arith in changed_from_at f 0 column k below ∙ ap (λ (n : ℕ). (f n (type_number (type_on column k))).0) same
@@ -83,7 +83,7 @@ list_all-from p [] each = refl
 list_all-from p (x ∷ xs) each = and_from (p x) (list_all p xs) (each x (inl refl)) (list_all-from p xs (λ y later. each y (inr later)))
 
 -- an image of a layer is a type of the technology
-image_type : (raw : RawTech) (layer : ℕ) (image : TypeId) → IsWellFormed raw → layer < length raw.layers → In image (images_of raw layer) → IsTrue (is_type raw image.0)
+pub image_type : (raw : RawTech) (layer : ℕ) (image : TypeId) → IsWellFormed raw → layer < length raw.layers → In image (images_of raw layer) → IsTrue (is_type raw image.0)
 image_type raw layer image w below is =
     All_In (λ (t : TypeId). IsTrue (is_type raw t.0)) (images_of raw layer) image (layer_well_formed raw layer w below).images is
 
@@ -141,7 +141,7 @@ whole_steps raw column w is whole (suc n) below =
     ∙ whole_step raw n column w (omega arith) is whole
 
 -- a column whose contacts stand whole keeps all marks
-marks_kept-still : (raw : RawTech) (column : List TypeId) → IsWellFormed raw → IsColumn raw column → HasWholeContacts raw column → marks_kept raw column ≡ column
+pub marks_kept-still : (raw : RawTech) (column : List TypeId) → IsWellFormed raw → IsColumn raw column → HasWholeContacts raw column → marks_kept raw column ≡ column
 marks_kept-still raw column w is whole =
     ap (fold (λ (kept : List TypeId) (layer : LayerRec). layer_mark_kept raw layer.images kept) column) (sym (take-length raw.layers))
     ∙ whole_steps raw column w is whole (length raw.layers) (omega arith)
@@ -261,7 +261,7 @@ images_steps raw layer column w own below is has (suc n) so_many =
     )
 
 -- the image of a layer on a plane is the one that it has there
-found_image : (raw : RawTech) (layer : ℕ) (image : TypeId) (o : Option TypeId) → IsWellFormed raw → layer < length raw.layers → In image (images_of raw layer)
+pub found_image : (raw : RawTech) (layer : ℕ) (image : TypeId) (o : Option TypeId) → IsWellFormed raw → layer < length raw.layers → In image (images_of raw layer)
     → image_on raw layer (plane_of raw image.0) ≡ o → o ≡ Some image
 found_image raw layer image None w below image_in is =
     absurd (true≢false (sym (eq-eqb (plane_of raw image.0) (plane_of raw image.0) refl) ∙ find-none (is_on raw (plane_of raw image.0)) (images_of raw layer) image is image_in))
@@ -292,7 +292,7 @@ max_of : (x y : ℕ) → x < 2 → y < 2 → (y ≡ 1 → x ≡ 1) → max x y �
 max_of x y x_small y_small both = elim (cases_eq y 1) [ inl set ↦ let is = both set in omega arith | inr clear ↦ omega arith ]
 
 -- the union with a part is the set
-union_with_part : (a b : ℕ) → ((k : ℕ) → bit_at b k ≡ 1 → bit_at a k ≡ 1) → bit_or a b ≡ a
+pub union_with_part : (a b : ℕ) → ((k : ℕ) → bit_at b k ≡ 1 → bit_at a k ≡ 1) → bit_or a b ≡ a
 union_with_part a b part = same_from_bits (bit_or a b) a (λ k. bit_at_or a b k ∙ max_of (bit_at a k) (bit_at b k) (bit_at-lt a k) (bit_at-lt b k) (part k))
 
 painted_type : (raw : RawTech) (plane : ℕ) (image old : TypeId) → IsWellFormed raw → HaveOwnSets raw → IsOnPlane raw plane old.0 → parts_of raw old.0 ≢ 0

@@ -5,3 +5,4 @@ pub mod ColumnsLaws
 pub mod PaintLaws
 pub mod PaintTiles
 pub mod PlaneLaws
+pub mod ShownLaws

@@ -74,6 +74,13 @@ impl CellPaint {
         })
     }
 
+    /// What holds of every cell's paint.
+    pub fn sound(&self)
+        ensures { IsSoundPaint self.now.kinds (layout_of self.now) }
+    {
+        let _ = &self.kinds;
+    }
+
     /// Paints the layer over the area: on each plane of the layer a square gets the type with the parts of what stood
     /// there and of the layer's image, where there is one, and else the image.
     ///

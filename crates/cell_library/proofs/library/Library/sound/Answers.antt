@@ -1,0 +1,20 @@
+use Rattle.std.proofs.Common.{◌<◌, length, sym, ap, subst}
+use Rattle.tech_model.specs.declared.raw.TypeRec.{TypeRec}
+use Rattle.std.specs.Prelude.{List}
+use Rattle.layout_model.specs.Layouts.{Layout}
+use Rattle.cell_paint.specs.Paints.{layout_of, IsSoundPaint}
+use Rattle.cell_library.specs.Contents.{held_at, no_held}
+use Rattle.cell_library.specs.Libraries.{LibraryParts, uses_in}
+use Rattle.cell_library.specs.Views.{CellView}
+use Rattle.cell_library.proofs.ViewLaws.{cell_viewed}
+use Rattle.cell_library.proofs.library.Library.sound.Goals as goal
+
+pub returns : goal.returns
+returns c =
+    let inside : LibraryParts = record { tech = c.self.inside.tech; scale = c.self.inside.scale; contents = c.self.inside.contents; tree = c.self.inside.tree } in
+    let below : c.args.cell.0 < length inside.contents = subst (λ (l : LibraryParts). c.args.cell.0 < length l.contents) (sym c.self.view_is) c.requires in
+    let here = cell_viewed inside.contents (uses_in inside.tree.cells) c.args.cell.0 below in
+    let kinds = (c.self.invariant.each c.args.cell.0 no_held below).kinds in
+    let own = layout_of (held_at inside.contents c.args.cell.0).paint in
+    let now : IsSoundPaint inside.tech.types own = subst (λ (types : List TypeRec). IsSoundPaint types own) kinds c.sound.ensures in
+    rw (← c.self.view_is) (subst (λ (layout : Layout). IsSoundPaint inside.tech.types layout) (ap (λ (view : CellView). view.own) (sym here)) now)
