@@ -1,3 +1,4 @@
+pub mod FormLaws
 pub mod FrontLaws
 pub mod LabelLaws
 pub mod NumberForms

@@ -1,4 +1,5 @@
 pub mod Arguments
 pub mod Commands
+pub mod Forms
 pub mod NextWords
 pub mod Verbs

@@ -12,7 +12,8 @@
 //! rest on has one law for each of its ways out. The numbers at the front of a line are counted by `FrontLaws`, one more in each turn of
 //! the loop, and whether a word is a number of any size, of 64 bits or of 32 is told apart in `NumberForms`. A label alone has numbers in
 //! front of a word that is no number, so its seven words are judged as a whole in `LabelLaws`. The number of `generate` has a narrower range
-//! than other numbers, and is read as one of them first.
+//! than other numbers, and is read as one of them first. What is read has passed the tests of its kind, so the fields of a command are of
+//! their forms (`FormLaws`).
 #![tactic(auto)]
 
 mod arguments;

@@ -1,7 +1,8 @@
 //! The command of a line.
-ghost use Rattle.std.specs.Prelude.{◌≡◌, ◌≢◌, Ok, Err, IfOk, IfErr};
+ghost use Rattle.std.specs.Prelude.{◌≡◌, ◌≢◌, Ok, Err, IfOk, IfErr, IfSome};
 ghost use Rattle.script_lines.specs.declared.faults.LineFault.TheVariants.{Memory as OutOfMemory};
 ghost use Rattle.script_lines.specs.Commands.{begins_with_hash, command_of, command_on, command_of_words};
+ghost use Rattle.script_lines.specs.Forms.{IsFormed};
 ghost use Rattle.script_lines.specs.Arguments.{behind_word};
 ghost use Rattle.text_scan.specs.Words.{words_of};
 
@@ -18,6 +19,7 @@ use text_scan::split_word;
 /// What a line asks for: nothing where it has no word, or its first byte is `#`.
 pub fn read_line(alloc: Global, line: &[u8]) -> Result<Option<Command>, LineFault>
     ensures read { IfOk result (λ command. command_of line.now ≡ Ok command) }
+    ensures formed { IfOk result (λ command. IfSome command IsFormed) }
     ensures refused { IfErr result (λ fault. fault ≢ OutOfMemory → command_of line.now ≡ Err fault) }
 {
     if begins_with_hash(line) {

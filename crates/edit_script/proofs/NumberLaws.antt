@@ -1,0 +1,18 @@
+-- The numbers of a command are not changed when they are passed on.
+use Rattle.std.proofs.Common.{◌≡◌, ℤ, pos, arith}
+use Rattle.std.specs.Prelude.{IsTrue}
+use Rattle.std.specs.Int.{w64}
+use Rattle.std.proofs.lemmas.Grind.{common_steps}
+use Rattle.std.proofs.lemmas.Int.{ints, to_z-of_z}
+use Rattle.cell_bodies.specs.declared.limits.TheConstants.{LAST_POSITION}
+use Rattle.script_lines.specs.Arguments.{is_between}
+use Rattle.script_lines.specs.Forms.{IsNumber}
+use mir.Val.{of_z, to_z}
+
+-- a number of 32 bits fits 64
+pub number_passed : (z : ℤ) → IsNumber z → to_z w64 (of_z w64 z) ≡ z
+number_passed z is = to_z-of_z w64 z (record { sfits = grind (arith, ints, common_steps) })
+
+-- so does the number of a position
+pub position_passed : (z : ℤ) → IsTrue (is_between (pos 0) (pos LAST_POSITION) z) → to_z w64 (of_z w64 z) ≡ z
+position_passed z is = to_z-of_z w64 z (record { sfits = grind (arith, ints, common_steps) })

@@ -1,0 +1,18 @@
+use Rattle.cell_library.specs.Libraries.{edits_of, seen}
+use Rattle.cell_library.specs.Refusals.{EditIsRefused, UnlabelIsRefused}
+use Rattle.edit_script.proofs.AnswerLaws.{or_lacks_memory}
+use Rattle.edit_script.proofs.OwnLaws.{unlabel_applies}
+use Rattle.edit_script.proofs.own_edits.unlabel.Goals as goal
+
+pub returns : goal.returns
+returns c =
+    let done = c.unlabel.ensures in
+    let old = c.args.library.now in
+    let given = c.bytes.result.now in
+    unlabel_applies old c.unlabel.new.self c.args.current c.args.text.now c.in-Some.cell given c.unlabel.result c.told.result c.in-Some.is
+    c.bytes.ensures (record {
+      answers = or_lacks_memory (EditIsRefused (edits_of old) (UnlabelIsRefused (seen old) c.in-Some.cell.0 given)) c.unlabel.result done.answers;
+      made = done.unlabelled;
+      edit = done.edit;
+      refused = done.refused;
+    }) c.told.ensures

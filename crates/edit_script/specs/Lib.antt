@@ -1,0 +1,4 @@
+pub mod Answers
+pub mod Editing
+pub mod Edits
+pub mod Refusals

@@ -1,0 +1,22 @@
+//! The commands that edit a library.
+//!
+//! What a command makes of what is edited is one function (`Edits`), and what refuses it one relation (`Refusals`).
+//!
+//! # How the proof goes
+//!
+//! Each command has a function, whose contract says what comes of that command (`Answers`): what is edited then and that nothing refuses it,
+//! or a fault and that nothing has changed. It finds the current cell and what the words name, calls the library, and tells the library's
+//! fault with the word that is meant. What the library says of its edit is what comes of the command once all that was looked for is there
+//! (`AnswerLaws`, then `OwnLaws` and `UseLaws` for each command). The current cell stays one of the library's, since no command makes the
+//! cells fewer (`CurrentLaws`).
+#![tactic(auto)]
+
+mod applying;
+mod cell_edits;
+mod faults;
+mod lookups;
+mod own_edits;
+mod use_edits;
+
+pub use applying::apply;
+pub use faults::EditFault;
