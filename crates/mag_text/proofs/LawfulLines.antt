@@ -122,7 +122,8 @@ painted-good : (words : Four) → IfOk (and_then (rect_in words) if_painted) IsP
 painted-good words = then_good (λ area. is_in_range area ≡ true) IsPainted (rect_in words) if_painted (rect-good words)
     (λ area range. if_good IsPainted (has_square area) area EmptyRect (λ square. (square, range)))
 
-grid-is : (xlo xhi xsep ylo yhi ysep : ℤ) → is_index xlo ≡ true → is_index xhi ≡ true → is_displacement xsep ≡ true → is_index ylo ≡ true → is_index yhi ≡ true
+-- numbers of the form of a grid's are a grid's
+pub grid-is : (xlo xhi xsep ylo yhi ysep : ℤ) → is_index xlo ≡ true → is_index xhi ≡ true → is_displacement xsep ≡ true → is_index ylo ≡ true → is_index yhi ≡ true
     → is_displacement ysep ≡ true → are_few_elements xlo xhi ylo yhi ≡ true
     → is_grid (record { xlo = xlo; xhi = xhi; xsep = xsep; ylo = ylo; yhi = yhi; ysep = ysep }) ≡ true
 unfolding are_elements

@@ -10,3 +10,7 @@ pub mod ReadLabels
 pub mod ReadBack
 pub mod ReadText
 pub mod StripLaws
+pub mod CellTextLaws
+pub mod CellFits
+pub mod PaintAgain
+pub mod CellsAgain

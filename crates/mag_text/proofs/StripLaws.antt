@@ -27,7 +27,7 @@ use Rattle.mag_text.specs.ReadBack.{IsPaintable, AreWritable, IsPaintInRange, Fi
 use Rattle.mag_text.proofs.ReadText.{mag_in-mag_text}
 
 -- what holds at each place holds of each item
-by_places : {X : Type 0} (P : X → Type 0) (xs : List X) → ((k : ℕ) (d : X) → k < length xs → P (get_or xs k d)) → AllByRecursion P xs
+pub by_places : {X : Type 0} (P : X → Type 0) (xs : List X) → ((k : ℕ) (d : X) → k < length xs → P (get_or xs k d)) → AllByRecursion P xs
 by_places P [] each = tt
 by_places P (x ∷ xs) each = (each 0 x (omega arith), by_places P xs (λ k d inside. each (suc k) d (omega arith)))
 
@@ -36,7 +36,7 @@ by_members P [] each = tt
 by_members P (x ∷ xs) each = (each x (inl refl), by_members P xs (λ y there. each y (inr there)))
 
 -- the image of a layer on its own plane is a type, and so not space
-own_image-type : (raw : RawTech) → IsWellFormed raw → (layer : ℕ) → layer < length raw.layers → is_type raw (own_image raw layer) ≡ true
+pub own_image-type : (raw : RawTech) → IsWellFormed raw → (layer : ℕ) → layer < length raw.layers → is_type raw (own_image raw layer) ≡ true
 own_image-type raw formed layer below =
     let is = formed.layers layer no_layer below in
     is.images 0 (type_number 0) is.placed

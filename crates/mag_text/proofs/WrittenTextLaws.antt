@@ -59,13 +59,13 @@ layer_appended raw strips name (area ∷ areas) out a b areas_are some name_is h
     ∙ ap (λ (list : List Rect). out ++ text_of (group_lines name list)) areas_are
     ∙ ap (λ (word : List ℕ). out ++ text_of (group_lines word strips.areas)) name_is
 
-pub use_appended : (placed : WrittenUse) (cell id : List ℕ) (out a b c d e : List ℕ) → cell ≡ placed.cell.now → id ≡ placed.id.now
-    → a ≡ out ++ text_of (use_line cell id ∷ []) → b ≡ a ++ text_of (array_lines placed.grid) → c ≡ b ++ text_of (no_time_line ∷ [])
+pub use_appended : (placed : WrittenUse) (cell : List ℕ) (out a b c d e : List ℕ) → cell ≡ placed.cell.now
+    → a ≡ out ++ text_of (use_line cell placed.id.now ∷ []) → b ≡ a ++ text_of (array_lines placed.grid) → c ≡ b ++ text_of (no_time_line ∷ [])
     → d ≡ c ++ text_of (transform_line placed.six ∷ []) → e ≡ d ++ text_of (box_line placed.hull ∷ [])
     → e ≡ out ++ text_of (use_lines placed)
-use_appended placed cell id out a b c d e cell_is id_is ha hb hc hd he =
+use_appended placed cell out a b c d e cell_is ha hb hc hd he =
     let first : a ≡ out ++ text_of (use_line placed.cell.now placed.id.now ∷ []) =
-    ha ∙ ap (λ (w : List ℕ). out ++ text_of (use_line w id ∷ [])) cell_is ∙ ap (λ (w : List ℕ). out ++ text_of (use_line placed.cell.now w ∷ [])) id_is in
+    ha ∙ ap (λ (w : List ℕ). out ++ text_of (use_line w placed.id.now ∷ [])) cell_is in
     let transform = transform_line placed.six in
     let edges = box_line placed.hull in
     let ab = two_appended (use_line placed.cell.now placed.id.now ∷ []) (array_lines placed.grid) out a b first hb in

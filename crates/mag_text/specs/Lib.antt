@@ -8,3 +8,6 @@ pub mod MagTexts
 pub mod WrittenTexts
 pub mod WrittenLaws
 pub mod ReadBack
+pub mod ScaleLines
+pub mod CellTexts
+pub mod CellsAgain

@@ -12,8 +12,13 @@
 //! line says what it was written from (`ReadLines`, and `ReadLabels` for the text of a label, which may have blanks); the first name of a layer
 //! names that layer (`LayerNames`). So the lines of a cell lead from nothing to the cell (`ReadBack`), and its text has these lines (`ReadText`). The strips
 //! of paint are rectangles that a text may have (`StripLaws`).
+//!
+//! What a cell of a lawful library has fits a text (`CellTextLaws`, `CellFits`). Painting its strips gives its paint again: at one square the
+//! rectangles that cover it show one layer after the other, each on all planes of its images, and at the end each layer that has a type there is
+//! shown (`PaintAgain`, over `ShownLaws` of `cell_paint`). So what is read of a cell's text is the cell (`CellsAgain`).
 #![tactic(auto)]
 
+mod cell_texts;
 mod drafts;
 mod faults;
 mod files;
@@ -22,16 +27,20 @@ mod line_forms;
 mod numbers;
 mod painting;
 mod reading;
+mod scale_lines;
 mod use_tables;
 mod writing;
 mod written;
 
+pub use cell_texts::write_mag;
 pub use faults::{MagAt, MagFault};
 pub use files::{Drawn, Group, MagLine, Section, Seen, UsePart};
 pub use laws::{
+    cell_texts_are_read_back, cells_are_read_back, painting_what_is_written_gives_the_paint_again,
     texts_are_refused_at_their_first_faulty_line, written_cells_are_read_back,
     written_lines_say_what_they_were_written_from, written_texts_are_read_back,
 };
 pub use reading::read_mag;
+pub use scale_lines::scale_line;
 pub use writing::write_cell;
 pub use written::{LayerStrips, WrittenUse};

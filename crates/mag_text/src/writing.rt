@@ -278,7 +278,7 @@ fn write_use_name(out: &mut Vec<u8>, cell: &[u8], id: &[u8]) -> Result<(), Alloc
 fn write_use(out: &mut Vec<u8>, placed: &WrittenUse<'_>) -> Result<(), AllocError>
     ensures { OnOk result (out.new.items ≡ out.old.items ++ text_of (use_lines placed.now)) }
 {
-    write_use_name(out, placed.cell.bytes(), placed.id.bytes())?;
+    write_use_name(out, placed.cell.bytes(), placed.id)?;
     write_array(out, placed)?;
     write_no_time(out)?;
     write_transform(out, placed)?;

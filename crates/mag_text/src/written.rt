@@ -7,7 +7,7 @@ use geo_core::{Grid, List, Name, Rect};
 #[derive(Debug, Drop)]
 pub struct WrittenUse<'a> {
     pub cell: &'a Name,
-    pub id: &'a Name,
+    pub id: &'a [u8],
     pub six: [i64; 6],
     pub grid: Option<Grid>,
     pub hull: Option<Rect>,

@@ -3,5 +3,5 @@ use Rattle.mag_text.proofs.writing.write_use.Goals as goal
 
 pub returns : goal.returns
 returns c =
-    use_appended c.args.placed.now _ _ _ _ _ _ _ _ c.bytes.ensures c.bytes-2.ensures c.in_ok-write_use_name.ensures c.in_ok-write_array.ensures
+    use_appended c.args.placed.now _ _ _ _ _ _ _ c.bytes.ensures c.in_ok-write_use_name.ensures c.in_ok-write_array.ensures
     c.in_ok-write_no_time.ensures c.in_ok-write_transform.ensures c.in_ok-write_box.ensures
