@@ -1,0 +1,141 @@
+-- How reading goes on, where the files are told.
+use Rattle.std.proofs.Common.{◌≡◌, ℕ, suc, true, false, List, [], ◌∷◌, ◌++◌, length, refl, sym, ap, subst, ◌∙◌}
+use Rattle.std.specs.Prelude.{Some, Result, Ok, Err, IfOk, OnOk}
+use Rattle.std.specs.List.{list_any}
+use Rattle.std.specs.Str.{bytes_eq}
+use Rattle.outside_io.specs.Files.{Files}
+use Rattle.tech_model.specs.declared.raw.RawTech.{RawTech}
+use Rattle.cell_bodies.specs.declared.bodies.CellBody.{CellBody}
+use Rattle.cell_bodies.specs.declared.bodies.CellUse.{CellUse}
+use Rattle.cell_library.specs.Additions.{first_scale}
+use Rattle.cell_library.specs.Views.{LibraryView, names_of}
+use Rattle.mag_text.specs.Drafts.{Draft}
+use Rattle.mag_text.specs.MagTexts.{HasAllOf, mag_in}
+use Rattle.cell_loading.specs.declared.faults.LoadFault.{LoadFault}
+use Rattle.cell_loading.specs.declared.stops.Stop.{Stop}
+use Rattle.cell_loading.specs.declared.stops.Stop.TheVariants.{Refused, Halted}
+use Rattle.cell_loading.specs.CellFiles.{ReadCell, draft_gives, file_gives, read_gives, is_known, names_read, scale_of_first}
+use Rattle.cell_loading.specs.Loads.{AreBodiesOf, AreRead}
+use Rattle.cell_loading.specs.ReadCells.{children_of, is_among, names_in}
+use Rattle.cell_loading.specs.Readings.{All as AllRead, Stopped, Reads, children_said, end, opened, passed, stop}
+use Rattle.cell_loading.specs.Stops.{IfRefused}
+use Rattle.cell_loading.specs.Walks.{GoesOn, StopsAt}
+
+abbrev Cells : Type 0
+Cells = List (List ℕ × CellBody)
+
+-- ---- bodies of what was read
+
+names_same : (raw : RawTech) (read : List ReadCell) (cells : Cells) → AreBodiesOf raw read cells → names_read read ≡ names_in cells
+names_same raw [] [] are = refl
+names_same raw [] (body ∷ cells) are = absurd are
+names_same raw (cell ∷ read) [] are = absurd are
+names_same raw (cell ∷ read) (body ∷ cells) are = λ i. sym are.0 i ∷ names_same raw read cells are.2 i
+
+pub count_same : (raw : RawTech) (read : List ReadCell) (cells : Cells) → AreBodiesOf raw read cells → length read ≡ length cells
+count_same raw [] [] are = refl
+count_same raw [] (body ∷ cells) are = absurd are
+count_same raw (cell ∷ read) [] are = absurd are
+count_same raw (cell ∷ read) (body ∷ cells) are = ap suc (count_same raw read cells are.2)
+
+pub first_scale_same : (raw : RawTech) (read : List ReadCell) (cells : Cells) → AreBodiesOf raw read cells → scale_of_first read ≡ first_scale cells
+first_scale_same raw [] [] are = refl
+first_scale_same raw [] (body ∷ cells) are = absurd are
+first_scale_same raw (cell ∷ read) [] are = absurd are
+first_scale_same raw (cell ∷ read) (body ∷ cells) are = ap (λ (s : ℕ × ℕ). Some s) (sym are.1.scale_is)
+
+one_more : (raw : RawTech) (read : List ReadCell) (cells : Cells) (name : List ℕ) (draft : Draft) (body : CellBody) → AreBodiesOf raw read cells
+    → HasAllOf raw draft body
+    → AreBodiesOf raw (read ++ (name, draft) ∷ []) (cells ++ (name, body) ∷ [])
+one_more raw [] [] name draft body are has = (refl, has, tt)
+one_more raw [] (other ∷ cells) name draft body are has = absurd are
+one_more raw (cell ∷ read) [] name draft body are has = absurd are
+one_more raw (cell ∷ read) (other ∷ cells) name draft body are has = (are.0, are.1, one_more raw read cells name draft body are.2 has)
+
+known_same : (view : LibraryView) (read : List ReadCell) (cells : Cells) (name : List ℕ) → AreBodiesOf view.tech read cells
+    → is_known view read name ≡ is_among view cells name
+known_same view read cells name are =
+    ap (λ (names : List (List ℕ)). list_any (bytes_eq name) (names_of view.cells ++ names)) (names_same view.tech read cells are)
+
+-- ---- going on
+
+-- nowhere
+pub goes_on_here : (files : Files) (view : LibraryView) (read : List ReadCell) (cells : Cells) (left after : List (List ℕ))
+    → AreBodiesOf view.tech read cells
+    → left ≡ after → GoesOn files view read left cells after
+goes_on_here files view read cells left after are same = record {
+  read_after = read;
+  are_bodies = are;
+  leads = λ reading. subst (λ (names : List (List ℕ)). Reads files view read names reading) (sym same);
+}
+
+-- over a name that some cell has
+pub goes_on_past : (files : Files) (view : LibraryView) (read : List ReadCell) (cells : Cells) (name : List ℕ) (left after : List (List ℕ))
+    → AreBodiesOf view.tech read cells → left ≡ name ∷ after → is_among view cells name ≡ true → GoesOn files view read left cells after
+goes_on_past files view read cells name left after are is known = record {
+  read_after = read;
+  are_bodies = are;
+  leads = λ reading rest. subst (λ (names : List (List ℕ)). Reads files view read names reading) (sym is)
+      (passed (known_same view read cells name are ∙ known) rest);
+}
+
+-- by a file that was read
+pub goes_on_by : (files : Files) (view : LibraryView) (read : List ReadCell) (cells : Cells) (name : List ℕ) (left after : List (List ℕ))
+    (draft : Draft)
+    (body : CellBody) → AreBodiesOf view.tech read cells → is_among view cells name ≡ false → file_gives files view read name ≡ Ok draft
+    → HasAllOf view.tech draft body → after ≡ children_of body.uses ++ left
+    → GoesOn files view read (name ∷ left) (cells ++ (name, body) ∷ []) after
+goes_on_by files view read cells name left after draft body are new gives has is = record {
+  read_after = read ++ (name, draft) ∷ [];
+  are_bodies = one_more view.tech read cells name draft body are has;
+  leads = λ reading rest.
+      let said : after ≡ children_said draft ++ left = is ∙ ap (λ (uses : List CellUse). children_of uses ++ left) has.uses_are in
+      opened (known_same view read cells name are ∙ new) gives
+      (subst (λ (names : List (List ℕ)). Reads files view (read ++ (name, draft) ∷ []) names reading) said rest);
+}
+
+-- and then on
+pub goes_on_then : (files : Files) (view : LibraryView) (read : List ReadCell) (left middle after : List (List ℕ)) (some more : Cells)
+    → (here : GoesOn files view read left some middle) → GoesOn files view here.read_after middle more after → GoesOn files view read left more after
+goes_on_then files view read left middle after some more here on =
+    record { read_after = on.read_after; are_bodies = on.are_bodies; leads = λ reading rest. here.leads reading (on.leads reading rest) }
+
+-- ---- the ends
+
+-- the file is refused
+pub stops_here : (files : Files) (view : LibraryView) (read : List ReadCell) (cells : Cells) (name : List ℕ) (left : List (List ℕ)) (told : LoadFault)
+    → AreBodiesOf view.tech read cells → is_among view cells name ≡ false → file_gives files view read name ≡ Err told
+    → StopsAt files view read (name ∷ left) told
+stops_here files view read cells name left told are new gives =
+    record { read_before = read; name = name; stops = stop (known_same view read cells name are ∙ new) gives }
+
+-- on the way
+pub stops_later : (files : Files) (view : LibraryView) (read : List ReadCell) (left middle : List (List ℕ)) (some : Cells) (told : LoadFault)
+    → (here : GoesOn files view read left some middle) → StopsAt files view here.read_after middle told → StopsAt files view read left told
+stops_later files view read left middle some told here on =
+    record { read_before = on.read_before; name = on.name; stops = here.leads (Stopped on.read_before on.name told) on.stops }
+
+-- nothing is left
+pub all_read : (files : Files) (view : LibraryView) (root : List ℕ) (cells : Cells) → GoesOn files view [] (root ∷ []) cells []
+    → AreRead files view root cells
+all_read files view root cells here =
+    record { read = here.read_after; reads = here.leads (AllRead here.read_after) end; are_bodies = here.are_bodies }
+
+-- ---- one file
+
+-- what is given where the text has no fault of its own
+pub body_given : (view : LibraryView) (read : List ReadCell) (file text : List ℕ) (draft : Draft) (body : CellBody) (result : Result CellBody Stop)
+    → mag_in view.tech text ≡ Ok draft → HasAllOf view.tech draft body → IfOk result (λ kept. kept ≡ body)
+    → OnOk result (draft_gives view read file text draft ≡ Ok draft)
+    → IfOk result (λ kept. (said : Draft) × (read_gives view read file text (mag_in view.tech text) ≡ Ok said) × HasAllOf view.tech said kept)
+body_given view read file text draft body (Ok kept) reads has same gives =
+    (draft, ap (read_gives view read file text) reads ∙ gives, subst (HasAllOf view.tech draft) (sym same) has)
+body_given view read file text draft body (Err told) reads has same gives = tt
+
+-- what is told
+pub body_refused : (view : LibraryView) (read : List ReadCell) (file text : List ℕ) (draft : Draft) (result : Result CellBody Stop)
+    → mag_in view.tech text ≡ Ok draft → IfRefused result (λ told. draft_gives view read file text draft ≡ Err told)
+    → IfRefused result (λ told. read_gives view read file text (mag_in view.tech text) ≡ Err told)
+body_refused view read file text draft (Ok kept) reads gives = tt
+body_refused view read file text draft (Err (Refused told)) reads gives = ap (read_gives view read file text) reads ∙ gives
+body_refused view read file text draft (Err (Halted halt)) reads gives = tt

@@ -1,0 +1,34 @@
+use Rattle.std.proofs.Common.{◌∙◌, [], ◌∷◌, sym, ap, false}
+use Rattle.std.specs.Prelude.{is_some}
+use Rattle.std.proofs.lemmas.Result.{IfOk-weaker}
+use Rattle.cell_library.specs.Libraries.{seen}
+use Rattle.cell_library.specs.Views.{cell_named}
+use Rattle.cell_loading.specs.Arrivals.{Arrives}
+use Rattle.cell_loading.specs.Loads.{LoadGives}
+use Rattle.cell_loading.specs.Walks.{StopsAt}
+use Rattle.cell_loading.proofs.ArrivalLaws.{arrived, file_refuses}
+use Rattle.cell_loading.proofs.KnownLaws.{new_is_not_among, not_named}
+use Rattle.cell_loading.proofs.WalkLaws.{refusal_told}
+use Rattle.cell_loading.proofs.loading.load_cells.Goals as goal
+
+pub read_below-requires-clause-new : goal.read_below-requires-clause-new
+read_below-requires-clause-new g c =
+    new_is_not_among c.args.library.now c.args.root.now c.find.result
+    (c.find.ensures ∙ ap (cell_named (seen c.args.library.now)) c.bytes.ensures) (sym c.is_some.ensures ∙ c.if-is_some.false)
+
+pub returns-in-Ok-clause-effect : goal.returns-in-Ok-clause-effect
+returns-in-Ok-clause-effect g c files told =
+    let unknown = not_named c.args.library.now c.args.root.now c.find.result
+    (c.find.ensures ∙ ap (cell_named (seen c.args.library.now)) c.bytes.ensures) (sym c.is_some.ensures ∙ c.if-is_some.false) in
+    IfOk-weaker c.add_cells.result (Arrives c.args.library.now c.add_cells.new.library c.in-Ok.cells.items)
+    (LoadGives files c.args.library.now c.add_cells.new.library c.args.root.now)
+    (λ given came. arrived files c.args.library.now c.add_cells.new.library c.args.root.now c.in-Ok.cells.items given unknown
+    (c.in-Ok.ensures.read files told) came) c.add_cells.ensures.arrives
+
+pub returns-in-Err-Refused-clause-effect : goal.returns-in-Err-Refused-clause-effect
+returns-in-Err-Refused-clause-effect g c files told =
+    let unknown = not_named c.args.library.now c.args.root.now c.find.result
+    (c.find.ensures ∙ ap (cell_named (seen c.args.library.now)) c.bytes.ensures) (sym c.is_some.ensures ∙ c.if-is_some.false) in
+    file_refuses files c.args.library.now c.args.root.now c.in-Err-Refused.fault unknown
+    (refusal_told c.in-Err-Refused.field-0 c.in-Err-Refused.fault (StopsAt files (seen c.args.library.now) [] (c.args.root.now ∷ []))
+    c.in-Err-Refused.field-0-is (c.in-Err-Refused.ensures.refused files told))

@@ -1,0 +1,52 @@
+use Rattle.std.proofs.Common.{◌∙◌, [], ◌∷◌, arith}
+use Rattle.std.specs.Prelude.{None}
+use Rattle.session_model.proofs.FetchLaws.{calm_from, calm_then}
+use Rattle.cell_library.specs.Libraries.{seen}
+use Rattle.cell_loading.specs.Stops.{kinds_of_told}
+use Rattle.cell_loading.specs.Walks.{names_left, StopsAt}
+use Rattle.cell_loading.proofs.ReadingLaws.{goes_on_then, stops_later}
+use Rattle.cell_loading.proofs.WalkLaws.{all_are_read, all_came, none_left, refusal_weaker, so_far_at_root}
+use Rattle.cell_loading.proofs.loading.read_below.Goals as goal
+
+pub read-requires-clause-so_far : goal.read-requires-clause-so_far
+read-requires-clause-so_far g c =
+    so_far_at_root c.args.library.now c.args.root.now c.lawful.ensures c.requires.root c.new-walk.result.cells c.new-walk.result.frames.items
+    c.in_ok-name.name
+    c.new-walk.ensures.cells c.new-walk.ensures.frames c.in_ok-name.ensures
+
+pub steps-preserved : goal.steps-preserved
+steps-preserved g c = record {
+  so_far = c.in_default-step.ensures.so_far;
+  frames = c.in_default-step.ensures.frames;
+  some = omega (arith, c.steps.invariant.some, c.in_default-step.ensures.kept);
+  calm = calm_then g.F.Shelf c.args.shelf.now c.steps.shelf c.step.new.shelf c.steps.invariant.calm
+      (calm_from g.F.Shelf c.steps.shelf c.step.new.shelf kinds_of_told None c.in_default-step.ensures.causes);
+  files = c.step.ensures.files ∙ c.steps.invariant.files;
+  goes_on = λ files told.
+      let here = c.steps.invariant.goes_on files told in
+      goes_on_then files (seen c.args.library.now) [] (c.args.root.now ∷ []) (names_left c.steps.walk.cells c.steps.walk.frames.items)
+      (names_left c.step.new.self.cells c.step.new.self.frames.items) c.steps.walk.cells c.step.new.self.cells here
+      (c.in_default-step.ensures.goes_on files here.read_after (c.steps.invariant.files ∙ told) here.are_bodies);
+}
+
+pub returns-in-Err-step-clause-refused : goal.returns-in-Err-step-clause-refused
+returns-in-Err-step-clause-refused g c files told =
+    let view = seen c.args.library.now in
+    let here = c.steps.invariant.goes_on files told in
+    let left = names_left c.steps.walk.cells c.steps.walk.frames.items in
+    refusal_weaker c.in-Err-step.stop (StopsAt files view here.read_after left) (StopsAt files view [] (c.args.root.now ∷ []))
+    (λ fault stops. stops_later files view [] (c.args.root.now ∷ []) left c.steps.walk.cells fault here stops)
+    (c.in-Err-step.ensures.stops files here.read_after (c.steps.invariant.files ∙ told) here.are_bodies)
+
+pub returns-clause-read : goal.returns-clause-read
+returns-clause-read g c files told =
+    all_are_read files (seen c.args.library.now) c.args.root.now c.steps.walk.cells c.into_vec.result.items
+    (names_left c.steps.walk.cells c.steps.walk.frames.items)
+    (none_left c.steps.walk.cells c.steps.walk.frames.items _ c.is_empty.result c.is_empty.ensures c.steps-test.false c.steps.walk.frames.ok.0)
+    c.into_vec.ensures (c.steps.invariant.goes_on files told)
+
+pub returns-clause-addable : goal.returns-clause-addable
+returns-clause-addable g c =
+    all_came (seen c.args.library.now) c.steps.walk.cells c.into_vec.result.items (names_left c.steps.walk.cells c.steps.walk.frames.items)
+    (none_left c.steps.walk.cells c.steps.walk.frames.items _ c.is_empty.result c.is_empty.ensures c.steps-test.false c.steps.walk.frames.ok.0)
+    c.into_vec.ensures c.steps.invariant.so_far c.steps.invariant.some

@@ -1,0 +1,20 @@
+use Rattle.std.proofs.Common.{◌≡◌, ◌<◌, [], ◌∷◌, length, Some}
+use Rattle.outside_io.specs.Files.{Files}
+use Rattle.session_model.specs.Causes.{IsCalm}
+use Rattle.cell_library.specs.Libraries.{seen}
+use Rattle.cell_loading.specs.Walks.{names_left, work_left, AreFrames, AreSoFar, GoesOn}
+use Rattle.cell_loading.proofs.loading.read_below.Given as goal
+
+abbrev pub invariant-steps : goal.invariant-steps
+invariant-steps g l = record {
+  so_far : AreSoFar (seen l.library) l.walk.cells (names_left l.walk.cells l.walk.frames.items);
+  frames : AreFrames (length l.walk.cells) l.walk.frames.items;
+  some : 0 < length l.walk.cells;
+  calm : IsCalm g.F.Shelf l.fn.shelf l.shelf;
+  files : g.F.Shelf.files l.shelf ≡ g.F.Shelf.files l.fn.shelf;
+  goes_on : (files : Files) → g.F.Shelf.files l.fn.shelf ≡ Some files
+      → GoesOn files (seen l.library) [] (l.root ∷ []) l.walk.cells (names_left l.walk.cells l.walk.frames.items);
+}
+
+abbrev pub decreases-steps : goal.decreases-steps
+decreases-steps g l = work_left l.walk.cells l.walk.frames.items

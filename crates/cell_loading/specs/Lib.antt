@@ -1,0 +1,7 @@
+pub mod Arrivals
+pub mod CellFiles
+pub mod Loads
+pub mod ReadCells
+pub mod Readings
+pub mod Stops
+pub mod Walks
