@@ -1,12 +1,13 @@
 -- Where the answer to a line comes from: from what the shelf said, or from inside.
-use Rattle.std.proofs.Common.{◌≡◌, ◌≤◌, Bool, true, false, List, Global}
-use Rattle.std.specs.Prelude.{Vec, Result, Ok, Err, IfOk, IsOkUnless}
+use Rattle.std.proofs.Common.{◌≡◌, ◌≤◌, Bool, true, false, List}
+use Rattle.std.specs.Prelude.{Result, Ok, Err, IfOk, IsOkUnless}
 use Rattle.outside_io.specs.declared.outside.Shelf.{Ghosts as ShelfWords}
+use Rattle.session_model.specs.declared.answer.Answer.{Answer}
 use Rattle.session_model.specs.declared.answer.Halt.{Halt}
 use Rattle.session_model.specs.declared.answer.Halt.TheVariants.{ReadFault, WriteFault, Memory}
 use Rattle.session_model.specs.declared.report.ReportLine.{ReportLine}
-use Rattle.session_model.specs.Causes.{ComeFrom, HasCauses, line_kinds}
-use Rattle.magex_top.specs.Answers.{IsOfInside, kinds_in}
+use Rattle.session_model.specs.Causes.{ComeFrom, HasCauses, kinds_of, line_kinds}
+use Rattle.magex_top.specs.Answers.{IsOfInside}
 
 not_both : (b : Bool) → b ≡ false → b ≡ true → ⊥
 not_both b is_no is_yes = cc
@@ -19,13 +20,13 @@ inside_come shelf old new lines inside = record {
 }
 
 -- a call after a fetch that was not refused, or without one, whose lines are of inside
-pub causes_of_inside : {F : Type 0} (shelf : ShelfWords F) (old new : F) (result : Result (Vec ReportLine Global) Halt)
-    → IsOkUnless result Memory → IfOk result (λ lines. IsOfInside lines.items)
+pub causes_of_inside : {F : Type 0} (shelf : ShelfWords F) (old new : F) (result : Result Answer Halt)
+    → IsOkUnless result Memory → IfOk result (λ answer. IsOfInside answer.lines.items)
     → shelf.fetch_faults new ≡ shelf.fetch_faults old → shelf.store_faults new ≡ shelf.store_faults old
     → shelf.absences old ≤ shelf.absences new → shelf.overlengths old ≤ shelf.overlengths new
-    → HasCauses shelf old new kinds_in result
-causes_of_inside shelf old new (Ok lines) memory inside same no_store absences overlengths = record {
-  refusals = inside_come shelf old new lines.items inside;
+    → HasCauses shelf old new kinds_of result
+causes_of_inside shelf old new (Ok answer) memory inside same no_store absences overlengths = record {
+  refusals = inside_come shelf old new answer.lines.items inside;
   read_fault = λ fault. cc;
   write_fault = λ fault. cc;
   calm = same;

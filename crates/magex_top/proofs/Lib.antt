@@ -1,9 +1,6 @@
+pub mod AnswerLaws
 pub mod CauseLaws
-pub mod DrawingSteps
-pub mod FileLaws
 pub mod LoadLaws
 pub mod NodesLaws
-pub mod PlainDrawings
-pub mod PlainForms
 pub mod RunLaws
 pub mod TechLaws

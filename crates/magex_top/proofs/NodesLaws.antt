@@ -1,51 +1,52 @@
--- What `nodes` does in each case.
-use Rattle.std.proofs.Common.{◌≡◌, ℕ, true, false, List, [], ◌∷◌, Some, None, refl, sym, ◌∙◌, ap, subst}
-use Rattle.std.specs.Prelude.{map}
-use Rattle.std.specs.Option.{option_map}
-use Rattle.std.specs.Str.{bytes_eq}
-use Rattle.finite_sets.proofs.Searches.{find-map}
-use Rattle.session_model.specs.declared.report.ReportLine.{ReportLine}
+-- Labels of a lawful library, and the lines of nodes.
+use Rattle.std.proofs.Common.{◌≡◌, ◌<◌, ℕ, ℤ, true, List, [], ◌∷◌, length, Some, None, Option, refl, arith}
+use Rattle.std.specs.Prelude.{All, IfSome}
+use Rattle.std.proofs.lemmas.Bool.Decides.{nat_tests}
+use Rattle.std.proofs.lemmas.Int.{ints}
+use Rattle.geo_core.specs.declared.squares.Rect.{Rect}
+use Rattle.geo_core.specs.Areas.{IsNear, IsSmall}
+use Rattle.tech_model.specs.declared.raw.Label.{Label}
+use Rattle.tech_model.specs.declared.raw.LayerId.{LayerId}
 use Rattle.tech_model.specs.declared.raw.RawTech.{RawTech}
 use Rattle.ext_model.specs.declared.records.NodeRec.{NodeRec}
-use Rattle.cell_nodes.specs.NodeRecords.{AreNodeRecords}
-use Rattle.cell_paint.specs.Paints.{layout_of}
-use Rattle.magex_top.specs.declared.cells.Cell.{Cell}
-use Rattle.magex_top.specs.declared.cells.LayoutSession.{LayoutSession}
-use Rattle.magex_top.specs.declared.faults.TopFault.TheVariants.{NoCell}
-use Rattle.magex_top.specs.Answers.{Does, IsOfInside, cell_state, kept_cell_named, state_of, state_with}
-use Rattle.magex_top.specs.CommandNodes.{NodesMeans, node_lines}
-use Rattle.magex_top.specs.Refusals.{refusal}
-use Rattle.magex_top.specs.States.{CellState, State, accepted, refused, cell_named}
-use Rattle.magex_top.proofs.LoadLaws.{state_with_tech}
-use Rattle.magex_top.proofs.TechLaws.{does_refuse}
+use Rattle.names.specs.Labels.{IsLabelOf, IsLayerOf}
+use Rattle.cell_paint.specs.Painting.{is_coordinate, is_in_range}
+use Rattle.cell_bodies.specs.Bodies.{IsLabel}
+use Rattle.cell_bodies.specs.Numbers.{has_sides, is_label_area}
+use Rattle.cell_library.specs.Libraries.{LibraryParts, IsLawfulLibrary, seen}
+use Rattle.cell_library.specs.Views.{view_at}
+use Rattle.mag_text.proofs.CellTextLaws.{labels_lawful}
+use Rattle.magex_top.specs.Answers.{IsOfInside}
+use Rattle.magex_top.specs.CommandNodes.{node_lines}
 
--- the cell of a name in the state is the one that is kept under it
-named : (name : List ℕ) (cells : List Cell) → cell_named name (map cell_state cells) ≡ option_map cell_state (kept_cell_named name cells)
-named name cells = find-map cell_state (λ (cell : CellState). bytes_eq cell.name name) cells
+coordinate_small : (z : ℤ) → is_coordinate z ≡ true → IsSmall z
+coordinate_small z is = (grind (arith, ints), grind (arith, ints))
 
--- there is no cell of the name
-pub nodes_unknown : (number : ℕ) (session : LayoutSession) (raw : RawTech) (name given : List ℕ) (lines : List ReportLine)
-    → session.tech ≡ Some raw → kept_cell_named name session.cells.items ≡ None → given ≡ name → lines ≡ refusal number (NoCell given) ∷ []
-    → Does (NodesMeans number (state_of session) name) (state_of session) lines
-nodes_unknown number session raw name given lines some none same told =
-    let cells = session.cells.items in
-    let found : cell_named name (map cell_state cells) ≡ None = named name cells ∙ ap (option_map cell_state) none in
-    let state = state_with (Some raw) cells in
-    let body : NodesMeans number state name (refused number state (NoCell given) []) = rw (found, same) refl in
-    does_refuse (NodesMeans number (state_of session) name) number (state_of session) (NoCell given) [] lines told
-    (subst (λ (s : State). NodesMeans number s name (refused number s (NoCell given) [])) (sym (state_with_tech session raw some)) body)
+range_near : (area : Rect) → is_in_range area ≡ true → IsNear area
+range_near area is = record {
+  xlo = coordinate_small area.xlo (grind (arith, nat_tests));
+  ylo = coordinate_small area.ylo (grind (arith, nat_tests));
+  xhi = coordinate_small area.xhi (grind (arith, nat_tests));
+  yhi = coordinate_small area.yhi (grind (arith, nat_tests));
+}
 
--- the lines of the nodes are told
-pub nodes_told : (number : ℕ) (session : LayoutSession) (raw : RawTech) (name : List ℕ) (cell : Cell) (lines : List ReportLine)
-    → session.tech ≡ Some raw → kept_cell_named name session.cells.items ≡ Some cell
-    → (nodes : List NodeRec) × AreNodeRecords raw (layout_of cell.paint) [] nodes × (lines ≡ node_lines nodes)
-    → Does (NodesMeans number (state_of session) name) (state_of session) lines
-nodes_told number session raw name cell lines some there told =
-    let cells = session.cells.items in
-    let found : cell_named name (map cell_state cells) ≡ Some (cell_state cell) = named name cells ∙ ap (option_map cell_state) there in
-    let state = state_with (Some raw) cells in
-    let body : NodesMeans number state name (accepted state lines []) = rw found (told.0, told.1, ap (λ (xs : List ReportLine). accepted state xs []) told.2) in
-    ([], subst (λ (s : State). NodesMeans number s name (accepted s lines [])) (sym (state_with_tech session raw some)) body)
+in_both : (area : Rect) → is_label_area area ≡ true → is_in_range area ≡ true
+in_both area is = grind (arith, nat_tests)
+
+layer_of : (raw : RawTech) (layer : Option LayerId) → IfSome layer (λ l. l.0 < length raw.layers) → IsLayerOf raw layer
+layer_of raw None is = tt
+layer_of raw (Some layer) is = is
+
+-- a lawful label is one that may name
+label_of_lawful : (raw : RawTech) (label : Label) → IsLabel raw label → IsLabelOf raw label
+label_of_lawful raw label is =
+    record { layer = layer_of raw label.layer is.layer; near = range_near label.area (in_both label.area is.area) }
+
+-- the labels of a cell are labels that may name
+pub labels_may_name : (library : LibraryParts) (cell : ℕ) → IsLawfulLibrary library → cell < length library.contents
+    → All (IsLabelOf library.tech) (view_at (seen library) cell).labels
+labels_may_name library cell lawful below =
+    λ k d inside. label_of_lawful library.tech _ (labels_lawful library cell lawful below k d inside)
 
 -- the lines of nodes are all replies
 pub node_lines_inside : (nodes : List NodeRec) → IsOfInside (node_lines nodes)

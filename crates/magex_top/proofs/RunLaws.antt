@@ -1,23 +1,33 @@
 -- What a run means in each case of its words and its script.
-use Rattle.std.proofs.Common.{◌≡◌, ℕ, ◌<◌, ◌≤◌, ◌∙◌, inl, List, [], ◌∷◌, ◌++◌, map, length, Some, refl, sym, ap, subst, Option}
+use Rattle.std.proofs.Common.{◌≡◌, ℕ, ◌<◌, ◌≤◌, ◌∙◌, inl, List, [], ◌∷◌, ◌++◌, map, length, Some, refl, sym, ap, subst, Option, arith}
+use Rattle.std.proofs.lemmas.Bool.Decides.{nat_tests}
 use Rattle.std.proofs.lemmas.List.{append-nil}
-use Rattle.std.specs.Prelude.{nat_lt, MatchBool, true, false}
+use Rattle.std.specs.Prelude.{nat_lt, MatchBool, true, false, Err}
 use Rattle.text_scan.specs.Lines.{lines_of}
 use Rattle.outside_io.specs.Files.{Files}
 use Rattle.outside_io.specs.ToldBytes.{ToldBytes}
 use Rattle.outside_io.specs.declared.limits.TheConstants.{LONGEST_FILE}
 use Rattle.session_model.specs.declared.report.ReportLine.{ReportLine}
 use Rattle.outside_io.specs.declared.outside.Shelf.{Ghosts as ShelfWords}
-use Rattle.session_model.specs.Causes.{ComeFrom, line_kinds}
+use Rattle.session_model.specs.declared.answer.Halt.{Halt}
+use Rattle.session_model.specs.declared.answer.Halt.TheVariants as halt
+use Rattle.session_model.specs.Causes.{ComeFrom, UnlessReadFault, UnlessWriteFault, line_kinds}
 use Rattle.session_model.specs.Effects.{no_effect}
 use Rattle.session_model.specs.Progress.{BeginsNext, IsPrefixOf, Progress}
 use Rattle.session_model.specs.Reports.{text_of}
 use Rattle.magex_top.specs.declared.status.Status.{Status}
-use Rattle.magex_top.specs.declared.status.Status.TheVariants.{Usage, ScriptTooLong}
+use Rattle.magex_top.specs.declared.status.Status.TheVariants.{Usage, ReadFault, WriteFault, ScriptTooLong}
 use Rattle.magex_top.specs.Runs.{RunMeans, RunReaches, ScriptMeans, ScriptReaches, usage_text}
 use Rattle.magex_top.specs.Sessions.{LineMeans}
 use Rattle.magex_top.specs.States.{State, first_state, reply}
-use Rattle.magex_top.proofs.FileLaws.{fits_test, long_test}
+use Rattle.magex_top.specs.Statuses.{status_of}
+
+-- what is not too long passes no test of it
+fits_test : (n : ℕ) → n ≤ LONGEST_FILE → nat_lt LONGEST_FILE n ≡ false
+fits_test n fits = grind (arith, nat_tests)
+
+long_test : (n : ℕ) → LONGEST_FILE < n → nat_lt LONGEST_FILE n ≡ true
+long_test n long = grind (arith, nat_tests)
 
 -- with words it is a usage fault
 pub usage_run : {X : Type 0} (f : X → List ℕ) (words : List X) (text : List ℕ) (files : Files) → (words ≡ [] → ⊥)
@@ -85,3 +95,17 @@ pub reached_from_first : (state : State) (text : List ℕ) (files : Files) (Fail
     → (reported : List ℕ) × (after : Files) × ScriptReaches text files Failed reported after × (written ≡ Some (before ++ reported)) × (left ≡ Some after)
 reached_from_first state text files Failed before written left is h =
     (h.0, h.1, subst (λ (s : State). Progress LineMeans false Failed s files (lines_of text) h.0 h.1) is h.2, h.3, h.4)
+
+-- what stays unless a write failed stays where the status is none of a write that failed
+pub calm_write : (T : Type 0) (h : Halt) (status : Status) (P : Type 0) → UnlessWriteFault {T = T} (Err h) P → status ≡ status_of h
+    → (status ≡ WriteFault → ⊥) → P
+calm_write T halt.ReadFault status P calm is other = calm
+calm_write T halt.WriteFault status P calm is other = absurd (other is)
+calm_write T halt.Memory status P calm is other = calm
+
+-- and so of a read
+pub calm_read : (T : Type 0) (h : Halt) (status : Status) (P : Type 0) → UnlessReadFault {T = T} (Err h) P → status ≡ status_of h
+    → (status ≡ ReadFault → ⊥) → P
+calm_read T halt.ReadFault status P calm is other = absurd (other is)
+calm_read T halt.WriteFault status P calm is other = calm
+calm_read T halt.Memory status P calm is other = calm

@@ -1,33 +1,41 @@
--- `load c`: makes the text of c.mag a cell.
-use Rattle.std.specs.Prelude.{◌≡◌, nat_lt, ℕ, List, [], ◌∷◌, ◌++◌, length, Option, Some, None, MatchOption, MatchBool, codes}
+-- `load c`: reads c.mag and the file of every cell below it that the library lacks.
+use Rattle.std.specs.Prelude.{◌≡◌, ◌⊎◌, ℕ, suc, pos, List, [], ◌∷◌, ◌++◌, length, Some, MatchOption, codes}
+use Rattle.text_scan.specs.Decimal.{decimal}
 use Rattle.outside_io.specs.Files.{Files}
 use Rattle.session_model.specs.Effects.{Effect}
-use Rattle.tech_model.specs.declared.raw.RawTech.{RawTech}
-use Rattle.magex_top.specs.declared.faults.TopFault.TheVariants.{NoTech, NotBuilt}
-use Rattle.magex_top.specs.declared.plain_mag.Drawn.{Drawn}
-use Rattle.magex_top.specs.Drawings.{painted_all}
-use Rattle.magex_top.specs.PlainMag.{plain_cell}
-use Rattle.magex_top.specs.States.{State, FileMeans, accepted, refused, reply, with_cell}
+use Rattle.cell_library.specs.Views.{LibraryView}
+use Rattle.cell_loading.specs.declared.faults.LoadFault.{LoadFault}
+use Rattle.cell_loading.specs.Loads.{IsLoaded, LoadIsRefused}
+use Rattle.edit_script.specs.Editing.{Editing}
+use Rattle.magex_top.specs.declared.faults.TopFault.TheVariants.{Load, NoTech}
+use Rattle.magex_top.specs.States.{State, accepted, refused, reply}
 
--- the file of a cell
-abbrev pub cell_file : List ℕ → List ℕ
-cell_file cell = cell ++ codes ".mag"
+-- `load c: K cells`
+abbrev pub loaded_text : List ℕ → ℕ → List ℕ
+loaded_text cell count = codes "load " ++ cell ++ codes ": " ++ decimal (pos count) ++ codes " cells"
 
--- the reply to a load
-abbrev pub loaded_text : List ℕ → List ℕ
-loaded_text cell = codes "load " ++ cell ++ codes ": 1 cells"
+-- the cells came to the library, and the first of them is the current one
+abbrev pub with_loaded : Editing → LibraryView → Editing
+with_loaded editing after = record { library = after; edits = suc editing.edits; current = Some (length editing.library.cells) }
 
--- What a cell's text does: a cell with the paint of its rectangles in order.
-abbrev pub DrawnMeans : ℕ → State → RawTech → List ℕ → Option (List Drawn) → Effect State → Type 0
-DrawnMeans number state raw cell None effect = effect ≡ refused number state NotBuilt (cell_file cell ∷ [])
-DrawnMeans number state raw cell (Some drawn) effect =
-    effect ≡ accepted (with_cell state cell (painted_all raw drawn)) (reply (loaded_text cell) ∷ []) (cell_file cell ∷ [])
+-- The cells of the files came.
+pub record Loads (editing : Editing) (files : Files) (cell : List ℕ) (effect : Effect State) : Type 0 where
+  pub after : LibraryView
+  pub count : ℕ
+  pub fetched : List (List ℕ)
+  pub is_loaded : IsLoaded files editing.library after editing.edits cell count fetched
+  pub is : effect ≡ accepted (Some (with_loaded editing after)) (reply (loaded_text cell count) ∷ []) fetched
 
--- It needs a technology. Only one cell is loaded, and only a plain text.
+-- The load is refused.
+pub record RefusesLoad (number : ℕ) (editing : Editing) (files : Files) (cell : List ℕ) (effect : Effect State) : Type 0 where
+  pub fault : LoadFault
+  pub fetched : List (List ℕ)
+  pub is_refused : LoadIsRefused files editing.library editing.edits cell fetched fault
+  pub is : effect ≡ refused number (Some editing) (Load fault) fetched
+
+-- It needs a technology.
 abbrev pub LoadMeans : ℕ → State → Files → List ℕ → Effect State → Type 0
 LoadMeans number state files cell effect =
-    MatchOption state.technology
+    MatchOption state
     (effect ≡ refused number state NoTech [])
-    (λ raw. MatchBool (nat_lt 0 (length state.cells))
-    (effect ≡ refused number state NotBuilt [])
-    (FileMeans number state files (cell_file cell) (λ text done. DrawnMeans number state raw cell (plain_cell raw text) done) effect))
+    (λ editing. Loads editing files cell effect ⊎ RefusesLoad number editing files cell effect)

@@ -1,13 +1,9 @@
 pub mod Answers
+pub mod CommandEdits
 pub mod CommandLoad
 pub mod CommandNodes
+pub mod CommandSave
 pub mod CommandTech
-pub mod Commands
-pub mod Drawings
-pub mod Fetches
-pub mod PlainLines
-pub mod PlainMag
-pub mod PlainSections
 pub mod Refusals
 pub mod Runs
 pub mod Sessions

@@ -11,12 +11,24 @@ use Rattle.tech_model.specs.declared.faults.TechFault.{TechFault}
 use Rattle.tech_model.specs.declared.faults.TechFault.TheVariants.{NoSection, NoPlane, NoType, Twice, SameSet, ContactPart, NotMonotone, FetTerminal}
 use Rattle.tech_model.specs.declared.faults.TechFault.TheVariants.{FetName, BadForm, TypeExpression, Memory}
 use Rattle.tech_model.specs.declared.faults.TechFault.TheVariants as faults
+use Rattle.mag_text.specs.declared.faults.MagFault.{MagFault}
+use Rattle.mag_text.specs.declared.faults.MagFault.TheVariants as mag
+use Rattle.script_lines.specs.declared.faults.LineFault.{LineFault}
+use Rattle.script_lines.specs.declared.faults.LineFault.TheVariants as line
+use Rattle.edit_script.specs.declared.faults.EditFault.{EditFault}
+use Rattle.edit_script.specs.declared.faults.EditFault.TheVariants as edit
+use Rattle.cell_loading.specs.declared.faults.LoadFault.{LoadFault}
+use Rattle.cell_loading.specs.declared.faults.LoadFault.TheVariants as load
+use Rattle.cell_loading.specs.Loads.{cause_of_load}
+use Rattle.session_model.specs.declared.fetching.FetchFault.{FetchFault}
+use Rattle.session_model.specs.declared.fetching.FetchFault.TheVariants as fetch
+use Rattle.session_model.specs.Fetches.{cause_of_fault}
 use Rattle.session_model.specs.declared.report.Cause.{Cause}
-use Rattle.session_model.specs.declared.report.Cause.TheVariants.{Inside, Absent, TooLong}
+use Rattle.session_model.specs.declared.report.Cause.TheVariants.{Inside}
 use Rattle.session_model.specs.declared.report.LineKind.TheVariants.{Refusal}
 use Rattle.session_model.specs.declared.report.ReportLine.{ReportLine}
 use Rattle.magex_top.specs.declared.faults.TopFault.{TopFault}
-use Rattle.magex_top.specs.declared.faults.TopFault.TheVariants.{NoTech, Tech, NoFile, NoCell, TooMany, TechAgain, NotBuilt}
+use Rattle.magex_top.specs.declared.faults.TopFault.TheVariants.{Line, NoTech, Tech, File, Load, NoCell, Edit, TechAgain, NotBuilt}
 
 -- the name of a section
 abbrev pub section_word : Section → List ℕ
@@ -66,30 +78,98 @@ tech_fault_text BadForm = codes "T11"
 tech_fault_text (TypeExpression entry) = codes "T12 " ++ entry
 tech_fault_text Memory = []
 
--- what is written of a fault
+-- there is no cell of the name
+abbrev pub no_cell_text : List ℕ → List ℕ
+no_cell_text cell = codes "E8 no cell " ++ cell
+
+-- there is a cell of the name
+abbrev pub cell_exists_text : List ℕ → List ℕ
+cell_exists_text cell = codes "E9 cell exists " ++ cell
+
+abbrev pub out_of_range_text : List ℕ
+out_of_range_text = codes "E12 out of range"
+
+-- the cell would stand below itself
+abbrev pub cycle_text : List ℕ → List ℕ
+cycle_text cell = codes "E16 cycle " ++ cell
+
+-- there would be too many of these
+abbrev pub too_many_text : Limit → List ℕ
+too_many_text limit = codes "E18 too many " ++ limit_word limit
+
+-- why a line is no command
+abbrev pub line_fault_text : LineFault → List ℕ
+line_fault_text line.BadWord = codes "E1 bad word"
+line_fault_text line.BadForm = codes "E2 bad form"
+line_fault_text line.NumberRange = codes "E3 number out of range"
+line_fault_text line.Memory = []
+
+-- why there is no text of a file
+abbrev pub file_fault_text : List ℕ → FetchFault → List ℕ
+file_fault_text file fetch.Absent = codes "E6 no file " ++ file
+file_fault_text file fetch.TooLong = too_many_text limits.Bytes
+
+-- the code of a fault of a cell's file
+abbrev pub mag_code : MagFault → List ℕ
+mag_code mag.Magic = codes "M1"
+mag_code mag.BadLine = codes "M2"
+mag_code mag.NoLayer = codes "M3"
+mag_code mag.EmptyRect = codes "M4"
+mag_code mag.Range = codes "M5"
+mag_code mag.Transform = codes "M6"
+mag_code mag.UseTwice = codes "M7"
+mag_code mag.NoEnd = codes "M8"
+mag_code mag.NotHere = codes "M9"
+mag_code mag.Memory = []
+
+-- a fault in a line of a cell's file
+abbrev pub mag_fault_text : List ℕ → ℕ → List ℕ → List ℕ
+mag_fault_text file number code = codes "E7 " ++ file ++ codes " " ++ decimal (pos number) ++ codes " " ++ code
+
+-- why a load is refused
+abbrev pub load_fault_text : LoadFault → List ℕ
+load_fault_text (load.CellExists cell) = cell_exists_text cell
+load_fault_text (load.File file fault) = file_fault_text file fault
+load_fault_text (load.Mag file at) = mag_fault_text file at.line (mag_code at.fault)
+load_fault_text (load.Scale file number) = mag_fault_text file number (codes "M10")
+load_fault_text (load.Cycle cell) = cycle_text cell
+load_fault_text load.OutOfRange = out_of_range_text
+load_fault_text (load.TooMany limit) = too_many_text limit
+load_fault_text load.Memory = []
+
+-- why an edit is refused
+abbrev pub edit_fault_text : EditFault → List ℕ
+edit_fault_text edit.NoCurrent = codes "E8 no cell -"
+edit_fault_text (edit.NoCell cell) = no_cell_text cell
+edit_fault_text (edit.CellExists cell) = cell_exists_text cell
+edit_fault_text (edit.NoLayer word) = codes "E10 no layer " ++ word
+edit_fault_text edit.EmptyRect = codes "E11 empty rectangle"
+edit_fault_text edit.OutOfRange = out_of_range_text
+edit_fault_text edit.BadTransform = codes "E13 not an orientation"
+edit_fault_text (edit.NoUse id) = codes "E14 no use " ++ id
+edit_fault_text (edit.UseExists id) = codes "E15 use exists " ++ id
+edit_fault_text (edit.Cycle cell) = cycle_text cell
+edit_fault_text (edit.NoLabel text) = codes "E17 no label " ++ text
+edit_fault_text (edit.TooMany limit) = too_many_text limit
+edit_fault_text edit.Memory = []
+
+-- what is written of a fault; want of memory refuses no line, but ends the run
 abbrev pub fault_text : TopFault → List ℕ
+fault_text (Line fault) = line_fault_text fault
 fault_text NoTech = codes "E4 no technology"
 fault_text (Tech file at) = codes "E5 " ++ file ++ codes " " ++ decimal (pos at.line) ++ codes " " ++ tech_fault_text at.fault
-fault_text (NoFile file) = codes "E6 no file " ++ file
-fault_text (NoCell cell) = codes "E8 no cell " ++ cell
-fault_text (TooMany limit) = codes "E18 too many " ++ limit_word limit
+fault_text (File file fault) = file_fault_text file fault
+fault_text (Load fault) = load_fault_text fault
+fault_text (NoCell cell) = no_cell_text cell
+fault_text (Edit fault) = edit_fault_text fault
 fault_text TechAgain = codes "E22 technology again"
 fault_text NotBuilt = codes "E26 not built"
 
--- what a limit's refusal comes from
-abbrev pub limit_cause : Limit → Cause
-limit_cause limits.Bytes = TooLong
-limit_cause _ = Inside
-
 -- what a refusal comes from
 abbrev pub cause_of : TopFault → Cause
-cause_of NoTech = Inside
-cause_of (Tech file at) = Inside
-cause_of (NoFile file) = Absent
-cause_of (NoCell cell) = Inside
-cause_of (TooMany limit) = limit_cause limit
-cause_of TechAgain = Inside
-cause_of NotBuilt = Inside
+cause_of (File file fault) = cause_of_fault fault
+cause_of (Load fault) = cause_of_load fault
+cause_of _ = Inside
 
 -- `line N: ` and the fault, with N the number of the script's line from 1
 abbrev pub refusal_text : ℕ → TopFault → List ℕ

@@ -1,23 +1,44 @@
 -- What a line of a script does.
-use Rattle.std.specs.Prelude.{◌≡◌, ℕ, List, []}
+use Rattle.std.specs.Prelude.{◌≡◌, ℕ, List, [], Option, Some, None, Result, Ok, Err}
 use Rattle.outside_io.specs.Files.{Files}
 use Rattle.session_model.specs.Effects.{Effect}
-use Rattle.magex_top.specs.declared.commands.Command.{Command}
-use Rattle.magex_top.specs.declared.commands.Command.TheVariants.{Nothing, Tech, Load, Nodes, Unbuilt}
-use Rattle.magex_top.specs.declared.faults.TopFault.TheVariants.{NotBuilt}
+use Rattle.script_lines.specs.declared.commands.Command.{Command}
+use Rattle.script_lines.specs.declared.commands.Command.TheVariants.{Tech, Load, New, Edit, Paint, Erase, Place, Array, Move, Delete, Label, Unlabel}
+use Rattle.script_lines.specs.declared.commands.Command.TheVariants.{Save, Nodes}
+use Rattle.script_lines.specs.declared.faults.LineFault.{LineFault}
+use Rattle.script_lines.specs.Commands.{command_of}
+use Rattle.magex_top.specs.declared.faults.TopFault.TheVariants.{Line, NotBuilt}
+use Rattle.magex_top.specs.CommandEdits.{EditMeans}
 use Rattle.magex_top.specs.CommandLoad.{LoadMeans}
 use Rattle.magex_top.specs.CommandNodes.{NodesMeans}
+use Rattle.magex_top.specs.CommandSave.{SaveMeans}
 use Rattle.magex_top.specs.CommandTech.{TechMeans}
-use Rattle.magex_top.specs.Commands.{command_of}
 use Rattle.magex_top.specs.States.{State, accepted, refused}
 
+-- what a command does; those that follow the others here are not built yet
 abbrev pub CommandMeans : ℕ → State → Files → Command → Effect State → Type 0
-CommandMeans number state files Nothing effect = effect ≡ accepted state [] []
 CommandMeans number state files (Tech name) effect = TechMeans number state files name effect
 CommandMeans number state files (Load cell) effect = LoadMeans number state files cell effect
+CommandMeans number state files (New cell) effect = EditMeans number state (New cell) effect
+CommandMeans number state files (Edit cell) effect = EditMeans number state (Edit cell) effect
+CommandMeans number state files (Paint layer area) effect = EditMeans number state (Paint layer area) effect
+CommandMeans number state files (Erase layer area) effect = EditMeans number state (Erase layer area) effect
+CommandMeans number state files (Place cell id six) effect = EditMeans number state (Place cell id six) effect
+CommandMeans number state files (Array id six) effect = EditMeans number state (Array id six) effect
+CommandMeans number state files (Move id dx dy) effect = EditMeans number state (Move id dx dy) effect
+CommandMeans number state files (Delete id) effect = EditMeans number state (Delete id) effect
+CommandMeans number state files (Label layer area position text) effect = EditMeans number state (Label layer area position text) effect
+CommandMeans number state files (Unlabel text) effect = EditMeans number state (Unlabel text) effect
+CommandMeans number state files (Save cell) effect = SaveMeans number state cell effect
 CommandMeans number state files (Nodes cell) effect = NodesMeans number state cell effect
-CommandMeans number state files Unbuilt effect = effect ≡ refused number state NotBuilt []
+CommandMeans number state files _ effect = effect ≡ refused number state NotBuilt []
+
+-- A line that is no command is refused, and one that asks for nothing does nothing.
+abbrev pub ReadLineMeans : ℕ → State → Files → Result (Option Command) LineFault → Effect State → Type 0
+ReadLineMeans number state files (Ok None) effect = effect ≡ accepted state [] []
+ReadLineMeans number state files (Ok (Some command)) effect = CommandMeans number state files command effect
+ReadLineMeans number state files (Err fault) effect = effect ≡ refused number state (Line fault) []
 
 -- what the script's line of this number does in the state and the files
 abbrev pub LineMeans : ℕ → State → Files → List ℕ → Effect State → Type 0
-LineMeans number state files line effect = CommandMeans number state files (command_of line) effect
+LineMeans number state files line effect = ReadLineMeans number state files (command_of line) effect

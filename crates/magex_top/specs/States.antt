@@ -1,41 +1,25 @@
 -- The state of a session between two lines, and the effects that lines have on it.
-use Rattle.std.specs.Prelude.{◌≡◌, nat_lt, ℕ, List, [], ◌∷◌, ◌++◌, length, Option, Some, None, MatchOption, MatchBool, find}
-use Rattle.std.specs.Str.{bytes_eq}
-use Rattle.geo_core.specs.declared.limits.Limit.TheVariants.{Bytes}
-use Rattle.outside_io.specs.Files.{Files, bytes_of}
-use Rattle.outside_io.specs.declared.limits.TheConstants.{LONGEST_FILE}
+use Rattle.std.specs.Prelude.{ℕ, List, [], ◌∷◌, Option, Some, None}
+use Rattle.session_model.specs.declared.answer.Store.{Store}
 use Rattle.session_model.specs.declared.report.LineKind.TheVariants.{Reply}
 use Rattle.session_model.specs.declared.report.ReportLine.{ReportLine}
 use Rattle.session_model.specs.Effects.{Effect}
 use Rattle.tech_model.specs.declared.raw.RawTech.{RawTech}
-use Rattle.layout_model.specs.Layouts.{Layout}
+use Rattle.edit_script.specs.Editing.{Editing}
 use Rattle.magex_top.specs.declared.faults.TopFault.{TopFault}
-use Rattle.magex_top.specs.declared.faults.TopFault.TheVariants.{NoFile, TooMany}
 use Rattle.magex_top.specs.Refusals.{refusal}
 
--- A cell: its name, and its own paint.
-pub record CellState : Type 0 where
-  pub name : List ℕ
-  pub own : Layout
+-- Once a technology was read, there is a library over it, which is edited. A library has its cells in the order in which they came.
+abbrev pub State : Type 0
+State = Option Editing
 
--- The state between two lines: the technology, once one was read, and the cells in the order in which they came.
-pub record State : Type 0 where
-  pub technology : Option RawTech
-  pub cells : List CellState
-
--- no technology and no cell is there at the start
+-- there is no technology at the start
 abbrev pub first_state : State
-first_state = record { technology = None; cells = [] }
+first_state = None
 
-abbrev pub with_technology : State → RawTech → State
-with_technology state raw = record { technology = Some raw; cells = state.cells }
-
-abbrev pub with_cell : State → List ℕ → Layout → State
-with_cell state name own = record { technology = state.technology; cells = state.cells ++ record { name = name; own = own } ∷ [] }
-
--- the first cell of this name
-abbrev pub cell_named : List ℕ → List CellState → Option CellState
-cell_named name cells = find (λ cell. bytes_eq cell.name name) cells
+-- the library without cells over a technology
+abbrev pub begun_with : RawTech → Editing
+begun_with raw = record { library = record { tech = raw; scale = None; cells = [] }; edits = 0; current = None }
 
 -- a line of a reply
 abbrev pub reply : List ℕ → ReportLine
@@ -45,13 +29,10 @@ reply text = record { kind = Reply; text = text }
 abbrev pub accepted : State → List ReportLine → List (List ℕ) → Effect State
 accepted state lines fetched = record { state = state; lines = lines; stores = []; fetched = fetched }
 
+-- An accepted line changes no state, stores this file, and then replies this line.
+abbrev pub stored : State → Store → ReportLine → Effect State
+stored state store line = record { state = state; lines = line ∷ []; stores = store ∷ []; fetched = [] }
+
 -- A refused line changes nothing.
 abbrev pub refused : ℕ → State → TopFault → List (List ℕ) → Effect State
 refused number state fault fetched = record { state = state; lines = refusal number fault ∷ []; stores = []; fetched = fetched }
-
--- A command reads a file: it is refused where there is none, and where it is too long, and else the text decides.
-abbrev pub FileMeans : ℕ → State → Files → List ℕ → (List ℕ → Effect State → Type 0) → Effect State → Type 0
-FileMeans number state files file TextMeans effect =
-    MatchOption (bytes_of files file)
-    (effect ≡ refused number state (NoFile file) (file ∷ []))
-    (λ text. MatchBool (nat_lt LONGEST_FILE (length text)) (effect ≡ refused number state (TooMany Bytes) (file ∷ [])) (TextMeans text effect))

@@ -1,22 +1,22 @@
-//! `load c`: makes the text of c.mag a cell.
-ghost use Rattle.std.specs.Prelude.{◌≡◌, ◌++◌, ◌∷◌, [], List, ℕ, Some, All, IfOk, OnOk, OnErr, IsOkUnless};
+//! `load c`: reads c.mag and the file of every cell below it that the library lacks.
+ghost use Rattle.std.specs.Prelude.{◌≡◌, Some, IfOk, IsTrue};
+ghost use Rattle.text_scan.specs.PlainNames.{is_plain_name};
 ghost use Rattle.outside_io.specs.Files.{Files};
-ghost use Rattle.session_model.specs.Causes.{HasCauses};
-ghost use Rattle.magex_top.specs.Answers.{Does, IsCellOf, IsOfInside, IsSession, kinds_in, state_of, state_with};
-ghost use Rattle.magex_top.specs.CommandLoad.{DrawnMeans, LoadMeans};
-ghost use Rattle.magex_top.specs.PlainMag.{plain_cell};
+ghost use Rattle.session_model.specs.Causes.{HasCauses, kinds_of};
+ghost use Rattle.session_model.specs.Effects.{Answers};
+ghost use Rattle.edit_script.specs.Editing.{IsCurrent};
+ghost use Rattle.magex_top.specs.Answers.{IsSession, edited_state, state_of};
+ghost use Rattle.magex_top.specs.CommandLoad.{LoadMeans};
 
-use crate::cells::{Cell, LayoutSession};
+use crate::cells::{Edited, LayoutSession};
 use crate::faults::TopFault;
-use crate::fetching::{Fetched, fetch_text};
-use crate::painting::paint_all;
-use crate::plain_mag::plain_cell;
-use crate::replies::{file_name, loaded, refuse};
+use crate::replies::{loaded, refuse, told};
+use cell_loading::{Loaded, load_cells};
+use ext_model::CellKey;
 use geo_core::Name;
 use outside_io::Shelf;
-use session_model::{Halt, ReportLine};
-use std::alloc::{AllocError, Global};
-use tech_model::Tech;
+use session_model::{Answer, Halt};
+use std::alloc::Global;
 
 /// `load c`, the script's line of this number.
 pub fn load<F: Shelf>(
@@ -25,58 +25,44 @@ pub fn load<F: Shelf>(
     shelf: &mut F,
     number: usize,
     cell: &Name,
-) -> Result<Vec<ReportLine>, Halt>
-    requires { IsSession session.old }
-    ensures effect { (files : Files) → F.files shelf.old ≡ Some files → IfOk result (λ lines.
-        Does (LoadMeans number (state_of session.old) files cell.now) (state_of session.new) lines.items) }
+) -> Result<Answer, Halt>
+    requires session { IsSession session.old }
+    requires cell { IsTrue (is_plain_name cell.now) }
+    ensures effect { (files : Files) → F.files shelf.old ≡ Some files → IfOk result
+        (Answers (LoadMeans number (state_of session.old) files cell.now) (state_of session.new)) }
     ensures kept { IsSession session.new }
     ensures files { F.files shelf.new ≡ F.files shelf.old }
-    ensures causes { HasCauses F.Shelf shelf.old shelf.new kinds_in result }
+    ensures causes { HasCauses F.Shelf shelf.old shelf.new kinds_of result }
 {
-    let Some(tech) = &session.tech else {
-        return refuse(alloc, number, TopFault::NoTech);
-    };
-    if !session.cells.is_empty() {
-        return refuse(alloc, number, TopFault::NotBuilt);
-    }
-    match fetch_text(alloc, shelf, file_name(alloc, cell, b".mag")?)? {
-        Fetched::Text(text) => load_text(alloc, tech, &mut session.cells, number, cell, &text),
-        Fetched::Refused(fault) => refuse(alloc, number, fault),
+    match &mut session.edited {
+        Some(edited) => load_into(alloc, edited, shelf, number, cell),
+        None => refuse(alloc, number, TopFault::NoTech),
     }
 }
 
-// Makes a text a cell, if it is of the plain form.
-fn load_text(
+// Loads the cell into the library that is edited, where it becomes the current one.
+fn load_into<F: Shelf>(
     alloc: Global,
-    tech: &Tech,
-    cells: &mut Vec<Cell>,
+    edited: &mut Edited,
+    shelf: &mut F,
     number: usize,
     cell: &Name,
-    text: &[u8],
-) -> Result<Vec<ReportLine>, Halt>
-    requires { All (IsCellOf tech.now) cells.old.items }
-    ensures effect { IfOk result (λ lines. Does
-        (DrawnMeans number (state_with (Some tech.now) cells.old.items) tech.now cell.now (plain_cell tech.now text.now))
-        (state_with (Some tech.now) cells.new.items) lines.items) }
-    ensures kept { All (IsCellOf tech.now) cells.new.items }
-    ensures inside { IfOk result (λ lines. IsOfInside lines.items) }
-    ensures memory { IsOkUnless result Halt.Memory }
+) -> Result<Answer, Halt>
+    requires current { IsCurrent edited.old.library edited.old.current }
+    requires cell { IsTrue (is_plain_name cell.now) }
+    ensures effect { (files : Files) → F.files shelf.old ≡ Some files → IfOk result
+        (Answers (LoadMeans number (Some (edited_state edited.old)) files cell.now) (Some (edited_state edited.new))) }
+    ensures kept { IsCurrent edited.new.library edited.new.current }
+    ensures files { F.files shelf.new ≡ F.files shelf.old }
+    ensures causes { HasCauses F.Shelf shelf.old shelf.new kinds_of result }
 {
-    let Some(drawn) = plain_cell(alloc, tech, text)? else {
-        return refuse(alloc, number, TopFault::NotBuilt);
-    };
-    let paint = paint_all(alloc, tech, &drawn)?;
-    let lines = loaded(alloc, cell)?;
-    let name = cell.copy(alloc)?;
-    add_cell(cells, Cell { name, paint })?;
-    Ok(lines)
-}
-
-// Adds a cell.
-fn add_cell(cells: &mut Vec<Cell>, cell: Cell) -> Result<(), AllocError>
-    ensures added { OnOk result (cells.new.items ≡ cells.old.items ++ cell ∷ []) }
-    ensures err { OnErr result (cells.new.items ≡ cells.old.items) }
-{
-    cells.push(cell)?;
-    Ok(())
+    let first = edited.library.cell_count();
+    match load_cells(alloc, &mut edited.library, shelf, cell)? {
+        Loaded::Cells(count) => {
+            edited.current = Some(CellKey(first));
+            let lines = loaded(alloc, cell, count)?;
+            Ok(told(alloc, lines))
+        }
+        Loaded::Refused(fault) => refuse(alloc, number, TopFault::Load(fault)),
+    }
 }

@@ -1,24 +1,23 @@
 //! `nodes c`: the lines of the nodes of the own paint of c.
-ghost use Rattle.std.specs.Prelude.{◌≡◌, ℕ, [], List, length, IfOk, IsOkUnless};
-ghost use Rattle.cell_nodes.specs.NodeRecords.{AreNodeRecords};
-ghost use Rattle.cell_paint.specs.Paints.{layout_of};
+ghost use Rattle.std.specs.Prelude.{◌≡◌, ◌<◌, ℕ, List, length, IfOk, IsOkUnless};
+ghost use Rattle.cell_library.specs.Libraries.{seen};
 ghost use Rattle.ext_model.specs.declared.records.NodeRec.{NodeRec as IsNode};
 ghost use Rattle.ext_text.specs.NodeLines.{node_line};
 ghost use Rattle.magex_top.specs.States.{reply};
-ghost use Rattle.magex_top.specs.Answers.{Does, IsOfInside, IsSession, state_of};
-ghost use Rattle.magex_top.specs.CommandNodes.{NodesMeans, node_lines};
+ghost use Rattle.session_model.specs.Effects.{Answers};
+ghost use Rattle.magex_top.specs.Answers.{IsOfInside, IsSession, state_of};
+ghost use Rattle.magex_top.specs.CommandNodes.{AreNodesOf, NodesMeans, node_lines};
 
-use crate::cells::{LayoutSession, find_cell};
+use crate::cells::LayoutSession;
 use crate::faults::TopFault;
-use crate::replies::{refuse, reply};
+use crate::replies::{refuse, reply, told};
+use cell_library::Library;
 use cell_nodes::cell_nodes;
-use cell_paint::CellPaint;
-use ext_model::NodeRec;
+use ext_model::{CellKey, NodeRec};
 use ext_text::append_node_line;
 use geo_core::Name;
-use session_model::{Halt, ReportLine};
+use session_model::{Answer, Halt, ReportLine};
 use std::alloc::{AllocError, Global};
-use tech_model::Tech;
 
 /// `nodes c`, the script's line of this number.
 pub fn nodes(
@@ -26,28 +25,34 @@ pub fn nodes(
     session: &LayoutSession,
     number: usize,
     name: &Name,
-) -> Result<Vec<ReportLine>, Halt>
+) -> Result<Answer, Halt>
     requires { IsSession session.now }
-    ensures effect { IfOk result (λ lines. Does (NodesMeans number (state_of session.now) name.now) (state_of session.now) lines.items) }
-    ensures inside { IfOk result (λ lines. IsOfInside lines.items) }
+    ensures effect { IfOk result (Answers (NodesMeans number (state_of session.now) name.now) (state_of session.now)) }
+    ensures inside { IfOk result (λ answer. IsOfInside answer.lines.items) }
     ensures memory { IsOkUnless result Halt.Memory }
 {
-    let Some(tech) = &session.tech else {
+    let Some(edited) = &session.edited else {
         return refuse(alloc, number, TopFault::NoTech);
     };
-    let Some(cell) = find_cell(session.cells.as_slice(), name) else {
+    let Some(cell) = edited.library.find(name.bytes()) else {
         return refuse(alloc, number, TopFault::NoCell(name.copy(alloc)?));
     };
-    Ok(nodes_of(alloc, tech, &cell.paint)?)
+    let lines = nodes_of(alloc, &edited.library, cell)?;
+    Ok(told(alloc, lines))
 }
 
-// The lines of the nodes of a cell's paint, which has no labels.
-fn nodes_of(alloc: Global, tech: &Tech, paint: &CellPaint) -> Result<Vec<ReportLine>, AllocError>
-    requires kinds { paint.now.kinds ≡ tech.now.types }
-    requires planes { length paint.now.planes ≡ length tech.now.planes }
-    ensures { IfOk result (λ lines. (nodes : List IsNode) × AreNodeRecords tech.now (layout_of paint.now) [] nodes × (lines.items ≡ node_lines nodes)) }
+// The lines of the nodes of a cell's paint.
+fn nodes_of(alloc: Global, library: &Library, cell: CellKey) -> Result<Vec<ReportLine>, AllocError>
+    requires { cell.0 < length library.now.contents }
+    ensures { IfOk result (λ lines. (nodes : List IsNode) × AreNodesOf (seen library.now) cell.0 nodes × (lines.items ≡ node_lines nodes)) }
 {
-    let found = cell_nodes(alloc, tech, paint, &[])?;
+    library.lawful();
+    let found = cell_nodes(
+        alloc,
+        library.tech(),
+        library.paint_of(cell),
+        library.labels_of(cell),
+    )?;
     lines_of(alloc, found.nodes.items())
 }
 

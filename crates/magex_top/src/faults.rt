@@ -1,21 +1,29 @@
 //! Why a line of a script is refused.
 
-use geo_core::{Limit, Name};
+use cell_loading::LoadFault;
+use edit_script::EditFault;
+use geo_core::Name;
+use script_lines::LineFault;
+use session_model::FetchFault;
 use tech_file::TechAt;
 
 /// Why a line of a script is refused, with the words that its text has.
 #[derive(Debug, Drop)]
 pub enum TopFault {
+    /// The line is no command.
+    Line(LineFault),
     /// No technology was read yet.
     NoTech,
     /// The technology's file has a fault.
     Tech(Name, TechAt),
-    /// There is no file of this name.
-    NoFile(Name),
+    /// There is no file of this name, or it is too long.
+    File(Name, FetchFault),
+    /// The cell can't be loaded.
+    Load(LoadFault),
     /// There is no cell of this name.
     NoCell(Name),
-    /// There are more of these than there may be.
-    TooMany(Limit),
+    /// The edit is refused.
+    Edit(EditFault),
     /// A technology was read already.
     TechAgain,
     /// The program does not have this yet.

@@ -1,21 +1,19 @@
-//! The top call of `magex`: a script, line by line, over a technology, cells, files and a report.
+//! The top call of `magex`: a script, line by line, over a technology, a library of cells, files and a report.
 //!
 //! # How the proof goes
 //!
 //! Each command is one function whose contract is the command's definition (`specs/CommandTech` and the like), and a file of
-//! lemmas on its cases (`TechLaws`, `LoadLaws`, `NodesLaws`). `LayoutSession` is a `Session` by them, so that `session_model` runs
-//! the script; `RunLaws` has what is left for `run`: the words, the script that is too long, and the status.
+//! lemmas on its cases where it needs some (`TechLaws`, `LoadLaws`, `NodesLaws`). `LayoutSession` is a `Session` by them, so that
+//! `session_model` runs the script; `RunLaws` has what is left for `run`: the words, the script that is too long, and the status.
 #![tactic(auto)]
 
 mod cells;
+mod command_edits;
 mod command_load;
 mod command_nodes;
+mod command_save;
 mod command_tech;
-mod commands;
 mod faults;
-mod fetching;
-mod painting;
-mod plain_mag;
 mod refusals;
 mod replies;
 mod session;

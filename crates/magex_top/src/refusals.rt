@@ -1,10 +1,16 @@
 //! The texts of refusals.
 ghost use Rattle.std.specs.Prelude.{◌≡◌, ◌++◌, codes, IfOk, OnOk};
-ghost use Rattle.magex_top.specs.Refusals.{cause_of, fault_text, limit_word, refusal, section_word, table_word, tech_fault_text};
+ghost use Rattle.session_model.specs.Fetches.{cause_of_fault};
+ghost use Rattle.magex_top.specs.Refusals.{cause_of, fault_text, limit_word, refusal, section_word, table_word, tech_fault_text, line_fault_text};
+ghost use Rattle.magex_top.specs.Refusals.{file_fault_text, too_many_text, load_fault_text, mag_fault_text, mag_code, edit_fault_text};
 
 use crate::faults::TopFault;
+use cell_loading::LoadFault;
+use edit_script::EditFault;
 use geo_core::{Limit, List, Name};
-use session_model::{Cause, LineKind, ReportLine};
+use mag_text::MagFault;
+use script_lines::LineFault;
+use session_model::{Cause, FetchFault, LineKind, ReportLine};
 use std::alloc::{AllocError, Global};
 use tech_file::TechAt;
 use tech_model::{Section, Table, TechFault};
@@ -30,9 +36,19 @@ fn cause_of(fault: &TopFault) -> Cause
     ensures { result ≡ cause_of fault.now }
 {
     match fault {
-        TopFault::NoFile(_) => Cause::Absent,
-        TopFault::TooMany(Limit::Bytes) => Cause::TooLong,
+        TopFault::File(_, fault) => cause_of_fault(*fault),
+        TopFault::Load(LoadFault::File(_, fault)) => cause_of_fault(*fault),
         _ => Cause::Inside,
+    }
+}
+
+// What the refusal of a file comes from.
+fn cause_of_fault(fault: FetchFault) -> Cause
+    ensures { result ≡ cause_of_fault fault }
+{
+    match fault {
+        FetchFault::Absent => Cause::Absent,
+        FetchFault::TooLong => Cause::TooLong,
     }
 }
 
@@ -41,13 +57,117 @@ fn append_fault(text: &mut Vec<u8>, fault: &TopFault) -> Result<(), AllocError>
     ensures { OnOk result (text.new.items ≡ text.old.items ++ fault_text fault.now) }
 {
     match fault {
+        TopFault::Line(fault) => text.extend_from_slice(line_fault_text(*fault)),
         TopFault::NoTech => text.extend_from_slice(b"E4 no technology"),
         TopFault::Tech(file, at) => append_tech(text, file, at),
-        TopFault::NoFile(file) => append_with_name(text, b"E6 no file ", file),
+        TopFault::File(file, fault) => append_file_fault(text, file, *fault),
+        TopFault::Load(fault) => append_load_fault(text, fault),
         TopFault::NoCell(cell) => append_with_name(text, b"E8 no cell ", cell),
-        TopFault::TooMany(limit) => append_two(text, b"E18 too many ", limit_word(*limit)),
+        TopFault::Edit(fault) => append_edit_fault(text, fault),
         TopFault::TechAgain => text.extend_from_slice(b"E22 technology again"),
         TopFault::NotBuilt => text.extend_from_slice(b"E26 not built"),
+    }
+}
+
+fn line_fault_text(fault: LineFault) -> &'static [u8]
+    ensures { result.now ≡ line_fault_text fault }
+{
+    match fault {
+        LineFault::BadWord => b"E1 bad word",
+        LineFault::BadForm => b"E2 bad form",
+        LineFault::NumberRange => b"E3 number out of range",
+        LineFault::Memory => b"",
+    }
+}
+
+// Writes why there is no text of a file.
+fn append_file_fault(text: &mut Vec<u8>, file: &Name, fault: FetchFault) -> Result<(), AllocError>
+    ensures { OnOk result (text.new.items ≡ text.old.items ++ file_fault_text file.now fault) }
+{
+    match fault {
+        FetchFault::Absent => append_with_name(text, b"E6 no file ", file),
+        FetchFault::TooLong => append_too_many(text, Limit::Bytes),
+    }
+}
+
+// Writes that there would be too many of these.
+fn append_too_many(text: &mut Vec<u8>, limit: Limit) -> Result<(), AllocError>
+    ensures { OnOk result (text.new.items ≡ text.old.items ++ too_many_text limit) }
+{
+    append_two(text, b"E18 too many ", limit_word(limit))
+}
+
+// Writes why a load is refused.
+fn append_load_fault(text: &mut Vec<u8>, fault: &LoadFault) -> Result<(), AllocError>
+    ensures { OnOk result (text.new.items ≡ text.old.items ++ load_fault_text fault.now) }
+{
+    match fault {
+        LoadFault::CellExists(cell) => append_with_name(text, b"E9 cell exists ", cell),
+        LoadFault::File(file, fault) => append_file_fault(text, file, *fault),
+        LoadFault::Mag(file, at) => append_mag_fault(
+            text,
+            file,
+            at.line as usize,
+            mag_code(at.fault),
+        ),
+        LoadFault::Scale(file, line) => append_mag_fault(text, file, *line, b"M10"),
+        LoadFault::Cycle(cell) => append_with_name(text, b"E16 cycle ", cell),
+        LoadFault::OutOfRange => text.extend_from_slice(b"E12 out of range"),
+        LoadFault::TooMany(limit) => append_too_many(text, *limit),
+        LoadFault::Memory => Ok(()),
+    }
+}
+
+// Writes a fault in a line of a cell's file.
+fn append_mag_fault(
+    text: &mut Vec<u8>,
+    file: &Name,
+    line: usize,
+    code: &[u8],
+) -> Result<(), AllocError>
+    ensures { OnOk result (text.new.items ≡ text.old.items ++ mag_fault_text file.now line code.now) }
+{
+    append_with_name(text, b"E7 ", file)?;
+    text.push(b' ')?;
+    append_decimal(text, line as i128)?;
+    append_two(text, b" ", code)
+}
+
+fn mag_code(fault: MagFault) -> &'static [u8]
+    ensures { result.now ≡ mag_code fault }
+{
+    match fault {
+        MagFault::Magic => b"M1",
+        MagFault::BadLine => b"M2",
+        MagFault::NoLayer => b"M3",
+        MagFault::EmptyRect => b"M4",
+        MagFault::Range => b"M5",
+        MagFault::Transform => b"M6",
+        MagFault::UseTwice => b"M7",
+        MagFault::NoEnd => b"M8",
+        MagFault::NotHere => b"M9",
+        MagFault::Memory => b"",
+    }
+}
+
+// Writes why an edit is refused.
+fn append_edit_fault(text: &mut Vec<u8>, fault: &EditFault) -> Result<(), AllocError>
+    ensures { OnOk result (text.new.items ≡ text.old.items ++ edit_fault_text fault.now) }
+{
+    match fault {
+        EditFault::NoCurrent => text.extend_from_slice(b"E8 no cell -"),
+        EditFault::NoCell(cell) => append_with_name(text, b"E8 no cell ", cell),
+        EditFault::CellExists(cell) => append_with_name(text, b"E9 cell exists ", cell),
+        EditFault::NoLayer(word) => append_with_name(text, b"E10 no layer ", word),
+        EditFault::EmptyRect => text.extend_from_slice(b"E11 empty rectangle"),
+        EditFault::OutOfRange => text.extend_from_slice(b"E12 out of range"),
+        EditFault::BadTransform => text.extend_from_slice(b"E13 not an orientation"),
+        EditFault::NoUse(id) => append_with_name(text, b"E14 no use ", id),
+        EditFault::UseExists(id) => append_with_name(text, b"E15 use exists ", id),
+        EditFault::Cycle(cell) => append_with_name(text, b"E16 cycle ", cell),
+        EditFault::NoLabel(label) => append_with_name(text, b"E17 no label ", label),
+        EditFault::TooMany(limit) => append_too_many(text, *limit),
+        EditFault::Memory => Ok(()),
     }
 }
 

@@ -1,7 +1,8 @@
 //! The lines that answer a line.
-ghost use Rattle.std.specs.Prelude.{◌≡◌, ◌++◌, ◌∷◌, [], pos, IfOk, OnOk, IsOkUnless};
+ghost use Rattle.std.specs.Prelude.{◌≡◌, ◌++◌, ◌∷◌, [], codes, pos, IfOk, OnOk, IsOkUnless};
 ghost use Rattle.text_scan.specs.Decimal.{decimal};
 ghost use Rattle.magex_top.specs.CommandLoad.{loaded_text};
+ghost use Rattle.magex_top.specs.CommandSave.{saved_text};
 ghost use Rattle.magex_top.specs.CommandTech.{tech_text};
 ghost use Rattle.magex_top.specs.Refusals.{refusal};
 ghost use Rattle.magex_top.specs.States.{reply};
@@ -9,7 +10,7 @@ ghost use Rattle.magex_top.specs.States.{reply};
 use crate::faults::TopFault;
 use crate::refusals::{append_with_name, refusal};
 use geo_core::{List, Name};
-use session_model::{Halt, LineKind, ReportLine};
+use session_model::{Answer, Halt, LineKind, ReportLine};
 use std::alloc::{AllocError, Global};
 use tech_model::Tech;
 use text_scan::append_decimal;
@@ -33,22 +34,51 @@ pub fn one_line(alloc: Global, line: ReportLine) -> Result<Vec<ReportLine>, Allo
     Ok(lines)
 }
 
-/// The line that refuses the script's line of this number.
-pub fn refuse(alloc: Global, number: usize, fault: TopFault) -> Result<Vec<ReportLine>, Halt>
-    ensures lines { IfOk result (λ lines. lines.items ≡ refusal number fault ∷ []) }
+/// The answer that refuses the script's line of this number.
+pub fn refuse(alloc: Global, number: usize, fault: TopFault) -> Result<Answer, Halt>
+    ensures lines { IfOk result (λ answer. answer.lines.items ≡ refusal number fault ∷ []) }
+    ensures stores { IfOk result (λ answer. answer.stores.items ≡ []) }
     ensures memory { IsOkUnless result Halt.Memory }
 {
     let line = refusal(alloc, number, &fault)?;
-    Ok(one_line(alloc, line)?)
+    Ok(told(alloc, one_line(alloc, line)?))
 }
 
-/// The reply to a `load` that made a cell.
-pub fn loaded(alloc: Global, cell: &Name) -> Result<Vec<ReportLine>, AllocError>
-    ensures { IfOk result (λ lines. lines.items ≡ reply (loaded_text cell.now) ∷ []) }
+/// The answer of these lines, which stores nothing.
+pub fn told(alloc: Global, lines: Vec<ReportLine>) -> Answer
+    ensures lines { result.lines ≡ lines }
+    ensures stores { result.stores.items ≡ [] }
+{
+    Answer {
+        lines,
+        stores: Vec::new(alloc),
+    }
+}
+
+/// The reply to an edit.
+pub fn ok(alloc: Global) -> Result<Vec<ReportLine>, AllocError>
+    ensures { IfOk result (λ lines. lines.items ≡ reply (codes "ok") ∷ []) }
+{
+    let text = Vec::from_slice(alloc, b"ok")?;
+    one_line(alloc, reply(text))
+}
+
+/// The reply to a `save`.
+pub fn saved(alloc: Global, cell: &Name) -> Result<Vec<ReportLine>, AllocError>
+    ensures { IfOk result (λ lines. lines.items ≡ reply (saved_text cell.now) ∷ []) }
+{
+    let mut text = Vec::new(alloc);
+    append_with_name(&mut text, b"save ", cell)?;
+    one_line(alloc, reply(text))
+}
+
+/// The reply to a `load` with which so many cells came.
+pub fn loaded(alloc: Global, cell: &Name, count: usize) -> Result<Vec<ReportLine>, AllocError>
+    ensures { IfOk result (λ lines. lines.items ≡ reply (loaded_text cell.now count) ∷ []) }
 {
     let mut text = Vec::new(alloc);
     append_with_name(&mut text, b"load ", cell)?;
-    text.extend_from_slice(b": 1 cells")?;
+    append_count(&mut text, b": ", count, b" cells")?;
     one_line(alloc, reply(text))
 }
 

@@ -1,19 +1,23 @@
-//! A session: what each line of a script does to the technology and the cells, and what answers it.
+//! A session: what each line of a script does, and what answers it.
 ghost use Rattle.std.specs.Prelude.{◌≡◌, ℕ, Some, IfOk};
 ghost use Rattle.outside_io.specs.Files.{Files};
-ghost use Rattle.session_model.specs.Causes.{HasCauses};
-ghost use Rattle.magex_top.specs.Answers.{Does, IsSession, kinds_in, state_of};
-ghost use Rattle.magex_top.specs.Sessions.{LineMeans};
+ghost use Rattle.script_lines.specs.Forms.{IsFormed};
+ghost use Rattle.session_model.specs.Causes.{HasCauses, kinds_of};
+ghost use Rattle.session_model.specs.Effects.{Answers};
+ghost use Rattle.magex_top.specs.Answers.{IsSession, state_of};
+ghost use Rattle.magex_top.specs.Sessions.{CommandMeans};
 
 use crate::cells::LayoutSession;
+use crate::command_edits::edit;
 use crate::command_load::load;
 use crate::command_nodes::nodes;
+use crate::command_save::save;
 use crate::command_tech::tech;
-use crate::commands::{Command, read_command};
 use crate::faults::TopFault;
-use crate::replies::refuse;
+use crate::replies::{refuse, told};
 use outside_io::Shelf;
-use session_model::{Answer, Halt, ReportLine, Session};
+use script_lines::{Command, LineFault, read_line};
+use session_model::{Answer, Halt, Session};
 use std::alloc::Global;
 
 impl Session for LayoutSession {
@@ -29,9 +33,6 @@ impl Session for LayoutSession {
 
     ghost means = { LineMeans };
 
-    // No command stores a file yet.
-    ghost never_stores = { Unit {0} };
-
     fn answer_line<F: Shelf>(
         &mut self,
         alloc: Global,
@@ -39,34 +40,46 @@ impl Session for LayoutSession {
         number: usize,
         line: &[u8],
     ) -> Result<Answer, Halt> {
-        let lines = lines_for(alloc, self, shelf, number, line)?;
-        Ok(Answer {
-            lines,
-            stores: Vec::new(alloc),
-        })
+        match read_line(alloc, line) {
+            Ok(None) => Ok(told(alloc, Vec::new(alloc))),
+            Ok(Some(command)) => answer(alloc, self, shelf, number, &command),
+            Err(LineFault::Memory) => Err(Halt::Memory),
+            Err(fault) => refuse(alloc, number, TopFault::Line(fault)),
+        }
     }
 }
 
-// Does what the script's line of this number asks for, and gives the lines that answer it.
-fn lines_for<F: Shelf>(
+// Does what a command asks for, but for its stores, and answers it.
+fn answer<F: Shelf>(
     alloc: Global,
     session: &mut LayoutSession,
     shelf: &mut F,
     number: usize,
-    line: &[u8],
-) -> Result<Vec<ReportLine>, Halt>
-    requires { IsSession session.old }
-    ensures effect { (files : Files) → F.files shelf.old ≡ Some files → IfOk result (λ lines.
-        Does (LineMeans number (state_of session.old) files line.now) (state_of session.new) lines.items) }
+    command: &Command,
+) -> Result<Answer, Halt>
+    requires session { IsSession session.old }
+    requires formed { IsFormed command.now }
+    ensures effect { (files : Files) → F.files shelf.old ≡ Some files → IfOk result (λ answer.
+        Answers (CommandMeans number (state_of session.old) files command.now) (state_of session.new) answer) }
     ensures kept { IsSession session.new }
     ensures files { F.files shelf.new ≡ F.files shelf.old }
-    ensures causes { HasCauses F.Shelf shelf.old shelf.new kinds_in result }
+    ensures causes { HasCauses F.Shelf shelf.old shelf.new kinds_of result }
 {
-    match read_command(alloc, line)? {
-        Command::Nothing => Ok(Vec::new(alloc)),
-        Command::Tech(name) => tech(alloc, session, shelf, number, &name),
-        Command::Load(cell) => load(alloc, session, shelf, number, &cell),
-        Command::Nodes(cell) => nodes(alloc, session, number, &cell),
-        Command::Unbuilt => refuse(alloc, number, TopFault::NotBuilt),
+    match command {
+        Command::Tech(name) => tech(alloc, session, shelf, number, name),
+        Command::Load(cell) => load(alloc, session, shelf, number, cell),
+        Command::New(_)
+        | Command::Edit(_)
+        | Command::Paint(_, _)
+        | Command::Erase(_, _)
+        | Command::Place(_, _, _)
+        | Command::Array(_, _)
+        | Command::Move(_, _, _)
+        | Command::Delete(_)
+        | Command::Label(_, _, _, _)
+        | Command::Unlabel(_) => edit(alloc, session, number, command),
+        Command::Save(cell) => save(alloc, session, number, cell),
+        Command::Nodes(cell) => nodes(alloc, session, number, cell),
+        _ => refuse(alloc, number, TopFault::NotBuilt),
     }
 }

@@ -40,14 +40,12 @@ pub fn run<S: Source, K: Sink, F: Shelf, L: Ledger>(
         × ComeFrom F.Shelf shelf.old shelf.new (line_kinds lines) }
     ensures read_to_end { (result ≡ Status.Done) ⊎ (result ≡ Status.Told) → IfSome (S.left script.new) (λ left. left ≡ []) }
 
-    // However it ends, it has come somewhere in the script: the lines before are done, and that line is begun. No line stores a
-    // file yet.
+    // However it ends, it has come somewhere in the script: the lines before are done, and that line is begun.
     ensures beginning { (text before : List ℕ) (files : Files) →
         S.left script.old ≡ Some text → K.written report.old ≡ Some before → F.files shelf.old ≡ Some files →
         (reported : List ℕ) × (after : Files)
         × RunReaches (map string_bytes words.now) text files (Rose (F.store_faults shelf.old) (F.store_faults shelf.new)) reported after
         × (K.written report.new ≡ Some (before ++ reported)) × (F.files shelf.new ≡ Some after) }
-    ensures files { F.files shelf.new ≡ F.files shelf.old }
 
     // A script that could not be read runs no line: the report and the shelf are as they were.
     ensures unread { (S.faults script.new ≡ S.faults script.old → ⊥) → (report.new ≡ report.old) × (shelf.new ≡ shelf.old) }
@@ -60,7 +58,7 @@ pub fn run<S: Source, K: Sink, F: Shelf, L: Ledger>(
     ensures calm_script { result ≢ Status.ReadFault → S.faults script.new ≡ S.faults script.old }
     ensures calm_report { result ≢ Status.WriteFault → K.faults report.new ≡ K.faults report.old }
     ensures calm_fetch { result ≢ Status.ReadFault → F.fetch_faults shelf.new ≡ F.fetch_faults shelf.old }
-    ensures calm_store { F.store_faults shelf.new ≡ F.store_faults shelf.old }
+    ensures calm_store { result ≢ Status.WriteFault → F.store_faults shelf.new ≡ F.store_faults shelf.old }
 
     // When it ends with usage, and when with a script that is too long.
     ensures usage { words.now ≢ [] → (result ≡ Status.Usage) ⊎ ((result ≡ Status.WriteFault) ⊎ (result ≡ Status.Memory)) }
@@ -129,16 +127,15 @@ fn run_script<K: Sink, F: Shelf>(
         (reported : List ℕ) × (after : Files)
         × ScriptReaches text.now files (Rose (F.store_faults shelf.old) (F.store_faults shelf.new)) reported after
         × (K.written report.new ≡ Some (before ++ reported)) × (F.files shelf.new ≡ Some after) }
-    ensures files { F.files shelf.new ≡ F.files shelf.old }
     ensures cases { IsEndOfScript result }
     ensures read_fault { result ≡ Status.ReadFault → Rose (F.fetch_faults shelf.old) (F.fetch_faults shelf.new) }
     ensures write_fault { result ≡ Status.WriteFault →
         Rose (K.faults report.old) (K.faults report.new) ⊎ Rose (F.store_faults shelf.old) (F.store_faults shelf.new) }
     ensures calm_report { result ≢ Status.WriteFault → K.faults report.new ≡ K.faults report.old }
     ensures calm_fetch { result ≢ Status.ReadFault → F.fetch_faults shelf.new ≡ F.fetch_faults shelf.old }
-    ensures calm_store { F.store_faults shelf.new ≡ F.store_faults shelf.old }
+    ensures calm_store { result ≢ Status.WriteFault → F.store_faults shelf.new ≡ F.store_faults shelf.old }
 {
-    let mut session = new_session(alloc);
+    let mut session = new_session();
     match run_lines(alloc, &mut session, false, text, report, shelf) {
         Ok(true) => Status::Told,
         Ok(false) => Status::Done,

@@ -8,7 +8,7 @@ use Rattle.magex_top.specs.declared.status.Status.TheVariants.{Done, Told}
 use Rattle.magex_top.specs.Answers.{state_of}
 use Rattle.magex_top.specs.Sessions.{LineMeans}
 use Rattle.magex_top.specs.States.{State}
-use Rattle.magex_top.proofs.RunLaws.{reached_from_first}
+use Rattle.magex_top.proofs.RunLaws.{calm_read, calm_write, reached_from_first}
 use Rattle.magex_top.proofs.top_call.run_script.Goals as goal
 
 told_status : (told holds : Bool) → holds ≡ told → holds ≡ true → Told ≡ (if told then Told else Done)
@@ -61,3 +61,12 @@ returns-clause-beginning g c before files told files_told =
     reached_from_first (state_of c.new_session-session.result) c.args.text.now files Fails before
     (g.K.Sink.written c.run_lines.new.report) (g.F.Shelf.files c.run_lines.new.shelf) c.new_session-session.ensures.state
     (c.run_lines.ensures.progress before files told files_told)
+
+pub returns-clause-calm_report : goal.returns-clause-calm_report
+returns-clause-calm_report g c = calm_write Bool c.in-Err.halt c.from.result _ c.in-Err.ensures.causes.calm_report c.from.ensures
+
+pub returns-clause-calm_fetch : goal.returns-clause-calm_fetch
+returns-clause-calm_fetch g c = calm_read Bool c.in-Err.halt c.from.result _ c.in-Err.ensures.causes.calm_fetch c.from.ensures
+
+pub returns-clause-calm_store : goal.returns-clause-calm_store
+returns-clause-calm_store g c = calm_write Bool c.in-Err.halt c.from.result _ c.in-Err.ensures.causes.calm_store c.from.ensures

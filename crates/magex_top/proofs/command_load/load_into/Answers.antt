@@ -1,0 +1,42 @@
+use Rattle.std.proofs.Common.{◌≡◌, [], ◌∷◌, subst, rules}
+use Rattle.session_model.specs.declared.answer.Answer.{Answer}
+use Rattle.cell_library.specs.Libraries.{IsSame}
+use Rattle.cell_loading.specs.declared.loading.Loaded.{Loaded}
+use Rattle.cell_loading.specs.Loads.{KeepsIfRefused, LoadGives}
+use Rattle.magex_top.specs.CommandLoad.{loaded_text}
+use Rattle.magex_top.specs.States.{reply}
+use Rattle.magex_top.proofs.AnswerLaws.{both_ok}
+use Rattle.magex_top.proofs.LoadLaws.{load_done, load_refused, same_current}
+use Rattle.magex_top.proofs.command_load.load_into.Goals as goal
+
+pub returns-in_err-count-clause-kept : goal.returns-in_err-count-clause-kept
+returns-in_err-count-clause-kept g c =
+    same_current c.args.edited.now.library c.load_cells.new.library c.args.edited.now.current c.in_err-count.ensures.halted c.requires.current
+
+pub returns-in_ok-lines-in-Cells-clause-effect : goal.returns-in_ok-lines-in-Cells-clause-effect
+returns-in_ok-lines-in-Cells-clause-effect g c files told =
+    let old = c.args.edited.now.library in
+    let new = c.load_cells.new.library in
+    let h = subst (λ (given : Loaded). LoadGives files old new c.args.cell.now given) c.in-Cells.is (c.in_ok-count.ensures.effect files told) in
+    let answer : Answer = c.told.result in
+    let lines : answer.lines.items ≡ reply (loaded_text c.args.cell.now c.in-Cells.count) ∷ [] = search rules in
+    load_done c.args.number old new c.args.edited.now.current c.cell_count-first.result files c.args.cell.now c.in-Cells.count h.1.0 answer h.1.1 h.0
+    c.cell_count-first.ensures lines c.told.ensures.stores
+
+pub returns-in-Refused-clause-effect : goal.returns-in-Refused-clause-effect
+returns-in-Refused-clause-effect g c files told =
+    let old = c.args.edited.now.library in
+    let new = c.load_cells.new.library in
+    let h = subst (λ (given : Loaded). LoadGives files old new c.args.cell.now given) c.in-Refused.is (c.in_ok-count.ensures.effect files told) in
+    let same : IsSame old new = subst (λ (given : Loaded). KeepsIfRefused old new given) c.in-Refused.is c.in_ok-count.ensures.kept in
+    both_ok c.refuse.result _ _ _
+    (λ answer lines stores. load_refused c.args.number old new c.args.edited.now.current files c.args.cell.now c.in-Refused.fault h.0 answer same h.1
+    lines stores)
+    c.refuse.ensures.lines c.refuse.ensures.stores
+
+pub returns-in-Refused-clause-kept : goal.returns-in-Refused-clause-kept
+returns-in-Refused-clause-kept g c =
+    let old = c.args.edited.now.library in
+    let new = c.load_cells.new.library in
+    let same : IsSame old new = subst (λ (given : Loaded). KeepsIfRefused old new given) c.in-Refused.is c.in_ok-count.ensures.kept in
+    same_current old new c.args.edited.now.current same c.requires.current

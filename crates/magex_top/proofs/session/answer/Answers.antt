@@ -1,0 +1,20 @@
+use Rattle.std.proofs.Common.{◌≡◌, sym, subst}
+use Rattle.std.proofs.lemmas.Result.{IfOk-weaker}
+use Rattle.outside_io.specs.Files.{Files}
+use Rattle.session_model.specs.Effects.{Answers}
+use Rattle.script_lines.specs.declared.commands.Command.{Command}
+use Rattle.magex_top.specs.Answers.{state_of}
+use Rattle.magex_top.specs.Sessions.{CommandMeans}
+use Rattle.magex_top.proofs.session.answer.Goals as goal
+
+pub returns-in-Tech-clause-effect : goal.returns-in-Tech-clause-effect
+returns-in-Tech-clause-effect g c files told =
+    IfOk-weaker c.tech.result _ _
+    (λ answer means. subst (λ (command : Command). Answers (CommandMeans c.args.number (state_of c.args.session.now) files command)
+    (state_of c.tech.new.session) answer) (sym c.in-Tech.is) means) (c.tech.ensures.effect files told)
+
+pub returns-in-Load-clause-effect : goal.returns-in-Load-clause-effect
+returns-in-Load-clause-effect g c files told =
+    IfOk-weaker c.load.result _ _
+    (λ answer means. subst (λ (command : Command). Answers (CommandMeans c.args.number (state_of c.args.session.now) files command)
+    (state_of c.load.new.session) answer) (sym c.in-Load.is) means) (c.load.ensures.effect files told)
