@@ -497,11 +497,25 @@ def mag_text(dice, names, drawn):
 
 
 def broken(dice, text):
-    """The text with a line that makes it not plain."""
+    """The text with one more line, and the line and the code of the fault that it makes, if it makes one."""
     lines = text.split("\n")[:-1]
     bad = ["", "# note", "rect 1 2 3", "rect 4 4 4 5", "<< space >>", "use a b", "magscale 1 2", "rect 0 0 1 67108859", "<< other >>"]
-    lines.insert(dice.randint(1, len(lines) - 1), dice.choice(bad))
-    return "\n".join(lines) + "\n"
+    at = dice.randint(1, len(lines) - 1)
+    line = dice.choice(bad)
+    in_group = any(before.startswith("<<") for before in lines[:at])
+    lines.insert(at, line)
+    if line.startswith("<<"):
+        fault = (at + 1, "M3")
+    elif line == "use a b":
+        fault = (at + (3 if lines[at + 1].startswith("timestamp") else 2), "M2")
+    elif line.startswith("magscale"):
+        fault = (at + 1, "M2") if in_group else None
+    elif line.startswith("rect"):
+        in_place = {"rect 4 4 4 5": "M4", "rect 0 0 1 67108859": "M5"}.get(line, "M2")
+        fault = (at + 1, in_place if in_group else "M2")
+    else:
+        fault = None
+    return "\n".join(lines) + "\n", fault
 
 
 def cell_cases(dice, count):
@@ -511,9 +525,10 @@ def cell_cases(dice, count):
         drawn = random_rects(dice, names)
         text = mag_text(dice, names, drawn)
         script, report = ["tech plain"], [counts]
-        is_plain = dice.random() < 0.8
-        if not is_plain:
-            text = broken(dice, text)
+        fault = None
+        is_changed = dice.random() >= 0.8
+        if is_changed:
+            text, fault = broken(dice, text)
         if dice.random() < 0.3:
             script.append("nodes c")
             report.append("line 2: E8 no cell c")
@@ -521,12 +536,12 @@ def cell_cases(dice, count):
             script.append("load none")
             report.append("line %d: E6 no file none.mag" % len(script))
         script.append("load c")
-        report.append("load c: 1 cells" if is_plain else "line %d: E26 not built" % len(script))
-        if dice.random() < 0.2 and is_plain:
+        report.append("line %d: E7 c.mag %d %s" % ((len(script),) + fault) if fault else "load c: 1 cells")
+        if dice.random() < 0.2 and not is_changed:
             script.append("load c")
-            report.append("line %d: E26 not built" % len(script))
+            report.append("line %d: E9 cell exists c" % len(script))
         script.append("nodes c")
-        report += node_lines(painted(drawn), area, edge) if is_plain else ["line %d: E8 no cell c" % len(script)]
+        report += ["line %d: E8 no cell c" % len(script)] if fault else node_lines(painted(drawn), area, edge)
         status = int(any(line.startswith("line ") for line in report))
         yield "cell %d" % number, [("plain.tech", tech), ("c.mag", text)], script, report, status
 

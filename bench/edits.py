@@ -1,0 +1,103 @@
+#!/usr/bin/env python3
+"""Times the built program on scripts that edit, save and load, made from a number.
+
+    bench/edits.py [--sizes 10000,30000,60000] [--program PATH]
+
+It prints for each kind of script seconds and growth from one size to the next (n to the power that is printed).
+"""
+import argparse
+import math
+import subprocess
+import tempfile
+import time
+from pathlib import Path
+
+TOP = Path(__file__).resolve().parent.parent
+PROGRAM = TOP / "crates/magex/out/magex"
+IDENTITY = "1 0 0 0 1 0"
+
+
+def paint(count):
+    """Squares painted one by one, row by row."""
+    side = math.isqrt(count)
+    return ["new c"] + ["paint metal %d %d %d %d" % (6 * (k % side), 6 * (k // side), 6 * (k % side) + 4, 6 * (k // side) + 4) for k in range(count)]
+
+
+def place(count):
+    """Uses placed one by one in one cell."""
+    return ["new l", "paint metal 0 0 4 1", "new c"] + ["place l u%d 1 0 %d 0 1 0" % (k, k) for k in range(count)]
+
+
+def label(count):
+    """Labels added one by one to one cell."""
+    return ["new c", "paint metal 0 0 %d 1" % count] + ["label metal %d 0 %d 1 0 n%d" % (k, k + 1, k) for k in range(count)]
+
+
+def below(count):
+    """Paint at the bottom of a chain of 60 cells, one edit after another."""
+    chain = ["new c0"]
+    for k in range(1, 60):
+        chain += ["new c%d" % k, "place c%d u %s" % (k - 1, IDENTITY)]
+    return chain + ["edit c0"] + ["paint metal %d 0 %d 1" % (2 * k, 2 * k + 1) for k in range(count)]
+
+
+def cells(count):
+    """Cells made one by one, each with a use of the one before, in chains of 50."""
+    lines = []
+    for k in range(count):
+        lines.append("new c%d" % k)
+        if k % 50:
+            lines.append("place c%d u %s" % (k - 1, IDENTITY))
+    return lines
+
+
+def save_and_load(count):
+    """A cell with so many uses and rectangles, saved."""
+    return place(count) + ["save c"]
+
+
+SCRIPTS = {"paint": paint, "place": place, "label": label, "below": below, "cells": cells, "save": save_and_load}
+
+
+def timed(program, script, folder):
+    began = time.perf_counter()
+    done = subprocess.run([program], input="\n".join(["tech nm"] + script) + "\n", text=True, capture_output=True, cwd=folder)
+    seconds = time.perf_counter() - began
+    refused = [line for line in done.stdout.split("\n") if line.startswith("line ")]
+    assert not refused, refused[0]
+    return seconds
+
+
+def load_tree(program, count, folder):
+    """A tree of files: a root, with as many cells below it in chains of 50."""
+    for k in range(count):
+        uses = ["use t%d u" % (k - 1), "transform " + IDENTITY, "box 0 0 0 0"] if k % 50 else []
+        (folder / ("t%d.mag" % k)).write_text("\n".join(["magic", "<< metal >>", "rect 0 0 4 1"] + uses + ["<< end >>"]) + "\n")
+    tops = [k for k in range(count) if k % 50 == 49 or k == count - 1]
+    lines = ["magic"]
+    for k in tops:
+        lines += ["use t%d u%d" % (k, k), "transform " + IDENTITY, "box 0 0 0 0"]
+    (folder / "top.mag").write_text("\n".join(lines + ["<< end >>"]) + "\n")
+    return timed(program, ["load top"], folder)
+
+
+def main():
+    options = argparse.ArgumentParser(description=__doc__.split("\n")[0])
+    options.add_argument("--sizes", default="10000,30000,60000")
+    options.add_argument("--program", default=str(PROGRAM))
+    given = options.parse_args()
+    sizes = [int(size) for size in given.sizes.split(",")]
+    with tempfile.TemporaryDirectory() as name:
+        folder = Path(name)
+        (folder / "nm.tech").write_text((TOP / "crates/run_tests/data/nm.tech").read_text())
+        for kind in list(SCRIPTS) + ["tree"]:
+            last = None
+            for size in sizes:
+                seconds = load_tree(given.program, size, folder) if kind == "tree" else timed(given.program, SCRIPTS[kind](size), folder)
+                growth = "n^%.2f" % (math.log(seconds / last[1]) / math.log(size / last[0])) if last else ""
+                print("%-6s %7d %8.2f s  %s" % (kind, size, seconds, growth), flush=True)
+                last = (size, seconds)
+
+
+if __name__ == "__main__":
+    main()
