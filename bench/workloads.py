@@ -36,13 +36,22 @@ def wires(count, seed):
     return [(0, (0, 4 * k, 200_000, 4 * k + 2)) for k in range(count)]
 
 
-def mag_text(rects, tech, layers):
-    """A mag file of these rectangles, in their order: a new group where the layer changes."""
+def comb(count, seed):
+    """A spine with teeth on both its sides, so many less one: one node."""
+    teeth = [(0, (4 * (k // 2), 2 if k % 2 else -40, 4 * (k // 2) + 2, 42 if k % 2 else 0)) for k in range(count - 1)]
+    return [(0, (0, 0, 2 * count, 2))] + teeth
+
+
+def mag_text(rects, tech, layers, labels=0):
+    """A mag file of these rectangles, in their order: a new group where the layer changes. The first of them, so many, have a label each."""
     lines, group = ["magic", f"tech {tech}", "timestamp 1"], None
     for layer, rect in sorted(rects, key=lambda entry: entry[0]):
         if layer != group:
             lines.append(f"<< {layers[layer]} >>")
             group = layer
         lines.append("rect %d %d %d %d" % rect)
+    if labels:
+        lines.append("<< labels >>")
+    lines += ["rlabel %s %d %d %d %d 0 n%d" % ((layers[layer],) + rect + (k,)) for k, (layer, rect) in enumerate(rects[:labels])]
     lines.append("<< end >>")
     return "\n".join(lines) + "\n"
