@@ -1,11 +1,4 @@
 pub mod Abutting
-pub mod Numbers
-pub mod RegionLaws
-pub mod TileContacts
-pub mod TileLaws
-pub mod TileLinks
-pub mod TileMeasures
-pub mod TileRects
 pub mod Walks
 pub mod ShareLaws
 pub mod TileEdges

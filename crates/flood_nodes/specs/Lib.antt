@@ -1,9 +1,6 @@
-pub mod Alike
 pub mod Gathered
 pub mod LinkedTiles
-pub mod Regions
 pub mod Renumbered
 pub mod SoundTiles
 pub mod Stacking
 pub mod TileShares
-pub mod Tiles

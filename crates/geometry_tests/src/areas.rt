@@ -1,10 +1,8 @@
 //! Rectangles and pieces of tables, and tests of what the calls ask of them.
-ghost use Rattle.std.specs.Prelude.{◌≡◌, ◌≢◌, ◌⊎◌, ◌≤ℤ◌, IfOk, IsTrue, All, AllPairs, map};
+ghost use Rattle.std.specs.Prelude.{◌≡◌, ◌⊎◌, ◌≤ℤ◌, IfOk, IsTrue, All, AllPairs, map};
 ghost use Rattle.geo_core.specs.Covering.{IsProper};
 ghost use Rattle.geo_core.specs.Areas.{AreDisjoint, IsNear};
-ghost use Rattle.flood_nodes.specs.Tiles.{AreTiles};
 
-use flood_nodes::rects_of;
 use geo_core::{PLANE_EDGE, Piece, Rect};
 use std::alloc::{AllocError, Global};
 
@@ -124,6 +122,13 @@ pub fn are_several(rects: &[Rect]) -> bool
     lie_apart(rects)
 }
 
+/// The rectangles of pieces, in their order.
+fn rects_of(alloc: Global, pieces: &[Piece]) -> Result<Vec<Rect>, AllocError>
+    ensures { IfOk result (λ areas. areas.items ≡ map (λ piece. piece.area) pieces.now) }
+{
+    pieces.iter().map(|piece| piece.area).collect(alloc)
+}
+
 /// Whether pieces can be set on a plane at once.
 pub fn are_settable(alloc: Global, pieces: &[Piece]) -> Result<bool, AllocError>
     ensures proper { IfOk result (λ fit. IsTrue fit → All (λ piece. IsProper piece.area) pieces.now) }
@@ -132,29 +137,4 @@ pub fn are_settable(alloc: Global, pieces: &[Piece]) -> Result<bool, AllocError>
 {
     let rects = rects_of(alloc, pieces)?;
     Ok(are_several(rects.as_slice()))
-}
-
-fn is_material(piece: &Piece) -> bool
-    ensures { IsTrue result → piece.now.value ≢ 0 }
-{
-    piece.value != 0
-}
-
-fn are_material(pieces: &[Piece]) -> bool
-    ensures { IsTrue result → All (λ piece. piece.value ≢ 0) pieces.now }
-{
-    for piece in pieces {
-        if !is_material(piece) {
-            return false;
-        }
-    }
-    true
-}
-
-/// Whether pieces are tiles of one plane.
-pub fn are_tiles(alloc: Global, pieces: &[Piece]) -> Result<bool, AllocError>
-    ensures { IfOk result (λ fit. IsTrue fit → AreTiles pieces.now) }
-{
-    let settable = are_settable(alloc, pieces)?;
-    Ok(settable && are_material(pieces))
 }

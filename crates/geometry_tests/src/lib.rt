@@ -11,8 +11,6 @@ mod contact_tests;
 #[cfg(test)]
 mod list_tests;
 #[cfg(test)]
-mod node_tests;
-#[cfg(test)]
 mod paint_tests;
 #[cfg(test)]
 mod place_tests;
