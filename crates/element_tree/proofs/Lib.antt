@@ -1,0 +1,13 @@
+pub mod NameOrders
+pub mod Transforms
+pub mod Chains
+pub mod Ranks
+pub mod Growth
+pub mod Measures
+pub mod Counting
+pub mod Steps
+pub mod RankSums
+pub mod Rows
+pub mod Forests
+pub mod Along
+pub mod TreeLaws
