@@ -1,0 +1,56 @@
+-- The elements of a tree of lawful records: their records, and the names that lead to them.
+use Rattle.std.proofs.Common.{◌≡◌, ℕ, zero, suc, ◌<◌, List, [], ◌∷◌}
+use Rattle.std.proofs.Common.{◌++◌, Some, map, inl, inr, sym, ◌∙◌, ap, subst, arith}
+use Rattle.std.specs.Prelude.{slice_get, All}
+use Rattle.std.proofs.lemmas.List.{map-append}
+use Rattle.std.proofs.lemmas.Option.{slice_get_within, get_or_from_slice_get, slice_get-map}
+use Rattle.std.specs.Option.{option_map}
+use Rattle.geo_core.proofs.ElementLaws.{one_place}
+use Rattle.ext_model.specs.declared.records.UseRec.{UseRec}
+use Rattle.ext_model.specs.declared.records.CellExt.{CellExt}
+use Rattle.ext_model.specs.NodeNames.{slashes_in}
+use Rattle.ext_model.specs.NameParts.{AreWhole}
+use Rattle.ext_model.specs.Lawful.{IsLawful, IsLawfulUse}
+use Rattle.ext_model.proofs.RecordNameLaws.{slashes_in-node_name}
+use Rattle.circuit_model.specs.Elements.{Element, ids_of, AreRecords}
+use Rattle.element_tree.specs.declared.tree.ElementTree.{ElementTree}
+use Rattle.element_tree.specs.Trees.{IsTreeOfElements}
+use Rattle.full_names.specs.Reached.{flat_at}
+use Rattle.full_names.proofs.TreeLaws.{are_at, stands_for}
+
+-- what holds of all holds of what stands at a place
+pub All-slice_get : {X : Type 0} (P : X → Type 0) (xs : List X) (k : ℕ) (x : X) → All P xs → slice_get xs k ≡ Some x → P x
+All-slice_get P xs k x all at = subst P (get_or_from_slice_get xs k x x at) (all k x (slice_get_within xs k x at))
+
+AreWhole-push : (ids : List (List ℕ)) (id : List ℕ) → AreWhole ids → slashes_in id ≡ 0 → AreWhole (ids ++ id ∷ [])
+AreWhole-push [] id whole none = (none, tt)
+AreWhole-push (first ∷ ids) id whole none = (whole.0, AreWhole-push ids id whole.1 none)
+
+-- no two places have one record
+pub one_record : (exts : List CellExt) → AreRecords exts → (a b : ℕ) (ext : CellExt) → slice_get exts a ≡ Some ext → slice_get exts b ≡ Some ext → a ≡ b
+one_record exts records a b ext at-a at-b =
+    let cell : CellExt → List ℕ = λ (e : CellExt). e.cell in
+    one_place (map cell exts) a b (cell ext) records.cells_differ (slice_get-map cell exts a ∙ ap (option_map cell) at-a)
+    (slice_get-map cell exts b ∙ ap (option_map cell) at-b)
+
+module _ (exts : List CellExt) (elements : List Element) (tree : ElementTree) (records : AreRecords exts) (is : IsTreeOfElements exts elements tree) where
+  pub lawful_at : (number : ℕ) (element : Element) → slice_get elements number ≡ Some element → IsLawful element.ext
+  lawful_at number element at =
+      All-slice_get IsLawful exts (flat_at tree.elements number).cell element.ext records.lawful (stands_for exts elements tree is number element at).record_
+
+  -- the names that lead to an element have no slashes
+  whole_below : (bound number : ℕ) (element : Element) → number < bound → slice_get elements number ≡ Some element → AreWhole (ids_of element)
+  whole_below zero number element below at = absurd (omega arith)
+  whole_below (suc bound) number element below at =
+      elim (is.parents number element (flat_at tree.elements number) (are_at exts elements tree is number element at)) [
+        | inl none ↦ subst AreWhole (sym (ap (map (λ (used : UseRec). used.id)) none)) tt
+        | inr stands ↦ (let above = whole_below bound (flat_at tree.elements number).parent stands.parent
+            (let less = stands.lesser in omega arith) stands.found in
+            let lawful = lawful_at (flat_at tree.elements number).parent stands.parent stands.found in
+            let used = All-slice_get IsLawfulUse stands.parent.ext.uses (flat_at tree.elements number).at stands.used lawful.uses stands.use_of in
+            subst AreWhole (sym (ap (map (λ (u : UseRec). u.id)) stands.uses ∙ map-append (λ (u : UseRec). u.id) stands.parent.uses (stands.used ∷ [])))
+            (AreWhole-push (ids_of stands.parent) stands.used.id above (slashes_in-node_name stands.used.id used.id)))
+      ]
+
+  pub whole_at : (number : ℕ) (element : Element) → slice_get elements number ≡ Some element → AreWhole (ids_of element)
+  whole_at number element at = whole_below (suc number) number element (omega arith) at

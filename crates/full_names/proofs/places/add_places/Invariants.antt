@@ -1,0 +1,6 @@
+use Rattle.std.proofs.Common.{◌≡◌, ◌++◌}
+use Rattle.full_names.specs.Places.{places_of}
+use Rattle.full_names.proofs.places.add_places.Given as goal
+
+abbrev pub invariant-loop-own : goal.invariant-loop-own
+invariant-loop-own l = l.places.items ≡ l.fn.places.items ++ places_of l.element l.own
