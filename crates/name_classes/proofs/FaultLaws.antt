@@ -1,0 +1,122 @@
+-- The links of merges, and which path leads nowhere first.
+use Rattle.std.proofs.Common.{◌≡◌, ◌⊎◌, ℕ, Bool, true, cond, inl, inr, List, [], ◌∷◌, ◌++◌, take, drop, suc, refl, sym, ◌∙◌, ap, subst}
+use Rattle.std.proofs.Common.{arith, length-append}
+use Rattle.std.specs.Prelude.{Option, Some, None, Result, Ok, Err, IfErr, slice_get}
+use Rattle.std.specs.Result.{IsErrAnd}
+use Rattle.std.specs.Option.{option_or}
+use Rattle.finite_sets.specs.Lists.{In}
+use Rattle.ext_model.specs.declared.records.MergeRec.{MergeRec}
+use Rattle.ext_model.specs.declared.records.CellExt.{CellExt}
+use Rattle.ext_model.specs.NodeNames.{slashes_in}
+use Rattle.circuit_model.specs.declared.faults.FlatFault.{FlatFault}
+use Rattle.circuit_model.specs.declared.faults.FlatFault.TheVariants.{NoPath, Memory}
+use Rattle.circuit_model.specs.Refusals.{first_fault, leads, path_fault, merge_fault}
+use Rattle.element_tree.specs.declared.tree.TreeElement.{TreeElement}
+use Rattle.full_names.specs.declared.names.FullNames.{FullNames}
+use Rattle.name_classes.specs.declared.classes.MergeEnd.{MergeEnd}
+use Rattle.name_classes.specs.declared.links.Link.{Link}
+use Rattle.name_classes.specs.Paths.{IsEndFrom}
+use Rattle.name_classes.specs.Links.{HasRecord, IsLink, AreMergeLinks, IsPathFault, IsMergeFault}
+use Rattle.name_classes.proofs.ListLaws.{slice_get-In, one_at_place, at_place, slice_get-push_both, cut_at_place}
+
+-- ---- the first fault of a list
+
+pub first_fault-none : {X : Type 0} (f : X → Option FlatFault) (xs : List X) → ((x : X) → In x xs → f x ≡ None) → first_fault f xs ≡ None
+first_fault-none f [] sound = refl
+first_fault-none f (x ∷ xs) sound =
+    ap (λ (o : Option FlatFault). option_or o (first_fault f xs)) (sound x (inl refl)) ∙ first_fault-none f xs (λ y later. sound y (inr later))
+
+first_fault-cut : {X : Type 0} (f : X → Option FlatFault) (front back : List X) (x : X) (fault : FlatFault) → ((y : X) → In y front → f y ≡ None)
+    → f x ≡ Some fault → first_fault f (front ++ (x ∷ back)) ≡ Some fault
+first_fault-cut f [] back x fault sound faulty = ap (λ (o : Option FlatFault). option_or o (first_fault f back)) faulty
+first_fault-cut f (y ∷ front) back x fault sound faulty =
+    ap (λ (o : Option FlatFault). option_or o (first_fault f (front ++ (x ∷ back)))) (sound y (inl refl))
+    ∙ first_fault-cut f front back x fault (λ z later. sound z (inr later)) faulty
+
+-- the fault of the first thing that has one
+pub first_fault-at : {X : Type 0} (f : X → Option FlatFault) (xs : List X) (i : ℕ) (x : X) (fault : FlatFault) → slice_get xs i ≡ Some x
+    → ((y : X) → In y (take i xs) → f y ≡ None) → f x ≡ Some fault → first_fault f xs ≡ Some fault
+first_fault-at f xs i x fault stands sound faulty =
+    ap (first_fault f) (cut_at_place xs i x stands) ∙ first_fault-cut f (take i xs) (drop (suc i) xs) x fault sound faulty
+
+-- ---- paths
+
+-- the record of an element's number is one
+pub one_record : (names : FullNames) (number : ℕ) (ext : CellExt) → HasRecord names number ext → (flat : TreeElement) (other : CellExt)
+    → slice_get names.tree.now.elements number ≡ Some flat → slice_get names.exts.now flat.cell ≡ Some other → other ≡ ext
+one_record names number ext at flat other stands record_ =
+    let same : flat ≡ at.flat = one_at_place names.tree.now.elements number flat at.flat stands at.stands in
+    one_at_place names.exts.now at.flat.cell other ext (subst (λ (f : TreeElement). slice_get names.exts.now f.cell ≡ Some other) same record_) at.record_
+
+pub path_sound : (names : FullNames) (number : ℕ) (ext : CellExt) → HasRecord names number ext → (path : List ℕ) (end : MergeEnd)
+    → IsEndFrom names number path end → path_fault names.exts.now ext path ≡ None
+path_sound names number ext at path end is =
+    let same = one_record names number ext at is.flat is.ext is.stands is.record_ in
+    let found : leads (slashes_in path) names.exts.now ext path ≡ true =
+    subst (λ (e : CellExt). leads (slashes_in path) names.exts.now e path ≡ true) same is.leads in
+    ap (λ (t : Bool). cond t None (Some (NoPath ext.cell path))) found
+
+-- ---- merges
+
+merge_sound : (names : FullNames) (number : ℕ) (ext : CellExt) → HasRecord names number ext → (merge : MergeRec) (link : Link)
+    → IsLink names number link merge.first merge.second → merge_fault names.exts.now ext merge ≡ None
+merge_sound names number ext at merge link is =
+    ap (λ (o : Option FlatFault). option_or o (path_fault names.exts.now ext merge.second)) (path_sound names number ext at merge.first link.first is.first)
+    ∙ path_sound names number ext at merge.second link.second is.second
+
+-- a merge whose first path is faulty
+pub first_faulty : (exts : List CellExt) (ext : CellExt) (merge : MergeRec) (fault : FlatFault) → path_fault exts ext merge.first ≡ Some fault
+    → merge_fault exts ext merge ≡ Some fault
+first_faulty exts ext merge fault faulty = ap (λ (o : Option FlatFault). option_or o (path_fault exts ext merge.second)) faulty
+
+-- a merge whose second path alone is faulty
+pub second_faulty : (exts : List CellExt) (ext : CellExt) (merge : MergeRec) (fault : FlatFault) → path_fault exts ext merge.first ≡ None
+    → path_fault exts ext merge.second ≡ Some fault → merge_fault exts ext merge ≡ Some fault
+second_faulty exts ext merge fault sound faulty =
+    ap (λ (o : Option FlatFault). option_or o (path_fault exts ext merge.second)) sound ∙ faulty
+
+-- merges that have links have no fault
+pub merges_sound : (names : FullNames) (number : ℕ) (ext : CellExt) → HasRecord names number ext → (merges : List MergeRec) (links : List Link)
+    → AreMergeLinks names number merges links → (merge : MergeRec) → In merge merges → merge_fault names.exts.now ext merge ≡ None
+merges_sound names number ext at merges links are merge within =
+    let place = slice_get-In merge merges within in
+    let link = at_place links merges place.0 merge (sym are.long) place.1 in
+    merge_sound names number ext at merge link.0 (are.each place.0 merge link.0 place.1 link.1)
+
+-- the link of one more merge
+pub merge_added : (names : FullNames) (number : ℕ) (merges : List MergeRec) (merge : MergeRec) (links : List Link) (link : Link)
+    → AreMergeLinks names number merges links → IsLink names number link merge.first merge.second
+    → AreMergeLinks names number (merges ++ merge ∷ []) (links ++ link ∷ [])
+merge_added names number merges merge links link are is = record {
+  long = omega (arith, length-append merges (merge ∷ []), length-append links (link ∷ []), are.long);
+  each = slice_get-push_both (λ (m : MergeRec) (l : Link). IsLink names number l m.first m.second) merges links merge link are.long are.each is;
+}
+
+-- the merge with a fault behind those that have links is the first with one
+merges_fail : (names : FullNames) (number : ℕ) (ext : CellExt) → HasRecord names number ext → (merges : List MergeRec) → merges ≡ ext.merges
+    → (i : ℕ) (merge : MergeRec) (links : List Link) → AreMergeLinks names number (take i merges) links → slice_get merges i ≡ Some merge
+    → (fault : FlatFault) → merge_fault names.exts.now ext merge ≡ Some fault → IsMergeFault names number fault
+merges_fail names number ext at merges same i merge links are here fault faulty = record {
+  ext = ext;
+  at = at;
+  faulty = ap (first_fault (merge_fault names.exts.now ext)) (sym same)
+      ∙ first_fault-at (merge_fault names.exts.now ext) merges i merge fault here (merges_sound names number ext at (take i merges) links are) faulty;
+}
+
+-- and so it is told
+pub merges_refused : (names : FullNames) (number : ℕ) (ext : CellExt) → HasRecord names number ext → (merges : List MergeRec) → merges ≡ ext.merges
+    → (i : ℕ) (merge : MergeRec) (links : List Link) → AreMergeLinks names number (take i merges) links → slice_get merges i ≡ Some merge
+    → (path : List ℕ) (fault : FlatFault)
+    → (path_fault names.exts.now ext path ≡ Some fault → merge_fault names.exts.now ext merge ≡ Some fault)
+    → (fault ≡ Memory) ⊎ IsPathFault names number path fault → (fault ≡ Memory) ⊎ IsMergeFault names number fault
+merges_refused names number ext at merges same i merge links are here path fault tells (inl memory) = inl memory
+merges_refused names number ext at merges same i merge links are here path fault tells (inr of) =
+    let own = one_record names number ext at of.at.flat of.ext of.at.stands of.at.record_ in
+    let faulty = subst (λ (e : CellExt). path_fault names.exts.now e path ≡ Some fault) own of.faulty in
+    inr (merges_fail names number ext at merges same i merge links are here fault (tells faulty))
+
+-- an error that is handed on
+pub err_same : {T : Type 0} (result : Result T FlatFault) (fault : FlatFault) → IsErrAnd result (λ error. error ≡ fault) → (P : FlatFault → Type 0) → P fault
+    → IfErr result P
+err_same (Ok value) fault is P holds = tt
+err_same (Err error) fault is P holds = subst P (sym is) holds

@@ -1,0 +1,13 @@
+pub mod ListLaws
+pub mod TreeLaws
+pub mod PathLaws
+pub mod TableLaws
+pub mod SplitLaws
+pub mod BranchLaws
+pub mod LinkLaws
+pub mod FaultLaws
+pub mod RecordLaws
+pub mod SeenLaws
+pub mod JoinLaws
+pub mod EndLaws
+pub mod ClassLaws

@@ -1,0 +1,6 @@
+use Rattle.std.proofs.Common.{take}
+use Rattle.name_classes.specs.Links.{AreFirsts}
+use Rattle.name_classes.proofs.links.all_firsts.Given as goal
+
+abbrev pub invariant-loop-links : goal.invariant-loop-links
+invariant-loop-links l = AreFirsts (take l.links-index l.all) l.ends.items

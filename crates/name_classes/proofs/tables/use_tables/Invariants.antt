@@ -1,0 +1,6 @@
+use Rattle.std.proofs.Common.{take}
+use Rattle.name_classes.specs.UseTables.{AreUseTables}
+use Rattle.name_classes.proofs.tables.use_tables.Given as goal
+
+abbrev pub invariant-loop-ext : goal.invariant-loop-ext
+invariant-loop-ext l = AreUseTables (take l.ext-index l.exts) l.tables.items

@@ -1,0 +1,5 @@
+pub mod Classes
+pub mod UseTables
+pub mod Paths
+pub mod Links
+pub mod Joins

@@ -1,0 +1,5 @@
+pub mod PlaceLaws
+pub mod LabelLaws
+pub mod GroupLaws
+pub mod NodeLaws
+pub mod SpotLaws
