@@ -1,0 +1,4 @@
+pub mod OrderLaws
+pub mod JoinLaws
+pub mod TerminalLaws
+pub mod FetLaws

@@ -1,0 +1,28 @@
+use Rattle.std.proofs.Common.{ℕ, length, ◌∙◌, ap, inr, Bool, cond}
+use Rattle.std.specs.Prelude.{Some, None}
+use Rattle.geo_core.specs.declared.limits.Limit.TheVariants.{Merges}
+use Rattle.ext_model.specs.declared.records.CellExt.{CellExt}
+use Rattle.circuit_model.specs.declared.faults.FlatFault.TheVariants.{TooMany}
+use Rattle.circuit_model.specs.declared.limits.TheConstants.{MOST_MERGES}
+use Rattle.flat_limits.proofs.TreeLaws.{size_within, past_is}
+use Rattle.flat_limits.proofs.counts.check_merges.Goals as goal
+
+abbrev size_of : CellExt → ℕ
+size_of ext = length ext.merges
+
+pub is_past-requires : goal.is_past-requires
+is_past-requires c =
+    size_within size_of c.args.exts.now c.args.root c.args.tree.now c.requires.root c.requires.tree c.as_slice.result.now
+    (c.as_slice.ensures.value ∙ c.in_ok-sizes.ensures) c.items.result.now c.items.ensures
+
+pub returns-then-is_past-clause-fault : goal.returns-then-is_past-clause-fault
+returns-then-is_past-clause-fault c = inr (λ top is.
+    past_is size_of c.args.exts.now c.args.root c.args.tree.now c.requires.tree c.as_slice.result.now (c.as_slice.ensures.value ∙ c.in_ok-sizes.ensures)
+    c.items.result.now c.items.ensures MOST_MERGES Merges c.is_past.result c.is_past.ensures top is
+    ∙ ap (λ (t : Bool). cond t (Some (TooMany Merges)) None) c.if-is_past.true)
+
+pub returns-clause-few : goal.returns-clause-few
+returns-clause-few c top is =
+    past_is size_of c.args.exts.now c.args.root c.args.tree.now c.requires.tree c.as_slice.result.now (c.as_slice.ensures.value ∙ c.in_ok-sizes.ensures)
+    c.items.result.now c.items.ensures MOST_MERGES Merges c.is_past.result c.is_past.ensures top is
+    ∙ ap (λ (t : Bool). cond t (Some (TooMany Merges)) None) c.if-is_past.false

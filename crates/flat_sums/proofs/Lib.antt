@@ -1,0 +1,5 @@
+pub mod AmountLaws
+pub mod BoundLaws
+pub mod AddingLaws
+pub mod EndLaws
+pub mod TotalLaws

@@ -1,0 +1,103 @@
+-- What trees without a fault keep to.
+use Rattle.std.proofs.Common.{◌≡◌, ℕ, ◌≤◌, Bool, cond, eqb, List, [], ◌∷◌, length, inl, inr, refl, sym, ◌∙◌, ap}
+use Rattle.std.specs.Prelude.{Option, Some, None, slice_get, Result, Ok, Err, IfErr, IsSome}
+use Rattle.std.specs.Option.{option_or}
+use Rattle.std.proofs.lemmas.Bool.{cases_Bool, cases_lt, lt-ltb, eqb-true}
+use Rattle.finite_sets.specs.Lists.{In}
+use Rattle.finite_sets.proofs.Searches.{option_or-none}
+use Rattle.geo_core.specs.declared.limits.Limit.{Limit}
+use Rattle.geo_core.specs.declared.limits.Limit.TheVariants.{Depth, Elements, Nodes, Merges}
+use Rattle.ext_model.specs.declared.records.CellExt.{CellExt}
+use Rattle.circuit_model.specs.declared.faults.FlatFault.{FlatFault}
+use Rattle.circuit_model.specs.declared.faults.FlatFault.TheVariants.{TooMany, Classes}
+use Rattle.circuit_model.specs.Elements.{Element, ext_of, elements_of}
+use Rattle.full_names.specs.declared.names.FullNames.{FullNames}
+use Rattle.full_names.specs.Names.{elements_in}
+use Rattle.circuit_model.specs.Refusals.{first_fault, past, class_fault, node_count, merge_count, walk_fault, depth_of, count_fault, flat_fault, IsFlatFaultOf}
+use Rattle.circuit_model.specs.declared.limits.TheConstants.{LONGEST_CHAIN, MOST_FLAT_ELEMENTS, MOST_NODES, MOST_MERGES}
+use Rattle.element_tree.specs.Trees.{tree_fault}
+use Rattle.full_names.specs.NameLists.{name_fault}
+use Rattle.flat_limits.specs.Counts.{node_fault, merge_fault}
+use Rattle.flatten.specs.Stages.{use_fault, number_fault, late_fault, HasNoUseFault, HasNoCountFault, IsLateFaultOf}
+
+-- where nothing in a list has a fault, each thing has none
+pub no_fault_In : {X : Type 0} (fault_of : X → Option FlatFault) (xs : List X) → first_fault fault_of xs ≡ None → (x : X) → In x xs → fault_of x ≡ None
+no_fault_In fault_of [] none x here = absurd here
+no_fault_In fault_of (y ∷ ys) none x (inl e) = ap fault_of (sym e) ∙ (option_or-none (fault_of y) (first_fault fault_of ys) none).0
+no_fault_In fault_of (y ∷ ys) none x (inr h) = no_fault_In fault_of ys (option_or-none (fault_of y) (first_fault fault_of ys) none).1 x h
+
+-- a number that is not past its limit
+not_past : (most : ℕ) (limit : Limit) (number : ℕ) → past most limit number ≡ None → number ≤ most
+not_past most limit number none = elim (cases_lt most number) [
+  | inr within ↦ within
+  | inl more ↦
+      (let over : Some (TooMany limit) ≡ None = ap (λ (t : Bool). cond t (Some (TooMany limit)) None) (sym (lt-ltb most number more)) ∙ none in
+      absurd (cc))
+]
+
+-- as many classes as the root's
+pub alike_classes : (top : CellExt) (element : Element) → class_fault top element ≡ None → length element.ext.classes ≡ length top.classes
+alike_classes top element none = elim (cases_Bool (eqb (length element.ext.classes) (length top.classes))) [
+  | inl same ↦ eqb-true (length element.ext.classes) (length top.classes) same
+  | inr differ ↦
+      (let fault : Some (Classes element.ext.cell) ≡ None = ap (λ (t : Bool). cond t None (Some (Classes element.ext.cell))) (sym differ) ∙ none in
+      absurd (cc))
+]
+
+-- the elements of names are those of the tree at their root
+pub elements_at_root : (names : FullNames) (exts : List CellExt) → exts ≡ names.exts.now → (root : ℕ) → root ≡ names.root → (top : CellExt)
+    → slice_get exts root ≡ Some top → elements_in names ≡ elements_of exts top
+elements_at_root names exts all root at top is =
+    let found : slice_get names.exts.now names.root ≡ Some top = ap (slice_get names.exts.now) (sym at)
+    ∙ ap (λ (l : List CellExt). slice_get l root) (sym all) ∙ is in
+    ap (λ (o : Option CellExt). elim o [ None ↦ [] | Some one ↦ elements_of names.exts.now one ]) found
+    ∙ ap (λ (l : List CellExt). elements_of l top) (sym all)
+
+-- a tree with no number past its limit has few enough nodes
+pub few_nodes : (exts : List CellExt) (top : CellExt) → number_fault exts top ≡ None → node_count (elements_of exts top) ≤ MOST_NODES
+few_nodes exts top none =
+    not_past MOST_NODES Nodes (node_count (elements_of exts top))
+    (option_or-none (node_fault exts top) (option_or (name_fault exts top) (merge_fault exts top)) none).0
+
+-- and merges
+pub few_merges : (exts : List CellExt) (top : CellExt) → number_fault exts top ≡ None → merge_count (elements_of exts top) ≤ MOST_MERGES
+few_merges exts top none =
+    let later = (option_or-none (node_fault exts top) (option_or (name_fault exts top) (merge_fault exts top)) none).1 in
+    not_past MOST_MERGES Merges (merge_count (elements_of exts top)) (option_or-none (name_fault exts top) (merge_fault exts top) later).1
+
+-- ---- the fault of a late stage is that of the tree
+
+count_none : (exts : List CellExt) (top : CellExt) → use_fault exts top ≡ None → number_fault exts top ≡ None → count_fault exts top ≡ None
+count_none exts top used numbered =
+    let elements = elements_of exts top in
+    let tree = (option_or-none (walk_fault exts top) (tree_fault exts top) used).1 in
+    let two = option_or-none (past LONGEST_CHAIN Depth (depth_of exts top)) (past MOST_FLAT_ELEMENTS Elements (length elements)) tree in
+    let numbers = option_or (node_fault exts top) (option_or (name_fault exts top) (merge_fault exts top)) in
+    ap (λ (f : Option FlatFault). option_or f (option_or (past MOST_FLAT_ELEMENTS Elements (length elements)) numbers)) two.0
+    ∙ ap (λ (f : Option FlatFault). option_or f numbers) two.1 ∙ numbered
+
+late_is_fault : (exts : List CellExt) (top : CellExt) (fault : FlatFault) → use_fault exts top ≡ None → number_fault exts top ≡ None
+    → late_fault exts top ≡ Some fault → flat_fault exts top ≡ Some fault
+late_is_fault exts top fault used numbered late =
+    ap (λ (f : Option FlatFault). option_or f (option_or (count_fault exts top) (late_fault exts top)))
+    (option_or-none (walk_fault exts top) (tree_fault exts top) used).0
+    ∙ ap (λ (f : Option FlatFault). option_or f (late_fault exts top)) (count_none exts top used numbered) ∙ late
+
+-- the tree whose root has this number has the fault
+pub late_fault_at : (exts : List CellExt) (root : List ℕ) (number : ℕ) (top : CellExt) (fault : FlatFault) → slice_get exts number ≡ Some top
+    → ext_of exts root ≡ Some top → HasNoUseFault exts number → HasNoCountFault exts number → IsLateFaultOf exts number fault → IsFlatFaultOf exts root fault
+late_fault_at exts root number top fault at found used numbered late = record {
+  top = top;
+  found = found;
+  faulty = late_is_fault exts top fault (used top at) (numbered top at) (late top at);
+}
+
+-- what holds of an answer's error holds of it as another fact
+pub if_err_then : {T E : Type 0} {P Q : E → Type 0} (answer : Result T E) → ((e : E) → P e → Q e) → IfErr answer P → IfErr answer Q
+if_err_then (Ok x) step h = tt
+if_err_then (Err e) step h = step e h
+
+-- what is there is something
+pub something : {X : Type 0} (found : Option X) → IsSome found → (x : X) × (found ≡ Some x)
+something None there = cc
+something (Some x) there = (x, refl)

@@ -1,0 +1,2 @@
+pub mod FlatNodeLaws
+pub mod FaultLaws

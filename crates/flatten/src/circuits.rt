@@ -1,0 +1,82 @@
+//! Circuits out of classes of names.
+ghost use Rattle.std.specs.Prelude.{◌≡◌, ◌≤◌, IfOk, length};
+ghost use Rattle.finite_sets.specs.Lists.{In};
+ghost use Rattle.circuit_model.specs.Elements.{Element};
+ghost use Rattle.circuit_model.specs.Circuits.{IsCircuitOf};
+ghost use Rattle.circuit_model.specs.FlatNodes.{AreFlatNodes};
+ghost use Rattle.circuit_model.specs.Refusals.{node_count, merge_count};
+ghost use Rattle.full_names.specs.Names.{AreNames, elements_in};
+ghost use Rattle.name_classes.specs.Classes.{AreClasses};
+ghost use Rattle.node_labels.specs.Spots.{AreCellSpots, AreNamedOf};
+
+use circuit_model::{MOST_MERGES, MOST_NODES};
+use element_tree::ElementTree;
+use ext_model::{CellExt, Circuit, NodeRec};
+use flat_fets::flat_fets;
+use flat_nodes::{named_nodes, with_sums};
+use flat_sums::node_sums;
+use full_names::FullNames;
+use geo_core::List;
+use name_classes::NameClasses;
+use node_labels::{CellSpots, cell_spots, copied};
+use std::alloc::{AllocError, Global};
+
+// the nodes of a flat circuit with so many classes of material
+fn flat_nodes(
+    alloc: Global,
+    exts: &[CellExt],
+    tree: &ElementTree,
+    names: &FullNames<'_>,
+    classes: &NameClasses,
+    spots: &[CellSpots],
+    measured: usize,
+) -> Result<Vec<NodeRec>, AllocError>
+    requires names { AreNames names.now }
+    requires exts { exts.now ≡ names.now.exts.now }
+    requires tree { tree.now ≡ names.now.tree.now }
+    requires classes { AreClasses names.now classes.now }
+    requires spots { AreCellSpots names.now spots.now }
+    requires measured { (element : Element) → In element (elements_in names.now) → length element.ext.classes ≡ measured }
+    requires few_nodes { node_count (elements_in names.now) ≤ MOST_NODES }
+    requires few_merges { merge_count (elements_in names.now) ≤ MOST_MERGES }
+    ensures nodes { IfOk result (λ nodes. AreFlatNodes (elements_in names.now) measured nodes.items) }
+    ensures named { IfOk result (λ nodes. AreNamedOf names.now classes.now.labels classes.now.count nodes.items) }
+    ensures count { IfOk result (λ nodes. length nodes.items ≡ classes.now.count) }
+{
+    let labels = classes.labels.items();
+    let sums = node_sums(alloc, exts, tree, names, classes, spots, measured)?;
+    let nodes = named_nodes(alloc, exts, tree, names, labels, classes.count)?;
+    Ok(with_sums(nodes, sums))
+}
+
+/// The circuit that the elements of a tree mean, whose root has this record. Want of memory alone refuses.
+pub fn circuit_of(
+    alloc: Global,
+    exts: &[CellExt],
+    top: &CellExt,
+    tree: &ElementTree,
+    names: &FullNames<'_>,
+    classes: &NameClasses,
+) -> Result<Circuit, AllocError>
+    requires names { AreNames names.now }
+    requires exts { exts.now ≡ names.now.exts.now }
+    requires tree { tree.now ≡ names.now.tree.now }
+    requires classes { AreClasses names.now classes.now }
+    requires measured { (element : Element) → In element (elements_in names.now) → length element.ext.classes ≡ length top.now.classes }
+    requires few_nodes { node_count (elements_in names.now) ≤ MOST_NODES }
+    requires few_merges { merge_count (elements_in names.now) ≤ MOST_MERGES }
+    ensures { IfOk result (λ circuit. IsCircuitOf (elements_in names.now) top.now circuit) }
+{
+    let measured = top.classes.items();
+    let spots = cell_spots(alloc, exts, tree, names)?;
+    let spots = spots.as_slice();
+    let nodes = flat_nodes(alloc, exts, tree, names, classes, spots, measured.len())?;
+    let labels = classes.labels.items();
+    let fets = flat_fets(alloc, exts, tree, names, labels, spots, nodes.as_slice())?;
+    Ok(Circuit {
+        tech: copied(alloc, top.tech.bytes())?,
+        classes: List::of(Vec::from_slice(alloc, measured)?),
+        nodes: List::of(nodes),
+        fets: List::of(fets),
+    })
+}

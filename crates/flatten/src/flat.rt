@@ -1,0 +1,95 @@
+//! Flattening.
+ghost use Rattle.std.specs.Prelude.{◌≡◌, ◌⊎◌, ◌<◌, length, IsSome, IfOk, IfErr};
+ghost use Rattle.circuit_model.specs.Elements.{AreRecords, ext_of};
+ghost use Rattle.circuit_model.specs.Refusals.{IsFlatOf, IsFlatFaultOf};
+ghost use Rattle.element_tree.specs.Trees.{IsTreeOf};
+ghost use Rattle.full_names.specs.Names.{AreNames};
+ghost use Rattle.flatten.specs.Stages.{HasNoUseFault, IsUseFaultOf, HasNoCountFault, IsCountFaultOf, HasNoLateFault, IsLateFaultOf, IsMeantAt};
+
+use crate::circuits::circuit_of;
+use circuit_model::FlatFault;
+use element_tree::{ElementTree, element_tree};
+use ext_model::{CellExt, Circuit};
+use flat_limits::{check_classes, check_merges, check_nodes, root_number};
+use full_names::{FullNames, full_names};
+use geo_core::Name;
+use name_classes::name_classes;
+use record_graph::record_graph;
+use std::alloc::Global;
+
+// the elements of the tree at a record, where it has no fault up to their number
+fn elements_at(alloc: Global, exts: &[CellExt], root: usize) -> Result<ElementTree, FlatFault>
+    requires records { AreRecords exts.now }
+    requires root { root < length exts.now }
+    ensures sound { IfOk result (λ tree. HasNoUseFault exts.now root) }
+    ensures tree { IfOk result (λ tree. IsTreeOf exts.now root tree) }
+    ensures fault { IfErr result (λ fault. (fault ≡ FlatFault.Memory) ⊎ IsUseFaultOf exts.now root fault) }
+{
+    let graph = record_graph(alloc, exts, root)?;
+    element_tree(alloc, exts, &graph, root)
+}
+
+// the names of all nodes of a tree, where it has no fault in any number
+fn counted_names<'a>(
+    alloc: Global,
+    exts: &'a [CellExt],
+    root: usize,
+    tree: &'a ElementTree,
+) -> Result<FullNames<'a>, FlatFault>
+    requires records { AreRecords exts.now }
+    requires root { root < length exts.now }
+    requires tree { IsTreeOf exts.now root tree.now }
+    ensures few { IfOk result (λ names. HasNoCountFault exts.now root) }
+    ensures names { IfOk result (λ names. AreNames names) }
+    ensures exts { IfOk result (λ names. names.exts.now ≡ exts.now) }
+    ensures root { IfOk result (λ names. names.root ≡ root) }
+    ensures tree { IfOk result (λ names. names.tree.now ≡ tree.now) }
+    ensures fault { IfErr result (λ fault. (fault ≡ FlatFault.Memory) ⊎ IsCountFaultOf exts.now root fault) }
+{
+    check_nodes(alloc, exts, root, tree)?;
+    let names = full_names(alloc, exts, root, tree)?;
+    check_merges(alloc, exts, root, tree)?;
+    Ok(names)
+}
+
+// the circuit of a tree, where it has no fault in its classes and paths
+fn meant_circuit(
+    alloc: Global,
+    exts: &[CellExt],
+    root: usize,
+    tree: &ElementTree,
+    names: &FullNames<'_>,
+) -> Result<Circuit, FlatFault>
+    requires names { AreNames names.now }
+    requires exts { exts.now ≡ names.now.exts.now }
+    requires root { root ≡ names.now.root }
+    requires tree { tree.now ≡ names.now.tree.now }
+    requires few { HasNoCountFault exts.now root }
+    ensures sound { IfOk result (λ circuit. HasNoLateFault exts.now root) }
+    ensures meaning { IfOk result (λ circuit. IsMeantAt exts.now root circuit) }
+    ensures fault { IfErr result (λ fault. (fault ≡ FlatFault.Memory) ⊎ IsLateFaultOf exts.now root fault) }
+{
+    check_classes(alloc, exts, root, tree)?;
+    let classes = name_classes(alloc, exts, tree, names)?;
+    Ok(circuit_of(alloc, exts, &exts[root], tree, names, &classes)?)
+}
+
+/// The flat circuit of the tree of records whose root is this cell's. It takes time near-linear in the names, merges and transistors of
+/// all elements.
+///
+/// The records are lawful, no two are of one cell, and one is the root's. They are refused where they have a fault at or below the root:
+/// the first use, depth first, that leads to no record (`NoCell`) or back (`Cycle`); then the first number past its limit, of the longest
+/// chain, elements, records of nodes, bytes of names and records of merges (`TooMany`); then the first cell, in the order of elements, whose number of classes is
+/// not the root's (`Classes`); then the first path, by element and merge, that leads to no node (`NoPath`). Beside that `Memory` alone
+/// refuses.
+pub fn flatten(alloc: Global, exts: &[CellExt], root: &Name) -> Result<Circuit, FlatFault>
+    requires records { AreRecords exts.now }
+    requires root { IsSome (ext_of exts.now root.now) }
+    ensures meaning { IfOk result (λ circuit. IsFlatOf exts.now root.now circuit) }
+    ensures fault { IfErr result (λ fault. (fault ≡ FlatFault.Memory) ⊎ IsFlatFaultOf exts.now root.now fault) }
+{
+    let top = root_number(exts, root);
+    let tree = elements_at(alloc, exts, top)?;
+    let names = counted_names(alloc, exts, top, &tree)?;
+    meant_circuit(alloc, exts, top, &tree, &names)
+}
