@@ -1,0 +1,4 @@
+mod SameLists
+mod SameNodes
+mod SameFets
+mod SameCircuits

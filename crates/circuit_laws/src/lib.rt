@@ -1,0 +1,20 @@
+//! The law that the meaning of records is held to: there is one flat circuit of given records. The function here does nothing; its
+//! contract is the law.
+//!
+//! `specs/CircuitLaws.antt` has it, over `circuit_model`'s definition of what records mean.
+//!
+//! # How the proof goes
+//!
+//! Two lists of things that stand strictly in the name order of a name of theirs are one list where they have the same things
+//! (`SameLists`). The names of a flat node are such a list, and so nodes that share a full name have the same names, whichever circuit
+//! they are of; the names and the elements determine all else that a node has, and since each full name is some node's, the two
+//! circuits have the same nodes (`SameNodes`). Then their transistors are the same one by one, terminals being such a list too
+//! (`SameFets`).
+#![tactic(auto)]
+
+ghost use Rattle.circuit_laws.specs.CircuitLaws.{CircuitsAreUnique};
+
+/// Records mean one flat circuit at most at a root.
+pub fn circuits_are_unique()
+    ensures { CircuitsAreUnique }
+{}
