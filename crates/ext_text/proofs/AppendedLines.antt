@@ -1,32 +1,272 @@
--- What is appended, one part behind the other, is the line.
-use Rattle.std.proofs.Common.{◌≡◌, ◌+◌, ◌<◌, ℕ, ℤ, List, [], ◌∷◌, ◌++◌, length, get_or, drop, sym, ◌∙◌, ap, append_assoc}
-use Rattle.std.specs.Prelude.{codes}
-use Rattle.std.proofs.lemmas.List.{drop_more}
+-- What is appended, one part behind the other, is the line or the text.
+use Rattle.std.proofs.Common.{◌≡◌, ◌≢◌, ◌+◌, ◌<◌, ℕ, zero, suc, ℤ, pos, ◌+ℤ◌, List, [], ◌∷◌, ◌++◌, length, map, take, drop, get_or, refl, sym, ◌∙◌, ap, subst}
+use Rattle.std.proofs.Common.{arith, append_assoc, append-nil}
+use Rattle.std.specs.Prelude.{codes, Result, Err, IfErr}
+use Rattle.std.specs.List.{flat_map}
+use Rattle.std.proofs.Math.Seq.{take-suc}
+use Rattle.std.proofs.lemmas.List.{map_more, flat_map_more, length-append}
 use Rattle.text_scan.specs.Decimal.{decimal}
+use Rattle.text_scan.specs.Written.{line_of, text_of}
+use Rattle.ext_model.specs.declared.records.UseRec.{UseRec}
 use Rattle.ext_model.specs.declared.records.NodeRec.{NodeRec}
-use Rattle.ext_text.specs.NodeLines.{measures_text, node_line}
+use Rattle.ext_model.specs.declared.records.TermRec.{TermRec}
+use Rattle.ext_model.specs.declared.records.FetRec.{FetRec}
+use Rattle.ext_model.specs.declared.records.MergeRec.{MergeRec}
+use Rattle.ext_model.specs.declared.records.CellExt.{CellExt}
+use Rattle.ext_model.specs.declared.circuits.Circuit.{Circuit}
+use Rattle.ext_text.specs.declared.faults.ExtFault.{ExtFault}
+use Rattle.ext_text.specs.declared.faults.ExtFault.TheVariants.{Memory}
+use Rattle.ext_text.specs.NodeLines.{quoted, measure_words, node_words, node_line}
+use Rattle.ext_text.specs.Appended.{behind_blanks, whole_line}
+use Rattle.ext_text.specs.WrittenTexts.{header_words, use_words, equiv_words, node_lines, term_words, square_words, fet_words, merge_words}
+use Rattle.ext_text.specs.WrittenTexts.{lines_text, ext_text, flat_text, IsTooLong}
 
--- the least place and the type
-pub place_appended : (x y : ℤ) (kind word out a b c d : List ℕ) → a ≡ out ++ (codes " " ++ decimal x) → b ≡ a ++ (codes " " ++ decimal y) → c ≡ b ++ 32 ∷ []
-    → d ≡ c ++ word → word ≡ kind → d ≡ out ++ (codes " " ++ decimal x ++ codes " " ++ decimal y ++ codes " " ++ kind)
-place_appended x y kind word out a b c d ha hb hc hd same = rw (hd, hc, hb, ha, same) (simp append_assoc)
+-- ---- words
 
--- one pair of measures more
-pub measures_more : (measures : List (ℤ × ℤ)) (k : ℕ) (d : ℤ × ℤ) (out a b whole : List ℕ) → k < length measures
-    → out ++ measures_text (drop k measures) ≡ whole → a ≡ out ++ (codes " " ++ decimal (get_or measures k d).0)
-    → b ≡ a ++ (codes " " ++ decimal (get_or measures k d).1) → b ++ measures_text (drop (k + 1) measures) ≡ whole
-measures_more measures k d out a b whole inside before ha hb =
-    let rest = measures_text (drop (k + 1) measures) in
-    let first = codes " " ++ decimal (get_or measures k d).0 in
-    let second = codes " " ++ decimal (get_or measures k d).1 in
-    let added : b ++ rest ≡ out ++ (first ++ second ++ rest) = rw (hb, ha) (simp append_assoc) in
-    let more : measures_text (drop k measures) ≡ first ++ second ++ rest = ap measures_text (drop_more measures k d inside) ∙ simp append_assoc in
-    added ∙ ap (λ (v : List ℕ). out ++ v) (sym more) ∙ before
+-- the words of two lists, one behind the other
+pub blanks-append : (xs ys : List (List ℕ)) → behind_blanks (xs ++ ys) ≡ behind_blanks xs ++ behind_blanks ys
+blanks-append [] ys = refl
+blanks-append (x ∷ xs) ys = ap (λ (rest : List ℕ). (32 ∷ x) ++ rest) (blanks-append xs ys) ∙ sym (append_assoc (32 ∷ x) (behind_blanks xs) (behind_blanks ys))
 
--- the whole line
-pub node_appended : (node : NodeRec) (measures : List (ℤ × ℤ)) (out a b c : List ℕ)
-    → a ≡ out ++ (codes "node \"" ++ node.name ++ codes "\" 0 " ++ decimal node.cap)
-    → b ≡ a ++ (codes " " ++ decimal node.x ++ codes " " ++ decimal node.y ++ codes " " ++ node.kind)
-    → c ≡ b ++ measures_text measures → measures ≡ node.measures → c ≡ out ++ node_line node
+-- a line is its first word and the others behind blanks
+pub line-words : (word : List ℕ) (words : List (List ℕ)) → line_of (word ∷ words) ≡ word ++ behind_blanks words
+line-words word [] = sym (append-nil word)
+line-words word (next ∷ words) = ap (λ (rest : List ℕ). word ++ 32 ∷ rest) (line-words next words)
+
+-- ---- lines
+
+-- the text of one line
+pub lines-one : (words : List (List ℕ)) → lines_text (words ∷ []) ≡ whole_line words
+unfolding lines_text
+lines-one words = refl
+
+pub lines-none : lines_text [] ≡ []
+unfolding lines_text
+lines-none = refl
+
+-- what stands before any line is written
+pub none_yet : (out : List ℕ) → out ≡ out ++ lines_text []
+none_yet out = sym (ap (λ v. out ++ v) lines-none ∙ append-nil out)
+
+-- the text of the lines of two lists
+pub lines-append : (xs ys : List (List (List ℕ))) → lines_text (xs ++ ys) ≡ lines_text xs ++ lines_text ys
+unfolding lines_text
+lines-append [] ys = refl
+lines-append (x ∷ xs) ys =
+    ap (λ (rest : List ℕ). line_of x ++ 10 ∷ rest) (lines-append xs ys)
+    ∙ sym (append_assoc (line_of x) (10 ∷ lines_text xs) (lines_text ys))
+
+-- ---- one more item
+
+-- The text of a list's items is made of the texts of its parts.
+abbrev IsText : {Y : Type 0} → (List Y → List ℕ) → Type 0
+IsText {Y} text = (xs ys : List Y) → text (xs ++ ys) ≡ text xs ++ text ys
+
+more_of : {X Y : Type 0} (text : List Y → List ℕ) → IsText text → (f : X → List Y) (xs : List X) (k : ℕ) (x : X) → k < length xs → x ≡ get_or xs k x
+    → (out a b : List ℕ) → a ≡ out ++ text (flat_map f (take k xs)) → b ≡ a ++ text (f x) → b ≡ out ++ text (flat_map f (take (k + 1) xs))
+more_of text joins f xs k x h is out a b ha hb =
+    let next : k + 1 ≡ suc k = omega arith in
+    let items : flat_map f (take k xs) ++ f x ≡ flat_map f (take (k + 1) xs) =
+    flat_map_more f [] (take k xs) x
+    ∙ ap (λ y. flat_map f (take k xs ++ y ∷ [])) is ∙ ap (flat_map f) (sym (take-suc xs k x h)) ∙ ap (λ n. flat_map f (take n xs)) (sym next) in
+    hb ∙ ap (λ v. v ++ text (f x)) ha ∙ append_assoc out (text (flat_map f (take k xs))) (text (f x))
+    ∙ ap (λ v. out ++ v) (sym (joins (flat_map f (take k xs)) (f x)) ∙ ap text items)
+
+one_of : {X Y : Type 0} (text : List Y → List ℕ) → IsText text → (f : X → Y) (xs : List X) (k : ℕ) (x : X) → k < length xs → x ≡ get_or xs k x
+    → (out a b : List ℕ) → a ≡ out ++ text (map f (take k xs)) → b ≡ a ++ text (f x ∷ []) → b ≡ out ++ text (map f (take (k + 1) xs))
+one_of text joins f xs k x h is out a b ha hb =
+    let items : map f (take k xs) ++ f x ∷ [] ≡ map f (take (k + 1) xs) = ap (λ y. map f (take k xs) ++ f y ∷ []) is ∙ sym (map_more f xs k x h) in
+    hb ∙ ap (λ v. v ++ text (f x ∷ [])) ha ∙ append_assoc out (text (map f (take k xs))) (text (f x ∷ []))
+    ∙ ap (λ v. out ++ v) (sym (joins (map f (take k xs)) (f x ∷ [])) ∙ ap text items)
+
+-- the lines of one more item
+pub lines_more : {X : Type 0} (f : X → List (List (List ℕ))) (xs : List X) (k : ℕ) (x : X) → k < length xs → x ≡ get_or xs k x
+    → (out a b : List ℕ) → a ≡ out ++ lines_text (flat_map f (take k xs)) → b ≡ a ++ lines_text (f x)
+    → b ≡ out ++ lines_text (flat_map f (take (k + 1) xs))
+lines_more f xs k x h is out a b ha hb = more_of lines_text lines-append f xs k x h is out a b ha hb
+
+-- the line of one more item
+pub line_more : {X : Type 0} (f : X → List (List ℕ)) (xs : List X) (k : ℕ) (x : X) → k < length xs → x ≡ get_or xs k x
+    → (out a b : List ℕ) → a ≡ out ++ lines_text (map f (take k xs)) → b ≡ a ++ whole_line (f x) → b ≡ out ++ lines_text (map f (take (k + 1) xs))
+line_more f xs k x h is out a b ha hb =
+    one_of lines_text lines-append f xs k x h is out a b ha (hb ∙ ap (λ v. a ++ v) (sym (lines-one (f x))))
+
+-- ---- lines and texts by their parts
+
+-- what is appended to what has been appended
+pub then : (a b c x y : List ℕ) → b ≡ a ++ x → c ≡ b ++ y → c ≡ a ++ (x ++ y)
+then a b c x y hb hc = hc ∙ ap (λ v. v ++ y) hb ∙ append_assoc a x y
+
+-- a word, or a name between quotes, that is taken from somewhere
+pub word_of : (a b word name : List ℕ) → b ≡ a ++ 32 ∷ word → word ≡ name → b ≡ a ++ 32 ∷ name
+word_of a b word name hb is = hb ∙ ap (λ w. a ++ 32 ∷ w) is
+
+pub quoted_of : (a b word name : List ℕ) → b ≡ a ++ 32 ∷ quoted word → word ≡ name → b ≡ a ++ 32 ∷ quoted name
+quoted_of a b word name hb is = hb ∙ ap (λ w. a ++ 32 ∷ quoted w) is
+
+-- a line with its end
+pub line_written : (words : List (List ℕ)) (out a b : List ℕ) → a ≡ out ++ line_of words → b ≡ a ++ 10 ∷ [] → b ≡ out ++ whole_line words
+line_written words out a b ha hb = then out a b (line_of words) (10 ∷ []) ha hb
+
+pub node_with_end : (node : NodeRec) (out a b : List ℕ) → a ≡ out ++ node_line node → b ≡ a ++ 10 ∷ [] → b ≡ out ++ whole_line (node_words node)
 unfolding node_line
-node_appended node measures out a b c ha hb hc same = rw (hc, hb, ha, same) (simp append_assoc)
+node_with_end node out a b ha hb = line_written (node_words node) out a b ha hb
+
+-- the lines of a node
+pub node_written : (node : NodeRec) (aliases : List (List ℕ)) (a b d : List ℕ) → b ≡ a ++ whole_line (node_words node)
+    → d ≡ b ++ lines_text (map (equiv_words node.name) aliases) → aliases ≡ node.aliases → d ≡ a ++ lines_text (node_lines node)
+node_written node aliases a b d hb hd same =
+    let others = lines_text (map (equiv_words node.name) node.aliases) in
+    let whole : lines_text (node_lines node) ≡ whole_line (node_words node) ++ others =
+    lines-append (node_words node ∷ []) (map (equiv_words node.name) node.aliases) ∙ ap (λ v. v ++ others) (lines-one (node_words node)) in
+    then a b d (whole_line (node_words node)) others hb (hd ∙ ap (λ (names : List (List ℕ)). b ++ lines_text (map (equiv_words node.name) names)) same)
+    ∙ ap (λ v. a ++ v) (sym whole)
+
+pub node_appended : (node : NodeRec) (name kind : List ℕ) (measures : List (ℤ × ℤ)) (out a b c d e f g h : List ℕ)
+    → a ≡ out ++ codes "node" → b ≡ a ++ 32 ∷ quoted name → name ≡ node.name → c ≡ b ++ codes " 0" → d ≡ c ++ 32 ∷ decimal node.cap
+    → e ≡ d ++ 32 ∷ decimal node.x → f ≡ e ++ 32 ∷ decimal node.y → g ≡ f ++ 32 ∷ kind → kind ≡ node.kind
+    → h ≡ g ++ behind_blanks (measure_words measures) → measures ≡ node.measures → h ≡ out ++ node_line node
+unfolding node_line
+node_appended node name kind measures out a b c d e f g h ha hb n hc hd he hf hg k hh m =
+    let words = quoted node.name ∷ codes "0" ∷ decimal node.cap ∷ decimal node.x ∷ decimal node.y ∷ node.kind ∷ measure_words node.measures in
+    let last = hh ∙ ap (λ (list : List (ℤ × ℤ)). g ++ behind_blanks (measure_words list)) m in
+    then out a h _ _ ha
+    (then a b h _ _ (quoted_of a b name node.name hb n)
+    (then b c h _ _ hc (then c d h _ _ hd (then d e h _ _ he (then e f h _ _ hf (then f g h _ _ (word_of f g kind node.kind hg k) last))))))
+    ∙ ap (λ v. out ++ v) (sym (line-words (codes "node") words))
+
+pub alias_appended : (name alias first second : List ℕ) (out a b c : List ℕ) → a ≡ out ++ codes "equiv" → b ≡ a ++ 32 ∷ quoted first → first ≡ name
+    → c ≡ b ++ 32 ∷ quoted second → second ≡ alias → c ≡ out ++ line_of (equiv_words name alias)
+alias_appended name alias first second out a b c ha hb n hc m =
+    let last = quoted_of b c second alias hc m ∙ ap (λ v. b ++ v) (sym (append-nil (32 ∷ quoted alias))) in
+    then out a c _ _ ha (then a b c _ _ (quoted_of a b first name hb n) last) ∙ ap (λ v. out ++ v) (sym (line-words (codes "equiv")
+    (quoted name ∷ quoted alias ∷ [])))
+
+pub use_appended : (used : UseRec) (cell id : List ℕ) (out a b c d : List ℕ) → a ≡ out ++ codes "use" → b ≡ a ++ 32 ∷ cell → cell ≡ used.cell
+    → c ≡ b ++ 32 ∷ id → id ≡ used.id → d ≡ c ++ behind_blanks (map decimal used.six) → d ≡ out ++ line_of (use_words used)
+use_appended used cell id out a b c d ha hb n hc m hd =
+    then out a d _ _ ha (then a b d _ _ (word_of a b cell used.cell hb n) (then b c d _ _ (word_of b c id used.id hc m) hd))
+    ∙ ap (λ v. out ++ v) (sym (line-words (codes "use") (used.cell ∷ used.id ∷ map decimal used.six)))
+
+pub fet_appended : (fet : FetRec) (kind substrate : List ℕ) (terminals : List TermRec) (out a b c d e f g h : List ℕ) → a ≡ out ++ codes "fet"
+    → b ≡ a ++ 32 ∷ kind
+    → kind ≡ fet.kind → c ≡ b ++ behind_blanks (square_words fet) → d ≡ c ++ 32 ∷ decimal fet.area → e ≡ d ++ 32 ∷ decimal fet.perimeter
+    → f ≡ e ++ 32 ∷ quoted substrate → substrate ≡ fet.substrate → g ≡ f ++ behind_blanks (term_words fet.gate)
+    → h ≡ g ++ behind_blanks (flat_map term_words terminals) → terminals ≡ fet.terminals → h ≡ out ++ line_of (fet_words fet)
+fet_appended fet kind substrate terminals out a b c d e f g h ha hb k hc hd he hf s hg hh t =
+    let sides = term_words fet.gate ++ flat_map term_words fet.terminals in
+    let rest = decimal fet.area ∷ decimal fet.perimeter ∷ quoted fet.substrate ∷ sides in
+    let last = hh ∙ ap (λ (list : List TermRec). g ++ behind_blanks (flat_map term_words list)) t in
+    let whole = line-words (codes "fet") (fet.kind ∷ square_words fet ++ rest) ∙ ap (λ v. codes "fet" ++ ((32 ∷ fet.kind) ++ v))
+    (blanks-append (square_words fet) rest ∙ ap (λ v. behind_blanks (square_words fet) ++ ((32 ∷ decimal fet.area) ++ ((32 ∷ decimal fet.perimeter) ++
+    ((32 ∷ quoted fet.substrate) ++ v))))
+    (blanks-append (term_words fet.gate) (flat_map term_words fet.terminals))) in
+    then out a h _ _ ha
+    (then a b h _ _ (word_of a b kind fet.kind hb k)
+    (then b c h _ _ hc (then c d h _ _ hd (then d e h _ _ he (then e f h _ _ (quoted_of e f substrate fet.substrate hf s) (then f g h _ _ hg last))))))
+    ∙ ap (λ v. out ++ v) (sym whole)
+
+pub merge_appended : (merge : MergeRec) (first second : List ℕ) (measures : List (ℤ × ℤ)) (out a b c d e : List ℕ) → a ≡ out ++ codes "merge"
+    → b ≡ a ++ 32 ∷ quoted first
+    → first ≡ merge.first → c ≡ b ++ 32 ∷ quoted second → second ≡ merge.second → d ≡ c ++ 32 ∷ decimal merge.cap
+    → e ≡ d ++ behind_blanks (measure_words measures) → measures ≡ merge.measures → e ≡ out ++ line_of (merge_words merge)
+merge_appended merge first second measures out a b c d e ha hb n hc m hd he s =
+    let last = he ∙ ap (λ (list : List (ℤ × ℤ)). d ++ behind_blanks (measure_words list)) s in
+    then out a e _ _ ha
+    (then a b e _ _ (quoted_of a b first merge.first hb n) (then b c e _ _ (quoted_of b c second merge.second hc m) (then c d e _ _ hd last)))
+    ∙ ap (λ v. out ++ v) (sym (line-words (codes "merge") (quoted merge.first ∷ quoted merge.second ∷ decimal merge.cap ∷ measure_words merge.measures)))
+
+header-parts : (tech classes : List ℕ)
+    → codes "tech" ++ ((32 ∷ tech) ++ (codes "\ntimestamp 0\nversion 1\nstyle" ++ ((32 ∷ tech) ++ (codes "\nscale 1 1 1\nresistclasses"
+    ++ (behind_blanks (map (λ value. decimal (pos value)) classes) ++ 10 ∷ [])))))
+    ≡ lines_text (header_words tech classes)
+unfolding lines_text
+header-parts tech classes =
+    ap (λ v. codes "tech" ++ ((32 ∷ tech) ++ (codes "\ntimestamp 0\nversion 1\nstyle" ++ ((32 ∷ tech) ++ (codes "\nscale 1 1 1\n" ++ (v ++ 10 ∷ []))))))
+    (sym (line-words (codes "resistclasses") (map (λ value. decimal (pos value)) classes)))
+
+pub header_written : (tech one other classes : List ℕ) (out a b c d e f g : List ℕ) → a ≡ out ++ codes "tech" → b ≡ a ++ 32 ∷ one → one ≡ tech
+    → c ≡ b ++ codes "\ntimestamp 0\nversion 1\nstyle" → d ≡ c ++ 32 ∷ other → other ≡ tech → e ≡ d ++ codes "\nscale 1 1 1\nresistclasses"
+    → f ≡ e ++ behind_blanks (map (λ value. decimal (pos value)) classes) → g ≡ f ++ 10 ∷ [] → g ≡ out ++ lines_text (header_words tech classes)
+header_written tech one other classes out a b c d e f g ha hb n hc hd m he hf hg =
+    then out a g _ _ ha
+    (then a b g _ _ (word_of a b one tech hb n) (then b c g _ _ hc (then c d g _ _ (word_of c d other tech hd m) (then d e g _ _ he (then e f g _ _ hf hg)))))
+    ∙ ap (λ v. out ++ v) (header-parts tech classes)
+
+-- the whole files
+pub ext_written : (ext : CellExt) (out a b c d e : List ℕ) → out ≡ [] → a ≡ out ++ lines_text (header_words ext.tech ext.classes)
+    → b ≡ a ++ lines_text (map use_words ext.uses) → c ≡ b ++ lines_text (flat_map node_lines ext.nodes) → d ≡ c ++ lines_text (map fet_words ext.fets)
+    → e ≡ d ++ lines_text (map merge_words ext.merges) → e ≡ ext_text ext
+ext_written ext out a b c d e ho ha hb hc hd he =
+    let header = header_words ext.tech ext.classes in
+    let uses = map use_words ext.uses in
+    let nodes = flat_map node_lines ext.nodes in
+    let fets = map fet_words ext.fets in
+    let merges = map merge_words ext.merges in
+    let parts = lines-append header (uses ++ (nodes ++ (fets ++ merges))) ∙ ap (λ v. lines_text header ++ v) (lines-append uses (nodes ++ (fets ++ merges))
+    ∙ ap (λ v. lines_text uses ++ v) (lines-append nodes (fets ++ merges) ∙ ap (λ v. lines_text nodes ++ v) (lines-append fets merges))) in
+    then out a e _ _ ha (then a b e _ _ hb (then b c e _ _ hc (then c d e _ _ hd he))) ∙ ap (λ v. out ++ v) (sym parts) ∙ ap (λ v. v ++ ext_text ext) ho
+
+flat-parts : (circuit : Circuit) → flat_text circuit
+    ≡ lines_text (header_words circuit.tech circuit.classes) ++ (lines_text (flat_map node_lines circuit.nodes) ++ lines_text (map fet_words circuit.fets))
+flat-parts circuit =
+    let nodes = flat_map node_lines circuit.nodes in
+    let fets = map fet_words circuit.fets in
+    lines-append (header_words circuit.tech circuit.classes) (nodes ++ fets)
+    ∙ ap (λ v. lines_text (header_words circuit.tech circuit.classes) ++ v) (lines-append nodes fets)
+
+pub flat_written : (circuit : Circuit) (out a b c : List ℕ) → a ≡ out ++ lines_text (header_words circuit.tech circuit.classes)
+    → b ≡ a ++ lines_text (flat_map node_lines circuit.nodes) → c ≡ b ++ lines_text (map fet_words circuit.fets) → c ≡ out ++ flat_text circuit
+flat_written circuit out a b c ha hb hc = then out a c _ _ ha (then a b c _ _ hb hc) ∙ ap (λ v. out ++ v) (sym (flat-parts circuit))
+
+-- ---- texts that are too long
+
+-- the answer that is passed on
+pub passed_on : {T : Type 0} (answer : Result T ExtFault) (fault : ExtFault) (whole : List ℕ) → (y : ExtFault) × (answer ≡ Err y) × (y ≡ fault)
+    → (fault ≢ Memory → IsTooLong fault whole) → IfErr answer (λ told. told ≢ Memory → IsTooLong told whole)
+passed_on answer fault whole given told =
+    subst (λ r. IfErr r (λ f. f ≢ Memory → IsTooLong f whole)) (sym given.1) (subst (λ f. f ≢ Memory → IsTooLong f whole) (sym given.2) told)
+
+map-split : {X Y : Type 0} (f : X → Y) (xs : List X) (k : ℕ) → map f (take k xs) ++ map f (drop k xs) ≡ map f xs
+map-split f [] zero = refl
+map-split f [] (suc k) = refl
+map-split f (x ∷ xs) zero = refl
+map-split f (x ∷ xs) (suc k) = ap (λ ys. f x ∷ ys) (map-split f xs k)
+
+flat_map-split : {X Y : Type 0} (f : X → List Y) (xs : List X) (k : ℕ) → flat_map f (take k xs) ++ flat_map f (drop k xs) ≡ flat_map f xs
+flat_map-split f [] zero = refl
+flat_map-split f [] (suc k) = refl
+flat_map-split f (x ∷ xs) zero = refl
+flat_map-split f (x ∷ xs) (suc k) =
+    append_assoc (f x) (flat_map f (take k xs)) (flat_map f (drop k xs)) ∙ ap (λ ys. f x ++ ys) (flat_map-split f xs k)
+
+-- a text that is too long already is too long with more behind it
+too_long-more : (fault : ExtFault) (text more whole : List ℕ) → text ++ more ≡ whole → IsTooLong fault text → IsTooLong fault whole
+too_long-more fault text more whole is long =
+    let count : length (text ++ more) ≡ length text + length more = length-append text more in
+    subst (IsTooLong fault) is (long.0, omega (arith, long.1, count))
+
+-- what is too long with some of the lines is too long with all
+part_too_long : (fault : ExtFault) (out text : List ℕ) (some more all : List (List (List ℕ))) → some ++ more ≡ all → text ≡ out ++ lines_text some
+    → IsTooLong fault text → IsTooLong fault (out ++ lines_text all)
+part_too_long fault out text some more all is stands long =
+    too_long-more fault text (lines_text more) (out ++ lines_text all)
+    (ap (λ v. v ++ lines_text more) stands ∙ append_assoc out (lines_text some) (lines_text more) ∙ ap (λ v. out ++ v) (sym (lines-append some more)
+    ∙ ap lines_text is)) long
+
+pub some_too_long : {X : Type 0} (f : X → List (List ℕ)) (xs : List X) (k : ℕ) (fault : ExtFault) (out text : List ℕ) → text ≡ out ++ lines_text (map f
+    (take k xs))
+    → IsTooLong fault text → IsTooLong fault (out ++ lines_text (map f xs))
+some_too_long f xs k fault out text = part_too_long fault out text (map f (take k xs)) (map f (drop k xs)) (map f xs) (map-split f xs k)
+
+pub some_nodes_too_long : (nodes : List NodeRec) (k : ℕ) (fault : ExtFault) (out text : List ℕ) → text ≡ out ++ lines_text (flat_map node_lines (take k nodes))
+    → IsTooLong fault text → IsTooLong fault (out ++ lines_text (flat_map node_lines nodes))
+some_nodes_too_long nodes k fault out text =
+    part_too_long fault out text (flat_map node_lines (take k nodes)) (flat_map node_lines (drop k nodes)) (flat_map node_lines nodes)
+    (flat_map-split node_lines nodes k)
+
+pub nodes_too_long : (circuit : Circuit) (fault : ExtFault) (out a text : List ℕ) → a ≡ out ++ lines_text (header_words circuit.tech circuit.classes)
+    → text ≡ a ++ lines_text (flat_map node_lines circuit.nodes) → IsTooLong fault text → IsTooLong fault (out ++ flat_text circuit)
+nodes_too_long circuit fault out a text ha ht long =
+    too_long-more fault text (lines_text (map fet_words circuit.fets)) (out ++ flat_text circuit)
+    (flat_written circuit out a text (text ++ lines_text (map fet_words circuit.fets)) ha ht refl) long

@@ -1,1 +1,3 @@
 pub mod NodeLines
+pub mod WrittenTexts
+pub mod Appended

@@ -1,0 +1,7 @@
+//! Tests of circuit files that are written, in tables that were worked out by hand from the form of the texts.
+#![tactic(auto)]
+
+#[cfg(test)]
+mod records;
+#[cfg(test)]
+mod texts;

@@ -1,0 +1,142 @@
+// Records and circuits of const tables.
+use ext_model::{CellExt, Circuit, FetRec, MergeRec, NodeRec, TermRec, UseRec};
+use geo_core::{List, Name};
+use std::alloc::Global;
+use std::test::Fail;
+
+pub type Measures = &'static [(i128, i128)];
+
+// A node: its preferred name and its others, its capacitance, its least place, the type there, and its measures.
+pub struct NodeRow {
+    pub name: &'static [u8],
+    pub aliases: &'static [&'static [u8]],
+    pub cap: i128,
+    pub at: (i64, i64),
+    pub kind: &'static [u8],
+    pub measures: Measures,
+}
+
+// A transistor of type efet or dfet over the substrate GND!: its point, area, perimeter, gate and terminals.
+pub struct FetRow {
+    pub kind: &'static [u8],
+    pub at: (i64, i64),
+    pub size: (i128, i128),
+    pub gate: (&'static [u8], i128),
+    pub terminals: &'static [(&'static [u8], i128)],
+}
+
+// A merge: its paths, its capacitance and its measures.
+pub struct MergeRow {
+    pub paths: (&'static [u8], &'static [u8]),
+    pub cap: i128,
+    pub measures: Measures,
+}
+
+// A record in the technology nm, or a flat circuit, which has no uses and no merges.
+pub struct RecordRow {
+    pub classes: &'static [u64],
+    pub uses: &'static [(&'static [u8], &'static [u8], [i64; 6])],
+    pub nodes: &'static [NodeRow],
+    pub fets: &'static [FetRow],
+    pub merges: &'static [MergeRow],
+}
+
+fn node(alloc: Global, row: &NodeRow) -> Result<NodeRec, Fail> {
+    let mut aliases = Vec::new(alloc);
+    for alias in row.aliases {
+        aliases.push(Name::of(alloc, alias)?)?;
+    }
+    Ok(NodeRec {
+        name: Name::of(alloc, row.name)?,
+        aliases: List::of(aliases),
+        cap: row.cap,
+        x: row.at.0,
+        y: row.at.1,
+        kind: Name::of(alloc, row.kind)?,
+        measures: List::of(Vec::from_slice(alloc, row.measures)?),
+    })
+}
+
+fn side(alloc: Global, row: (&[u8], i128)) -> Result<TermRec, Fail> {
+    Ok(TermRec {
+        node: Name::of(alloc, row.0)?,
+        length: row.1,
+    })
+}
+
+fn fet(alloc: Global, row: &FetRow) -> Result<FetRec, Fail> {
+    let mut terminals = Vec::new(alloc);
+    for terminal in row.terminals {
+        terminals.push(side(alloc, *terminal)?)?;
+    }
+    Ok(FetRec {
+        kind: Name::of(alloc, row.kind)?,
+        x: row.at.0,
+        y: row.at.1,
+        area: row.size.0,
+        perimeter: row.size.1,
+        substrate: Name::of(alloc, b"GND!")?,
+        gate: side(alloc, row.gate)?,
+        terminals: List::of(terminals),
+    })
+}
+
+fn merge(alloc: Global, row: &MergeRow) -> Result<MergeRec, Fail> {
+    Ok(MergeRec {
+        first: Name::of(alloc, row.paths.0)?,
+        second: Name::of(alloc, row.paths.1)?,
+        cap: row.cap,
+        measures: List::of(Vec::from_slice(alloc, row.measures)?),
+    })
+}
+
+fn nodes(alloc: Global, rows: &[NodeRow]) -> Result<List<NodeRec>, Fail> {
+    let mut nodes = Vec::new(alloc);
+    for row in rows {
+        nodes.push(node(alloc, row)?)?;
+    }
+    Ok(List::of(nodes))
+}
+
+fn fets(alloc: Global, rows: &[FetRow]) -> Result<List<FetRec>, Fail> {
+    let mut fets = Vec::new(alloc);
+    for row in rows {
+        fets.push(fet(alloc, row)?)?;
+    }
+    Ok(List::of(fets))
+}
+
+// The record of a cell.
+pub fn record(alloc: Global, row: &RecordRow) -> Result<CellExt, Fail> {
+    let mut uses = Vec::new(alloc);
+    for (cell, id, six) in row.uses {
+        uses.push(UseRec {
+            cell: Name::of(alloc, cell)?,
+            id: Name::of(alloc, id)?,
+            six: *six,
+        })?;
+    }
+    let mut merges = Vec::new(alloc);
+    for row in row.merges {
+        merges.push(merge(alloc, row)?)?;
+    }
+    Ok(CellExt {
+        cell: Name::of(alloc, b"c")?,
+        tech: Name::of(alloc, b"nm")?,
+        classes: List::of(Vec::from_slice(alloc, row.classes)?),
+        uses: List::of(uses),
+        nodes: nodes(alloc, row.nodes)?,
+        fets: fets(alloc, row.fets)?,
+        merges: List::of(merges),
+    })
+}
+
+// The flat circuit of a row.
+pub fn circuit(alloc: Global, row: &RecordRow) -> Result<Circuit, Fail> {
+    Ok(Circuit {
+        tech: Name::of(alloc, b"nm")?,
+        classes: List::of(Vec::from_slice(alloc, row.classes)?),
+        nodes: nodes(alloc, row.nodes)?,
+        fets: fets(alloc, row.fets)?,
+    })
+}

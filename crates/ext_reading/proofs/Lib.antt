@@ -1,0 +1,17 @@
+pub mod OrientationLaws
+pub mod LineSteps
+pub mod NameLaws
+pub mod PathLaws
+pub mod Outcomes
+pub mod LawfulLines
+pub mod LawfulDrafts
+pub mod SoundDrafts
+pub mod LawfulTexts
+pub mod WrittenWords
+pub mod WrittenLines
+pub mod WrittenBack
+pub mod WrittenPaths
+pub mod WrittenSteps
+pub mod WrittenParts
+pub mod WrittenRecords
+pub mod WrittenHeaders

@@ -1,0 +1,63 @@
+-- What holds of the value of a result, where it has one.
+use Rattle.std.proofs.Common.{◌≡◌, suc, arith, Bool, true, false, cond, List, [], ◌∷◌, ◌++◌, Result, Ok, Err, inl, inr, refl, subst}
+use Rattle.std.specs.Prelude.{All}
+use Rattle.std.specs.List.{AllByRecursion}
+use Rattle.finite_sets.specs.Lists.{In}
+use Rattle.finite_sets.proofs.Members.{In-push_cases}
+use Rattle.text_form.specs.SaidLines.{and_then}
+
+-- where there is a value, it has the fact
+abbrev pub OkHas : {X F : Type 0} → (X → Type 0) → Result X F → Type 0
+OkHas P (Ok x) = P x
+OkHas P (Err fault) = Unit {0}
+
+-- one step and then another
+pub next_has : {X Y F : Type 0} (P : X → Type 0) (Q : Y → Type 0) (found : Result X F) (next : X → Result Y F)
+    → OkHas P found → ((x : X) → P x → OkHas Q (next x)) → OkHas Q (and_then found next)
+next_has P Q (Ok x) next is then = then x is
+next_has P Q (Err fault) next is then = tt
+
+-- one step of which the next knows what it gave
+pub given_has : {X Y F : Type 0} (Q : Y → Type 0) (found : Result X F) (next : X → Result Y F)
+    → ((x : X) → found ≡ Ok x → OkHas Q (next x)) → OkHas Q (and_then found next)
+given_has Q (Ok x) next then = then x refl
+given_has Q (Err fault) next then = tt
+
+-- a test that must pass
+pub passed_has : {X F : Type 0} (P : X → Type 0) (test : Bool) (found : Result X F) (fault : F)
+    → (test ≡ true → OkHas P found) → OkHas P (cond test found (Err fault))
+passed_has P true found fault then = then refl
+passed_has P false found fault then = tt
+
+-- a test that must fail
+pub failed_has : {X F : Type 0} (P : X → Type 0) (test : Bool) (found : Result X F) (fault : F)
+    → (test ≡ false → OkHas P found) → OkHas P (cond test (Err fault) found)
+failed_has P true found fault then = tt
+failed_has P false found fault then = then refl
+
+-- a value that is there has the fact
+pub value_has : {X F : Type 0} (P : X → Type 0) (found : Result X F) (x : X) → OkHas P found → found ≡ Ok x → P x
+value_has P found x is e = let P' = OkHas P in subst P' e is
+
+-- each item has the fact
+abbrev pub Each : {X : Type 0} → (X → Type 0) → List X → Type 0
+Each {X} P xs = (x : X) → In x xs → P x
+
+pub each_none : {X : Type 0} (P : X → Type 0) → Each P []
+each_none P = λ x absent. absurd absent
+
+pub each_push : {X : Type 0} (P : X → Type 0) (xs : List X) (y : X) → Each P xs → P y → Each P (xs ++ y ∷ [])
+each_push P xs y all is = λ x h. elim (In-push_cases x xs y h) [ inl there ↦ all x there | inr e ↦ subst P e is ]
+
+-- from a fact by places
+pub each_of_All : {X : Type 0} (P : X → Type 0) (xs : List X) → All P xs → Each P xs
+each_of_All P [] all = each_none P
+each_of_All {X} P (y ∷ ys) all = λ x h. elim h [
+  | inl e ↦ subst P e (all 0 y (omega arith))
+  | inr there ↦ each_of_All P ys (λ k d m. all (suc k) d (omega arith)) x there
+]
+
+-- and by recursion
+pub by_recursion : {X : Type 0} (P : X → Type 0) (xs : List X) → Each P xs → AllByRecursion P xs
+by_recursion P [] all = tt
+by_recursion P (x ∷ xs) all = (all x (inl refl), by_recursion P xs (λ y h. all y (inr h)))

@@ -1,0 +1,166 @@
+-- A record is read back from its written text.
+use Rattle.std.proofs.Common.{◌≡◌, ◌≤◌, ◌+◌, ℕ, Bool, true, false, List, [], ◌∷◌, ◌++◌, length, map, Ok, refl, ap, ◌∙◌, subst, arith}
+use Rattle.std.proofs.Common.{inl, inr, length-append}
+use Rattle.std.specs.Prelude.{codes}
+use Rattle.std.specs.List.{AllByRecursion, flat_map}
+use Rattle.std.proofs.lemmas.List.{map-append, length-map}
+use Rattle.finite_sets.specs.Lists.{In}
+use Rattle.finite_sets.proofs.Members.{In-append_left, In-append_right, In-map, In-map_source}
+use Rattle.text_scan.specs.Lines.{lines_of}
+use Rattle.text_scan.specs.Written.{IsWord, IsLine, line_of}
+use Rattle.text_scan.proofs.WrittenLemmas.{IsWord-test, words_of-line_of, lines_of-text_of, IsLine-line_of}
+use Rattle.text_form.specs.Folds.{first_fault_or, text_state}
+use Rattle.text_form.specs.SaidLines.{and_then}
+use Rattle.text_form.proofs.FoldLaws.{first_fault_or-append, text_state-ended}
+use Rattle.ext_model.specs.declared.records.UseRec.{UseRec}
+use Rattle.ext_model.specs.declared.records.NodeRec.{NodeRec}
+use Rattle.ext_model.specs.declared.records.FetRec.{FetRec}
+use Rattle.ext_model.specs.declared.records.CellExt.{CellExt}
+use Rattle.ext_model.specs.NodeNames.{is_word, is_node_name}
+use Rattle.ext_model.specs.RecordNames.{node_names, element_names}
+use Rattle.ext_text.specs.WrittenTexts.{header_words, use_words, equiv_words, node_lines, fet_words, merge_words, ext_lines, lines_text, ext_text}
+use Rattle.ext_reading.specs.declared.limits.TheConstants.{GREATEST_CLASS_VALUE}
+use Rattle.ext_reading.specs.declared.lines.ExtLine.TheVariants.{Use}
+use Rattle.ext_reading.specs.declared.outlines.Outline.{Outline}
+use Rattle.ext_reading.specs.LineForms.{words_say, says}
+use Rattle.ext_reading.specs.Drafts.{has_its_nodes, step, finish, nothing_yet}
+use Rattle.ext_reading.specs.ExtTexts.{outline_of, draft_in, record_of, ext_in}
+use Rattle.ext_reading.specs.ReadBack.{IsReadable}
+use Rattle.ext_reading.proofs.Outcomes.{Each, each_of_All, by_recursion}
+use Rattle.ext_reading.proofs.WrittenWords.{IsWord-word, words-values}
+use Rattle.ext_reading.proofs.WrittenLines.{words_node, words_equiv, IsWrittenFet, words_fet, words_merge}
+use Rattle.ext_reading.proofs.WrittenSteps.{made}
+use Rattle.ext_reading.proofs.WrittenParts.{IsWrittenUse, use_read, IsWrittenNamed, IsWrittenJoin, uses_back, nodes_back, fets_back, merges_back, added_element}
+use Rattle.ext_reading.proofs.WrittenHeaders.{header_back}
+use Rattle.ext_reading.proofs.WrittenRecords.{written_uses, written_nodes, written_fets, written_merges}
+
+-- lines of words
+abbrev AreWords : List (List ℕ) → Type 0
+AreWords words = AllByRecursion IsWord words
+
+all_append : {X : Type 0} (P : X → Type 0) (xs ys : List X) → AllByRecursion P xs → AllByRecursion P ys → AllByRecursion P (xs ++ ys)
+all_append P [] ys one two = two
+all_append P (x ∷ xs) ys one two = (one.0, all_append P xs ys one.1 two)
+
+all_map : {X Y : Type 0} (P : Y → Type 0) (Q : X → Type 0) (f : X → Y) (xs : List X) → AllByRecursion Q xs → ((x : X) → Q x → P (f x)) → AllByRecursion P (map f xs)
+all_map P Q f [] all each = tt
+all_map P Q f (x ∷ xs) all each = (each x all.0, all_map P Q f xs all.1 each)
+
+words_named : (classes : List ℕ) (nodes : List NodeRec) → AllByRecursion (IsWrittenNamed classes) nodes → AllByRecursion AreWords (flat_map node_lines nodes)
+words_named classes [] all = tt
+words_named classes (n ∷ nodes) all =
+    let is = all.0 in
+    let others = all_map AreWords (λ alias. is_node_name alias ≡ true) (equiv_words n.name) n.aliases is.aliases_are (λ a named. words_equiv n.name a is.node_is.name named) in
+    (words_node n is.node_is, all_append AreWords (map (equiv_words n.name) n.aliases) (flat_map node_lines nodes) others (words_named classes nodes all.1))
+
+header_lines : (tech classes : List ℕ) → is_word tech ≡ true → AllByRecursion AreWords (header_words tech classes)
+header_lines tech classes named =
+    let one = IsWord-test (codes "1") refl in
+    let name = IsWord-word tech named in (
+      (IsWord-test (codes "tech") refl, (name, tt)),
+      (
+        (IsWord-test (codes "timestamp") refl, (IsWord-test (codes "0") refl, tt)),
+        (
+          (IsWord-test (codes "version") refl, (one, tt)),
+          (
+            (IsWord-test (codes "style") refl, (name, tt)),
+            ((IsWord-test (codes "scale") refl, (one, (one, (one, tt)))), ((IsWord-test (codes "resistclasses") refl, words-values classes), tt)),
+          ),
+        ),
+      ),
+    )
+
+use_lines : (ext : CellExt) → AllByRecursion IsWrittenUse ext.uses → AllByRecursion AreWords (map use_words ext.uses)
+use_lines ext all =
+    let outline : Outline = record { elements = []; last = 0 } in
+    all_map AreWords IsWrittenUse use_words ext.uses all (λ u is. (use_read outline 0 true [] [] [] u is).words)
+
+all_lines : (ext : CellExt) → IsReadable ext → AllByRecursion AreWords (ext_lines ext)
+all_lines ext is =
+    let fets = all_map AreWords (λ (fet : FetRec). IsWrittenFet fet × (has_its_nodes (node_names ext) fet ≡ true)) fet_words ext.fets (written_fets ext is) (λ f one. words_fet f one.0) in
+    let joins = written_merges ext (element_names ext) is (λ id h. h) in
+    let merges = all_map AreWords (IsWrittenJoin ext.classes (element_names ext) (node_names ext)) merge_words ext.merges joins (λ m one. words_merge m one.merge_is) in
+    all_append AreWords (header_words ext.tech ext.classes) _ (header_lines ext.tech ext.classes is.lawful.tech)
+    (all_append AreWords (map use_words ext.uses) _ (use_lines ext (written_uses ext is))
+    (all_append AreWords (flat_map node_lines ext.nodes) _ (words_named ext.classes ext.nodes (written_nodes ext is))
+    (all_append AreWords (map fet_words ext.fets) (map merge_words ext.merges) fets merges)))
+
+lines_written : (ext : CellExt) → IsReadable ext → lines_of (ext_text ext) ≡ map line_of (ext_lines ext)
+unfolding lines_text
+lines_written ext is = lines_of-text_of (map line_of (ext_lines ext)) (all_map IsLine AreWords line_of (ext_lines ext) (all_lines ext is) (λ words all. IsLine-line_of words all))
+
+-- the elements of the outline
+elements_met : (ext : CellExt) → IsReadable ext → Each (λ id. In id (outline_of (map line_of (ext_lines ext))).elements) (element_names ext)
+elements_met ext is = λ id h.
+    let source = In-map_source (λ (element : UseRec). element.id) id ext.uses h in
+    let u = source.0 in
+    let outline : Outline = record { elements = []; last = 0 } in
+    let uses : Each IsWrittenUse ext.uses = each_by_recursion IsWrittenUse ext.uses (written_uses ext is) in
+    let read = use_read outline 0 true [] [] [] u (uses u source.1.0) in
+    let there : In (use_words u) (ext_lines ext) =
+    In-append_right (use_words u) (header_words ext.tech ext.classes) _ (In-append_left (use_words u) (map use_words ext.uses) _ (In-map use_words u ext.uses source.1.0)) in
+    let says_it : says (line_of (use_words u)) ≡ Ok (Use read.says_it.0) = ap words_say (words_of-line_of (use_words u) read.words) ∙ read.says_it.1.0 in
+    subst (λ (n : List ℕ). In n (outline_of (map line_of (ext_lines ext))).elements) (read.says_it.1.1 ∙ source.1.1)
+    (added_element [] (map line_of (ext_lines ext)) (line_of (use_words u)) read.says_it.0 (In-map line_of (use_words u) (ext_lines ext) there) says_it)
+  where
+    each_by_recursion : {X : Type 0} (P : X → Type 0) (xs : List X) → AllByRecursion P xs → Each P xs
+    each_by_recursion P [] all = λ x h. absurd h
+    each_by_recursion {X} P (y ∷ ys) all = λ x h. elim h [ inl e ↦ subst P e all.0 | inr there ↦ each_by_recursion P ys all.1 x there ]
+
+-- the lines are read one kind after another
+lines_back : (ext : CellExt) → IsReadable ext
+    → (b : Bool) × ((owners : List ℕ) × (first_fault_or (step (outline_of (map line_of (ext_lines ext)))) 1 nothing_yet (map line_of (ext_lines ext))
+    ≡ Ok (made b ext.tech ext.classes ext.uses ext.nodes (node_names ext) owners ext.fets ext.merges)))
+lines_back ext is =
+    let outline = outline_of (map line_of (ext_lines ext)) in
+    let header = header_words ext.tech ext.classes in
+    let uses = map use_words ext.uses in
+    let nodes = flat_map node_lines ext.nodes in
+    let fets = map fet_words ext.fets in
+    let merges = map merge_words ext.merges in
+    let count = length-map (ext_lines ext) line_of in
+    let long : 6 ≤ outline.last = omega (arith, count, length-append header (uses ++ (nodes ++ (fets ++ merges)))) in
+    let values = by_recursion (λ v. v ≤ GREATEST_CLASS_VALUE) ext.classes (each_of_All (λ v. v ≤ GREATEST_CLASS_VALUE) ext.classes is.values) in
+    let k1 = 1 + length (map line_of header) in
+    let k2 = k1 + length (map line_of uses) in
+    let k3 = k2 + length (map line_of nodes) in
+    let k4 = k3 + length (map line_of fets) in
+    let zero = header_back outline ext.tech ext.classes is.lawful.tech values is.lawful.classes long in
+    let one = uses_back outline k1 false ext.tech ext.classes [] ext.uses (written_uses ext is) (omega (arith, is.uses)) is.lawful.element_names_differ in
+    let two = nodes_back outline k2 one.0 ext.tech ext.classes ext.uses [] ext.nodes [] [] (written_nodes ext is) refl is.lawful.node_names_differ in
+    let three = fets_back outline k3 two.begun ext.tech ext.classes ext.uses ext.nodes (node_names ext) two.owners [] ext.fets (written_fets ext is) in
+    let joins = written_merges ext outline.elements is (elements_met ext is) in
+    let four = merges_back outline k4 three.0 ext.tech ext.classes ext.uses ext.nodes (node_names ext) two.owners ext.fets [] ext.merges joins in
+    let s = step outline in (
+      four.0,
+      (
+        two.owners,
+        ap (first_fault_or s 1 nothing_yet) (map-append line_of header (uses ++ (nodes ++ (fets ++ merges))))
+            ∙ (first_fault_or-append s 1 nothing_yet (map line_of header) (map line_of (uses ++ (nodes ++ (fets ++ merges)))) _ zero
+            ∙ (ap (first_fault_or s k1 (made false ext.tech ext.classes [] [] [] [] [] [])) (map-append line_of uses (nodes ++ (fets ++ merges)))
+            ∙ (first_fault_or-append s k1 _ (map line_of uses) (map line_of (nodes ++ (fets ++ merges))) _ one.1
+            ∙ (ap (first_fault_or s k2 (made one.0 ext.tech ext.classes ext.uses [] [] [] [] [])) (map-append line_of nodes (fets ++ merges))
+            ∙ (first_fault_or-append s k2 _ (map line_of nodes) (map line_of (fets ++ merges)) _ two.read
+            ∙ (ap (first_fault_or s k3 (made two.begun ext.tech ext.classes ext.uses ext.nodes (node_names ext) two.owners [] [])) (map-append line_of fets merges)
+            ∙ (first_fault_or-append s k3 _ (map line_of fets) (map line_of merges) _ three.1
+            ∙ four.1))))))),
+      ),
+    )
+
+draft_back : (ext : CellExt) → IsReadable ext
+    → (b : Bool) × ((owners : List ℕ) × (draft_in (ext_text ext) ≡ Ok (made b ext.tech ext.classes ext.uses ext.nodes (node_names ext) owners ext.fets ext.merges)))
+unfolding draft_in
+draft_back ext is =
+    let lines = map line_of (ext_lines ext) in
+    let read = lines_back ext is in
+    let draft = made read.0 ext.tech ext.classes ext.uses ext.nodes (node_names ext) read.1.0 ext.fets ext.merges in (
+      read.0,
+      (
+        read.1.0,
+        ap (λ l. text_state (step (outline_of l)) finish nothing_yet l) (lines_written ext is)
+            ∙ text_state-ended (step (outline_of lines)) finish nothing_yet lines draft read.1.1,
+      ),
+    )
+
+pub read_back : (ext : CellExt) → IsReadable ext → ext_in ext.cell (ext_text ext) ≡ Ok ext
+read_back ext is = let read = draft_back ext is in ap (λ found. and_then found (λ draft. Ok (record_of ext.cell draft))) read.1.1

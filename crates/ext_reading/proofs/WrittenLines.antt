@@ -1,0 +1,210 @@
+-- Lines as they are written say what they were written from.
+use Rattle.std.proofs.Common.{◌≡◌, ◌≤◌, ◌&&◌, ℕ, ℤ, Bool, true, false, cond, List, [], ◌∷◌, ◌++◌, map, Ok, Err, FitsSigned, refl, ap, ◌∙◌, arith}
+use Rattle.std.specs.Prelude.{Some, pos, ◌+ℤ◌, ◌<ℤ◌, codes}
+use Rattle.std.specs.Int.{w32}
+use Rattle.std.specs.List.{AllByRecursion, flat_map, list_all}
+use Rattle.std.proofs.lemmas.Bool.Decides.{Decides-int_eq}
+use Rattle.std.proofs.lemmas.Int.{ints}
+use Rattle.text_scan.specs.Decimal.{decimal}
+use Rattle.text_scan.specs.PlainNames.{is_plain_name}
+use Rattle.text_scan.specs.Written.{IsWord}
+use Rattle.text_scan.proofs.WrittenLemmas.{IsWord-decimal, IsWord-test}
+use Rattle.ext_model.specs.declared.limits.TheConstants.{FET_EDGE}
+use Rattle.ext_model.specs.declared.records.NodeRec.{NodeRec}
+use Rattle.ext_model.specs.declared.records.FetRec.{FetRec}
+use Rattle.ext_model.specs.declared.records.MergeRec.{MergeRec}
+use Rattle.ext_model.specs.NodeNames.{is_word_byte, is_word, is_node_name}
+use Rattle.ext_model.specs.Lawful.{IsMeasure}
+use Rattle.ext_text.specs.NodeLines.{quoted, measure_words, node_words}
+use Rattle.ext_text.specs.WrittenTexts.{equiv_words, term_words, fet_words, merge_words}
+use Rattle.ext_reading.specs.declared.faults.ExtReadFault.TheVariants.{BadLine}
+use Rattle.ext_reading.specs.declared.limits.TheConstants.{GREATEST_CLASS_VALUE}
+use Rattle.ext_reading.specs.declared.lines.Corners.{Corners}
+use Rattle.ext_reading.specs.declared.lines.UseLine.{UseLine}
+use Rattle.ext_reading.specs.declared.lines.NodeLine.{NodeLine}
+use Rattle.ext_reading.specs.declared.lines.FetLine.{FetLine}
+use Rattle.ext_reading.specs.declared.lines.MergeLine.{MergeLine}
+use Rattle.ext_reading.specs.declared.lines.HeaderLine.TheVariants.{Tech, Classes}
+use Rattle.ext_reading.specs.declared.lines.ExtLine.TheVariants.{Header, Use, Node, Equiv, Fet, Merge}
+use Rattle.ext_reading.specs.Parts.{is_path, is_next, if_formed, word_in, cell_in, element_in, substrate_in, node_name_in, path_in, numerals_in}
+use Rattle.ext_reading.specs.LineForms.{six_numerals, side_in, sides_from}
+use Rattle.ext_reading.specs.LineForms.{if_corners, corners_in, words_say}
+use Rattle.ext_reading.proofs.WrittenWords.{IsWord-word, IsWord-plain, IsWord-quoted, node_name_word, word_bytes, unquoted-quoted, formed, node_name_in-quoted}
+use Rattle.ext_reading.proofs.WrittenWords.{numeral_in-measure, numeral_in-short, IsMeasured, numerals_of, numerals_from-measures, words-measures}
+use Rattle.ext_reading.proofs.WrittenWords.{values_said, numerals_from-values, IsWrittenTerm, side_said, side_in-term, sides_from-terms, words-term}
+use Rattle.ext_reading.proofs.WrittenWords.{words-terms}
+
+-- a use with these six numbers
+abbrev pub use_said : List ℕ → List ℕ → ℤ → ℤ → ℤ → ℤ → ℤ → ℤ → UseLine
+use_said cell id a b c d e f = record { cell = cell; id = id; six = (Some a, Some b, Some c, Some d, Some e, Some f) }
+
+pub says_use : (cell id : List ℕ) (a b c d e f : ℤ) → is_plain_name cell ≡ true → is_node_name id ≡ true → FitsSigned w32 a → FitsSigned w32 b → FitsSigned w32 c
+    → FitsSigned w32 d → FitsSigned w32 e → FitsSigned w32 f
+    → words_say (codes "use" ∷ cell ∷ id ∷ decimal a ∷ decimal b ∷ decimal c ∷ decimal d ∷ decimal e ∷ decimal f ∷ []) ≡ Ok (Use (use_said cell id a b c d e f))
+says_use cell id a b c d e f plain named fa fb fc fd fe ff =
+    let first : cell_in cell ≡ Ok cell = formed (is_plain_name cell) cell plain in
+    let second : element_in id ≡ Ok id = formed (is_node_name id) id named in
+    let six : six_numerals (decimal a ∷ decimal b ∷ decimal c ∷ decimal d ∷ decimal e ∷ decimal f ∷ []) ≡ Ok (Some a, Some b, Some c, Some d, Some e, Some f) =
+    rw (numeral_in-short a fa, numeral_in-short b fb, numeral_in-short c fc, numeral_in-short d fd, numeral_in-short e fe, numeral_in-short f ff) refl in
+    rw (first, second, six) refl
+
+pub words_use : (cell id : List ℕ) (numbers : List ℤ) → is_plain_name cell ≡ true → is_node_name id ≡ true
+    → AllByRecursion IsWord (codes "use" ∷ cell ∷ id ∷ map decimal numbers)
+words_use cell id numbers plain named = (IsWord-test (codes "use") refl, (IsWord-plain cell plain, (IsWord-word id (node_name_word id named), decimals numbers)))
+  where
+    decimals : (numbers : List ℤ) → AllByRecursion IsWord (map decimal numbers)
+    decimals [] = tt
+    decimals (z ∷ numbers) = (IsWord-decimal z, decimals numbers)
+
+-- a node
+pub record IsWrittenNode (node : NodeRec) : Type 0 where
+  pub name : is_node_name node.name ≡ true
+  pub kind : is_word node.kind ≡ true
+  pub cap : IsMeasure node.cap
+  pub x : FitsSigned w32 node.x
+  pub y : FitsSigned w32 node.y
+  pub measures : AllByRecursion IsMeasured node.measures
+
+abbrev pub node_said : NodeRec → NodeLine
+node_said node = record { name = node.name; cap = Some node.cap; x = Some node.x; y = Some node.y; kind = node.kind; measures = numerals_of node.measures }
+
+pub says_node : (node : NodeRec) → IsWrittenNode node → words_say (node_words node) ≡ Ok (Node (node_said node))
+says_node node is =
+    let one : node_name_in (quoted node.name) ≡ Ok node.name = node_name_in-quoted node.name is.name in
+    let kind : word_in node.kind ≡ Ok node.kind = formed (is_word node.kind) node.kind is.kind in
+    let measures : numerals_in (measure_words node.measures) ≡ Ok (numerals_of node.measures) = numerals_from-measures [] node.measures is.measures in
+    rw (measures, one, numeral_in-measure node.cap is.cap, numeral_in-short node.x is.x, numeral_in-short node.y is.y, kind) refl
+
+pub words_node : (node : NodeRec) → IsWrittenNode node → AllByRecursion IsWord (node_words node)
+words_node node is = (
+  IsWord-test (codes "node") refl,
+  (
+    IsWord-quoted node.name (word_bytes node.name (node_name_word node.name is.name)),
+    (
+      IsWord-test (codes "0") refl,
+      (IsWord-decimal node.cap, (IsWord-decimal node.x, (IsWord-decimal node.y, (IsWord-word node.kind is.kind, words-measures node.measures)))),
+    ),
+  ),
+)
+
+-- another name of a node
+pub says_equiv : (name alias : List ℕ) → is_node_name name ≡ true → is_node_name alias ≡ true → words_say (equiv_words name alias) ≡ Ok (Equiv name alias)
+says_equiv name alias named other =
+    let one : node_name_in (quoted name) ≡ Ok name = node_name_in-quoted name named in
+    let two : node_name_in (quoted alias) ≡ Ok alias = node_name_in-quoted alias other in
+    rw (one, two) refl
+
+pub words_equiv : (name alias : List ℕ) → is_node_name name ≡ true → is_node_name alias ≡ true → AllByRecursion IsWord (equiv_words name alias)
+words_equiv name alias named other = (
+  IsWord-test (codes "equiv") refl,
+  (IsWord-quoted name (word_bytes name (node_name_word name named)), (IsWord-quoted alias (word_bytes alias (node_name_word alias other)), tt)),
+)
+
+-- a transistor
+pub record IsWrittenFet (fet : FetRec) : Type 0 where
+  pub kind : is_word fet.kind ≡ true
+  pub substrate : is_word fet.substrate ≡ true
+  pub x : FitsSigned w32 fet.x
+  pub y : FitsSigned w32 fet.y
+  pub x_below_edge : fet.x <ℤ FET_EDGE
+  pub y_below_edge : fet.y <ℤ FET_EDGE
+  pub area : IsMeasure fet.area
+  pub perimeter : IsMeasure fet.perimeter
+  pub gate : IsWrittenTerm fet.gate
+  pub terminals : AllByRecursion IsWrittenTerm fet.terminals
+
+pub next_fits : (z : ℤ) → FitsSigned w32 z → z <ℤ FET_EDGE → FitsSigned w32 (z +ℤ pos 1)
+next_fits z fits below = grind (arith, ints)
+
+abbrev pub corners_said : FetRec → Corners
+corners_said fet = record { x = Some fet.x; y = Some fet.y; far_x = Some (fet.x +ℤ pos 1); far_y = Some (fet.y +ℤ pos 1) }
+
+abbrev pub fet_said : FetRec → FetLine
+fet_said fet = record {
+  kind = fet.kind;
+  corners = corners_said fet;
+  area = Some fet.area;
+  perimeter = Some fet.perimeter;
+  substrate = fet.substrate;
+  gate = side_said fet.gate;
+  terminals = map side_said fet.terminals;
+}
+
+is_next-next : (z : ℤ) → is_next (Some z) (Some (z +ℤ pos 1)) ≡ true
+is_next-next z = (Decides-int_eq (z +ℤ pos 1) (z +ℤ pos 1)).1 refl
+
+corners_are : (fet : FetRec) → if_corners (corners_said fet) ≡ Ok (corners_said fet)
+corners_are fet = both (is_next (Some fet.x) (Some (fet.x +ℤ pos 1))) (is_next (Some fet.y) (Some (fet.y +ℤ pos 1))) (is_next-next fet.x) (is_next-next fet.y)
+  where
+    both : (one two : Bool) → one ≡ true → two ≡ true → cond (one && two) (Ok (corners_said fet)) (Err BadLine) ≡ Ok (corners_said fet)
+    both true true a b = refl
+    both true false a b = absurd (let no : ⊥ = cc in no)
+    both false two a b = absurd (let no : ⊥ = cc in no)
+
+pub says_fet : (fet : FetRec) → IsWrittenFet fet → words_say (fet_words fet) ≡ Ok (Fet (fet_said fet))
+says_fet fet is =
+    let kind : word_in fet.kind ≡ Ok fet.kind = formed (is_word fet.kind) fet.kind is.kind in
+    let corners : corners_in (decimal fet.x) (decimal fet.y) (decimal (fet.x +ℤ pos 1)) (decimal (fet.y +ℤ pos 1)) ≡ Ok (corners_said fet) =
+    rw (
+      numeral_in-short fet.x is.x,
+      numeral_in-short fet.y is.y,
+      numeral_in-short (fet.x +ℤ pos 1) (next_fits fet.x is.x is.x_below_edge),
+      numeral_in-short (fet.y +ℤ pos 1) (next_fits fet.y is.y is.y_below_edge),
+    ) (corners_are fet) in
+    let substrate : substrate_in (quoted fet.substrate) ≡ Ok fet.substrate =
+    ap word_in (unquoted-quoted fet.substrate) ∙ formed (is_word fet.substrate) fet.substrate is.substrate in
+    let gate : side_in (quoted fet.gate.node) (decimal fet.gate.length) ≡ Ok (side_said fet.gate) = side_in-term fet.gate is.gate in
+    let terminals : sides_from [] (flat_map term_words fet.terminals) ≡ Ok (map side_said fet.terminals) = sides_from-terms [] fet.terminals is.terminals in
+    rw (kind, corners, numeral_in-measure fet.area is.area, numeral_in-measure fet.perimeter is.perimeter, substrate, gate, terminals) refl
+
+pub words_fet : (fet : FetRec) → IsWrittenFet fet → AllByRecursion IsWord (fet_words fet)
+words_fet fet is =
+    let behind : AllByRecursion IsWord (decimal fet.area ∷ decimal fet.perimeter ∷ quoted fet.substrate ∷ term_words fet.gate ++ flat_map term_words fet.terminals) = (
+      IsWord-decimal fet.area,
+      (
+        IsWord-decimal fet.perimeter,
+        (
+          IsWord-quoted fet.substrate (word_bytes fet.substrate is.substrate),
+          words-term fet.gate is.gate (flat_map term_words fet.terminals) (words-terms fet.terminals is.terminals),
+        ),
+      ),
+    ) in
+    (IsWord-test (codes "fet") refl, (IsWord-word fet.kind is.kind, (IsWord-decimal fet.x, (IsWord-decimal fet.y, (IsWord-decimal (fet.x +ℤ pos 1), (IsWord-decimal (fet.y +ℤ pos 1), behind))))))
+
+-- a merge
+pub record IsWrittenMerge (merge : MergeRec) : Type 0 where
+  pub first : is_path merge.first ≡ true
+  pub second : is_path merge.second ≡ true
+  pub first_bytes : list_all is_word_byte merge.first ≡ true
+  pub second_bytes : list_all is_word_byte merge.second ≡ true
+  pub cap : IsMeasure merge.cap
+  pub measures : AllByRecursion IsMeasured merge.measures
+
+abbrev pub merge_said : MergeRec → MergeLine
+merge_said merge = record { first = merge.first; second = merge.second; cap = Some merge.cap; measures = numerals_of merge.measures }
+
+path_in-quoted : (path : List ℕ) → is_path path ≡ true → path_in (quoted path) ≡ Ok path
+path_in-quoted path is = ap (λ p. if_formed (is_path p) p) (unquoted-quoted path) ∙ formed (is_path path) path is
+
+pub says_merge : (merge : MergeRec) → IsWrittenMerge merge → words_say (merge_words merge) ≡ Ok (Merge (merge_said merge))
+says_merge merge is =
+    let one : path_in (quoted merge.first) ≡ Ok merge.first = path_in-quoted merge.first is.first in
+    let two : path_in (quoted merge.second) ≡ Ok merge.second = path_in-quoted merge.second is.second in
+    let measures : numerals_in (measure_words merge.measures) ≡ Ok (numerals_of merge.measures) = numerals_from-measures [] merge.measures is.measures in
+    rw (one, two, numeral_in-measure merge.cap is.cap, measures) refl
+
+pub words_merge : (merge : MergeRec) → IsWrittenMerge merge → AllByRecursion IsWord (merge_words merge)
+words_merge merge is = (
+  IsWord-test (codes "merge") refl,
+  (IsWord-quoted merge.first is.first_bytes, (IsWord-quoted merge.second is.second_bytes, (IsWord-decimal merge.cap, words-measures merge.measures))),
+)
+
+-- lines of the header with words of their own
+pub says_tech : (tech : List ℕ) → is_word tech ≡ true → words_say (codes "tech" ∷ tech ∷ []) ≡ Ok (Header (Tech tech))
+says_tech tech is = let one : word_in tech ≡ Ok tech = formed (is_word tech) tech is in rw one refl
+
+pub says_classes : (values : List ℕ) → AllByRecursion (λ v. v ≤ GREATEST_CLASS_VALUE) values
+    → words_say (codes "resistclasses" ∷ map (λ value. decimal (pos value)) values) ≡ Ok (Header (Classes (values_said values)))
+says_classes values all =
+    let numbers : numerals_in (map (λ value. decimal (pos value)) values) ≡ Ok (values_said values) = numerals_from-values [] values all in
+    rw numbers refl

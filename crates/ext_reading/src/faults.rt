@@ -1,0 +1,62 @@
+//! Why a circuit file is not read.
+
+use geo_core::GeoFault;
+use std::alloc::AllocError;
+use text_form::At;
+use thiserror::Error;
+
+/// Why a circuit file is not read. Of the faults of one line the first of these counts.
+#[derive(Clone, Copy, Debug, PartialEq, Eq, Error)]
+pub enum ExtReadFault {
+    /// A line of no form, a line of the header behind its end, or a number of measures other than two for each class.
+    #[error("bad line")]
+    BadLine,
+    /// The header ends, and the technology, the version or the classes are missing.
+    #[error("no header")]
+    NoHeader,
+    /// The version is not 1.
+    #[error("another version")]
+    Version,
+    /// A name of a node, or a line of the header, stands a second time.
+    #[error("name twice")]
+    NameTwice,
+    /// A number that is out of its range, or more classes or uses than a file may have.
+    #[error("out of range")]
+    Range,
+    /// The numbers of a use are not those of one of the eight orientations.
+    #[error("not an orientation")]
+    Transform,
+    /// The name of an element stands a second time.
+    #[error("use twice")]
+    UseTwice,
+    /// A name that no node has so far, or a path that begins with the name of no element of the file.
+    #[error("no such name")]
+    NoName,
+    #[error("out of memory")]
+    Memory,
+}
+
+/// Where in a circuit file its first fault stands, and which fault it is.
+pub type ExtAt = At<ExtReadFault>;
+
+impl From<AllocError> for ExtReadFault {
+    ghost use Rattle.std.specs.Prelude.{◌≡◌};
+    ghost use Rattle.ext_reading.specs.declared.faults.ExtReadFault.TheVariants.{Memory};
+
+    ghost from_gives = { λ _ fault. fault ≡ Memory };
+
+    fn from(_error: AllocError) -> ExtReadFault {
+        ExtReadFault::Memory
+    }
+}
+
+impl From<GeoFault> for ExtReadFault {
+    ghost use Rattle.std.specs.Prelude.{◌≡◌};
+    ghost use Rattle.ext_reading.specs.declared.faults.ExtReadFault.TheVariants.{Memory};
+
+    ghost from_gives = { λ _ fault. fault ≡ Memory };
+
+    fn from(_fault: GeoFault) -> ExtReadFault {
+        ExtReadFault::Memory
+    }
+}

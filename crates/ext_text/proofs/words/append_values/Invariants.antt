@@ -1,0 +1,8 @@
+use Rattle.std.proofs.Common.{◌≡◌, ◌++◌, ℤ, pos, map, take}
+use Rattle.text_scan.specs.Decimal.{decimal}
+use Rattle.ext_text.specs.Appended.{behind_blanks}
+use Rattle.ext_text.proofs.words.append_values.Given as goal
+
+-- the values passed have been appended
+abbrev pub invariant-loop-value : goal.invariant-loop-value
+invariant-loop-value l = l.out.items ≡ l.initial.out.items ++ behind_blanks (map (λ value. decimal (pos value)) (take l.value-index l.values))
