@@ -1,0 +1,3 @@
+pub mod Additions
+mod WrittenNumbers
+mod WrittenRecords

@@ -1,0 +1,3 @@
+pub mod Switches
+pub mod SimRecords
+pub mod SimNames

@@ -1,0 +1,13 @@
+//! The sim records of a circuit: its switches, capacitances and aliases.
+#![tactic(auto)]
+
+mod adding;
+mod caps;
+mod laws;
+mod limits;
+mod records;
+mod switches;
+
+pub use laws::sim_records_are_read_back;
+pub use limits::MOST_SWITCHES;
+pub use records::sim_of;
