@@ -1,7 +1,7 @@
 -- What is read is lawful, line by line.
 use Rattle.std.proofs.Common.{◌≡◌, ◌≤◌, ◌<◌, ◌+◌, ◌*◌, ℕ, ℤ, pos, Bool, true, false, cond, Option, List, [], ◌∷◌, ◌++◌}
 use Rattle.std.proofs.Common.{length, Result, Ok, Err, refl, sym, ap, ◌∙◌, subst, arith, inl, inr, length-append}
-use Rattle.std.specs.Prelude.{Some, None, ◌+ℤ◌, ◌<ℤ◌, int_lt, nat_lt, nat_le, sum_by}
+use Rattle.std.specs.Prelude.{Some, None, ◌+ℤ◌, ◌<ℤ◌, nat_lt, nat_le, sum_by}
 use Rattle.std.specs.Int.{w32}
 use Rattle.std.specs.Int.RustNames.{FitsSigned, unsigned_abs}
 use Rattle.std.proofs.lemmas.Bool.{and_parts, ltb-true}
@@ -25,6 +25,7 @@ use Rattle.ext_reading.specs.Ranges.{six_in, point_in, term_in, terms_from}
 use Rattle.ext_reading.proofs.OrientationLaws.{six_of-is_orientation}
 use Rattle.ext_reading.proofs.Outcomes.{OkHas, next_has, given_has, passed_has, Each, each_none, each_push}
 
+-- numbers in their ranges
 short_fits : (z : ℤ) → is_short z ≡ true → FitsSigned w32 z
 short_fits z is = grind (arith, ints)
 
@@ -63,7 +64,8 @@ measures_from-has : (before : List (ℤ × ℤ)) (numerals : List (Option ℤ)) 
 measures_from-has before [] all = record { pairs = all; no_more = omega arith; no_fewer = omega arith }
 measures_from-has before (a ∷ []) all = record { pairs = all; no_more = omega arith; no_fewer = omega arith }
 measures_from-has before (a ∷ p ∷ numerals) all =
-    next_has IsPair (ArePairs before (a ∷ p ∷ numerals)) (pair_in a p) (λ measure. measures_from (before ++ measure ∷ []) numerals) (pair_in-has a p) (λ measure is.
+    next_has IsPair (ArePairs before (a ∷ p ∷ numerals)) (pair_in a p) (λ measure. measures_from (before ++ measure ∷ []) numerals) (pair_in-has a p)
+    (λ measure is.
     more measure (measures_from (before ++ measure ∷ []) numerals)
     (measures_from-has (before ++ measure ∷ []) numerals (each_push IsPair before measure all is)))
   where
@@ -87,7 +89,8 @@ measures_in-has classes numerals twice = counted (measures_from [] numerals) (me
     counted (Ok measures) is = record { count = omega (arith, is.no_more, is.no_fewer, twice); pairs = is.pairs }
     counted (Err fault) is = tt
 
-class_values_few : (values : List ℕ) (numerals : List (Option ℤ)) → OkHas (λ all. length all ≡ length values + length numerals) (class_values_from values numerals)
+class_values_few : (values : List ℕ) (numerals : List (Option ℤ)) → OkHas (λ all. length all
+    ≡ length values + length numerals) (class_values_from values numerals)
 class_values_few values [] = omega arith
 class_values_few values (n ∷ numerals) =
     given_has (λ all. length all ≡ length values + length (n ∷ numerals)) (class_value_in n) _ (λ value e.
@@ -178,7 +181,8 @@ pub record AreTerms (most : ℕ) (terms : List TermRec) : Type 0 where
   pub measured : Each IsMeasuredTerm terms
   pub count : length terms ≡ most
 
-pub terms_from-has : (terms : List TermRec) (sides : List SideLine) → Each IsMeasuredTerm terms → OkHas (AreTerms (length terms + length sides)) (terms_from terms sides)
+pub terms_from-has : (terms : List TermRec) (sides : List SideLine) → Each IsMeasuredTerm terms
+    → OkHas (AreTerms (length terms + length sides)) (terms_from terms sides)
 terms_from-has terms [] all = record { measured = all; count = omega arith }
 terms_from-has terms (side ∷ sides) all =
     next_has IsMeasuredTerm (AreTerms (length terms + length (side ∷ sides))) (term_in side) _ (term_in-has side) (λ term is.
@@ -190,7 +194,8 @@ terms_from-has terms (side ∷ sides) all =
     same (Ok all) count is e = record { measured = is.measured; count = is.count ∙ e }
     same (Err fault) count is e = tt
 
-lengths_up_to : (terms : List TermRec) → Each IsMeasuredTerm terms → sum_by (λ side. unsigned_abs side.length) terms ≤ length terms * 1267650600228229401496703205375
+lengths_up_to : (terms : List TermRec) → Each IsMeasuredTerm terms → sum_by (λ side. unsigned_abs side.length) terms ≤ length terms *
+    1267650600228229401496703205375
 lengths_up_to [] all = omega arith
 lengths_up_to (t ∷ terms) all =
     let first : unsigned_abs t.length < MEASURE_EDGE = all t (inl refl) in
@@ -199,5 +204,6 @@ lengths_up_to (t ∷ terms) all =
     omega (arith, first, rest, sum)
 
 -- the lengths of so few terminals add up to less than the edge
-pub lengths_below : (terms : List TermRec) → Each IsMeasuredTerm terms → length terms ≤ LONGEST_READ_TEXT → sum_by (λ side. unsigned_abs side.length) terms < LENGTHS_EDGE
+pub lengths_below : (terms : List TermRec) → Each IsMeasuredTerm terms → length terms ≤ LONGEST_READ_TEXT
+    → sum_by (λ side. unsigned_abs side.length) terms < LENGTHS_EDGE
 lengths_below terms all few = let most = lengths_up_to terms all in omega (arith, most, few)

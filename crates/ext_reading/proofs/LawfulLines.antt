@@ -121,11 +121,13 @@ sides_few sides (a ∷ b ∷ c ∷ words) =
     (λ side is. widened (sides_from (sides ++ side ∷ []) words) (length (sides ++ side ∷ []) + length words) (length sides + length (a ∷ b ∷ c ∷ words))
     (sides_few (sides ++ side ∷ []) words) (omega (arith, length-append sides (side ∷ []))))
   where
-    widened : (found : Result (List SideLine) ExtReadFault) (few many : ℕ) → OkHas (λ all. length all ≤ few) found → few ≤ many → OkHas (λ all. length all ≤ many) found
+    widened : (found : Result (List SideLine) ExtReadFault) (few many : ℕ) → OkHas (λ all. length all ≤ few) found → few ≤ many
+        → OkHas (λ all. length all ≤ many) found
     widened (Ok all) few many is no_more = omega arith
     widened (Err fault) few many is no_more = tt
 
-fet_behind_formed : (most : ℕ) (kind : List ℕ) (corners : Corners) (words : List (List ℕ)) → is_word kind ≡ true → are_corners corners ≡ true → length words ≤ most
+fet_behind_formed : (most : ℕ) (kind : List ℕ) (corners : Corners) (words : List (List ℕ)) → is_word kind ≡ true → are_corners corners ≡ true
+    → length words ≤ most
     → OkHas (IsFormed most) (fet_at kind corners words)
 fet_behind_formed most kind corners [] word next few = tt
 fet_behind_formed most kind corners (a ∷ []) word next few = tt

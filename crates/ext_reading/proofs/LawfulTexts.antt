@@ -1,17 +1,19 @@
 -- What a text without a fault says is lawful.
 use Rattle.std.proofs.Common.{◌≡◌, ◌⊎◌, ◌≤◌, ◌<◌, ◌+◌, ◌-◌, ◌==◌, ◌&&◌, ℕ, zero, suc, Bool, true, false, not, cond, Option, List, [], ◌∷◌, ◌++◌}
 use Rattle.std.proofs.Common.{length, take, Result, Ok, Err, refl, sym, ap, ◌∙◌, subst, arith, inl, inr}
-use Rattle.std.specs.Prelude.{Some, None, fold, nat_lt, slice_index}
+use Rattle.std.specs.Prelude.{codes, Some, None, fold, nat_lt, slice_index}
 use Rattle.std.specs.List.{list_all, list_any, position, position_or_len, slice_split, before_first, after_first, join_with_byte}
 use Rattle.std.specs.Str.{bytes_eq}
 use Rattle.std.specs.Str.Lines.{strip_carriage_return}
 use Rattle.std.proofs.lemmas.Bool.{ltb-true}
 use Rattle.std.proofs.lemmas.List.{length-take, length-drop}
 use Rattle.std.proofs.lemmas.List.Splits.{slice_split_first, length-slice_split, join_with_byte-slice_split}
+use Rattle.std.proofs.lemmas.Slice.Eq.{bytes_eq-Decides}
 use Rattle.finite_sets.specs.Lists.{In, Distinct}
 use Rattle.finite_sets.proofs.Members.{In-append_left, In-push, In-push_cases}
 use Rattle.finite_sets.proofs.Searches.{list_all-In, All-from_In}
 use Rattle.text_scan.specs.Lines.{lines_of, is_line_feed}
+use Rattle.text_scan.specs.Words.{words_of}
 use Rattle.text_scan.proofs.LineLemmas.{lines_of-nil, lines_of-first}
 use Rattle.text_form.specs.Folds.{first_fault_or}
 use Rattle.text_form.specs.SaidLines.{and_then}
@@ -34,16 +36,18 @@ use Rattle.ext_reading.specs.declared.lines.ExtLine.{ExtLine}
 use Rattle.ext_reading.specs.declared.lines.ExtLine.TheVariants.{Nothing, Header, Use, Node, Equiv, Fet, Merge}
 use Rattle.ext_reading.specs.declared.outlines.Outline.{Outline}
 use Rattle.ext_reading.specs.Parts.{is_slash, is_path}
-use Rattle.ext_reading.specs.LineForms.{says}
+use Rattle.ext_reading.specs.LineForms.{use_line, words_say, says}
 use Rattle.ext_reading.specs.Ranges.{class_values_in, six_in}
 use Rattle.ext_reading.specs.Drafts.{Draft, nothing_yet, is_among, is_incomplete, was_seen, with_seen, is_other_version, with_header, takes_header, takes_use}
 use Rattle.ext_reading.specs.Drafts.{node_from, takes_alias, fet_from, has_its_nodes, leads, merge_from}
 use Rattle.ext_reading.specs.Drafts.{takes_record, fits_classes, takes_body, takes, step, finish}
-use Rattle.ext_reading.specs.ExtTexts.{with_name, with_element_said, with_element, outline_of, draft_in, record_of}
+use Rattle.ext_reading.specs.ExtTexts.{with_name, with_element_said, with_words, with_element, outline_of, draft_in, record_of}
 use Rattle.ext_reading.proofs.NameLaws.{place_found, In-is_among}
+use Rattle.ext_reading.proofs.OutlineLaws.{kept_element}
 use Rattle.ext_reading.proofs.Outcomes.{OkHas, next_has, given_has, passed_has, failed_has, value_has, Each, each_none}
 use Rattle.ext_reading.proofs.LawfulLines.{IsFormed, says-formed}
-use Rattle.ext_reading.proofs.SoundDrafts.{IsSoundFet, IsSoundMerge, IsSound, takes-sound, has_tech}
+use Rattle.ext_reading.proofs.SoundRecords.{IsSoundFet, IsSoundMerge, IsSound}
+use Rattle.ext_reading.proofs.SoundDrafts.{takes-sound, has_tech}
 
 -- no line is longer than its text
 stripped : (line : List ℕ) → length (strip_carriage_return line) ≤ length line
@@ -157,7 +161,8 @@ use_ids draft line =
       added = λ id is. subst (λ (n : List ℕ). In n (draft.ids ++ line.id ∷ [])) is (In-push draft.ids line.id);
     })))
 
-record_ids : (elements : List (List ℕ)) (draft : Draft) (said : ExtLine) → OkHas (HasIds draft said) (takes_record elements (record draft { begun = true }) said)
+record_ids : (elements : List (List ℕ)) (draft : Draft) (said : ExtLine) → OkHas (HasIds draft said)
+    (takes_record elements (record draft { begun = true }) said)
 record_ids elements draft Nothing = same_has draft Nothing (record draft { begun = true }) (λ id no. no) refl
 record_ids elements draft (Header header) = same_has draft (Header header) (record draft { begun = true }) (λ id no. no) refl
 record_ids elements draft (Use line) = use_ids draft line
@@ -166,7 +171,8 @@ record_ids elements draft (Node line) =
     (failed_has (SameIds draft) (is_among line.name draft.names) _ NameTwice (λ e. given_has (SameIds draft) (node_from line) _ (λ node e1. refl)))
 record_ids elements draft (Equiv name alias) =
     same_ids draft (Equiv name alias) _ (λ id no. no)
-    (failed_has (SameIds draft) (is_among alias draft.names) _ NameTwice (λ e. alias_ids (record draft { begun = true }) (position (bytes_eq name) draft.names) alias))
+    (failed_has (SameIds draft) (is_among alias draft.names) _ NameTwice (λ e. alias_ids (record draft { begun = true })
+    (position (bytes_eq name) draft.names) alias))
 record_ids elements draft (Fet line) =
     same_ids draft (Fet line) _ (λ id no. no)
     (given_has (SameIds draft) (fet_from line) _ (λ fet e. passed_has (SameIds draft) (has_its_nodes draft.names fet) _ NoName (λ e1. refl)))
@@ -200,7 +206,8 @@ name_cases names name id h = step (is_among name names) h
 said_ids : (elements known : List (List ℕ)) (is_last : Bool) (draft next : Draft) (found : Result ExtLine ExtReadFault)
     → Each (λ id. In id draft.ids) known → and_then found (takes elements is_last draft) ≡ Ok next → Each (λ id. In id next.ids) (with_element_said known found)
 said_ids elements known is_last draft next (Err fault) met e = absurd (let no : ⊥ = cc in no)
-said_ids elements known is_last draft next (Ok said) met e = step said (value_has (HasIds draft said) (takes elements is_last draft said) next (takes-ids elements is_last draft said) e)
+said_ids elements known is_last draft next (Ok said) met e = step said (value_has (HasIds draft said) (takes elements is_last draft said) next
+    (takes-ids elements is_last draft said) e)
   where
     step : (said : ExtLine) → HasIds draft said next → Each (λ id. In id next.ids) (with_element_said known (Ok said))
     step (Use line) has = λ id h. elim (name_cases known line.id id h) [ inl there ↦ has.kept id (met id there) | inr e ↦ has.added id e ]
@@ -211,6 +218,19 @@ said_ids elements known is_last draft next (Ok said) met e = step said (value_ha
     step (Fet line) has = λ id h. has.kept id (met id h)
     step (Merge line) has = λ id h. has.kept id (met id h)
 
+words_ids : (elements known : List (List ℕ)) (is_last : Bool) (draft next : Draft) (words : List (List ℕ)) → Each (λ id. In id draft.ids) known
+    → and_then (words_say words) (takes elements is_last draft) ≡ Ok next → Each (λ id. In id next.ids) (with_words known words)
+words_ids elements known is_last draft next [] met e = said_ids elements known is_last draft next (Ok Nothing) met e
+words_ids elements known is_last draft next (key ∷ words) met e = by_key (bytes_eq key (codes "use")) refl
+  where
+    by_key : (t : Bool) → bytes_eq key (codes "use") ≡ t → Each (λ id. In id next.ids) (cond t (with_element_said known (use_line words)) known)
+    by_key true is =
+        let same : key ≡ codes "use" = (bytes_eq-Decides key (codes "use")).0 is in
+        said_ids elements known is_last draft next (use_line words) met
+        (ap (λ (k : List ℕ). and_then (words_say (k ∷ words)) (takes elements is_last draft)) (sym same) ∙ e)
+    by_key false is = λ id h.
+        said_ids elements known is_last draft next (words_say (key ∷ words)) met e id (kept_element known (words_say (key ∷ words)) id h)
+
 -- where all lines are read, each element of the outline is there
 lines_ids : (outline : Outline) (number : ℕ) (known : List (List ℕ)) (start : Draft) (lines : List (List ℕ)) (last : Draft) → Each (λ id. In id start.ids) known
     → first_fault_or (step outline) number start lines ≡ Ok last → Each (λ id. In id last.ids) (fold with_element known lines)
@@ -219,7 +239,7 @@ lines_ids outline number known start [] last met e =
 lines_ids outline number known start (line ∷ lines) last met e =
     let p = passed number (step outline number start line) (λ next. first_fault_or (step outline) (number + 1) next lines) last e in
     lines_ids outline (number + 1) (with_element known line) p.0 lines last
-    (said_ids outline.elements known (number == outline.last) start p.0 (says line) met p.1) p.2
+    (words_ids outline.elements known (number == outline.last) start p.0 (words_of line) met p.1) p.2
 
 -- a path with a slash, by its names
 record IsPathOf (parts : List (List ℕ)) : Type 0 where
@@ -278,7 +298,11 @@ lawful_fet ext names fet known is = record {
   area = is.area;
   perimeter = is.perimeter;
   gate = record { node = known fet.gate.node is.gate_node; length = is.gate };
-  terminals = All-from_In (IsLawfulTerm ext) fet.terminals (λ side h. record { node = known side.node (is.terminal_nodes side h); length = is.terminals side h });
+  terminals = All-from_In (IsLawfulTerm ext) fet.terminals (λ side h. record {
+    node = known side.node (is.terminal_nodes side h);
+    length =
+        is.terminals side h;
+  });
   lengths = is.lengths;
 }
 

@@ -5,7 +5,10 @@ pub mod PathLaws
 pub mod Outcomes
 pub mod LawfulLines
 pub mod LawfulDrafts
+pub mod SoundRecords
+pub mod SoundNodes
 pub mod SoundDrafts
+pub mod OutlineLaws
 pub mod LawfulTexts
 pub mod WrittenWords
 pub mod WrittenLines

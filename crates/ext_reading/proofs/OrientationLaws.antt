@@ -31,7 +31,8 @@ is_orientation-six_of t a b c d e f is =
     let eb : b ≡ (matrix o).b = cc in
     let ed : d ≡ (matrix o).d = cc in
     let ee : e ≡ (matrix o).e = cc in
-    ap (λ (z : ℤ). is_orientation z b d e) ea ∙ ap (λ (z : ℤ). is_orientation (matrix o).a z d e) eb ∙ ap (λ (z : ℤ). is_orientation (matrix o).a (matrix o).b z e) ed
+    ap (λ (z : ℤ). is_orientation z b d e) ea ∙ ap (λ (z : ℤ). is_orientation (matrix o).a z d e) eb
+    ∙ ap (λ (z : ℤ). is_orientation (matrix o).a (matrix o).b z e) ed
     ∙ ap (λ (z : ℤ). is_orientation (matrix o).a (matrix o).b (matrix o).d z) ee ∙ factors_of o
 
 found_or : (a b d e : ℤ) (o : Orient) (orients : List Orient) (here : Bool) → has_factors a b d e o ≡ here

@@ -6,6 +6,7 @@ use Rattle.std.specs.List.{AllByRecursion, flat_map}
 use Rattle.std.proofs.lemmas.List.{map-append, length-map}
 use Rattle.finite_sets.specs.Lists.{In}
 use Rattle.finite_sets.proofs.Members.{In-append_left, In-append_right, In-map, In-map_source}
+use Rattle.text_scan.specs.Decimal.{decimal}
 use Rattle.text_scan.specs.Lines.{lines_of}
 use Rattle.text_scan.specs.Written.{IsWord, IsLine, line_of}
 use Rattle.text_scan.proofs.WrittenLemmas.{IsWord-test, words_of-line_of, lines_of-text_of, IsLine-line_of}
@@ -20,9 +21,7 @@ use Rattle.ext_model.specs.NodeNames.{is_word, is_node_name}
 use Rattle.ext_model.specs.RecordNames.{node_names, element_names}
 use Rattle.ext_text.specs.WrittenTexts.{header_words, use_words, equiv_words, node_lines, fet_words, merge_words, ext_lines, lines_text, ext_text}
 use Rattle.ext_reading.specs.declared.limits.TheConstants.{GREATEST_CLASS_VALUE}
-use Rattle.ext_reading.specs.declared.lines.ExtLine.TheVariants.{Use}
 use Rattle.ext_reading.specs.declared.outlines.Outline.{Outline}
-use Rattle.ext_reading.specs.LineForms.{words_say, says}
 use Rattle.ext_reading.specs.Drafts.{has_its_nodes, step, finish, nothing_yet}
 use Rattle.ext_reading.specs.ExtTexts.{outline_of, draft_in, record_of, ext_in}
 use Rattle.ext_reading.specs.ReadBack.{IsReadable}
@@ -42,7 +41,8 @@ all_append : {X : Type 0} (P : X → Type 0) (xs ys : List X) → AllByRecursion
 all_append P [] ys one two = two
 all_append P (x ∷ xs) ys one two = (one.0, all_append P xs ys one.1 two)
 
-all_map : {X Y : Type 0} (P : Y → Type 0) (Q : X → Type 0) (f : X → Y) (xs : List X) → AllByRecursion Q xs → ((x : X) → Q x → P (f x)) → AllByRecursion P (map f xs)
+all_map : {X Y : Type 0} (P : Y → Type 0) (Q : X → Type 0) (f : X → Y) (xs : List X) → AllByRecursion Q xs → ((x : X) → Q x → P (f x))
+    → AllByRecursion P (map f xs)
 all_map P Q f [] all each = tt
 all_map P Q f (x ∷ xs) all each = (each x all.0, all_map P Q f xs all.1 each)
 
@@ -50,7 +50,8 @@ words_named : (classes : List ℕ) (nodes : List NodeRec) → AllByRecursion (Is
 words_named classes [] all = tt
 words_named classes (n ∷ nodes) all =
     let is = all.0 in
-    let others = all_map AreWords (λ alias. is_node_name alias ≡ true) (equiv_words n.name) n.aliases is.aliases_are (λ a named. words_equiv n.name a is.node_is.name named) in
+    let others = all_map AreWords (λ alias. is_node_name alias ≡ true) (equiv_words n.name) n.aliases is.aliases_are
+    (λ a named. words_equiv n.name a is.node_is.name named) in
     (words_node n is.node_is, all_append AreWords (map (equiv_words n.name) n.aliases) (flat_map node_lines nodes) others (words_named classes nodes all.1))
 
 header_lines : (tech classes : List ℕ) → is_word tech ≡ true → AllByRecursion AreWords (header_words tech classes)
@@ -77,9 +78,11 @@ use_lines ext all =
 
 all_lines : (ext : CellExt) → IsReadable ext → AllByRecursion AreWords (ext_lines ext)
 all_lines ext is =
-    let fets = all_map AreWords (λ (fet : FetRec). IsWrittenFet fet × (has_its_nodes (node_names ext) fet ≡ true)) fet_words ext.fets (written_fets ext is) (λ f one. words_fet f one.0) in
+    let fets = all_map AreWords (λ (fet : FetRec). IsWrittenFet fet × (has_its_nodes (node_names ext) fet ≡ true)) fet_words ext.fets
+    (written_fets ext is) (λ f one. words_fet f one.0) in
     let joins = written_merges ext (element_names ext) is (λ id h. h) in
-    let merges = all_map AreWords (IsWrittenJoin ext.classes (element_names ext) (node_names ext)) merge_words ext.merges joins (λ m one. words_merge m one.merge_is) in
+    let merges = all_map AreWords (IsWrittenJoin ext.classes (element_names ext) (node_names ext)) merge_words ext.merges joins
+    (λ m one. words_merge m one.merge_is) in
     all_append AreWords (header_words ext.tech ext.classes) _ (header_lines ext.tech ext.classes is.lawful.tech)
     (all_append AreWords (map use_words ext.uses) _ (use_lines ext (written_uses ext is))
     (all_append AreWords (flat_map node_lines ext.nodes) _ (words_named ext.classes ext.nodes (written_nodes ext is))
@@ -87,7 +90,8 @@ all_lines ext is =
 
 lines_written : (ext : CellExt) → IsReadable ext → lines_of (ext_text ext) ≡ map line_of (ext_lines ext)
 unfolding lines_text
-lines_written ext is = lines_of-text_of (map line_of (ext_lines ext)) (all_map IsLine AreWords line_of (ext_lines ext) (all_lines ext is) (λ words all. IsLine-line_of words all))
+lines_written ext is = lines_of-text_of (map line_of (ext_lines ext)) (all_map IsLine AreWords line_of (ext_lines ext) (all_lines ext is)
+    (λ words all. IsLine-line_of words all))
 
 -- the elements of the outline
 elements_met : (ext : CellExt) → IsReadable ext → Each (λ id. In id (outline_of (map line_of (ext_lines ext))).elements) (element_names ext)
@@ -98,10 +102,11 @@ elements_met ext is = λ id h.
     let uses : Each IsWrittenUse ext.uses = each_by_recursion IsWrittenUse ext.uses (written_uses ext is) in
     let read = use_read outline 0 true [] [] [] u (uses u source.1.0) in
     let there : In (use_words u) (ext_lines ext) =
-    In-append_right (use_words u) (header_words ext.tech ext.classes) _ (In-append_left (use_words u) (map use_words ext.uses) _ (In-map use_words u ext.uses source.1.0)) in
-    let says_it : says (line_of (use_words u)) ≡ Ok (Use read.says_it.0) = ap words_say (words_of-line_of (use_words u) read.words) ∙ read.says_it.1.0 in
+    In-append_right (use_words u) (header_words ext.tech ext.classes) _ (In-append_left (use_words u) (map use_words ext.uses) _
+    (In-map use_words u ext.uses source.1.0)) in
     subst (λ (n : List ℕ). In n (outline_of (map line_of (ext_lines ext))).elements) (read.says_it.1.1 ∙ source.1.1)
-    (added_element [] (map line_of (ext_lines ext)) (line_of (use_words u)) read.says_it.0 (In-map line_of (use_words u) (ext_lines ext) there) says_it)
+    (added_element [] (map line_of (ext_lines ext)) (line_of (use_words u)) (u.cell ∷ u.id ∷ map decimal u.six) read.says_it.0
+    (In-map line_of (use_words u) (ext_lines ext) there) (words_of-line_of (use_words u) read.words) read.says_it.1.0)
   where
     each_by_recursion : {X : Type 0} (P : X → Type 0) (xs : List X) → AllByRecursion P xs → Each P xs
     each_by_recursion P [] all = λ x h. absurd h
@@ -141,14 +146,16 @@ lines_back ext is =
             ∙ (first_fault_or-append s k1 _ (map line_of uses) (map line_of (nodes ++ (fets ++ merges))) _ one.1
             ∙ (ap (first_fault_or s k2 (made one.0 ext.tech ext.classes ext.uses [] [] [] [] [])) (map-append line_of nodes (fets ++ merges))
             ∙ (first_fault_or-append s k2 _ (map line_of nodes) (map line_of (fets ++ merges)) _ two.read
-            ∙ (ap (first_fault_or s k3 (made two.begun ext.tech ext.classes ext.uses ext.nodes (node_names ext) two.owners [] [])) (map-append line_of fets merges)
+            ∙ (ap (first_fault_or s k3 (made two.begun ext.tech ext.classes ext.uses ext.nodes (node_names ext) two.owners [] []))
+            (map-append line_of fets merges)
             ∙ (first_fault_or-append s k3 _ (map line_of fets) (map line_of merges) _ three.1
             ∙ four.1))))))),
       ),
     )
 
 draft_back : (ext : CellExt) → IsReadable ext
-    → (b : Bool) × ((owners : List ℕ) × (draft_in (ext_text ext) ≡ Ok (made b ext.tech ext.classes ext.uses ext.nodes (node_names ext) owners ext.fets ext.merges)))
+    → (b : Bool) × ((owners : List ℕ) × (draft_in (ext_text ext) ≡ Ok (made b ext.tech ext.classes ext.uses ext.nodes (node_names ext) owners ext.fets
+    ext.merges)))
 unfolding draft_in
 draft_back ext is =
     let lines = map line_of (ext_lines ext) in

@@ -37,7 +37,8 @@ before_last : (k last : ℕ) → k < last → (k == last) ≡ false
 before_last k last below = grind (arith, nat_tests)
 
 -- a line of the header that is not the last line
-early_step : (outline : Outline) (number : ℕ) (draft next : Draft) (words : List (List ℕ)) (header : HeaderLine) → number < outline.last → AllByRecursion IsWord words
+early_step : (outline : Outline) (number : ℕ) (draft next : Draft) (words : List (List ℕ)) (header : HeaderLine) → number < outline.last
+    → AllByRecursion IsWord words
     → words_say words ≡ Ok (Header header) → takes outline.elements false draft (Header header) ≡ Ok next → step outline number draft (line_of words) ≡ Ok next
 early_step outline number draft next words header early all says taken =
     step_is outline number draft next words (Header header) all says
@@ -51,7 +52,8 @@ class_values_in-said classes values few =
     ap (λ (b : Bool). cond b (class_values_from [] (values_said classes)) (Err Range)) fits ∙ class_values_from-values [] classes values
 
 last_taken : (elements : List (List ℕ)) (tech classes : List ℕ) (is_last : Bool) → class_values_in (values_said classes) ≡ Ok classes
-    → takes elements is_last (headed tech (seen_of true true true true)) (Header (Classes (values_said classes))) ≡ Ok (made false tech classes [] [] [] [] [] [])
+    → takes elements is_last (headed tech (seen_of true true true true)) (Header (Classes (values_said classes)))
+    ≡ Ok (made false tech classes [] [] [] [] [] [])
 last_taken elements tech classes true e = rw e refl
 last_taken elements tech classes false e = rw e refl
 
@@ -62,15 +64,20 @@ header_back outline tech classes named values few long =
     let none = seen_of false false false false in
     let one = early_step outline 1 nothing_yet (headed tech none) (codes "tech" ∷ tech ∷ []) (Tech tech) (omega arith)
     (IsWord-test (codes "tech") refl, (IsWord-word tech named, tt)) (says_tech tech named) refl in
-    let two = early_step outline 2 (headed tech none) (headed tech (seen_of true false false false)) (codes "timestamp" ∷ codes "0" ∷ []) Timestamp (omega arith)
+    let two = early_step outline 2 (headed tech none) (headed tech (seen_of true false false false)) (codes "timestamp" ∷ codes "0" ∷ []) Timestamp
+    (omega arith)
     (IsWord-test (codes "timestamp") refl, (IsWord-test (codes "0") refl, tt)) refl refl in
-    let three = early_step outline 3 (headed tech (seen_of true false false false)) (headed tech (seen_of true true false false)) (codes "version" ∷ codes "1" ∷ []) (Version true) (omega arith)
+    let three = early_step outline 3 (headed tech (seen_of true false false false)) (headed tech (seen_of true true false false))
+    (codes "version" ∷ codes "1" ∷ []) (Version true) (omega arith)
     (IsWord-test (codes "version") refl, (IsWord-test (codes "1") refl, tt)) refl refl in
-    let four = early_step outline 4 (headed tech (seen_of true true false false)) (headed tech (seen_of true true true false)) (codes "style" ∷ tech ∷ []) Style (omega arith)
+    let four = early_step outline 4 (headed tech (seen_of true true false false)) (headed tech (seen_of true true true false)) (codes "style" ∷ tech ∷ [])
+    Style (omega arith)
     (IsWord-test (codes "style") refl, (IsWord-word tech named, tt)) refl refl in
-    let five = early_step outline 5 (headed tech (seen_of true true true false)) (headed tech (seen_of true true true true)) (codes "scale" ∷ codes "1" ∷ codes "1" ∷ codes "1" ∷ []) Scale (omega arith)
+    let five = early_step outline 5 (headed tech (seen_of true true true false)) (headed tech (seen_of true true true true))
+    (codes "scale" ∷ codes "1" ∷ codes "1" ∷ codes "1" ∷ []) Scale (omega arith)
     (IsWord-test (codes "scale") refl, (IsWord-test (codes "1") refl, (IsWord-test (codes "1") refl, (IsWord-test (codes "1") refl, tt)))) refl refl in
-    let six = step_is outline 6 (headed tech (seen_of true true true true)) (made false tech classes [] [] [] [] [] []) (codes "resistclasses" ∷ map (λ value. decimal (pos value)) classes)
+    let six = step_is outline 6 (headed tech (seen_of true true true true)) (made false tech classes [] [] [] [] [] [])
+    (codes "resistclasses" ∷ map (λ value. decimal (pos value)) classes)
     (Header (Classes (values_said classes))) (IsWord-test (codes "resistclasses") refl, words-values classes) (says_classes classes values)
     (last_taken outline.elements tech classes (6 == outline.last) (class_values_in-said classes values few)) in
     let classes_line = line_of (codes "resistclasses" ∷ map (λ value. decimal (pos value)) classes) in

@@ -38,7 +38,8 @@ use Rattle.ext_reading.proofs.WrittenWords.{words-terms}
 abbrev pub use_said : List ℕ → List ℕ → ℤ → ℤ → ℤ → ℤ → ℤ → ℤ → UseLine
 use_said cell id a b c d e f = record { cell = cell; id = id; six = (Some a, Some b, Some c, Some d, Some e, Some f) }
 
-pub says_use : (cell id : List ℕ) (a b c d e f : ℤ) → is_plain_name cell ≡ true → is_node_name id ≡ true → FitsSigned w32 a → FitsSigned w32 b → FitsSigned w32 c
+pub says_use : (cell id : List ℕ) (a b c d e f : ℤ) → is_plain_name cell ≡ true → is_node_name id ≡ true → FitsSigned w32 a → FitsSigned w32 b
+    → FitsSigned w32 c
     → FitsSigned w32 d → FitsSigned w32 e → FitsSigned w32 f
     → words_say (codes "use" ∷ cell ∷ id ∷ decimal a ∷ decimal b ∷ decimal c ∷ decimal d ∷ decimal e ∷ decimal f ∷ []) ≡ Ok (Use (use_said cell id a b c d e f))
 says_use cell id a b c d e f plain named fa fb fc fd fe ff =
@@ -50,7 +51,14 @@ says_use cell id a b c d e f plain named fa fb fc fd fe ff =
 
 pub words_use : (cell id : List ℕ) (numbers : List ℤ) → is_plain_name cell ≡ true → is_node_name id ≡ true
     → AllByRecursion IsWord (codes "use" ∷ cell ∷ id ∷ map decimal numbers)
-words_use cell id numbers plain named = (IsWord-test (codes "use") refl, (IsWord-plain cell plain, (IsWord-word id (node_name_word id named), decimals numbers)))
+words_use cell id numbers plain named = (
+  IsWord-test (codes "use") refl,
+  (
+    IsWord-plain
+        cell plain,
+    (IsWord-word id (node_name_word id named), decimals numbers),
+  ),
+)
   where
     decimals : (numbers : List ℤ) → AllByRecursion IsWord (map decimal numbers)
     decimals [] = tt
@@ -159,7 +167,8 @@ says_fet fet is =
 
 pub words_fet : (fet : FetRec) → IsWrittenFet fet → AllByRecursion IsWord (fet_words fet)
 words_fet fet is =
-    let behind : AllByRecursion IsWord (decimal fet.area ∷ decimal fet.perimeter ∷ quoted fet.substrate ∷ term_words fet.gate ++ flat_map term_words fet.terminals) = (
+    let behind : AllByRecursion IsWord (decimal fet.area ∷ decimal fet.perimeter ∷ quoted fet.substrate ∷ term_words fet.gate ++ flat_map term_words
+    fet.terminals) = (
       IsWord-decimal fet.area,
       (
         IsWord-decimal fet.perimeter,
@@ -168,8 +177,17 @@ words_fet fet is =
           words-term fet.gate is.gate (flat_map term_words fet.terminals) (words-terms fet.terminals is.terminals),
         ),
       ),
-    ) in
-    (IsWord-test (codes "fet") refl, (IsWord-word fet.kind is.kind, (IsWord-decimal fet.x, (IsWord-decimal fet.y, (IsWord-decimal (fet.x +ℤ pos 1), (IsWord-decimal (fet.y +ℤ pos 1), behind))))))
+    ) in (
+      IsWord-test (codes "fet") refl,
+      (
+        IsWord-word fet.kind is.kind,
+        (
+          IsWord-decimal
+              fet.x,
+          (IsWord-decimal fet.y, (IsWord-decimal (fet.x +ℤ pos 1), (IsWord-decimal (fet.y +ℤ pos 1), behind))),
+        ),
+      ),
+    )
 
 -- a merge
 pub record IsWrittenMerge (merge : MergeRec) : Type 0 where

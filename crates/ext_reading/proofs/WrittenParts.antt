@@ -1,7 +1,7 @@
 -- The records of a written text are read back, kind by kind.
-use Rattle.std.proofs.Common.{◌≡◌, ◌≤◌, ◌<◌, ◌+◌, ◌==◌, ℕ, ℤ, Bool, true, false, cond, List, [], ◌∷◌, ◌++◌, length, map, Result, Ok, Err, FitsSigned}
+use Rattle.std.proofs.Common.{◌≡◌, ◌≤◌, ◌<◌, ◌+◌, ◌==◌, ℕ, ℤ, Bool, true, false, cond, List, [], ◌∷◌, ◌++◌, length, map, Ok, FitsSigned}
 use Rattle.std.proofs.Common.{refl, sym, ap, ◌∙◌, subst, arith, inl, inr, length-append, append_assoc, append-nil}
-use Rattle.std.specs.Prelude.{fold, All}
+use Rattle.std.specs.Prelude.{codes, fold, All}
 use Rattle.std.specs.Int.{w32}
 use Rattle.std.specs.List.{AllByRecursion, flat_map}
 use Rattle.std.proofs.lemmas.List.{map-append}
@@ -9,6 +9,7 @@ use Rattle.finite_sets.specs.Lists.{In, Distinct}
 use Rattle.finite_sets.proofs.Members.{In-append_left, In-push}
 use Rattle.finite_sets.proofs.Distincts.{Distinct-cut, Distinct-append_left}
 use Rattle.text_scan.specs.PlainNames.{is_plain_name}
+use Rattle.text_scan.specs.Words.{words_of}
 use Rattle.text_scan.specs.Written.{IsWord, line_of}
 use Rattle.text_form.specs.Folds.{first_fault_or, unless_faulty}
 use Rattle.text_form.proofs.FoldLaws.{first_fault_or-append}
@@ -22,19 +23,18 @@ use Rattle.ext_model.specs.NodeNames.{is_node_name}
 use Rattle.ext_model.specs.Lawful.{IsPlacement}
 use Rattle.ext_text.specs.NodeLines.{node_words}
 use Rattle.ext_text.specs.WrittenTexts.{use_words, equiv_words, node_lines, fet_words, merge_words}
-use Rattle.ext_reading.specs.declared.faults.ExtReadFault.{ExtReadFault}
 use Rattle.ext_reading.specs.declared.limits.TheConstants.{MOST_USES}
 use Rattle.ext_reading.specs.declared.lines.UseLine.{UseLine}
-use Rattle.ext_reading.specs.declared.lines.ExtLine.{ExtLine}
 use Rattle.ext_reading.specs.declared.lines.ExtLine.TheVariants.{Use, Node, Equiv, Fet, Merge}
 use Rattle.ext_reading.specs.declared.outlines.Outline.{Outline}
-use Rattle.ext_reading.specs.LineForms.{words_say, says}
+use Rattle.ext_reading.specs.LineForms.{words_say, use_line}
 use Rattle.ext_reading.specs.Drafts.{Draft, is_among, leads, has_its_nodes, step}
-use Rattle.ext_reading.specs.ExtTexts.{with_name, with_element_said, with_element}
+use Rattle.ext_reading.specs.ExtTexts.{with_name, with_element_said, with_words, with_element}
 use Rattle.ext_reading.proofs.OrientationLaws.{is_orientation-six_of}
 use Rattle.ext_reading.proofs.NameLaws.{In-is_among}
+use Rattle.ext_reading.proofs.OutlineLaws.{kept_words}
 use Rattle.ext_reading.proofs.Outcomes.{Each, each_of_All}
-use Rattle.ext_reading.proofs.SoundDrafts.{names_in}
+use Rattle.ext_reading.proofs.SoundRecords.{names_in}
 use Rattle.ext_reading.proofs.WrittenPaths.{is_among-not}
 use Rattle.ext_reading.proofs.WrittenLines.{use_said, says_use, words_use, IsWrittenNode, node_said, says_node, words_node, says_equiv, words_equiv}
 use Rattle.ext_reading.proofs.WrittenLines.{IsWrittenFet}
@@ -57,7 +57,8 @@ pub record IsUseRead (outline : Outline) (number : ℕ) (begun : Bool) (tech cla
   pub says_it : (line : UseLine) × ((words_say (use_words element) ≡ Ok (Use line)) × (line.id ≡ element.id))
   pub words : AllByRecursion IsWord (use_words element)
   pub step_it : length done < MOST_USES → is_among element.id (map (λ e. e.id) done) ≡ false
-      → step outline number (made begun tech classes done [] [] [] [] []) (line_of (use_words element)) ≡ Ok (made true tech classes (done ++ element ∷ []) [] [] [] [] [])
+      → step outline number (made begun tech classes done [] [] [] [] []) (line_of (use_words element))
+      ≡ Ok (made true tech classes (done ++ element ∷ []) [] [] [] [] [])
 
 pub use_read : (outline : Outline) (number : ℕ) (begun : Bool) (tech classes : List ℕ) (done : List UseRec) (element : UseRec) → IsWrittenUse element
     → IsUseRead outline number begun tech classes done element
@@ -100,30 +101,36 @@ uses_back outline number begun tech classes done (u ∷ uses) all few differ =
     let new = is_among-not u.id (map id_of done) (λ h. cut.0 (In-append_left u.id (map id_of done) (map id_of uses) h)) in
     let one = (use_read outline number begun tech classes done u all.0).step_it (omega arith) new in
     let ids = ap (λ l. l ++ map id_of uses) (map-append id_of done (u ∷ [])) ∙ append_assoc (map id_of done) (u.id ∷ []) (map id_of uses) in
-    let rest = uses_back outline (number + 1) true tech classes (done ++ u ∷ []) uses all.1 (omega (arith, length-append done (u ∷ []))) (subst Distinct (sym ids) differ) in (
+    let rest = uses_back outline (number + 1) true tech classes (done ++ u ∷ []) uses all.1 (omega (arith, length-append done (u ∷ [])))
+    (subst Distinct (sym ids) differ) in (
       rest.0,
-      passes outline number (made begun tech classes done [] [] [] [] []) (made true tech classes (done ++ u ∷ []) [] [] [] [] []) (line_of (use_words u)) (map line_of (map use_words uses)) one
+      passes outline number (made begun tech classes done [] [] [] [] []) (made true tech classes (done ++ u ∷ []) [] [] [] [] []) (line_of (use_words u))
+          (map line_of (map use_words uses)) one
           ∙ (rest.1 ∙ ap (λ l. Ok (made rest.0 tech classes l [] [] [] [] [])) (append_assoc done (u ∷ []) uses)),
     )
 
 -- the other names of a node
-record AreRead (outline : Outline) (number : ℕ) (tech classes : List ℕ) (uses : List UseRec) (done : List NodeRec) (node : NodeRec) (before so_far aliases : List (List ℕ))
+record AreRead (outline : Outline) (number : ℕ) (tech classes : List ℕ) (uses : List UseRec) (done : List NodeRec) (node : NodeRec)
+    (before so_far aliases : List (List ℕ))
     (owners more : List ℕ) : Type 0 where
   all_more : List ℕ
   count : length all_more ≡ length (so_far ++ aliases)
   read : first_fault_or (step outline) number
       (made true tech classes uses (done ++ (record node { aliases = so_far }) ∷ []) (before ++ node.name ∷ so_far) (owners ++ length done ∷ more) [] [])
       (map line_of (map (equiv_words node.name) aliases))
-      ≡ Ok (made true tech classes uses (done ++ (record node { aliases = so_far ++ aliases }) ∷ []) (before ++ node.name ∷ (so_far ++ aliases)) (owners ++ length done ∷ all_more) [] [])
+      ≡ Ok (made true tech classes uses (done ++ (record node { aliases = so_far ++ aliases }) ∷ []) (before ++ node.name ∷ (so_far ++ aliases))
+      (owners ++ length done ∷ all_more) [] [])
 
-aliases_back : (outline : Outline) (number : ℕ) (tech classes : List ℕ) (uses : List UseRec) (done : List NodeRec) (node : NodeRec) (before so_far aliases : List (List ℕ))
+aliases_back : (outline : Outline) (number : ℕ) (tech classes : List ℕ) (uses : List UseRec) (done : List NodeRec) (node : NodeRec)
+    (before so_far aliases : List (List ℕ))
     (owners more : List ℕ) → is_node_name node.name ≡ true → AllByRecursion (λ alias. is_node_name alias ≡ true) aliases → length owners ≡ length before
     → length more ≡ length so_far → (In node.name before → ⊥) → Distinct ((before ++ node.name ∷ so_far) ++ aliases)
     → AreRead outline number tech classes uses done node before so_far aliases owners more
 aliases_back outline number tech classes uses done node before so_far [] owners more named all count counts absent differ = record {
   all_more = more;
   count = counts ∙ ap length (sym (append-nil so_far));
-  read = ap (λ l. Ok (made true tech classes uses (done ++ (record node { aliases = l }) ∷ []) (before ++ node.name ∷ l) (owners ++ length done ∷ more) [] [])) (sym (append-nil so_far));
+  read = ap (λ l. Ok (made true tech classes uses (done ++ (record node { aliases = l }) ∷ []) (before ++ node.name ∷ l) (owners ++ length done ∷ more) []
+      [])) (sym (append-nil so_far));
 }
 aliases_back outline number tech classes uses done node before so_far (a ∷ aliases) owners more named all count counts absent differ =
     let cut = Distinct-cut (before ++ node.name ∷ so_far) aliases a differ in
@@ -132,18 +139,22 @@ aliases_back outline number tech classes uses done node before so_far (a ∷ ali
     let words = words_equiv node.name a named all.0 in
     let one = step_is outline number
     (made true tech classes uses (done ++ so_named ∷ []) (before ++ node.name ∷ so_far) (owners ++ length done ∷ more) [] [])
-    (made true tech classes uses (done ++ (record node { aliases = so_far ++ a ∷ [] }) ∷ []) (before ++ node.name ∷ (so_far ++ a ∷ [])) (owners ++ length done ∷ (more ++ length done ∷ [])) [] [])
+    (made true tech classes uses (done ++ (record node { aliases = so_far ++ a ∷ [] }) ∷ []) (before ++ node.name ∷ (so_far ++ a ∷ []))
+    (owners ++ length done ∷ (more ++ length done ∷ [])) [] [])
     (equiv_words node.name a) (Equiv node.name a) words (says_equiv node.name a named all.0)
     (takes_equiv-is tech classes uses done so_named before so_far owners more outline.elements (number == outline.last) a count absent new) in
-    let names = ap (λ l. l ++ aliases) (sym (append_assoc before (node.name ∷ so_far) (a ∷ []))) ∙ append_assoc (before ++ node.name ∷ so_far) (a ∷ []) aliases in
-    let rest = aliases_back outline (number + 1) tech classes uses done node before (so_far ++ a ∷ []) aliases owners (more ++ length done ∷ []) named all.1 count
+    let names = ap (λ l. l ++ aliases) (sym (append_assoc before (node.name ∷ so_far) (a ∷ [])))
+    ∙ append_assoc (before ++ node.name ∷ so_far) (a ∷ []) aliases in
+    let rest = aliases_back outline (number + 1) tech classes uses done node before (so_far ++ a ∷ []) aliases owners (more ++ length done ∷ []) named
+    all.1 count
     (omega (arith, counts, length-append more (length done ∷ []), length-append so_far (a ∷ []))) absent (subst Distinct (sym names) differ) in
     let joined = append_assoc so_far (a ∷ []) aliases in
     record {
       all_more = rest.all_more;
       count = rest.count ∙ ap length joined;
       read = passes outline number _ _ (line_of (equiv_words node.name a)) (map line_of (map (equiv_words node.name) aliases)) one
-          ∙ (rest.read ∙ ap (λ l. Ok (made true tech classes uses (done ++ (record node { aliases = l }) ∷ []) (before ++ node.name ∷ l) (owners ++ length done ∷ rest.all_more) [] [])) joined);
+          ∙ (rest.read ∙ ap (λ l. Ok (made true tech classes uses (done ++ (record node { aliases = l }) ∷ []) (before ++ node.name ∷ l)
+          (owners ++ length done ∷ rest.all_more) [] [])) joined);
     }
 
 -- nodes with their other names
@@ -152,26 +163,31 @@ pub record IsWrittenNamed (classes : List ℕ) (node : NodeRec) : Type 0 where
   pub count : length node.measures ≡ length classes
   pub aliases_are : AllByRecursion (λ alias. is_node_name alias ≡ true) node.aliases
 
-pub record NodesRead (outline : Outline) (number : ℕ) (start : Draft) (tech classes : List ℕ) (uses : List UseRec) (all nodes : List NodeRec) (names : List (List ℕ)) : Type 0 where
+pub record NodesRead (outline : Outline) (number : ℕ) (start : Draft) (tech classes : List ℕ) (uses : List UseRec) (all nodes : List NodeRec)
+    (names : List (List ℕ)) : Type 0 where
   pub begun : Bool
   pub owners : List ℕ
   pub read : first_fault_or (step outline) number start (map line_of (flat_map node_lines nodes)) ≡ Ok (made begun tech classes uses all names owners [] [])
 
-pub nodes_back : (outline : Outline) (number : ℕ) (begun : Bool) (tech classes : List ℕ) (uses : List UseRec) (done nodes : List NodeRec) (names : List (List ℕ)) (owners : List ℕ)
+pub nodes_back : (outline : Outline) (number : ℕ) (begun : Bool) (tech classes : List ℕ) (uses : List UseRec) (done nodes : List NodeRec)
+    (names : List (List ℕ)) (owners : List ℕ)
     → AllByRecursion (IsWrittenNamed classes) nodes → length owners ≡ length names → Distinct (names ++ names_in nodes)
     → NodesRead outline number (made begun tech classes uses done names owners [] []) tech classes uses (done ++ nodes) nodes (names ++ names_in nodes)
 nodes_back outline number begun tech classes uses done [] names owners all count differ = record {
   begun = begun;
   owners = owners;
-  read = ap (λ l. Ok (made begun tech classes uses l names owners [] [])) (sym (append-nil done)) ∙ ap (λ l. Ok (made begun tech classes uses (done ++ []) l owners [] [])) (sym (append-nil names));
+  read = ap (λ l. Ok (made begun tech classes uses l names owners [] [])) (sym (append-nil done))
+      ∙ ap (λ l. Ok (made begun tech classes uses (done ++ []) l owners [] [])) (sym (append-nil names));
 }
 nodes_back outline number begun tech classes uses done (n ∷ nodes) names owners all count differ =
     let is = all.0 in
     let cut = Distinct-cut names (n.aliases ++ names_in nodes) n.name differ in
     let absent : In n.name names → ⊥ = λ h. cut.0 (In-append_left n.name names (n.aliases ++ names_in nodes) h) in
     let first : Draft = made true tech classes uses (done ++ (record n { aliases = [] }) ∷ []) (names ++ n.name ∷ []) (owners ++ length done ∷ []) [] [] in
-    let one = step_is outline number (made begun tech classes uses done names owners [] []) first (node_words n) (Node (node_said n)) (words_node n is.node_is) (says_node n is.node_is)
-    (takes_node-is begun tech classes uses done names owners outline.elements (number == outline.last) n is.node_is is.count (is_among-not n.name names absent)) in
+    let one = step_is outline number (made begun tech classes uses done names owners [] []) first (node_words n) (Node (node_said n))
+    (words_node n is.node_is) (says_node n is.node_is)
+    (takes_node-is begun tech classes uses done names owners outline.elements (number == outline.last) n is.node_is is.count
+    (is_among-not n.name names absent)) in
     let named = append_assoc names (n.name ∷ n.aliases) (names_in nodes) in
     let apart : Distinct ((names ++ n.name ∷ n.aliases) ++ names_in nodes) = subst Distinct (sym named) differ in
     let own = append_assoc names (n.name ∷ []) n.aliases in
@@ -185,26 +201,32 @@ nodes_back outline number begun tech classes uses done (n ∷ nodes) names owner
     record {
       begun = rest.begun;
       owners = rest.owners;
-      read = passes outline number (made begun tech classes uses done names owners [] []) first (line_of (node_words n)) (map line_of (map (equiv_words n.name) n.aliases ++ flat_map node_lines nodes)) one
+      read = passes outline number (made begun tech classes uses done names owners [] []) first (line_of (node_words n))
+          (map line_of (map (equiv_words n.name) n.aliases ++ flat_map node_lines nodes)) one
           ∙ (ap (first_fault_or (step outline) (number + 1) first) (map-append line_of (map (equiv_words n.name) n.aliases) (flat_map node_lines nodes))
           ∙ (first_fault_or-append (step outline) (number + 1) first lines others _ two.read
-          ∙ (rest.read ∙ (ap (λ l. Ok (made rest.begun tech classes uses l ((names ++ n.name ∷ n.aliases) ++ names_in nodes) rest.owners [] [])) (append_assoc done (n ∷ []) nodes)
+          ∙ (rest.read ∙ (ap (λ l. Ok (made rest.begun tech classes uses l ((names ++ n.name ∷ n.aliases) ++ names_in nodes) rest.owners [] []))
+          (append_assoc done (n ∷ []) nodes)
           ∙ ap (λ l. Ok (made rest.begun tech classes uses (done ++ n ∷ nodes) l rest.owners [] [])) named))));
     }
 
 -- transistors
-pub fets_back : (outline : Outline) (number : ℕ) (begun : Bool) (tech classes : List ℕ) (uses : List UseRec) (nodes : List NodeRec) (names : List (List ℕ)) (owners : List ℕ)
+pub fets_back : (outline : Outline) (number : ℕ) (begun : Bool) (tech classes : List ℕ) (uses : List UseRec) (nodes : List NodeRec)
+    (names : List (List ℕ)) (owners : List ℕ)
     (done fets : List FetRec) → AllByRecursion (λ fet. IsWrittenFet fet × (has_its_nodes names fet ≡ true)) fets
     → (b : Bool) × (first_fault_or (step outline) number (made begun tech classes uses nodes names owners done []) (map line_of (map fet_words fets))
     ≡ Ok (made b tech classes uses nodes names owners (done ++ fets) []))
-fets_back outline number begun tech classes uses nodes names owners done [] all = (begun, ap (λ l. Ok (made begun tech classes uses nodes names owners l [])) (sym (append-nil done)))
+fets_back outline number begun tech classes uses nodes names owners done [] all =
+    (begun, ap (λ l. Ok (made begun tech classes uses nodes names owners l [])) (sym (append-nil done)))
 fets_back outline number begun tech classes uses nodes names owners done (f ∷ fets) all =
-    let one = step_is outline number (made begun tech classes uses nodes names owners done []) (made true tech classes uses nodes names owners (done ++ f ∷ []) [])
+    let one = step_is outline number (made begun tech classes uses nodes names owners done [])
+    (made true tech classes uses nodes names owners (done ++ f ∷ []) [])
     (fet_words f) (Fet (fet_said f)) (words_fet f all.0.0) (says_fet f all.0.0)
     (takes_fet-is begun tech classes uses nodes names owners done outline.elements (number == outline.last) f all.0.0 all.0.1) in
     let rest = fets_back outline (number + 1) true tech classes uses nodes names owners (done ++ f ∷ []) fets all.1 in (
       rest.0,
-      passes outline number (made begun tech classes uses nodes names owners done []) (made true tech classes uses nodes names owners (done ++ f ∷ []) []) (line_of (fet_words f)) (map line_of (map fet_words fets)) one
+      passes outline number (made begun tech classes uses nodes names owners done []) (made true tech classes uses nodes names owners (done ++ f ∷ []) [])
+          (line_of (fet_words f)) (map line_of (map fet_words fets)) one
           ∙ (rest.1 ∙ ap (λ l. Ok (made rest.0 tech classes uses nodes names owners l [])) (append_assoc done (f ∷ []) fets)),
     )
 
@@ -215,30 +237,27 @@ pub record IsWrittenJoin (classes : List ℕ) (elements names : List (List ℕ))
   pub first : leads elements names merge.first ≡ true
   pub second : leads elements names merge.second ≡ true
 
-pub merges_back : (outline : Outline) (number : ℕ) (begun : Bool) (tech classes : List ℕ) (uses : List UseRec) (nodes : List NodeRec) (names : List (List ℕ)) (owners : List ℕ)
+pub merges_back : (outline : Outline) (number : ℕ) (begun : Bool) (tech classes : List ℕ) (uses : List UseRec) (nodes : List NodeRec)
+    (names : List (List ℕ)) (owners : List ℕ)
     (fets : List FetRec) (done merges : List MergeRec) → AllByRecursion (IsWrittenJoin classes outline.elements names) merges
     → (b : Bool) × (first_fault_or (step outline) number (made begun tech classes uses nodes names owners fets done) (map line_of (map merge_words merges))
     ≡ Ok (made b tech classes uses nodes names owners fets (done ++ merges)))
-merges_back outline number begun tech classes uses nodes names owners fets done [] all = (begun, ap (λ l. Ok (made begun tech classes uses nodes names owners fets l)) (sym (append-nil done)))
+merges_back outline number begun tech classes uses nodes names owners fets done [] all =
+    (begun, ap (λ l. Ok (made begun tech classes uses nodes names owners fets l)) (sym (append-nil done)))
 merges_back outline number begun tech classes uses nodes names owners fets done (m ∷ merges) all =
     let is = all.0 in
-    let one = step_is outline number (made begun tech classes uses nodes names owners fets done) (made true tech classes uses nodes names owners fets (done ++ m ∷ []))
+    let one = step_is outline number (made begun tech classes uses nodes names owners fets done)
+    (made true tech classes uses nodes names owners fets (done ++ m ∷ []))
     (merge_words m) (Merge (merge_said m)) (words_merge m is.merge_is) (says_merge m is.merge_is)
     (takes_merge-is begun tech classes uses nodes names owners fets done outline.elements (number == outline.last) m is.merge_is is.count is.first is.second) in
     let rest = merges_back outline (number + 1) true tech classes uses nodes names owners fets (done ++ m ∷ []) merges all.1 in (
       rest.0,
-      passes outline number (made begun tech classes uses nodes names owners fets done) (made true tech classes uses nodes names owners fets (done ++ m ∷ [])) (line_of (merge_words m)) (map line_of (map merge_words merges)) one
+      passes outline number (made begun tech classes uses nodes names owners fets done)
+          (made true tech classes uses nodes names owners fets (done ++ m ∷ [])) (line_of (merge_words m)) (map line_of (map merge_words merges)) one
           ∙ (rest.1 ∙ ap (λ l. Ok (made rest.0 tech classes uses nodes names owners fets l)) (append_assoc done (m ∷ []) merges)),
     )
 
 -- each element is in the outline
-kept_name : (names : List (List ℕ)) (name : List ℕ) → Each (λ n. In n (with_name names name)) names
-kept_name names name = λ n h. step (is_among name names) n h
-  where
-    step : (t : Bool) → (n : List ℕ) → In n names → In n (cond t names (names ++ name ∷ []))
-    step true n h = h
-    step false n h = In-append_left n names (name ∷ []) h
-
 added_name : (names : List (List ℕ)) (name : List ℕ) → In name (with_name names name)
 added_name names name = step (is_among name names) refl
   where
@@ -246,19 +265,15 @@ added_name names name = step (is_among name names) refl
     step true is = In-is_among name names is
     step false is = In-push names name
 
-kept_element : (known : List (List ℕ)) (found : Result ExtLine ExtReadFault) → Each (λ n. In n (with_element_said known found)) known
-kept_element known (Ok (Use line)) = kept_name known line.id
-kept_element known (Ok _) = λ n h. h
-kept_element known (Err fault) = λ n h. h
-
 kept_elements : (known : List (List ℕ)) (lines : List (List ℕ)) → Each (λ n. In n (fold with_element known lines)) known
 kept_elements known [] = λ n h. h
-kept_elements known (line ∷ lines) = λ n h. kept_elements (with_element known line) lines n (kept_element known (says line) n h)
+kept_elements known (line ∷ lines) = λ n h. kept_elements (with_element known line) lines n (kept_words known (words_of line) n h)
 
-pub added_element : (known : List (List ℕ)) (lines : List (List ℕ)) (line : List ℕ) (said : UseLine) → In line lines → says line ≡ Ok (Use said)
-    → In said.id (fold with_element known lines)
-added_element known [] line said h is = absurd h
-added_element known (l ∷ lines) line said (inl e) is =
+pub added_element : (known : List (List ℕ)) (lines : List (List ℕ)) (line : List ℕ) (words : List (List ℕ)) (said : UseLine) → In line lines
+    → words_of line ≡ codes "use" ∷ words → use_line words ≡ Ok (Use said) → In said.id (fold with_element known lines)
+added_element known [] line words said h is says = absurd h
+added_element known (l ∷ lines) line words said (inl e) is says =
     kept_elements (with_element known l) lines said.id
-    (subst (λ found. In said.id (with_element_said known found)) (sym (ap says e ∙ is)) (added_name known said.id))
-added_element known (l ∷ lines) line said (inr h) is = added_element (with_element known l) lines line said h is
+    (subst (λ (w : List (List ℕ)). In said.id (with_words known w)) (sym (ap words_of e ∙ is))
+    (subst (λ found. In said.id (with_element_said known found)) (sym says) (added_name known said.id)))
+added_element known (l ∷ lines) line words said (inr h) is says = added_element (with_element known l) lines line words said h is says

@@ -1,6 +1,6 @@
 -- The paths of a lawful record are paths of its file.
-use Rattle.std.proofs.Common.{◌≡◌, ◌+◌, ◌==◌, ◌&&◌, ◌||◌, ℕ, Bool, true, false, cond, List, [], ◌∷◌, ◌++◌, length, take, refl, sym, ap, ◌∙◌, subst, arith, inl}
-use Rattle.std.proofs.Common.{inr}
+use Rattle.std.proofs.Common.{◌≡◌, ◌+◌, ◌==◌, ◌&&◌, ◌||◌, ℕ, Bool, true, false, cond, List, [], ◌∷◌, ◌++◌, length, take, refl, sym, ap, ◌∙◌, subst}
+use Rattle.std.proofs.Common.{arith, inl, inr}
 use Rattle.std.proofs.Common.{length-append}
 use Rattle.std.specs.Prelude.{All}
 use Rattle.std.specs.List.{list_all, list_any, count_by, slice_split, before_first, position_or_len}
@@ -58,14 +58,17 @@ split_text : (ids : List (List ℕ)) (name : List ℕ) → Each (λ id. is_node_
     → slice_split is_slash (path_text ids name) ≡ ids ++ name ∷ []
 split_text [] name all is = slice_split_none is_slash name (no_slash name is)
 split_text (id ∷ ids) name all is =
-    slice_split_at is_slash id SLASH (path_text ids name) (no_slash id (all id (inl refl))) refl ∙ ap (λ l. id ∷ l) (split_text ids name (λ n h. all n (inr h)) is)
+    slice_split_at is_slash id SLASH (path_text ids name) (no_slash id (all id (inl refl))) refl
+    ∙ ap (λ l. id ∷ l) (split_text ids name (λ n h. all n (inr h)) is)
 
-all_named : (ids : List (List ℕ)) (name : List ℕ) → Each (λ id. is_node_name id ≡ true) ids → is_node_name name ≡ true → list_all is_node_name (ids ++ name ∷ []) ≡ true
+all_named : (ids : List (List ℕ)) (name : List ℕ) → Each (λ id. is_node_name id ≡ true) ids → is_node_name name ≡ true
+    → list_all is_node_name (ids ++ name ∷ []) ≡ true
 all_named [] name all is = ap (λ (t : Bool). t && true) is
 all_named (id ∷ ids) name all is =
     ap (λ (t : Bool). t && list_all is_node_name (ids ++ name ∷ [])) (all id (inl refl)) ∙ all_named ids name (λ n h. all n (inr h)) is
 
-pub is_path-text : (ids : List (List ℕ)) (name : List ℕ) → Each (λ id. is_node_name id ≡ true) ids → is_node_name name ≡ true → is_path (path_text ids name) ≡ true
+pub is_path-text : (ids : List (List ℕ)) (name : List ℕ) → Each (λ id. is_node_name id ≡ true) ids → is_node_name name ≡ true
+    → is_path (path_text ids name) ≡ true
 is_path-text ids name all is = ap (list_all is_node_name) (split_text ids name all is) ∙ all_named ids name all is
 
 -- the bytes of a path

@@ -18,7 +18,7 @@ use Rattle.ext_reading.specs.Parts.{is_path}
 use Rattle.ext_reading.specs.Drafts.{is_among, leads, has_its_nodes}
 use Rattle.ext_reading.specs.ReadBack.{IsReadable}
 use Rattle.ext_reading.proofs.Outcomes.{Each, each_of_All, by_recursion}
-use Rattle.ext_reading.proofs.SoundDrafts.{names_in}
+use Rattle.ext_reading.proofs.SoundRecords.{names_in}
 use Rattle.ext_reading.proofs.WrittenPaths.{is_among-In, is_path-text, bytes_of_path, leads-text, is_path-name, leads-name}
 use Rattle.ext_reading.proofs.WrittenWords.{IsMeasured, IsWrittenTerm, node_name_word, word_bytes}
 use Rattle.ext_reading.proofs.WrittenLines.{IsWrittenFet}
@@ -97,7 +97,8 @@ written_fet ext fet lawful is =
         terminals = by_recursion IsWrittenTerm fet.terminals (λ side h. written_term ext side lawful (terminals side h));
       },
       ap (λ (t : Bool). t && list_all (λ side. is_among side.node (node_names ext)) fet.terminals) (is_among-In fet.gate.node (node_names ext) is.gate.node)
-          ∙ all_true (λ (side : TermRec). is_among side.node (node_names ext)) fet.terminals (λ side h. is_among-In side.node (node_names ext) (terminals side h).node),
+          ∙ all_true (λ (side : TermRec). is_among side.node (node_names ext)) fet.terminals
+          (λ side h. is_among-In side.node (node_names ext) (terminals side h).node),
     )
 
 pub written_fets : (ext : CellExt) → IsReadable ext → AllByRecursion (λ fet. IsWrittenFet fet × (has_its_nodes (node_names ext) fet ≡ true)) ext.fets
@@ -120,7 +121,12 @@ written_path : (ext : CellExt) (elements : List (List ℕ)) (path : List ℕ) �
     → IsWrittenPath elements (node_names ext) path
 written_path ext elements path lawful met (inl there) =
     let named = node_names_named ext lawful path there in
-    record { form = is_path-name path named; bytes = word_bytes path (node_name_word path named); leads_there = leads-name elements (node_names ext) path named there }
+    record {
+      form = is_path-name path named;
+      bytes = word_bytes path (node_name_word path named);
+      leads_there =
+          leads-name elements (node_names ext) path named there;
+    }
 written_path ext elements path lawful met (inr into) =
     let id_named = element_named ext lawful into.id into.element in
     let ids = each_of_All IsName into.ids into.id_forms in
@@ -131,7 +137,8 @@ written_path ext elements path lawful met (inr into) =
       leads_there = leads-text elements (node_names ext) into.id into.ids into.name id_named (met into.id into.element);
     })
 
-written_merge : (ext : CellExt) (elements : List (List ℕ)) (merge : MergeRec) → IsLawful ext → Each (λ id. In id elements) (element_names ext) → IsLawfulMerge ext merge
+written_merge : (ext : CellExt) (elements : List (List ℕ)) (merge : MergeRec) → IsLawful ext → Each (λ id. In id elements) (element_names ext)
+    → IsLawfulMerge ext merge
     → IsWrittenJoin ext.classes elements (node_names ext) merge
 written_merge ext elements merge lawful met is =
     let one = written_path ext elements merge.first lawful met is.first in

@@ -55,7 +55,8 @@ made begun tech classes uses nodes names owners fets merges = record {
 }
 
 -- a line of these words adds what they say
-pub step_is : (outline : Outline) (number : ℕ) (draft next : Draft) (words : List (List ℕ)) (said : ExtLine) → AllByRecursion IsWord words → words_say words ≡ Ok said
+pub step_is : (outline : Outline) (number : ℕ) (draft next : Draft) (words : List (List ℕ)) (said : ExtLine) → AllByRecursion IsWord words
+    → words_say words ≡ Ok said
     → takes outline.elements (number == outline.last) draft said ≡ Ok next → step outline number draft (line_of words) ≡ Ok next
 step_is outline number draft next words said all says taken =
     ap (λ found. and_then found (takes outline.elements (number == outline.last) draft)) (ap words_say (words_of-line_of words all) ∙ says) ∙ taken
@@ -74,7 +75,8 @@ takes_use-is begun tech classes done elements is_last cell id a b c d e f fa fb 
     rw (short_in-short a fa, short_in-short b fb, short_in-short c fc, short_in-short d fd, short_in-short e fe, short_in-short f ff, oriented) refl in
     let room : nat_lt (length done) MOST_USES ≡ true = lt-ltb (length done) MOST_USES few in
     let ids = map-append (λ (element : UseRec). element.id) done (use_from cell id a b c d e f ∷ []) in
-    rw (room, six, new) (ap (λ (l : List (List ℕ)). Ok (record (made true tech classes (done ++ use_from cell id a b c d e f ∷ []) [] [] [] [] []) { ids = l })) (sym ids))
+    rw (room, six, new) (ap (λ (l : List (List ℕ)). Ok (record (made true tech classes (done ++ use_from cell id a b c d e f ∷ []) [] [] [] [] [])
+    { ids = l })) (sym ids))
 
 -- a node
 node_from-said : (node : NodeRec) → IsWrittenNode node → node_from (node_said node) ≡ Ok (record node { aliases = [] })
@@ -113,8 +115,10 @@ place_of name before after absent =
 pub takes_equiv-is : (tech classes : List ℕ) (uses : List UseRec) (done : List NodeRec) (node : NodeRec) (before so_far : List (List ℕ)) (owners more : List ℕ)
     (elements : List (List ℕ)) (is_last : Bool) (alias : List ℕ) → length owners ≡ length before → (In node.name before → ⊥)
     → is_among alias (before ++ node.name ∷ so_far) ≡ false
-    → takes elements is_last (made true tech classes uses (done ++ node ∷ []) (before ++ node.name ∷ so_far) (owners ++ length done ∷ more) [] []) (Equiv node.name alias)
-    ≡ Ok (made true tech classes uses (done ++ named_too alias node ∷ []) (before ++ node.name ∷ (so_far ++ alias ∷ [])) (owners ++ length done ∷ (more ++ length done ∷ [])) [] [])
+    → takes elements is_last (made true tech classes uses (done ++ node ∷ []) (before ++ node.name ∷ so_far) (owners ++ length done ∷ more) [] [])
+    (Equiv node.name alias)
+    ≡ Ok (made true tech classes uses (done ++ named_too alias node ∷ []) (before ++ node.name ∷ (so_far ++ alias ∷ []))
+    (owners ++ length done ∷ (more ++ length done ∷ [])) [] [])
 takes_equiv-is tech classes uses done node before so_far owners more elements is_last alias count absent new =
     let place = place_of node.name before so_far absent in
     let owner : slice_index (owners ++ length done ∷ more) (length before) ≡ length done =
@@ -124,10 +128,13 @@ takes_equiv-is tech classes uses done node before so_far owners more elements is
     ∙ set-append_seam done node [] (named_too alias node) in
     let names = append_assoc before (node.name ∷ so_far) (alias ∷ []) in
     let owned = append_assoc owners (length done ∷ more) (length done ∷ []) in
-    let taken : takes_equiv (made true tech classes uses (done ++ node ∷ []) (before ++ node.name ∷ so_far) (owners ++ length done ∷ more) [] []) node.name alias
-    ≡ Ok (made true tech classes uses (with_alias_at (length done) (done ++ node ∷ []) alias) ((before ++ node.name ∷ so_far) ++ alias ∷ []) ((owners ++ length done ∷ more) ++ length done ∷ []) [] []) =
+    let taken : takes_equiv (made true tech classes uses (done ++ node ∷ []) (before ++ node.name ∷ so_far) (owners ++ length done ∷ more) [] [])
+    node.name alias
+    ≡ Ok (made true tech classes uses (with_alias_at (length done) (done ++ node ∷ []) alias) ((before ++ node.name ∷ so_far) ++ alias ∷ [])
+    ((owners ++ length done ∷ more) ++ length done ∷ []) [] []) =
     rw (new, place, owner) refl in
-    taken ∙ (ap (λ l. Ok (made true tech classes uses l ((before ++ node.name ∷ so_far) ++ alias ∷ []) ((owners ++ length done ∷ more) ++ length done ∷ []) [] [])) renamed
+    taken ∙ (ap (λ l. Ok (made true tech classes uses l ((before ++ node.name ∷ so_far) ++ alias ∷ [])
+    ((owners ++ length done ∷ more) ++ length done ∷ []) [] [])) renamed
     ∙ (ap (λ l. Ok (made true tech classes uses (done ++ named_too alias node ∷ []) l ((owners ++ length done ∷ more) ++ length done ∷ []) [] [])) names
     ∙ ap (λ l. Ok (made true tech classes uses (done ++ named_too alias node ∷ []) (before ++ node.name ∷ (so_far ++ alias ∷ [])) l [] [])) owned))
 
@@ -144,7 +151,8 @@ fet_from-said fet is =
     let terminals : terms_from [] (map side_said fet.terminals) ≡ Ok fet.terminals = terms_from-terms [] fet.terminals is.terminals in
     rw (point, measure_in-measure fet.area is.area, measure_in-measure fet.perimeter is.perimeter, term_in-term fet.gate is.gate.1, terminals) refl
 
-pub takes_fet-is : (begun : Bool) (tech classes : List ℕ) (uses : List UseRec) (nodes : List NodeRec) (names : List (List ℕ)) (owners : List ℕ) (done : List FetRec)
+pub takes_fet-is : (begun : Bool) (tech classes : List ℕ) (uses : List UseRec) (nodes : List NodeRec) (names : List (List ℕ)) (owners : List ℕ)
+    (done : List FetRec)
     (elements : List (List ℕ)) (is_last : Bool) (fet : FetRec) → IsWrittenFet fet → has_its_nodes names fet ≡ true
     → takes elements is_last (made begun tech classes uses nodes names owners done []) (Fet (fet_said fet))
     ≡ Ok (made true tech classes uses nodes names owners (done ++ fet ∷ []) [])
@@ -156,7 +164,8 @@ merge_from-said merge is =
     let measures : measures_in (numerals_of merge.measures) ≡ Ok merge.measures = measures_from-numerals [] merge.measures is.measures in
     rw (measure_in-measure merge.cap is.cap, measures) refl
 
-pub takes_merge-is : (begun : Bool) (tech classes : List ℕ) (uses : List UseRec) (nodes : List NodeRec) (names : List (List ℕ)) (owners : List ℕ) (fets : List FetRec)
+pub takes_merge-is : (begun : Bool) (tech classes : List ℕ) (uses : List UseRec) (nodes : List NodeRec) (names : List (List ℕ)) (owners : List ℕ)
+    (fets : List FetRec)
     (done : List MergeRec) (elements : List (List ℕ)) (is_last : Bool) (merge : MergeRec) → IsWrittenMerge merge → length merge.measures ≡ length classes
     → leads elements names merge.first ≡ true → leads elements names merge.second ≡ true
     → takes elements is_last (made begun tech classes uses nodes names owners fets done) (Merge (merge_said merge))

@@ -145,7 +145,8 @@ numerals_from-measures numerals (m ∷ measures) all =
     ap (λ found. and_then found (λ n. numerals_from (numerals ++ n ∷ []) (decimal m.1 ∷ measure_words measures))) one
     ∙ (ap (λ found. and_then found (λ n. numerals_from ((numerals ++ Some m.0 ∷ []) ++ n ∷ []) (measure_words measures))) two
     ∙ (numerals_from-measures ((numerals ++ Some m.0 ∷ []) ++ Some m.1 ∷ []) measures all.1
-    ∙ ap Ok (append_assoc (numerals ++ Some m.0 ∷ []) (Some m.1 ∷ []) (numerals_of measures) ∙ append_assoc numerals (Some m.0 ∷ []) (Some m.1 ∷ numerals_of measures))))
+    ∙ ap Ok (append_assoc (numerals ++ Some m.0 ∷ []) (Some m.1 ∷ []) (numerals_of measures)
+    ∙ append_assoc numerals (Some m.0 ∷ []) (Some m.1 ∷ numerals_of measures))))
 
 pub words-measures : (measures : List (ℤ × ℤ)) → AllByRecursion IsWord (measure_words measures)
 words-measures [] = tt
@@ -155,7 +156,8 @@ pub length-numerals_of : (measures : List (ℤ × ℤ)) → length (numerals_of 
 length-numerals_of [] = refl
 length-numerals_of (m ∷ measures) = let rest = length-numerals_of measures in omega (arith, rest)
 
-pub measures_from-numerals : (before measures : List (ℤ × ℤ)) → AllByRecursion IsMeasured measures → measures_from before (numerals_of measures) ≡ Ok (before ++ measures)
+pub measures_from-numerals : (before measures : List (ℤ × ℤ)) → AllByRecursion IsMeasured measures → measures_from before (numerals_of measures)
+    ≡ Ok (before ++ measures)
 measures_from-numerals before [] all = ap Ok (sym (append-nil before))
 measures_from-numerals before (m ∷ measures) all =
     let one = measure_in-measure m.0 all.0.0 in
@@ -177,7 +179,8 @@ pub numerals_from-values : (numerals : List (Option ℤ)) (values : List ℕ) �
     → numerals_from numerals (map (λ value. decimal (pos value)) values) ≡ Ok (numerals ++ values_said values)
 numerals_from-values numerals [] all = ap Ok (sym (append-nil numerals))
 numerals_from-values numerals (v ∷ values) all =
-    ap (λ found. and_then found (λ n. numerals_from (numerals ++ n ∷ []) (map (λ value. decimal (pos value)) values))) (numeral_in-decimal (pos v) (value_fits v all.0))
+    ap (λ found. and_then found (λ n. numerals_from (numerals ++ n ∷ []) (map (λ value. decimal (pos value)) values)))
+    (numeral_in-decimal (pos v) (value_fits v all.0))
     ∙ (numerals_from-values (numerals ++ Some (pos v) ∷ []) values all.1 ∙ ap Ok (append_assoc numerals (Some (pos v) ∷ []) (values_said values)))
 
 pub words-values : (values : List ℕ) → AllByRecursion IsWord (map (λ value. decimal (pos value)) values)

@@ -2,8 +2,8 @@
 --
 -- Of several faults in one line the first in this order counts: no form, no header, another version, a name twice, a number out of range, not an
 -- orientation, a use twice, no such name.
-use Rattle.std.specs.Prelude.{◌==◌, ◌&&◌, ◌||◌, ◌*◌, nat_lt, slice_index, slice_index_or, slice_set, ℕ, ℤ, pos, Bool, true, false, not, if◌then◌else◌, List, []}
-use Rattle.std.specs.Prelude.{◌∷◌, ◌++◌, length, Option, Some, None, Result, Ok, Err}
+use Rattle.std.specs.Prelude.{◌==◌, ◌&&◌, ◌||◌, ◌*◌, nat_lt, slice_index, slice_index_or, slice_set, ℕ, ℤ, pos, Bool, true, false, not, if◌then◌else◌}
+use Rattle.std.specs.Prelude.{List, [], ◌∷◌, ◌++◌, length, Option, Some, None, Result, Ok, Err}
 use Rattle.std.specs.List.{list_any, list_all, position, before_first}
 use Rattle.std.specs.Str.{bytes_eq}
 use Rattle.text_form.specs.SaidLines.{and_then}

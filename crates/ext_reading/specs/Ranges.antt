@@ -1,6 +1,6 @@
 -- The numbers of a circuit file within their ranges.
-use Rattle.std.specs.Prelude.{◌&&◌, ◌^◌, nat_le, nat_lt, ℕ, ℤ, pos, neg_ℤ, int_le, int_lt, Bool, if◌then◌else◌, List, [], ◌∷◌, ◌++◌, length, Option, Some, None}
-use Rattle.std.specs.Prelude.{Result, Ok, Err}
+use Rattle.std.specs.Prelude.{◌&&◌, ◌^◌, nat_le, nat_lt, ℕ, ℤ, pos, neg_ℤ, int_le, int_lt, Bool, if◌then◌else◌, List, [], ◌∷◌, ◌++◌, length, Option}
+use Rattle.std.specs.Prelude.{Some, None, Result, Ok, Err}
 use Rattle.std.specs.List.{list_any}
 use Rattle.std.specs.Ordering.{int_eq}
 use Rattle.std.specs.Int.RustNames.{unsigned_abs}

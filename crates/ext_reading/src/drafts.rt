@@ -11,18 +11,18 @@ ghost use Rattle.ext_reading.specs.Drafts.{has_measures, fits_classes, takes_bod
 ghost use Rattle.ext_reading.specs.ExtTexts.{record_of};
 
 use crate::faults::ExtReadFault;
+use crate::headers::{is_incomplete, is_other_version, nothing_seen, was_seen, with_seen};
+use crate::known_names::{has_its_nodes, is_among, leads};
 use crate::limits::MOST_USES;
 use crate::lines::{ExtLine, FetLine, HeaderLine, MergeLine, NodeLine, Numeral, Seen, UseLine};
-use crate::parts::{put, slash_at};
-use crate::ranges::{
-    class_values_in, measure_in, measures_in, point_in, short_in, six_in, term_in, terms_in,
-};
-use ext_model::{CellExt, FetRec, MergeRec, NodeRec, SLASH, TermRec, UseRec};
+use crate::parts::put;
+use crate::ranges::{class_values_in, six_in};
+use crate::records::{fet_from, merge_from, name_node_too, node_from};
+use ext_model::{CellExt, FetRec, MergeRec, NodeRec, UseRec};
 use geo_core::{List, Name};
 use name_index::NameIndex;
 use std::alloc::{AllocError, Global};
 use std::marker::Model;
-use std::mem;
 
 /// A record as far as its lines are read. Contracts see it as a record of its parts.
 #[derive(Drop)]
@@ -59,190 +59,6 @@ impl Model for ExtDraft {
       fets = draft.transistors.items;
       merges = draft.joins.items;
     } };
-}
-
-fn nothing_seen() -> Seen
-    ensures { result ≡ nothing_seen }
-{
-    Seen {
-        tech: false,
-        timestamp: false,
-        version: false,
-        style: false,
-        scale: false,
-        classes: false,
-    }
-}
-
-// Whether the header lacks a line that it needs.
-fn is_incomplete(seen: Seen) -> bool
-    ensures { result ≡ is_incomplete seen }
-{
-    !(seen.tech && seen.version && seen.classes)
-}
-
-fn was_seen(seen: Seen, header: &HeaderLine) -> bool
-    ensures { result ≡ was_seen seen header.now }
-{
-    match header {
-        HeaderLine::Tech(_) => seen.tech,
-        HeaderLine::Timestamp => seen.timestamp,
-        HeaderLine::Version(_) => seen.version,
-        HeaderLine::Style => seen.style,
-        HeaderLine::Scale => seen.scale,
-        HeaderLine::Classes(_) => seen.classes,
-    }
-}
-
-fn with_seen(seen: Seen, header: &HeaderLine) -> Seen
-    ensures { result ≡ with_seen seen header.now }
-{
-    let mut seen = seen;
-    match header {
-        HeaderLine::Tech(_) => seen.tech = true,
-        HeaderLine::Timestamp => seen.timestamp = true,
-        HeaderLine::Version(_) => seen.version = true,
-        HeaderLine::Style => seen.style = true,
-        HeaderLine::Scale => seen.scale = true,
-        HeaderLine::Classes(_) => seen.classes = true,
-    }
-    seen
-}
-
-fn is_other_version(header: &HeaderLine) -> bool
-    ensures { result ≡ is_other_version header.now }
-{
-    match header {
-        HeaderLine::Version(is_one) => !*is_one,
-        _ => false,
-    }
-}
-
-fn is_among(name: &[u8], names: &NameIndex) -> bool
-    ensures { result ≡ is_among name.now names.now }
-{
-    names.find(name).is_some()
-}
-
-// A node that has no other name yet.
-fn node_from(alloc: Global, line: NodeLine) -> Result<NodeRec, ExtReadFault>
-    ensures read { IfOk result (λ node. node_from line ≡ Ok node) }
-    ensures refused { IfErr result (λ fault. fault ≢ OutOfMemory → node_from line ≡ Err fault) }
-{
-    let cap = measure_in(line.cap)?;
-    let x = short_in(line.x)?;
-    let y = short_in(line.y)?;
-    let measures = measures_in(alloc, line.measures.items())?;
-    Ok(NodeRec {
-        name: line.name,
-        aliases: List::of(Vec::new(alloc)),
-        cap,
-        x,
-        y,
-        kind: line.kind,
-        measures,
-    })
-}
-
-// Puts another name behind those that a node has.
-fn name_too(alloc: Global, node: &mut NodeRec, alias: Name) -> Result<(), AllocError>
-    ensures { OnOk result (node.new ≡ named_too alias node.old) }
-{
-    let mut aliases = mem::replace(&mut node.aliases, List::of(Vec::new(alloc))).into_vec();
-    put(&mut aliases, alias)?;
-    node.aliases = List::of(aliases);
-    Ok(())
-}
-
-// The same for the node of this number, if there is one.
-fn name_node_too(
-    alloc: Global,
-    nodes: &mut [NodeRec],
-    node: usize,
-    alias: Name,
-) -> Result<(), AllocError>
-    ensures { OnOk result (nodes.new ≡ with_alias_at node nodes.old alias) }
-{
-    if node < nodes.len() {
-        name_too(alloc, &mut nodes[node], alias)?;
-    }
-    Ok(())
-}
-
-// A transistor, whatever the nodes are that it names.
-fn fet_from(alloc: Global, line: FetLine) -> Result<FetRec, ExtReadFault>
-    ensures read { IfOk result (λ fet. fet_from line ≡ Ok fet) }
-    ensures refused { IfErr result (λ fault. fault ≢ OutOfMemory → fet_from line ≡ Err fault) }
-{
-    let (x, y) = point_in(line.corners)?;
-    let area = measure_in(line.area)?;
-    let perimeter = measure_in(line.perimeter)?;
-    let gate = term_in(line.gate)?;
-    let terminals = terms_in(alloc, line.terminals)?;
-    Ok(FetRec {
-        kind: line.kind,
-        x,
-        y,
-        area,
-        perimeter,
-        substrate: line.substrate,
-        gate,
-        terminals,
-    })
-}
-
-fn are_named(names: &NameIndex, terminals: &[TermRec]) -> bool
-    ensures { result ≡ list_all (λ side. is_among side.node names.now) terminals.now }
-{
-    terminals
-        .iter()
-        .all(|side| is_among(side.node.bytes(), names))
-}
-
-fn has_its_nodes(names: &NameIndex, fet: &FetRec) -> bool
-    ensures { result ≡ has_its_nodes names.now fet.now }
-{
-    is_among(fet.gate.node.bytes(), names) && are_named(names, fet.terminals.items())
-}
-
-fn is_slashed(path: &[u8]) -> bool
-    ensures { result ≡ list_any is_slash path.now }
-{
-    path.iter().any(|byte| *byte == SLASH)
-}
-
-// The name before the first slash of a path.
-fn first_name(path: &[u8]) -> &[u8]
-    ensures { result.now ≡ before_first is_slash path.now }
-{
-    match slash_at(path) {
-        Some(end) => &path[..end],
-        None => path,
-    }
-}
-
-fn leads(elements: &NameIndex, names: &NameIndex, path: &[u8]) -> bool
-    ensures { result ≡ leads elements.now names.now path.now }
-{
-    if is_slashed(path) {
-        is_among(first_name(path), elements)
-    } else {
-        is_among(path, names)
-    }
-}
-
-fn merge_from(alloc: Global, line: MergeLine) -> Result<MergeRec, ExtReadFault>
-    ensures read { IfOk result (λ merge. merge_from line ≡ Ok merge) }
-    ensures refused { IfErr result (λ fault. fault ≢ OutOfMemory → merge_from line ≡ Err fault) }
-{
-    let cap = measure_in(line.cap)?;
-    let measures = measures_in(alloc, line.measures.items())?;
-    Ok(MergeRec {
-        first: line.first,
-        second: line.second,
-        cap,
-        measures,
-    })
 }
 
 impl ExtDraft {

@@ -13,7 +13,8 @@
 //!
 //! That the record is lawful is shown of results: a step is without fault only where its tests passed, so its value has their facts
 //! (`proofs/Outcomes.antt`). What a line says is of its form (`proofs/LawfulLines.antt`), numbers are in their ranges
-//! (`proofs/LawfulDrafts.antt`), each line keeps what was read sound (`proofs/SoundDrafts.antt`), and so does a text
+//! (`proofs/LawfulDrafts.antt`), each line keeps what was read sound (`proofs/SoundRecords.antt`,
+//! `proofs/SoundNodes.antt`, `proofs/SoundDrafts.antt`), and so does a text
 //! (`proofs/LawfulTexts.antt`). There it is shown too that each element of the first pass is an element of the record, and that lines
 //! are no longer than their text, which bounds the lengths of a transistor's terminals together.
 //!
@@ -25,6 +26,10 @@
 
 mod drafts;
 mod faults;
+mod fet_forms;
+mod header_forms;
+mod headers;
+mod known_names;
 mod laws;
 mod limits;
 mod line_forms;
@@ -33,6 +38,7 @@ mod outlines;
 mod parts;
 mod ranges;
 mod reading;
+mod records;
 
 pub use faults::{ExtAt, ExtReadFault};
 pub use laws::written_records_are_read_back;

@@ -7,52 +7,13 @@ ghost use Rattle.ext_reading.specs.LineForms.{side_in, sides_from, are_corners, 
 ghost use Rattle.ext_reading.specs.LineForms.{body_line, line_by_key, words_say, says};
 
 use crate::faults::ExtReadFault;
-use crate::lines::{
-    Corners, ExtLine, FetLine, HeaderLine, MergeLine, NodeLine, Numeral, SideLine, Six, UseLine,
-};
-use crate::parts::{
-    cell_in, element_in, is_next, node_name_in, numeral_in, numerals_in, path_in, put,
-    substrate_in, word_in,
-};
-use geo_core::{List, Name};
+use crate::fet_forms::fet_line;
+use crate::header_forms::{classes_line, tech_line, version_line};
+use crate::lines::{ExtLine, HeaderLine, MergeLine, NodeLine, Numeral, Six, UseLine};
+use crate::parts::{cell_in, element_in, node_name_in, numeral_in, numerals_in, path_in, word_in};
+use geo_core::List;
 use std::alloc::Global;
 use text_scan::{Words, words};
-
-fn tech_line(alloc: Global, words: Words<'_>) -> Result<HeaderLine, ExtReadFault>
-    ensures read { IfOk result (λ said. tech_line words.entry ≡ Ok said) }
-    ensures refused { IfErr result (λ fault. fault ≢ OutOfMemory → tech_line words.entry ≡ Err fault) }
-{
-    let mut rest = words;
-    let Some(name) = rest.next() else {
-        return Err(ExtReadFault::BadLine);
-    };
-    if rest.next().is_some() {
-        return Err(ExtReadFault::BadLine);
-    }
-    let name = word_in(alloc, name)?;
-    Ok(HeaderLine::Tech(name))
-}
-
-fn version_line(words: Words<'_>) -> Result<HeaderLine, ExtReadFault>
-    ensures { result ≡ version_line words.entry }
-{
-    let mut rest = words;
-    let Some(word) = rest.next() else {
-        return Err(ExtReadFault::BadLine);
-    };
-    if rest.next().is_some() {
-        return Err(ExtReadFault::BadLine);
-    }
-    Ok(HeaderLine::Version(word == b"1".as_slice()))
-}
-
-fn classes_line(alloc: Global, words: Words<'_>) -> Result<HeaderLine, ExtReadFault>
-    ensures read { IfOk result (λ said. classes_line words.entry ≡ Ok said) }
-    ensures refused { IfErr result (λ fault. fault ≢ OutOfMemory → classes_line words.entry ≡ Err fault) }
-{
-    let values = numerals_in(alloc, words)?;
-    Ok(HeaderLine::Classes(values))
-}
 
 fn six_numerals(words: Words<'_>) -> Result<Six, ExtReadFault>
     ensures { result ≡ six_numerals words.entry }
@@ -96,7 +57,8 @@ fn six_numerals_behind(a: &[u8], b: &[u8], c: &[u8], words: Words<'_>) -> Result
     Ok((a, b, c, d, e, f))
 }
 
-fn use_line(alloc: Global, words: Words<'_>) -> Result<ExtLine, ExtReadFault>
+/// What a line says by itself whose first word is that of a use.
+pub fn use_line(alloc: Global, words: Words<'_>) -> Result<ExtLine, ExtReadFault>
     ensures read { IfOk result (λ said. use_line words.entry ≡ Ok said) }
     ensures refused { IfErr result (λ fault. fault ≢ OutOfMemory → use_line words.entry ≡ Err fault) }
 {
@@ -205,150 +167,6 @@ fn equiv_line(alloc: Global, words: Words<'_>) -> Result<ExtLine, ExtReadFault>
     let name = node_name_in(alloc, name)?;
     let alias = node_name_in(alloc, alias)?;
     Ok(ExtLine::Equiv(name, alias))
-}
-
-fn side_in(alloc: Global, node: &[u8], length: &[u8]) -> Result<SideLine, ExtReadFault>
-    ensures read { IfOk result (λ side. side_in node.now length.now ≡ Ok side) }
-    ensures refused { IfErr result (λ fault. fault ≢ OutOfMemory → side_in node.now length.now ≡ Err fault) }
-{
-    let node = node_name_in(alloc, node)?;
-    let length = numeral_in(length)?;
-    Ok(SideLine { node, length })
-}
-
-// The terminals that words say.
-fn sides_in(alloc: Global, words: Words<'_>) -> Result<List<SideLine>, ExtReadFault>
-    ensures read { IfOk result (λ sides. sides_from [] words.entry ≡ Ok sides) }
-    ensures refused { IfErr result (λ fault. fault ≢ OutOfMemory → sides_from [] words.entry ≡ Err fault) }
-{
-    let mut sides = Vec::new(alloc);
-    let mut rest = words;
-    while let Some(node) = rest.next() {
-        let Some(length) = rest.next() else {
-            return Err(ExtReadFault::BadLine);
-        };
-        let Some(_) = rest.next() else {
-            return Err(ExtReadFault::BadLine);
-        };
-        let side = side_in(alloc, node, length)?;
-        put(&mut sides, side)?;
-    }
-    Ok(List::of(sides))
-}
-
-fn are_corners(corners: Corners) -> bool
-    ensures { result ≡ are_corners corners }
-{
-    is_next(corners.x, corners.far_x) && is_next(corners.y, corners.far_y)
-}
-
-fn if_corners(corners: Corners) -> Result<Corners, ExtReadFault>
-    ensures { result ≡ if_corners corners }
-{
-    if are_corners(corners) {
-        Ok(corners)
-    } else {
-        Err(ExtReadFault::BadLine)
-    }
-}
-
-fn corners_in(x: &[u8], y: &[u8], far_x: &[u8], far_y: &[u8]) -> Result<Corners, ExtReadFault>
-    ensures { result ≡ corners_in x.now y.now far_x.now far_y.now }
-{
-    let x = numeral_in(x)?;
-    let y = numeral_in(y)?;
-    let far_x = numeral_in(far_x)?;
-    let far_y = numeral_in(far_y)?;
-    if_corners(Corners { x, y, far_x, far_y })
-}
-
-fn fet_line(alloc: Global, words: Words<'_>) -> Result<ExtLine, ExtReadFault>
-    ensures read { IfOk result (λ said. fet_line words.entry ≡ Ok said) }
-    ensures refused { IfErr result (λ fault. fault ≢ OutOfMemory → fet_line words.entry ≡ Err fault) }
-{
-    let mut rest = words;
-    let Some(kind) = rest.next() else {
-        return Err(ExtReadFault::BadLine);
-    };
-    let Some(x) = rest.next() else {
-        return Err(ExtReadFault::BadLine);
-    };
-    let Some(y) = rest.next() else {
-        return Err(ExtReadFault::BadLine);
-    };
-    let Some(far_x) = rest.next() else {
-        return Err(ExtReadFault::BadLine);
-    };
-    let Some(far_y) = rest.next() else {
-        return Err(ExtReadFault::BadLine);
-    };
-    let kind = word_in(alloc, kind)?;
-    let corners = corners_in(x, y, far_x, far_y)?;
-    fet_at(alloc, kind, corners, rest)
-}
-
-// A transistor at its place.
-fn fet_at(
-    alloc: Global,
-    kind: Name,
-    corners: Corners,
-    words: Words<'_>,
-) -> Result<ExtLine, ExtReadFault>
-    ensures read { IfOk result (λ said. fet_at kind corners words.entry ≡ Ok said) }
-    ensures refused { IfErr result (λ fault. fault ≢ OutOfMemory → fet_at kind corners words.entry ≡ Err fault) }
-{
-    let mut rest = words;
-    let Some(area) = rest.next() else {
-        return Err(ExtReadFault::BadLine);
-    };
-    let Some(perimeter) = rest.next() else {
-        return Err(ExtReadFault::BadLine);
-    };
-    let Some(substrate) = rest.next() else {
-        return Err(ExtReadFault::BadLine);
-    };
-    fet_behind(alloc, kind, corners, area, perimeter, substrate, rest)
-}
-
-// A transistor at its place, of which three more words are found.
-fn fet_behind(
-    alloc: Global,
-    kind: Name,
-    corners: Corners,
-    area: &[u8],
-    perimeter: &[u8],
-    substrate: &[u8],
-    words: Words<'_>,
-) -> Result<ExtLine, ExtReadFault>
-    ensures read { IfOk result (λ said.
-        fet_at kind corners (area.now ∷ perimeter.now ∷ substrate.now ∷ words.entry) ≡ Ok said) }
-    ensures refused { IfErr result (λ fault. fault ≢ OutOfMemory →
-        fet_at kind corners (area.now ∷ perimeter.now ∷ substrate.now ∷ words.entry) ≡ Err fault) }
-{
-    let mut rest = words;
-    let Some(gate) = rest.next() else {
-        return Err(ExtReadFault::BadLine);
-    };
-    let Some(length) = rest.next() else {
-        return Err(ExtReadFault::BadLine);
-    };
-    if rest.next().is_none() {
-        return Err(ExtReadFault::BadLine);
-    }
-    let area = numeral_in(area)?;
-    let perimeter = numeral_in(perimeter)?;
-    let substrate = substrate_in(alloc, substrate)?;
-    let gate = side_in(alloc, gate, length)?;
-    let terminals = sides_in(alloc, rest)?;
-    Ok(ExtLine::Fet(FetLine {
-        kind,
-        corners,
-        area,
-        perimeter,
-        substrate,
-        gate,
-        terminals,
-    }))
 }
 
 fn merge_line(alloc: Global, words: Words<'_>) -> Result<ExtLine, ExtReadFault>

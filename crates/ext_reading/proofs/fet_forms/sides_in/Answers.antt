@@ -1,5 +1,5 @@
 use Rattle.ext_reading.proofs.LineSteps.{side_step}
-use Rattle.ext_reading.proofs.line_forms.sides_in.Goals as goal
+use Rattle.ext_reading.proofs.fet_forms.sides_in.Goals as goal
 
 pub loop-node-preserved : goal.loop-node-preserved
 loop-node-preserved c =

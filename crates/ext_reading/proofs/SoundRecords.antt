@@ -1,0 +1,224 @@
+-- When what a circuit file has said so far is sound; lines of the header and of uses keep it so.
+use Rattle.std.proofs.Common.{◌≡◌, ◌≤◌, ◌<◌, ◌&&◌, ℕ, ℤ, Bool, true, false, List, [], ◌∷◌, ◌++◌}
+use Rattle.std.proofs.Common.{length, map, sym, ap, ◌∙◌, subst}
+use Rattle.std.specs.Prelude.{nat_lt, sum_by}
+use Rattle.std.specs.Int.RustNames.{unsigned_abs}
+use Rattle.std.specs.List.{flat_map}
+use Rattle.std.proofs.lemmas.List.{map-append}
+use Rattle.finite_sets.specs.Lists.{In, Distinct}
+use Rattle.finite_sets.proofs.Distincts.{Distinct-push}
+use Rattle.finite_sets.proofs.Searches.{All-from_In}
+use Rattle.ext_model.specs.declared.limits.TheConstants.{MOST_CLASSES, LENGTHS_EDGE}
+use Rattle.ext_model.specs.declared.records.UseRec.{UseRec}
+use Rattle.ext_model.specs.declared.records.NodeRec.{NodeRec}
+use Rattle.ext_model.specs.declared.records.FetRec.{FetRec}
+use Rattle.ext_model.specs.declared.records.MergeRec.{MergeRec}
+use Rattle.ext_model.specs.NodeNames.{is_word}
+use Rattle.ext_model.specs.RecordNames.{names_of}
+use Rattle.ext_model.specs.Lawful.{IsMeasure, AreMeasures, IsLawfulUse, IsLawfulNode}
+use Rattle.ext_reading.specs.declared.faults.ExtReadFault.TheVariants.{BadLine, NoHeader, Version as OtherVersion, NameTwice, Range, UseTwice}
+use Rattle.ext_reading.specs.declared.limits.TheConstants.{MOST_USES}
+use Rattle.ext_reading.specs.declared.lines.HeaderLine.{HeaderLine}
+use Rattle.ext_reading.specs.declared.lines.HeaderLine.TheVariants.{Tech, Timestamp, Version, Style, Scale, Classes}
+use Rattle.ext_reading.specs.declared.lines.UseLine.{UseLine}
+use Rattle.ext_reading.specs.Parts.{is_path}
+use Rattle.ext_reading.specs.Ranges.{class_values_in, six_in}
+use Rattle.ext_reading.specs.Drafts.{Draft, is_among, is_incomplete, was_seen, with_seen, is_other_version, with_header, takes_header, with_use, takes_use}
+use Rattle.ext_reading.specs.Drafts.{leads}
+use Rattle.ext_reading.proofs.NameLaws.{not_In-is_among}
+use Rattle.ext_reading.proofs.Outcomes.{OkHas, next_has, passed_has, failed_has, Each, each_none, each_push}
+use Rattle.ext_reading.proofs.LawfulLines.{IsFormedHeader, IsFormedUse}
+use Rattle.ext_reading.proofs.LawfulDrafts.{AreCounted, class_values_in-has, six_in-has, IsPoint}
+use Rattle.ext_reading.proofs.LawfulDrafts.{IsMeasuredTerm}
+
+-- an area and a perimeter for each class
+pub are_measures : (classes : ℕ) (measures : List (ℤ × ℤ)) → AreCounted classes measures → AreMeasures classes measures
+are_measures classes measures is = record {
+  count = is.count;
+  areas = All-from_In (λ m. IsMeasure m.0) measures (λ m h. (is.pairs m h).area);
+  perimeters = All-from_In (λ m. IsMeasure m.1) measures (λ m h. (is.pairs m h).perimeter);
+}
+
+-- a transistor whose nodes have these names
+pub record IsSoundFet (names : List (List ℕ)) (fet : FetRec) : Type 0 where
+  pub kind : is_word fet.kind ≡ true
+  pub substrate : is_word fet.substrate ≡ true
+  pub point : IsPoint (fet.x, fet.y)
+  pub area : IsMeasure fet.area
+  pub perimeter : IsMeasure fet.perimeter
+  pub gate : IsMeasuredTerm fet.gate
+  pub gate_node : In fet.gate.node names
+  pub terminals : Each IsMeasuredTerm fet.terminals
+  pub terminal_nodes : Each (λ side. In side.node names) fet.terminals
+  pub lengths : sum_by (λ side. unsigned_abs side.length) fet.terminals < LENGTHS_EDGE
+
+-- a merge of nodes with these names and of nodes below these elements
+pub record IsSoundMerge (classes : ℕ) (elements names : List (List ℕ)) (merge : MergeRec) : Type 0 where
+  pub first_path : is_path merge.first ≡ true
+  pub second_path : is_path merge.second ≡ true
+  pub first : leads elements names merge.first ≡ true
+  pub second : leads elements names merge.second ≡ true
+  pub cap : IsMeasure merge.cap
+  pub measures : AreMeasures classes merge.measures
+
+-- all names of nodes
+abbrev pub names_in : List NodeRec → List (List ℕ)
+names_in nodes = flat_map names_of nodes
+
+-- the names are those of the nodes, and each is of one of them
+pub record AreNames (nodes : List NodeRec) (names : List (List ℕ)) (owners : List ℕ) : Type 0 where
+  pub known : Each (λ name. In name (names_in nodes)) names
+  pub listed : Each (λ name. In name names) (names_in nodes)
+  pub differ : Distinct (names_in nodes)
+  pub count : length owners ≡ length names
+  pub within : Each (λ owner. owner < length nodes) owners
+
+pub record IsSound (elements : List (List ℕ)) (draft : Draft) : Type 0 where
+  pub tech : draft.seen.tech ≡ true → is_word draft.tech ≡ true
+  pub classes : length draft.classes ≤ MOST_CLASSES
+  pub no_nodes : draft.begun ≡ false → draft.nodes ≡ []
+  pub no_merges : draft.begun ≡ false → draft.merges ≡ []
+  pub uses : Each IsLawfulUse draft.uses
+  pub ids : draft.ids ≡ map (λ element. element.id) draft.uses
+  pub ids_differ : Distinct draft.ids
+  pub nodes : Each (IsLawfulNode (length draft.classes)) draft.nodes
+  pub names : AreNames draft.nodes draft.names draft.owners
+  pub fets : Each (IsSoundFet draft.names) draft.fets
+  pub merges : Each (IsSoundMerge (length draft.classes) elements draft.names) draft.merges
+
+pub absent_in : {X : Type 0} (P : X → Type 0) (xs : List X) → xs ≡ [] → Each P xs
+absent_in {X} P xs none = let Q : List X → Type 0 = λ l. Each P l in subst Q (sym none) (each_none P)
+
+-- lines of the header
+pub header_sound : (elements : List (List ℕ)) (draft : Draft) (header : HeaderLine) → IsSound elements draft → IsFormedHeader header → draft.begun ≡ false
+    → OkHas (IsSound elements) (with_header (record draft { seen = with_seen draft.seen header }) header)
+header_sound elements draft (Tech name) is formed early = record {
+  tech = λ e. formed;
+  classes = is.classes;
+  no_nodes = is.no_nodes;
+  no_merges = is.no_merges;
+  uses = is.uses;
+  ids = is.ids;
+  ids_differ = is.ids_differ;
+  nodes = is.nodes;
+  names = is.names;
+  fets = is.fets;
+  merges = is.merges;
+}
+header_sound elements draft (Classes values) is formed early =
+    next_has (λ found. length found ≤ MOST_CLASSES) (IsSound elements) (class_values_in values) _ (class_values_in-has values) (λ found few. record {
+      tech = is.tech;
+      classes = few;
+      no_nodes = is.no_nodes;
+      no_merges = is.no_merges;
+      uses = is.uses;
+      ids = is.ids;
+      ids_differ = is.ids_differ;
+      nodes = absent_in (IsLawfulNode (length found)) draft.nodes (is.no_nodes early);
+      names = is.names;
+      fets = is.fets;
+      merges = absent_in (IsSoundMerge (length found) elements draft.names) draft.merges (is.no_merges early);
+    })
+header_sound elements draft Timestamp is formed early = record {
+  tech = is.tech;
+  classes = is.classes;
+  no_nodes = is.no_nodes;
+  no_merges = is.no_merges;
+  uses = is.uses;
+  ids = is.ids;
+  ids_differ = is.ids_differ;
+  nodes = is.nodes;
+  names = is.names;
+  fets = is.fets;
+  merges = is.merges;
+}
+header_sound elements draft (Version is_one) is formed early = record {
+  tech = is.tech;
+  classes = is.classes;
+  no_nodes = is.no_nodes;
+  no_merges = is.no_merges;
+  uses = is.uses;
+  ids = is.ids;
+  ids_differ = is.ids_differ;
+  nodes = is.nodes;
+  names = is.names;
+  fets = is.fets;
+  merges = is.merges;
+}
+header_sound elements draft Style is formed early = record {
+  tech = is.tech;
+  classes = is.classes;
+  no_nodes = is.no_nodes;
+  no_merges = is.no_merges;
+  uses = is.uses;
+  ids = is.ids;
+  ids_differ = is.ids_differ;
+  nodes = is.nodes;
+  names = is.names;
+  fets = is.fets;
+  merges = is.merges;
+}
+header_sound elements draft Scale is formed early = record {
+  tech = is.tech;
+  classes = is.classes;
+  no_nodes = is.no_nodes;
+  no_merges = is.no_merges;
+  uses = is.uses;
+  ids = is.ids;
+  ids_differ = is.ids_differ;
+  nodes = is.nodes;
+  names = is.names;
+  fets = is.fets;
+  merges = is.merges;
+}
+
+pub takes_header-sound : (elements : List (List ℕ)) (is_last : Bool) (draft : Draft) (header : HeaderLine) → IsSound elements draft → IsFormedHeader header
+    → OkHas (IsSound elements) (takes_header is_last draft header)
+takes_header-sound elements is_last draft header is formed =
+    failed_has (IsSound elements) draft.begun _ BadLine (λ early.
+    failed_has (IsSound elements) (is_last && is_incomplete (with_seen draft.seen header)) _ NoHeader (λ e1.
+    failed_has (IsSound elements) (is_other_version header) _ OtherVersion (λ e2.
+    failed_has (IsSound elements) (was_seen draft.seen header) _ NameTwice (λ e3.
+    header_sound elements draft header is formed early))))
+
+-- a line behind the header begins
+pub begun_sound : (elements : List (List ℕ)) (draft : Draft) → IsSound elements draft → IsSound elements (record draft { begun = true })
+begun_sound elements draft is = record {
+  tech = is.tech;
+  classes = is.classes;
+  no_nodes = λ e. absurd (let no : ⊥ = cc in no);
+  no_merges = λ e. absurd (let no : ⊥ = cc in no);
+  uses = is.uses;
+  ids = is.ids;
+  ids_differ = is.ids_differ;
+  nodes = is.nodes;
+  names = is.names;
+  fets = is.fets;
+  merges = is.merges;
+}
+
+-- a use
+pub use_sound : (elements : List (List ℕ)) (draft : Draft) (element : UseRec) → IsSound elements draft → IsLawfulUse element
+    → is_among element.id draft.ids ≡ false
+    → IsSound elements (with_use draft element)
+use_sound elements draft element is lawful new = record {
+  tech = is.tech;
+  classes = is.classes;
+  no_nodes = is.no_nodes;
+  no_merges = is.no_merges;
+  uses = each_push IsLawfulUse draft.uses element is.uses lawful;
+  ids = ap (λ l. l ++ element.id ∷ []) is.ids ∙ sym (map-append (λ (e : UseRec). e.id) draft.uses (element ∷ []));
+  ids_differ = Distinct-push draft.ids element.id is.ids_differ (not_In-is_among element.id draft.ids new);
+  nodes = is.nodes;
+  names = is.names;
+  fets = is.fets;
+  merges = is.merges;
+}
+
+pub takes_use-sound : (elements : List (List ℕ)) (draft : Draft) (line : UseLine) → IsSound elements draft → IsFormedUse line
+    → OkHas (IsSound elements) (takes_use draft line)
+takes_use-sound elements draft line is formed =
+    passed_has (IsSound elements) (nat_lt (length draft.uses) MOST_USES) _ Range (λ few.
+    next_has _ (IsSound elements) (six_in line.six) _ (six_in-has line.six) (λ six placed.
+    failed_has (IsSound elements) (is_among line.id draft.ids) _ UseTwice (λ new.
+    use_sound elements draft (record { cell = line.cell; id = line.id; six = six }) is (record { cell = formed.cell; id = formed.id; six = placed }) new)))
