@@ -1,6 +1,6 @@
 -- What trees without a fault keep to.
 use Rattle.std.proofs.Common.{◌≡◌, ℕ, ◌≤◌, Bool, cond, eqb, List, [], ◌∷◌, length, inl, inr, refl, sym, ◌∙◌, ap}
-use Rattle.std.specs.Prelude.{Option, Some, None, slice_get, Result, Ok, Err, IfErr, IsSome}
+use Rattle.std.specs.Prelude.{Option, Some, None, slice_get, IsSome}
 use Rattle.std.specs.Option.{option_or}
 use Rattle.std.proofs.lemmas.Bool.{cases_Bool, cases_lt, lt-ltb, eqb-true}
 use Rattle.finite_sets.specs.Lists.{In}
@@ -91,11 +91,6 @@ late_fault_at exts root number top fault at found used numbered late = record {
   found = found;
   faulty = late_is_fault exts top fault (used top at) (numbered top at) (late top at);
 }
-
--- what holds of an answer's error holds of it as another fact
-pub if_err_then : {T E : Type 0} {P Q : E → Type 0} (answer : Result T E) → ((e : E) → P e → Q e) → IfErr answer P → IfErr answer Q
-if_err_then (Ok x) step h = tt
-if_err_then (Err e) step h = step e h
 
 -- what is there is something
 pub something : {X : Type 0} (found : Option X) → IsSome found → (x : X) × (found ≡ Some x)

@@ -79,9 +79,9 @@ fn meant_circuit(
 ///
 /// The records are lawful, no two are of one cell, and one is the root's. They are refused where they have a fault at or below the root:
 /// the first use, depth first, that leads to no record (`NoCell`) or back (`Cycle`); then the first number past its limit, of the longest
-/// chain, elements, records of nodes, bytes of names and records of merges (`TooMany`); then the first cell, in the order of elements, whose number of classes is
-/// not the root's (`Classes`); then the first path, by element and merge, that leads to no node (`NoPath`). Beside that `Memory` alone
-/// refuses.
+/// chain, elements, records of nodes, bytes of names and records of merges (`TooMany`); then the first cell, in the order of elements, whose
+/// number of classes is not the root's (`Classes`); then the first path, by element and merge, that leads to no node (`NoPath`). Beside that
+/// `Memory` alone refuses.
 pub fn flatten(alloc: Global, exts: &[CellExt], root: &Name) -> Result<Circuit, FlatFault>
     requires records { AreRecords exts.now }
     requires root { IsSome (ext_of exts.now root.now) }
