@@ -13,6 +13,9 @@ use std::fs;
 use std::io::{Error, ErrorKind, Read, Write};
 use std::rt::Files;
 
+// What the name of a file ends in that is not whole yet.
+const PART_ENDING: &str = ".part";
+
 /// A source over a reader, as standard input or a file.
 #[derive(Drop)]
 pub struct ReaderSource<R> {
@@ -208,7 +211,8 @@ fn fault_of_opening(error: &Error) -> ShelfFault {
     }
 }
 
-/// Writes a file of a folder. Once it is opened its old bytes are gone, so from then on each refusal is `Failed`.
+/// Writes a file of a folder: into another file beside it, which then takes its place. So whoever looks finds the old file or the new one
+/// whole, also where the run is killed, and a refusal leaves the old one.
 fn store_file<R: Files>(
     alloc: Global,
     files: &R,
@@ -219,10 +223,28 @@ fn store_file<R: Files>(
     let Some(path) = path_of(alloc, folder, name)? else {
         return Err(PutFault::Failed);
     };
-    match fs::create(files, path.as_str()) {
-        Ok(file) => write_all(&mut WriterSink::new(file), bytes).map_err(|_| PutFault::Failed),
-        Err(_) => Err(PutFault::Failed),
+    let mut part = String::from_str(alloc, path.as_str())?;
+    part.push_str(PART_ENDING)?;
+    let answer = write_and_rename(files, part.as_str(), path.as_str(), bytes);
+    if answer.is_err() {
+        // Where the system doesn't let it be taken away, it stays.
+        let _ = fs::remove_file(files, part.as_str());
     }
+    answer
+}
+
+/// Writes the part, closes it, and lets it take the place of the file of this path.
+fn write_and_rename<R: Files>(
+    files: &R,
+    part: &str,
+    path: &str,
+    bytes: &[u8],
+) -> Result<(), PutFault> {
+    let Ok(file) = fs::create(files, part) else {
+        return Err(PutFault::Failed);
+    };
+    write_all(&mut WriterSink::new(file), bytes)?;
+    fs::rename(files, part, path).map_err(|_| PutFault::Failed)
 }
 
 /// The path of a name in a folder, or `None` where the name is no text.

@@ -24,6 +24,12 @@ const STEPS: &[Step] = &[
     Step::Fetch(b"nor.mag", Ok(b"tech scmos")),
     Step::Fetch(b"nand.mag", Err(ShelfFault::Absent)),
     Step::Store(b"no_folder/inv.mag", b"magic", Err(PutFault::Failed)),
+    // No file takes the place of a folder, and none is left beside it.
+    Step::Store(b"cells", b"magic", Err(PutFault::Failed)),
+    Step::Fetch(b"cells.part", Err(ShelfFault::Absent)),
+    // Where there is no room for the new file beside it, the old one is left.
+    Step::Store(b"full.mag", b"magic", Err(PutFault::Failed)),
+    Step::Fetch(b"full.mag", Ok(b"old")),
     // A folder is no file, and a name that is no text has no path.
     Step::Fetch(b"cells", Err(ShelfFault::Failed)),
     Step::Fetch(b"\xff", Err(ShelfFault::Failed)),
@@ -54,11 +60,17 @@ fn is_answered<F: Shelf>(alloc: Global, shelf: &mut F, step: &Step) -> Result<bo
 #[test]
 fn a_folder_keeps_files_by_name(rt: HostRuntime) -> Result<(), Fail> {
     fs::create_dir_all(&rt, "out/shelf/cells")?;
+    fs::write(&rt, "out/shelf/full.mag", b"old")?;
+    fs::create_dir_all(&rt, "out/shelf/full.mag.part")?;
+    // A run that was killed has left this.
+    fs::write(&rt, "out/shelf/inv.mag.part", b"mag")?;
     let folder = String::from_str(rt.alloc(), "out/shelf")?;
     let mut shelf = FolderShelf::new(rt.alloc(), &rt, folder);
     for step in STEPS {
         assert!(rt; is_answered(rt.alloc(), &mut shelf, step)?);
     }
+    // What was stored has taken its place, and no part of it stays.
+    assert!(rt; fs::metadata(&rt, "out/shelf/inv.mag.part").is_err());
     Ok(())
 }
 

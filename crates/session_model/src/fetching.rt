@@ -2,7 +2,7 @@
 ghost use Rattle.std.specs.Prelude.{◌≡◌, Some, IfOk};
 ghost use Rattle.outside_io.specs.Files.{Files};
 ghost use Rattle.session_model.specs.Causes.{HasCauses};
-ghost use Rattle.session_model.specs.Fetches.{FetchMeans, kinds_of_fetched};
+ghost use Rattle.session_model.specs.Fetches.{FetchMeans, IsShort, kinds_of_fetched};
 
 use crate::answer::Halt;
 use geo_core::Name;
@@ -29,6 +29,7 @@ pub enum Fetched {
 #[tactic(auto, unfolding(crate::specs::Fetches::text_in))]
 pub fn fetch_text<F: Shelf>(alloc: Global, shelf: &mut F, file: &Name) -> Result<Fetched, Halt>
     ensures effect { (files : Files) → F.files shelf.old ≡ Some files → IfOk result (FetchMeans files file.now) }
+    ensures fits { IfOk result IsShort }
     ensures files { F.files shelf.new ≡ F.files shelf.old }
     ensures causes { HasCauses F.Shelf shelf.old shelf.new kinds_of_fetched result }
 {
