@@ -4,4 +4,5 @@ pub mod GroupLaws
 pub mod NodePlaces
 pub mod PaintTypes
 pub mod PaintLaws
+pub mod RegionLaws
 pub mod RecordLaws

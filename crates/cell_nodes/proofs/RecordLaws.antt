@@ -1,6 +1,6 @@
 -- The records of nodes that have their names and measures.
 use Rattle.std.proofs.Common.{◌≡◌, ◌+◌, ◌<◌, ℕ, ℤ, List, [], ◌∷◌, ◌++◌, length, get_or, map, Some, inl, inr, refl, sym, ◌∙◌, ap, subst, arith, IsTrue, pos}
-use Rattle.std.specs.Prelude.{All, AllPairs, slice_get}
+use Rattle.std.specs.Prelude.{All, AllPairs, slice_get, slice_index}
 use Rattle.std.specs.declared.cmp.Ordering.TheVariants.{Less}
 use Rattle.std.proofs.lemmas.Bool.{cases_lt}
 use Rattle.std.proofs.lemmas.List.{get_or-map, get_or_default, get_or_append_left, get_or_push, length-map}
@@ -12,7 +12,7 @@ use Rattle.finite_sets.proofs.Members.{In-get_or, In-map}
 use Rattle.finite_sets.proofs.Totals.{Total-iff}
 use Rattle.tech_model.specs.declared.raw.Label.{Label}
 use Rattle.tech_model.specs.declared.raw.RawTech.{RawTech}
-use Rattle.tech_model.specs.Types.{is_type}
+use Rattle.tech_model.specs.Types.{is_type, connects}
 use Rattle.tech_model.specs.WellFormed.{IsWellFormed}
 use Rattle.ext_model.specs.declared.records.NodeRec.{NodeRec}
 use Rattle.ext_model.specs.NameOrder.{name_cmp}
@@ -22,7 +22,7 @@ use Rattle.layout_model.specs.LayerTypes.{HasTypesOf}
 use Rattle.layout_model.specs.Layouts.{Layout, IsMaterial}
 use Rattle.layout_model.specs.Measures.{area_at, perimeter_at}
 use Rattle.layout_model.specs.Nodes.{AreMeasures}
-use Rattle.layout_model.specs.RegionTiles.{IsInRegion, AreLayoutTiles}
+use Rattle.layout_model.specs.RegionTiles.{IsInRegion, AreLayoutTiles, AreRegions}
 use Rattle.layout_model.specs.Technologies.{Class, class_of, capacitance, rules_of}
 use Rattle.flood_nodes.specs.SoundTiles.{IsSoundTile}
 use Rattle.flood_nodes.proofs.Renumbering.{numbered_tiles}
@@ -31,11 +31,13 @@ use Rattle.measures.specs.declared.tables.MeasureRow.{MeasureRow}
 use Rattle.measures.proofs.BoundLaws.{measures_are_small}
 use Rattle.names.specs.declared.nodes.NamedNode.{NamedNode}
 use Rattle.names.specs.NamedNodes.{AreOneNamedNode, least_of, IsNameOf, IsNamedNode, AreNamedNodes}
-use Rattle.cell_nodes.specs.NodeNumbers.{AreNodeMeasures, numbers_at}
+use Rattle.cell_nodes.specs.NodeNumbers.{AreNodeNumbers, AreNodeMeasures, numbers_at}
 use Rattle.cell_nodes.specs.NodeRecords.{IsNodeRecord, AreNodeRecords}
 use Rattle.cell_nodes.specs.Records.{IsRecordOf, AreMade, AreRecordsOf, row_at}
+use Rattle.cell_nodes.specs.RegionNodes.{AreNodesOfRegions}
 use Rattle.cell_nodes.proofs.NodePlaces.{material_along, node_is_named}
 use Rattle.cell_nodes.proofs.GroupLaws.{group_in_node, node_in_group}
+use Rattle.cell_nodes.proofs.RegionLaws.{node_number, region_below, node_places}
 
 -- one record more
 pub records_more : (raw : RawTech) (nodes : List NamedNode) (rows : List MeasureRow) (k : ℕ) (old new : List NodeRec) (d : NamedNode) (made : NodeRec)
@@ -161,7 +163,7 @@ module _ (raw : RawTech) (layout : Layout) (labels : List Label) (tiles : List R
       }
 
   -- the records of the nodes are those of the layout
-  pub node_records : (made : List NodeRec) → AreRecordsOf raw nodes rows made → AreNodeRecords raw layout labels made
+  abbrev node_records : (made : List NodeRec) → AreRecordsOf raw nodes rows made → AreNodeRecords raw layout labels made
   node_records made are =
       let many = are.one_each in
       let leasts = map least_of nodes in
@@ -180,3 +182,22 @@ module _ (raw : RawTech) (layout : Layout) (labels : List Label) (tiles : List R
             subst (λ (p : Place). IsBefore p (get_or leasts j d)) (sym (at i d (omega (arith, less, inside))))
             (subst (λ (p : Place). IsBefore (least_of (get_or nodes i no_node)) p) (sym (at j d inside)) (named.in_order i j no_node less inside));
       }
+
+  -- and each region has the number of the record of its node
+  pub region_records : (numbers : List ℕ) (made : List NodeRec) → AreRegions (connects raw) layout tiles count → AreNodeNumbers nodes count numbers
+      → AreRecordsOf raw nodes rows made → AreNodesOfRegions raw layout labels tiles count made numbers
+  region_records numbers made regions numbered are = record {
+    records = node_records made are;
+    one_each = numbered.one_each;
+    numbered = λ k d below.
+        let many = numbered.one_each in
+        let long = are.one_each in
+        let number = node_number raw layout labels tiles count nodes numbers regions named numbered k (omega (arith, below, many)) in
+        subst (λ (n : ℕ). n < length made) (get_or_default numbers k 0 d below) (omega (arith, number, long));
+    places = λ region place least inside.
+        let number = slice_index numbers region in
+        let below = region_below raw layout labels tiles count nodes numbers regions named numbered sound region place inside in
+        let at = node_number raw layout labels tiles count nodes numbers regions named numbered region below in
+        subst (λ (p : Place). AreOneNamedNode raw layout labels p place) (sym (get_or-map least_of nodes number no_node least at))
+        (node_places raw layout labels tiles count nodes numbers regions named numbered sound region place no_node inside);
+  }

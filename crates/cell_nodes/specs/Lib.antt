@@ -1,3 +1,4 @@
 pub mod NodeNumbers
 pub mod NodeRecords
 pub mod Records
+pub mod RegionNodes

@@ -11,8 +11,9 @@ ghost use Rattle.measures.specs.Bounds.{IsNearPlace};
 ghost use Rattle.names.specs.Attachments.{AreUnattached};
 ghost use Rattle.names.specs.Labels.{IsLabelOf};
 ghost use Rattle.names.specs.declared.nodes.NamedNode.{NamedNode as OneNode};
-ghost use Rattle.cell_nodes.specs.NodeNumbers.{AreNodeMeasures};
+ghost use Rattle.cell_nodes.specs.NodeNumbers.{AreNodeNumbers, AreNodeMeasures};
 ghost use Rattle.cell_nodes.specs.NodeRecords.{AreNodeRecords};
+ghost use Rattle.cell_nodes.specs.RegionNodes.{AreNodesOfRegions};
 ghost use Rattle.cell_nodes.specs.Records.{AreMade, AreRecordsOf};
 
 use crate::groups::{grouped, node_numbers};
@@ -22,7 +23,7 @@ use ext_model::NodeRec;
 use flood_nodes::{Regions, regions};
 use geo_core::{List, Name};
 use measures::{MeasureRow, Measures, measure_tiles};
-use names::{Named, NamedNode, name_nodes};
+use names::{NamedNode, name_nodes};
 use std::alloc::{AllocError, Global};
 use tech_model::{Label, Tech};
 
@@ -31,6 +32,16 @@ use tech_model::{Label, Tech};
 #[derive(Debug, Drop)]
 pub struct CellNodes {
     pub nodes: List<NodeRec>,
+    pub unattached: List<Name>,
+}
+
+/// The regions of a cell's own paint, the records of the nodes that they make by their least places, for each region the number
+/// of its node's record, and the texts of the labels that name no node, in the order of the labels.
+#[derive(Debug, Drop)]
+pub struct CellRegions {
+    pub regions: Regions,
+    pub nodes: List<NodeRec>,
+    pub numbers: Vec<usize>,
     pub unattached: List<Name>,
 }
 
@@ -58,12 +69,12 @@ fn node_measures(
     tech: &Tech,
     regions: &Regions,
     nodes: &[NamedNode],
+    numbers: &[usize],
 ) -> Result<Measures, AllocError>
-    requires { (k : ℕ) (node : OneNode) → k < length nodes.now → All (λ region. region < regions.now.count) (slice_index_or nodes.now k node).regions }
+    requires { AreNodeNumbers nodes.now regions.now.count numbers.now }
     ensures { IfOk result (λ made. AreNodeMeasures tech.now regions.now.tiles regions.now.count nodes.now made.rows) }
 {
-    let numbers = node_numbers(alloc, nodes, regions.count)?;
-    let groups = grouped(alloc, regions.tiles.items(), numbers.as_slice())?;
+    let groups = grouped(alloc, regions.tiles.items(), numbers)?;
     measure_tiles(
         alloc,
         tech,
@@ -90,6 +101,38 @@ fn records_of(
     Ok(records)
 }
 
+/// The regions of a cell's own paint, and the nodes that they make, with the names that its labels give them.
+///
+/// The paint is of the technology, and so are the layers of the labels. Areas of labels have bounds below 2^28 in absolute
+/// value. Want of memory alone refuses.
+pub fn cell_regions(
+    alloc: Global,
+    tech: &Tech,
+    paint: &CellPaint,
+    labels: &[Label],
+) -> Result<CellRegions, AllocError>
+    requires kinds { paint.now.kinds ≡ tech.now.types }
+    requires planes { length paint.now.planes ≡ length tech.now.planes }
+    requires labels { All (IsLabelOf tech.now) labels.now }
+    ensures regions { IfOk result (λ found. AreRegions (connects tech.now) (layout_of paint.now) found.regions.tiles found.regions.count) }
+    ensures nodes { IfOk result (λ found. AreNodesOfRegions tech.now (layout_of paint.now) labels.now found.regions.tiles found.regions.count
+        found.nodes found.numbers.items) }
+    ensures unattached { IfOk result (λ found. AreUnattached tech.now (layout_of paint.now) labels.now found.unattached) }
+{
+    let regions = regions_of(alloc, tech, paint)?;
+    let named = name_nodes(alloc, tech, &regions, labels)?;
+    let nodes = named.nodes.items();
+    let numbers = node_numbers(alloc, nodes, regions.count)?;
+    let measures = node_measures(alloc, tech, &regions, nodes, numbers.as_slice())?;
+    let records = records_of(alloc, tech, nodes, measures.rows.items())?;
+    Ok(CellRegions {
+        regions,
+        nodes: List::of(records),
+        numbers,
+        unattached: named.unattached,
+    })
+}
+
 /// The nodes of a cell's own paint, with the names that its labels give them.
 ///
 /// The paint is of the technology, and so are the layers of the labels. Areas of labels have bounds below 2^28 in absolute
@@ -106,12 +149,9 @@ pub fn cell_nodes(
     ensures nodes { IfOk result (λ found. AreNodeRecords tech.now (layout_of paint.now) labels.now found.nodes) }
     ensures unattached { IfOk result (λ found. AreUnattached tech.now (layout_of paint.now) labels.now found.unattached) }
 {
-    let regions = regions_of(alloc, tech, paint)?;
-    let Named { nodes, unattached } = name_nodes(alloc, tech, &regions, labels)?;
-    let measures = node_measures(alloc, tech, &regions, nodes.items())?;
-    let records = records_of(alloc, tech, nodes.items(), measures.rows.items())?;
+    let found = cell_regions(alloc, tech, paint, labels)?;
     Ok(CellNodes {
-        nodes: List::of(records),
-        unattached,
+        nodes: found.nodes,
+        unattached: found.unattached,
     })
 }

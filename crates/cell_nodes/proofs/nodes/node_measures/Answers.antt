@@ -1,5 +1,5 @@
 -- The groups are the tiles with other numbers, so they are as sound and have the same contacts.
-use Rattle.std.proofs.Common.{◌+◌, ℕ, List, length, map, sym, subst}
+use Rattle.std.proofs.Common.{◌+◌, List, length, map, sym, subst}
 use Rattle.std.specs.Prelude.{All}
 use Rattle.std.proofs.lemmas.Result.{IfOk-weaker}
 use Rattle.layout_model.specs.declared.region_tiles.RegionTile.{RegionTile}
@@ -15,31 +15,29 @@ use Rattle.cell_nodes.proofs.nodes.node_measures.Goals as goal
 pub measure_tiles-requires-clause-sound : goal.measure_tiles-requires-clause-sound
 measure_tiles-requires-clause-sound c =
     let regions = c.args.regions.now in
-    let numbers = c.in_ok-numbers.numbers.items in
+    let numbers = c.args.numbers.now in
     let groups = c.in_ok-groups.groups.items in
     let renumbered : AreRenumbered regions.tiles (numbers_at numbers regions.tiles) groups =
-    subst (λ (v : List RegionTile). AreRenumbered v (numbers_at numbers v) groups) c.items.ensures
-    (subst (λ (v : List ℕ). AreRenumbered c.items.result.now (numbers_at v c.items.result.now) groups) c.as_slice.ensures.value c.in_ok-groups.ensures) in
-    subst (λ (v : List RegionTile). All (IsSoundTile (length c.args.nodes.now + 1)) v) (sym c.as_slice-2.ensures.value)
-    (groups_sound regions.tiles groups regions.count c.args.nodes.now numbers regions.sound c.in_ok-numbers.ensures renumbered)
+    subst (λ (v : List RegionTile). AreRenumbered v (numbers_at numbers v) groups) c.items.ensures c.in_ok-groups.ensures in
+    subst (λ (v : List RegionTile). All (IsSoundTile (length c.args.nodes.now + 1)) v) (sym c.as_slice.ensures.value)
+    (groups_sound regions.tiles groups regions.count c.args.nodes.now numbers regions.sound c.requires renumbered)
 
 pub returns : goal.returns
 returns c =
     let raw = c.args.tech.now in
     let nodes = c.args.nodes.now in
     let regions = c.args.regions.now in
-    let numbers = c.in_ok-numbers.numbers.items in
+    let numbers = c.args.numbers.now in
     let groups = c.in_ok-groups.groups.items in
     let renumbered : AreRenumbered regions.tiles (numbers_at numbers regions.tiles) groups =
-    subst (λ (v : List RegionTile). AreRenumbered v (numbers_at numbers v) groups) c.items.ensures
-    (subst (λ (v : List ℕ). AreRenumbered c.items.result.now (numbers_at v c.items.result.now) groups) c.as_slice.ensures.value c.in_ok-groups.ensures) in
+    subst (λ (v : List RegionTile). AreRenumbered v (numbers_at numbers v) groups) c.items.ensures c.in_ok-groups.ensures in
     IfOk-weaker c.measure_tiles.result _ _
     (λ made is. record {
       numbers = numbers;
       groups = groups;
-      are_numbers = c.in_ok-numbers.ensures;
+      are_numbers = c.requires;
       are_groups = renumbered;
       measured = subst (λ (v : List RegionTile). (layout : Layout) → AreLayoutTiles layout v
-          → AreMeasured (map class_of raw.classes) layout v (length nodes + 1) (map (λ row. row.pairs) made.rows)) c.as_slice-2.ensures.value is;
+          → AreMeasured (map class_of raw.classes) layout v (length nodes + 1) (map (λ row. row.pairs) made.rows)) c.as_slice.ensures.value is;
     })
     c.measure_tiles.ensures
