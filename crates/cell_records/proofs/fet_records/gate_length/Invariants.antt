@@ -1,0 +1,6 @@
+use Rattle.std.proofs.Common.{◌≡◌, ℕ, ℤ, ◌-ℤ◌, take}
+use Rattle.finite_sets.specs.Total.{sum_on}
+use Rattle.cell_records.proofs.fet_records.gate_length.Given as goal
+
+abbrev pub invariant-loop-terminal : goal.invariant-loop-terminal
+invariant-loop-terminal l = l.left ≡ l.fet.perimeter -ℤ sum_on (λ (t : ℕ × ℤ). t.1) (take l.terminal-index l.fet.terminals)

@@ -1,0 +1,6 @@
+use Rattle.std.proofs.Common.{◌≡◌, map, take}
+use Rattle.cell_records.specs.FetsOfRegions.{term_of}
+use Rattle.cell_records.proofs.fet_records.terminals_of.Given as goal
+
+abbrev pub invariant-loop-terminal : goal.invariant-loop-terminal
+invariant-loop-terminal l = l.terminals.items ≡ map (term_of l.nodes) (take l.terminal-index l.joined)

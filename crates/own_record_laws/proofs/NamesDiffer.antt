@@ -1,0 +1,51 @@
+-- No name is in two records of nodes.
+use Rattle.std.proofs.Common.{◌≡◌, ℕ, List, [], ◌∷◌, get_or, inl, inr, subst, arith, pos}
+use Rattle.std.specs.List.{flat_map}
+use Rattle.finite_sets.specs.Lists.{In, Distinct}
+use Rattle.finite_sets.proofs.Distincts.{Distinct-append}
+use Rattle.finite_sets.proofs.Pairs.{Pairwise, Pairwise-from_AllPairs}
+use Rattle.tech_model.specs.declared.raw.Label.{Label}
+use Rattle.tech_model.specs.declared.raw.RawTech.{RawTech}
+use Rattle.tech_model.specs.WellFormed.{IsWellFormed}
+use Rattle.tech_model.proofs.RuleLaws.{In-flat_map_source}
+use Rattle.ext_model.specs.declared.records.NodeRec.{NodeRec}
+use Rattle.ext_model.specs.RecordNames.{names_of}
+use Rattle.layout_model.specs.LayerTypes.{HasTypesOf}
+use Rattle.layout_model.specs.Layouts.{Layout}
+use Rattle.layout_model.specs.Places.{Place, IsBefore}
+use Rattle.layout_model.proofs.PlaceLaws.{IsBefore-irreflexive}
+use Rattle.cell_nodes.specs.NodeRecords.{IsNodeRecord, AreNodeRecords}
+use Rattle.own_record_laws.proofs.NodesByName.{one_name_one_node}
+use Rattle.own_record_laws.proofs.PreferredNames.{one_least, recorded}
+
+-- parts that no two things share, and that differ within each, differ
+Distinct-parts : {X Y : Type 0} (parts : X → List Y) (xs : List X) → Pairwise (λ a b. (y : Y) → In y (parts a) → In y (parts b) → ⊥) xs
+    → ((x : X) → In x xs → Distinct (parts x)) → Distinct (flat_map parts xs)
+Distinct-parts parts [] apart each = tt
+Distinct-parts parts (x ∷ xs) apart each =
+    Distinct-append (parts x) (flat_map parts xs) (each x (inl (λ i. x))) (Distinct-parts parts xs apart.1 (λ y here. each y (inr here)))
+    (λ y here there. let source = In-flat_map_source parts y xs there in apart.0 source.0 source.1.0 y here source.1.1)
+
+module _ (raw : RawTech) (layout : Layout) (labels : List Label) (well : IsWellFormed raw) (typed : HasTypesOf raw layout) (nodes : List NodeRec)
+    (are : AreNodeRecords raw layout labels nodes) where
+  -- nodes of different least places have no name in common
+  places_apart : (a b : Place) (one other : NodeRec) → IsNodeRecord raw layout labels a one → IsNodeRecord raw layout labels b other → IsBefore a b
+      → (name : List ℕ) → In name (names_of one) → In name (names_of other) → ⊥
+  places_apart a b one other p q before name here there =
+      let joined = one_name_one_node raw layout labels well typed a b name p.material q.material (p.names.2 name here) (q.names.2 name there) in
+      let same : a ≡ b = one_least raw layout labels a b a b joined p.is_least q.is_least in
+      IsBefore-irreflexive b (subst (λ (place : Place). IsBefore place b) same before)
+
+  -- so no two nodes of the list have one
+  nodes_apart : Pairwise (λ (a b : NodeRec). (name : List ℕ) → In name (names_of a) → In name (names_of b) → ⊥) nodes
+  nodes_apart =
+      let origin : Place = record { plane = 0; square = record { x = pos 0; y = pos 0 } } in
+      let long = are.one_each in
+      Pairwise-from_AllPairs (λ (a b : NodeRec). (name : List ℕ) → In name (names_of a) → In name (names_of b) → ⊥) nodes
+      (λ i j d less below. places_apart (get_or are.leasts i origin) (get_or are.leasts j origin) (get_or nodes i d) (get_or nodes j d)
+      (are.sound i origin d (omega (arith, less, below))) (are.sound j origin d below)
+      (are.in_order i j origin less (omega (arith, below, long))))
+
+  -- so all names differ
+  pub names_differ : Distinct (flat_map names_of nodes)
+  names_differ = Distinct-parts names_of nodes nodes_apart (λ node listed. (recorded raw layout labels nodes are node listed).is.names.0)

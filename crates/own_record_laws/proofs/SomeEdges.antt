@@ -1,0 +1,15 @@
+-- Where edges are counted there is one.
+use Rattle.std.proofs.Common.{ℤ, pos, ◌<ℤ◌, [], ◌∷◌, inl, refl, arith}
+use Rattle.std.proofs.lemmas.Int.{ints}
+use Rattle.layout_model.specs.EdgeCounts.{LeadsAcross, IsEdgeCount}
+use Rattle.layout_model.specs.Places.{Place}
+
+-- An edge that a count of some edges has.
+pub record IsCounted (From To : Place → Type 0) : Type 0 where
+  pub edge : Place × Place
+  pub leads : LeadsAcross From To edge
+
+-- where edges are counted there is one
+pub some_edge : (From To : Place → Type 0) (count : ℤ) → pos 0 <ℤ count → IsEdgeCount From To count → IsCounted From To
+some_edge From To count some ([], (lists, sum)) = absurd (omega (arith, ints, some, sum))
+some_edge From To count some (edge ∷ edges, (lists, sum)) = record { edge = edge; leads = lists.2 edge (inl refl) }

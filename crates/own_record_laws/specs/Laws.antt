@@ -1,0 +1,38 @@
+-- What the record of a cell without uses is held to.
+use Rattle.std.specs.Prelude.{◌≡◌, ◌⊎◌, ℕ, List, [], ◌∷◌, All}
+use Rattle.geo_core.specs.declared.limits.Limit.TheVariants.{Nodes, Names}
+use Rattle.tech_model.specs.declared.raw.Label.{Label}
+use Rattle.tech_model.specs.declared.raw.RawTech.{RawTech}
+use Rattle.tech_model.specs.Rules.{KeepsRules}
+use Rattle.tech_model.specs.WellFormed.{IsWellFormed}
+use Rattle.ext_model.specs.declared.circuits.Circuit.{Circuit}
+use Rattle.ext_model.specs.declared.records.CellExt.{CellExt}
+use Rattle.ext_model.specs.Lawful.{IsLawful}
+use Rattle.layout_model.specs.LayerTypes.{HasTypesOf}
+use Rattle.layout_model.specs.Layouts.{Layout}
+use Rattle.names.specs.Labels.{IsLabelOf}
+use Rattle.cell_paint.specs.Paints.{IsSoundPaint}
+use Rattle.circuit_model.specs.declared.faults.FlatFault.{FlatFault}
+use Rattle.circuit_model.specs.declared.faults.FlatFault.TheVariants.{TooMany}
+use Rattle.circuit_model.specs.Refusals.{IsFlatOf, IsFlatFaultOf}
+use Rattle.own_records.specs.OwnCircuits.{IsOwnCircuit}
+use Rattle.own_records.specs.OwnRecords.{IsOwnRecord}
+
+-- the record of sound paint of a technology that keeps its rules, with labels of it, is lawful
+abbrev pub OwnRecordsAreLawful : Type 0
+OwnRecordsAreLawful =
+    (raw : RawTech) (layout : Layout) (labels : List Label) (name : List ℕ) (ext : CellExt)
+    → IsWellFormed raw → KeepsRules raw → IsSoundPaint raw.types layout → HasTypesOf raw layout → All (IsLabelOf raw) labels
+    → IsOwnRecord raw layout labels name ext → IsLawful ext
+
+-- what the record alone means is the circuit that the layout is
+abbrev pub OwnRecordsMeanTheLayout : Type 0
+OwnRecordsMeanTheLayout =
+    (raw : RawTech) (layout : Layout) (labels : List Label) (name : List ℕ) (ext : CellExt) (circuit : Circuit)
+    → IsLawful ext → IsOwnRecord raw layout labels name ext → IsFlatOf (ext ∷ []) name circuit → IsOwnCircuit raw layout labels circuit
+
+-- the record alone has no other fault than too many nodes or too long names
+abbrev pub OwnRecordsHaveNoOtherFault : Type 0
+OwnRecordsHaveNoOtherFault =
+    (raw : RawTech) (layout : Layout) (labels : List Label) (name : List ℕ) (ext : CellExt) (fault : FlatFault)
+    → IsOwnRecord raw layout labels name ext → IsFlatFaultOf (ext ∷ []) name fault → (fault ≡ TooMany Nodes) ⊎ (fault ≡ TooMany Names)

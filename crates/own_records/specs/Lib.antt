@@ -1,0 +1,3 @@
+pub mod FetRecords
+pub mod OwnCircuits
+pub mod OwnRecords

@@ -1,0 +1,36 @@
+-- The circuit that a layout with labels is, which is that of a cell without uses.
+use Rattle.std.specs.Prelude.{◌≡◌, ℕ, List, AllPairs}
+use Rattle.finite_sets.specs.Lists.{In}
+use Rattle.tech_model.specs.declared.raw.Label.{Label}
+use Rattle.tech_model.specs.declared.raw.RawTech.{RawTech}
+use Rattle.ext_model.specs.declared.circuits.Circuit.{Circuit}
+use Rattle.ext_model.specs.declared.records.NodeRec.{NodeRec}
+use Rattle.layout_model.specs.Places.{Place}
+use Rattle.layout_model.specs.Layouts.{Layout, IsMaterial}
+use Rattle.names.specs.NamedNodes.{AreOneNamedNode}
+use Rattle.cell_nodes.specs.NodeRecords.{IsNodeRecord}
+use Rattle.own_records.specs.FetRecords.{AreFetRecords, IsNameBefore}
+use Rattle.own_records.specs.OwnRecords.{class_values}
+
+-- The record is that of a node of the layout.
+pub record IsNodeOf (raw : RawTech) (layout : Layout) (labels : List Label) (node : NodeRec) : Type 0 where
+  pub least : Place
+  pub is : IsNodeRecord raw layout labels least node
+
+-- The place is of the node that one of these records is of.
+pub record IsInSome (raw : RawTech) (layout : Layout) (labels : List Label) (nodes : List NodeRec) (place : Place) : Type 0 where
+  pub node : NodeRec
+  pub listed : In node nodes
+  pub least : Place
+  pub is : IsNodeRecord raw layout labels least node
+  pub within : AreOneNamedNode raw layout labels least place
+
+-- The circuit has the nodes of the layout in the name order of their preferred names, and its transistors by their least places, with
+-- terminals in the name order of their nodes.
+pub record IsOwnCircuit (raw : RawTech) (layout : Layout) (labels : List Label) (circuit : Circuit) : Type 0 where
+  pub tech : circuit.tech ≡ raw.name
+  pub classes : circuit.classes ≡ class_values raw
+  pub sound : (node : NodeRec) → In node circuit.nodes → IsNodeOf raw layout labels node
+  pub whole : (place : Place) → IsMaterial layout place → IsInSome raw layout labels circuit.nodes place
+  pub in_order : AllPairs (λ a b. IsNameBefore a.name b.name) circuit.nodes
+  pub fets : AreFetRecords raw layout labels IsNameBefore circuit.fets
