@@ -2,7 +2,7 @@
 use Rattle.std.specs.Prelude.{◌≡◌, ℕ, suc, List, length}
 use Rattle.cell_bodies.specs.declared.bodies.CellBody.{CellBody}
 use Rattle.cell_library.specs.declared.faults.LibFault.{LibFault}
-use Rattle.cell_library.specs.Additions.{AddAllIsRefused, with_all}
+use Rattle.cell_library.specs.Additions.{AddAllIsRefused, AreNextCells, with_all}
 use Rattle.cell_library.specs.Libraries.{LibraryParts, seen, edits_of}
 use Rattle.cell_library.specs.Refusals.{EditIsRefused}
 use Rattle.cell_loading.specs.declared.faults.LoadFault.{LoadFault}
@@ -27,3 +27,9 @@ pub record CellsStayAway (old : LibraryParts) (bodies : List (List ℕ × CellBo
 abbrev pub Arrives : LibraryParts → LibraryParts → List (List ℕ × CellBody) → Loaded → Type 0
 Arrives old new bodies (loaded.Cells count) = CellsCame old new bodies count
 Arrives old new bodies (loaded.Refused told) = CellsStayAway old bodies told
+
+-- Some cells came, as the next edit, whose number is the stamp of each, and no other stamp changed.
+abbrev pub ArriveWithStamps : LibraryParts → LibraryParts → Loaded → Type 0
+ArriveWithStamps old new (loaded.Cells count) =
+    (cells : List (List ℕ × CellBody)) × AreNextCells old new cells × (seen new ≡ with_all (seen old) cells)
+ArriveWithStamps old new (loaded.Refused told) = Unit {0}

@@ -5,7 +5,7 @@ ghost use Rattle.outside_io.specs.Files.{Files};
 ghost use Rattle.session_model.specs.Causes.{HasCauses};
 ghost use Rattle.cell_library.specs.Additions.{CanBeAdded};
 ghost use Rattle.cell_library.specs.Libraries.{IsSame, seen};
-ghost use Rattle.cell_loading.specs.Arrivals.{Arrives};
+ghost use Rattle.cell_loading.specs.Arrivals.{ArriveWithStamps, Arrives};
 ghost use Rattle.cell_loading.specs.Loads.{end_fault, AreRead, HasMoreIfLoaded, KeepsIfRefused, LoadGives, kinds_of_loaded};
 ghost use Rattle.cell_loading.specs.ReadCells.{is_among};
 ghost use Rattle.cell_loading.specs.Stops.{answer_of, kinds_of_told, IfRefused};
@@ -42,6 +42,7 @@ pub fn load_cells<F: Shelf>(
     ensures effect { (files : Files) → F.files shelf.old ≡ Some files → IfOk result (LoadGives files library.old library.new root.now) }
     ensures kept { IfOk result (KeepsIfRefused library.old library.new) }
     ensures more { IfOk result (HasMoreIfLoaded library.old library.new) }
+    ensures stamped { IfOk result (ArriveWithStamps library.old library.new) }
     ensures halted { OnErr result (IsSame library.old library.new) }
     ensures files { F.files shelf.new ≡ F.files shelf.old }
     ensures causes { HasCauses F.Shelf shelf.old shelf.new kinds_of_loaded result }
@@ -91,6 +92,7 @@ fn add_cells(library: &mut Library, cells: Vec<(Name, CellBody)>) -> Result<Load
     ensures arrives { IfOk result (Arrives library.old library.new cells.items) }
     ensures kept { IfOk result (KeepsIfRefused library.old library.new) }
     ensures more { IfOk result (HasMoreIfLoaded library.old library.new) }
+    ensures stamped { IfOk result (ArriveWithStamps library.old library.new) }
     ensures halted { OnErr result (IsSame library.old library.new) }
     ensures memory { IfErr result (λ halt. halt ≡ Halt.Memory) }
 {

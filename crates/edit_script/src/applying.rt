@@ -6,6 +6,7 @@ ghost use Rattle.edit_script.specs.Answers.{Applies};
 ghost use Rattle.edit_script.specs.Editing.{IsCurrent, editing_of};
 ghost use Rattle.edit_script.specs.Edits.{applied};
 ghost use Rattle.edit_script.specs.Refusals.{ApplyIsRefused, IsRefusedOrLacksMemory};
+ghost use Rattle.edit_script.specs.Stamps.{IsStamped};
 
 use crate::cell_edits::{edit_cell, new_cell};
 use crate::faults::EditFault;
@@ -25,7 +26,8 @@ fn dispatch(
 ) -> Result<(), EditFault>
     requires formed { IsFormed command.now }
     requires current { IsCurrent library.old current.old }
-    ensures { Applies library.old current.old library.new current.new command.now result }
+    ensures applies { Applies library.old current.old library.new current.new command.now result }
+    ensures stamped { OnOk result (IsStamped library.old library.new current.old command.now) }
 {
     match command {
         Command::New(name) => new_cell(alloc, library, current, name),
@@ -58,6 +60,7 @@ pub fn apply(
     ensures accepted { OnOk result ((fault : EditFault) → ApplyIsRefused (editing_of library.old current.old) command.now fault → ⊥) }
     ensures refused { IfErr result (IsRefusedOrLacksMemory (editing_of library.old current.old) command.now) }
     ensures same { OnErr result (IsSame library.old library.new) }
+    ensures stamped { OnOk result (IsStamped library.old library.new current.old command.now) }
     ensures kept { OnErr result (current.new ≡ current.old) }
     ensures current { IsCurrent library.new current.new }
 {

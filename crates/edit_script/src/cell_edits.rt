@@ -1,7 +1,8 @@
 //! The commands that make a cell or choose one.
-ghost use Rattle.std.specs.Prelude.{IsTrue};
+ghost use Rattle.std.specs.Prelude.{IsTrue, OnOk};
 ghost use Rattle.text_scan.specs.PlainNames.{is_plain_name};
 ghost use Rattle.edit_script.specs.Answers.{Applies};
+ghost use Rattle.edit_script.specs.Stamps.{IsStamped};
 
 use crate::faults::EditFault;
 use crate::lookups::{cell_called, with_word};
@@ -19,7 +20,8 @@ pub(crate) fn new_cell(
     name: &Name,
 ) -> Result<(), EditFault>
     requires { IsTrue (is_plain_name name.now) }
-    ensures { Applies library.old current.old library.new current.new (Command.New name.now) result }
+    ensures applies { Applies library.old current.old library.new current.new (Command.New name.now) result }
+    ensures stamped { OnOk result (IsStamped library.old library.new current.old (Command.New name.now)) }
 {
     let Ok(copied) = name.copy(alloc) else {
         return Err(EditFault::Memory);
@@ -40,7 +42,8 @@ pub(crate) fn edit_cell(
     current: &mut Option<CellKey>,
     name: &Name,
 ) -> Result<(), EditFault>
-    ensures { Applies library.now current.old library.now current.new (Command.Edit name.now) result }
+    ensures applies { Applies library.now current.old library.now current.new (Command.Edit name.now) result }
+    ensures stamped { OnOk result (IsStamped library.now library.now current.old (Command.Edit name.now)) }
 {
     match cell_called(alloc, library, name) {
         Ok(found) => {

@@ -1,6 +1,7 @@
 //! The commands that edit a library.
 //!
-//! What a command makes of what is edited is one function (`Edits`), and what refuses it one relation (`Refusals`).
+//! What a command makes of what is edited is one function (`Edits`), what refuses it one relation (`Refusals`), and which stamps it raises
+//! another (`Stamps`).
 //!
 //! # How the proof goes
 //!
@@ -8,7 +9,8 @@
 //! or a fault and that nothing has changed. It finds the current cell and what the words name, calls the library, and tells the library's
 //! fault with the word that is meant. What the library says of its edit is what comes of the command once all that was looked for is there
 //! (`AnswerLaws`, then `OwnLaws` and `UseLaws` for each command). The current cell stays one of the library's, since no command makes the
-//! cells fewer (`CurrentLaws`).
+//! cells fewer (`CurrentLaws`). Which cells each command leaves as they were is told for those who keep what they made of cells
+//! (`KeptCells`).
 #![tactic(auto)]
 
 mod applying;

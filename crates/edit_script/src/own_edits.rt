@@ -1,11 +1,12 @@
 //! The commands that change what the current cell has of its own: its paint and its labels.
-ghost use Rattle.std.specs.Prelude.{◌≡◌, pos, unsigned_abs, IsTrue};
+ghost use Rattle.std.specs.Prelude.{◌≡◌, pos, unsigned_abs, IsTrue, OnOk};
 ghost use Rattle.cell_bodies.specs.Numbers.{is_position};
 ghost use Rattle.cell_bodies.specs.Words.{is_label_text};
 ghost use Rattle.cell_bodies.specs.declared.limits.TheConstants.{LAST_POSITION};
 ghost use Rattle.script_lines.specs.Arguments.{is_between};
 ghost use Rattle.edit_script.specs.Answers.{Applies};
 ghost use Rattle.edit_script.specs.Editing.{IsCurrent};
+ghost use Rattle.edit_script.specs.Stamps.{IsStamped};
 
 use crate::faults::EditFault;
 use crate::lookups::{label_layer, layer_called, told};
@@ -25,7 +26,8 @@ pub(crate) fn paint(
     area: Rect,
 ) -> Result<(), EditFault>
     requires { IsCurrent library.old current }
-    ensures { Applies library.old current library.new current (Command.Paint layer.now area) result }
+    ensures applies { Applies library.old current library.new current (Command.Paint layer.now area) result }
+    ensures stamped { OnOk result (IsStamped library.old library.new current (Command.Paint layer.now area)) }
 {
     let Some(cell) = current else {
         return Err(EditFault::NoCurrent);
@@ -45,7 +47,8 @@ pub(crate) fn erase(
     area: Rect,
 ) -> Result<(), EditFault>
     requires { IsCurrent library.old current }
-    ensures { Applies library.old current library.new current (Command.Erase layer.now area) result }
+    ensures applies { Applies library.old current library.new current (Command.Erase layer.now area) result }
+    ensures stamped { OnOk result (IsStamped library.old library.new current (Command.Erase layer.now area)) }
 {
     let Some(cell) = current else {
         return Err(EditFault::NoCurrent);
@@ -78,7 +81,8 @@ pub(crate) fn label(
     requires current { IsCurrent library.old current }
     requires position { IsTrue (is_between (pos 0) (pos LAST_POSITION) position) }
     requires text { IsTrue (is_label_text text.now) }
-    ensures { Applies library.old current library.new current (Command.Label layer.now area position text.now) result }
+    ensures applies { Applies library.old current library.new current (Command.Label layer.now area position text.now) result }
+    ensures stamped { OnOk result (IsStamped library.old library.new current (Command.Label layer.now area position text.now)) }
 {
     let Some(cell) = current else {
         return Err(EditFault::NoCurrent);
@@ -108,7 +112,8 @@ pub(crate) fn unlabel(
     text: &Name,
 ) -> Result<(), EditFault>
     requires { IsCurrent library.old current }
-    ensures { Applies library.old current library.new current (Command.Unlabel text.now) result }
+    ensures applies { Applies library.old current library.new current (Command.Unlabel text.now) result }
+    ensures stamped { OnOk result (IsStamped library.old library.new current (Command.Unlabel text.now)) }
 {
     let Some(cell) = current else {
         return Err(EditFault::NoCurrent);

@@ -1,11 +1,12 @@
 //! The commands that change the uses of the current cell.
-ghost use Rattle.std.specs.Prelude.{◌≡◌, Some, IsTrue};
+ghost use Rattle.std.specs.Prelude.{◌≡◌, Some, IsTrue, OnOk};
 ghost use Rattle.cell_bodies.specs.Numbers.{is_index};
 ghost use Rattle.cell_bodies.specs.Words.{is_use_id};
 ghost use Rattle.script_lines.specs.Forms.{AreSixNumbers, IsNumber};
 ghost use Rattle.edit_script.specs.Answers.{Applies};
 ghost use Rattle.edit_script.specs.Editing.{IsCurrent};
 ghost use Rattle.edit_script.specs.Edits.{grid_of};
+ghost use Rattle.edit_script.specs.Stamps.{IsStamped};
 
 use crate::faults::EditFault;
 use crate::lookups::{cell_called, told};
@@ -26,7 +27,8 @@ pub(crate) fn place(
 ) -> Result<(), EditFault>
     requires current { IsCurrent library.old current }
     requires id { IsTrue (is_use_id id.now) }
-    ensures { Applies library.old current library.new current (Command.Place name.now id.now six.now) result }
+    ensures applies { Applies library.old current library.new current (Command.Place name.now id.now six.now) result }
+    ensures stamped { OnOk result (IsStamped library.old library.new current (Command.Place name.now id.now six.now)) }
 {
     let Some(cell) = current else {
         return Err(EditFault::NoCurrent);
@@ -72,7 +74,8 @@ pub(crate) fn array(
 ) -> Result<(), EditFault>
     requires current { IsCurrent library.old current }
     requires six { AreSixNumbers six.now }
-    ensures { Applies library.old current library.new current (Command.Array id.now six.now) result }
+    ensures applies { Applies library.old current library.new current (Command.Array id.now six.now) result }
+    ensures stamped { OnOk result (IsStamped library.old library.new current (Command.Array id.now six.now)) }
 {
     let Some(cell) = current else {
         return Err(EditFault::NoCurrent);
@@ -93,7 +96,8 @@ pub(crate) fn move_use(
     requires current { IsCurrent library.old current }
     requires dx { IsNumber dx }
     requires dy { IsNumber dy }
-    ensures { Applies library.old current library.new current (Command.Move id.now dx dy) result }
+    ensures applies { Applies library.old current library.new current (Command.Move id.now dx dy) result }
+    ensures stamped { OnOk result (IsStamped library.old library.new current (Command.Move id.now dx dy)) }
 {
     let Some(cell) = current else {
         return Err(EditFault::NoCurrent);
@@ -109,7 +113,8 @@ pub(crate) fn delete_use(
     id: &Name,
 ) -> Result<(), EditFault>
     requires { IsCurrent library.old current }
-    ensures { Applies library.old current library.new current (Command.Delete id.now) result }
+    ensures applies { Applies library.old current library.new current (Command.Delete id.now) result }
+    ensures stamped { OnOk result (IsStamped library.old library.new current (Command.Delete id.now)) }
 {
     let Some(cell) = current else {
         return Err(EditFault::NoCurrent);

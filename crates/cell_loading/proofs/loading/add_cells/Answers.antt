@@ -12,3 +12,6 @@ returns-in-Ok-clause-arrives c = record {
 
 pub returns-in-Ok-clause-more : goal.returns-in-Ok-clause-more
 returns-in-Ok-clause-more c = more_cells c.args.library.now c.add_all.new.self c.args.cells.items c.requires.some c.in-Ok.ensures.added
+
+pub returns-in-Ok-clause-stamped : goal.returns-in-Ok-clause-stamped
+returns-in-Ok-clause-stamped c = (c.args.cells.items, c.in-Ok.ensures.edit, c.in-Ok.ensures.added)

@@ -1,4 +1,4 @@
-use Rattle.std.proofs.Common.{◌∷◌, ◌+◌, ap, ◌∙◌, sym, List, ℕ, true, false}
+use Rattle.std.proofs.Common.{◌∷◌, ◌+◌, ap, ◌∙◌, sym, List, ℕ}
 use Rattle.cell_bodies.specs.declared.bodies.CellUse.{CellUse}
 use Rattle.cell_library.specs.Libraries.{seen}
 use Rattle.cell_loading.specs.ReadCells.{is_among}

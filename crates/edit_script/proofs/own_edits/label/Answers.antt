@@ -5,8 +5,8 @@ use Rattle.edit_script.proofs.OwnLaws.{label_applies}
 use Rattle.edit_script.proofs.own_edits.label.Goals as goal
 use mir.Val.{of_z, to_z}
 
-pub returns-in-Ok-copy : goal.returns-in-Ok-copy
-returns-in-Ok-copy c =
+pub returns-in-Ok-copy-clause-applies : goal.returns-in-Ok-copy-clause-applies
+returns-in-Ok-copy-clause-applies c =
     let done = c.label.ensures in
     let passed : to_z w64 (of_z w64 c.args.position) ≡ c.args.position = to_z-of_z w64 c.args.position c.ranges.position in
     let position_is : c.position_number.result ≡ unsigned_abs c.args.position = c.position_number.ensures.is ∙ ap unsigned_abs passed in

@@ -4,8 +4,8 @@ use Rattle.edit_script.proofs.AnswerLaws.{or_lacks_memory}
 use Rattle.edit_script.proofs.OwnLaws.{unlabel_applies}
 use Rattle.edit_script.proofs.own_edits.unlabel.Goals as goal
 
-pub returns : goal.returns
-returns c =
+pub returns-clause-applies : goal.returns-clause-applies
+returns-clause-applies c =
     let done = c.unlabel.ensures in
     let old = c.args.library.now in
     let given = c.bytes.result.now in

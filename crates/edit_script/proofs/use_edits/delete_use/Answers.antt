@@ -4,8 +4,8 @@ use Rattle.edit_script.proofs.AnswerLaws.{or_lacks_memory}
 use Rattle.edit_script.proofs.UseLaws.{delete_applies}
 use Rattle.edit_script.proofs.use_edits.delete_use.Goals as goal
 
-pub returns : goal.returns
-returns c =
+pub returns-clause-applies : goal.returns-clause-applies
+returns-clause-applies c =
     let done = c.delete_use.ensures in
     let old = c.args.library.now in
     let given = c.bytes.result.now in

@@ -8,8 +8,8 @@ use Rattle.edit_script.proofs.UseLaws.{move_applies}
 use Rattle.edit_script.proofs.use_edits.move_use.Goals as goal
 use mir.Val.{of_z, to_z}
 
-pub returns : goal.returns
-returns c =
+pub returns-clause-applies : goal.returns-clause-applies
+returns-clause-applies c =
     let done = c.move_use.ensures in
     let old = c.args.library.now in
     let given = c.bytes.result.now in
