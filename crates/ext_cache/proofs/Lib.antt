@@ -1,0 +1,5 @@
+pub mod AboveLaws
+pub mod ArrivalLaws
+pub mod EditLaws
+pub mod LabelLaws
+pub mod RecordLaws

@@ -1,0 +1,216 @@
+-- Records that are kept, one more of them, and which cells are dirty then.
+use Rattle.std.proofs.Common.{◌≡◌, ◌≢◌, ◌⊎◌, ◌<◌, ◌≤◌, ◌==◌, not, ℕ, Bool, true, false, cond, List, [], length, Option, Some, None}
+use Rattle.std.proofs.Common.{refl, sym, ap, subst, ◌∙◌, inl, inr, arith}
+use Rattle.std.specs.Prelude.{MatchBool, option_map}
+use Rattle.std.specs.Cmp.{unsigned_tied}
+use Rattle.std.specs.FinMap as fin_map
+use Rattle.std.specs.Ordering.{nat_cmp}
+use Rattle.std.proofs.lemmas.Bool.{eq-eqb, ne_eqb}
+use Rattle.std.proofs.lemmas.Bool.Decides.{eqb_tells}
+use Rattle.std.proofs.lemmas.Cmp.{nat_cmp_total}
+use Rattle.ext_model.specs.declared.records.CellExt.{CellExt}
+use Rattle.ext_model.specs.declared.tables.ExtEntry.{ExtEntry}
+use Rattle.tech_model.specs.declared.raw.RawTech.{RawTech}
+use Rattle.own_records.specs.OwnRecords.{IsOwnRecord}
+use Rattle.cell_tree.specs.Trees.{stamp_at}
+use Rattle.cell_library.specs.Libraries.{LibraryParts, IsSame, seen, uses_in}
+use Rattle.cell_library.specs.Views.{CellView, LibraryView, view_at}
+use Rattle.cell_library.proofs.ViewLaws.{length-cell_views}
+use Rattle.ext_cache.specs.declared.extraction.Extracted.{Extracted}
+use Rattle.ext_cache.specs.Caches.{Agrees, Extracts, IsExtracted, IsRecordNow, Records, entry_in, is_dirty, is_stale, next_serial, no_records}
+use Rattle.ext_cache.specs.Caches.{record_in, stamp_in, with_record}
+
+-- ---- without records
+
+-- no cell has one
+none_in : (cell : ℕ) → entry_in no_records cell ≡ None
+none_in cell = fin_map.get-empty nat_cmp cell
+
+-- no records agree with any library, as one without cells
+pub agrees_none : (library : LibraryParts) → Agrees library no_records
+agrees_none library = record {
+  known = λ cell entry is. absurd (some_none entry (sym (none_in cell) ∙ is));
+  past = λ cell entry is. absurd (some_none entry (sym (none_in cell) ∙ is));
+  now = λ cell entry is. absurd (some_none entry (sym (none_in cell) ∙ is));
+}
+  where
+    some_none : (entry : ExtEntry) → ◌≡◌ {A = Option ExtEntry} None (Some entry) → ⊥
+    some_none entry is = cc
+
+-- and every cell is dirty then
+pub dirty_none : (library : LibraryParts) (cell : ℕ) → is_dirty library no_records cell ≡ true
+dirty_none library cell = ap (λ (found : Option ExtEntry). is_stale found (stamp_in library cell)) (none_in cell)
+
+-- ---- cells that stay as they are
+
+-- as many cells are seen as there are
+pub counted : (library : LibraryParts) → length (seen library).cells ≡ length library.contents
+counted library = length-cell_views library.contents (uses_in library.tree.cells)
+
+-- a record of a cell as it is stays one, where the technology and the cell stay
+pub record_stays : (old new : LibraryView) (cell : ℕ) (ext : CellExt) → new.tech ≡ old.tech → view_at new cell ≡ view_at old cell
+    → IsRecordNow old cell ext → IsRecordNow new cell ext
+record_stays old new cell ext tech same now = record {
+  no_uses = ap (λ (body : CellView). body.uses) same ∙ now.no_uses;
+  is = subst (λ (raw : RawTech). IsOwnRecord raw (view_at new cell).own (view_at new cell).labels (view_at new cell).name ext) (sym tech)
+      (subst (λ (body : CellView). IsOwnRecord old.tech body.own body.labels body.name ext) (sym same) now.is);
+  lawful = now.lawful;
+}
+
+-- Records agree with another library that has these cells and maybe more, where the record of each is of no later stamp than the cell has
+-- there, and of its stamp only where the cell stayed as it was.
+pub agrees_with : (old new : LibraryParts) (records : Records) → length (seen old).cells ≤ length (seen new).cells
+    → (seen new).tech ≡ (seen old).tech
+    → ((cell : ℕ) (entry : ExtEntry) → entry_in records cell ≡ Some entry → entry.stamp ≤ stamp_in new cell)
+    → ((cell : ℕ) (entry : ExtEntry) → entry_in records cell ≡ Some entry → entry.stamp ≡ stamp_in new cell
+    → (stamp_in new cell ≡ stamp_in old cell) × (view_at (seen new) cell ≡ view_at (seen old) cell))
+    → Agrees old records → Agrees new records
+agrees_with old new records more tech past now agrees = record {
+  known = λ cell entry is. omega (arith, agrees.known cell entry is, counted old, counted new);
+  past = past;
+  now = λ cell entry is stamp.
+      let stayed = now cell entry is stamp in
+      record_stays (seen old) (seen new) cell entry.ext tech stayed.1 (agrees.now cell entry is (stamp ∙ stayed.0));
+}
+
+-- Where nothing changed, records agree as before.
+pub agrees_same : (old new : LibraryParts) (records : Records) → IsSame old new → Agrees old records → Agrees new records
+agrees_same old new records same agrees =
+    let stamps : (cell : ℕ) → stamp_in new cell ≡ stamp_in old cell = λ cell i. stamp_at (same.tree i).stamps cell in
+    agrees_with old new records (let long : length (seen new).cells ≡ length (seen old).cells = λ i. length (same.seen i).cells in omega arith)
+    (λ i. (same.seen i).tech) (λ cell entry is. omega (arith, agrees.past cell entry is, stamps cell))
+    (λ cell entry is stamp. (stamps cell, λ i. view_at (same.seen i) cell)) agrees
+
+-- And the same cells are dirty.
+pub dirty_same : (old new : LibraryParts) (records : Records) (cell : ℕ) → IsSame old new → is_dirty new records cell ≡ is_dirty old records cell
+dirty_same old new records cell same = λ i. is_stale (entry_in records cell) (stamp_at (same.tree i).stamps cell)
+
+-- ---- one more record
+
+-- an entry of this stamp is up to date, and one of another is not
+fresh : (entry : ExtEntry) (stamp : ℕ) → entry.stamp ≡ stamp → is_stale (Some entry) stamp ≡ false
+fresh entry stamp same = ap not (eq-eqb entry.stamp stamp same)
+
+stamp_of_fresh : (entry : ExtEntry) (stamp : ℕ) → is_stale (Some entry) stamp ≡ false → entry.stamp ≡ stamp
+stamp_of_fresh entry stamp is = elim (eqb_tells entry.stamp stamp) [
+  | inl same ↦ same.1
+  | inr other ↦ absurd (cc (ap not other.0, is))
+]
+
+-- where no entry is of the stamp, what there is of entries is out of date
+pub stale_if : (found : Option ExtEntry) (stamp : ℕ) → ((entry : ExtEntry) → found ≡ Some entry → entry.stamp ≢ stamp) → is_stale found stamp ≡ true
+stale_if None stamp other = refl
+stale_if (Some entry) stamp other = ap not (ne_eqb entry.stamp stamp (other entry refl))
+
+module _ (records : Records) (cell : ℕ) (ext : CellExt) (stamp : ℕ) where
+  -- the entry of the record that was made
+  abbrev pub entry_made : ExtEntry
+  entry_made = record { ext = ext; serial = next_serial records.made; stamp = stamp }
+
+  found_in : (key : ℕ) → entry_in (with_record records cell ext stamp) key ≡ cond (key == cell) (Some entry_made) (entry_in records key)
+  found_in key =
+      fin_map.get-insert nat_cmp_total records.entries cell entry_made key
+      ∙ ap (λ (tied : Bool). cond tied (Some entry_made) (entry_in records key)) (unsigned_tied key cell)
+
+  -- The cell has the new entry.
+  pub found_here : entry_in (with_record records cell ext stamp) cell ≡ Some entry_made
+  found_here = found_in cell ∙ ap (λ (tied : Bool). cond tied (Some entry_made) (entry_in records cell)) (eq-eqb cell cell refl)
+
+  -- and any other cell the one that it had
+  found_there : (key : ℕ) → key ≢ cell → entry_in (with_record records cell ext stamp) key ≡ entry_in records key
+  found_there key other =
+      found_in key ∙ ap (λ (tied : Bool). cond tied (Some entry_made) (entry_in records key)) (ne_eqb key cell other)
+
+  -- an entry is the new one of the cell, or was there before
+  found_as : (key : ℕ) (entry : ExtEntry) → entry_in (with_record records cell ext stamp) key ≡ Some entry
+      → ((key ≡ cell) × (entry_made ≡ entry)) ⊎ (entry_in records key ≡ Some entry)
+  found_as key entry is = elim (eqb_tells key cell) [
+    | inl here ↦
+        let there : entry_in (with_record records cell ext stamp) key ≡ Some entry_made =
+        subst (λ (at : ℕ). entry_in (with_record records cell ext stamp) at ≡ Some entry_made) (sym here.1) found_here in
+        inl (here.1, cc)
+    | inr other ↦ inr (sym (found_there key other.1) ∙ is)
+  ]
+
+module _ (library : LibraryParts) (records : Records) (cell : ℕ) (ext : CellExt) where
+  -- Records with a new one of a cell as it is agree with the library.
+  pub agrees_made : cell < length library.contents → IsRecordNow (seen library) cell ext → Agrees library records
+      → Agrees library (with_record records cell ext (stamp_in library cell))
+  agrees_made below now agrees = record {
+    known = λ key entry is. elim (found_as records cell ext (stamp_in library cell) key entry is) [
+      | inl here ↦ subst (λ (at : ℕ). at < length library.contents) (sym here.0) below
+      | inr there ↦ agrees.known key entry there
+    ];
+    past = λ key entry is. elim (found_as records cell ext (stamp_in library cell) key entry is) [
+      | inl here ↦
+          let stamp : stamp_in library cell ≡ entry.stamp = ap (λ (e : ExtEntry). e.stamp) here.1 in
+          let same : stamp_in library key ≡ stamp_in library cell = ap (stamp_in library) here.0 in
+          omega arith
+      | inr there ↦ agrees.past key entry there
+    ];
+    now = λ key entry is stamp. elim (found_as records cell ext (stamp_in library cell) key entry is) [
+      | inl here ↦
+          subst (λ (at : ℕ). IsRecordNow (seen library) at entry.ext) (sym here.0)
+          (subst (λ (e : ExtEntry). IsRecordNow (seen library) cell e.ext) here.1 now)
+      | inr there ↦ agrees.now key entry there stamp
+    ];
+  }
+
+  -- The cell is not dirty then.
+  pub clean_made : is_dirty library (with_record records cell ext (stamp_in library cell)) cell ≡ false
+  clean_made =
+      ap (λ (found : Option ExtEntry). is_stale found (stamp_in library cell)) (found_here records cell ext (stamp_in library cell))
+      ∙ fresh (entry_made records cell ext (stamp_in library cell)) (stamp_in library cell) refl
+
+  -- Any other cell is dirty as before.
+  pub dirty_besides : (key : ℕ) → key ≢ cell
+      → is_dirty library (with_record records cell ext (stamp_in library cell)) key ≡ is_dirty library records key
+  dirty_besides key other =
+      ap (λ (found : Option ExtEntry). is_stale found (stamp_in library key)) (found_there records cell ext (stamp_in library cell) key other)
+
+-- ---- an extraction
+
+-- what holds of the records as they were and of those with a new record holds after an extraction
+after_extraction : (P : Records → Type 0) (library : LibraryParts) (records : Records) (cell : ℕ) (after : Records) (told : List Extracted) (dirty : Bool)
+    → (dirty ≡ false → P records) → ((ext : CellExt) → IsRecordNow (seen library) cell ext → P (with_record records cell ext (stamp_in library cell)))
+    → is_dirty library records cell ≡ dirty
+    → MatchBool dirty (IsExtracted library records cell after told) ((after ≡ records) × (told ≡ [])) → P after
+after_extraction P library records cell after told true same made is extracts =
+    subst P (sym extracts.after_is) (made extracts.ext extracts.is)
+after_extraction P library records cell after told false same made is extracts = subst P (sym extracts.0) (same refl)
+
+module _ (library : LibraryParts) (records : Records) (cell : ℕ) (after : Records) (told : List Extracted)
+    (extracts : Extracts library records cell after told) where
+  -- Records agree with the library after an extraction.
+  pub agrees_extracted : cell < length library.contents → Agrees library records → Agrees library after
+  agrees_extracted below agrees =
+      after_extraction (Agrees library) library records cell after told (is_dirty library records cell) (λ clean. agrees)
+      (λ ext now. agrees_made library records cell ext below now agrees) refl extracts
+
+  -- The cell that was extracted is not dirty.
+  pub clean_extracted : is_dirty library after cell ≡ false
+  clean_extracted =
+      after_extraction (λ (r : Records). is_dirty library r cell ≡ false) library records cell after told (is_dirty library records cell) (λ clean. clean)
+      (λ ext now. clean_made library records cell ext) refl extracts
+
+  -- Any other cell is dirty as before.
+  pub dirty_extracted : (key : ℕ) → key ≢ cell → is_dirty library after key ≡ is_dirty library records key
+  dirty_extracted key other =
+      after_extraction (λ (r : Records). is_dirty library r key ≡ is_dirty library records key) library records cell after told
+      (is_dirty library records cell) (λ clean. refl) (λ ext now. dirty_besides library records cell ext key other) refl extracts
+
+-- A cell that is not dirty has a record, which is that of the cell as it is.
+pub kept_clean : (library : LibraryParts) (records : Records) (cell : ℕ) → Agrees library records → is_dirty library records cell ≡ false
+    → (ext : CellExt) × ((record_in records cell ≡ Some ext) × IsRecordNow (seen library) cell ext)
+kept_clean library records cell agrees clean = go (entry_in records cell) refl clean
+  where
+    go : (found : Option ExtEntry) → entry_in records cell ≡ found → is_stale found (stamp_in library cell) ≡ false
+        → (ext : CellExt) × ((record_in records cell ≡ Some ext) × IsRecordNow (seen library) cell ext)
+    go None is clean = absurd (cc clean)
+    go (Some entry) is clean = (
+      entry.ext,
+      (
+        ap (λ (found : Option ExtEntry). option_map (λ (e : ExtEntry). e.ext) found) is,
+        agrees.now cell entry is (stamp_of_fresh entry (stamp_in library cell) clean),
+      ),
+    )

@@ -1,0 +1,93 @@
+-- The records that are kept of a library's cells, which cells are dirty, and what an extraction does.
+use Rattle.std.specs.Prelude.{◌≡◌, ◌<◌, ◌≤◌, ◌==◌, nat_lt, not, if◌then◌else◌, ℕ, suc, Bool, true, MatchBool, List, [], ◌∷◌, length, Option, Some}
+use Rattle.std.specs.Prelude.{None, option_map, refl}
+use Rattle.std.specs.Coded.{Coded, code_by, coded×, coded_ℕ}
+use Rattle.std.specs.FinMap as fin_map
+use Rattle.std.specs.Ordering.{nat_cmp}
+use Rattle.ext_model.specs.declared.records.CellExt.{CellExt}
+use Rattle.ext_model.specs.declared.tables.ExtEntry.{ExtEntry}
+use Rattle.ext_model.specs.contracts.tables.ExtEntry.{the_row as entry_row}
+use Rattle.ext_model.specs.Lawful.{IsLawful}
+use Rattle.names.specs.Attachments.{AreUnattached}
+use Rattle.cell_tree.specs.Trees.{stamp_at}
+use Rattle.cell_library.specs.Libraries.{LibraryParts, seen}
+use Rattle.cell_library.specs.Views.{LibraryView, view_at}
+use Rattle.own_records.specs.OwnRecords.{IsOwnRecord}
+use Rattle.ext_cache.specs.declared.extraction.Extracted.{Extracted}
+use Rattle.ext_cache.specs.declared.limits.TheConstants.{LAST_SERIAL}
+
+-- the entries of cells by their positions, and how many records were made
+pub record Records : Type 0 where
+  pub entries : fin_map.FinMap nat_cmp ExtEntry
+  pub made : ℕ
+
+-- they are stored as the pair of them
+abbrev pub records_code : Coded Records
+records_code =
+    code_by (fin_map.FinMap nat_cmp ExtEntry × ℕ) (coded× (fin_map.code coded_ℕ entry_row.coded) coded_ℕ) (λ records. (records.entries, records.made))
+    (λ pair. record { entries = pair.0; made = pair.1 }) (λ _. refl)
+
+abbrev pub no_records : Records
+no_records = record { entries = fin_map.empty; made = 0 }
+
+-- the entry of a cell
+abbrev pub entry_in : Records → ℕ → Option ExtEntry
+entry_in records cell = fin_map.get records.entries cell
+
+-- the record of a cell
+abbrev pub record_in : Records → ℕ → Option CellExt
+record_in records cell = option_map (λ entry. entry.ext) (entry_in records cell)
+
+-- the stamp that a cell has now
+abbrev pub stamp_in : LibraryParts → ℕ → ℕ
+stamp_in library cell = stamp_at library.tree.stamps cell
+
+-- The record is that of the cell as it is: it has no uses.
+pub record IsRecordNow (view : LibraryView) (cell : ℕ) (ext : CellExt) : Type 0 where
+  pub no_uses : (view_at view cell).uses ≡ []
+  pub is : IsOwnRecord view.tech (view_at view cell).own (view_at view cell).labels (view_at view cell).name ext
+  pub lawful : IsLawful ext
+
+-- Records are kept of cells of the library alone, none is of a later stamp than its cell has, and one of its cell's stamp is that of the
+-- cell as it is.
+pub record Agrees (library : LibraryParts) (records : Records) : Type 0 where
+  pub known : (cell : ℕ) (entry : ExtEntry) → entry_in records cell ≡ Some entry → cell < length library.contents
+  pub past : (cell : ℕ) (entry : ExtEntry) → entry_in records cell ≡ Some entry → entry.stamp ≤ stamp_in library cell
+  pub now : (cell : ℕ) (entry : ExtEntry) → entry_in records cell ≡ Some entry → entry.stamp ≡ stamp_in library cell
+      → IsRecordNow (seen library) cell entry.ext
+
+-- the entry is missing, or of an earlier stamp
+abbrev pub is_stale : Option ExtEntry → ℕ → Bool
+is_stale None stamp = true
+is_stale (Some entry) stamp = not (entry.stamp == stamp)
+
+-- The cell was never extracted, or an edit since then changed it or a cell below it. What is no cell was never extracted.
+abbrev pub is_dirty : LibraryParts → Records → ℕ → Bool
+is_dirty library records cell = is_stale (entry_in records cell) (stamp_in library cell)
+
+-- the serial of the next record, where so many were made; the count stands still at the last
+abbrev pub next_serial : ℕ → ℕ
+next_serial made = if nat_lt made LAST_SERIAL then suc made else made
+
+-- the records with this one of a cell, which has the next serial
+abbrev pub with_record : Records → ℕ → CellExt → ℕ → Records
+with_record records cell ext stamp = record {
+  entries = fin_map.insert records.entries cell (record { ext = ext; serial = next_serial records.made; stamp = stamp });
+  made = next_serial records.made;
+}
+
+-- A record of the cell was made, and these labels name nothing.
+pub record IsExtracted (library : LibraryParts) (records : Records) (cell : ℕ) (after : Records) (told : List Extracted) : Type 0 where
+  pub ext : CellExt
+  pub is : IsRecordNow (seen library) cell ext
+  pub unattached : List (List ℕ)
+  pub are_unattached : AreUnattached (seen library).tech (view_at (seen library) cell).own (view_at (seen library) cell).labels unattached
+  pub after_is : after ≡ with_record records cell ext (stamp_in library cell)
+  pub told_is : told ≡ record { cell = record { 0 = cell }; unattached = unattached } ∷ []
+
+-- What an extraction of a cell without uses does: it makes a record of the cell where it is dirty, and nothing elsewhere.
+abbrev pub Extracts : LibraryParts → Records → ℕ → Records → List Extracted → Type 0
+Extracts library records cell after told =
+    MatchBool (is_dirty library records cell)
+    (IsExtracted library records cell after told)
+    ((after ≡ records) × (told ≡ []))

@@ -1,0 +1,98 @@
+//! The records that are kept.
+ghost use Rattle.std.specs.Prelude.{◌≡◌, OnOk, OnErr};
+ghost use Rattle.std.specs.FinMap as fin_map;
+ghost use Rattle.std.specs.Option.{option_copied};
+ghost use Rattle.ext_cache.specs.Caches.{next_serial};
+
+use crate::limits::LAST_SERIAL;
+use ext_model::{CellExt, CellKey, ExtEntry, ExtTable};
+use std::alloc::{AllocError, Global};
+use std::marker::Model;
+
+/// The records of cells, each with its serial and with the stamp that the cell had when the record was made; and how many records were
+/// made so far. Contracts see the entries as a finite map from the numbers of keys.
+#[derive(Drop)]
+pub struct Cache {
+    alloc: Global,
+    table: ExtTable,
+    made: u64,
+}
+
+impl Model for Cache {
+    ghost use Rattle.ext_cache.specs.Caches.{Records, records_code};
+
+    ghost Value = { Records };
+
+    ghost coded = { records_code };
+
+    ghost view = { λ cache. record { entries = cache.table.entries; made = cache.made } };
+}
+
+impl Cache {
+    ghost use Rattle.ext_cache.specs.Caches.{entry_in, is_stale, no_records, record_in, with_record};
+
+    /// No record was made. It takes no memory.
+    pub fn new(alloc: Global) -> Cache
+        ensures { result ≡ no_records }
+    {
+        Cache {
+            alloc,
+            table: ExtTable::new(alloc),
+            made: 0,
+        }
+    }
+
+    /// How many records were made.
+    pub fn made(&self) -> u64
+        ensures { result ≡ self.now.made }
+    {
+        self.made
+    }
+
+    /// The record that is kept of a cell. None exactly where there is none.
+    pub fn kept(&self, cell: CellKey) -> Option<&CellExt>
+        ensures { option_copied result ≡ record_in self.now cell.0 }
+    {
+        self.table.get(cell)
+    }
+
+    /// What records take their memory from.
+    pub(crate) fn allocator(&self) -> Global {
+        self.alloc
+    }
+
+    /// Whether no record is kept of the cell, or one of another stamp.
+    pub(crate) fn is_stale(&self, cell: CellKey, stamp: u64) -> bool
+        ensures { result ≡ is_stale (entry_in self.now cell.0) stamp }
+    {
+        match self.table.stamp(cell) {
+            Some(kept) => kept != stamp,
+            None => true,
+        }
+    }
+
+    /// Keeps a new record of the cell, in place of any earlier one. Want of memory alone refuses, and leaves the records as they were.
+    pub(crate) fn keep(&mut self, cell: CellKey, ext: CellExt, stamp: u64) -> Result<(), AllocError>
+        ensures kept { OnOk result (self.new ≡ with_record self.old cell.0 ext stamp) }
+        ensures refused { OnErr result (self.new ≡ self.old) }
+    {
+        let Ok(()) = self.table.reserve(1) else {
+            return Err(AllocError);
+        };
+        self.made = next_serial(self.made);
+        let entry = ExtEntry {
+            ext,
+            serial: self.made,
+            stamp,
+        };
+        self.table.put(cell, entry);
+        Ok(())
+    }
+}
+
+// The serial of the next record.
+fn next_serial(made: u64) -> u64
+    ensures { result ≡ next_serial made }
+{
+    if made < LAST_SERIAL { made + 1 } else { made }
+}
