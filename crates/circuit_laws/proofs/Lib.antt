@@ -2,3 +2,4 @@ mod SameLists
 mod SameNodes
 mod SameFets
 mod SameCircuits
+mod Writable
