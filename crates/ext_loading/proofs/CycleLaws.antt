@@ -1,0 +1,125 @@
+-- Where no cell of a tree stands below itself, no use leads back.
+use Rattle.std.proofs.Common.{◌≡◌, ℕ, zero, suc, Bool, true, false, true≢false, List, [], ◌∷◌, length, inl, inr, refl, sym, ap, ◌∙◌, subst, arith}
+use Rattle.std.specs.Prelude.{Option, Some, None, if◌then◌else◌}
+use Rattle.std.specs.Option.{option_or}
+use Rattle.std.specs.Str.{bytes_eq}
+use Rattle.std.proofs.lemmas.Slice.Eq.{bytes_eq-Decides}
+use Rattle.finite_sets.specs.Chain.{Chain}
+use Rattle.finite_sets.specs.Lists.{In}
+use Rattle.finite_sets.proofs.Chains.{Chain-map, Chain-one, Chain-push, Chain-same}
+use Rattle.finite_sets.proofs.Members.{In-map, In-map_source}
+use Rattle.finite_sets.proofs.Searches.{find-In, find-none, find-passes}
+use Rattle.use_orders.specs.NewCells.{IsOwnDescendant}
+use Rattle.use_orders.specs.Uses.{used_by, UsesNewCell}
+use Rattle.ext_model.specs.declared.records.CellExt.{CellExt}
+use Rattle.ext_model.specs.declared.records.UseRec.{UseRec}
+use Rattle.circuit_model.specs.declared.faults.FlatFault.{FlatFault}
+use Rattle.circuit_model.specs.declared.faults.FlatFault.TheVariants.{NoCell, Cycle}
+use Rattle.circuit_model.specs.Elements.{ext_of}
+use Rattle.circuit_model.specs.FlatNodes.{is_among}
+use Rattle.circuit_model.specs.Refusals.{first_fault, use_fault}
+use Rattle.ext_reading.proofs.NameLaws.{In-is_among}
+use Rattle.ext_loading.specs.ExtFiles.{cells_read}
+use Rattle.ext_loading.specs.Loads.{CanBeFlattened, children_in}
+use Rattle.ext_loading.specs.Readings.{cells_used}
+use Rattle.ext_loading.specs.Trees.{IsTree}
+use Rattle.ext_loading.proofs.Positions.{position_in, uses_by_position}
+
+-- where no thing of a list has a fault, there is no first
+none_first : {X : Type 0} (fault_of : X → Option FlatFault) (xs : List X) → ((x : X) → In x xs → fault_of x ≡ None) → first_fault fault_of xs ≡ None
+none_first fault_of [] none = refl
+none_first fault_of (x ∷ xs) none =
+    ap (λ (fault : Option FlatFault). option_or fault (first_fault fault_of xs)) (none x (inl refl)) ∙ none_first fault_of xs (λ y there. none y (inr there))
+
+-- a record of this cell
+record IsRecordOf (read : List CellExt) (name : List ℕ) (ext : CellExt) : Type 0 where
+  found : ext_of read name ≡ Some ext
+  there : In ext read
+  cell : ext.cell ≡ name
+
+-- a cell that was read has a record
+record_of_cell : (read : List CellExt) (name : List ℕ) → In name (cells_read read) → (ext : CellExt) × IsRecordOf read name ext
+record_of_cell read name there = by_found (ext_of read name) refl
+  where
+    by_found : (found : Option CellExt) → ext_of read name ≡ found → (ext : CellExt) × IsRecordOf read name ext
+    by_found (Some ext) is = (
+      ext,
+      record {
+        found = is;
+        there = find-In (λ (e : CellExt). bytes_eq e.cell name) read ext is;
+        cell = (bytes_eq-Decides ext.cell name).0 (find-passes (λ (e : CellExt). bytes_eq e.cell name) read ext is);
+      },
+    )
+    by_found None is =
+        let source = In-map_source (λ (e : CellExt). e.cell) name read there in
+        absurd (true≢false (sym ((bytes_eq-Decides source.0.cell name).1 source.1.1) ∙ find-none (λ (e : CellExt). bytes_eq e.cell name) read source.0 is
+        source.1.0))
+
+module _ (root : List ℕ) (read : List CellExt) (tree : IsTree root read) (acyclic : (cell : ℕ) → IsOwnDescendant (children_in read) 0 cell → ⊥) where
+  -- a record of the cell uses the other
+  abbrev Leads : List ℕ → List ℕ → Type 0
+  Leads cell other = (ext : CellExt) × (In ext read × ((ext.cell ≡ cell) × In other (cells_used ext)))
+
+  -- so do their positions
+  leads_on : (cell other : List ℕ) → Leads cell other → UsesNewCell (children_in read) 0 (position_in read cell) (position_in read other)
+  leads_on cell other by = (
+    omega arith,
+    omega arith,
+    subst (λ (name : List ℕ). In (position_in read other) (used_by (children_in read) (position_in read name))) by.1.1.0
+        (uses_by_position read by.0 other tree.records.cells_differ by.1.0 by.1.1.1),
+  )
+
+  -- what uses lead to does not lead back
+  never_back : (cell other : List ℕ) → Leads cell other → Chain Leads other cell → ⊥
+  never_back cell other by back =
+      acyclic (position_in read cell) (
+        position_in read other,
+        (leads_on cell other by, Chain-map (position_in read) (λ a b step. Chain-one (leads_on a b step)) back),
+      )
+
+  -- what a use gives, whose cell has this record
+  abbrev at_use : ℕ → List (List ℕ) → List ℕ → Option CellExt → Option FlatFault
+  at_use bound open_cells name found =
+      elim found [
+        | None ↦ Some (NoCell name)
+        | Some child ↦ if is_among open_cells name then Some (Cycle name) else use_fault bound read (name ∷ open_cells) child
+      ]
+
+  -- a use that leads to a record without fault has none, where uses lead to it from all open cells
+  use_without_fault : (bound : ℕ) (open_cells : List (List ℕ)) (ext child : CellExt) (name : List ℕ) → Leads ext.cell name
+      → ((other : List ℕ) → In other open_cells → Chain Leads other ext.cell) → use_fault bound read (name ∷ open_cells) child ≡ None → (t : Bool)
+      → is_among open_cells name ≡ t → (if t then Some (Cycle name) else use_fault bound read (name ∷ open_cells) child) ≡ None
+  use_without_fault bound open_cells ext child name leads above none true opened =
+      absurd (never_back ext.cell name leads (above name (In-is_among name open_cells opened)))
+  use_without_fault bound open_cells ext child name leads above none false opened = none
+
+  -- a record to which uses lead from all open cells has no fault
+  no_fault : (bound : ℕ) (open_cells : List (List ℕ)) (ext : CellExt) → In ext read
+      → ((name : List ℕ) → In name open_cells → Chain Leads name ext.cell) → use_fault bound read open_cells ext ≡ None
+  unfolding use_fault
+  no_fault zero open_cells ext there above = refl
+  no_fault (suc bound) open_cells ext there above =
+      none_first (λ used. at_use bound open_cells used.cell (ext_of read used.cell)) ext.uses
+      (λ used within.
+      let named : In used.cell (cells_used ext) = In-map (λ (u : UseRec). u.cell) used ext.uses within in
+      let leads : Leads ext.cell used.cell = (ext, (there, (refl, named))) in
+      let child = record_of_cell read used.cell (tree.asked used.cell (inr (ext, (there, named)))) in
+      ap (at_use bound open_cells used.cell) child.1.found
+      ∙ use_without_fault bound open_cells ext child.0 used.cell leads above
+      (no_fault bound (used.cell ∷ open_cells) child.0 child.1.there (λ name. elim [
+        | inl is ↦ Chain-same Leads name child.0.cell (sym is ∙ sym child.1.cell)
+        | inr older ↦ Chain-push (above name older) (subst (Leads ext.cell) (sym child.1.cell) leads)
+      ]))
+      (is_among open_cells used.cell) refl)
+
+  -- so the records may be flattened
+  pub may_be_flattened : CanBeFlattened root read
+  may_be_flattened =
+      let top = record_of_cell read root (tree.asked root (inl refl)) in
+      record {
+        records = tree.records;
+        top = top.0;
+        found = top.1.found;
+        leads = no_fault (suc (length read)) (top.0.cell ∷ []) top.0 top.1.there
+            (λ name. elim [ inl is ↦ Chain-same Leads name top.0.cell (sym is) | inr none ↦ absurd none ]);
+      }

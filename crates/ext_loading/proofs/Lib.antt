@@ -1,0 +1,4 @@
+pub mod Positions
+pub mod ReadingLaws
+pub mod CycleLaws
+pub mod LoadLaws

@@ -1,0 +1,28 @@
+use Rattle.std.proofs.Common.{[], ◌∷◌, inr, subst, sym, List, ℕ}
+use Rattle.std.proofs.lemmas.Result.{IfOk-weaker}
+use Rattle.ext_loading.specs.declared.faults.ExtLoadFault.{ExtLoadFault}
+use Rattle.ext_loading.specs.Loads.{IsFitTree, LoadGives, LoadIsRefused}
+use Rattle.ext_loading.specs.Trees.{GivesTree, StopsAt}
+use Rattle.ext_loading.proofs.LoadLaws.{file_refuses, refusal_told, tree_fits, tree_given}
+use Rattle.ext_loading.proofs.Positions.{children_are_cells}
+use Rattle.ext_loading.proofs.loading.load_exts.Goals as goal
+
+pub give_tree-requires : goal.give_tree-requires
+give_tree-requires g c = children_are_cells c.in-Ok.read (λ ext name there used. c.in-Ok.ensures.tree.asked name (inr (ext, (there, used))))
+
+pub returns-in-Ok-clause-effect : goal.returns-in-Ok-clause-effect
+returns-in-Ok-clause-effect g c files told =
+    IfOk-weaker c.give_tree.result (GivesTree c.in-Ok.read) (LoadGives files c.args.root.now)
+    (λ given gives. tree_given files c.args.root.now c.in-Ok.read given (c.in-Ok.ensures.read files told) gives) c.give_tree.ensures.given
+
+pub returns-in-Ok-clause-fit : goal.returns-in-Ok-clause-fit
+returns-in-Ok-clause-fit g c =
+    IfOk-weaker c.give_tree.result (GivesTree c.in-Ok.read) (IsFitTree c.args.root.now)
+    (λ given gives. tree_fits c.args.root.now c.in-Ok.read given c.in-Ok.ensures.tree gives) c.give_tree.ensures.given
+
+pub returns-in-Err-Refused-clause-effect : goal.returns-in-Err-Refused-clause-effect
+returns-in-Err-Refused-clause-effect g c files told =
+    subst (λ (fault : ExtLoadFault). (fetched : List (List ℕ)) × LoadIsRefused files c.args.root.now fetched fault) (sym c.in-Err-Refused.fault-is)
+    (file_refuses files c.args.root.now c.in-Err-Refused.fault
+    (refusal_told c.in-Err-Refused.field-0 c.in-Err-Refused.fault (StopsAt files [] (c.args.root.now ∷ [])) c.in-Err-Refused.field-0-is
+    (c.in-Err-Refused.ensures.refused files told)))

@@ -1,0 +1,18 @@
+use Rattle.std.proofs.Common.{◌≡◌, [], ◌∷◌, Some}
+use Rattle.std.specs.Prelude.{reverse}
+use Rattle.outside_io.specs.Files.{Files}
+use Rattle.session_model.specs.Causes.{IsCalm}
+use Rattle.ext_loading.specs.Trees.{work_left, AreSoFar, GoesOn}
+use Rattle.ext_loading.proofs.loading.read_below.Given as goal
+
+abbrev pub invariant-names : goal.invariant-names
+invariant-names g l = record {
+  so_far : AreSoFar l.root l.walk.read (reverse l.walk.left.items);
+  calm : IsCalm g.F.Shelf l.fn.shelf l.shelf;
+  files : g.F.Shelf.files l.shelf ≡ g.F.Shelf.files l.fn.shelf;
+  goes_on : (files : Files) → g.F.Shelf.files l.fn.shelf ≡ Some files
+      → GoesOn files [] (l.root ∷ []) l.walk.read (reverse l.walk.left.items);
+}
+
+abbrev pub decreases-names : goal.decreases-names
+decreases-names g l = work_left l.walk.read l.walk.left.items

@@ -1,0 +1,5 @@
+pub mod ExtFiles
+pub mod Loads
+pub mod Readings
+pub mod Stops
+pub mod Trees

@@ -1,0 +1,76 @@
+//! Reads a tree of circuit files.
+ghost use Rattle.std.specs.Prelude.{◌≡◌, [], ◌∷◌, Some, IfOk, IfErr, IsTrue};
+ghost use Rattle.text_scan.specs.PlainNames.{is_plain_name};
+ghost use Rattle.outside_io.specs.Files.{Files};
+ghost use Rattle.session_model.specs.Causes.{HasCauses};
+ghost use Rattle.use_orders.specs.Uses.{AreCells};
+ghost use Rattle.ext_loading.specs.Loads.{IsFitTree, LoadGives, children_in, kinds_of_loaded};
+ghost use Rattle.ext_loading.specs.Readings.{All, Reads};
+ghost use Rattle.ext_loading.specs.Stops.{answer_of, kinds_of_told, IfRefused};
+ghost use Rattle.ext_loading.specs.Trees.{GivesTree, IsTree, StopsAt};
+
+use crate::faults::ExtLoadFault;
+use crate::read_exts::ReadExts;
+use crate::stops::Stop;
+use crate::walks::Walk;
+use ext_model::CellExt;
+use geo_core::Name;
+use outside_io::Shelf;
+use session_model::Halt;
+use std::alloc::Global;
+use use_orders::{Order, children_first};
+
+/// What reading a tree of circuit files gives.
+#[derive(Debug, Drop)]
+pub enum LoadedExts {
+    /// The records of the cells, in the order in which their files were read.
+    Records(Vec<CellExt>),
+    /// The tree is refused.
+    Refused(ExtLoadFault),
+}
+
+/// Reads the circuit file of a cell, and those of all cells below it: depth first, in the order of uses, each once. It takes time near-linear
+/// in what it reads.
+pub fn load_exts<F: Shelf>(alloc: Global, shelf: &mut F, root: &Name) -> Result<LoadedExts, Halt>
+    requires root { IsTrue (is_plain_name root.now) }
+    ensures effect { (files : Files) → F.files shelf.old ≡ Some files → IfOk result (LoadGives files root.now) }
+    ensures fit { IfOk result (IsFitTree root.now) }
+    ensures files { F.files shelf.new ≡ F.files shelf.old }
+    ensures causes { HasCauses F.Shelf shelf.old shelf.new kinds_of_loaded result }
+{
+    match read_below(alloc, shelf, root) {
+        Ok(read) => give_tree(alloc, read),
+        Err(Stop::Refused(fault)) => Ok(LoadedExts::Refused(fault)),
+        Err(Stop::Halted(halt)) => Err(halt),
+    }
+}
+
+// The records of the files at and below the root, in the order in which they are read.
+fn read_below<F: Shelf>(alloc: Global, shelf: &mut F, root: &Name) -> Result<ReadExts, Stop>
+    ensures read { (files : Files) → F.files shelf.old ≡ Some files → IfOk result (λ read. Reads files [] (root.now ∷ []) (All read)) }
+    ensures refused { (files : Files) → F.files shelf.old ≡ Some files → IfRefused result (StopsAt files [] (root.now ∷ [])) }
+    ensures tree { IfOk result (IsTree root.now) }
+    ensures files { F.files shelf.new ≡ F.files shelf.old }
+    ensures causes { HasCauses F.Shelf shelf.old shelf.new kinds_of_told (answer_of result) }
+{
+    let mut walk = Walk::new(alloc, root)?;
+    'names: while let Some(name) = walk.left.pop() {
+        walk.visit(alloc, shelf, name)?;
+    }
+    Ok(walk.read)
+}
+
+// The records of a tree, or its first cell that stands below itself.
+fn give_tree(alloc: Global, read: ReadExts) -> Result<LoadedExts, Halt>
+    requires { AreCells (children_in read) }
+    ensures given { IfOk result (GivesTree read) }
+    ensures memory { IfErr result (λ halt. halt ≡ Halt.Memory) }
+{
+    match children_first(alloc, &read, 0)? {
+        Order::Acyclic(_) => Ok(LoadedExts::Records(read.into_vec())),
+        Order::Cyclic(cell) => {
+            let name = read.exts()[cell].cell.copy(alloc)?;
+            Ok(LoadedExts::Refused(ExtLoadFault::Cycle(name)))
+        }
+    }
+}
