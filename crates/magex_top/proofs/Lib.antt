@@ -1,6 +1,13 @@
 pub mod AnswerLaws
 pub mod CauseLaws
+pub mod CellCommands
+pub mod CircuitCommands
+pub mod EditLaws
+pub mod ExtractionLaws
+pub mod InsideLaws
 pub mod LoadLaws
 pub mod NodesLaws
 pub mod RunLaws
 pub mod TechLaws
+pub mod TreeCommands
+pub mod WorkspaceLaws

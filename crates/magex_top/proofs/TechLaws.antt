@@ -9,10 +9,18 @@ use Rattle.tech_file.specs.Reading.{technology_of}
 use Rattle.magex_top.specs.declared.cells.LayoutSession.{LayoutSession}
 use Rattle.magex_top.specs.declared.faults.TopFault.TheVariants.{File}
 use Rattle.magex_top.specs.Answers.{state_of}
-use Rattle.magex_top.specs.CommandTech.{TechMeans, file_effect, tech_effect, tech_file}
+use Rattle.std.specs.Prelude.{Result, Some}
+use Rattle.tech_model.specs.declared.raw.RawTech.{RawTech}
+use Rattle.tech_file.specs.declared.reading.TechAt.{TechAt}
+use Rattle.cell_tree.specs.Trees.{empty_tree}
+use Rattle.cell_library.specs.Libraries.{LibraryParts}
+use Rattle.ext_cache.specs.Caches.{Records, no_records}
+use Rattle.ext_cache.proofs.RecordLaws.{dirty_none}
+use Rattle.magex_top.specs.CommandTech.{TechMeans, file_effect, tech_effect, tech_file, tech_text}
 use Rattle.magex_top.specs.Refusals.{refusal}
-use Rattle.magex_top.specs.States.{State, refused}
+use Rattle.magex_top.specs.States.{State, begun_with, refused, reply}
 use Rattle.magex_top.proofs.AnswerLaws.{answers_refusal, state_of_nothing}
+use Rattle.magex_top.proofs.WorkspaceLaws.{workspace_of}
 
 -- the effect of a file's text is meant where there is no technology
 meant_at_first : (number : ℕ) (session : LayoutSession) (files : Files) (name : List ℕ) (effect : Effect State) → session.edited ≡ None
@@ -46,3 +54,24 @@ tech_read number session after files name file text answer none file_is there is
     let meant : effect ≡ file_effect number (tech_file name) (text_in files (tech_file name)) =
     is ∙ sym here ∙ ap (λ (f : List ℕ). file_effect number f (text_in files f)) file_is in
     (file ∷ [], meant_at_first number session files name effect none meant)
+
+-- what is edited at first
+pub begun : (raw : RawTech) (library : LibraryParts) (records : Records) → library ≡ record { tech = raw; scale = None; contents = []; tree = empty_tree }
+    → records ≡ no_records → workspace_of library None records ≡ begun_with raw
+begun raw library records is none =
+    (λ i. workspace_of (is i) None (none i))
+    ∙ (λ i. record {
+      editing = (begun_with raw).editing;
+      dirty = λ cell. dirty_none (record { tech = raw; scale = None; contents = []; tree = empty_tree }) cell i;
+    })
+
+-- a technology was read
+pub tech_accepted : (number : ℕ) (file : List ℕ) (read : Result RawTech TechAt) (raw : RawTech) (library : LibraryParts) (records : Records) (answer : Answer)
+    → read ≡ Ok raw → library ≡ record { tech = raw; scale = None; contents = []; tree = empty_tree } → records ≡ no_records
+    → answer.lines.items ≡ reply (tech_text raw) ∷ [] → answer.stores.items ≡ []
+    → ◌≡◌ {A = Effect State}
+    (record { state = Some (workspace_of library None records); lines = answer.lines.items; stores = answer.stores.items; fetched = file ∷ [] })
+    (tech_effect number file read)
+tech_accepted number file read raw library records answer is library_is none lines stores =
+    (λ i. record { state = Some (begun raw library records library_is none i); lines = lines i; stores = stores i; fetched = file ∷ [] })
+    ∙ ap (tech_effect number file) (sym is)

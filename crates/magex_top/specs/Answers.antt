@@ -5,21 +5,27 @@ use Rattle.std.specs.Option.{option_map}
 use Rattle.session_model.specs.declared.report.ReportLine.{ReportLine}
 use Rattle.session_model.specs.Causes.{line_kinds}
 use Rattle.session_model.specs.Reports.{is_for_absent, is_for_too_long}
-use Rattle.edit_script.specs.Editing.{Editing, IsCurrent, editing_of}
+use Rattle.edit_script.specs.Editing.{IsCurrent, editing_of}
+use Rattle.ext_cache.specs.Caches.{Agrees, is_dirty}
 use Rattle.magex_top.specs.declared.cells.Edited.{Edited}
 use Rattle.magex_top.specs.declared.cells.LayoutSession.{LayoutSession}
-use Rattle.magex_top.specs.States.{State}
+use Rattle.magex_top.specs.States.{State, Workspace}
 
--- what is edited
-abbrev pub edited_state : Edited → Editing
-edited_state edited = editing_of edited.library edited.current
+-- what is edited, and which cells are dirty
+abbrev pub edited_state : Edited → Workspace
+edited_state edited =
+    record { editing = editing_of edited.library edited.current; dirty = is_dirty edited.library edited.cache }
 
 abbrev pub state_of : LayoutSession → State
 state_of session = option_map edited_state session.edited
 
--- the current cell is one of the library's
+-- The current cell is one of the library's, and the records that are kept are those of the library.
+pub record IsEdited (edited : Edited) : Type 0 where
+  pub current : IsCurrent edited.library edited.current
+  pub agrees : Agrees edited.library edited.cache
+
 abbrev pub IsSession : LayoutSession → Type 0
-IsSession session = IfSome session.edited (λ edited. IsCurrent edited.library edited.current)
+IsSession session = IfSome session.edited IsEdited
 
 -- No line is refused for what the shelf said.
 pub record IsOfInside (lines : List ReportLine) : Type 0 where

@@ -1,6 +1,8 @@
 -- The commands that edit: `new`, `edit`, `paint`, `erase`, `place`, `array`, `move`, `delete`, `label` and `unlabel`.
-use Rattle.std.specs.Prelude.{◌≡◌, ◌⊎◌, ℕ, [], ◌∷◌, Some, MatchOption, codes}
+use Rattle.std.specs.Prelude.{◌≡◌, ◌⊎◌, ℕ, Bool, true, List, [], ◌∷◌, Some, MatchOption, codes}
+use Rattle.use_orders.specs.Uses.{IsAtOrBelow}
 use Rattle.session_model.specs.Effects.{Effect}
+use Rattle.cell_library.specs.Additions.{children_in}
 use Rattle.script_lines.specs.declared.commands.Command.{Command}
 use Rattle.script_lines.specs.declared.commands.Command.TheVariants as command
 use Rattle.edit_script.specs.declared.faults.EditFault.{EditFault}
@@ -10,26 +12,49 @@ use Rattle.edit_script.specs.Edits.{applied}
 use Rattle.edit_script.specs.Refusals.{ApplyIsRefused}
 use Rattle.magex_top.specs.declared.faults.TopFault.{TopFault}
 use Rattle.magex_top.specs.declared.faults.TopFault.TheVariants.{Edit, NoTech}
-use Rattle.magex_top.specs.States.{State, accepted, refused, reply}
+use Rattle.magex_top.specs.States.{State, Workspace, accepted, refused, reply}
 
 -- Without a technology there is nothing to edit, and no cell to `edit`.
 abbrev pub nothing_to_edit : Command → TopFault
 nothing_to_edit (command.Edit name) = Edit (NoCell name)
 nothing_to_edit _ = NoTech
 
+-- An edit of a cell makes it dirty and each cell that it stands below, and no other.
+pub record MarksAbove (children : List (List ℕ)) (cell : ℕ) (old new : ℕ → Bool) : Type 0 where
+  pub marked : (other : ℕ) → IsAtOrBelow children other cell → new other ≡ true
+  pub kept : (other : ℕ) → (IsAtOrBelow children other cell → ⊥) → new other ≡ old other
+
+-- The current cell was edited.
+abbrev pub MarksCurrent : Editing → (ℕ → Bool) → (ℕ → Bool) → Type 0
+MarksCurrent editing old new = MatchOption editing.current (new ≡ old) (λ cell. MarksAbove (children_in editing.library) cell old new)
+
+-- Which cells are dirty after a command. One that chooses a cell or makes one marks none: a cell that comes was never extracted.
+abbrev pub MarksAfter : Editing → Command → (ℕ → Bool) → (ℕ → Bool) → Type 0
+MarksAfter editing (command.Paint layer area) old new = MarksCurrent editing old new
+MarksAfter editing (command.Erase layer area) old new = MarksCurrent editing old new
+MarksAfter editing (command.Place name id six) old new = MarksCurrent editing old new
+MarksAfter editing (command.Array id six) old new = MarksCurrent editing old new
+MarksAfter editing (command.Move id dx dy) old new = MarksCurrent editing old new
+MarksAfter editing (command.Delete id) old new = MarksCurrent editing old new
+MarksAfter editing (command.Label layer area position text) old new = MarksCurrent editing old new
+MarksAfter editing (command.Unlabel text) old new = MarksCurrent editing old new
+MarksAfter editing _ old new = new ≡ old
+
 -- The command is not refused, and is applied.
-pub record Applies (editing : Editing) (command : Command) (effect : Effect State) : Type 0 where
-  pub accepts : (fault : EditFault) → ApplyIsRefused editing command fault → ⊥
-  pub is : effect ≡ accepted (Some (applied editing command)) (reply (codes "ok") ∷ []) []
+pub record Applies (work : Workspace) (command : Command) (effect : Effect State) : Type 0 where
+  pub accepts : (fault : EditFault) → ApplyIsRefused work.editing command fault → ⊥
+  pub dirty : ℕ → Bool
+  pub marks : MarksAfter work.editing command work.dirty dirty
+  pub is : effect ≡ accepted (Some (record { editing = applied work.editing command; dirty = dirty })) (reply (codes "ok") ∷ []) []
 
 -- The command is refused.
-pub record RefusesEdit (number : ℕ) (editing : Editing) (command : Command) (effect : Effect State) : Type 0 where
+pub record RefusesEdit (number : ℕ) (work : Workspace) (command : Command) (effect : Effect State) : Type 0 where
   pub fault : EditFault
-  pub is_refused : ApplyIsRefused editing command fault
-  pub is : effect ≡ refused number (Some editing) (Edit fault) []
+  pub is_refused : ApplyIsRefused work.editing command fault
+  pub is : effect ≡ refused number (Some work) (Edit fault) []
 
 abbrev pub EditMeans : ℕ → State → Command → Effect State → Type 0
 EditMeans number state command effect =
     MatchOption state
     (effect ≡ refused number state (nothing_to_edit command) [])
-    (λ editing. Applies editing command effect ⊎ RefusesEdit number editing command effect)
+    (λ work. Applies work command effect ⊎ RefusesEdit number work command effect)

@@ -22,6 +22,6 @@ abbrev pub NodesMeans : ℕ → State → List ℕ → Effect State → Type 0
 NodesMeans number state name effect =
     MatchOption state
     (effect ≡ refused number state NoTech [])
-    (λ editing. MatchOption (cell_named editing.library name)
+    (λ work. MatchOption (cell_named work.editing.library name)
     (effect ≡ refused number state (NoCell name) [])
-    (λ cell. (nodes : List NodeRec) × AreNodesOf editing.library cell nodes × (effect ≡ accepted state (node_lines nodes) [])))
+    (λ cell. (nodes : List NodeRec) × AreNodesOf work.editing.library cell nodes × (effect ≡ accepted state (node_lines nodes) [])))

@@ -21,6 +21,6 @@ abbrev pub SaveMeans : ℕ → State → List ℕ → Effect State → Type 0
 SaveMeans number state name effect =
     MatchOption state
     (effect ≡ refused number state NoTech [])
-    (λ editing. MatchOption (cell_named editing.library name)
+    (λ work. MatchOption (cell_named work.editing.library name)
     (effect ≡ refused number state (NoCell name) [])
-    (λ cell. (text : List ℕ) × IsCellText editing.library cell text × (effect ≡ stored state (cell_store name text) (reply (saved_text name)))))
+    (λ cell. (text : List ℕ) × IsCellText work.editing.library cell text × (effect ≡ stored state (cell_store name text) (reply (saved_text name)))))

@@ -36,4 +36,4 @@ abbrev pub TechMeans : ℕ → State → Files → List ℕ → Effect State →
 TechMeans number state files name effect =
     MatchOption state
     (effect ≡ file_effect number (tech_file name) (text_in files (tech_file name)))
-    (λ editing. effect ≡ refused number state TechAgain [])
+    (λ work. effect ≡ refused number state TechAgain [])

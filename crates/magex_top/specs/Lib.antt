@@ -1,9 +1,14 @@
 pub mod Answers
+pub mod Circuits
+pub mod CommandCircuits
 pub mod CommandEdits
+pub mod CommandExt2sim
+pub mod CommandExtract
 pub mod CommandLoad
 pub mod CommandNodes
 pub mod CommandSave
 pub mod CommandTech
+pub mod Extractions
 pub mod Refusals
 pub mod Runs
 pub mod Sessions

@@ -20,6 +20,13 @@ use Rattle.edit_script.specs.declared.faults.EditFault.TheVariants as edit
 use Rattle.cell_loading.specs.declared.faults.LoadFault.{LoadFault}
 use Rattle.cell_loading.specs.declared.faults.LoadFault.TheVariants as load
 use Rattle.cell_loading.specs.Loads.{cause_of_load}
+use Rattle.circuit_model.specs.declared.faults.FlatFault.{FlatFault}
+use Rattle.circuit_model.specs.declared.faults.FlatFault.TheVariants as flat
+use Rattle.ext_reading.specs.declared.faults.ExtReadFault.{ExtReadFault}
+use Rattle.ext_reading.specs.declared.faults.ExtReadFault.TheVariants as ext
+use Rattle.ext_loading.specs.declared.faults.ExtLoadFault.{ExtLoadFault}
+use Rattle.ext_loading.specs.declared.faults.ExtLoadFault.TheVariants as tree
+use Rattle.ext_loading.specs.Loads.{cause_of_load as cause_of_tree}
 use Rattle.session_model.specs.declared.fetching.FetchFault.{FetchFault}
 use Rattle.session_model.specs.declared.fetching.FetchFault.TheVariants as fetch
 use Rattle.session_model.specs.Fetches.{cause_of_fault}
@@ -28,7 +35,7 @@ use Rattle.session_model.specs.declared.report.Cause.TheVariants.{Inside}
 use Rattle.session_model.specs.declared.report.LineKind.TheVariants.{Refusal}
 use Rattle.session_model.specs.declared.report.ReportLine.{ReportLine}
 use Rattle.magex_top.specs.declared.faults.TopFault.{TopFault}
-use Rattle.magex_top.specs.declared.faults.TopFault.TheVariants.{Line, NoTech, Tech, File, Load, NoCell, Edit, TechAgain, NotBuilt}
+use Rattle.magex_top.specs.declared.faults.TopFault.TheVariants.{Line, NoTech, Tech, File, Load, Ext, Flat, TooMany, NoCell, Edit, TechAgain, NotBuilt}
 
 -- the name of a section
 abbrev pub section_word : Section → List ℕ
@@ -137,6 +144,34 @@ load_fault_text load.OutOfRange = out_of_range_text
 load_fault_text (load.TooMany limit) = too_many_text limit
 load_fault_text load.Memory = []
 
+-- the code of a fault of a circuit file
+abbrev pub ext_code : ExtReadFault → List ℕ
+ext_code ext.BadLine = codes "X1"
+ext_code ext.NoHeader = codes "X2"
+ext_code ext.Version = codes "X3"
+ext_code ext.NameTwice = codes "X4"
+ext_code ext.Range = codes "X5"
+ext_code ext.Transform = codes "X6"
+ext_code ext.UseTwice = codes "X7"
+ext_code ext.NoName = codes "X8"
+ext_code ext.Memory = []
+
+-- why the circuit files of a tree can't be read
+abbrev pub tree_fault_text : ExtLoadFault → List ℕ
+tree_fault_text (tree.File file fault) = file_fault_text file fault
+tree_fault_text (tree.Ext file at) = codes "E23 " ++ file ++ codes " " ++ decimal (pos at.line) ++ codes " " ++ ext_code at.fault
+tree_fault_text (tree.TooMany limit) = too_many_text limit
+tree_fault_text (tree.Cycle cell) = cycle_text cell
+
+-- Why the records of a tree mean no circuit. Each use of a tree that was read leads to a record, and none leads back.
+abbrev pub flat_fault_text : FlatFault → List ℕ
+flat_fault_text (flat.NoCell cell) = no_cell_text cell
+flat_fault_text (flat.Cycle cell) = cycle_text cell
+flat_fault_text (flat.TooMany limit) = too_many_text limit
+flat_fault_text (flat.Classes cell) = codes "E24 classes " ++ cell
+flat_fault_text (flat.NoPath cell path) = codes "E24 no path " ++ cell ++ codes " " ++ path
+flat_fault_text flat.Memory = []
+
 -- why an edit is refused
 abbrev pub edit_fault_text : EditFault → List ℕ
 edit_fault_text edit.NoCurrent = codes "E8 no cell -"
@@ -160,6 +195,9 @@ fault_text NoTech = codes "E4 no technology"
 fault_text (Tech file at) = codes "E5 " ++ file ++ codes " " ++ decimal (pos at.line) ++ codes " " ++ tech_fault_text at.fault
 fault_text (File file fault) = file_fault_text file fault
 fault_text (Load fault) = load_fault_text fault
+fault_text (Ext fault) = tree_fault_text fault
+fault_text (Flat fault) = flat_fault_text fault
+fault_text (TooMany limit) = too_many_text limit
 fault_text (NoCell cell) = no_cell_text cell
 fault_text (Edit fault) = edit_fault_text fault
 fault_text TechAgain = codes "E22 technology again"
@@ -169,6 +207,7 @@ fault_text NotBuilt = codes "E26 not built"
 abbrev pub cause_of : TopFault → Cause
 cause_of (File file fault) = cause_of_fault fault
 cause_of (Load fault) = cause_of_load fault
+cause_of (Ext fault) = cause_of_tree fault
 cause_of _ = Inside
 
 -- `line N: ` and the fault, with N the number of the script's line from 1

@@ -4,11 +4,15 @@ use Rattle.outside_io.specs.Files.{Files}
 use Rattle.session_model.specs.Effects.{Effect}
 use Rattle.script_lines.specs.declared.commands.Command.{Command}
 use Rattle.script_lines.specs.declared.commands.Command.TheVariants.{Tech, Load, New, Edit, Paint, Erase, Place, Array, Move, Delete, Label, Unlabel}
-use Rattle.script_lines.specs.declared.commands.Command.TheVariants.{Save, Nodes}
+use Rattle.script_lines.specs.declared.commands.Command.TheVariants.{Save, Nodes, Extract, Flat, Sim, Ext2sim}
 use Rattle.script_lines.specs.declared.faults.LineFault.{LineFault}
 use Rattle.script_lines.specs.Commands.{command_of}
+use Rattle.magex_top.specs.declared.circuits.CircuitFile.TheVariants as file
 use Rattle.magex_top.specs.declared.faults.TopFault.TheVariants.{Line, NotBuilt}
+use Rattle.magex_top.specs.CommandCircuits.{CircuitMeans}
 use Rattle.magex_top.specs.CommandEdits.{EditMeans}
+use Rattle.magex_top.specs.CommandExt2sim.{Ext2simMeans}
+use Rattle.magex_top.specs.CommandExtract.{ExtractMeans}
 use Rattle.magex_top.specs.CommandLoad.{LoadMeans}
 use Rattle.magex_top.specs.CommandNodes.{NodesMeans}
 use Rattle.magex_top.specs.CommandSave.{SaveMeans}
@@ -31,6 +35,10 @@ CommandMeans number state files (Label layer area position text) effect = EditMe
 CommandMeans number state files (Unlabel text) effect = EditMeans number state (Unlabel text) effect
 CommandMeans number state files (Save cell) effect = SaveMeans number state cell effect
 CommandMeans number state files (Nodes cell) effect = NodesMeans number state cell effect
+CommandMeans number state files (Extract cell) effect = ExtractMeans number state cell effect
+CommandMeans number state files (Flat cell) effect = CircuitMeans file.Flat number state cell effect
+CommandMeans number state files (Sim cell) effect = CircuitMeans file.Sim number state cell effect
+CommandMeans number state files (Ext2sim cell) effect = Ext2simMeans number state files cell effect
 CommandMeans number state files _ effect = effect ≡ refused number state NotBuilt []
 
 -- A line that is no command is refused, and one that asks for nothing does nothing.

@@ -1,5 +1,5 @@
 -- The state of a session between two lines, and the effects that lines have on it.
-use Rattle.std.specs.Prelude.{ℕ, List, [], ◌∷◌, Option, Some, None}
+use Rattle.std.specs.Prelude.{ℕ, Bool, true, List, [], ◌∷◌, Option, None}
 use Rattle.session_model.specs.declared.answer.Store.{Store}
 use Rattle.session_model.specs.declared.report.LineKind.TheVariants.{Reply}
 use Rattle.session_model.specs.declared.report.ReportLine.{ReportLine}
@@ -9,17 +9,26 @@ use Rattle.edit_script.specs.Editing.{Editing}
 use Rattle.magex_top.specs.declared.faults.TopFault.{TopFault}
 use Rattle.magex_top.specs.Refusals.{refusal}
 
+-- What is edited, and which cells are dirty: those, by their positions, that were never extracted, or that an edit changed since, or a cell
+-- that stood below them at that edit. What is no cell was never extracted.
+pub record Workspace : Type 0 where
+  pub editing : Editing
+  pub dirty : ℕ → Bool
+
 -- Once a technology was read, there is a library over it, which is edited. A library has its cells in the order in which they came.
 abbrev pub State : Type 0
-State = Option Editing
+State = Option Workspace
 
 -- there is no technology at the start
 abbrev pub first_state : State
 first_state = None
 
 -- the library without cells over a technology
-abbrev pub begun_with : RawTech → Editing
-begun_with raw = record { library = record { tech = raw; scale = None; cells = [] }; edits = 0; current = None }
+abbrev pub begun_with : RawTech → Workspace
+begun_with raw = record {
+  editing = record { library = record { tech = raw; scale = None; cells = [] }; edits = 0; current = None };
+  dirty = λ cell. true;
+}
 
 -- a line of a reply
 abbrev pub reply : List ℕ → ReportLine

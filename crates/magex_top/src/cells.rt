@@ -4,13 +4,15 @@ ghost use Rattle.magex_top.specs.Answers.{IsSession, state_of};
 ghost use Rattle.magex_top.specs.States.{first_state};
 
 use cell_library::Library;
+use ext_cache::Cache;
 use ext_model::CellKey;
 
-/// A library, and the current one of its cells.
+/// A library, the current one of its cells, and the records that were made of its cells.
 #[derive(Drop)]
 pub struct Edited {
     pub library: Library,
     pub current: Option<CellKey>,
+    pub cache: Cache,
 }
 
 /// What a session keeps between two lines.

@@ -31,6 +31,7 @@ pub fn edit(
     let Some(edited) = &mut session.edited else {
         return refuse(alloc, number, nothing_to_edit(alloc, command)?);
     };
+    edited.library.lawful();
     match apply(alloc, &mut edited.library, &mut edited.current, command) {
         Ok(()) => Ok(told(alloc, ok(alloc)?)),
         Err(EditFault::Memory) => Err(Halt::Memory),

@@ -4,8 +4,7 @@ ghost use Rattle.text_scan.specs.PlainNames.{is_plain_name};
 ghost use Rattle.outside_io.specs.Files.{Files};
 ghost use Rattle.session_model.specs.Causes.{HasCauses, kinds_of};
 ghost use Rattle.session_model.specs.Effects.{Answers};
-ghost use Rattle.edit_script.specs.Editing.{IsCurrent};
-ghost use Rattle.magex_top.specs.Answers.{IsSession, edited_state, state_of};
+ghost use Rattle.magex_top.specs.Answers.{IsEdited, IsSession, edited_state, state_of};
 ghost use Rattle.magex_top.specs.CommandLoad.{LoadMeans};
 
 use crate::cells::{Edited, LayoutSession};
@@ -48,14 +47,15 @@ fn load_into<F: Shelf>(
     number: usize,
     cell: &Name,
 ) -> Result<Answer, Halt>
-    requires current { IsCurrent edited.old.library edited.old.current }
+    requires edited { IsEdited edited.old }
     requires cell { IsTrue (is_plain_name cell.now) }
     ensures effect { (files : Files) → F.files shelf.old ≡ Some files → IfOk result
         (Answers (LoadMeans number (Some (edited_state edited.old)) files cell.now) (Some (edited_state edited.new))) }
-    ensures kept { IsCurrent edited.new.library edited.new.current }
+    ensures kept { IsEdited edited.new }
     ensures files { F.files shelf.new ≡ F.files shelf.old }
     ensures causes { HasCauses F.Shelf shelf.old shelf.new kinds_of result }
 {
+    edited.library.lawful();
     let first = edited.library.cell_count();
     match load_cells(alloc, &mut edited.library, shelf, cell)? {
         Loaded::Cells(count) => {

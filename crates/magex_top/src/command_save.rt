@@ -1,16 +1,16 @@
 //! `save c`: stores c.mag.
-ghost use Rattle.std.specs.Prelude.{◌≡◌, ◌∷◌, [], IfOk, IsOkUnless};
+ghost use Rattle.std.specs.Prelude.{IfOk, IsOkUnless};
 ghost use Rattle.session_model.specs.Effects.{Answers};
 ghost use Rattle.magex_top.specs.Answers.{IsOfInside, IsSession, state_of};
-ghost use Rattle.magex_top.specs.CommandSave.{SaveMeans, cell_store};
+ghost use Rattle.magex_top.specs.CommandSave.{SaveMeans};
 
 use crate::cells::LayoutSession;
 use crate::faults::TopFault;
-use crate::replies::{file_name, refuse, saved};
+use crate::replies::{file_name, one_store, refuse, saved};
 use geo_core::{List, Name};
 use mag_text::write_mag;
 use session_model::{Answer, Halt, Store};
-use std::alloc::{AllocError, Global};
+use std::alloc::Global;
 
 /// `save c`, the script's line of this number.
 pub fn save(
@@ -39,13 +39,4 @@ pub fn save(
         lines: saved(alloc, cell)?,
         stores: one_store(alloc, store)?,
     })
-}
-
-// One store alone.
-fn one_store(alloc: Global, store: Store) -> Result<Vec<Store>, AllocError>
-    ensures { IfOk result (λ stores. stores.items ≡ store ∷ []) }
-{
-    let mut stores = Vec::new(alloc);
-    stores.push(store)?;
-    Ok(stores)
 }

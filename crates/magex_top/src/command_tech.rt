@@ -11,6 +11,7 @@ use crate::cells::{Edited, LayoutSession};
 use crate::faults::TopFault;
 use crate::replies::{file_name, refuse, tech_reply, told};
 use cell_library::Library;
+use ext_cache::Cache;
 use geo_core::Name;
 use outside_io::Shelf;
 use session_model::{Answer, Fetched, Halt, fetch_text};
@@ -65,6 +66,7 @@ fn accept_tech(
             session.edited = Some(Edited {
                 library: Library::new(alloc, read),
                 current: None,
+                cache: Cache::new(alloc),
             });
             Ok(told(alloc, lines))
         }

@@ -1,8 +1,10 @@
 //! Why a line of a script is refused.
 
 use cell_loading::LoadFault;
+use circuit_model::FlatFault;
 use edit_script::EditFault;
-use geo_core::Name;
+use ext_loading::ExtLoadFault;
+use geo_core::{Limit, Name};
 use script_lines::LineFault;
 use session_model::FetchFault;
 use tech_file::TechAt;
@@ -20,6 +22,12 @@ pub enum TopFault {
     File(Name, FetchFault),
     /// The cell can't be loaded.
     Load(LoadFault),
+    /// The circuit files of a tree can't be read.
+    Ext(ExtLoadFault),
+    /// The records of a tree mean no circuit.
+    Flat(FlatFault),
+    /// There would be too many of these.
+    TooMany(Limit),
     /// There is no cell of this name.
     NoCell(Name),
     /// The edit is refused.

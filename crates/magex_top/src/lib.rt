@@ -8,11 +8,16 @@
 #![tactic(auto)]
 
 mod cells;
+mod circuits;
+mod command_circuits;
 mod command_edits;
+mod command_ext2sim;
+mod command_extract;
 mod command_load;
 mod command_nodes;
 mod command_save;
 mod command_tech;
+mod extractions;
 mod faults;
 mod refusals;
 mod replies;

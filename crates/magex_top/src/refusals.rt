@@ -3,10 +3,14 @@ ghost use Rattle.std.specs.Prelude.{◌≡◌, ◌++◌, codes, IfOk, OnOk};
 ghost use Rattle.session_model.specs.Fetches.{cause_of_fault};
 ghost use Rattle.magex_top.specs.Refusals.{cause_of, fault_text, limit_word, refusal, section_word, table_word, tech_fault_text, line_fault_text};
 ghost use Rattle.magex_top.specs.Refusals.{file_fault_text, too_many_text, load_fault_text, mag_fault_text, mag_code, edit_fault_text};
+ghost use Rattle.magex_top.specs.Refusals.{ext_code, flat_fault_text, tree_fault_text};
 
 use crate::faults::TopFault;
 use cell_loading::LoadFault;
+use circuit_model::FlatFault;
 use edit_script::EditFault;
+use ext_loading::ExtLoadFault;
+use ext_reading::{ExtAt, ExtReadFault};
 use geo_core::{Limit, List, Name};
 use mag_text::MagFault;
 use script_lines::LineFault;
@@ -38,6 +42,7 @@ fn cause_of(fault: &TopFault) -> Cause
     match fault {
         TopFault::File(_, fault) => cause_of_fault(*fault),
         TopFault::Load(LoadFault::File(_, fault)) => cause_of_fault(*fault),
+        TopFault::Ext(ExtLoadFault::File(_, fault)) => cause_of_fault(*fault),
         _ => Cause::Inside,
     }
 }
@@ -62,6 +67,9 @@ fn append_fault(text: &mut Vec<u8>, fault: &TopFault) -> Result<(), AllocError>
         TopFault::Tech(file, at) => append_tech(text, file, at),
         TopFault::File(file, fault) => append_file_fault(text, file, *fault),
         TopFault::Load(fault) => append_load_fault(text, fault),
+        TopFault::Ext(fault) => append_tree_fault(text, fault),
+        TopFault::Flat(fault) => append_flat_fault(text, fault),
+        TopFault::TooMany(limit) => append_too_many(text, *limit),
         TopFault::NoCell(cell) => append_with_name(text, b"E8 no cell ", cell),
         TopFault::Edit(fault) => append_edit_fault(text, fault),
         TopFault::TechAgain => text.extend_from_slice(b"E22 technology again"),
@@ -147,6 +155,58 @@ fn mag_code(fault: MagFault) -> &'static [u8]
         MagFault::NoEnd => b"M8",
         MagFault::NotHere => b"M9",
         MagFault::Memory => b"",
+    }
+}
+
+// Writes why the circuit files of a tree can't be read.
+fn append_tree_fault(text: &mut Vec<u8>, fault: &ExtLoadFault) -> Result<(), AllocError>
+    ensures { OnOk result (text.new.items ≡ text.old.items ++ tree_fault_text fault.now) }
+{
+    match fault {
+        ExtLoadFault::File(file, fault) => append_file_fault(text, file, *fault),
+        ExtLoadFault::Ext(file, at) => append_ext(text, file, at),
+        ExtLoadFault::TooMany(limit) => append_too_many(text, *limit),
+        ExtLoadFault::Cycle(cell) => append_with_name(text, b"E16 cycle ", cell),
+    }
+}
+
+// Writes the fault of a circuit file.
+fn append_ext(text: &mut Vec<u8>, file: &Name, at: &ExtAt) -> Result<(), AllocError>
+    ensures { OnOk result (text.new.items ≡ text.old.items ++ tree_fault_text (ExtLoadFault.Ext file.now at.now)) }
+{
+    append_with_name(text, b"E23 ", file)?;
+    text.push(b' ')?;
+    append_decimal(text, i128::from(at.line))?;
+    append_two(text, b" ", ext_code(at.fault))
+}
+
+fn ext_code(fault: ExtReadFault) -> &'static [u8]
+    ensures { result.now ≡ ext_code fault }
+{
+    match fault {
+        ExtReadFault::BadLine => b"X1",
+        ExtReadFault::NoHeader => b"X2",
+        ExtReadFault::Version => b"X3",
+        ExtReadFault::NameTwice => b"X4",
+        ExtReadFault::Range => b"X5",
+        ExtReadFault::Transform => b"X6",
+        ExtReadFault::UseTwice => b"X7",
+        ExtReadFault::NoName => b"X8",
+        ExtReadFault::Memory => b"",
+    }
+}
+
+// Writes why the records of a tree mean no circuit.
+fn append_flat_fault(text: &mut Vec<u8>, fault: &FlatFault) -> Result<(), AllocError>
+    ensures { OnOk result (text.new.items ≡ text.old.items ++ flat_fault_text fault.now) }
+{
+    match fault {
+        FlatFault::NoCell(cell) => append_with_name(text, b"E8 no cell ", cell),
+        FlatFault::Cycle(cell) => append_with_name(text, b"E16 cycle ", cell),
+        FlatFault::TooMany(limit) => append_too_many(text, *limit),
+        FlatFault::Classes(cell) => append_with_name(text, b"E24 classes ", cell),
+        FlatFault::NoPath(cell, path) => append_with_names(text, b"E24 no path ", cell, path),
+        FlatFault::Memory => Ok(()),
     }
 }
 

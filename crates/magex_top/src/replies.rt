@@ -4,13 +4,14 @@ ghost use Rattle.text_scan.specs.Decimal.{decimal};
 ghost use Rattle.magex_top.specs.CommandLoad.{loaded_text};
 ghost use Rattle.magex_top.specs.CommandSave.{saved_text};
 ghost use Rattle.magex_top.specs.CommandTech.{tech_text};
+ghost use Rattle.magex_top.specs.Extractions.{extracted_text};
 ghost use Rattle.magex_top.specs.Refusals.{refusal};
 ghost use Rattle.magex_top.specs.States.{reply};
 
 use crate::faults::TopFault;
 use crate::refusals::{append_with_name, refusal};
 use geo_core::{List, Name};
-use session_model::{Answer, Halt, LineKind, ReportLine};
+use session_model::{Answer, Halt, LineKind, ReportLine, Store};
 use std::alloc::{AllocError, Global};
 use tech_model::Tech;
 use text_scan::append_decimal;
@@ -32,6 +33,25 @@ pub fn one_line(alloc: Global, line: ReportLine) -> Result<Vec<ReportLine>, Allo
     let mut lines = Vec::new(alloc);
     lines.push(line)?;
     Ok(lines)
+}
+
+/// One store alone.
+pub fn one_store(alloc: Global, store: Store) -> Result<Vec<Store>, AllocError>
+    ensures { IfOk result (λ stores. stores.items ≡ store ∷ []) }
+{
+    let mut stores = Vec::new(alloc);
+    stores.push(store)?;
+    Ok(stores)
+}
+
+/// Some things, and others behind them.
+pub fn joined<T: Drop>(first: List<T>, rest: Vec<T>) -> Result<Vec<T>, AllocError>
+    ensures { IfOk result (λ all. all.items ≡ first ++ rest.items) }
+{
+    let mut all = first.into_vec();
+    let mut rest = rest;
+    all.append(&mut rest)?;
+    Ok(all)
 }
 
 /// The answer that refuses the script's line of this number.
@@ -82,6 +102,16 @@ pub fn loaded(alloc: Global, cell: &Name, count: usize) -> Result<Vec<ReportLine
     one_line(alloc, reply(text))
 }
 
+/// The reply to an `extract` that made so many records.
+pub fn extracted(alloc: Global, cell: &Name, count: usize) -> Result<Vec<ReportLine>, AllocError>
+    ensures { IfOk result (λ lines. lines.items ≡ reply (extracted_text cell.now count) ∷ []) }
+{
+    let mut text = Vec::new(alloc);
+    append_with_name(&mut text, b"extract ", cell)?;
+    append_count(&mut text, b": ", count, b" cells")?;
+    one_line(alloc, reply(text))
+}
+
 /// The reply to a `tech` that read a technology.
 pub fn tech_reply(alloc: Global, tech: &Tech) -> Result<Vec<ReportLine>, AllocError>
     ensures { IfOk result (λ lines. lines.items ≡ reply (tech_text tech.now) ∷ []) }
@@ -103,8 +133,8 @@ fn tech_counts(alloc: Global, tech: &Tech) -> Result<Vec<u8>, AllocError>
     Ok(text)
 }
 
-// Writes a number between words.
-fn append_count(
+/// Writes a number between words.
+pub fn append_count(
     text: &mut Vec<u8>,
     before: &[u8],
     count: usize,

@@ -8,7 +8,11 @@ ghost use Rattle.magex_top.specs.Answers.{IsSession, state_of};
 ghost use Rattle.magex_top.specs.Sessions.{CommandMeans};
 
 use crate::cells::LayoutSession;
+use crate::circuits::CircuitFile;
+use crate::command_circuits::circuit;
 use crate::command_edits::edit;
+use crate::command_ext2sim::ext2sim;
+use crate::command_extract::extract;
 use crate::command_load::load;
 use crate::command_nodes::nodes;
 use crate::command_save::save;
@@ -80,6 +84,10 @@ fn answer<F: Shelf>(
         | Command::Unlabel(_) => edit(alloc, session, number, command),
         Command::Save(cell) => save(alloc, session, number, cell),
         Command::Nodes(cell) => nodes(alloc, session, number, cell),
+        Command::Extract(cell) => extract(alloc, session, number, cell),
+        Command::Flat(cell) => circuit(alloc, session, number, cell, CircuitFile::Flat),
+        Command::Sim(cell) => circuit(alloc, session, number, cell, CircuitFile::Sim),
+        Command::Ext2sim(cell) => ext2sim(alloc, shelf, number, cell),
         _ => refuse(alloc, number, TopFault::NotBuilt),
     }
 }

@@ -3,7 +3,7 @@ use Rattle.std.specs.Prelude.{All}
 use Rattle.tech_model.specs.declared.raw.Label.{Label}
 use Rattle.tech_model.specs.declared.raw.RawTech.{RawTech}
 use Rattle.names.specs.Labels.{IsLabelOf}
-use Rattle.magex_top.proofs.NodesLaws.{labels_may_name}
+use Rattle.ext_cache.proofs.LabelLaws.{labels_may_name}
 use Rattle.magex_top.proofs.command_nodes.nodes_of.Goals as goal
 
 pub cell_nodes-requires-clause-labels : goal.cell_nodes-requires-clause-labels

@@ -1,6 +1,5 @@
-use Rattle.std.proofs.Common.{◌≡◌, sym, subst}
+use Rattle.std.proofs.Common.{sym, subst}
 use Rattle.std.proofs.lemmas.Result.{IfOk-weaker}
-use Rattle.outside_io.specs.Files.{Files}
 use Rattle.session_model.specs.Effects.{Answers}
 use Rattle.script_lines.specs.declared.commands.Command.{Command}
 use Rattle.magex_top.specs.Answers.{state_of}
@@ -18,3 +17,9 @@ returns-in-Load-clause-effect g c files told =
     IfOk-weaker c.load.result _ _
     (λ answer means. subst (λ (command : Command). Answers (CommandMeans c.args.number (state_of c.args.session.now) files command)
     (state_of c.load.new.session) answer) (sym c.in-Load.is) means) (c.load.ensures.effect files told)
+
+pub returns-in-Ext2sim-clause-effect : goal.returns-in-Ext2sim-clause-effect
+returns-in-Ext2sim-clause-effect g c files told =
+    IfOk-weaker c.ext2sim.result _ _
+    (λ answer means. subst (λ (command : Command). Answers (CommandMeans c.args.number (state_of c.args.session.now) files command)
+    (state_of c.args.session.now) answer) (sym c.in-Ext2sim.is) means) (c.ext2sim.ensures.effect files (state_of c.args.session.now) told)

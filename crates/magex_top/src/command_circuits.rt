@@ -1,0 +1,167 @@
+//! `flat c` and `sim c`: extract c, and store the flat file or the sim file of its circuit.
+ghost use Rattle.std.specs.Prelude.{◌≡◌, ◌<◌, ◌++◌, Some, false, length, IfOk, IsOkUnless};
+ghost use Rattle.cell_library.specs.Libraries.{seen};
+ghost use Rattle.ext_cache.specs.Caches.{Agrees, is_dirty};
+ghost use Rattle.session_model.specs.Effects.{Answers};
+ghost use Rattle.magex_top.specs.Answers.{IsEdited, IsOfInside, IsSession, edited_state, state_of};
+ghost use Rattle.magex_top.specs.Circuits.{IsFlattenedAt, IsWrittenAt, WritesCircuit, lines_of, stores_of};
+ghost use Rattle.magex_top.specs.CommandCircuits.{CircuitMeans};
+ghost use Rattle.magex_top.specs.Extractions.{has_uses};
+
+use crate::cells::{Edited, LayoutSession};
+use crate::circuits::{CircuitFile, Written, write_circuit};
+use crate::extractions::{Extraction, FoundCell, extract_cell, find_cell};
+use crate::faults::TopFault;
+use crate::replies::{joined, one_store, refuse};
+use circuit_laws::flat_transistors_have_letter_and_lengths;
+use circuit_model::FlatFault;
+use ext_model::{CellKey, Circuit};
+use flatten::flatten;
+use geo_core::{Limit, Name};
+use own_record_laws::{own_records_have_no_other_fault, own_records_mean_the_layout};
+use session_model::{Answer, Halt};
+use std::alloc::Global;
+use std::slice::from_ref;
+
+/// The circuit of a cell, or the limit that it passes.
+#[derive(Debug, Drop)]
+pub enum Flattened {
+    Circuit(Circuit),
+    Passed(Limit),
+}
+
+/// `flat c` or `sim c`, by the file that is stored, the script's line of this number.
+pub fn circuit(
+    alloc: Global,
+    session: &mut LayoutSession,
+    number: usize,
+    name: &Name,
+    file: CircuitFile,
+) -> Result<Answer, Halt>
+    requires { IsSession session.old }
+    ensures effect { IfOk result (Answers (CircuitMeans file number (state_of session.old) name.now) (state_of session.new)) }
+    ensures kept { IsSession session.new }
+    ensures inside { IfOk result (λ answer. IsOfInside answer.lines.items) }
+    ensures memory { IsOkUnless result Halt.Memory }
+{
+    match &mut session.edited {
+        Some(edited) => circuit_named(alloc, edited, number, name, file),
+        None => refuse(alloc, number, TopFault::NoTech),
+    }
+}
+
+// Extracts the cell of this name and writes its circuit, where there is one and it has no uses.
+fn circuit_named(
+    alloc: Global,
+    edited: &mut Edited,
+    number: usize,
+    name: &Name,
+    file: CircuitFile,
+) -> Result<Answer, Halt>
+    requires { IsEdited edited.old }
+    ensures effect { IfOk result (Answers (CircuitMeans file number (Some (edited_state edited.old)) name.now) (Some (edited_state edited.new))) }
+    ensures kept { IsEdited edited.new }
+    ensures inside { IfOk result (λ answer. IsOfInside answer.lines.items) }
+    ensures memory { IsOkUnless result Halt.Memory }
+{
+    match find_cell(alloc, &edited.library, name)? {
+        FoundCell::Cell(cell) => circuit_found(alloc, edited, number, cell, name, file),
+        FoundCell::Refused(fault) => refuse(alloc, number, fault),
+    }
+}
+
+// Extracts the cell of this name, which has no uses, and writes its circuit.
+fn circuit_found(
+    alloc: Global,
+    edited: &mut Edited,
+    number: usize,
+    cell: CellKey,
+    name: &Name,
+    file: CircuitFile,
+) -> Result<Answer, Halt>
+    requires edited { IsEdited edited.old }
+    requires cell { cell.0 < length edited.old.library.contents }
+    requires no_uses { has_uses (seen edited.old.library) cell.0 ≡ false }
+    ensures effect { IfOk result (Answers (WritesCircuit file number name.now (edited_state edited.old) cell.0) (Some (edited_state edited.new))) }
+    ensures kept { IsEdited edited.new }
+    ensures inside { IfOk result (λ answer. IsOfInside answer.lines.items) }
+    ensures memory { IsOkUnless result Halt.Memory }
+{
+    let extraction = extract_cell(alloc, edited, cell, name)?;
+    let written = write_kept(alloc, edited, cell, name, file)?;
+    answer(alloc, number, extraction, written)
+}
+
+// Writes the circuit of a cell that is not dirty.
+fn write_kept(
+    alloc: Global,
+    edited: &Edited,
+    cell: CellKey,
+    name: &Name,
+    file: CircuitFile,
+) -> Result<Written, Halt>
+    requires agrees { Agrees edited.now.library edited.now.cache }
+    requires clean { is_dirty edited.now.library edited.now.cache cell.0 ≡ false }
+    ensures written { IfOk result (IsWrittenAt file (seen edited.now.library) cell.0 name.now) }
+    ensures memory { IsOkUnless result Halt.Memory }
+{
+    match flatten_kept(alloc, edited, cell)? {
+        Flattened::Circuit(circuit) => write_circuit(alloc, file, name, &circuit),
+        Flattened::Passed(limit) => Ok(Written::Passed(limit)),
+    }
+}
+
+// The circuit of a cell that is not dirty.
+fn flatten_kept(alloc: Global, edited: &Edited, cell: CellKey) -> Result<Flattened, Halt>
+    requires agrees { Agrees edited.now.library edited.now.cache }
+    requires clean { is_dirty edited.now.library edited.now.cache cell.0 ≡ false }
+    ensures flattened { IfOk result (IsFlattenedAt (seen edited.now.library) cell.0) }
+    ensures memory { IsOkUnless result Halt.Memory }
+{
+    let Some(ext) = edited.cache.kept(cell) else {
+        unreachable!()
+    };
+    // The laws of what is flattened here.
+    own_records_mean_the_layout();
+    own_records_have_no_other_fault();
+    flat_transistors_have_letter_and_lengths();
+    match flatten(alloc, from_ref(ext), &ext.cell) {
+        Ok(circuit) => Ok(Flattened::Circuit(circuit)),
+        Err(FlatFault::TooMany(limit)) => Ok(Flattened::Passed(limit)),
+        Err(FlatFault::Memory) => Err(Halt::Memory),
+        Err(_) => unreachable!(),
+    }
+}
+
+// What an extraction comes to, and then what is written.
+fn answer(
+    alloc: Global,
+    number: usize,
+    extraction: Extraction,
+    written: Written,
+) -> Result<Answer, Halt>
+    ensures lines { IfOk result (λ answer. answer.lines.items ≡ extraction.lines ++ lines_of number written) }
+    ensures stores { IfOk result (λ answer. answer.stores.items ≡ extraction.stores ++ stores_of written) }
+    ensures memory { IsOkUnless result Halt.Memory }
+{
+    let told = written_alone(alloc, number, written)?;
+    Ok(Answer {
+        lines: joined(extraction.lines, told.lines)?,
+        stores: joined(extraction.stores, told.stores)?,
+    })
+}
+
+/// The answer of what is written, with nothing before it.
+pub fn written_alone(alloc: Global, number: usize, written: Written) -> Result<Answer, Halt>
+    ensures lines { IfOk result (λ answer. answer.lines.items ≡ lines_of number written) }
+    ensures stores { IfOk result (λ answer. answer.stores.items ≡ stores_of written) }
+    ensures memory { IsOkUnless result Halt.Memory }
+{
+    match written {
+        Written::Stored(lines, store) => Ok(Answer {
+            lines: lines.into_vec(),
+            stores: one_store(alloc, store)?,
+        }),
+        Written::Passed(limit) => refuse(alloc, number, TopFault::TooMany(limit)),
+    }
+}
