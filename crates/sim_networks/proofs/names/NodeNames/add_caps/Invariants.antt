@@ -1,0 +1,6 @@
+use Rattle.std.proofs.Common.{map, take}
+use Rattle.sim_networks.specs.Numbering.{AddsNames}
+use Rattle.sim_networks.proofs.names.NodeNames.add_caps.Given as goal
+
+abbrev pub invariant-loop-cap : goal.invariant-loop-cap
+invariant-loop-cap l = AddsNames (map (λ cap. cap.0) (take l.cap-index l.caps)) l.initial.self l.self

@@ -1,0 +1,18 @@
+use Rattle.std.proofs.Common.{sym, subst}
+use Rattle.sim_text.specs.declared.files.SimFet.{SimFet}
+use Rattle.sim_networks.specs.SimNetworks.{transistor_of}
+use Rattle.sim_networks.specs.Numbering.{HasTerminals, names_with_nodes}
+use Rattle.sim_networks.proofs.SwitchLaws.{switch_added}
+use Rattle.sim_networks.proofs.switches.switches_of.Goals as goal
+
+pub switch_of-requires-clause-terminals : goal.switch_of-requires-clause-terminals
+switch_of-requires-clause-terminals c =
+    let fet = c.fet-item.result in
+    subst (λ (one : SimFet). HasTerminals c.args.table.now.names.index (transistor_of one)) (sym c.fet-item.is)
+    (c.requires.terminals c.loop-fet.fet-index fet c.loop-fet-test.true)
+
+pub loop-fet-preserved : goal.loop-fet-preserved
+loop-fet-preserved c =
+    switch_added (names_with_nodes c.args.table.now) c.args.fets.now c.loop-fet.fet-index c.fet-item.result c.loop-fet.switches.items
+    c.put.new.items.items
+    c.switch_of.result c.loop-fet-test.true c.fet-item.is c.in_ok-put.ensures c.switch_of.ensures c.loop-fet.invariant

@@ -1,0 +1,2 @@
+pub mod SimNetworks
+pub mod Numbering
