@@ -1,0 +1,5 @@
+pub mod Places
+pub mod Rails
+pub mod Alike
+pub mod FittingLines
+pub mod RefusedFiles

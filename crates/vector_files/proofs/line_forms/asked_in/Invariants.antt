@@ -1,0 +1,9 @@
+use Rattle.std.proofs.Common.{◌≡◌, ◌++◌, Ok}
+use Rattle.text_form.specs.SaidLines.{and_then}
+use Rattle.vector_files.specs.LineForms.{asked_in}
+use Rattle.vector_files.proofs.line_forms.asked_in.Given as goal
+
+-- what is asked for so far, and what the names that are left add, are what all names give
+abbrev pub invariant-loop-name : goal.invariant-loop-name
+invariant-loop-name l =
+    asked_in l.names l.fn.words ≡ and_then (asked_in l.names l.name-iterator) (λ rest. Ok (l.asked.items ++ rest))
