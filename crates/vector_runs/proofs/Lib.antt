@@ -1,0 +1,6 @@
+pub mod LineOutcomes
+pub mod Starts
+pub mod SplitRuns
+pub mod NameSearch
+pub mod RailStates
+pub mod RunningLines

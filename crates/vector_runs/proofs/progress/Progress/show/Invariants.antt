@@ -1,0 +1,6 @@
+use Rattle.std.proofs.Common.{◌≡◌, ◌++◌, take}
+use Rattle.vector_runs.specs.Runs.{shown_in}
+use Rattle.vector_runs.proofs.progress.Progress.show.Given as goal
+
+abbrev pub invariant-loop-name : goal.invariant-loop-name
+invariant-loop-name l = l.replies.items ≡ l.initial.replies.items ++ shown_in l.self.states.items (take l.name-index l.asked)

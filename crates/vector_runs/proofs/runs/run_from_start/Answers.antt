@@ -1,0 +1,24 @@
+use Rattle.std.proofs.Common.{ℕ, subst, sym}
+use Rattle.std.proofs.lemmas.Result.{on_ok_weaker}
+use Rattle.switch_net.specs.Names.{NameNodesBelow}
+use Rattle.switch_net.specs.Net.{network_of}
+use Rattle.vector_runs.specs.Running.{standing}
+use Rattle.vector_runs.proofs.RunningLines.{run_told}
+use Rattle.vector_runs.proofs.runs.run_from_start.Goals as goal
+
+pub invariant_of-named : goal.invariant_of-named
+invariant_of-named c =
+    let named = c.args.named.now in
+    record {
+      named_within = subst (λ (nodes : ℕ). NameNodesBelow nodes named.names) (sym c.run_lines.ensures.nodes) named.named_within;
+      one_node = named.one_node;
+    }
+
+pub returns-clause-run : goal.returns-clause-run
+returns-clause-run c =
+    let named = c.args.named.now in
+    on_ok_weaker c.run_lines.result
+    (run_told (network_of named.net) named.names c.args.budget c.args.vectors.now c.in_ok-starts.field-0.items c.items.result.now
+    (standing c.run_lines.new.net c.run_lines.new.self) c.args.replies.now.items c.run_lines.new.replies.items c.in_ok-starts.ensures
+    c.items.ensures)
+    c.run_lines.ensures.ran

@@ -1,0 +1,5 @@
+pub mod Runs
+pub mod Replies
+pub mod Laws
+pub mod Running
+pub mod RailNodes

@@ -1,0 +1,38 @@
+-- Runs under way.
+use Rattle.std.specs.Prelude.{◌≡◌, ◌<◌, ℕ, List, ◌++◌, All}
+use Rattle.switch_net.specs.declared.network.Net.{Net}
+use Rattle.switch_net.specs.Net.{network_of}
+use Rattle.switch_net.specs.Network.{IsSize}
+use Rattle.vector_files.specs.declared.files.VecLine.{VecLine}
+use Rattle.vector_files.specs.declared.files.VecLine.TheVariants.{Set, Free, Size, Phase, Show}
+use Rattle.vector_runs.specs.declared.progress.Progress.{Progress}
+use Rattle.vector_runs.specs.declared.replies.VecReply.{VecReply}
+use Rattle.vector_runs.specs.Runs.{LineRuns, LinesRun, Standing}
+
+-- where a run on this network stands
+abbrev pub standing : Net → Progress → Standing
+standing net progress = record { net = network_of net; states = progress.states.items; phases = progress.phases }
+
+-- the nodes of the line are among so many, and its size is one
+abbrev pub FitsNodes : ℕ → VecLine → Type 0
+FitsNodes nodes (Set v x) = v < nodes
+FitsNodes nodes (Free v) = v < nodes
+FitsNodes nodes (Size v k) = (v < nodes) × IsSize k
+FitsNodes nodes Phase = Unit {0}
+FitsNodes nodes (Show asked) = All (λ named. named.1 < nodes) asked
+
+-- the replies afterwards are those before and maybe more
+abbrev pub AddsReplies : List VecReply → List VecReply → Type 0
+AddsReplies before after = (more : List VecReply) × (after ≡ before ++ more)
+
+-- A line was run, and what it replies was added.
+pub record RanLine (budget : ℕ) (old : Standing) (line : VecLine) (new : Standing) (before after : List VecReply) : Type 0 where
+  pub told : List VecReply
+  pub runs : LineRuns budget old line new told
+  pub added : after ≡ before ++ told
+
+-- Lines were run in their order, and what they reply was added.
+pub record RanLines (budget : ℕ) (old : Standing) (lines : List VecLine) (new : Standing) (before after : List VecReply) : Type 0 where
+  pub told : List VecReply
+  pub runs : LinesRun budget old lines new told
+  pub added : after ≡ before ++ told

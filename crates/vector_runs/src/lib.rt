@@ -1,0 +1,24 @@
+//! Runs vectors on a network: what each line sets, frees, runs and shows.
+//!
+//! # How the proof goes
+//!
+//! Each line does what it says and adds its replies, which its own function ensures. Along the lines a run grows at its end by one line
+//! (`RunningLines`). Since no name has two nodes, power and ground are one node each or none, so the states in which the network begins
+//! follow from these two (`RailStates`, `NameSearch`). A fresh network has no other sizes and inputs than those, hence one that is made
+//! fresh again is as it was.
+//!
+//! A run has one outcome since each line has one: a phase by the law of phases, which asks for a sound network with a state for each node,
+//! and every line that fits the network keeps both (`LineOutcomes`). Whether a node has a name can be decided, so a network begins in one
+//! list of states (`Starts`). A run through a phase to where states are shown is cut there (`SplitRuns`). Lines that only show change
+//! nothing, and a step leaves the states of a settled phase as they are, which is what it means that each node is at rest.
+#![tactic(auto)]
+
+mod laws;
+mod progress;
+mod rails;
+mod replies;
+mod runs;
+
+pub use laws::{runs_are_unique, shown_values_are_steady};
+pub use replies::VecReply;
+pub use runs::run_vectors;

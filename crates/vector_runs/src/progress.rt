@@ -1,0 +1,143 @@
+//! How far a run has come, and what each line does.
+ghost use Rattle.std.specs.Prelude.{◌≡◌, ◌<◌, ◌≤◌, ◌+◌, ◌++◌, true, All, length, map, slice_set, IfOk, OnOk};
+ghost use Rattle.switch_net.specs.Net.{network_of};
+ghost use Rattle.vector_files.specs.declared.files.VecLine.TheVariants.{Phase};
+ghost use Rattle.vector_runs.specs.Running.{AddsReplies, FitsNodes, RanLine, RanLines, standing};
+ghost use Rattle.vector_runs.specs.Runs.{phase_reply as reply_of_phase, shown_in, with_input};
+
+use crate::replies::VecReply;
+use geo_core::Name;
+use std::alloc::{AllocError, Global};
+use steady_state::{Settled, settle};
+use switch_net::{Level, Net};
+use vector_files::VecLine;
+
+/// How far a run has come: the states of the nodes, and how many phases were run.
+#[derive(Drop)]
+pub struct Progress {
+    pub states: Vec<Level>,
+    pub phases: usize,
+}
+
+impl Progress {
+    /// Runs lines from the beginning, and adds what they reply.
+    pub fn run_lines(
+        &mut self,
+        alloc: Global,
+        net: &mut Net,
+        lines: &[(u32, VecLine)],
+        budget: u32,
+        replies: &mut Vec<VecReply>,
+    ) -> Result<(), AllocError>
+        requires states { length self.old.states.items ≡ net.old.nodes }
+        requires begins { self.old.phases ≡ 0 }
+        requires within { All (λ line. FitsNodes net.old.nodes line.1) lines.now }
+        ensures ran { OnOk result (RanLines budget (standing net.old self.old) (map (λ line. line.1) lines.now) (standing net.new self.new)
+            replies.old.items replies.new.items) }
+        ensures nodes { net.new.nodes ≡ net.old.nodes }
+        ensures switches { net.new.switches ≡ net.old.switches }
+        ensures added { AddsReplies replies.old.items replies.new.items }
+    {
+        for (_, line) in lines {
+            self.run_line(alloc, net, line, budget, replies)?;
+        }
+        Ok(())
+    }
+
+    fn run_line(
+        &mut self,
+        alloc: Global,
+        net: &mut Net,
+        line: &VecLine,
+        budget: u32,
+        replies: &mut Vec<VecReply>,
+    ) -> Result<(), AllocError>
+        requires states { length self.old.states.items ≡ net.old.nodes }
+        requires room { self.old.phases < usize.MAX }
+        requires within { FitsNodes net.old.nodes line.now }
+        ensures ran { OnOk result (RanLine budget (standing net.old self.old) line.now (standing net.new self.new)
+            replies.old.items replies.new.items) }
+        ensures states { length self.new.states.items ≡ net.new.nodes }
+        ensures counted { self.new.phases ≤ self.old.phases + 1 }
+        ensures nodes { net.new.nodes ≡ net.old.nodes }
+        ensures switches { net.new.switches ≡ net.old.switches }
+        ensures added { AddsReplies replies.old.items replies.new.items }
+    {
+        match line {
+            VecLine::Set(node, level) => self.set(net, *node, *level),
+            VecLine::Free(node) => net.set_storage(*node),
+            VecLine::Size(node, size) => net.set_size(*node, *size),
+            VecLine::Phase => self.run_phase(net, budget, replies)?,
+            VecLine::Show(asked) => self.show(alloc, asked.items(), replies)?,
+        }
+        Ok(())
+    }
+
+    // Makes a node an input in this state.
+    fn set(&mut self, net: &mut Net, node: u32, level: Level)
+        requires node { node < net.old.nodes }
+        requires states { length self.old.states.items ≡ net.old.nodes }
+        ensures { standing net.new self.new ≡ record (standing net.old self.old) {
+          net = with_input (network_of net.old) node true;
+          states = slice_set self.old.states.items node level;
+        } }
+    {
+        net.set_input(node);
+        self.states[node as usize] = level;
+    }
+
+    fn run_phase(
+        &mut self,
+        net: &mut Net,
+        budget: u32,
+        replies: &mut Vec<VecReply>,
+    ) -> Result<(), AllocError>
+        requires states { length self.old.states.items ≡ net.old.nodes }
+        requires room { self.old.phases < usize.MAX }
+        ensures ran { OnOk result (RanLine budget (standing net.old self.old) Phase (standing net.new self.new)
+            replies.old.items replies.new.items) }
+        ensures network { network_of net.new ≡ network_of net.old }
+        ensures states { length self.new.states.items ≡ length self.old.states.items }
+        ensures counted { self.new.phases ≡ self.old.phases + 1 }
+        ensures added { AddsReplies replies.old.items replies.new.items }
+    {
+        let settled = settle(net, &mut self.states, budget);
+        self.phases += 1;
+        replies.push(phase_reply(self.phases, settled))?;
+        Ok(())
+    }
+
+    // Adds the states of the nodes that are asked for.
+    fn show(
+        &self,
+        alloc: Global,
+        asked: &[(Name, u32)],
+        replies: &mut Vec<VecReply>,
+    ) -> Result<(), AllocError>
+        requires { All (λ named. named.1 < length self.now.states.items) asked.now }
+        ensures shown { OnOk result (replies.new.items ≡ replies.old.items ++ shown_in self.now.states.items asked.now) }
+        ensures added { AddsReplies replies.old.items replies.new.items }
+    {
+        for (name, node) in asked {
+            replies.push(VecReply::Shown(copy(alloc, name)?, self.states[*node as usize]))?;
+        }
+        Ok(())
+    }
+}
+
+// What is told of the phase of this number.
+fn phase_reply(number: usize, settled: Settled) -> VecReply
+    ensures { result ≡ reply_of_phase number settled.done settled.steps }
+{
+    if settled.done {
+        VecReply::Settled(number, settled.steps)
+    } else {
+        VecReply::Unsettled(number)
+    }
+}
+
+fn copy(alloc: Global, name: &Name) -> Result<Name, AllocError>
+    ensures { IfOk result (λ copy. copy ≡ name.now) }
+{
+    name.copy(alloc).map_err(|_| AllocError)
+}
