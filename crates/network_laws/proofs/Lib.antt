@@ -1,0 +1,6 @@
+mod LawfulElements
+mod FetSwitches
+mod FlatNames
+mod FewNodes
+mod FittingNetworks
+mod OwnLetters

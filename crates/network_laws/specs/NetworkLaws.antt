@@ -1,0 +1,25 @@
+-- What holds of the networks of flat circuits.
+use Rattle.std.specs.Prelude.{ℕ, List, All}
+use Rattle.tech_model.specs.declared.raw.Label.{Label}
+use Rattle.tech_model.specs.declared.raw.RawTech.{RawTech}
+use Rattle.ext_model.specs.declared.records.CellExt.{CellExt}
+use Rattle.ext_model.specs.declared.circuits.Circuit.{Circuit}
+use Rattle.layout_model.specs.Layouts.{Layout}
+use Rattle.circuit_model.specs.Elements.{AreRecords}
+use Rattle.circuit_model.specs.Refusals.{IsFlatOf}
+use Rattle.own_records.specs.OwnCircuits.{IsOwnCircuit}
+use Rattle.sim_records.specs.SimRecords.{sim_of}
+use Rattle.switch_net.specs.declared.limits.TheConstants.{MOST_NODES}
+use Rattle.sim_networks.specs.SimNetworks.{HasLetter, HasMoreNodesThan, records_of}
+
+-- the flat circuit of records has no more nodes than a network may have
+abbrev pub FlatNetworksFit : Type 0
+FlatNetworksFit =
+    (exts : List CellExt) (root : List ℕ) (circuit : Circuit) → AreRecords exts → IsFlatOf exts root circuit
+    → ¬ (HasMoreNodesThan MOST_NODES (records_of (sim_of circuit)))
+
+-- each transistor of the circuit of a layout has a letter that makes a switch
+abbrev pub OwnCircuitsHaveLetters : RawTech → Type 0
+OwnCircuitsHaveLetters tech =
+    (layout : Layout) (labels : List Label) (circuit : Circuit) → IsOwnCircuit tech layout labels circuit
+    → All HasLetter (sim_of circuit).fets
