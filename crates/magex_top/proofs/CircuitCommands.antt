@@ -1,6 +1,5 @@
 -- What the commands answer that extract a cell, and those that write its circuit.
 use Rattle.std.proofs.Common.{◌≡◌, ℕ, false, List, [], ◌∷◌, Some, sym, subst, inl, inr}
-use Rattle.std.specs.Prelude.{All}
 use Rattle.finite_sets.specs.Lists.{In}
 use Rattle.finite_sets.proofs.Searches.{All-from_In}
 use Rattle.geo_core.specs.declared.limits.Limit.{Limit}
@@ -18,8 +17,12 @@ use Rattle.cell_library.specs.Views.{LibraryView, view_at}
 use Rattle.cell_library.specs.Libraries.{LibraryParts, seen}
 use Rattle.ext_cache.specs.Caches.{Agrees, IsRecordNow, Records, is_dirty, record_in}
 use Rattle.ext_cache.proofs.RecordLaws.{kept_clean}
-use Rattle.sim_records.specs.SimRecords.{HasLetterAndLengths}
-use Rattle.magex_top.specs.Circuits.{IsCircuitAt, PassesAt}
+use Rattle.network_laws.specs.NetworkLaws.{FlatNetworksFit, OwnCircuitsHaveLetters}
+use Rattle.magex_top.specs.declared.circuits.CircuitFile.{CircuitFile}
+use Rattle.magex_top.specs.declared.circuits.Flattened.TheVariants.{Circuit as OneCircuit}
+use Rattle.magex_top.specs.declared.circuits.Written.{Written}
+use Rattle.magex_top.specs.declared.circuits.Written.TheVariants.{Stored, Passed}
+use Rattle.magex_top.specs.Circuits.{IsCircuitAt, IsFlattenedAt, IsWritten, IsWrittenAt, PassesAt}
 
 -- ---- a record alone
 
@@ -32,17 +35,30 @@ alone ext lawful = record { lawful = All-from_In IsLawful (ext ∷ []) each; cel
     each one (inr absent) = absurd absent
 
 -- what it means is the circuit of its cell
-pub circuit_alone : (library : LibraryView) (cell : ℕ) (ext : CellExt) (circuit : Circuit) → OwnRecordsMeanTheLayout → FlatTransistorsHaveLetterAndLengths
-    → IsRecordNow library cell ext → IsFlatOf (ext ∷ []) ext.cell circuit → IsCircuitAt library cell circuit × All HasLetterAndLengths circuit.fets
-circuit_alone library cell ext circuit means letters now flat =
-    let named = subst (λ (name : List ℕ). IsFlatOf (ext ∷ []) name circuit) now.is.cell flat in (
+pub circuit_alone : (library : LibraryView) (cell : ℕ) (ext : CellExt) (circuit : Circuit) → OwnRecordsMeanTheLayout → IsRecordNow library cell ext
+    → IsFlatOf (ext ∷ []) ext.cell circuit → IsCircuitAt library cell circuit
+circuit_alone library cell ext circuit means now flat =
+    let named = subst (λ (name : List ℕ). IsFlatOf (ext ∷ []) name circuit) now.is.cell flat in
+    record {
+      ext = ext;
+      is_record = now.is;
+      is_flat = flat;
+      is_circuit = means library.tech (view_at library cell).own (view_at library cell).labels (view_at library cell).name ext circuit now.lawful now.is named;
+    }
+
+-- sim records can be made of it, and a network of these
+pub flattened_alone : (library : LibraryView) (cell : ℕ) (ext : CellExt) (circuit : Circuit) → OwnRecordsMeanTheLayout → FlatTransistorsHaveLetterAndLengths
+    → FlatNetworksFit → OwnCircuitsHaveLetters library.tech → IsRecordNow library cell ext → IsFlatOf (ext ∷ []) ext.cell circuit
+    → IsFlattenedAt library cell (OneCircuit circuit)
+flattened_alone library cell ext circuit means lengths fit letters now flat =
+    let is = circuit_alone library cell ext circuit means now flat in
+    let tree = alone ext now.lawful in (
+      is,
+      lengths (ext ∷ []) ext.cell circuit tree flat,
       record {
-        ext = ext;
-        is_record = now.is;
-        is_flat = flat;
-        is_circuit = means library.tech (view_at library cell).own (view_at library cell).labels (view_at library cell).name ext circuit now.lawful now.is named;
+        letters = letters (view_at library cell).own (view_at library cell).labels circuit is.is_circuit;
+        few_nodes = fit (ext ∷ []) ext.cell circuit tree flat;
       },
-      letters (ext ∷ []) ext.cell circuit (alone ext now.lawful) flat,
     )
 
 -- or it passes a limit
@@ -67,3 +83,9 @@ kept_is library records cell ext agrees clean is =
     let kept = kept_clean library records cell agrees clean in
     let same : kept.0 ≡ ext = cc (sym kept.1.0, sym is) in
     subst (λ (e : CellExt). IsRecordNow (seen library) cell e) same kept.1.1
+
+-- what is written of the circuit of a cell
+pub written_at : (file : CircuitFile) (library : LibraryView) (cell : ℕ) (name : List ℕ) (circuit : Circuit) (written : Written)
+    → IsCircuitAt library cell circuit → IsWritten file name circuit written → IsWrittenAt file library cell name written
+written_at file library cell name circuit (Stored lines store) at is = (circuit, at, is)
+written_at file library cell name circuit (Passed limit) at is = inr (circuit, at, is)

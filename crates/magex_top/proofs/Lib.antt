@@ -8,6 +8,9 @@ pub mod InsideLaws
 pub mod LoadLaws
 pub mod NodesLaws
 pub mod RunLaws
+pub mod SimulationCommands
+pub mod SimulationLaws
 pub mod TechLaws
+pub mod TextLaws
 pub mod TreeCommands
 pub mod WorkspaceLaws

@@ -16,6 +16,8 @@ use Rattle.sim_text.specs.declared.limits.TheConstants.{LONGEST_TEXT as LONGEST_
 use Rattle.sim_text.specs.WrittenTexts.{sim_text}
 use Rattle.sim_records.specs.declared.limits.TheConstants.{MOST_SWITCHES}
 use Rattle.sim_records.specs.SimRecords.{sim_of, HasLetterAndLengths}
+use Rattle.switch_net.specs.declared.limits.TheConstants.{MOST_NODES}
+use Rattle.sim_networks.specs.SimNetworks.{HasLetter, HasMoreNodesThan, records_of}
 use Rattle.circuit_model.specs.declared.faults.FlatFault.TheVariants.{TooMany as FlatTooMany}
 use Rattle.circuit_model.specs.Refusals.{IsFlatFaultOf, IsFlatOf}
 use Rattle.cell_library.specs.Views.{LibraryView, view_at}
@@ -24,8 +26,8 @@ use Rattle.magex_top.specs.declared.circuits.CircuitFile.{CircuitFile}
 use Rattle.magex_top.specs.declared.circuits.CircuitFile.TheVariants.{Flat, Sim}
 use Rattle.magex_top.specs.declared.circuits.Written.{Written}
 use Rattle.magex_top.specs.declared.circuits.Written.TheVariants.{Stored, Passed}
-use Rattle.magex_top.specs.declared.command_circuits.Flattened.{Flattened}
-use Rattle.magex_top.specs.declared.command_circuits.Flattened.TheVariants.{Circuit as OneCircuit, Passed as TooMuch}
+use Rattle.magex_top.specs.declared.circuits.Flattened.{Flattened}
+use Rattle.magex_top.specs.declared.circuits.Flattened.TheVariants.{Circuit as OneCircuit, Passed as TooMuch}
 use Rattle.magex_top.specs.declared.extractions.Extraction.{Extraction}
 use Rattle.magex_top.specs.declared.faults.TopFault.TheVariants.{TooMany}
 use Rattle.magex_top.specs.Extractions.{IsExtraction, IsRecordOf, with_clean}
@@ -102,9 +104,16 @@ pub record PassesAt (library : LibraryView) (cell : ℕ) (limit : Limit) : Type 
   pub is_record : IsRecordOf library cell ext
   pub is_fault : IsFlatFaultOf (ext ∷ []) ext.cell (FlatTooMany limit)
 
+-- The sim records of the circuit have a network, unless there are too many switches: its transistors have letters that make switches, and
+-- it has no more nodes than a network may have.
+pub record CanBeSimulated (circuit : Circuit) : Type 0 where
+  pub letters : All HasLetter (sim_of circuit).fets
+  pub few_nodes : ¬ (HasMoreNodesThan MOST_NODES (records_of (sim_of circuit)))
+
 -- The circuit of the cell, with transistors of which sim records can be made; or the limit that it passes.
 abbrev pub IsFlattenedAt : LibraryView → ℕ → Flattened → Type 0
-IsFlattenedAt library cell (OneCircuit circuit) = IsCircuitAt library cell circuit × All HasLetterAndLengths circuit.fets
+IsFlattenedAt library cell (OneCircuit circuit) =
+    IsCircuitAt library cell circuit × All HasLetterAndLengths circuit.fets × CanBeSimulated circuit
 IsFlattenedAt library cell (TooMuch limit) = PassesAt library cell limit
 
 -- what is written of the circuit of a cell, unless a limit is passed before

@@ -7,10 +7,13 @@ pub mod CommandExtract
 pub mod CommandLoad
 pub mod CommandNodes
 pub mod CommandSave
+pub mod CommandSimrun
 pub mod CommandTech
+pub mod CommandVectors
 pub mod Extractions
 pub mod Refusals
 pub mod Runs
 pub mod Sessions
+pub mod Simulations
 pub mod States
 pub mod Statuses

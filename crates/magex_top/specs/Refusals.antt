@@ -27,6 +27,10 @@ use Rattle.ext_reading.specs.declared.faults.ExtReadFault.TheVariants as ext
 use Rattle.ext_loading.specs.declared.faults.ExtLoadFault.{ExtLoadFault}
 use Rattle.ext_loading.specs.declared.faults.ExtLoadFault.TheVariants as tree
 use Rattle.ext_loading.specs.Loads.{cause_of_load as cause_of_tree}
+use Rattle.sim_text.specs.declared.faults.SimFault.{SimFault}
+use Rattle.sim_text.specs.declared.faults.SimFault.TheVariants as sim
+use Rattle.vector_files.specs.declared.faults.VecFault.{VecFault}
+use Rattle.vector_files.specs.declared.faults.VecFault.TheVariants as vec
 use Rattle.session_model.specs.declared.fetching.FetchFault.{FetchFault}
 use Rattle.session_model.specs.declared.fetching.FetchFault.TheVariants as fetch
 use Rattle.session_model.specs.Fetches.{cause_of_fault}
@@ -35,7 +39,8 @@ use Rattle.session_model.specs.declared.report.Cause.TheVariants.{Inside}
 use Rattle.session_model.specs.declared.report.LineKind.TheVariants.{Refusal}
 use Rattle.session_model.specs.declared.report.ReportLine.{ReportLine}
 use Rattle.magex_top.specs.declared.faults.TopFault.{TopFault}
-use Rattle.magex_top.specs.declared.faults.TopFault.TheVariants.{Line, NoTech, Tech, File, Load, Ext, Flat, TooMany, NoCell, Edit, TechAgain, NotBuilt}
+use Rattle.magex_top.specs.declared.faults.TopFault.TheVariants.{Line, NoTech, Tech, File, Load, Ext, Sim, Flat, Vectors, TooMany, NoCell, Edit}
+use Rattle.magex_top.specs.declared.faults.TopFault.TheVariants.{TechAgain, NotBuilt}
 
 -- the name of a section
 abbrev pub section_word : Section → List ℕ
@@ -163,6 +168,26 @@ tree_fault_text (tree.Ext file at) = codes "E23 " ++ file ++ codes " " ++ decima
 tree_fault_text (tree.TooMany limit) = too_many_text limit
 tree_fault_text (tree.Cycle cell) = cycle_text cell
 
+-- the code of a fault of a sim file
+abbrev pub sim_code : SimFault → List ℕ
+sim_code sim.Header = codes "S1"
+sim_code sim.BadLine = codes "S2"
+sim_code sim.Letter = codes "S3"
+sim_code sim.Range = codes "S4"
+sim_code sim.Name = codes "S5"
+sim_code (sim.TooMany limit) = []
+sim_code sim.Memory = []
+
+-- a fault in a line of a sim file
+abbrev pub sim_fault_text : List ℕ → ℕ → SimFault → List ℕ
+sim_fault_text file number fault = codes "E25 " ++ file ++ codes " " ++ decimal (pos number) ++ codes " " ++ sim_code fault
+
+-- a fault in a line of a vector file
+abbrev pub vec_fault_text : ℕ → VecFault → List ℕ
+vec_fault_text number vec.Vector = codes "E21 vector " ++ decimal (pos number)
+vec_fault_text number (vec.NoNode name) = codes "E20 no node " ++ decimal (pos number) ++ codes " " ++ name
+vec_fault_text number vec.Memory = []
+
 -- Why the records of a tree mean no circuit. Each use of a tree that was read leads to a record, and none leads back.
 abbrev pub flat_fault_text : FlatFault → List ℕ
 flat_fault_text (flat.NoCell cell) = no_cell_text cell
@@ -196,7 +221,9 @@ fault_text (Tech file at) = codes "E5 " ++ file ++ codes " " ++ decimal (pos at.
 fault_text (File file fault) = file_fault_text file fault
 fault_text (Load fault) = load_fault_text fault
 fault_text (Ext fault) = tree_fault_text fault
+fault_text (Sim file at) = sim_fault_text file at.line at.fault
 fault_text (Flat fault) = flat_fault_text fault
+fault_text (Vectors at) = vec_fault_text at.line at.fault
 fault_text (TooMany limit) = too_many_text limit
 fault_text (NoCell cell) = no_cell_text cell
 fault_text (Edit fault) = edit_fault_text fault

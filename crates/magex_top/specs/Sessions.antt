@@ -4,7 +4,7 @@ use Rattle.outside_io.specs.Files.{Files}
 use Rattle.session_model.specs.Effects.{Effect}
 use Rattle.script_lines.specs.declared.commands.Command.{Command}
 use Rattle.script_lines.specs.declared.commands.Command.TheVariants.{Tech, Load, New, Edit, Paint, Erase, Place, Array, Move, Delete, Label, Unlabel}
-use Rattle.script_lines.specs.declared.commands.Command.TheVariants.{Save, Nodes, Extract, Flat, Sim, Ext2sim}
+use Rattle.script_lines.specs.declared.commands.Command.TheVariants.{Save, Nodes, Extract, Flat, Sim, Ext2sim, Vectors, Simrun}
 use Rattle.script_lines.specs.declared.faults.LineFault.{LineFault}
 use Rattle.script_lines.specs.Commands.{command_of}
 use Rattle.magex_top.specs.declared.circuits.CircuitFile.TheVariants as file
@@ -16,7 +16,9 @@ use Rattle.magex_top.specs.CommandExtract.{ExtractMeans}
 use Rattle.magex_top.specs.CommandLoad.{LoadMeans}
 use Rattle.magex_top.specs.CommandNodes.{NodesMeans}
 use Rattle.magex_top.specs.CommandSave.{SaveMeans}
+use Rattle.magex_top.specs.CommandSimrun.{SimrunMeans}
 use Rattle.magex_top.specs.CommandTech.{TechMeans}
+use Rattle.magex_top.specs.CommandVectors.{VectorsMeans}
 use Rattle.magex_top.specs.States.{State, accepted, refused}
 
 -- what a command does; those that follow the others here are not built yet
@@ -39,6 +41,8 @@ CommandMeans number state files (Extract cell) effect = ExtractMeans number stat
 CommandMeans number state files (Flat cell) effect = CircuitMeans file.Flat number state cell effect
 CommandMeans number state files (Sim cell) effect = CircuitMeans file.Sim number state cell effect
 CommandMeans number state files (Ext2sim cell) effect = Ext2simMeans number state files cell effect
+CommandMeans number state files (Vectors cell file) effect = VectorsMeans number state files cell file effect
+CommandMeans number state files (Simrun cell file) effect = SimrunMeans number state files cell file effect
 CommandMeans number state files _ effect = effect ≡ refused number state NotBuilt []
 
 -- A line that is no command is refused, and one that asks for nothing does nothing.

@@ -1,19 +1,29 @@
-//! What the commands have in common that store a circuit.
-ghost use Rattle.std.specs.Prelude.{◌≡◌, ◌≤◌, ◌++◌, ◌∷◌, [], All, IfOk, IsOkUnless, OnOk, length};
+//! What the commands have in common that make the circuit of a cell, and those that store one.
+ghost use Rattle.std.specs.Prelude.{◌≡◌, ◌≤◌, ◌++◌, ◌∷◌, [], false, All, IfOk, IsOkUnless, OnOk, length};
+ghost use Rattle.cell_library.specs.Libraries.{seen};
+ghost use Rattle.ext_cache.specs.Caches.{Agrees, is_dirty};
 ghost use Rattle.sim_records.specs.declared.limits.TheConstants.{MOST_SWITCHES};
 ghost use Rattle.sim_records.specs.SimRecords.{HasLetterAndLengths, sim_of};
-ghost use Rattle.magex_top.specs.Circuits.{IsFlatWritten, IsSimWritten, IsWritten, bare_line, bare_lines, bare_of, counts_text, flat_reply, sim_reply};
+ghost use Rattle.magex_top.specs.Circuits.{IsFlatWritten, IsFlattenedAt, IsSimWritten, IsWritten, bare_line, bare_lines, bare_of};
+ghost use Rattle.magex_top.specs.Circuits.{counts_text, flat_reply, sim_reply};
 ghost use Rattle.magex_top.specs.States.{reply};
 
+use crate::cells::Edited;
 use crate::refusals::append_with_name;
 use crate::replies::{append_count, file_name, one_line, reply};
-use ext_model::{Circuit, FetRec};
+use circuit_laws::flat_transistors_have_letter_and_lengths;
+use circuit_model::FlatFault;
+use ext_model::{CellKey, Circuit, FetRec};
 use ext_text::{ExtFault, write_flat};
+use flatten::flatten;
 use geo_core::{Limit, List, Name};
+use network_laws::{flat_networks_fit, own_circuits_have_letters};
+use own_record_laws::{own_records_have_no_other_fault, own_records_mean_the_layout};
 use session_model::{Halt, ReportLine, Store};
 use sim_records::sim_of;
 use sim_text::{SimFault, SimFile, write_sim};
 use std::alloc::{AllocError, Global};
+use std::slice::from_ref;
 
 /// The files that a circuit is written into.
 #[derive(Clone, Copy, Debug, PartialEq, Eq)]
@@ -29,6 +39,37 @@ pub enum CircuitFile {
 pub enum Written {
     Stored(List<ReportLine>, Store),
     Passed(Limit),
+}
+
+/// The circuit of a cell, or the limit that it passes.
+#[derive(Debug, Drop)]
+pub enum Flattened {
+    Circuit(Circuit),
+    Passed(Limit),
+}
+
+/// The circuit of a cell that is not dirty.
+pub fn flatten_kept(alloc: Global, edited: &Edited, cell: CellKey) -> Result<Flattened, Halt>
+    requires agrees { Agrees edited.now.library edited.now.cache }
+    requires clean { is_dirty edited.now.library edited.now.cache cell.0 ≡ false }
+    ensures flattened { IfOk result (IsFlattenedAt (seen edited.now.library) cell.0) }
+    ensures memory { IsOkUnless result Halt.Memory }
+{
+    let Some(ext) = edited.cache.kept(cell) else {
+        unreachable!()
+    };
+    // The laws of what is flattened here.
+    own_records_mean_the_layout();
+    own_records_have_no_other_fault();
+    flat_transistors_have_letter_and_lengths();
+    flat_networks_fit();
+    own_circuits_have_letters(edited.library.tech());
+    match flatten(alloc, from_ref(ext), &ext.cell) {
+        Ok(circuit) => Ok(Flattened::Circuit(circuit)),
+        Err(FlatFault::TooMany(limit)) => Ok(Flattened::Passed(limit)),
+        Err(FlatFault::Memory) => Err(Halt::Memory),
+        Err(_) => unreachable!(),
+    }
 }
 
 /// Writes the circuit of the cell of this name into a file of this kind.

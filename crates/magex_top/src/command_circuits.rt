@@ -4,31 +4,19 @@ ghost use Rattle.cell_library.specs.Libraries.{seen};
 ghost use Rattle.ext_cache.specs.Caches.{Agrees, is_dirty};
 ghost use Rattle.session_model.specs.Effects.{Answers};
 ghost use Rattle.magex_top.specs.Answers.{IsEdited, IsOfInside, IsSession, edited_state, state_of};
-ghost use Rattle.magex_top.specs.Circuits.{IsFlattenedAt, IsWrittenAt, WritesCircuit, lines_of, stores_of};
+ghost use Rattle.magex_top.specs.Circuits.{IsWrittenAt, WritesCircuit, lines_of, stores_of};
 ghost use Rattle.magex_top.specs.CommandCircuits.{CircuitMeans};
 ghost use Rattle.magex_top.specs.Extractions.{has_uses};
 
 use crate::cells::{Edited, LayoutSession};
-use crate::circuits::{CircuitFile, Written, write_circuit};
+use crate::circuits::{CircuitFile, Flattened, Written, flatten_kept, write_circuit};
 use crate::extractions::{Extraction, FoundCell, extract_cell, find_cell};
 use crate::faults::TopFault;
 use crate::replies::{joined, one_store, refuse};
-use circuit_laws::flat_transistors_have_letter_and_lengths;
-use circuit_model::FlatFault;
-use ext_model::{CellKey, Circuit};
-use flatten::flatten;
-use geo_core::{Limit, Name};
-use own_record_laws::{own_records_have_no_other_fault, own_records_mean_the_layout};
+use ext_model::CellKey;
+use geo_core::Name;
 use session_model::{Answer, Halt};
 use std::alloc::Global;
-use std::slice::from_ref;
-
-/// The circuit of a cell, or the limit that it passes.
-#[derive(Debug, Drop)]
-pub enum Flattened {
-    Circuit(Circuit),
-    Passed(Limit),
-}
 
 /// `flat c` or `sim c`, by the file that is stored, the script's line of this number.
 pub fn circuit(
@@ -108,28 +96,6 @@ fn write_kept(
     match flatten_kept(alloc, edited, cell)? {
         Flattened::Circuit(circuit) => write_circuit(alloc, file, name, &circuit),
         Flattened::Passed(limit) => Ok(Written::Passed(limit)),
-    }
-}
-
-// The circuit of a cell that is not dirty.
-fn flatten_kept(alloc: Global, edited: &Edited, cell: CellKey) -> Result<Flattened, Halt>
-    requires agrees { Agrees edited.now.library edited.now.cache }
-    requires clean { is_dirty edited.now.library edited.now.cache cell.0 ≡ false }
-    ensures flattened { IfOk result (IsFlattenedAt (seen edited.now.library) cell.0) }
-    ensures memory { IsOkUnless result Halt.Memory }
-{
-    let Some(ext) = edited.cache.kept(cell) else {
-        unreachable!()
-    };
-    // The laws of what is flattened here.
-    own_records_mean_the_layout();
-    own_records_have_no_other_fault();
-    flat_transistors_have_letter_and_lengths();
-    match flatten(alloc, from_ref(ext), &ext.cell) {
-        Ok(circuit) => Ok(Flattened::Circuit(circuit)),
-        Err(FlatFault::TooMany(limit)) => Ok(Flattened::Passed(limit)),
-        Err(FlatFault::Memory) => Err(Halt::Memory),
-        Err(_) => unreachable!(),
     }
 }
 

@@ -7,7 +7,9 @@ use ext_loading::ExtLoadFault;
 use geo_core::{Limit, Name};
 use script_lines::LineFault;
 use session_model::FetchFault;
+use sim_text::SimAt;
 use tech_file::TechAt;
+use vector_files::VecAt;
 
 /// Why a line of a script is refused, with the words that its text has.
 #[derive(Debug, Drop)]
@@ -24,8 +26,12 @@ pub enum TopFault {
     Load(LoadFault),
     /// The circuit files of a tree can't be read.
     Ext(ExtLoadFault),
+    /// The sim file has a fault.
+    Sim(Name, SimAt),
     /// The records of a tree mean no circuit.
     Flat(FlatFault),
+    /// The vector file has a fault.
+    Vectors(VecAt),
     /// There would be too many of these.
     TooMany(Limit),
     /// There is no cell of this name.

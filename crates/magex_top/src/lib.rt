@@ -16,12 +16,15 @@ mod command_extract;
 mod command_load;
 mod command_nodes;
 mod command_save;
+mod command_simrun;
 mod command_tech;
+mod command_vectors;
 mod extractions;
 mod faults;
 mod refusals;
 mod replies;
 mod session;
+mod simulations;
 mod status;
 mod top_call;
 

@@ -1,9 +1,10 @@
 //! The texts of refusals.
-ghost use Rattle.std.specs.Prelude.{◌≡◌, ◌++◌, codes, IfOk, OnOk};
+ghost use Rattle.std.specs.Prelude.{◌≡◌, ◌++◌, codes, pos, IfOk, OnOk};
+ghost use Rattle.text_scan.specs.Decimal.{decimal};
 ghost use Rattle.session_model.specs.Fetches.{cause_of_fault};
 ghost use Rattle.magex_top.specs.Refusals.{cause_of, fault_text, limit_word, refusal, section_word, table_word, tech_fault_text, line_fault_text};
 ghost use Rattle.magex_top.specs.Refusals.{file_fault_text, too_many_text, load_fault_text, mag_fault_text, mag_code, edit_fault_text};
-ghost use Rattle.magex_top.specs.Refusals.{ext_code, flat_fault_text, tree_fault_text};
+ghost use Rattle.magex_top.specs.Refusals.{ext_code, flat_fault_text, sim_code, sim_fault_text, tree_fault_text, vec_fault_text};
 
 use crate::faults::TopFault;
 use cell_loading::LoadFault;
@@ -15,10 +16,12 @@ use geo_core::{Limit, List, Name};
 use mag_text::MagFault;
 use script_lines::LineFault;
 use session_model::{Cause, FetchFault, LineKind, ReportLine};
+use sim_text::{SimAt, SimFault};
 use std::alloc::{AllocError, Global};
 use tech_file::TechAt;
 use tech_model::{Section, Table, TechFault};
 use text_scan::append_decimal;
+use vector_files::{VecAt, VecFault};
 
 /// The line that refuses the script's line of this number: `line N: ` and the fault.
 pub fn refusal(alloc: Global, number: usize, fault: &TopFault) -> Result<ReportLine, AllocError>
@@ -68,7 +71,9 @@ fn append_fault(text: &mut Vec<u8>, fault: &TopFault) -> Result<(), AllocError>
         TopFault::File(file, fault) => append_file_fault(text, file, *fault),
         TopFault::Load(fault) => append_load_fault(text, fault),
         TopFault::Ext(fault) => append_tree_fault(text, fault),
+        TopFault::Sim(file, at) => append_sim(text, file, at),
         TopFault::Flat(fault) => append_flat_fault(text, fault),
+        TopFault::Vectors(at) => append_vectors(text, at),
         TopFault::TooMany(limit) => append_too_many(text, *limit),
         TopFault::NoCell(cell) => append_with_name(text, b"E8 no cell ", cell),
         TopFault::Edit(fault) => append_edit_fault(text, fault),
@@ -194,6 +199,57 @@ fn ext_code(fault: ExtReadFault) -> &'static [u8]
         ExtReadFault::NoName => b"X8",
         ExtReadFault::Memory => b"",
     }
+}
+
+// Writes the fault of a sim file.
+fn append_sim(text: &mut Vec<u8>, file: &Name, at: &SimAt) -> Result<(), AllocError>
+    ensures { OnOk result (text.new.items ≡ text.old.items ++ sim_fault_text file.now at.now.line at.now.fault) }
+{
+    append_with_name(text, b"E25 ", file)?;
+    text.push(b' ')?;
+    append_decimal(text, i128::from(at.line))?;
+    append_two(text, b" ", sim_code(at.fault))
+}
+
+fn sim_code(fault: SimFault) -> &'static [u8]
+    ensures { result.now ≡ sim_code fault }
+{
+    match fault {
+        SimFault::Header => b"S1",
+        SimFault::BadLine => b"S2",
+        SimFault::Letter => b"S3",
+        SimFault::Range => b"S4",
+        SimFault::Name => b"S5",
+        SimFault::TooMany(_) => b"",
+        SimFault::Memory => b"",
+    }
+}
+
+// Writes the fault of a vector file.
+fn append_vectors(text: &mut Vec<u8>, at: &VecAt) -> Result<(), AllocError>
+    ensures { OnOk result (text.new.items ≡ text.old.items ++ vec_fault_text at.now.line at.now.fault) }
+{
+    match &at.fault {
+        VecFault::Vector => append_numbered(text, b"E21 vector ", at.line),
+        VecFault::NoNode(name) => append_no_node(text, at.line, name),
+        VecFault::Memory => Ok(()),
+    }
+}
+
+// Writes words and then a number.
+fn append_numbered(text: &mut Vec<u8>, words: &[u8], number: u32) -> Result<(), AllocError>
+    ensures { OnOk result (text.new.items ≡ text.old.items ++ (words.now ++ decimal (pos number))) }
+{
+    text.extend_from_slice(words)?;
+    append_decimal(text, i128::from(number))
+}
+
+// Writes that the network has no node of a name, which a line asks for.
+fn append_no_node(text: &mut Vec<u8>, line: u32, name: &Name) -> Result<(), AllocError>
+    ensures { OnOk result (text.new.items ≡ text.old.items ++ vec_fault_text line (VecFault.NoNode name.now)) }
+{
+    append_numbered(text, b"E20 no node ", line)?;
+    append_with_name(text, b" ", name)
 }
 
 // Writes why the records of a tree mean no circuit.

@@ -60,8 +60,19 @@ pub fn refuse(alloc: Global, number: usize, fault: TopFault) -> Result<Answer, H
     ensures stores { IfOk result (λ answer. answer.stores.items ≡ []) }
     ensures memory { IsOkUnless result Halt.Memory }
 {
+    Ok(told(alloc, refused_line(alloc, number, fault)?))
+}
+
+/// The line that refuses the script's line of this number, alone.
+pub fn refused_line(
+    alloc: Global,
+    number: usize,
+    fault: TopFault,
+) -> Result<Vec<ReportLine>, AllocError>
+    ensures lines { IfOk result (λ lines. lines.items ≡ refusal number fault ∷ []) }
+{
     let line = refusal(alloc, number, &fault)?;
-    Ok(told(alloc, one_line(alloc, line)?))
+    one_line(alloc, line)
 }
 
 /// The answer of these lines, which stores nothing.

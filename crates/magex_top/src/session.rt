@@ -16,7 +16,9 @@ use crate::command_extract::extract;
 use crate::command_load::load;
 use crate::command_nodes::nodes;
 use crate::command_save::save;
+use crate::command_simrun::simrun;
 use crate::command_tech::tech;
+use crate::command_vectors::vectors;
 use crate::faults::TopFault;
 use crate::replies::{refuse, told};
 use outside_io::Shelf;
@@ -88,6 +90,8 @@ fn answer<F: Shelf>(
         Command::Flat(cell) => circuit(alloc, session, number, cell, CircuitFile::Flat),
         Command::Sim(cell) => circuit(alloc, session, number, cell, CircuitFile::Sim),
         Command::Ext2sim(cell) => ext2sim(alloc, shelf, number, cell),
+        Command::Vectors(cell, file) => vectors(alloc, session, shelf, number, cell, file),
+        Command::Simrun(cell, file) => simrun(alloc, shelf, number, cell, file),
         _ => refuse(alloc, number, TopFault::NotBuilt),
     }
 }

@@ -1,10 +1,12 @@
-use Rattle.std.proofs.Common.{◌≡◌, [], ◌∷◌, Some, rules}
+use Rattle.std.proofs.Common.{◌≡◌, [], ◌∷◌, Some, rules, subst}
 use Rattle.cell_library.specs.Libraries.{seen}
 use Rattle.circuit_model.specs.declared.faults.FlatFault.TheVariants.{TooMany as FlatTooMany}
 use Rattle.circuit_model.specs.Refusals.{IsFlatFaultOf, IsFlatOf}
 use Rattle.ext_cache.specs.Caches.{record_in}
-use Rattle.magex_top.proofs.CircuitCommands.{alone, circuit_alone, kept_is, no_other_fault, passes_alone}
-use Rattle.magex_top.proofs.command_circuits.flatten_kept.Goals as goal
+use Rattle.network_laws.specs.NetworkLaws.{OwnCircuitsHaveLetters}
+use Rattle.tech_model.specs.declared.raw.RawTech.{RawTech}
+use Rattle.magex_top.proofs.CircuitCommands.{alone, flattened_alone, kept_is, no_other_fault, passes_alone}
+use Rattle.magex_top.proofs.circuits.flatten_kept.Goals as goal
 
 pub flatten-requires-clause-records : goal.flatten-requires-clause-records
 flatten-requires-clause-records c =
@@ -18,8 +20,10 @@ returns-in-Ok-clause-flattened c =
     let is : Some ext ≡ record_in c.args.edited.now.cache c.args.cell.0 = search rules in
     let now = kept_is c.args.edited.now.library c.args.edited.now.cache c.args.cell.0 ext c.requires.agrees c.requires.clean is in
     let flat : IsFlatOf (ext ∷ []) ext.cell c.in-Ok.circuit = search rules in
-    circuit_alone (seen c.args.edited.now.library) c.args.cell.0 ext c.in-Ok.circuit c.own_records_mean_the_layout.ensures
-    c.flat_transistors_have_letter_and_lengths.ensures now flat
+    let letters : OwnCircuitsHaveLetters (seen c.args.edited.now.library).tech =
+    subst (λ (raw : RawTech). OwnCircuitsHaveLetters raw) c.tech.ensures c.own_circuits_have_letters.ensures in
+    flattened_alone (seen c.args.edited.now.library) c.args.cell.0 ext c.in-Ok.circuit c.own_records_mean_the_layout.ensures
+    c.flat_transistors_have_letter_and_lengths.ensures c.flat_networks_fit.ensures letters now flat
 
 pub returns-in-Err-TooMany-clause-flattened : goal.returns-in-Err-TooMany-clause-flattened
 returns-in-Err-TooMany-clause-flattened c =
