@@ -1,0 +1,2 @@
+pub mod CellTrees
+pub mod FlatSets
