@@ -1,0 +1,96 @@
+-- Cutting an area in two: the sides along which a member cuts it, and the halves.
+use Rattle.std.proofs.Common.{◌≡◌, ◌⊎◌, inl, inr, true, false, ◌≤ℤ◌, ◌<ℤ◌, arith}
+use Rattle.std.proofs.lemmas.Int.{ints, clamps}
+use Rattle.finite_sets.proofs.Orders.{at_most_or_greater}
+use Rattle.geo_core.specs.declared.squares.Square.{Square}
+use Rattle.geo_core.specs.declared.squares.Rect.{Rect}
+use Rattle.geo_core.specs.Areas.{common_rect, AreDisjoint}
+use Rattle.geo_core.specs.Covering.{Covers, IsProper}
+use Rattle.geo_core.proofs.CoveringLaws.{IsProper-has_square}
+use Rattle.rect_overlays.specs.declared.cuts.Cut.{Cut}
+use Rattle.rect_overlays.specs.declared.cuts.Cut.TheVariants.{Column, Row}
+use Rattle.rect_overlays.specs.declared.regions.Member.{Member}
+use Rattle.rect_overlays.specs.Cuts.{low_half, high_half, IsInside}
+use Rattle.rect_overlays.specs.Regions.{meets, goes_round}
+
+-- where a member begins above the lowest row of an area that it meets, its lower side cuts the area
+pub begins_inside : (area : Rect) (member : Member) → meets area member ≡ true → area.ylo <ℤ member.area.ylo → member.area.ylo <ℤ area.yhi
+begins_inside area member meet above =
+    let common = common_rect member.area area in
+    let high : common.ylo <ℤ common.yhi = (IsProper-has_square common meet).high in
+    omega (arith, ints, clamps)
+
+-- and where it has all columns of the area and begins no higher, its upper side does, unless it goes round the area
+pub ends_inside : (area : Rect) (member : Member) → meets area member ≡ true → goes_round area member ≡ false → member.area.xlo ≤ℤ area.xlo
+    → area.xhi ≤ℤ member.area.xhi → member.area.ylo ≤ℤ area.ylo → (area.ylo <ℤ member.area.yhi) × (member.area.yhi <ℤ area.yhi)
+ends_inside area member meet partial left right low =
+    let common = common_rect member.area area in
+    let high : common.ylo <ℤ common.yhi = (IsProper-has_square common meet).high in
+    (omega (arith, ints, clamps), grind (arith, ints))
+
+-- both halves of an area have squares
+pub low_is_proper : (area : Rect) (cut : Cut) → IsProper area → IsInside area cut → IsProper (low_half area cut)
+low_is_proper area (Column x) proper inside = record { wide = inside.0; high = proper.high }
+low_is_proper area (Row y) proper inside = record { wide = proper.wide; high = inside.0 }
+
+pub high_is_proper : (area : Rect) (cut : Cut) → IsProper area → IsInside area cut → IsProper (high_half area cut)
+high_is_proper area (Column x) proper inside = record { wide = inside.1; high = proper.high }
+high_is_proper area (Row y) proper inside = record { wide = proper.wide; high = inside.1 }
+
+-- what lies in a half lies in the area
+pub low_covers : (area : Rect) (cut : Cut) → IsInside area cut → (square : Square) → Covers (low_half area cut) square → Covers area square
+low_covers area (Column x) inside square c =
+    let below : square.x <ℤ x = c.left_of_xhi in
+    let less : x <ℤ area.xhi = inside.1 in
+    record { right_of_xlo = c.right_of_xlo; left_of_xhi = omega (arith, ints); above_ylo = c.above_ylo; below_yhi = c.below_yhi }
+low_covers area (Row y) inside square c =
+    let below : square.y <ℤ y = c.below_yhi in
+    let less : y <ℤ area.yhi = inside.1 in
+    record { right_of_xlo = c.right_of_xlo; left_of_xhi = c.left_of_xhi; above_ylo = c.above_ylo; below_yhi = omega (arith, ints) }
+
+pub high_covers : (area : Rect) (cut : Cut) → IsInside area cut → (square : Square) → Covers (high_half area cut) square → Covers area square
+high_covers area (Column x) inside square c =
+    let above : x ≤ℤ square.x = c.right_of_xlo in
+    let less : area.xlo <ℤ x = inside.0 in
+    record { right_of_xlo = omega (arith, ints); left_of_xhi = c.left_of_xhi; above_ylo = c.above_ylo; below_yhi = c.below_yhi }
+high_covers area (Row y) inside square c =
+    let above : y ≤ℤ square.y = c.above_ylo in
+    let less : area.ylo <ℤ y = inside.0 in
+    record { right_of_xlo = c.right_of_xlo; left_of_xhi = c.left_of_xhi; above_ylo = omega (arith, ints); below_yhi = c.below_yhi }
+
+-- what lies in the area lies in one half
+pub in_one_half : (area : Rect) (cut : Cut) (square : Square) → Covers area square
+    → Covers (low_half area cut) square ⊎ Covers (high_half area cut) square
+in_one_half area (Column x) square c = elim (at_most_or_greater x square.x) [
+  | inl right ↦ inr (record { right_of_xlo = right; left_of_xhi = c.left_of_xhi; above_ylo = c.above_ylo; below_yhi = c.below_yhi })
+  | inr left ↦ inl (record { right_of_xlo = c.right_of_xlo; left_of_xhi = left; above_ylo = c.above_ylo; below_yhi = c.below_yhi })
+]
+in_one_half area (Row y) square c = elim (at_most_or_greater y square.y) [
+  | inl above ↦ inr (record { right_of_xlo = c.right_of_xlo; left_of_xhi = c.left_of_xhi; above_ylo = above; below_yhi = c.below_yhi })
+  | inr below ↦ inl (record { right_of_xlo = c.right_of_xlo; left_of_xhi = c.left_of_xhi; above_ylo = c.above_ylo; below_yhi = below })
+]
+
+-- and in no more than one
+pub halves_are_apart : (area : Rect) (cut : Cut) → AreDisjoint (low_half area cut) (high_half area cut)
+halves_are_apart area (Column x) square low high =
+    let left : square.x <ℤ x = low.left_of_xhi in
+    let right : x ≤ℤ square.x = high.right_of_xlo in
+    omega (arith, ints)
+halves_are_apart area (Row y) square low high =
+    let below : square.y <ℤ y = low.below_yhi in
+    let above : y ≤ℤ square.y = high.above_ylo in
+    omega (arith, ints)
+
+-- a member that goes round an area covers each square of it
+pub round_covers : (area : Rect) (member : Member) (square : Square) → goes_round area member ≡ true → Covers area square → Covers member.area square
+round_covers area member square round c =
+    let left : area.xlo ≤ℤ square.x = c.right_of_xlo in
+    let right : square.x <ℤ area.xhi = c.left_of_xhi in
+    let low : area.ylo ≤ℤ square.y = c.above_ylo in
+    let high : square.y <ℤ area.yhi = c.below_yhi in
+    record {
+      right_of_xlo = grind (arith, ints);
+      left_of_xhi = grind (arith, ints);
+      above_ylo = grind (arith, ints);
+      below_yhi = grind (arith, ints);
+    }

@@ -1,0 +1,4 @@
+pub mod Stacks
+pub mod Cuts
+pub mod Regions
+pub mod Splits
