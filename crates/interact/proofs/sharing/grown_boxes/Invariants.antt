@@ -1,0 +1,7 @@
+use Rattle.std.proofs.Common.{◌≡◌, take, map}
+use Rattle.interact.specs.Interactions.{widened}
+use Rattle.interact.proofs.sharing.grown_boxes.Given as goal
+
+-- the boxes so far are grown
+abbrev pub invariant-loop-area : goal.invariant-loop-area
+invariant-loop-area l = l.found.items ≡ map widened (take l.area-index l.boxes)
