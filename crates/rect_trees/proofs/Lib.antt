@@ -1,0 +1,4 @@
+pub mod PlaceLaws
+pub mod HullLaws
+pub mod MeetingLaws
+pub mod RootLaws

@@ -1,0 +1,84 @@
+-- What a search of a tree finds, in order.
+use Rattle.std.proofs.Common.{◌≡◌, ◌≢◌, ℕ, ◌<◌, ◌≤◌, false, List, inl, inr, filter, get_or, sym, ◌∙◌, ap, subst, arith}
+use Rattle.std.specs.Prelude.{AllPairs, IsPermutation, IsSorted, Option}
+use Rattle.std.specs.Cmp.{nat_cmp_is}
+use Rattle.std.specs.Ordering.{is_lt, nat_cmp}
+use Rattle.std.specs.declared.cmp.Ordering.TheVariants.{Less}
+use Rattle.std.proofs.lemmas.Bool.{cases_lt, false≢true}
+use Rattle.std.proofs.lemmas.Cmp.{nat_cmp_total}
+use Rattle.std.proofs.lemmas.Int.{ints, clamps}
+use Rattle.std.proofs.lemmas.Option.{slice_get-get_or, slice_get_within, get_or_from_slice_get}
+use Rattle.std.proofs.lemmas.List.Sorted.{IsPermutation-sym}
+use Rattle.finite_sets.specs.Lists.{In, Distinct}
+use Rattle.finite_sets.proofs.Members.{In-permutation, In-filter, In-filter_source, In-filter_passes}
+use Rattle.finite_sets.proofs.Distincts.{Distinct-places, Distinct-filter}
+use Rattle.finite_sets.proofs.Orders.{IsSorted-pairs}
+use Rattle.geo_core.specs.declared.squares.Rect.{Rect}
+use Rattle.geo_core.specs.Areas.{common_rect}
+use Rattle.geo_core.specs.Covering.{IsProper}
+use Rattle.geo_core.proofs.CoveringLaws.{IsProper-has_square, has_square-IsProper}
+use Rattle.rect_trees.specs.declared.nodes.Node.{Node}
+use Rattle.rect_trees.specs.Positions.{no_rect, rect_at, meets_at, HasSquareAt}
+use Rattle.rect_trees.specs.Nodes.{root_positions, IsRoot}
+use Rattle.rect_trees.specs.Meetings.{MeetsAt, AreMeeting}
+use Rattle.rect_trees.proofs.PlaceLaws.{Distinct-permutation}
+
+-- a rectangle that has a square in an area has a square
+first_proper : (a area : Rect) → IsProper (common_rect a area) → IsProper a
+first_proper a area meets =
+    let wide = meets.wide in let high = meets.high in
+    record { wide = omega (arith, ints, clamps, wide); high = omega (arith, ints, clamps, high) }
+
+-- a number that does not compare as less is no less
+no_less : (a b : ℕ) → is_lt (nat_cmp a b) ≡ false → b ≤ a
+no_less a b e = elim (cases_lt a b) [
+  | inl less ↦ (let is : Less ≡ nat_cmp a b = nat_cmp_is a b Less less in absurd (false≢true (sym e ∙ ap is_lt (sym is))))
+  | inr past ↦ past
+]
+
+-- numbers that differ ascend once they are sorted
+ascending : (xs : List ℕ) → Distinct xs → IsSorted nat_cmp xs → AllPairs ◌<◌ xs
+ascending xs once sorted = λ i j d less below.
+    let apart : get_or xs i d ≢ get_or xs j d = Distinct-places xs i j d once less below in
+    let order = IsSorted-pairs nat_cmp nat_cmp_total xs sorted i j d less below in
+    let later : get_or xs i d ≤ get_or xs j d = no_less (get_or xs j d) (get_or xs i d) order in
+    omega arith
+
+-- the positions in a tree that pass the test, sorted, are those of the rectangles that meet the area
+module _ (rects : List Rect) (area : Rect) (root : Option Node) (found sorted : List ℕ) (tree : IsRoot rects root)
+    (is : found ≡ filter (meets_at rects area) (root_positions root)) (moved : IsPermutation found sorted) (in_order : IsSorted nat_cmp sorted) where
+  abbrev leaves : List ℕ
+  leaves = root_positions root
+
+  found_meets : (position : ℕ) → In position sorted → MeetsAt rects position area
+  found_meets position here =
+      let kept : In position (filter (meets_at rects area) leaves) =
+      subst (In position) is (In-permutation position sorted found (IsPermutation-sym found sorted moved) here) in
+      let has = tree.leaves.2 position (In-filter_source (meets_at rects area) position leaves kept) in
+      let passes = In-filter_passes (meets_at rects area) position leaves kept in
+      record {
+        rect = rect_at rects position;
+        there = slice_get-get_or rects position no_rect has.within;
+        meets = IsProper-has_square (common_rect (rect_at rects position) area) passes;
+      }
+
+  meeting_found : (position : ℕ) → MeetsAt rects position area → In position sorted
+  meeting_found position met =
+      let at : rect_at rects position ≡ met.rect = get_or_from_slice_get rects position met.rect no_rect met.there in
+      let meets = subst (λ (v : Rect). IsProper (common_rect v area)) (sym at) met.meets in
+      let has : HasSquareAt rects position = record {
+        within = slice_get_within rects position met.rect met.there;
+        proper = first_proper (rect_at rects position) area meets;
+      } in
+      let passes = has_square-IsProper (common_rect (rect_at rects position) area) meets in
+      let kept = In-filter (meets_at rects area) position leaves (tree.leaves.1 position has) passes in
+      In-permutation position found sorted moved (subst (In position) (sym is) kept)
+
+  found_once : Distinct found
+  found_once = subst Distinct (sym is) (Distinct-filter (meets_at rects area) leaves tree.leaves.0)
+
+  pub met_in_order : AreMeeting rects area sorted
+  met_in_order = record {
+    exact = λ position. (found_meets position, meeting_found position);
+    ordered = ascending sorted (Distinct-permutation found sorted moved found_once) in_order;
+  }

@@ -1,0 +1,3 @@
+pub mod Meetings
+pub mod Positions
+pub mod Nodes
