@@ -1,0 +1,12 @@
+pub mod UnionLaws
+pub mod SumLaws
+pub mod KindLaws
+pub mod OrderLaws
+pub mod StackLaws
+pub mod TileLaws
+pub mod TypedStackLaws
+pub mod SideLaws
+pub mod SpoiledLaws
+pub mod ChangeLaws
+pub mod PieceLaws
+pub mod LayerLaws

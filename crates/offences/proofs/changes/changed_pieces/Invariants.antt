@@ -1,0 +1,6 @@
+use Rattle.std.proofs.Common.{◌≡◌, take}
+use Rattle.offences.specs.Pieces.{changed_pieces}
+use Rattle.offences.proofs.changes.changed_pieces.Given as goal
+
+abbrev pub invariant-loop-contact : goal.invariant-loop-contact
+invariant-loop-contact l = l.pieces.items ≡ changed_pieces l.raw l.typed_stacks (take l.contact-index l.contacts)

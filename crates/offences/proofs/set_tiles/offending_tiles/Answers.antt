@@ -1,0 +1,17 @@
+use Rattle.std.proofs.Common.{List, subst}
+use Rattle.geo_core.specs.declared.squares.Rect.{Rect}
+use Rattle.geo_core.specs.Strips.{IsInUnion, IsStrips}
+use Rattle.geo_core.proofs.StripSets.{strips_same}
+use Rattle.offences.specs.Offences.{OffendsOn}
+use Rattle.offences.specs.SetTiles.{tile_parts}
+use Rattle.offences.proofs.set_tiles.offending_tiles.Goals as goal
+
+pub returns : goal.returns
+returns c =
+    let plane = c.args.plane in
+    let parts = tile_parts c.args.tiles.now plane c.args.count in
+    let pieces = c.in_ok-pieces.pieces.items in
+    let cover = c.in_ok-pieces.ensures in
+    let found = c.in_ok-strips.field-0.items in
+    strips_same (IsInUnion pieces) (OffendsOn c.args.tech.now parts plane) cover.sound cover.whole found
+    (subst (λ (rects : List Rect). IsStrips (IsInUnion rects) found) c.as_slice.ensures.value c.in_ok-strips.ensures)

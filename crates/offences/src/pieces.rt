@@ -1,0 +1,76 @@
+//! The pieces of a plane that offend.
+ghost use Rattle.std.specs.Prelude.{◌≡◌, All, AllPairs, IfOk};
+ghost use Rattle.std.specs.List.{list_any};
+ghost use Rattle.geo_core.specs.Areas.{IsNear, AreDisjoint};
+ghost use Rattle.geo_core.specs.Covering.{IsProper};
+ghost use Rattle.offences.specs.Offences.{OffendsOn, HaveTypes};
+ghost use Rattle.offences.specs.Pieces.{has_owner, CoverExactly, AreFoundChanges};
+ghost use Rattle.offences.specs.SetTiles.{AreTilesOfParts, tile_parts};
+ghost use Rattle.offences.specs.TypedStacks.{areas_of, AreByPart};
+
+use crate::changes::changed_pieces;
+use crate::set_tiles::SetTile;
+use crate::spoiled::spoiled_areas;
+use crate::typed_stacks::{TypedStack, typed_stacks};
+use geo_core::Rect;
+use rect_contacts::touching;
+use std::alloc::{AllocError, Global};
+use tech_model::{RawTech, Tech};
+
+/// The areas of pieces.
+fn areas_of(alloc: Global, typed_stacks: &[TypedStack]) -> Result<Vec<Rect>, AllocError>
+    ensures { IfOk result (λ areas. areas.items ≡ areas_of typed_stacks.now) }
+{
+    typed_stacks
+        .iter()
+        .map(|typed_stack| typed_stack.area)
+        .collect(alloc)
+}
+
+/// Whether some piece is of a channel.
+fn have_channel(typed_stacks: &[TypedStack]) -> bool
+    ensures { result ≡ list_any has_owner typed_stacks.now }
+{
+    typed_stacks
+        .iter()
+        .any(|typed_stack| typed_stack.owner.is_some())
+}
+
+/// The pieces that offend for what stands beside them. Where no piece is of a channel there are none.
+fn changes(
+    alloc: Global,
+    raw: &RawTech,
+    typed_stacks: &[TypedStack],
+) -> Result<Vec<Rect>, AllocError>
+    requires ordered { All (λ typed_stack. AreByPart typed_stack.kinds) typed_stacks.now }
+    requires near { All (λ typed_stack. IsNear typed_stack.area) typed_stacks.now }
+    requires proper { All (λ typed_stack. IsProper typed_stack.area) typed_stacks.now }
+    requires apart { AllPairs AreDisjoint (areas_of typed_stacks.now) }
+    ensures { IfOk result (λ pieces. AreFoundChanges raw.now typed_stacks.now pieces.items) }
+{
+    if !have_channel(typed_stacks) {
+        return Ok(Vec::new(alloc));
+    }
+    let areas = areas_of(alloc, typed_stacks)?;
+    let contacts = touching(alloc, areas.as_slice())?;
+    changed_pieces(alloc, raw, typed_stacks, contacts.as_slice())
+}
+
+/// Rectangles that cover exactly the squares of the plane that offend, where each part has types. They may overlap.
+pub fn bad_pieces(
+    alloc: Global,
+    tech: &Tech,
+    tiles: &[SetTile],
+    plane: u8,
+    count: usize,
+) -> Result<Vec<Rect>, AllocError>
+    requires parts { AreTilesOfParts count tiles.now }
+    requires types { HaveTypes tech.now (tile_parts tiles.now plane count) }
+    ensures { IfOk result (λ pieces. CoverExactly (OffendsOn tech.now (tile_parts tiles.now plane count) plane) pieces.items) }
+{
+    let typed_stacks = typed_stacks(alloc, tech, tiles, plane)?;
+    let mut pieces = spoiled_areas(alloc, tech, typed_stacks.as_slice())?;
+    let changes = changes(alloc, tech.raw(), typed_stacks.as_slice())?;
+    pieces.extend_from_slice(changes.as_slice())?;
+    Ok(pieces)
+}

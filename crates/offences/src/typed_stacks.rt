@@ -1,0 +1,153 @@
+//! Pieces of a plane on whose squares each part has one type.
+ghost use Rattle.std.specs.Prelude.{◌≡◌, ◌<◌, ◌==◌, All, AllPairs, None, find, length, map, IfOk, IsPermutation};
+ghost use Rattle.geo_core.specs.Areas.{IsNear};
+ghost use Rattle.rect_overlays.specs.Stacks.{AreStacks};
+ghost use Rattle.offences.specs.PartSets.{AreInPartOrder};
+ghost use Rattle.offences.specs.TypedStacks.{kind_of, has_kind, owner_of, StandsFor, StandForAll, StandForTiles};
+
+use crate::part_sets::{PartSum, all_sets, part_sets};
+use crate::roles::is_channel;
+use crate::set_tiles::SetTile;
+use geo_core::{List, Rect};
+use rect_overlays::{Stack, overlay};
+use std::alloc::{AllocError, Global};
+use tech_model::{RawTech, Tech, TypeId};
+
+/// A part and the type that it has.
+#[derive(Clone, Copy, Debug, PartialEq, Eq)]
+pub struct PartKind {
+    pub part: usize,
+    pub kind: TypeId,
+}
+
+/// What the parts have at each square of a piece of a plane.
+#[derive(Debug, Drop)]
+pub struct TypedStack {
+    pub area: Rect,
+    /// The type whose set all parts have together, if there is one.
+    pub flat: Option<TypeId>,
+    /// The type of each part that has material there, in the order of parts.
+    pub kinds: List<PartKind>,
+    /// The first part that has the flat type, where that is a channel's.
+    pub owner: Option<PartKind>,
+}
+
+/// The types of parts with these sets. Each set has one: none is taken for space.
+fn kinds_of(
+    alloc: Global,
+    tech: &Tech,
+    sums: &[PartSum],
+    plane: u8,
+) -> Result<Vec<PartKind>, AllocError>
+    ensures { IfOk result (λ kinds. kinds.items ≡ map (kind_of tech.now plane) sums.now) }
+{
+    sums.iter()
+        .map(|sum| PartKind {
+            part: sum.part,
+            kind: tech.joined(plane, sum.set).unwrap_or(TypeId(0)),
+        })
+        .collect(alloc)
+}
+
+/// The first part that has the type.
+fn first_with(kinds: &[PartKind], kind: TypeId) -> Option<PartKind>
+    ensures { result ≡ find (has_kind kind.0) kinds.now }
+{
+    kinds.iter().copied().find(|entry| entry.kind.0 == kind.0)
+}
+
+/// The first part that has the flat type, where that is a channel's.
+fn owner_of(raw: &RawTech, flat: Option<TypeId>, kinds: &[PartKind]) -> Option<PartKind>
+    ensures { result ≡ owner_of raw.now flat kinds.now }
+{
+    match flat {
+        None => None,
+        Some(flat) => {
+            if is_channel(raw, flat) {
+                first_with(kinds, flat)
+            } else {
+                None
+            }
+        }
+    }
+}
+
+/// What the members of a stack make.
+fn typed_stack_of(
+    alloc: Global,
+    tech: &Tech,
+    tiles: &[SetTile],
+    stack: &Stack,
+    plane: u8,
+) -> Result<TypedStack, AllocError>
+    requires within { All (λ member. member < length tiles.now) stack.now.members.items }
+    requires ordered { AreInPartOrder tiles.now }
+    requires ascending { AllPairs ◌<◌ stack.now.members.items }
+    ensures { IfOk result (StandsFor tech.now plane tiles.now stack.now) }
+{
+    let sums = part_sets(alloc, tiles, stack.members.as_slice())?;
+    let flat = tech.joined(plane, all_sets(sums.as_slice()));
+    let kinds = kinds_of(alloc, tech, sums.as_slice(), plane)?;
+    let owner = owner_of(tech.raw(), flat, kinds.as_slice());
+    Ok(TypedStack {
+        area: stack.area,
+        flat,
+        kinds: List::of(kinds),
+        owner,
+    })
+}
+
+/// The tiles in the order of their parts.
+fn by_part(alloc: Global, tiles: &[SetTile]) -> Result<Vec<SetTile>, AllocError>
+    ensures moved { IfOk result (λ sorted. IsPermutation tiles.now sorted.items) }
+    ensures ordered { IfOk result (λ sorted. AreInPartOrder sorted.items) }
+{
+    let mut sorted = Vec::from_slice(alloc, tiles)?;
+    sorted.sort_unstable_by_key(|tile| tile.part);
+    Ok(sorted)
+}
+
+/// The areas of tiles.
+fn areas_of(alloc: Global, tiles: &[SetTile]) -> Result<Vec<Rect>, AllocError>
+    ensures { IfOk result (λ areas. areas.items ≡ map (λ tile. tile.area) tiles.now) }
+{
+    tiles.iter().map(|tile| tile.area).collect(alloc)
+}
+
+/// What the members of each stack make. A stack that no tile covers is left out: everything is space there.
+fn typed_stacks_of(
+    alloc: Global,
+    tech: &Tech,
+    tiles: &[SetTile],
+    stacks: &[Stack],
+    plane: u8,
+) -> Result<Vec<TypedStack>, AllocError>
+    requires ordered { AreInPartOrder tiles.now }
+    requires stacks { AreStacks (map (λ tile. tile.area) tiles.now) None stacks.now }
+    ensures { IfOk result (λ typed_stacks. StandForAll tech.now plane tiles.now stacks.now typed_stacks.items) }
+{
+    let mut typed_stacks = Vec::with_capacity(alloc, stacks.len())?;
+    for stack in stacks {
+        if !stack.members.is_empty() {
+            let typed_stack = typed_stack_of(alloc, tech, tiles, stack, plane)?;
+            typed_stacks.push(typed_stack)?;
+        }
+    }
+    Ok(typed_stacks)
+}
+
+/// The pieces that the tiles of a plane make, each with what the parts have there. Its parts have types wherever they stand.
+pub fn typed_stacks(
+    alloc: Global,
+    tech: &Tech,
+    tiles: &[SetTile],
+    plane: u8,
+) -> Result<Vec<TypedStack>, AllocError>
+    requires near { All (λ tile. IsNear tile.area) tiles.now }
+    ensures { IfOk result (λ typed_stacks. StandForTiles tech.now plane tiles.now typed_stacks.items) }
+{
+    let sorted = by_part(alloc, tiles)?;
+    let areas = areas_of(alloc, sorted.as_slice())?;
+    let stacks = overlay(alloc, areas.as_slice(), None)?;
+    typed_stacks_of(alloc, tech, sorted.as_slice(), stacks.as_slice(), plane)
+}
