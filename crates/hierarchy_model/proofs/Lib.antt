@@ -1,0 +1,5 @@
+pub mod KindLaws
+pub mod PartSearch
+pub mod CleanLaws
+pub mod MeetingLaws
+pub mod RoleLaws

@@ -1,0 +1,3 @@
+pub mod CleanCells
+pub mod Laws
+pub mod Restrictions
