@@ -52,7 +52,7 @@ covers_larger : (core area : Rect) (square : Square) → LiesWithin core area �
 covers_larger core area square within covers = omega (arith, ints)
 
 -- a rectangle whose squares an area covers lies within it
-filled_within : (core area : Rect) → IsProper core → ((square : Square) → Covers core square → Covers area square) → LiesWithin core area
+pub filled_within : (core area : Rect) → IsProper core → ((square : Square) → Covers core square → Covers area square) → LiesWithin core area
 filled_within core area proper each =
     let low : Covers area (record { x = core.xlo; y = core.ylo }) = each (record { x = core.xlo; y = core.ylo }) (omega (arith, ints)) in
     let high : Covers area (record { x = core.xhi -ℤ pos 1; y = core.yhi -ℤ pos 1 }) =

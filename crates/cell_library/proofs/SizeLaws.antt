@@ -1,5 +1,6 @@
 -- Sizes of cells: cells have one list of sizes, and the size of a cell rests on those below it alone.
-use Rattle.std.proofs.Common.{◌≡◌, ◌≢◌, ◌+◌, ◌<◌, ◌≤◌, ℕ, zero, suc, max, List, [], ◌∷◌, ◌++◌, length, get_or, refl, sym, ap, subst, ◌∙◌, arith, inl, inr}
+use Rattle.std.proofs.Common.{◌≡◌, ◌≢◌, ◌+◌, ◌<◌, ◌≤◌, ℕ, zero, suc, max, List, [], ◌∷◌, ◌++◌, length, get_or, refl, sym, ap, subst, ◌∙◌, arith, inl}
+use Rattle.std.proofs.Common.{inr}
 use Rattle.std.specs.Prelude.{Some, slice_get, slice_set, ◌*◌}
 use Rattle.std.specs.Option.{option_to_list}
 use Rattle.std.proofs.lemmas.Bool.{cases_eq, cases_lt}
@@ -26,7 +27,8 @@ AgreeBelow s t uses = (k : ℕ) (entry : List ℕ × UseBody) → slice_get uses
 agree_rest : (s t : ℕ → Size) (first : List ℕ × UseBody) (uses : List (List ℕ × UseBody)) → AgreeBelow s t (first ∷ uses) → AgreeBelow s t uses
 agree_rest s t first uses agree k entry is = agree (suc k) entry is
 
-hulls_same : (s t : ℕ → Size) (uses : List (List ℕ × UseBody)) → AgreeBelow s t uses → hulls_below s uses ≡ hulls_below t uses
+-- and the same hulls below
+pub hulls_same : (s t : ℕ → Size) (uses : List (List ℕ × UseBody)) → AgreeBelow s t uses → hulls_below s uses ≡ hulls_below t uses
 hulls_same s t [] agree = refl
 hulls_same s t (entry ∷ rest) agree =
     λ i. element_hulls entry.1 ((agree 0 entry refl i).hull) ++ hulls_same s t rest (agree_rest s t entry rest agree) i

@@ -1,5 +1,5 @@
 -- What a library has for each cell besides its uses: its name, its paint and its labels.
-use Rattle.std.specs.Prelude.{◌≡◌, not, ℕ, List, [], ◌∷◌, ◌++◌, length, slice_index_or, slice_set, map, filter, Option, Vec, refl}
+use Rattle.std.specs.Prelude.{◌≡◌, not, ℕ, All, List, [], ◌∷◌, ◌++◌, length, slice_index_or, slice_set, map, filter, Option, Vec, refl}
 use Rattle.std.specs.List.{position}
 use Rattle.std.specs.Str.{bytes_eq}
 use Rattle.std.specs.Coded.{Coded, code_by, coded×, coded_list, coded_ℕ}
@@ -9,7 +9,7 @@ use Rattle.tech_model.specs.declared.raw.Label.{Label}
 use Rattle.tech_model.specs.contracts.raw.Label.{the_row as label_row}
 use Rattle.layout_model.specs.Places.{Place}
 use Rattle.layout_model.specs.Layouts.{Layout}
-use Rattle.cell_paint.specs.Paints.{Paint, paint_code, layout_of}
+use Rattle.cell_paint.specs.Paints.{Paint, paint_code, layout_of, IsSoundPaint}
 use Rattle.cell_library.specs.declared.contents.Content.{Content}
 
 -- a cell's name, its paint and its labels
@@ -42,6 +42,15 @@ held_in entries = map held_of (values_of entries)
 -- each content stands under its cell's name
 abbrev pub AreUnderNames : List (Vec ℕ Global × Content) → Type 0
 AreUnderNames entries = map (λ key. key.items) (keys_of entries) ≡ map (λ content. content.name) (values_of entries)
+
+-- The paint of the cell is sound.
+abbrev pub IsSoundHeld : Held → Type 0
+IsSoundHeld held = IsSoundPaint held.paint.kinds (layout_of held.paint)
+
+-- Contents as they are kept: each stands under its cell's name, and all paint is sound.
+pub record AreKept (entries : List (Vec ℕ Global × Content)) : Type 0 where
+  pub names : AreUnderNames entries
+  pub sound : All IsSoundHeld (held_in entries)
 
 -- the position of the cell of this name
 abbrev pub position_of : List ℕ → List Held → Option ℕ

@@ -1,6 +1,7 @@
 //! What each cell has of its own, under the cells' names.
 ghost use Rattle.std.specs.Str.{bytes_eq};
 ghost use Rattle.std.specs.Prelude.{◌≡◌, not, ◌<◌, ◌-◌, ◌↔◌, ◌++◌, ◌∷◌, [], true, false, None, length, take, slice_set as set, OnOk, OnErr, IsErrOf};
+ghost use Rattle.std.specs.Prelude.{All};
 ghost use Rattle.geo_core.specs.Areas.{has_square};
 ghost use Rattle.cell_paint.specs.Paints.{layout_of, IsSoundPaint};
 ghost use Rattle.cell_paint.specs.Painting.{with_paint, with_erased, is_in_range};
@@ -36,15 +37,15 @@ impl Model for Contents {
 
     ghost coded = { coded_list held_code };
 
-    ghost use Rattle.cell_library.specs.Contents.{held_in, AreUnderNames};
+    ghost use Rattle.cell_library.specs.Contents.{held_in, AreKept};
 
     ghost view = { λ contents. held_in contents.entries.entries };
 
-    ghost invariant = { λ contents. AreUnderNames contents.entries.entries };
+    ghost invariant = { λ contents. AreKept contents.entries.entries };
 }
 
 impl Contents {
-    ghost use Rattle.cell_library.specs.Contents.{held_at, held_of, position_of, with_label, without_labels, IsRepainted};
+    ghost use Rattle.cell_library.specs.Contents.{held_at, held_of, position_of, with_label, without_labels, IsRepainted, IsSoundHeld};
 
     /// No cells. It takes no memory.
     pub fn new(alloc: Global) -> Contents
@@ -86,6 +87,13 @@ impl Contents {
         self.get(cell).paint.sound();
     }
 
+    /// What holds of the paint of each cell.
+    pub fn all_sound(&self)
+        ensures { All IsSoundHeld self.now }
+    {
+        let _ = &self.entries;
+    }
+
     /// Adds a cell. Want of memory alone refuses, and nothing is changed then.
     pub fn push(&mut self, content: Content) -> Result<(), AllocError>
         requires { position_of content.name self.old ≡ None }
@@ -93,6 +101,7 @@ impl Contents {
         ensures refused { OnErr result (self.new ≡ self.old) }
     {
         let key = Vec::from_slice(self.alloc, content.name.bytes())?;
+        content.paint.sound();
         self.entries.insert(key, content)?;
         Ok(())
     }
@@ -129,7 +138,9 @@ impl Contents {
         ensures never { IsErrOf result PaintFault.TooManyTiles → ⊥ }
     {
         let content = &mut self.entries[cell];
-        content.paint.paint(tech, layer, area)
+        let done = content.paint.paint(tech, layer, area);
+        content.paint.sound();
+        done
     }
 
     /// Erases the layer from the area in a cell. It is refused as `CellPaint::erase` is, and then no layout is changed.
@@ -150,7 +161,9 @@ impl Contents {
         ensures never { IsErrOf result PaintFault.TooManyTiles → ⊥ }
     {
         let content = &mut self.entries[cell];
-        content.paint.erase(tech, layer, area)
+        let done = content.paint.erase(tech, layer, area);
+        content.paint.sound();
+        done
     }
 
     /// Adds a label to a cell. Want of memory alone refuses, and nothing is changed then.

@@ -20,21 +20,35 @@
 //! Limits are said of any sizes that are right for the cells (`GoesPast`). Cells have one list of sizes, and an edit changes those of the
 //! cell and of what stands above it alone (`SizeLaws`), so the tree's refusals are the library's (`LimitLaws`). That a lawful library goes
 //! past no limit excludes each later refusal of an accepted edit.
+//!
+//! A reader tells of a cell's elements what the tree knows: how many there are (`ElementCounts`), and the hull of the child in each of
+//! them (`GridSteps`, `BoxesBelow`). Those boxes are lawful, since the cell's own hull goes round them, and hold the cell's parts, since
+//! hulls hold material (`HullsHoldMaterial`, `HeldParts`). What crates above take from that stands in `PartLaws`. All paint is sound
+//! (`KeptContents`), so the tree of a cell has types of the technology alone (`TreeTypes`).
+//!
+//! A visit tells the tiles of each standing cell, and goes on at the spots of those of its elements that the area may meet (`OwnTiles`,
+//! `GridSpots`, `RowSpots`, `SpotLaws`). What is left out has nothing in the area, since the hull of a cell holds all material at and below
+//! it (`HullsHoldMaterial`). The tiles that were told are the part tiles, and have the sets of the parts (`PartSets`).
 #![tactic(auto)]
 
 mod adding;
 mod additions;
 mod checks;
 mod contents;
+mod element_boxes;
 mod faults;
 mod library;
 mod limits;
 mod own_boxes;
 mod painting;
+mod part_tiles;
 mod reader;
+mod spots;
 mod uses;
+mod visiting;
 
 pub use faults::LibFault;
 pub use library::Library;
 pub use limits::{MOST_CELLS, MOST_EDITS};
+pub use part_tiles::PartTile;
 pub use reader::Reader;

@@ -1,5 +1,5 @@
 //! The library.
-ghost use Rattle.std.specs.Prelude.{◌≡◌, ◌<◌, ℕ, map, None, [], length, IsTrue, IfOk, IfSome, OnOk, OnErr, slice_get};
+ghost use Rattle.std.specs.Prelude.{◌≡◌, ◌<◌, ℕ, All, map, None, [], length, IsTrue, IfOk, IfSome, OnOk, OnErr, slice_get};
 ghost use Rattle.std.specs.Option.{option_map};
 ghost use Rattle.text_scan.specs.PlainNames.{is_plain_name};
 ghost use Rattle.use_orders.specs.LibraryOrder.{IsLibraryOrder};
@@ -9,6 +9,7 @@ ghost use Rattle.cell_bodies.specs.Numbers.{is_index, is_position};
 ghost use Rattle.cell_tree.specs.Trees.{empty_tree, stamp_at};
 ghost use Rattle.cell_library.specs.Additions.{AddAllIsRefused, AreNextCells, CanBeAdded, children_in, with_all};
 ghost use Rattle.cell_library.specs.Edits.{with_new_cell, painted, erased, labelled, unlabelled, placed, with_grid, moved, without_use};
+ghost use Rattle.cell_library.specs.Contents.{IsSoundHeld};
 ghost use Rattle.cell_library.specs.Limits.{HullIs};
 ghost use Rattle.cell_library.specs.Refusals.{Answers, AnswersOrLacksMemory, EditIsRefused, NewCellIsRefused, PaintIsRefused, EraseIsRefused};
 ghost use Rattle.cell_library.specs.Refusals.{LabelIsRefused, UnlabelIsRefused, PlaceIsRefused, ArrayIsRefused, MoveIsRefused, DeleteIsRefused};
@@ -129,6 +130,18 @@ impl Library {
         self.tree.hull(cell.0)
     }
 
+    /// The tree of the cells.
+    pub fn tree(&self) -> &CellTree
+        ensures { result.now ≡ self.now.tree }
+    {
+        &self.tree
+    }
+
+    /// Where memory is taken from.
+    pub fn alloc(&self) -> Global {
+        self.alloc
+    }
+
     /// The name of the cell.
     pub fn name_of(&self, cell: CellKey) -> &Name
         requires { cell.0 < length self.now.contents }
@@ -153,6 +166,13 @@ impl Library {
         ensures { IsSoundPaint self.now.tech.types (view_at (seen self.now) cell.0).own }
     {
         self.contents.sound(cell.0);
+    }
+
+    /// What holds of the paint of each cell.
+    pub fn all_sound(&self)
+        ensures { All IsSoundHeld self.now.contents }
+    {
+        self.contents.all_sound();
     }
 
     /// The cell's labels, in order of arrival.

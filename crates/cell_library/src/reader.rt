@@ -1,14 +1,27 @@
 //! Reading a library.
-ghost use Rattle.std.specs.Prelude.{◌≡◌, ◌+◌, ◌<◌, map, IfOk, length, slice_get};
+ghost use Rattle.std.specs.Prelude.{◌≡◌, ◌+◌, ◌<◌, ℕ, All, map, IfOk, OnErr, length, slice_get};
 ghost use Rattle.std.specs.Option.{option_map};
+ghost use Rattle.finite_sets.specs.Lists.{Lists};
+ghost use Rattle.geo_core.specs.Areas.{IsNear};
+ghost use Rattle.geo_core.specs.Covering.{Covers, IsProper};
+ghost use Rattle.layout_model.specs.Places.{Place};
+ghost use Rattle.layout_trees.specs.CellTrees.CellTree.{cell_tree};
+ghost use Rattle.layout_trees.specs.FlatSets.{element_parts, elements_in, parts_in, IsTyped};
 ghost use Rattle.cell_paint.specs.Paints.{layout_of};
+ghost use Rattle.cell_tree.specs.Hulls.{IsLawfulBox};
 ghost use Rattle.cell_tree.specs.Trees.{stamp_at};
 ghost use Rattle.use_orders.specs.LibraryOrder.{IsLibraryOrder};
 ghost use Rattle.cell_library.specs.Additions.{children_in};
+ghost use Rattle.cell_library.specs.ElementBoxes.{AreElementBoxes, HoldParts};
+ghost use Rattle.cell_library.specs.LayoutTrees.{elements_from, own_cell, tree_at};
 ghost use Rattle.cell_library.specs.Limits.{HullIs};
+ghost use Rattle.cell_library.specs.PartTiles.{set_of_part, set_of_tiles, IsPartTileIn};
 ghost use Rattle.cell_library.specs.Views.{cell_named, view_at};
 
+use crate::element_boxes::{boxes_of, element_count};
 use crate::library::Library;
+use crate::part_tiles::PartTile;
+use crate::visiting::visit_cell;
 use cell_paint::CellPaint;
 use cell_tree::UseBody;
 use ext_model::CellKey;
@@ -151,5 +164,71 @@ impl<'a> Reader<'a> {
         steps.tick();
         let library = self.library;
         library.paint_of(cell)
+    }
+
+    /// The boxes of the elements of the cell's uses, in order: the hull of the child as the element stands, where the child has one. Want
+    /// of memory alone refuses.
+    pub fn element_boxes(&self, cell: CellKey) -> Result<Vec<Rect>, AllocError>
+        requires { cell.0 < length self.now.contents }
+        ensures boxes { IfOk result (λ boxes. AreElementBoxes (seen self.now) cell.0 boxes.items) }
+        ensures hold { IfOk result (λ boxes. HoldParts boxes.items (element_parts self.now.tech (elements_in (tree_at (seen self.now) cell.0)))) }
+        ensures lawful { IfOk result (λ boxes. All IsLawfulBox boxes.items) }
+    {
+        let library = self.library;
+        library.lawful();
+        boxes_of(library, cell)
+    }
+
+    /// How many parts the cell has: its own paint, and each element of its uses.
+    pub fn part_count(&self, cell: CellKey) -> usize
+        requires { cell.0 < length self.now.contents }
+        ensures { result ≡ length (parts_in self.now.tech (tree_at (seen self.now) cell.0)) }
+    {
+        let library = self.library;
+        1 + element_count(library, cell)
+    }
+
+    /// What holds of each tree of cells: its types are the technology's. It does nothing.
+    pub fn typed(&self, cell: CellKey)
+        requires { cell.0 < length self.now.contents }
+        ensures { IsTyped self.now.tech (tree_at (seen self.now) cell.0) }
+    {
+        let library = self.library;
+        library.lawful();
+        library.all_sound();
+    }
+
+    /// The tree of each cell has the trees of its children. It does nothing.
+    pub fn unfolded(&self)
+        ensures { (cell : ℕ) → cell < length self.now.contents → tree_at (seen self.now) cell
+            ≡ cell_tree (own_cell (seen self.now) cell) (elements_from (tree_at (seen self.now)) (view_at (seen self.now) cell).uses) }
+    {
+        let library = self.library;
+        library.lawful()
+    }
+
+    /// The tiles of all parts of the cell that meet the area, cut to it, each once, for one step each. At each place
+    /// of the area the tiles of a part together have the part's set. Want of memory alone refuses.
+    ///
+    /// It enters no element whose hull misses the area, and finds the elements of a grid that may meet it by their indices.
+    pub fn visit<L: Ledger>(
+        &self,
+        cell: CellKey,
+        area: Rect,
+        steps: &mut Steps<L>,
+    ) -> Result<Vec<PartTile>, AllocError>
+        requires cell { cell.0 < length self.now.contents }
+        requires proper { IsProper area }
+        requires near { IsNear area }
+        ensures tiles { IfOk result (λ tiles. Lists (IsPartTileIn (tree_at (seen self.now) cell.0) area) tiles.items) }
+        ensures sets { IfOk result (λ tiles. (part : ℕ) (place : Place) → Covers area place.square
+            → set_of_tiles self.now.tech tiles.items part place ≡ set_of_part self.now.tech (tree_at (seen self.now) cell.0) part place) }
+        ensures steps { IfOk result (λ tiles. steps.new ≡ steps.old + length tiles.items) }
+        ensures refused { OnErr result (steps.new ≡ steps.old) }
+    {
+        let library = self.library;
+        let tiles = visit_cell(library, cell, area)?;
+        steps.add(tiles.len() as u64);
+        Ok(tiles)
     }
 }

@@ -4,30 +4,32 @@ use Rattle.std.proofs.lemmas.Result.{on_ok_weaker, on_err_weaker}
 use Rattle.std.proofs.Common.{refl}
 use Rattle.cell_paint.specs.Painting.{with_erased}
 use Rattle.cell_library.specs.Contents.{Held, held_at}
-use Rattle.cell_library.proofs.ContentLaws.{held_value, still_under_names, repainted}
+use Rattle.cell_library.proofs.ContentLaws.{held_value, repainted}
+use Rattle.cell_library.proofs.KeptContents.{still_kept}
 use Rattle.cell_library.proofs.contents.Contents.erase.Goals as goal
 
-pub erase-requires-clause-kinds : goal.erase-requires-clause-kinds
-erase-requires-clause-kinds c =
+pub erase-done-requires-clause-kinds : goal.erase-done-requires-clause-kinds
+erase-done-requires-clause-kinds c =
     ap (λ (held : Held). held.paint.kinds) (sym (held_value (values_of c.self.inside.entries.entries) c.args.cell c.index_mut-content.result.now
     c.index_mut-content.ensures.value)
     ∙ ap (λ (contents : List Held). held_at contents c.args.cell) c.self.view_is) ∙ c.requires.kinds
 
 pub invariant_of-self : goal.invariant_of-self
 invariant_of-self c =
-    still_under_names c.self.inside.entries.entries c.args.cell c.index_mut-content.result.now _ c.index_mut-content.ensures.value refl c.self.invariant
+    still_kept c.self.inside.entries.entries c.args.cell c.index_mut-content.result.now _ c.index_mut-content.ensures.value refl c.sound.ensures
+    c.self.invariant
 
 pub returns-clause-erased : goal.returns-clause-erased
 returns-clause-erased c =
-    on_ok_weaker c.erase.result
+    on_ok_weaker c.erase-done.result
     (repainted c.args.self.now c.self.inside.entries.entries c.args.cell c.index_mut-content.result.now _ (with_erased c.args.tech.now c.args.layer.0
     c.args.area)
-    c.self.view_is c.index_mut-content.ensures.value c.erase.ensures.kinds c.erase.ensures.planes)
-    c.erase.ensures.erased
+    c.self.view_is c.index_mut-content.ensures.value c.erase-done.ensures.kinds c.erase-done.ensures.planes)
+    c.erase-done.ensures.erased
 
 pub returns-clause-refused : goal.returns-clause-refused
 returns-clause-refused c =
-    on_err_weaker c.erase.result
+    on_err_weaker c.erase-done.result
     (repainted c.args.self.now c.self.inside.entries.entries c.args.cell c.index_mut-content.result.now _ (λ own. own)
-    c.self.view_is c.index_mut-content.ensures.value c.erase.ensures.kinds c.erase.ensures.planes)
-    c.erase.ensures.refused
+    c.self.view_is c.index_mut-content.ensures.value c.erase-done.ensures.kinds c.erase-done.ensures.planes)
+    c.erase-done.ensures.refused

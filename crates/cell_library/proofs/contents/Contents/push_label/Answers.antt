@@ -1,12 +1,15 @@
 use Rattle.std.proofs.Common.{List, ◌∷◌, ◌++◌, [], refl}
 use Rattle.tech_model.specs.declared.raw.Label.{Label}
-use Rattle.cell_library.proofs.ContentLaws.{still_under_names, relabelled, labels_stayed}
+use Rattle.cell_library.proofs.ContentLaws.{relabelled, labels_stayed}
 use Rattle.cell_library.proofs.FaultLaws.{on_any_err}
+use Rattle.cell_library.proofs.KeptContents.{sound_at, still_kept}
 use Rattle.cell_library.proofs.contents.Contents.push_label.Goals as goal
 
 pub invariant_of-self : goal.invariant_of-self
 invariant_of-self c =
-    still_under_names c.self.inside.entries.entries c.args.cell c.index_mut-content.result.now _ c.index_mut-content.ensures.value refl c.self.invariant
+    still_kept c.self.inside.entries.entries c.args.cell c.index_mut-content.result.now _ c.index_mut-content.ensures.value refl
+    (sound_at c.self.inside.entries.entries c.args.cell c.index_mut-content.result.now c.index_mut-content.ensures.value c.self.invariant)
+    c.self.invariant
 
 pub returns-in_err-push-clause-refused : goal.returns-in_err-push-clause-refused
 returns-in_err-push-clause-refused c =
@@ -17,7 +20,9 @@ returns-in_err-push-clause-refused c =
 
 pub invariant_of-self-2 : goal.invariant_of-self-2
 invariant_of-self-2 c =
-    still_under_names c.self.inside.entries.entries c.args.cell c.index_mut-content.result.now _ c.index_mut-content.ensures.value refl c.self.invariant
+    still_kept c.self.inside.entries.entries c.args.cell c.index_mut-content.result.now _ c.index_mut-content.ensures.value refl
+    (sound_at c.self.inside.entries.entries c.args.cell c.index_mut-content.result.now c.index_mut-content.ensures.value c.self.invariant)
+    c.self.invariant
 
 pub returns-clause-added : goal.returns-clause-added
 returns-clause-added c =

@@ -3,12 +3,15 @@ use Rattle.std.specs.Prelude.{not}
 use Rattle.std.specs.Str.{bytes_eq}
 use Rattle.std.proofs.lemmas.Fn.{filter_same}
 use Rattle.tech_model.specs.declared.raw.Label.{Label}
-use Rattle.cell_library.proofs.ContentLaws.{still_under_names, relabelled}
+use Rattle.cell_library.proofs.ContentLaws.{relabelled}
+use Rattle.cell_library.proofs.KeptContents.{sound_at, still_kept}
 use Rattle.cell_library.proofs.contents.Contents.remove_labels.Goals as goal
 
 pub invariant_of-self : goal.invariant_of-self
 invariant_of-self c =
-    still_under_names c.self.inside.entries.entries c.args.cell c.index_mut-content.result.now _ c.index_mut-content.ensures.value refl c.self.invariant
+    still_kept c.self.inside.entries.entries c.args.cell c.index_mut-content.result.now _ c.index_mut-content.ensures.value refl
+    (sound_at c.self.inside.entries.entries c.args.cell c.index_mut-content.result.now c.index_mut-content.ensures.value c.self.invariant)
+    c.self.invariant
 
 pub returns : goal.returns
 returns c =

@@ -1,11 +1,12 @@
 use Rattle.std.proofs.Common.{take, sym, ap, subst, ◌∙◌}
-use Rattle.cell_library.specs.Contents.{held_in, AreUnderNames}
-use Rattle.cell_library.proofs.ContentLaws.{held_first, under_names_first}
+use Rattle.cell_library.specs.Contents.{held_in, AreKept}
+use Rattle.cell_library.proofs.ContentLaws.{held_first}
+use Rattle.cell_library.proofs.KeptContents.{kept_first}
 use Rattle.cell_library.proofs.contents.Contents.truncate.Goals as goal
 
 pub invariant_of-self : goal.invariant_of-self
 invariant_of-self c =
-    subst AreUnderNames (sym c.truncate.ensures.entries) (under_names_first c.self.inside.entries.entries c.args.count c.self.invariant)
+    subst AreKept (sym c.truncate.ensures.entries) (kept_first c.self.inside.entries.entries c.args.count c.self.invariant)
 
 pub returns : goal.returns
 returns c = ap held_in c.truncate.ensures.entries ∙ held_first c.self.inside.entries.entries c.args.count ∙ ap (take c.args.count) c.self.view_is

@@ -1,0 +1,244 @@
+-- What a visit of one standing cell tells, from what it tells at the spots below.
+use Rattle.std.proofs.Common.{◌≡◌, ◌+◌, ◌*◌, ◌<◌, ℕ, suc, ℤ, pos, neg_ℤ, ◌+ℤ◌, ◌≤ℤ◌, ◌<ℤ◌, List, [], ◌∷◌, length, Some, sym, ap, subst, ◌∙◌, arith, inl, inr}
+use Rattle.std.proofs.lemmas.Bool.{cases_lt}
+use Rattle.std.proofs.lemmas.Int.{ints, clamps}
+use Rattle.geo_core.specs.declared.orients.Orient.{Orient}
+use Rattle.geo_core.specs.declared.orients.Orient.TheVariants.{R0}
+use Rattle.geo_core.specs.declared.squares.Square.{Square}
+use Rattle.geo_core.specs.declared.squares.Rect.{Rect}
+use Rattle.geo_core.specs.declared.transforms.Transform.{Transform}
+use Rattle.geo_core.specs.Areas.{common_rect, IsNear, LiesWithin}
+use Rattle.geo_core.specs.Covering.{Covers, IsProper}
+use Rattle.geo_core.specs.Images.{identity, image, inverted, rect_image}
+use Rattle.geo_core.proofs.CoveringLaws.{covers_both}
+use Rattle.geo_core.proofs.ImageLaws.{transform_of, image-forth}
+use Rattle.layout_model.specs.Layouts.{IsMaterial}
+use Rattle.layout_model.specs.Places.{Place}
+use Rattle.cell_paint.specs.Paints.{Paint, layout_of}
+use Rattle.cell_paint.proofs.PlaneLaws.{space_past}
+use Rattle.cell_tree.specs.declared.sizes.Size.{Size}
+use Rattle.cell_tree.specs.declared.sizes.Dimension.TheVariants.{Depth, Elements, Hull}
+use Rattle.cell_tree.specs.declared.use_tables.UseBody.{UseBody}
+use Rattle.cell_tree.specs.Hulls.{SpansInRange}
+use Rattle.cell_tree.specs.Sizes.{IsHullInRange, size_at, size_of}
+use Rattle.cell_tree.specs.Trees.{Tree, IsLawfulTree, cell_at}
+use Rattle.layout_trees.specs.CellTrees.{Standing, place_back}
+use Rattle.cell_library.specs.declared.part_tiles.PartTile.{PartTile}
+use Rattle.cell_library.specs.declared.spots.Spot.{Spot}
+use Rattle.cell_library.specs.LayoutTrees.{elements_from, tree_to}
+use Rattle.cell_library.specs.Libraries.{LibraryParts, IsLawfulLibrary, seen}
+use Rattle.cell_library.specs.Spans.{SpansFar}
+use Rattle.cell_library.specs.Spots.{cells_at, standing_at, AreNumbered, AreSifted, AreSiftedBy, AreToldTo, CanBeVisited, HasRoomToMove}
+use Rattle.cell_library.specs.UsePlaces.{IsApart, spots_under}
+use Rattle.cell_library.specs.Views.{view_at}
+use Rattle.cell_library.specs.Visits.{HullIsAt}
+use Rattle.cell_library.specs.VisitedTiles.{placed_cells, placed_below, AddsTiles, AreOutside}
+use Rattle.cell_library.proofs.HullsHoldMaterial.{hull_holds_material, state_uses}
+use Rattle.cell_library.proofs.OwnTiles.{HullHoldsOwn}
+use Rattle.cell_library.proofs.PlacedCells.{cells_counted, outside_hull}
+use Rattle.cell_library.proofs.PlacedRects.{covers_back}
+use Rattle.cell_library.proofs.SizeLaws.{cell_there, depth_falls, tree_children}
+use Rattle.cell_library.proofs.SpotLaws.{below_from, numbered_from, sifted_weaken, told_end}
+use Rattle.cell_library.proofs.ToldTiles.{adds_none}
+
+covered_is_proper : (area : Rect) (square : Square) → Covers area square → IsProper area
+covered_is_proper area square covers =
+    let p : area.xlo ≤ℤ square.x = covers.right_of_xlo in
+    let q : square.x <ℤ area.xhi = covers.left_of_xhi in
+    let r : area.ylo ≤ℤ square.y = covers.above_ylo in
+    let s : square.y <ℤ area.yhi = covers.below_yhi in
+    record { wide = omega (arith, ints); high = omega (arith, ints) }
+
+-- where the hull of a cell does not meet the area, nothing is told
+pub visit_none : (library : LibraryParts) (levels step : ℕ) (spot : Spot) (area : Rect) (tiles : List PartTile) → IsLawfulLibrary library
+    → ((hull : Rect) → HullIsAt library.tree.sizes spot.cell.0 hull → IsProper (common_rect (rect_image (inverted spot.to_top) area) hull) → ⊥)
+    → AddsTiles (placed_cells step spot.part spot.to_top (tree_to (seen library) levels spot.cell.0)) spot.element area tiles tiles
+visit_none library levels step spot area tiles lawful none =
+    adds_none (placed_cells step spot.part spot.to_top (tree_to (seen library) levels spot.cell.0)) spot.element area tiles
+    (outside_hull (seen library) library.tree.cells library.tree.sizes lawful.boxes lawful.tree.sizes.right levels spot.cell.0 step spot.part
+    spot.to_top area
+    (λ hull place is covers in_area.
+    let square = (place_back spot.to_top place).square in
+    none hull is (covered_is_proper (common_rect (rect_image (inverted spot.to_top) area) hull) square
+    (covers_both (rect_image (inverted spot.to_top) area) hull square (covers_back spot.to_top area place in_area) covers))))
+
+-- a cell without levels below it has its own tiles alone
+pub visit_own : (library : LibraryParts) (levels step : ℕ) (spot : Spot) (area : Rect) (old new : List PartTile) → levels ≡ 0
+    → AddsTiles (standing_at (seen library) spot ∷ []) spot.element area old new
+    → AddsTiles (placed_cells step spot.part spot.to_top (tree_to (seen library) levels spot.cell.0)) spot.element area old new
+visit_own library levels step spot area old new none adds =
+    subst (λ (n : ℕ). AddsTiles (placed_cells step spot.part spot.to_top (tree_to (seen library) n spot.cell.0)) spot.element area old new)
+    (sym none) adds
+
+-- what stands at the spots that were dropped has nothing in the area
+pub visit_sifted : (library : LibraryParts) (levels step : ℕ) (spot : Spot) (area back : Rect) (kept : List Spot) → IsLawfulLibrary library
+    → back ≡ rect_image (inverted spot.to_top) area
+    → AreSiftedBy (IsApart library.tree.sizes spot.to_top back) (spots_under library.tree step spot) kept
+    → AreSifted (tree_to (seen library) levels) area (spots_under library.tree step spot) kept
+visit_sifted library levels step spot area back kept lawful is sifted =
+    sifted_weaken (IsApart library.tree.sizes spot.to_top back)
+    (λ other. AreOutside area (placed_cells 0 other.part other.to_top (tree_to (seen library) levels other.cell.0)))
+    (spots_under library.tree step spot) kept
+    (λ other stands apart.
+    outside_hull (seen library) library.tree.cells library.tree.sizes lawful.boxes lawful.tree.sizes.right levels other.cell.0 0 other.part
+    other.to_top area
+    (λ hull place there covers in_area.
+    let square = image (inverted spot.to_top) place.square in
+    apart hull there square
+    (subst (λ (s : Square). Covers hull (image (inverted other.to_top) s)) (sym (image-forth spot.to_top place.square)) covers)
+    (subst (λ (b : Rect). Covers b square) (sym is) (covers_back spot.to_top area place in_area))))
+    sifted
+
+-- the spots below are numbered from the next number on
+pub visit_numbered : (library : LibraryParts) (levels step : ℕ) (spot : Spot) → IsLawfulLibrary library
+    → CanBeVisited library.tree (suc levels) step spot
+    → AreNumbered (tree_to (seen library) levels) (suc spot.element) (spots_under library.tree step spot)
+visit_numbered library levels step spot lawful can =
+    let tree = library.tree in
+    let uses = (cell_at tree.cells spot.cell.0).uses in
+    let here = cell_there tree.cells spot.cell.0 can.cell in
+    let depths : (size_at tree.sizes spot.cell.0).depth ≡ (size_of (size_at tree.sizes) (cell_at tree.cells spot.cell.0)).depth =
+    ap (λ (s : Size). s.depth) (lawful.tree.sizes.right spot.cell.0 (cell_at tree.cells spot.cell.0) here) in
+    let deep = can.deep in
+    subst (λ (n : ℕ). AreNumbered (tree_to (seen library) levels) n (spots_under tree step spot)) (let e : spot.element + 1 ≡ suc spot.element =
+    omega arith in e)
+    (numbered_from (tree_to (seen library) levels) step (size_at tree.sizes) spot.to_top uses (spot.part + step) (spot.element + 1) (λ k entry is.
+    let child = (lawful.tree.cells.uses spot.cell.0 (cell_at tree.cells spot.cell.0) here k entry is).1 in
+    let falls = depth_falls (size_at tree.sizes) (cell_at tree.cells spot.cell.0) k entry is in
+    cells_counted (seen library) tree.cells tree.sizes lawful.boxes lawful.tree.sizes.right
+    (tree_children tree lawful.tree) levels entry.1.child.0 child
+    (omega (arith, falls, depths, deep))))
+
+-- All that stands at and below the cell was told, once all spots below were.
+pub visit_all : (library : LibraryParts) (levels below step : ℕ) (spot : Spot) (area : Rect) (kept : List Spot) (i : ℕ) (old now : List PartTile)
+    → IsLawfulLibrary library
+    → spot.cell.0 < length library.tree.cells → levels ≡ suc below → i ≡ length kept
+    → AreToldTo (tree_to (seen library) below) area (standing_at (seen library) spot) spot.element (spots_under library.tree step spot) kept i old now
+    → AddsTiles (placed_cells step spot.part spot.to_top (tree_to (seen library) levels spot.cell.0)) spot.element area old now
+visit_all library levels below step spot area kept i old now lawful there deep end told =
+    let view = seen library in
+    let tree = library.tree in
+    let own = standing_at view spot in
+    let all = spots_under tree step spot in
+    let trees = tree_to view below in
+    let uses : (cell_at tree.cells spot.cell.0).uses ≡ (view_at view spot.cell.0).uses =
+    state_uses view.cells tree.cells spot.cell.0 lawful.boxes there in
+    let cells : cells_at trees all ≡ placed_below step (spot.part + step) spot.to_top (elements_from trees (view_at view spot.cell.0).uses) =
+    sym (below_from trees step (size_at tree.sizes) spot.to_top (cell_at tree.cells spot.cell.0).uses (spot.part + step) (spot.element + 1))
+    ∙ ap (λ (u : List (List ℕ × UseBody)). placed_below step (spot.part + step) spot.to_top (elements_from trees u)) uses in
+    let whole : AddsTiles (own ∷ cells_at trees all) spot.element area old now = told_end trees area own spot.element all kept i old now told end in
+    subst (λ (n : ℕ). AddsTiles (placed_cells step spot.part spot.to_top (tree_to view n spot.cell.0)) spot.element area old now) (sym deep)
+    (subst (λ (c : List Standing). AddsTiles (own ∷ c) spot.element area old now) cells whole)
+
+-- ---- how far areas go
+
+-- what a hull and an area have in common is near
+pub near_hull : (back hull : Rect) → SpansInRange hull → IsProper (common_rect back hull) → IsNear (common_rect back hull)
+near_hull back hull spans proper =
+    let a0 : neg_ℤ (pos 67108858) ≤ℤ hull.xlo = spans.xlo.low in
+    let a1 : hull.xhi ≤ℤ pos 67108858 = spans.xhi.high in
+    let b0 : neg_ℤ (pos 67108858) ≤ℤ hull.ylo = spans.ylo.low in
+    let b1 : hull.yhi ≤ℤ pos 67108858 = spans.yhi.high in
+    let wide : (common_rect back hull).xlo <ℤ (common_rect back hull).xhi = proper.wide in
+    let high : (common_rect back hull).ylo <ℤ (common_rect back hull).yhi = proper.high in
+    record {
+      xlo = (omega (arith, ints, clamps), omega (arith, ints, clamps));
+      ylo = (omega (arith, ints, clamps), omega (arith, ints, clamps));
+      xhi = (omega (arith, ints, clamps), omega (arith, ints, clamps));
+      yhi = (omega (arith, ints, clamps), omega (arith, ints, clamps));
+    }
+
+-- the hull of a cell of a lawful tree is in range
+pub hull_spans : (tree : Tree) (cell : ℕ) (hull : Rect) → IsLawfulTree tree → HullIsAt tree.sizes cell hull → SpansInRange hull
+hull_spans tree cell hull lawful is = subst IsHullInRange is (lawful.sizes.within Hull cell)
+
+back_far-by_orient : (levels : ℕ) (o : Orient) (dx dy : ℤ) (area : Rect) → HasRoomToMove levels (transform_of o dx dy) → IsNear area
+    → SpansFar (rect_image (inverted (transform_of o dx dy)) area)
+unfolding rect_image
+back_far-by_orient levels R0 dx dy area room near =
+    let r0 : (dx +ℤ pos (levels * 281474976710656)) ≤ℤ pos 18014398509481984 = room.right in
+    let r1 : pos (levels * 281474976710656) ≤ℤ (dx +ℤ pos 18014398509481984) = room.left in
+    let r2 : (dy +ℤ pos (levels * 281474976710656)) ≤ℤ pos 18014398509481984 = room.up in
+    let r3 : pos (levels * 281474976710656) ≤ℤ (dy +ℤ pos 18014398509481984) = room.down in
+    let x0 : neg_ℤ (pos 268435456) <ℤ area.xlo = near.xlo.0 in let x1 : area.xlo <ℤ pos 268435456 = near.xlo.1 in
+    let y0 : neg_ℤ (pos 268435456) <ℤ area.ylo = near.ylo.0 in let y1 : area.ylo <ℤ pos 268435456 = near.ylo.1 in
+    let z0 : neg_ℤ (pos 268435456) <ℤ area.xhi = near.xhi.0 in let z1 : area.xhi <ℤ pos 268435456 = near.xhi.1 in
+    let w0 : neg_ℤ (pos 268435456) <ℤ area.yhi = near.yhi.0 in let w1 : area.yhi <ℤ pos 268435456 = near.yhi.1 in
+    record {
+      xlo = record { low = omega (arith, ints); high = omega (arith, ints) };
+      ylo = record { low = omega (arith, ints); high = omega (arith, ints) };
+      xhi = record { low = omega (arith, ints); high = omega (arith, ints) };
+      yhi = record { low = omega (arith, ints); high = omega (arith, ints) };
+    }
+back_far-by_orient levels _ dx dy area room near =
+    let r0 : (dx +ℤ pos (levels * 281474976710656)) ≤ℤ pos 18014398509481984 = room.right in
+    let r1 : pos (levels * 281474976710656) ≤ℤ (dx +ℤ pos 18014398509481984) = room.left in
+    let r2 : (dy +ℤ pos (levels * 281474976710656)) ≤ℤ pos 18014398509481984 = room.up in
+    let r3 : pos (levels * 281474976710656) ≤ℤ (dy +ℤ pos 18014398509481984) = room.down in
+    let x0 : neg_ℤ (pos 268435456) <ℤ area.xlo = near.xlo.0 in let x1 : area.xlo <ℤ pos 268435456 = near.xlo.1 in
+    let y0 : neg_ℤ (pos 268435456) <ℤ area.ylo = near.ylo.0 in let y1 : area.ylo <ℤ pos 268435456 = near.ylo.1 in
+    let z0 : neg_ℤ (pos 268435456) <ℤ area.xhi = near.xhi.0 in let z1 : area.xhi <ℤ pos 268435456 = near.xhi.1 in
+    let w0 : neg_ℤ (pos 268435456) <ℤ area.yhi = near.yhi.0 in let w1 : area.yhi <ℤ pos 268435456 = near.yhi.1 in
+    record {
+      xlo = record { low = omega (arith, ints); high = omega (arith, ints) };
+      ylo = record { low = omega (arith, ints); high = omega (arith, ints) };
+      xhi = record { low = omega (arith, ints); high = omega (arith, ints) };
+      yhi = record { low = omega (arith, ints); high = omega (arith, ints) };
+    }
+
+-- an area that is near comes back to a spot not too far
+pub back_far : (levels : ℕ) (placed : Transform) (area : Rect) → HasRoomToMove levels placed → IsNear area
+    → SpansFar (rect_image (inverted placed) area)
+back_far levels placed area room near = back_far-by_orient levels placed.orient placed.dx placed.dy area room near
+
+-- what lies within an area that is near, and has a square, is near
+pub near_within : (core area : Rect) → IsNear area → IsProper core → LiesWithin core area → IsNear core
+near_within core area near proper within =
+    let x0 : neg_ℤ (pos 268435456) <ℤ area.xlo = near.xlo.0 in let x1 : area.xhi <ℤ pos 268435456 = near.xhi.1 in
+    let y0 : neg_ℤ (pos 268435456) <ℤ area.ylo = near.ylo.0 in let y1 : area.yhi <ℤ pos 268435456 = near.yhi.1 in
+    let a : area.xlo ≤ℤ core.xlo = within.right_of_xlo in
+    let b : area.ylo ≤ℤ core.ylo = within.above_ylo in
+    let c : core.xhi ≤ℤ area.xhi = within.left_of_xhi in
+    let d : core.yhi ≤ℤ area.yhi = within.below_yhi in
+    let wide : core.xlo <ℤ core.xhi = proper.wide in
+    let high : core.ylo <ℤ core.yhi = proper.high in
+    record {
+      xlo = (omega (arith, ints), omega (arith, ints));
+      ylo = (omega (arith, ints), omega (arith, ints));
+      xhi = (omega (arith, ints), omega (arith, ints));
+      yhi = (omega (arith, ints), omega (arith, ints));
+    }
+
+-- the cell that is looked at can be visited
+pub top_can_be_visited : (tree : Tree) (cell : ℕ) → IsLawfulTree tree → cell < length tree.cells
+    → CanBeVisited tree 64 1 (record { cell = record { 0 = cell }; to_top = identity; part = 0; element = 0 })
+top_can_be_visited tree cell lawful there =
+    let depth = lawful.sizes.within Depth cell in
+    let elements = lawful.sizes.within Elements cell in
+    record {
+      cell = there;
+      few = omega arith;
+      deep = omega (arith, depth);
+      moves = record { right = omega (arith, ints); left = omega (arith, ints); up = omega (arith, ints); down = omega (arith, ints) };
+      elements = omega (arith, elements);
+      parts = omega (arith, elements);
+    }
+
+-- ---- own material
+
+-- the hull of a cell holds its own material
+pub hull_holds_own : (library : LibraryParts) (cell : ℕ) (hull : Rect) → IsLawfulLibrary library → HullIsAt library.tree.sizes cell hull
+    → HullHoldsOwn (view_at (seen library) cell).own hull
+hull_holds_own library cell hull lawful is place material =
+    let found = hull_holds_material (seen library) library.tree.cells library.tree.sizes lawful.boxes lawful.tree.sizes.right 0 cell place
+    (inl material) in
+    let same : Some found.0 ≡ Some hull = sym found.1 ∙ is in
+    let one : found.0 ≡ hull = cc in
+    subst (λ (h : Rect). Covers h place.square) one found.2
+
+-- where paint shows something, there is a plane
+pub plane_below : (paint : Paint) (place : Place) → IsMaterial (layout_of paint) place → place.plane < length paint.planes
+plane_below paint place material = elim (cases_lt place.plane (length paint.planes)) [
+  | inl below ↦ below
+  | inr past ↦ absurd (material (space_past paint.planes place.plane place.square past))
+]

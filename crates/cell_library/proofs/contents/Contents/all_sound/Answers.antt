@@ -1,0 +1,7 @@
+use Rattle.std.proofs.Common.{subst}
+use Rattle.std.specs.Prelude.{All}
+use Rattle.cell_library.specs.Contents.{IsSoundHeld}
+use Rattle.cell_library.proofs.contents.Contents.all_sound.Goals as goal
+
+pub returns : goal.returns
+returns c = subst (All IsSoundHeld) c.self.view_is c.self.invariant.sound

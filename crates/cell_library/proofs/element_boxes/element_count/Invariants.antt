@@ -1,0 +1,10 @@
+use Rattle.std.proofs.Common.{◌≡◌, ◌+◌, drop}
+use Rattle.cell_library.specs.Libraries.{seen}
+use Rattle.cell_library.specs.PartCounts.{element_count}
+use Rattle.cell_library.specs.Views.{view_at}
+use Rattle.cell_library.proofs.element_boxes.element_count.Given as goal
+
+-- what was counted and what is left are all
+abbrev pub invariant-loop-k : goal.invariant-loop-k
+invariant-loop-k l =
+    l.count + element_count (drop l.k (view_at (seen l.library) l.cell.0).uses) ≡ element_count (view_at (seen l.library) l.cell.0).uses

@@ -1,0 +1,6 @@
+use Rattle.std.proofs.Common.{◌+◌, ◌*◌}
+use Rattle.cell_library.specs.Spans.{AddsRow}
+use Rattle.cell_library.proofs.spots.add_row.Given as goal
+
+abbrev pub invariant-loop-n : goal.invariant-loop-n
+invariant-loop-n l = AddsRow l.from (l.m * l.columns) (l.m * l.columns + l.n) l.fn.found.items l.found.items

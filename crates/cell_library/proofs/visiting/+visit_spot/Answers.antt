@@ -1,0 +1,131 @@
+use Rattle.std.proofs.Common.{◌≡◌, ◌+◌, ◌-◌, ℕ, suc, List, sym, subst, ◌∙◌, ap, arith}
+use Rattle.std.proofs.lemmas.Option.{slice_get-get_or}
+use Rattle.finite_sets.proofs.Members.{In-get_or}
+use Rattle.geo_core.specs.declared.squares.Rect.{Rect}
+use Rattle.geo_core.specs.declared.transforms.Transform.{Transform}
+use Rattle.geo_core.specs.Areas.{common_rect}
+use Rattle.geo_core.specs.Covering.{IsProper}
+use Rattle.geo_core.specs.Images.{inverted, rect_image}
+use Rattle.geo_core.specs.Reach.{MovesInReach}
+use Rattle.cell_tree.specs.Trees.{Tree}
+use Rattle.cell_library.specs.declared.spots.Spot.{Spot}
+use Rattle.cell_library.specs.LayoutTrees.{tree_to}
+use Rattle.cell_library.specs.Libraries.{seen}
+use Rattle.cell_library.specs.Spans.{SpansFar}
+use Rattle.cell_library.specs.Spots.{standing_at, AreSiftedBy, CanBeVisited}
+use Rattle.cell_library.specs.UsePlaces.{HasRoomBelow, IsApart, spots_under}
+use Rattle.cell_library.specs.Visits.{HullIsAt, IsNearPart, IsNearSpot}
+use Rattle.cell_library.proofs.GridSpots.{room_in_reach}
+use Rattle.cell_library.proofs.RowSpots.{inverted_in_reach}
+use Rattle.cell_library.proofs.SpotLaws.{sifted_in, told_next, told_start}
+use Rattle.cell_library.proofs.UseSums.{below_can_be_visited, visited_has_room}
+use Rattle.cell_library.proofs.VisitLaws.{back_far, visit_all, visit_none, visit_numbered, visit_own, visit_sifted}
+use Rattle.cell_library.proofs.visiting.+visit_spot.Goals as goal
+
+pub rect-back-requires-clause-moves : goal.rect-back-requires-clause-moves
+rect-back-requires-clause-moves t c =
+    subst MovesInReach (sym c.inverse.ensures.value)
+    (inverted_in_reach c.args.spot.now.to_top (room_in_reach c.args.levels c.args.spot.now.to_top c.requires.spot.moves))
+
+pub returns-in-None : goal.returns-in-None
+returns-in-None t c =
+    let spot = c.args.spot.now in
+    let back : c.rect-back.result ≡ rect_image (inverted spot.to_top) c.args.area =
+    c.rect-back.ensures.value ∙ ap (λ (m : Transform). rect_image m c.args.area) c.inverse.ensures.value in
+    visit_none c.args.library.now c.args.levels c.args.part_step spot c.args.area c.args.tiles.now.items c.lawful.ensures (λ hull is proper.
+    c.in-None.ensures.none hull (subst (λ (tree : Tree). HullIsAt tree.sizes spot.cell.0 hull) (sym c.tree.ensures) is)
+    (subst (λ (b : Rect). IsProper (common_rect b hull)) (sym back) proper))
+
+pub returns-then-levels-eq0 : goal.returns-then-levels-eq0
+returns-then-levels-eq0 t c =
+    let library = c.args.library.now in
+    let spot = c.args.spot.now in
+    let back : c.rect-back.result ≡ rect_image (inverted spot.to_top) c.args.area =
+    c.rect-back.ensures.value ∙ ap (λ (m : Transform). rect_image m c.args.area) c.inverse.ensures.value in
+    let near : IsNearSpot library.tree.sizes spot c.args.area c.in-Some.near =
+    subst (λ (b : Rect). IsNearPart library.tree.sizes spot.cell.0 b c.in-Some.near) back
+    (subst (λ (tree : Tree). IsNearPart tree.sizes spot.cell.0 c.rect-back.result c.in-Some.near) c.tree.ensures c.in-Some.ensures.some) in
+    visit_own library c.args.levels c.args.part_step spot c.args.area c.args.tiles.now.items c.add_own.new.tiles.items c.if-levels-eq0.true
+    (c.in_ok-add_own.ensures c.args.area near)
+
+pub spots_below-requires-clause-room : goal.spots_below-requires-clause-room
+spots_below-requires-clause-room t c =
+    subst (λ (tree : Tree). HasRoomBelow tree c.args.part_step c.args.spot.now) (sym c.tree-2.ensures)
+    (visited_has_room c.args.library.now.tree c.args.levels c.args.part_step c.args.spot.now (omega (arith, c.if-levels-eq0.false)) c.requires.spot)
+
+pub spots_below-requires-clause-back : goal.spots_below-requires-clause-back
+spots_below-requires-clause-back t c =
+    let spot = c.args.spot.now in
+    let back : c.rect-back.result ≡ rect_image (inverted spot.to_top) c.args.area =
+    c.rect-back.ensures.value ∙ ap (λ (m : Transform). rect_image m c.args.area) c.inverse.ensures.value in
+    subst SpansFar (sym back) (back_far c.args.levels spot.to_top c.args.area c.requires.spot.moves c.requires.near)
+
+pub loop-next-init : goal.loop-next-init
+loop-next-init t c =
+    let library = c.args.library.now in
+    let spot = c.args.spot.now in
+    let back : c.rect-back.result ≡ rect_image (inverted spot.to_top) c.args.area =
+    c.rect-back.ensures.value ∙ ap (λ (m : Transform). rect_image m c.args.area) c.inverse.ensures.value in
+    let near : IsNearSpot library.tree.sizes spot c.args.area c.in-Some.near =
+    subst (λ (b : Rect). IsNearPart library.tree.sizes spot.cell.0 b c.in-Some.near) back
+    (subst (λ (tree : Tree). IsNearPart tree.sizes spot.cell.0 c.rect-back.result c.in-Some.near) c.tree.ensures c.in-Some.ensures.some) in
+    let kept : AreSiftedBy (IsApart library.tree.sizes spot.to_top c.rect-back.result)
+    (spots_under library.tree c.args.part_step spot) c.deref-next-items.result.now =
+    subst (λ (items : List Spot). AreSiftedBy (IsApart library.tree.sizes spot.to_top c.rect-back.result)
+    (spots_under library.tree c.args.part_step spot) items)
+    (sym c.deref-next-items.ensures.value)
+    (subst (λ (tree : Tree). AreSiftedBy (IsApart tree.sizes spot.to_top c.rect-back.result)
+    (spots_under tree c.args.part_step spot) c.in_ok-below.below.items)
+    c.tree-2.ensures c.in_ok-below.ensures) in
+    told_start (tree_to (seen library) (c.args.levels - 1)) c.args.area (standing_at (seen library) spot) spot.element
+    (spots_under library.tree c.args.part_step spot)
+    c.deref-next-items.result.now c.args.tiles.now.items c.add_own.new.tiles.items (c.in_ok-add_own.ensures c.args.area near)
+    (visit_sifted library (c.args.levels - 1) c.args.part_step spot c.args.area c.rect-back.result c.deref-next-items.result.now c.lawful.ensures
+    back kept)
+
+pub visit_spot-requires : goal.visit_spot-requires
+visit_spot-requires t c =
+    let library = c.args.library.now in
+    let spot = c.args.spot.now in
+    let deep : c.args.levels ≡ suc (c.args.levels - 1) = omega (arith, c.if-levels-eq0.false) in
+    let can : CanBeVisited library.tree (suc (c.args.levels - 1)) c.args.part_step spot =
+    subst (λ (n : ℕ). CanBeVisited library.tree n c.args.part_step spot) deep c.requires.spot in
+    let kept : AreSiftedBy (IsApart library.tree.sizes spot.to_top c.rect-back.result)
+    (spots_under library.tree c.args.part_step spot) c.deref-next-items.result.now =
+    subst (λ (items : List Spot). AreSiftedBy (IsApart library.tree.sizes spot.to_top c.rect-back.result)
+    (spots_under library.tree c.args.part_step spot) items)
+    (sym c.deref-next-items.ensures.value)
+    (subst (λ (tree : Tree). AreSiftedBy (IsApart tree.sizes spot.to_top c.rect-back.result)
+    (spots_under tree c.args.part_step spot) c.in_ok-below.below.items)
+    c.tree-2.ensures c.in_ok-below.ensures) in (
+      omega (arith, c.if-levels-eq0.false),
+      (
+        below_can_be_visited library.tree (c.args.levels - 1) c.args.part_step spot _ c.lawful.ensures.tree can
+            (sifted_in (IsApart library.tree.sizes spot.to_top c.rect-back.result)
+            (spots_under library.tree c.args.part_step spot) c.deref-next-items.result.now _
+            kept (In-get_or c.deref-next-items.result.now c.loop-next.next-index _ c.loop-next-test.true)),
+        c.requires.near,
+      ),
+    )
+
+pub loop-next-preserved : goal.loop-next-preserved
+loop-next-preserved t c =
+    let library = c.args.library.now in
+    let spot = c.args.spot.now in
+    let deep : c.args.levels ≡ suc (c.args.levels - 1) = omega (arith, c.if-levels-eq0.false) in
+    let can : CanBeVisited library.tree (suc (c.args.levels - 1)) c.args.part_step spot =
+    subst (λ (n : ℕ). CanBeVisited library.tree n c.args.part_step spot) deep c.requires.spot in
+    told_next (tree_to (seen library) (c.args.levels - 1)) c.args.area (standing_at (seen library) spot) spot.element
+    (spots_under library.tree c.args.part_step spot)
+    c.deref-next-items.result.now c.loop-next.next-index (c.loop-next.next-index + 1) _ c.args.tiles.now.items c.loop-next.tiles.items
+    c.visit_spot.new.tiles.items
+    c.loop-next.invariant (omega arith) (slice_get-get_or c.deref-next-items.result.now c.loop-next.next-index _ c.loop-next-test.true)
+    (visit_numbered library (c.args.levels - 1) c.args.part_step spot c.lawful.ensures can) c.in_ok-visit_spot.ensures
+
+pub returns : goal.returns
+returns t c =
+    let library = c.args.library.now in
+    visit_all library c.args.levels (c.args.levels - 1) c.args.part_step c.args.spot.now c.args.area c.deref-next-items.result.now
+    c.loop-next.next-index
+    c.args.tiles.now.items c.loop-next.tiles.items c.lawful.ensures c.requires.spot.cell (omega (arith, c.if-levels-eq0.false))
+    (omega (arith, c.loop-next-test.false, c.loop-next.auto)) c.loop-next.invariant
