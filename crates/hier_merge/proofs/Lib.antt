@@ -1,0 +1,10 @@
+pub mod MeetingBoxes
+pub mod MeetingOffences
+pub mod NearAreas
+pub mod NumberedParts
+pub mod PartBoxLaws
+pub mod PartTypes
+pub mod PlaneStrips
+pub mod PlaneTiles
+pub mod VisitLaws
+pub mod WorkLaws

@@ -1,0 +1,88 @@
+-- The tiles of one plane, and what they make of the parts there.
+use Rattle.std.proofs.Common.{◌≡◌, ◌≢◌, ◌&&◌, ◌<◌, ℕ, Bool, true, false, cond, bit_or, List, [], ◌∷◌, inl, inr, refl, sym, ap, subst, ◌∙◌}
+use Rattle.std.proofs.Common.{eqb-true, ne_eqb}
+use Rattle.std.specs.Prelude.{◌==◌}
+use Rattle.std.proofs.lemmas.Bool.{cases_Bool, eqb-false}
+use Rattle.finite_sets.specs.Lists.{In}
+use Rattle.finite_sets.proofs.Searches.{All-from_In}
+use Rattle.geo_core.specs.Covering.{is_covered}
+use Rattle.geo_core.specs.Areas.{IsNear}
+use Rattle.tech_model.specs.declared.raw.RawTech.{RawTech}
+use Rattle.tech_model.specs.Types.{parts_of}
+use Rattle.tech_model.proofs.WellFormedLaws.{All_In}
+use Rattle.layout_model.specs.Places.{Place}
+use Rattle.layout_trees.proofs.SetUnions.{none_union}
+use Rattle.offences.specs.declared.set_tiles.SetTile.{SetTile}
+use Rattle.offences.specs.SetTiles.{tile_part, AreTilesOfParts, set_from as set_of_set_tile}
+use Rattle.cell_library.specs.declared.part_tiles.PartTile.{PartTile}
+use Rattle.cell_library.specs.PartTiles.{set_from, set_of_tiles}
+use Rattle.hier_merge.specs.Visits.{AreOfParts, set_tile, tiles_on}
+
+-- each tile of the plane is one of the tiles
+from_tiles : (raw : RawTech) (plane : ℕ) (tiles : List PartTile) (found : SetTile) → In found (tiles_on raw plane tiles)
+    → (tile : PartTile) × (In tile tiles × (set_tile raw tile ≡ found))
+from_tiles raw plane [] found among = absurd among
+from_tiles raw plane (tile ∷ tiles) found among =
+    let more : In found (tiles_on raw plane tiles) → (t : PartTile) × (In t (tile ∷ tiles) × (set_tile raw t ≡ found)) =
+    λ later. let source = from_tiles raw plane tiles found later in (source.0, (inr source.1.0, source.1.1)) in
+    let rest = tiles_on raw plane tiles in
+    let chosen : (b : Bool) → (tile.plane == plane) ≡ b → In found (cond b (set_tile raw tile ∷ rest) rest) =
+    λ b is. subst (λ (t : Bool). In found (cond t (set_tile raw tile ∷ rest) rest)) is among in
+    elim (cases_Bool (tile.plane == plane)) [
+      | inl on ↦ elim (chosen true on) [ inl same ↦ (tile, (inl refl, same)) | inr later ↦ more later ]
+      | inr off ↦ more (chosen false off)
+    ]
+
+-- tiles of parts make tiles of parts on a plane
+pub parts_on_plane : (raw : RawTech) (plane count : ℕ) (tiles : List PartTile) → AreOfParts count tiles
+    → AreTilesOfParts count (tiles_on raw plane tiles)
+parts_on_plane raw plane count tiles are =
+    All-from_In (λ (found : SetTile). (found.part < count) × IsNear found.area) (tiles_on raw plane tiles) (λ found among.
+    let source = from_tiles raw plane tiles found among in
+    subst (λ (t : SetTile). (t.part < count) × IsNear t.area) source.1.1
+    (All_In (λ (tile : PartTile). (tile.part < count) × IsNear tile.area) tiles source.0 are source.1.0))
+
+-- a tile of another plane adds nothing
+adds_nothing : (raw : RawTech) (part : ℕ) (tile : PartTile) (place : Place) → (place.plane == tile.plane) ≡ false → set_from raw part tile place ≡ 0
+adds_nothing raw part tile place off =
+    ap (λ (b : Bool). cond (tile.part == part && b && is_covered tile.area place.square) (parts_of raw tile.kind.0) 0) off ∙ ends (tile.part == part)
+  where
+    ends : (b : Bool) → cond (b && false && is_covered tile.area place.square) (parts_of raw tile.kind.0) 0 ≡ 0
+    ends true = refl
+    ends false = refl
+
+-- on the plane its tiles make of a part what all tiles make of it
+pub set_on_plane : (raw : RawTech) (plane : ℕ) (tiles : List PartTile) (part : ℕ) (place : Place) → place.plane ≡ plane
+    → tile_part (tiles_on raw plane tiles) plane part place ≡ set_of_tiles raw tiles part place
+set_on_plane raw plane [] part place on = refl
+set_on_plane raw plane (tile ∷ tiles) part place on =
+    let rest = set_on_plane raw plane tiles part place on in
+    elim (cases_Bool (tile.plane == plane)) [
+      | inl here ↦
+          let same : tile.plane ≡ plane = eqb-true tile.plane plane here in
+          ap (λ (b : Bool). tile_part (cond b (set_tile raw tile ∷ tiles_on raw plane tiles) (tiles_on raw plane tiles)) plane part place) here
+          ∙ ap (bit_or (set_of_set_tile plane part (set_tile raw tile) place)) rest
+          ∙ ap (λ (p : ℕ). bit_or (cond (tile.part == part && place.plane == p && is_covered tile.area place.square) (parts_of raw tile.kind.0) 0)
+          (set_of_tiles raw tiles part place)) (sym same)
+      | inr other ↦
+          let off : (place.plane == tile.plane) ≡ false =
+          ne_eqb place.plane tile.plane (λ same. eqb-false tile.plane plane other (sym same ∙ on)) in
+          ap (λ (b : Bool). tile_part (cond b (set_tile raw tile ∷ tiles_on raw plane tiles) (tiles_on raw plane tiles)) plane part place) other
+          ∙ rest
+          ∙ sym (ap (λ (set : ℕ). bit_or set (set_of_tiles raw tiles part place)) (adds_nothing raw part tile place off)
+          ∙ none_union (set_of_tiles raw tiles part place))
+    ]
+
+-- off the plane they make nothing
+pub nothing_off_plane : (tiles : List SetTile) (plane part : ℕ) (place : Place) → place.plane ≢ plane → tile_part tiles plane part place ≡ 0
+nothing_off_plane [] plane part place off = refl
+nothing_off_plane (tile ∷ tiles) plane part place off =
+    ap (λ (b : Bool). bit_or (cond (tile.part == part && b && is_covered tile.area place.square) tile.set.0 0) (tile_part tiles plane part place))
+    (ne_eqb place.plane plane off)
+    ∙ ap (λ (set : ℕ). bit_or set (tile_part tiles plane part place)) (ends (tile.part == part))
+    ∙ none_union (tile_part tiles plane part place)
+    ∙ nothing_off_plane tiles plane part place off
+  where
+    ends : (b : Bool) → cond (b && false && is_covered tile.area place.square) tile.set.0 0 ≡ 0
+    ends true = refl
+    ends false = refl

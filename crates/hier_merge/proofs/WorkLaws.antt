@@ -1,0 +1,71 @@
+-- The work over the areas in which parts of a cell interact is a work over the strips of what its boxes share.
+use Rattle.std.proofs.Common.{◌≡◌, ◌≤◌, ◌+◌, ◌++◌, ℕ, List, refl, sym, ap, subst, ◌∙◌}
+use Rattle.std.specs.Prelude.{Option, Some, None}
+use Rattle.std.specs.Option.{option_to_list}
+use Rattle.finite_sets.proofs.Orders.{equal_from_both}
+use Rattle.geo_core.specs.declared.squares.Square.{Square}
+use Rattle.geo_core.specs.declared.squares.Rect.{Rect}
+use Rattle.geo_core.specs.Areas.{LiesWithin}
+use Rattle.geo_core.specs.Strips.{IsStrips}
+use Rattle.geo_core.proofs.SquareLaws.{rect_is}
+use Rattle.geo_core.proofs.StripListLaws.{one_list}
+use Rattle.geo_core.proofs.StripSets.{strips_same}
+use Rattle.layout_model.specs.Layouts.{Layout}
+use Rattle.interact.specs.Interactions.{IsShared}
+use Rattle.cell_library.specs.LayoutTrees.{tree_at}
+use Rattle.cell_library.specs.Libraries.{IsLawfulLibrary, LibraryParts, seen}
+use Rattle.cell_library.specs.Views.{view_at}
+use Rattle.hier_merge.specs.Interactions.{ArePartBoxes, IsInteraction, IsWork, IsWorkOver, PaintBoxIs}
+use Rattle.cell_library.proofs.PartLaws.{one_list_of_boxes}
+
+-- rectangles of which each lies within the other are one
+one_rect : (a b : Rect) → LiesWithin a b → LiesWithin b a → a ≡ b
+one_rect a b p q =
+    rect_is a b
+    (equal_from_both a.xlo b.xlo q.right_of_xlo p.right_of_xlo)
+    (equal_from_both a.ylo b.ylo q.above_ylo p.above_ylo)
+    (equal_from_both a.xhi b.xhi p.left_of_xhi q.left_of_xhi)
+    (equal_from_both a.yhi b.yhi p.below_yhi q.below_yhi)
+
+-- a layout has one box of paint, or none
+one_paint_box : (layout : Layout) (a b : Option Rect) → PaintBoxIs layout a → PaintBoxIs layout b → a ≡ b
+one_paint_box layout None None p q = refl
+one_paint_box layout None (Some b) p q = absurd (q.material (p q.place))
+one_paint_box layout (Some a) None p q = absurd (p.material (q p.place))
+one_paint_box layout (Some a) (Some b) p q =
+    ap (λ (r : Rect). Some r) (one_rect a b (p.least b q.covers) (q.least a p.covers))
+
+-- a cell has one list of boxes of its parts
+one_list_of_part_boxes : (library : LibraryParts) → IsLawfulLibrary library → (cell : ℕ) (boxes others : List Rect)
+    → ArePartBoxes (seen library) cell boxes → ArePartBoxes (seen library) cell others → boxes ≡ others
+one_list_of_part_boxes library lawful cell boxes others p q =
+    p.are
+    ∙ ap (λ (own : Option Rect). option_to_list own ++ p.elements) (one_paint_box (view_at (seen library) cell).own p.own q.own p.is_own q.is_own)
+    ∙ ap (λ (elements : List Rect). option_to_list q.own ++ elements)
+    (one_list_of_boxes library lawful cell p.elements q.elements p.are_elements q.are_elements)
+    ∙ sym q.are
+
+-- the strips of what the boxes share are the areas of the cell's work
+work_over_areas : (library : LibraryParts) → IsLawfulLibrary library → (cell : ℕ) (boxes areas : List Rect) (work : ℕ)
+    → ArePartBoxes (seen library) cell boxes → IsStrips (IsShared boxes) areas → IsWork (seen library) cell work
+    → IsWorkOver (tree_at (seen library) cell) areas work
+work_over_areas library lawful cell boxes areas work are_boxes are_areas is =
+    let shared : (square : Square) → IsInteraction (seen library) cell square → IsShared boxes square =
+    λ square meets. subst (λ (others : List Rect). IsShared others square)
+    (one_list_of_part_boxes library lawful cell meets.boxes boxes meets.are_boxes are_boxes) meets.shared in
+    let interacts : (square : Square) → IsShared boxes square → IsInteraction (seen library) cell square =
+    λ square meets. record { boxes = boxes; are_boxes = are_boxes; shared = meets } in
+    let same : is.areas ≡ areas =
+    one_list (IsShared boxes) is.areas areas
+    (strips_same (IsInteraction (seen library) cell) (IsShared boxes) shared interacts is.areas is.are_areas) are_areas in
+    subst (λ (all : List Rect). IsWorkOver (tree_at (seen library) cell) all work) same is.over
+
+-- what the work over visited areas bounds, the cell's work bounds, where those are the strips of what its boxes share
+pub within_work : (library : LibraryParts) → IsLawfulLibrary library → (cell : ℕ) (boxes shared areas visited : List Rect) (before after : ℕ)
+    → ArePartBoxes (seen library) cell boxes → shared ≡ boxes → IsStrips (IsShared shared) areas → visited ≡ areas
+    → ((work : ℕ) → IsWorkOver (tree_at (seen library) cell) visited work → after ≤ before + work)
+    → (work : ℕ) → IsWork (seen library) cell work → after ≤ before + work
+within_work library lawful cell boxes shared areas visited before after are_boxes same_boxes are_areas same_areas bound work is =
+    let strips : IsStrips (IsShared boxes) areas = subst (λ (b : List Rect). IsStrips (IsShared b) areas) same_boxes are_areas in
+    let over = work_over_areas library lawful cell boxes areas work are_boxes strips is in
+    bound work (subst (λ (a : List Rect). IsWorkOver (tree_at (seen library) cell) a work) (sym same_areas) over)

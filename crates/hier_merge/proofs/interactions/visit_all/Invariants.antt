@@ -1,0 +1,11 @@
+use Rattle.std.proofs.Common.{◌≡◌, ◌+◌, length, take}
+use Rattle.cell_library.specs.Libraries.{seen}
+use Rattle.cell_library.specs.LayoutTrees.{tree_at}
+use Rattle.hier_merge.specs.Visits.{AreVisits}
+use Rattle.hier_merge.proofs.interactions.visit_all.Given as goal
+
+-- the tiles are those of visits of the areas so far, with a step for each
+abbrev pub invariant-loop-area : goal.invariant-loop-area
+invariant-loop-area g l =
+    AreVisits l.library.tech (tree_at (seen l.library) l.cell.0) (take l.area-index l.areas) l.tiles.items
+    × (l.steps ≡ l.fn.steps + length l.tiles.items)

@@ -1,0 +1,4 @@
+pub mod Interactions
+pub mod Visits
+pub mod StripLists
+pub mod MeetingTiles

@@ -1,0 +1,91 @@
+//! Where the parts of a cell interact, and the tiles that they have there.
+ghost use Rattle.std.specs.Prelude.{◌≡◌, ◌≤◌, ◌+◌, ◌++◌, ◌<◌, ℕ, All, IfOk, OnOk, OnErr, length};
+ghost use Rattle.std.specs.Option.{option_to_list};
+ghost use Rattle.geo_core.specs.Areas.{IsNear};
+ghost use Rattle.geo_core.specs.Covering.{IsProper};
+ghost use Rattle.layout_trees.specs.FlatSets.{parts_in};
+ghost use Rattle.cell_tree.specs.Hulls.{IsLawfulBox};
+ghost use Rattle.cell_library.specs.Libraries.{seen};
+ghost use Rattle.cell_library.specs.LayoutTrees.{tree_at};
+ghost use Rattle.cell_library.specs.ElementBoxes.{HoldParts};
+ghost use Rattle.hier_merge.specs.Interactions.{ArePartBoxes, IsWorkOver};
+ghost use Rattle.hier_merge.specs.Visits.{AddsVisit, AreVisits, CountsVisit};
+
+use cell_library::{PartTile, Reader};
+use ext_model::CellKey;
+use geo_core::Rect;
+use std::alloc::{AllocError, Global};
+use std::sync::ledger::Ledger;
+use step_count::Steps;
+
+/// The boxes of the cell's parts that have one: of its own paint, for which the cell is opened, and of its elements.
+pub fn part_boxes<L: Ledger>(
+    alloc: Global,
+    library: &Reader<'_>,
+    cell: CellKey,
+    steps: &mut Steps<L>,
+) -> Result<Vec<Rect>, AllocError>
+    requires { cell.0 < length library.now.contents }
+    ensures boxes { IfOk result (λ boxes. ArePartBoxes (seen library.now) cell.0 boxes.items) }
+    ensures lawful { IfOk result (λ boxes. All IsLawfulBox boxes.items) }
+    ensures hold { IfOk result (λ boxes. HoldParts boxes.items (parts_in library.now.tech (tree_at (seen library.now) cell.0))) }
+    ensures step { steps.new ≡ steps.old + 1 }
+{
+    let own = library.open(cell, steps).box_of();
+    library.unfolded();
+    let elements = library.element_boxes(cell)?;
+    let boxes = all_boxes(alloc, own, elements.as_slice())?;
+    Ok(boxes)
+}
+
+// The own box, where there is one, and those of elements.
+fn all_boxes(alloc: Global, own: Option<Rect>, elements: &[Rect]) -> Result<Vec<Rect>, AllocError>
+    ensures { IfOk result (λ boxes. boxes.items ≡ option_to_list own ++ elements.now) }
+{
+    let mut boxes = Vec::with_capacity(alloc, elements.len() + 1)?;
+    if let Some(area) = own {
+        boxes.push(area)?;
+    }
+    boxes.extend_from_slice(elements)?;
+    Ok(boxes)
+}
+
+/// The tiles that visits of the areas hand out, one after another.
+pub fn visit_all<L: Ledger>(
+    alloc: Global,
+    library: &Reader<'_>,
+    cell: CellKey,
+    areas: &[Rect],
+    steps: &mut Steps<L>,
+) -> Result<Vec<PartTile>, AllocError>
+    requires cell { cell.0 < length library.now.contents }
+    requires proper { All IsProper areas.now }
+    requires near { All IsNear areas.now }
+    ensures tiles { IfOk result (λ tiles. AreVisits library.now.tech (tree_at (seen library.now) cell.0) areas.now tiles.items) }
+    ensures steps { (work : ℕ) → IsWorkOver (tree_at (seen library.now) cell.0) areas.now work → steps.new ≤ steps.old + work }
+{
+    let mut tiles = Vec::new(alloc);
+    for area in areas {
+        visit_one(library, cell, *area, &mut tiles, steps)?;
+    }
+    Ok(tiles)
+}
+
+// Adds the tiles that a visit of the area hands out.
+fn visit_one<L: Ledger>(
+    library: &Reader<'_>,
+    cell: CellKey,
+    area: Rect,
+    tiles: &mut Vec<PartTile>,
+    steps: &mut Steps<L>,
+) -> Result<(), AllocError>
+    requires cell { cell.0 < length library.now.contents }
+    requires proper { IsProper area }
+    requires near { IsNear area }
+    ensures added { OnOk result (AddsVisit library.now.tech (tree_at (seen library.now) cell.0) area tiles.old.items tiles.new.items steps.old steps.new) }
+    ensures counted { OnErr result (CountsVisit library.now.tech (tree_at (seen library.now) cell.0) area steps.old steps.new) }
+{
+    let found = library.visit(cell, area, steps)?;
+    tiles.extend_from_slice(found.as_slice())?;
+    Ok(())
+}
