@@ -10,6 +10,7 @@ pub mod NodesLaws
 pub mod RunLaws
 pub mod SimulationCommands
 pub mod SimulationLaws
+pub mod SquaresLaws
 pub mod TechLaws
 pub mod TextLaws
 pub mod TreeCommands

@@ -7,3 +7,11 @@ pub numbered_name : (text words number blank name one two : List ℕ) → one �
 numbered_name text words number blank name one two first then =
     then ∙ ap (λ (xs : List ℕ). xs ++ (blank ++ name)) first ∙ append_assoc text (words ++ number) (blank ++ name)
     ∙ ap (λ (xs : List ℕ). text ++ xs) (sym (append_assoc (words ++ number) blank name))
+
+-- four numbers, each behind a blank
+pub four_numbers : (blank text first second third fourth one two three four : List ℕ) → one ≡ text ++ (blank ++ first)
+    → two ≡ one ++ (blank ++ second) → three ≡ two ++ (blank ++ third) → four ≡ three ++ (blank ++ fourth)
+    → four ≡ text ++ (blank ++ first ++ blank ++ second ++ blank ++ third ++ blank ++ fourth)
+four_numbers blank text first second third fourth one two three four is_one is_two is_three is_four =
+    is_four ∙ ap (λ (xs : List ℕ). xs ++ (blank ++ fourth)) (is_three ∙ ap (λ (xs : List ℕ). xs ++ (blank ++ third)) (is_two
+    ∙ ap (λ (xs : List ℕ). xs ++ (blank ++ second)) is_one)) ∙ simp append_assoc

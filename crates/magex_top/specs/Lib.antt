@@ -8,6 +8,7 @@ pub mod CommandLoad
 pub mod CommandNodes
 pub mod CommandSave
 pub mod CommandSimrun
+pub mod CommandSquares
 pub mod CommandTech
 pub mod CommandVectors
 pub mod Extractions

@@ -4,7 +4,7 @@ use Rattle.outside_io.specs.Files.{Files}
 use Rattle.session_model.specs.Effects.{Effect}
 use Rattle.script_lines.specs.declared.commands.Command.{Command}
 use Rattle.script_lines.specs.declared.commands.Command.TheVariants.{Tech, Load, New, Edit, Paint, Erase, Place, Array, Move, Delete, Label, Unlabel}
-use Rattle.script_lines.specs.declared.commands.Command.TheVariants.{Save, Nodes, Extract, Flat, Sim, Ext2sim, Vectors, Simrun}
+use Rattle.script_lines.specs.declared.commands.Command.TheVariants.{Save, Squares, Nodes, Extract, Flat, Sim, Ext2sim, Vectors, Simrun}
 use Rattle.script_lines.specs.declared.faults.LineFault.{LineFault}
 use Rattle.script_lines.specs.Commands.{command_of}
 use Rattle.magex_top.specs.declared.circuits.CircuitFile.TheVariants as file
@@ -17,6 +17,7 @@ use Rattle.magex_top.specs.CommandLoad.{LoadMeans}
 use Rattle.magex_top.specs.CommandNodes.{NodesMeans}
 use Rattle.magex_top.specs.CommandSave.{SaveMeans}
 use Rattle.magex_top.specs.CommandSimrun.{SimrunMeans}
+use Rattle.magex_top.specs.CommandSquares.{SquaresMeans}
 use Rattle.magex_top.specs.CommandTech.{TechMeans}
 use Rattle.magex_top.specs.CommandVectors.{VectorsMeans}
 use Rattle.magex_top.specs.States.{State, accepted, refused}
@@ -36,6 +37,7 @@ CommandMeans number state files (Delete id) effect = EditMeans number state (Del
 CommandMeans number state files (Label layer area position text) effect = EditMeans number state (Label layer area position text) effect
 CommandMeans number state files (Unlabel text) effect = EditMeans number state (Unlabel text) effect
 CommandMeans number state files (Save cell) effect = SaveMeans number state cell effect
+CommandMeans number state files (Squares cell) effect = SquaresMeans number state cell effect
 CommandMeans number state files (Nodes cell) effect = NodesMeans number state cell effect
 CommandMeans number state files (Extract cell) effect = ExtractMeans number state cell effect
 CommandMeans number state files (Flat cell) effect = CircuitMeans file.Flat number state cell effect

@@ -17,6 +17,7 @@ mod command_load;
 mod command_nodes;
 mod command_save;
 mod command_simrun;
+mod command_squares;
 mod command_tech;
 mod command_vectors;
 mod extractions;

@@ -17,6 +17,7 @@ use crate::command_load::load;
 use crate::command_nodes::nodes;
 use crate::command_save::save;
 use crate::command_simrun::simrun;
+use crate::command_squares::squares;
 use crate::command_tech::tech;
 use crate::command_vectors::vectors;
 use crate::faults::TopFault;
@@ -85,6 +86,7 @@ fn answer<F: Shelf>(
         | Command::Label(_, _, _, _)
         | Command::Unlabel(_) => edit(alloc, session, number, command),
         Command::Save(cell) => save(alloc, session, number, cell),
+        Command::Squares(cell) => squares(alloc, session, number, cell),
         Command::Nodes(cell) => nodes(alloc, session, number, cell),
         Command::Extract(cell) => extract(alloc, session, number, cell),
         Command::Flat(cell) => circuit(alloc, session, number, cell, CircuitFile::Flat),
