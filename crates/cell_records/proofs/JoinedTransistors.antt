@@ -8,7 +8,7 @@ use Rattle.finite_sets.proofs.Pairs.{Pairwise-from_AllPairs}
 use Rattle.finite_sets.proofs.Sums.{sum_on-filter}
 use Rattle.finite_sets.proofs.Totals.{Total-iff, Total-at, Total-unique}
 use Rattle.tech_model.specs.declared.raw.RawTech.{RawTech}
-use Rattle.layout_model.specs.ChannelRoles.{is_terminal}
+use Rattle.tech_model.specs.ChannelRoles.{is_terminal}
 use Rattle.layout_model.specs.EdgeCounts.{LeadsAcross, IsEdgeCount}
 use Rattle.layout_model.specs.Layouts.{Layout}
 use Rattle.layout_model.specs.Places.{Place, AreNeighbours}

@@ -5,7 +5,7 @@ use Rattle.finite_sets.proofs.Distincts.{Distinct-map}
 use Rattle.finite_sets.proofs.Members.{In-map, In-map_source}
 use Rattle.finite_sets.proofs.Totals.{Total-iff}
 use Rattle.tech_model.specs.declared.raw.RawTech.{RawTech}
-use Rattle.layout_model.specs.ChannelRoles.{is_terminal}
+use Rattle.tech_model.specs.ChannelRoles.{is_terminal}
 use Rattle.layout_model.specs.EdgeCounts.{LeadsAcross, IsEdgeCount}
 use Rattle.layout_model.specs.Layouts.{Layout}
 use Rattle.layout_model.specs.Places.{Place, AreNeighbours}

@@ -7,7 +7,7 @@ use Rattle.tech_model.specs.declared.raw.RawTech.{RawTech}
 use Rattle.ext_model.specs.declared.records.FetRec.{FetRec}
 use Rattle.ext_model.specs.declared.records.NodeRec.{NodeRec}
 use Rattle.ext_model.specs.declared.records.TermRec.{TermRec}
-use Rattle.layout_model.specs.ChannelRoles.{is_channel}
+use Rattle.tech_model.specs.ChannelRoles.{is_channel}
 use Rattle.fet_regions.specs.declared.transistors.Fet.{Fet}
 use Rattle.cell_records.specs.Joined.{AreJoined}
 

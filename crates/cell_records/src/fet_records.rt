@@ -2,7 +2,7 @@
 ghost use Rattle.std.specs.Prelude.{◌≡◌, ◌==◌, ◌<◌, find, option_copied, pos, ◌-ℤ◌, ◌≤ℤ◌, ◌<ℤ◌, ◌^◌, All, IfOk, IsTrue, length, map};
 ghost use Rattle.finite_sets.specs.Lists.{In};
 ghost use Rattle.finite_sets.specs.Total.{sum_on};
-ghost use Rattle.layout_model.specs.ChannelRoles.{is_channel};
+ghost use Rattle.tech_model.specs.ChannelRoles.{is_channel};
 ghost use Rattle.cell_records.specs.FetsOfRegions.{name_at, term_of, AreRecordsOfFets, IsRecordOfFet, IsSmallFet};
 
 use crate::joining::joined;

@@ -12,7 +12,7 @@ use Rattle.rect_contacts.specs.Squares.{area_of}
 use Rattle.tech_model.specs.declared.raw.RawTech.{RawTech}
 use Rattle.layout_model.specs.Places.{Place}
 use Rattle.layout_model.specs.Layouts.{Layout, IsMaterial}
-use Rattle.layout_model.specs.ChannelRoles.{is_terminal}
+use Rattle.tech_model.specs.ChannelRoles.{is_terminal}
 use Rattle.layout_model.specs.EdgeCounts.{LeadsAcross, IsEdgeCount}
 use Rattle.layout_model.specs.RegionTiles.{LiesIn, AreLayoutTiles, IsInRegion}
 use Rattle.layout_model.specs.Transistors.{AreOneChannel, IsTerminalOf}

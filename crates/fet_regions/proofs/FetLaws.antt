@@ -29,7 +29,7 @@ use Rattle.tech_model.specs.WellFormed.{IsWellFormed}
 use Rattle.layout_model.specs.Places.{Place, AreNeighbours, IsBefore, IsNoLater}
 use Rattle.layout_model.specs.Layouts.{Layout, IsMaterial}
 use Rattle.layout_model.specs.LayerTypes.{HasTypesOf}
-use Rattle.layout_model.specs.ChannelRoles.{is_channel, is_terminal}
+use Rattle.tech_model.specs.ChannelRoles.{is_channel, is_terminal}
 use Rattle.layout_model.specs.EdgeCounts.{LeadsAcross, IsEdgeCount}
 use Rattle.layout_model.specs.RegionTiles.{LiesIn, AreLayoutTiles, IsInRegion}
 use Rattle.layout_model.specs.Transistors.{AreOneChannel, IsTerminalOf, Transistor, IsTransistor, AreFetsInOrder, AreTransistors}

@@ -14,7 +14,7 @@ use Rattle.finite_sets.proofs.Searches.{list_any-In}
 use Rattle.finite_sets.proofs.Sums.{sum_on-append, sum_on-nothing}
 use Rattle.rect_contacts.specs.declared.contacts.Contact.{Contact}
 use Rattle.tech_model.specs.declared.raw.RawTech.{RawTech}
-use Rattle.layout_model.specs.ChannelRoles.{is_terminal}
+use Rattle.tech_model.specs.ChannelRoles.{is_terminal}
 use Rattle.layout_model.specs.declared.region_tiles.RegionTile.{RegionTile}
 use Rattle.flood_nodes.specs.TileShares.{tile_at, indices_of, inner_edges, edges_by_contacts}
 use Rattle.flood_nodes.proofs.StackLaws.{same_from_test, both_pass}

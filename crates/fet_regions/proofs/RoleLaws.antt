@@ -15,7 +15,7 @@ use Rattle.tech_model.specs.Types.{is_type}
 use Rattle.tech_model.specs.WellFormed.{IsFet, IsWellFormed}
 use Rattle.tech_model.proofs.WellFormedLaws.{type_bounds}
 use Rattle.tech_model.proofs.WithinLaws.{fet_no_terminal}
-use Rattle.layout_model.specs.ChannelRoles.{is_channel, is_terminal}
+use Rattle.tech_model.specs.ChannelRoles.{is_channel, is_terminal}
 use Rattle.flood_nodes.proofs.Renumbering.{found_by}
 use Rattle.flood_nodes.proofs.StackLaws.{same_from_test, both_pass}
 

@@ -1,7 +1,7 @@
 -- What the tile types of a technology are to its transistors, as tables by type number.
 use Rattle.std.specs.Prelude.{◌≡◌, ℕ, Bool, false, [], slice_index_or}
 use Rattle.tech_model.specs.declared.raw.RawTech.{RawTech}
-use Rattle.layout_model.specs.ChannelRoles.{is_channel, is_terminal}
+use Rattle.tech_model.specs.ChannelRoles.{is_channel, is_terminal}
 use Rattle.fet_regions.specs.declared.roles.Roles.{Roles}
 
 -- the table has the type as a channel's

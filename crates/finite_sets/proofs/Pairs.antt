@@ -1,17 +1,45 @@
 -- Facts of any two things of a list.
-use Rattle.std.proofs.Common.{◌≡◌, ◌≢◌, ◌⊎◌, inl, inr, ℕ, zero, suc, ◌<◌, List, [], ◌∷◌, length, map, get_or, refl, sym, ◌∙◌, ap, subst, arith}
+use Rattle.std.proofs.Common.{◌≡◌, ◌≢◌, ◌⊎◌, inl, inr, Bool, true, false, cond, ℕ, zero, suc, ◌<◌, List, [], ◌∷◌, ◌++◌, length, map, filter, get_or}
+use Rattle.std.proofs.Common.{refl, sym, ◌∙◌, ap, subst, arith}
 use Rattle.std.specs.Prelude.{AllPairs, IsPermutation}
 use Rattle.std.specs.List.{swap}
 use Rattle.std.proofs.lemmas.Bool.{cases_eq, cases_lt}
 use Rattle.std.proofs.lemmas.List.Edits.{swapped_from_swap, length-swap}
 use Rattle.std.proofs.lemmas.List.Sorted.{IsPermutation-keeps}
 use Rattle.finite_sets.specs.Lists.{In}
-use Rattle.finite_sets.proofs.Members.{In-get_or, In-index, In-map_source}
+use Rattle.finite_sets.proofs.Members.{In-append_cases, In-push_cases, In-filter_source, In-get_or, In-index, In-map_source}
 
 -- R holds of each thing of a list and each later one: `AllPairs` by recursion
 abbrev pub Pairwise : {X : Type 0} → (X → X → Type 0) → List X → Type 0
 Pairwise R [] = Unit {0}
 Pairwise {X} R (x ∷ xs) = ((y : X) → In y xs → R x y) × Pairwise R xs
+
+-- one more thing at the end
+pub Pairwise-push : {X : Type 0} (R : X → X → Type 0) (xs : List X) (y : X) → Pairwise R xs → ((x : X) → In x xs → R x y) → Pairwise R (xs ++ y ∷ [])
+Pairwise-push R [] y pairs before = ((λ z here. absurd here), tt)
+Pairwise-push R (x ∷ xs) y pairs before = (
+  (λ z here. elim (In-push_cases z xs y here) [ inl old ↦ pairs.0 z old | inr new ↦ subst (R x) new (before x (inl refl)) ]),
+  Pairwise-push R xs y pairs.1 (λ z here. before z (inr here)),
+)
+
+-- two lists one behind the other
+pub Pairwise-append : {X : Type 0} (R : X → X → Type 0) (xs ys : List X) → Pairwise R xs → Pairwise R ys
+    → ((x y : X) → In x xs → In y ys → R x y) → Pairwise R (xs ++ ys)
+Pairwise-append R [] ys first second across = second
+Pairwise-append R (x ∷ xs) ys first second across = (
+  (λ y here. elim (In-append_cases y xs ys here) [ inl old ↦ first.0 y old | inr new ↦ across x y (inl refl) new ]),
+  Pairwise-append R xs ys first.1 second (λ a b p q. across a b (inr p) q),
+)
+
+-- the things that pass a test
+pub Pairwise-filter : {X : Type 0} (R : X → X → Type 0) (test : X → Bool) (xs : List X) → Pairwise R xs → Pairwise R (filter test xs)
+Pairwise-filter R test [] pairs = tt
+Pairwise-filter {X} R test (x ∷ xs) pairs =
+    let rest = Pairwise-filter R test xs pairs.1 in
+    elim (test x) as (λ b. Pairwise R (cond b (x ∷ filter test xs) (filter test xs))) [
+      | true ↦ ((λ y here. pairs.0 y (In-filter_source test y xs here)), rest)
+      | false ↦ rest
+    ]
 
 -- by recursion, and so by places
 pub AllPairs-from_Pairwise : {X : Type 0} (R : X → X → Type 0) (xs : List X) → Pairwise R xs → AllPairs R xs

@@ -1,32 +1,23 @@
 -- Sides in the order of nodes, and sums in any order.
 use Rattle.std.proofs.Common.{◌≡◌, ℕ, ◌≤◌, ℤ, pos, ◌-ℤ◌, false, List, [], ◌∷◌, get_or, inl, inr, sym, ◌∙◌, ap, arith}
 use Rattle.std.specs.Prelude.{IsPermutation, sum_by}
-use Rattle.std.specs.Cmp.{nat_cmp_is}
 use Rattle.std.specs.List.Sorted.{IsSortedByKey}
-use Rattle.std.specs.Ordering.{is_lt, nat_cmp}
-use Rattle.std.specs.declared.cmp.Ordering.TheVariants.{Less}
-use Rattle.std.proofs.lemmas.Bool.{cases_lt, false≢true}
+use Rattle.std.specs.Ordering.{nat_cmp}
 use Rattle.std.proofs.lemmas.Cmp.{nat_cmp_total}
 use Rattle.std.proofs.lemmas.Int.{ints}
 use Rattle.std.proofs.lemmas.List.Sorted.{sum_by-IsPermutation}
 use Rattle.std.proofs.lemmas.List.Sums.{sum_by-cons}
+use Rattle.std.proofs.lemmas.Map.Keys.{ge_from_not_lt}
 use borrow.Author.Differences.{up, down}
 use Rattle.finite_sets.specs.Total.{sum_on}
 use Rattle.finite_sets.proofs.Orders.{IsSortedByKey-pairs}
 use Rattle.flat_fets.specs.declared.sides.Side.{Side}
 use Rattle.flat_fets.specs.Sides.{AreByNode}
 
--- what is not less is no less
-no_less : (a b : ℕ) → is_lt (nat_cmp a b) ≡ false → b ≤ a
-no_less a b e = elim (cases_lt a b) [
-  | inl less ↦ (let is : Less ≡ nat_cmp a b = nat_cmp_is a b Less less in absurd (false≢true (sym e ∙ ap is_lt (sym is))))
-  | inr past ↦ past
-]
-
 -- sides that a sort by nodes has put in order
 pub sorted_by_node : (sides : List Side) → IsSortedByKey (λ side. side.node) nat_cmp sides → AreByNode sides
 sorted_by_node sides sorted i j d less inside =
-    no_less (get_or sides j d).node (get_or sides i d).node (IsSortedByKey-pairs (λ side. side.node) nat_cmp nat_cmp_total sides sorted i j d less inside)
+    ge_from_not_lt (get_or sides j d).node (get_or sides i d).node (IsSortedByKey-pairs (λ side. side.node) nat_cmp nat_cmp_total sides sorted i j d less inside)
 
 sum_parts : {X : Type 0} (w : X → ℤ) (xs : List X) → sum_on w xs ≡ pos (sum_by (λ x. up (w x)) xs) -ℤ pos (sum_by (λ x. down (w x)) xs)
 sum_parts w [] = omega (arith, ints)

@@ -7,7 +7,6 @@ use Rattle.std.specs.declared.cmp.Ordering.TheVariants.{Less, Equal, Greater}
 use Rattle.std.specs.Ordering.{is_lt, ordering_reverse}
 use Rattle.std.proofs.lemmas.Cmp.{tied_itself}
 use Rattle.finite_sets.specs.Lists.{In, Distinct}
-use Rattle.finite_sets.proofs.Members.{In-append_cases}
 use Rattle.finite_sets.proofs.Pairs.{Pairwise}
 use Rattle.ext_model.specs.NameOrder.{name_cmp}
 use Rattle.ext_model.proofs.NameOrders.{name_cmp_total}
@@ -63,15 +62,6 @@ pub names_in_order : (names : List (List ℕ)) → Pairwise StandsBefore names �
 names_in_order [] ordered = tt
 names_in_order (a ∷ []) ordered = tt
 names_in_order (a ∷ b ∷ names) ordered = (ordered.0 b (inl refl), names_in_order (b ∷ names) ordered.1)
-
--- two lists one behind the other
-pub Pairwise-append : {X : Type 0} (R : X → X → Type 0) (xs ys : List X) → Pairwise R xs → Pairwise R ys
-    → ((x y : X) → In x xs → In y ys → R x y) → Pairwise R (xs ++ ys)
-Pairwise-append R [] ys first second across = second
-Pairwise-append R (x ∷ xs) ys first second across = (
-  λ y here. elim (In-append_cases y xs ys here) [ inl old ↦ first.0 y old | inr new ↦ across x y (inl refl) new ],
-  Pairwise-append R xs ys first.1 second (λ a b p q. across a b (inr p) q),
-)
 
 -- what follows of any two things of a list
 pub Pairwise-within : {X : Type 0} (R S : X → X → Type 0) (xs : List X) → ((x y : X) → In x xs → In y xs → R x y → S x y) → Pairwise R xs → Pairwise S xs

@@ -12,7 +12,7 @@ use Rattle.std.proofs.lemmas.Cmp.{nat_cmp_total, on_total, then_total}
 use Rattle.finite_sets.specs.Lists.{In}
 use Rattle.finite_sets.proofs.Members.{In-append_cases, In-append_left, In-append_right, In-map, In-map_source, In-index}
 use Rattle.finite_sets.proofs.Orders.{IsSorted-pairs}
-use Rattle.finite_sets.proofs.Pairs.{Pairwise, Pairwise-map, Pairwise-from_AllPairs}
+use Rattle.finite_sets.proofs.Pairs.{Pairwise, Pairwise-append, Pairwise-map, Pairwise-from_AllPairs}
 use Rattle.ext_model.specs.declared.records.CellExt.{CellExt}
 use Rattle.ext_model.specs.NameOrder.{name_cmp}
 use Rattle.ext_model.specs.Paths.{path_text}
@@ -36,7 +36,7 @@ use Rattle.full_names.specs.Keys.{key_at, key_cmp, AreKeys}
 use Rattle.full_names.specs.Names.{ids_at, place_name}
 use Rattle.full_names.proofs.GlobalLaws.{less_from_reverse}
 use Rattle.full_names.proofs.KeyOrders.{NamesAreKnown, IsLocalName, local_name_at, locals_are, keys_compare}
-use Rattle.full_names.proofs.ListOrders.{StandsBefore, pairwise_names, names_in_order, Pairwise-append, Pairwise-within}
+use Rattle.full_names.proofs.ListOrders.{StandsBefore, pairwise_names, names_in_order, Pairwise-within}
 use Rattle.full_names.proofs.Lookups.{In-slice_get, slice_get-In}
 use Rattle.full_names.proofs.NameForms.{full_name-marked, full_name-local, global_before_path, then_rest}
 use Rattle.full_names.proofs.TextOrders.{text_stands}

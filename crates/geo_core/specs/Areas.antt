@@ -1,5 +1,5 @@
 -- Rectangles within bounds, rectangles that lie apart, and what two have in common.
-use Rattle.std.specs.Prelude.{◌&&◌, Bool, ℤ, neg_ℤ, ◌<ℤ◌, ◌≤ℤ◌, int_lt}
+use Rattle.std.specs.Prelude.{◌&&◌, Bool, ℤ, pos, neg_ℤ, ◌+ℤ◌, ◌-ℤ◌, ◌<ℤ◌, ◌≤ℤ◌, int_lt}
 use Rattle.std.specs.Int.{int_max, int_min}
 use Rattle.geo_core.specs.declared.limits.TheConstants.{PLANE_EDGE}
 use Rattle.geo_core.specs.declared.squares.Square.{Square}
@@ -32,6 +32,10 @@ common_rect a b = record { xlo = int_max a.xlo b.xlo; ylo = int_max a.ylo b.ylo;
 -- the smallest rectangle that goes round both
 abbrev pub joined_rect : Rect → Rect → Rect
 joined_rect a b = record { xlo = int_min a.xlo b.xlo; ylo = int_min a.ylo b.ylo; xhi = int_max a.xhi b.xhi; yhi = int_max a.yhi b.yhi }
+
+-- the rectangle, grown by one on every side
+abbrev pub widened : Rect → Rect
+widened area = record { xlo = area.xlo -ℤ pos 1; ylo = area.ylo -ℤ pos 1; xhi = area.xhi +ℤ pos 1; yhi = area.yhi +ℤ pos 1 }
 
 -- the lower left square of a rectangle
 abbrev pub corner_of : Rect → Square

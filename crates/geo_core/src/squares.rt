@@ -1,6 +1,6 @@
 //! Squares of the grid, rectangles of squares, and rectangles that carry a value.
 ghost use Rattle.std.specs.Prelude.{◌≡◌};
-ghost use Rattle.geo_core.specs.Areas.{common_rect, corner_of, has_square, joined_rect};
+ghost use Rattle.geo_core.specs.Areas.{common_rect, corner_of, has_square, joined_rect, widened, IsNear};
 
 /// One square of the grid, named by its lower left corner. All lengths are in lambda.
 #[derive(Clone, Copy, Debug, PartialEq, Eq)]
@@ -48,6 +48,19 @@ impl Rect {
             ylo: self.ylo.min(other.ylo),
             xhi: self.xhi.max(other.xhi),
             yhi: self.yhi.max(other.yhi),
+        }
+    }
+
+    /// The rectangle, grown by one on every side. Its bounds are below 2^28 in absolute value.
+    pub fn widened(&self) -> Rect
+        requires { IsNear self.now }
+        ensures { result ≡ widened self.now }
+    {
+        Rect {
+            xlo: self.xlo - 1,
+            ylo: self.ylo - 1,
+            xhi: self.xhi + 1,
+            yhi: self.yhi + 1,
         }
     }
 

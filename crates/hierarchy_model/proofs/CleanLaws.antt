@@ -12,7 +12,7 @@ use Rattle.tech_model.specs.Rules.{KeepsRules}
 use Rattle.tech_model.specs.WellFormed.{IsWellFormed}
 use Rattle.tech_model.proofs.TypeLaws.{within_self}
 use Rattle.tech_model.proofs.WithinLaws.{within_trans, within_space}
-use Rattle.layout_model.specs.ChannelRoles.{is_channel}
+use Rattle.tech_model.specs.ChannelRoles.{is_channel}
 use Rattle.layout_model.specs.Places.{Place}
 use Rattle.offences.specs.Offences.{SetLayout, joined_at, union_of, flat_type, is_exactly, parts_with, HasKind, Offends}
 use Rattle.layout_trees.specs.CellTrees.{OwnCell, CellTree, Elements, place_back, own_types, own_types_below}

@@ -10,7 +10,7 @@ use Rattle.geo_core.proofs.ImageLaws.{neighbours-image}
 use Rattle.tech_model.specs.declared.raw.RawTech.{RawTech}
 use Rattle.tech_model.specs.Rules.{KeepsRules}
 use Rattle.tech_model.specs.WellFormed.{IsWellFormed}
-use Rattle.layout_model.specs.ChannelRoles.{is_channel}
+use Rattle.tech_model.specs.ChannelRoles.{is_channel}
 use Rattle.layout_model.specs.Places.{Place, AreNeighbours}
 use Rattle.offences.specs.Roles.{Role, role_of}
 use Rattle.offences.specs.Roles.Role.{Channel, Terminal, Other}

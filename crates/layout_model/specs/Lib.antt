@@ -1,4 +1,3 @@
-pub mod ChannelRoles
 pub mod EdgeCounts
 pub mod Laws
 pub mod LayerTypes

@@ -7,7 +7,7 @@ use Rattle.finite_sets.specs.Total.{sum_on, Total}
 use Rattle.layout_model.specs.Places.{Place, AreNeighbours, IsBefore, IsNoLater}
 use Rattle.layout_model.specs.Layouts.{Layout}
 use Rattle.tech_model.specs.declared.raw.RawTech.{RawTech}
-use Rattle.layout_model.specs.ChannelRoles.{is_channel, is_terminal}
+use Rattle.tech_model.specs.ChannelRoles.{is_channel, is_terminal}
 use Rattle.layout_model.specs.EdgeCounts.{IsEdgeCount}
 
 -- Two neighbours on one plane, of one type.

@@ -14,7 +14,7 @@ use Rattle.geo_core.specs.Covering.{Covers}
 use Rattle.tech_model.specs.declared.raw.TypeId.{TypeId}
 use Rattle.tech_model.specs.declared.raw.RawTech.{RawTech}
 use Rattle.tech_model.specs.WellFormed.{IsWellFormed}
-use Rattle.layout_model.specs.ChannelRoles.{is_channel}
+use Rattle.tech_model.specs.ChannelRoles.{is_channel}
 use Rattle.layout_model.specs.Places.{Place}
 use Rattle.offences.specs.declared.typed_stacks.PartKind.{PartKind}
 use Rattle.offences.specs.declared.typed_stacks.TypedStack.{TypedStack}

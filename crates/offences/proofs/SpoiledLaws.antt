@@ -17,7 +17,7 @@ use Rattle.tech_model.specs.declared.raw.RawTech.{RawTech}
 use Rattle.tech_model.specs.Types.{is_within}
 use Rattle.tech_model.specs.WellFormed.{IsWellFormed, IsFet}
 use Rattle.tech_model.proofs.WellFormedLaws.{All_In, type_bounds}
-use Rattle.layout_model.specs.ChannelRoles.{is_channel}
+use Rattle.tech_model.specs.ChannelRoles.{is_channel}
 use Rattle.offences.specs.declared.typed_stacks.PartKind.{PartKind}
 use Rattle.offences.specs.declared.typed_stacks.TypedStack.{TypedStack}
 use Rattle.offences.specs.Changes.{number_of}

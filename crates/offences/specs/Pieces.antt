@@ -13,7 +13,7 @@ use Rattle.rect_contacts.specs.declared.contacts.Contact.{Contact}
 use Rattle.tech_model.specs.declared.raw.TypeId.{TypeId}
 use Rattle.tech_model.specs.declared.raw.RawTech.{RawTech}
 use Rattle.tech_model.specs.Types.{is_within}
-use Rattle.layout_model.specs.ChannelRoles.{is_channel}
+use Rattle.tech_model.specs.ChannelRoles.{is_channel}
 use Rattle.offences.specs.declared.typed_stacks.PartKind.{PartKind}
 use Rattle.offences.specs.declared.typed_stacks.TypedStack.{TypedStack}
 use Rattle.offences.specs.Changes.{number_of, same_role}

@@ -1,7 +1,7 @@
 -- What a type is beside the channel of a transistor.
 use Rattle.std.specs.Prelude.{◌==◌, ℕ, if◌then◌else◌, Option, Some, None}
 use Rattle.tech_model.specs.declared.raw.RawTech.{RawTech}
-use Rattle.layout_model.specs.ChannelRoles.{is_terminal}
+use Rattle.tech_model.specs.ChannelRoles.{is_terminal}
 
 -- It is more of the channel, a terminal of the transistor, or neither.
 pub data Role : Type 0 where

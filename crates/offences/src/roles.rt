@@ -2,7 +2,7 @@
 ghost use Rattle.std.specs.Prelude.{◌≡◌, ◌==◌};
 ghost use Rattle.std.specs.List.{list_any};
 ghost use Rattle.std.specs.Option.{option_map};
-ghost use Rattle.layout_model.specs.ChannelRoles.{is_channel, is_terminal};
+ghost use Rattle.tech_model.specs.ChannelRoles.{is_channel, is_terminal};
 ghost use Rattle.offences.specs.Changes.{number_of, told_role};
 ghost use Rattle.offences.specs.Roles.{role_of};
 

@@ -8,7 +8,7 @@ use Rattle.finite_sets.proofs.Listings.{length-lists}
 use Rattle.finite_sets.proofs.Sums.{sum_on-count, sum_on-scale}
 use Rattle.finite_sets.proofs.Totals.{Total-none, Total-iff, Total-union, Total-from_list}
 use Rattle.tech_model.specs.declared.raw.RawTech.{RawTech}
-use Rattle.layout_model.specs.ChannelRoles.{is_terminal}
+use Rattle.tech_model.specs.ChannelRoles.{is_terminal}
 use Rattle.layout_model.specs.EdgeCounts.{LeadsAcross, IsEdgeCount}
 use Rattle.layout_model.specs.Layouts.{Layout}
 use Rattle.layout_model.specs.Measures.{perimeter_at}

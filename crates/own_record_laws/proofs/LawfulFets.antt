@@ -23,7 +23,7 @@ use Rattle.ext_model.specs.declared.records.CellExt.{CellExt}
 use Rattle.ext_model.specs.NodeNames.{is_word}
 use Rattle.ext_model.specs.Lawful.{IsMeasure, IsLawfulTerm, IsLawfulFet}
 use Rattle.ext_model.specs.RecordNames.{node_names}
-use Rattle.layout_model.specs.ChannelRoles.{is_terminal}
+use Rattle.tech_model.specs.ChannelRoles.{is_terminal}
 use Rattle.layout_model.specs.LayerTypes.{HasTypesOf}
 use Rattle.layout_model.specs.Layouts.{Layout, IsMaterial}
 use Rattle.layout_model.specs.Places.{Place}

@@ -1,14 +1,12 @@
 -- What a search of a tree finds, in order.
 use Rattle.std.proofs.Common.{◌≡◌, ◌≢◌, ℕ, ◌<◌, ◌≤◌, false, List, inl, inr, filter, get_or, sym, ◌∙◌, ap, subst, arith}
 use Rattle.std.specs.Prelude.{AllPairs, IsPermutation, IsSorted, Option}
-use Rattle.std.specs.Cmp.{nat_cmp_is}
-use Rattle.std.specs.Ordering.{is_lt, nat_cmp}
-use Rattle.std.specs.declared.cmp.Ordering.TheVariants.{Less}
-use Rattle.std.proofs.lemmas.Bool.{cases_lt, false≢true}
+use Rattle.std.specs.Ordering.{nat_cmp}
 use Rattle.std.proofs.lemmas.Cmp.{nat_cmp_total}
 use Rattle.std.proofs.lemmas.Int.{ints, clamps}
 use Rattle.std.proofs.lemmas.Option.{slice_get-get_or, slice_get_within, get_or_from_slice_get}
 use Rattle.std.proofs.lemmas.List.Sorted.{IsPermutation-sym}
+use Rattle.std.proofs.lemmas.Map.Keys.{ge_from_not_lt}
 use Rattle.finite_sets.specs.Lists.{In, Distinct}
 use Rattle.finite_sets.proofs.Members.{In-permutation, In-filter, In-filter_source, In-filter_passes}
 use Rattle.finite_sets.proofs.Distincts.{Distinct-places, Distinct-filter}
@@ -29,19 +27,12 @@ first_proper a area meets =
     let wide = meets.wide in let high = meets.high in
     record { wide = omega (arith, ints, clamps, wide); high = omega (arith, ints, clamps, high) }
 
--- a number that does not compare as less is no less
-no_less : (a b : ℕ) → is_lt (nat_cmp a b) ≡ false → b ≤ a
-no_less a b e = elim (cases_lt a b) [
-  | inl less ↦ (let is : Less ≡ nat_cmp a b = nat_cmp_is a b Less less in absurd (false≢true (sym e ∙ ap is_lt (sym is))))
-  | inr past ↦ past
-]
-
 -- numbers that differ ascend once they are sorted
 ascending : (xs : List ℕ) → Distinct xs → IsSorted nat_cmp xs → AllPairs ◌<◌ xs
 ascending xs once sorted = λ i j d less below.
     let apart : get_or xs i d ≢ get_or xs j d = Distinct-places xs i j d once less below in
     let order = IsSorted-pairs nat_cmp nat_cmp_total xs sorted i j d less below in
-    let later : get_or xs i d ≤ get_or xs j d = no_less (get_or xs j d) (get_or xs i d) order in
+    let later : get_or xs i d ≤ get_or xs j d = ge_from_not_lt (get_or xs j d) (get_or xs i d) order in
     omega arith
 
 -- the positions in a tree that pass the test, sorted, are those of the rectangles that meet the area

@@ -1,3 +1,4 @@
+pub mod ChannelRoles
 pub mod ColumnForms
 pub mod Columns
 pub mod Forms

@@ -1,4 +1,8 @@
 //! The lists of a technology, with all names resolved.
+ghost use Rattle.std.specs.Prelude.{◌≡◌, ◌==◌};
+ghost use Rattle.std.specs.List.{list_any};
+ghost use Rattle.tech_model.specs.ChannelRoles.{is_channel, is_terminal};
+ghost use Rattle.tech_model.specs.Types.{parts_of};
 
 use geo_core::{List, Name, Rect};
 
@@ -78,4 +82,44 @@ pub struct RawTech {
     pub pairs: List<(TypeId, TypeId)>,
     pub classes: List<ClassRec>,
     pub fets: List<FetRule>,
+}
+
+/// Whether the type is one of those.
+fn lists(types: &[TypeId], kind: TypeId) -> bool
+    ensures { result ≡ list_any (λ t. t.0 == kind.0) types.now }
+{
+    types.iter().any(|t| t.0 == kind.0)
+}
+
+impl RawTech {
+    /// The set of a type, which is empty for space and for a number that is no type's.
+    pub fn parts_of(&self, kind: TypeId) -> PartSet
+        ensures { result.0 ≡ parts_of self.now kind.0 }
+    {
+        if kind.0 == 0 {
+            return PartSet(0);
+        }
+        let place = usize::from(kind.0 - 1);
+        let types = self.types.items();
+        if place < types.len() {
+            types[place].parts
+        } else {
+            PartSet(0)
+        }
+    }
+
+    /// Whether channels are of the type.
+    pub fn is_channel(&self, kind: TypeId) -> bool
+        ensures { result ≡ is_channel self.now kind.0 }
+    {
+        self.fets.items().iter().any(|fet| fet.kind.0 == kind.0)
+    }
+
+    /// Whether the second type is listed as a terminal beside channels of the first.
+    pub fn is_terminal(&self, channel: TypeId, kind: TypeId) -> bool
+        ensures { result ≡ is_terminal self.now channel.0 kind.0 }
+    {
+        self.fets.items().iter().any(|fet| fet.kind.0 == channel.0
+            && lists(fet.terminals.items(), kind))
+    }
 }

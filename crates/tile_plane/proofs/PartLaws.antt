@@ -9,7 +9,7 @@ use Rattle.std.proofs.lemmas.List.Sorted.{IsPermutation-sym}
 use Rattle.finite_sets.specs.Lists.{In, Distinct, Lists}
 use Rattle.finite_sets.proofs.Members.{In-append_left, In-append_right, In-append_cases, In-push_cases, In-push, In-map, In-map_source, In-filter}
 use Rattle.finite_sets.proofs.Members.{In-filter_source, In-filter_passes, In-get_or, In-index, In-permutation}
-use Rattle.finite_sets.proofs.Pairs.{Pairwise, Pairwise-map, AllPairs-from_Pairwise, AllPairs-permutation}
+use Rattle.finite_sets.proofs.Pairs.{Pairwise, Pairwise-append, Pairwise-filter, Pairwise-map, AllPairs-from_Pairwise, AllPairs-permutation}
 use Rattle.finite_sets.proofs.Searches.{All-from_In}
 use Rattle.geo_core.specs.declared.squares.Square.{Square}
 use Rattle.geo_core.specs.declared.squares.Rect.{Rect}
@@ -28,23 +28,6 @@ use Rattle.tile_plane.proofs.TileLaws.{owner_taken}
 use Rattle.tile_plane.proofs.ValueLaws.{value_of_owner}
 use Rattle.tile_plane.proofs.FollowerLaws.{near_within}
 use Rattle.tile_plane.proofs.MaterialLaws.{owner_of, tile_is_strip, strip_is_tile, corner_covered}
-
-Pairwise-filter : {X : Type 0} (R : X → X → Type 0) (test : X → Bool) (xs : List X) → Pairwise R xs → Pairwise R (filter test xs)
-Pairwise-filter R test [] all = tt
-Pairwise-filter {X} R test (x ∷ xs) all =
-    let rest = Pairwise-filter R test xs all.1 in
-    elim (test x) as (λ b. Pairwise R (cond b (x ∷ filter test xs) (filter test xs))) [
-      | true ↦ ((λ y i. all.0 y (In-filter_source test y xs i)), rest)
-      | false ↦ rest
-    ]
-
-Pairwise-append : {X : Type 0} (R : X → X → Type 0) (xs ys : List X) → Pairwise R xs → Pairwise R ys → ((x y : X) → In x xs → In y ys → R x y)
-    → Pairwise R (xs ++ ys)
-Pairwise-append R [] ys p q between = q
-Pairwise-append R (x ∷ xs) ys p q between = (
-  (λ y i. elim (In-append_cases y xs ys i) [ inl j ↦ p.0 y j | inr j ↦ between x y (inl refl) j ]),
-  Pairwise-append R xs ys p.1 q (λ a b i j. between a b (inr i) j),
-)
 
 -- things of different tiles lie apart
 pub images_apart : (tiles : Tiles) → IsPartition tiles → {X : Type 0} (f : ℕ → X) (area_of : X → Rect)

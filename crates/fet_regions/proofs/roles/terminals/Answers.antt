@@ -1,7 +1,7 @@
 use Rattle.std.proofs.Common.{◌++◌, ◌∷◌, [], map, sym, ◌∙◌, arith}
 use Rattle.std.specs.List.{range_with_len}
 use Rattle.std.proofs.lemmas.List.FromFn.{map-range_with_len_more}
-use Rattle.layout_model.specs.ChannelRoles.{is_terminal}
+use Rattle.tech_model.specs.ChannelRoles.{is_terminal}
 use Rattle.fet_regions.specs.declared.roles.TheConstants.{ROWS}
 use Rattle.fet_regions.proofs.roles.terminals.Goals as goal
 
