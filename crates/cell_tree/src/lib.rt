@@ -50,6 +50,6 @@ pub use limits::{
 };
 pub use new_cells::NewCell;
 pub use size_books::SizeBook;
-pub use sizes::{Dimension, Size};
+pub use sizes::{Dimension, Size, hull_below};
 pub use trees::CellTree;
 pub use use_tables::{UseBody, UseTable};

@@ -149,7 +149,7 @@ fn spread_area(grid: &Grid, area: Rect) -> Rect
 }
 
 /// The smallest rectangle round the hulls of all elements of a use, for the hull of its child.
-fn hull_below(used: &UseBody, hull: Option<Rect>) -> Option<Rect>
+pub fn hull_below(used: &UseBody, hull: Option<Rect>) -> Option<Rect>
     requires lawful { IsLawfulUse used.now }
     requires near { IsHullInRange hull }
     ensures { result ≡ round_all (element_hulls used.now hull) }
