@@ -157,7 +157,8 @@ steps_covered tree hull placed (step ∷ steps) rest place holds (inr later) = e
   | inr past ↦ inr past
 ]
 
-In-element_hulls : (used : UseBody) (hull : Option Rect) (area : Rect) (step : ℤ × ℤ) → hull ≡ Some area → In step (displacements used.grid)
+-- the hull of the child in an element of a use is one of those of its elements
+pub In-element_hulls : (used : UseBody) (hull : Option Rect) (area : Rect) (step : ℤ × ℤ) → hull ≡ Some area → In step (displacements used.grid)
     → In (rect_image used.placed (displaced area step)) (element_hulls used hull)
 In-element_hulls used None area step is stands = absurd (cc)
 In-element_hulls used (Some other) area step is stands =

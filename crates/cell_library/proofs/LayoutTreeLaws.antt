@@ -1,5 +1,5 @@
 -- The trees of the cells of a lawful library: enough depth makes them whole.
-use Rattle.std.proofs.Common.{◌≡◌, ◌<◌, ◌≤◌, ℕ, zero, suc, max, List, [], ◌∷◌, length, refl, sym, ap, ◌∙◌, arith}
+use Rattle.std.proofs.Common.{◌≡◌, ◌<◌, ◌≤◌, ℕ, zero, suc, List, [], ◌∷◌, length, refl, sym, ap, ◌∙◌, arith}
 use Rattle.std.specs.Prelude.{Some, slice_get}
 use Rattle.std.proofs.lemmas.Option.{slice_get-get_or}
 use Rattle.layout_trees.specs.CellTrees.{CellTree}
@@ -9,11 +9,11 @@ use Rattle.cell_tree.specs.declared.sizes.Dimension.TheVariants.{Depth}
 use Rattle.cell_tree.specs.declared.sizes.Size.{Size}
 use Rattle.cell_tree.specs.declared.use_tables.UseBody.{UseBody}
 use Rattle.cell_tree.specs.Uses.{displacements}
-use Rattle.cell_tree.specs.Sizes.{CellState, size_at, size_of, depth_below, AreSizes}
+use Rattle.cell_tree.specs.Sizes.{size_at, size_of, depth_below}
 use Rattle.cell_tree.specs.Trees.{cell_at, empty_cell}
 use Rattle.cell_library.specs.LayoutTrees.{elements_at, elements_from, own_cell, tree_at, tree_to}
 use Rattle.cell_library.specs.Libraries.{LibraryParts, IsLawfulLibrary, seen, uses_in}
-use Rattle.cell_library.specs.Views.{LibraryView, view_at}
+use Rattle.cell_library.specs.Views.{view_at}
 use Rattle.cell_library.proofs.ViewLaws.{cell_viewed, uses_at}
 
 -- uses of a cell, each with its id

@@ -26,13 +26,16 @@ pub mod PartSets
 pub mod PlacedCells
 pub mod PlacedRects
 pub mod RowSpots
+pub mod SeenAreas
 pub mod SizeLaws
 pub mod SpotLaws
 pub mod ToldTiles
 pub mod TreeTypes
 pub mod UseEdits
 pub mod UseLists
+pub mod UseSearches
 pub mod UseSteps
 pub mod UseSums
+pub mod UseTreeLaws
 pub mod ViewLaws
 pub mod VisitLaws

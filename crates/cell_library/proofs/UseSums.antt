@@ -8,6 +8,7 @@ use Rattle.finite_sets.proofs.Members.{In-append_cases}
 use Rattle.geo_core.specs.declared.transforms.Transform.{Transform}
 use Rattle.geo_core.specs.Images.{composed}
 use Rattle.cell_tree.specs.declared.limits.TheConstants.{MOST_ELEMENTS_BELOW}
+use Rattle.cell_tree.specs.declared.sizes.Dimension.TheVariants.{Elements}
 use Rattle.cell_tree.specs.declared.sizes.Size.{Size}
 use Rattle.cell_tree.specs.declared.use_tables.UseBody.{UseBody}
 use Rattle.cell_tree.specs.Sizes.{size_at, size_of, elements_below}
@@ -18,7 +19,8 @@ use Rattle.cell_library.specs.declared.spots.Spot.{Spot}
 use Rattle.cell_library.specs.declared.spots.UsePlace.{UsePlace}
 use Rattle.cell_library.specs.LayoutTrees.{element_transform}
 use Rattle.cell_library.specs.Spots.{spots_at, spots_from, own_elements, AddsSpots, HasRoomToMove, CanBeVisited}
-use Rattle.cell_library.specs.UsePlaces.{HasRoomBelow, IsPlaceAt, place_behind, spots_before, spots_of_use, spots_under}
+use Rattle.cell_library.specs.UsePlaces.{HasRoomBelow, spots_before, spots_of_use, spots_under}
+use Rattle.cell_library.specs.UseTrees.{place_at, start_at, start_behind}
 use Rattle.cell_library.proofs.GridSpots.{element_moves, room_below, room_for_less}
 use Rattle.cell_library.proofs.PlacedCells.{size_elements}
 use Rattle.cell_library.proofs.SizeLaws.{cell_there, depth_falls}
@@ -26,7 +28,7 @@ use Rattle.cell_library.proofs.SpotLaws.{spots_from-more, spots_both}
 
 -- ---- sums over uses
 
-own_next : (uses : List (List ℕ × UseBody)) (k : ℕ) (entry : List ℕ × UseBody) → slice_get uses k ≡ Some entry
+pub own_next : (uses : List (List ℕ × UseBody)) (k : ℕ) (entry : List ℕ × UseBody) → slice_get uses k ≡ Some entry
     → own_elements (take (suc k) uses) ≡ own_elements (take k uses) + length (displacements entry.1.grid)
 own_next [] k entry is = absurd (cc)
 own_next (first ∷ uses) zero entry is =
@@ -34,7 +36,7 @@ own_next (first ∷ uses) zero entry is =
     ap (λ (e : List ℕ × UseBody). length (displacements e.1.grid) + 0) same ∙ omega arith
 own_next (first ∷ uses) (suc k) entry is = let later = own_next uses k entry is in omega (arith, later)
 
-below_next : (sizes : ℕ → Size) (uses : List (List ℕ × UseBody)) (k : ℕ) (entry : List ℕ × UseBody) → slice_get uses k ≡ Some entry
+pub below_next : (sizes : ℕ → Size) (uses : List (List ℕ × UseBody)) (k : ℕ) (entry : List ℕ × UseBody) → slice_get uses k ≡ Some entry
     → elements_below sizes (take (suc k) uses) ≡ elements_below sizes (take k uses) + length (displacements entry.1.grid) *
     (sizes entry.1.child.0).elements
 below_next sizes [] k entry is = absurd (cc)
@@ -112,27 +114,39 @@ own_few tree cell lawful below =
     own_below (size_at tree.sizes) (cell_at tree.cells cell).uses (λ k entry is.
     some_elements tree entry.1.child.0 lawful (lawful.cells.uses cell (cell_at tree.cells cell) (cell_there tree.cells cell below) k entry is).1)
 
--- ---- places of uses
+-- ---- where the elements of uses begin
 
--- the next use's
-pub place_next : (tree : Tree) (step : ℕ) (spot : Spot) (k next : ℕ) (from behind : UsePlace) (used : UseBody) → IsPlaceAt tree step spot k from
-    → IsUseAt tree spot.cell.0 k used → next ≡ suc k → behind ≡ place_behind tree.sizes from used → IsPlaceAt tree step spot next behind
-place_next tree step spot k next from behind used is at after same =
-    let uses = (cell_at tree.cells spot.cell.0).uses in
-    let own = own_next uses k (at.id, used) at.there in
-    let below = below_next (size_at tree.sizes) uses k (at.id, used) at.there in
-    let n = length (displacements used.grid) in
-    let stepped : n * from.part_step ≡ n * step = ap (λ (s : ℕ). n * s) is.part_step in
-    let part_is = is.part in
-    let element_is = is.element in
-    let moved : own_elements (take (suc k) uses) * step ≡ own_elements (take k uses) * step + n * step = ap (λ (m : ℕ). m * step) own ∙ omega arith in
-    let whole : IsPlaceAt tree step spot (suc k) (place_behind tree.sizes from used) = record {
-      outer = is.outer;
-      part_step = is.part_step;
-      part = omega (arith, part_is, stepped, moved);
-      element = omega (arith, element_is, below);
-    } in
-    subst (λ (m : ℕ). IsPlaceAt tree step spot m behind) (sym after) (subst (IsPlaceAt tree step spot (suc k)) (sym same) whole)
+-- The numbers where the elements of the k-th use end, which fit.
+pub record EndsWithin (tree : Tree) (cell k : ℕ) (used : UseBody) : Type 0 where
+  pub elements : own_elements (take k (cell_at tree.cells cell).uses) + length (displacements used.grid) ≤ MOST_ELEMENTS_BELOW
+  pub standing : elements_below (size_at tree.sizes) (take k (cell_at tree.cells cell).uses) + length (displacements used.grid) *
+      (size_at tree.sizes used.child.0).elements ≤ MOST_ELEMENTS_BELOW
+
+pub use_ends : (tree : Tree) (cell k : ℕ) (used : UseBody) → IsLawfulTree tree → cell < length tree.cells → IsUseAt tree cell k used
+    → EndsWithin tree cell k used
+use_ends tree cell k used lawful below at =
+    let uses = (cell_at tree.cells cell).uses in
+    let own = own_within uses k (at.id, used) at.there in
+    let under = below_within (size_at tree.sizes) uses k (at.id, used) at.there in
+    let few = own_few tree cell lawful below in
+    let elements = elements_are tree cell lawful below in
+    let most = lawful.sizes.within Elements cell in
+    record { elements = omega (arith, own, few, elements, most); standing = omega (arith, under, elements, most) }
+
+-- where the elements of the next use begin
+pub start_next : (tree : Tree) (cell k : ℕ) (used : UseBody) → IsUseAt tree cell k used
+    → start_behind tree.sizes (start_at (size_at tree.sizes) (cell_at tree.cells cell).uses k) used
+    ≡ start_at (size_at tree.sizes) (cell_at tree.cells cell).uses (suc k)
+start_next tree cell k used at =
+    let uses = (cell_at tree.cells cell).uses in
+    λ i. record {
+      elements = sym (own_next uses k (at.id, used) at.there) i;
+      standing = sym (below_next (size_at tree.sizes) uses k (at.id, used) at.there) i;
+    }
+
+-- where the elements of the k-th use of the cell at a spot stand
+abbrev pub place_of : Tree → ℕ → Spot → ℕ → UsePlace
+place_of tree step spot k = place_at step spot (start_at (size_at tree.sizes) (cell_at tree.cells spot.cell.0).uses k)
 
 -- The elements of a use have room at its place.
 pub record HasRoomAt (tree : Tree) (from : UsePlace) (used : UseBody) : Type 0 where
@@ -140,18 +154,15 @@ pub record HasRoomAt (tree : Tree) (from : UsePlace) (used : UseBody) : Type 0 w
   pub parts : from.part + length (displacements used.grid) * from.part_step ≤ MOST_ELEMENTS_BELOW
   pub elements : from.element + length (displacements used.grid) * (size_at tree.sizes used.child.0).elements ≤ MOST_ELEMENTS_BELOW
 
-pub place_room : (tree : Tree) (step : ℕ) (spot : Spot) (k : ℕ) (from : UsePlace) (used : UseBody) → IsLawfulTree tree → HasRoomBelow tree step spot
-    → IsPlaceAt tree step spot k from → IsUseAt tree spot.cell.0 k used → HasRoomAt tree from used
-place_room tree step spot k from used lawful room is at =
+pub place_room : (tree : Tree) (step : ℕ) (spot : Spot) (k : ℕ) (used : UseBody) → IsLawfulTree tree → HasRoomBelow tree step spot
+    → IsUseAt tree spot.cell.0 k used → HasRoomAt tree (place_of tree step spot k) used
+place_room tree step spot k used lawful room at =
     let uses = (cell_at tree.cells spot.cell.0).uses in
     let own = own_within uses k (at.id, used) at.there in
     let below = below_within (size_at tree.sizes) uses k (at.id, used) at.there in
     let few = own_few tree spot.cell.0 lawful room.cell in
     let elements = elements_are tree spot.cell.0 lawful room.cell in
     let n = length (displacements used.grid) in
-    let stepped : n * from.part_step ≡ n * step = ap (λ (s : ℕ). n * s) is.part_step in
-    let part_is = is.part in
-    let element_is = is.element in
     let counted : suc (own_elements (take k uses) + n) ≤ (size_at tree.sizes spot.cell.0).elements = omega (arith, own, few, elements) in
     let product : suc (own_elements (take k uses) + n) * step ≤ (size_at tree.sizes spot.cell.0).elements * step = mul-le-mul_right step counted in
     let swap : (size_at tree.sizes spot.cell.0).elements * step ≡ step * (size_at tree.sizes spot.cell.0).elements = omega arith in
@@ -159,53 +170,37 @@ place_room tree step spot k from used lawful room is at =
     let parts = room.parts in
     let most = room.elements in
     record {
-      moves = subst (HasRoomToMove 1) (sym is.outer) room.moves;
-      parts = omega (arith, part_is, stepped, product, swap, spread, parts);
-      elements = omega (arith, element_is, below, elements, most);
+      moves = room.moves;
+      parts = omega (arith, product, swap, spread, parts);
+      elements = omega (arith, below, elements, most);
     }
 
--- the part of the first element fits
-pub first_part : (tree : Tree) (step : ℕ) (spot : Spot) → IsLawfulTree tree → HasRoomBelow tree step spot → spot.part + step ≤ MOST_ELEMENTS_BELOW
-first_part tree step spot lawful room =
-    let some : 1 ≤ (size_at tree.sizes spot.cell.0).elements = some_elements tree spot.cell.0 lawful room.cell in
-    let more : 1 * step ≤ (size_at tree.sizes spot.cell.0).elements * step = mul-le-mul_right step some in
-    let swap : (size_at tree.sizes spot.cell.0).elements * step ≡ step * (size_at tree.sizes spot.cell.0).elements = omega arith in
-    let parts = room.parts in
-    omega (arith, more, swap, parts)
-
 -- the spots of one more use were added
-pub spots_next : (P : Spot → Type 0) (tree : Tree) (step : ℕ) (spot : Spot) (k next : ℕ) (from : UsePlace) (used : UseBody) (mid new : List Spot)
-    → IsPlaceAt tree step spot k from → IsUseAt tree spot.cell.0 k used → next ≡ suc k → AddsSpots P (spots_before tree step spot k) [] mid
-    → AddsSpots P (spots_of_use tree.sizes from used) mid new → AddsSpots P (spots_before tree step spot next) [] new
-spots_next P tree step spot k next from used mid new is at after first more =
-    let uses = (cell_at tree.cells spot.cell.0).uses in
-    let size = (size_at tree.sizes used.child.0).elements in
-    let steps = displacements used.grid in
-    let same : spots_of_use tree.sizes from used
-    ≡ spots_at step size spot.to_top used steps (spot.part + step + own_elements (take k uses) * step)
-    (spot.element + 1 + elements_below (size_at tree.sizes) (take k uses)) =
-    λ i. spots_at (is.part_step i) size (is.outer i) used steps (is.part i) (is.element i) in
-    let whole = spots_from-more step (size_at tree.sizes) spot.to_top uses k (at.id, used) (spot.part + step) (spot.element + 1) at.there in
+pub spots_next : (P : Spot → Type 0) (tree : Tree) (step : ℕ) (spot : Spot) (k next : ℕ) (used : UseBody) (mid new : List Spot)
+    → IsUseAt tree spot.cell.0 k used → next ≡ suc k → AddsSpots P (spots_before tree step spot k) [] mid
+    → AddsSpots P (spots_of_use tree.sizes (place_of tree step spot k) used) mid new → AddsSpots P (spots_before tree step spot next) [] new
+spots_next P tree step spot k next used mid new at after first more =
+    let whole =
+    spots_from-more step (size_at tree.sizes) spot.to_top (cell_at tree.cells spot.cell.0).uses k (at.id, used) (spot.part + step)
+    (spot.element + 1) at.there in
     subst (λ (n : ℕ). AddsSpots P (spots_before tree step spot n) [] new) (sym after)
     (subst (λ (all : List Spot). AddsSpots P all [] new) (sym whole)
-    (spots_both P (spots_before tree step spot k)
-    (spots_at step size spot.to_top used steps (spot.part + step + own_elements (take k uses) * step)
-    (spot.element + 1 + elements_below (size_at tree.sizes) (take k uses))) [] mid new first
-    (subst (λ (all : List Spot). AddsSpots P all mid new) same more)))
+    (spots_both P (spots_before tree step spot k) (spots_of_use tree.sizes (place_of tree step spot k) used) [] mid new first more))
 
 -- ---- what can be visited
 
--- a spot of an element of a use
-record IsSpotAt (step size : ℕ) (outer : Transform) (used : UseBody) (steps : List (ℤ × ℤ)) (part number : ℕ) (spot : Spot) : Type 0 where
-  j : ℕ
-  displaced : ℤ × ℤ
-  there : slice_get steps j ≡ Some displaced
-  cell : spot.cell.0 ≡ used.child.0
-  moved : spot.to_top ≡ composed (element_transform used.placed displaced) outer
-  part_low : spot.part + step ≤ part + length steps * step
-  number_low : spot.element + size ≤ number + length steps * size
+-- A spot of an element of a use.
+pub record IsSpotAt (step size : ℕ) (outer : Transform) (used : UseBody) (steps : List (ℤ × ℤ)) (part number : ℕ) (spot : Spot) : Type 0 where
+  pub j : ℕ
+  pub displaced : ℤ × ℤ
+  pub there : slice_get steps j ≡ Some displaced
+  pub cell : spot.cell.0 ≡ used.child.0
+  pub moved : spot.to_top ≡ composed (element_transform used.placed displaced) outer
+  pub part_low : spot.part + step ≤ part + length steps * step
+  pub number_low : spot.element + size ≤ number + length steps * size
 
-spot_at_in : (step size : ℕ) (outer : Transform) (used : UseBody) (steps : List (ℤ × ℤ)) (part number : ℕ) (spot : Spot)
+-- a spot among those of the elements of a use is that of one of them
+pub spot_at_in : (step size : ℕ) (outer : Transform) (used : UseBody) (steps : List (ℤ × ℤ)) (part number : ℕ) (spot : Spot)
     → In spot (spots_at step size outer used steps part number) → IsSpotAt step size outer used steps part number spot
 spot_at_in step size outer used [] part number spot none = absurd none
 spot_at_in step size outer used (displaced ∷ steps) part number spot (inl same) =

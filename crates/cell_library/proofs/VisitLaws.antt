@@ -41,7 +41,8 @@ use Rattle.cell_library.proofs.SizeLaws.{cell_there, depth_falls, tree_children}
 use Rattle.cell_library.proofs.SpotLaws.{below_from, numbered_from, sifted_weaken, told_end}
 use Rattle.cell_library.proofs.ToldTiles.{adds_none}
 
-covered_is_proper : (area : Rect) (square : Square) → Covers area square → IsProper area
+-- what covers a square has one
+pub covered_is_proper : (area : Rect) (square : Square) → Covers area square → IsProper area
 covered_is_proper area square covers =
     let p : area.xlo ≤ℤ square.x = covers.right_of_xlo in
     let q : square.x <ℤ area.xhi = covers.left_of_xhi in

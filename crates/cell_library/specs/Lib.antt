@@ -17,6 +17,7 @@ pub mod Seen
 pub mod Spans
 pub mod Spots
 pub mod UsePlaces
+pub mod UseTrees
 pub mod Views
 pub mod VisitedTiles
 pub mod Visits

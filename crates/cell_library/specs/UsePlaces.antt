@@ -5,12 +5,12 @@ use Rattle.geo_core.specs.declared.transforms.Transform.{Transform}
 use Rattle.cell_tree.specs.declared.limits.TheConstants.{MOST_ELEMENTS_BELOW}
 use Rattle.cell_tree.specs.declared.sizes.Size.{Size}
 use Rattle.cell_tree.specs.declared.use_tables.UseBody.{UseBody}
-use Rattle.cell_tree.specs.Sizes.{size_at, elements_below}
+use Rattle.cell_tree.specs.Sizes.{size_at}
 use Rattle.cell_tree.specs.Trees.{Tree, cell_at}
 use Rattle.cell_tree.specs.Uses.{displacements}
 use Rattle.cell_library.specs.declared.spots.Spot.{Spot}
 use Rattle.cell_library.specs.declared.spots.UsePlace.{UsePlace}
-use Rattle.cell_library.specs.Spots.{spots_at, spots_from, own_elements, HasRoomToMove, StandsApart}
+use Rattle.cell_library.specs.Spots.{spots_at, spots_from, HasRoomToMove, StandsApart}
 
 -- A spot whose cell has no hull that meets the area.
 abbrev pub IsApart : List Size → Transform → Rect → Spot → Type 0
@@ -20,15 +20,6 @@ IsApart sizes outer back spot = (hull : Rect) → (size_at sizes spot.cell.0).hu
 abbrev pub spots_of_use : List Size → UsePlace → UseBody → List Spot
 spots_of_use sizes from used =
     spots_at from.part_step (size_at sizes used.child.0).elements from.outer used (displacements used.grid) from.part from.element
-
--- the place of the elements of the next use
-abbrev pub place_behind : List Size → UsePlace → UseBody → UsePlace
-place_behind sizes from used = record {
-  outer = from.outer;
-  part = from.part + length (displacements used.grid) * from.part_step;
-  part_step = from.part_step;
-  element = from.element + length (displacements used.grid) * (size_at sizes used.child.0).elements;
-}
 
 -- the spots of all elements of the cell at a spot
 abbrev pub spots_under : Tree → ℕ → Spot → List Spot
@@ -41,13 +32,6 @@ pub record HasRoomBelow (tree : Tree) (step : ℕ) (spot : Spot) : Type 0 where
   pub moves : HasRoomToMove 1 spot.to_top
   pub elements : spot.element + (size_at tree.sizes spot.cell.0).elements ≤ MOST_ELEMENTS_BELOW
   pub parts : spot.part + step * (size_at tree.sizes spot.cell.0).elements ≤ MOST_ELEMENTS_BELOW
-
--- The place is that of the elements of the k-th use of the cell at a spot.
-pub record IsPlaceAt (tree : Tree) (step : ℕ) (spot : Spot) (k : ℕ) (from : UsePlace) : Type 0 where
-  pub outer : from.outer ≡ spot.to_top
-  pub part_step : from.part_step ≡ step
-  pub part : from.part ≡ spot.part + step + own_elements (take k (cell_at tree.cells spot.cell.0).uses) * step
-  pub element : from.element ≡ spot.element + 1 + elements_below (size_at tree.sizes) (take k (cell_at tree.cells spot.cell.0).uses)
 
 -- the spots of the elements of the first uses of the cell at a spot
 abbrev pub spots_before : Tree → ℕ → Spot → ℕ → List Spot

@@ -27,7 +27,8 @@
 //! (`KeptContents`), so the tree of a cell has types of the technology alone (`TreeTypes`).
 //!
 //! A visit tells the tiles of each standing cell, and goes on at the spots of those of its elements that the area may meet (`OwnTiles`,
-//! `GridSpots`, `RowSpots`, `SpotLaws`). What is left out has nothing in the area, since the hull of a cell holds all material at and below
+//! `SpotLaws`). Uses are found by the boxes round their elements (`UseTreeLaws`, `UseSearches`), and the elements of a grid by their indices
+//! (`GridSpots`, `RowSpots`, `SeenAreas`). What is left out has nothing in the area, since the hull of a cell holds all material at and below
 //! it (`HullsHoldMaterial`). The tiles that were told are the part tiles, and have the sets of the parts (`PartSets`).
 #![tactic(auto)]
 
@@ -44,11 +45,14 @@ mod painting;
 mod part_tiles;
 mod reader;
 mod spots;
+mod use_trees;
 mod uses;
 mod visiting;
+mod visitor;
 
 pub use faults::LibFault;
 pub use library::Library;
 pub use limits::{MOST_CELLS, MOST_EDITS};
 pub use part_tiles::PartTile;
 pub use reader::Reader;
+pub use visitor::Visitor;

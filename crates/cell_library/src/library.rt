@@ -131,14 +131,14 @@ impl Library {
     }
 
     /// The tree of the cells.
-    pub fn tree(&self) -> &CellTree
+    pub(crate) fn tree(&self) -> &CellTree
         ensures { result.now ≡ self.now.tree }
     {
         &self.tree
     }
 
     /// Where memory is taken from.
-    pub fn alloc(&self) -> Global {
+    pub(crate) fn alloc(&self) -> Global {
         self.alloc
     }
 
@@ -169,7 +169,7 @@ impl Library {
     }
 
     /// What holds of the paint of each cell.
-    pub fn all_sound(&self)
+    pub(crate) fn all_sound(&self)
         ensures { All IsSoundHeld self.now.contents }
     {
         self.contents.all_sound();

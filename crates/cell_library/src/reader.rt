@@ -3,7 +3,7 @@ ghost use Rattle.std.specs.Prelude.{◌≡◌, ◌+◌, ◌<◌, ℕ, All, map, 
 ghost use Rattle.std.specs.Option.{option_map};
 ghost use Rattle.finite_sets.specs.Lists.{Lists};
 ghost use Rattle.geo_core.specs.Areas.{IsNear};
-ghost use Rattle.geo_core.specs.Covering.{Covers, IsProper};
+ghost use Rattle.geo_core.specs.Covering.{Covers};
 ghost use Rattle.layout_model.specs.Places.{Place};
 ghost use Rattle.layout_trees.specs.CellTrees.CellTree.{cell_tree};
 ghost use Rattle.layout_trees.specs.FlatSets.{element_parts, elements_in, parts_in, IsTyped};
@@ -21,7 +21,7 @@ ghost use Rattle.cell_library.specs.Views.{cell_named, view_at};
 use crate::element_boxes::{boxes_of, element_count};
 use crate::library::Library;
 use crate::part_tiles::PartTile;
-use crate::visiting::visit_cell;
+use crate::visitor::Visitor;
 use cell_paint::CellPaint;
 use cell_tree::UseBody;
 use ext_model::CellKey;
@@ -207,10 +207,14 @@ impl<'a> Reader<'a> {
         library.lawful()
     }
 
-    /// The tiles of all parts of the cell that meet the area, cut to it, each once, for one step each. At each place
-    /// of the area the tiles of a part together have the part's set. Want of memory alone refuses.
-    ///
-    /// It enters no element whose hull misses the area, and finds the elements of a grid that may meet it by their indices.
+    /// A visitor of this library. It takes no memory.
+    pub fn visitor(&self) -> Visitor<'a>
+        ensures { result ≡ self.now }
+    {
+        Visitor::of(self.library)
+    }
+
+    /// The tiles of all parts of the cell that meet the area, as a visitor that comes for this one visit hands them out.
     pub fn visit<L: Ledger>(
         &self,
         cell: CellKey,
@@ -218,7 +222,6 @@ impl<'a> Reader<'a> {
         steps: &mut Steps<L>,
     ) -> Result<Vec<PartTile>, AllocError>
         requires cell { cell.0 < length self.now.contents }
-        requires proper { IsProper area }
         requires near { IsNear area }
         ensures tiles { IfOk result (λ tiles. Lists (IsPartTileIn (tree_at (seen self.now) cell.0) area) tiles.items) }
         ensures sets { IfOk result (λ tiles. (part : ℕ) (place : Place) → Covers area place.square
@@ -226,9 +229,7 @@ impl<'a> Reader<'a> {
         ensures steps { IfOk result (λ tiles. steps.new ≡ steps.old + length tiles.items) }
         ensures refused { OnErr result (steps.new ≡ steps.old) }
     {
-        let library = self.library;
-        let tiles = visit_cell(library, cell, area)?;
-        steps.add(tiles.len() as u64);
-        Ok(tiles)
+        let mut visitor = self.visitor();
+        visitor.visit(cell, area, steps)
     }
 }

@@ -9,15 +9,15 @@ ghost use Rattle.cell_tree.specs.Uses.{displacements, IsLawfulUse, IsShift};
 ghost use Rattle.cell_tree.specs.Sizes.{size_at};
 ghost use Rattle.cell_tree.specs.Trees.{cell_at, IsLawfulTree};
 ghost use Rattle.cell_tree.specs.declared.limits.TheConstants.{MOST_ELEMENTS_BELOW};
-ghost use Rattle.cell_library.specs.Spots.{AddsSpots, AreSiftedBy, HasRoomToMove};
+ghost use Rattle.cell_library.specs.Spots.{AddsSpots, HasRoomToMove};
 ghost use Rattle.cell_library.specs.Spans.{AddsRow, CanBeDropped, HasRoomFor, HoldsMultiples, IsGridOf, SpansFar};
 ghost use Rattle.cell_library.specs.Spans.{seen_high_x, seen_low_x, spot_at, spots_to};
-ghost use Rattle.cell_library.specs.UsePlaces.{IsApart, HasRoomBelow, place_behind, spots_of_use, spots_under};
+ghost use Rattle.cell_library.specs.UsePlaces.{IsApart, spots_of_use};
 
 use cell_tree::{CellTree, UseBody};
 use ext_model::CellKey;
 use geo_core::{Grid, Orient, Rect, Transform};
-use std::alloc::{AllocError, Global};
+use std::alloc::AllocError;
 
 /// A cell that stands somewhere at or below the cell that is looked at: the transform that takes its coordinates to those of the cell that
 /// is looked at, the part in which it stands, and its number among all standing cells.
@@ -139,7 +139,7 @@ fn grid_of(used: &UseBody) -> Grid
 }
 
 /// How many elements a use has.
-fn element_count(used: &UseBody) -> u64
+pub fn element_count(used: &UseBody) -> u64
     requires { IsLawfulUse used.now }
     ensures { result ≡ length (displacements used.now.grid) }
 {
@@ -223,7 +223,7 @@ fn add_elements(found: &mut Vec<Spot>, from: &UseSearch) -> Result<(), AllocErro
 }
 
 /// The body of the k-th use of the cell.
-fn use_of(tree: &CellTree, cell: CellKey, k: usize) -> &UseBody
+pub fn use_of(tree: &CellTree, cell: CellKey, k: usize) -> &UseBody
     requires cell { cell.0 < length tree.now.cells }
     requires place { k < length (cell_at tree.now.cells cell.0).uses }
     ensures { option_map (λ entry. entry.1) (slice_get (cell_at tree.now.cells cell.0).uses k) ≡ Some result.now }
@@ -235,7 +235,7 @@ fn use_of(tree: &CellTree, cell: CellKey, k: usize) -> &UseBody
 }
 
 /// Adds the spots of the elements of a use that may meet the area. The first element has this part and this number.
-fn add_use(
+pub fn add_use(
     found: &mut Vec<Spot>,
     tree: &CellTree,
     from: &UsePlace,
@@ -269,53 +269,4 @@ fn add_use(
     };
     add_elements(found, &search)?;
     Ok(())
-}
-
-/// Where the place of the elements of the next use is.
-fn behind_use(from: &UsePlace, tree: &CellTree, used: &UseBody) -> UsePlace
-    requires lawful { IsLawfulTree tree.now }
-    requires child { used.now.child.0 < length tree.now.cells }
-    requires used { IsLawfulUse used.now }
-    requires parts { from.now.part + length (displacements used.now.grid) * from.now.part_step ≤ MOST_ELEMENTS_BELOW }
-    requires elements { from.now.element + length (displacements used.now.grid) * (size_at tree.now.sizes used.now.child.0).elements
-        ≤ MOST_ELEMENTS_BELOW }
-    ensures { result ≡ place_behind tree.now.sizes from.now used.now }
-{
-    let count = element_count(used) as u32;
-    let size = tree.elements(used.child.0) as u32;
-    UsePlace {
-        outer: from.outer,
-        part: from.part + count * from.part_step,
-        part_step: from.part_step,
-        element: from.element + count * size,
-    }
-}
-
-/// The spots of the elements of the cell at a spot that may meet an area, which is given in the coordinates of that cell. The parts of the
-/// elements rise by this step, and the first has the next part after that of the spot.
-pub fn spots_below(
-    alloc: Global,
-    tree: &CellTree,
-    spot: &Spot,
-    part_step: u32,
-    back: Rect,
-) -> Result<Vec<Spot>, AllocError>
-    requires lawful { IsLawfulTree tree.now }
-    requires room { HasRoomBelow tree.now part_step spot.now }
-    requires back { SpansFar back }
-    ensures { IfOk result (λ found. AreSiftedBy (IsApart tree.now.sizes spot.now.to_top back) (spots_under tree.now part_step spot.now) found.items) }
-{
-    let mut found = Vec::new(alloc);
-    let mut from = UsePlace {
-        outer: spot.to_top,
-        part: spot.part + part_step,
-        part_step,
-        element: spot.element + 1,
-    };
-    for k in 0..tree.use_count(spot.cell.0) {
-        let used = use_of(tree, spot.cell, k);
-        add_use(&mut found, tree, &from, used, back)?;
-        from = behind_use(&from, tree, used);
-    }
-    Ok(found)
 }

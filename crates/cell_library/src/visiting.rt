@@ -1,7 +1,8 @@
 //! A visit of a cell: the tiles of all that stands at and below it, where they meet an area.
 //!
 //! A cell that stands somewhere below looks at the area in its own coordinates. Where its hull does not meet it, nothing below does. Else
-//! its own tiles are told, and then those at the spots of its elements that may meet the area, which are found by the indices of grids.
+//! its own tiles are told, and then those at the spots of its elements that may meet the area, which are found by where uses
+//! stand and by the indices of grids.
 ghost use Rattle.std.specs.Prelude.{◌≡◌, ◌<◌, ◌∷◌, [], ℕ, length, IfOk, IfSome, IfNone, OnOk, Some};
 ghost use Rattle.finite_sets.specs.Lists.{Lists};
 ghost use Rattle.geo_core.specs.declared.squares.Rect.{Rect as IsRect};
@@ -17,10 +18,12 @@ ghost use Rattle.cell_library.specs.PartTiles.{set_of_part, set_of_tiles, IsPart
 ghost use Rattle.cell_library.specs.Spots.{standing_at, tile_at, CanBeVisited};
 ghost use Rattle.cell_library.specs.Visits.{AddsPlane, HullIsAt, IsNearPart, IsNearSpot};
 ghost use Rattle.cell_library.specs.VisitedTiles.{placed_cells, AddsTiles};
+ghost use Rattle.cell_library.specs.UseTrees.{AreUseTrees};
 
 use crate::library::Library;
 use crate::part_tiles::PartTile;
-use crate::spots::{Spot, spots_below};
+use crate::spots::Spot;
+use crate::use_trees::UseTrees;
 use cell_paint::CellPaint;
 use cell_tree::{CellTree, MOST_DEPTH};
 use ext_model::CellKey;
@@ -104,18 +107,21 @@ fn add_own(
 }
 
 /// Adds the tiles of all that stands at and below a spot, below which are at most so many levels of cells. The parts of its elements rise
-/// by this step.
+/// by this step. What it learns of the uses of cells is kept.
 fn visit_spot(
     levels: u64,
     library: &Library,
+    use_trees: &mut UseTrees,
     area: Rect,
     part_step: u32,
     spot: &Spot,
     tiles: &mut Vec<PartTile>,
 ) -> Result<(), AllocError>
+    requires uses { AreUseTrees library.now.tree use_trees.old }
     requires spot { CanBeVisited library.now.tree levels part_step spot.now }
     requires near { IsNear area }
-    ensures { OnOk result (AddsTiles
+    ensures uses { AreUseTrees library.now.tree use_trees.new }
+    ensures tiles { OnOk result (AddsTiles
         (placed_cells part_step spot.now.part spot.now.to_top (tree_to (seen library.now) levels spot.now.cell.0))
         spot.now.element area tiles.old.items tiles.new.items) }
 {
@@ -129,17 +135,24 @@ fn visit_spot(
     if levels == 0 {
         return Ok(());
     }
-    let below = spots_below(library.alloc(), library.tree(), spot, part_step, back)?;
+    let below = use_trees.spots_below(library.alloc(), library.tree(), spot, part_step, back)?;
     for next in below.iter() {
-        visit_spot(levels - 1, library, area, 0, next, tiles)?;
+        visit_spot(levels - 1, library, use_trees, area, 0, next, tiles)?;
     }
     Ok(())
 }
 
 /// The tiles of all parts of the cell that meet the area, cut to it, in the order of their elements.
-pub fn visit_cell(library: &Library, cell: CellKey, area: Rect) -> Result<Vec<PartTile>, AllocError>
+pub fn visit_cell(
+    library: &Library,
+    use_trees: &mut UseTrees,
+    cell: CellKey,
+    area: Rect,
+) -> Result<Vec<PartTile>, AllocError>
+    requires uses { AreUseTrees library.now.tree use_trees.old }
     requires cell { cell.0 < length library.now.contents }
     requires near { IsNear area }
+    ensures uses { AreUseTrees library.now.tree use_trees.new }
     ensures tiles { IfOk result (λ tiles. Lists (IsPartTileIn (tree_at (seen library.now) cell.0) area) tiles.items) }
     ensures sets { IfOk result (λ tiles. (part : ℕ) (place : Place) → Covers area place.square
         → set_of_tiles library.now.tech tiles.items part place ≡ set_of_part library.now.tech (tree_at (seen library.now) cell.0) part place) }
@@ -156,6 +169,6 @@ pub fn visit_cell(library: &Library, cell: CellKey, area: Rect) -> Result<Vec<Pa
         element: 0,
     };
     let mut tiles = Vec::new(library.alloc());
-    visit_spot(MOST_DEPTH, library, area, 1, &spot, &mut tiles)?;
+    visit_spot(MOST_DEPTH, library, use_trees, area, 1, &spot, &mut tiles)?;
     Ok(tiles)
 }

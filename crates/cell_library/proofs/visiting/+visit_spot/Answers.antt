@@ -14,6 +14,7 @@ use Rattle.cell_library.specs.Libraries.{seen}
 use Rattle.cell_library.specs.Spans.{SpansFar}
 use Rattle.cell_library.specs.Spots.{standing_at, AreSiftedBy, CanBeVisited}
 use Rattle.cell_library.specs.UsePlaces.{HasRoomBelow, IsApart, spots_under}
+use Rattle.cell_library.specs.UseTrees.{AreUseTrees}
 use Rattle.cell_library.specs.Visits.{HullIsAt, IsNearPart, IsNearSpot}
 use Rattle.cell_library.proofs.GridSpots.{room_in_reach}
 use Rattle.cell_library.proofs.RowSpots.{inverted_in_reach}
@@ -27,8 +28,8 @@ rect-back-requires-clause-moves t c =
     subst MovesInReach (sym c.inverse.ensures.value)
     (inverted_in_reach c.args.spot.now.to_top (room_in_reach c.args.levels c.args.spot.now.to_top c.requires.spot.moves))
 
-pub returns-in-None : goal.returns-in-None
-returns-in-None t c =
+pub returns-in-None-clause-tiles : goal.returns-in-None-clause-tiles
+returns-in-None-clause-tiles t c =
     let spot = c.args.spot.now in
     let back : c.rect-back.result ≡ rect_image (inverted spot.to_top) c.args.area =
     c.rect-back.ensures.value ∙ ap (λ (m : Transform). rect_image m c.args.area) c.inverse.ensures.value in
@@ -36,8 +37,8 @@ returns-in-None t c =
     c.in-None.ensures.none hull (subst (λ (tree : Tree). HullIsAt tree.sizes spot.cell.0 hull) (sym c.tree.ensures) is)
     (subst (λ (b : Rect). IsProper (common_rect b hull)) (sym back) proper))
 
-pub returns-then-levels-eq0 : goal.returns-then-levels-eq0
-returns-then-levels-eq0 t c =
+pub returns-then-levels-eq0-clause-tiles : goal.returns-then-levels-eq0-clause-tiles
+returns-then-levels-eq0-clause-tiles t c =
     let library = c.args.library.now in
     let spot = c.args.spot.now in
     let back : c.rect-back.result ≡ rect_image (inverted spot.to_top) c.args.area =
@@ -47,6 +48,12 @@ returns-then-levels-eq0 t c =
     (subst (λ (tree : Tree). IsNearPart tree.sizes spot.cell.0 c.rect-back.result c.in-Some.near) c.tree.ensures c.in-Some.ensures.some) in
     visit_own library c.args.levels c.args.part_step spot c.args.area c.args.tiles.now.items c.add_own.new.tiles.items c.if-levels-eq0.true
     (c.in_ok-add_own.ensures c.args.area near)
+
+pub spots_below-requires-clause-trees : goal.spots_below-requires-clause-trees
+spots_below-requires-clause-trees t c = subst (λ (tree : Tree). AreUseTrees tree c.args.use_trees.now) (sym c.tree-2.ensures) c.requires.uses
+
+pub returns-in_err-below-clause-uses : goal.returns-in_err-below-clause-uses
+returns-in_err-below-clause-uses t c = subst (λ (tree : Tree). AreUseTrees tree c.spots_below.new.self) c.tree-2.ensures c.spots_below.ensures.trees
 
 pub spots_below-requires-clause-room : goal.spots_below-requires-clause-room
 spots_below-requires-clause-room t c =
@@ -76,12 +83,14 @@ loop-next-init t c =
     (sym c.deref-next-items.ensures.value)
     (subst (λ (tree : Tree). AreSiftedBy (IsApart tree.sizes spot.to_top c.rect-back.result)
     (spots_under tree c.args.part_step spot) c.in_ok-below.below.items)
-    c.tree-2.ensures c.in_ok-below.ensures) in
-    told_start (tree_to (seen library) (c.args.levels - 1)) c.args.area (standing_at (seen library) spot) spot.element
-    (spots_under library.tree c.args.part_step spot)
-    c.deref-next-items.result.now c.args.tiles.now.items c.add_own.new.tiles.items (c.in_ok-add_own.ensures c.args.area near)
-    (visit_sifted library (c.args.levels - 1) c.args.part_step spot c.args.area c.rect-back.result c.deref-next-items.result.now c.lawful.ensures
-    back kept)
+    c.tree-2.ensures c.in_ok-below.ensures.found) in (
+      subst (λ (tree : Tree). AreUseTrees tree c.spots_below.new.self) c.tree-2.ensures c.spots_below.ensures.trees,
+      told_start (tree_to (seen library) (c.args.levels - 1)) c.args.area (standing_at (seen library) spot) spot.element
+          (spots_under library.tree c.args.part_step spot)
+          c.deref-next-items.result.now c.args.tiles.now.items c.add_own.new.tiles.items (c.in_ok-add_own.ensures c.args.area near)
+          (visit_sifted library (c.args.levels - 1) c.args.part_step spot c.args.area c.rect-back.result c.deref-next-items.result.now c.lawful.ensures
+          back kept),
+    )
 
 pub visit_spot-requires : goal.visit_spot-requires
 visit_spot-requires t c =
@@ -97,14 +106,17 @@ visit_spot-requires t c =
     (sym c.deref-next-items.ensures.value)
     (subst (λ (tree : Tree). AreSiftedBy (IsApart tree.sizes spot.to_top c.rect-back.result)
     (spots_under tree c.args.part_step spot) c.in_ok-below.below.items)
-    c.tree-2.ensures c.in_ok-below.ensures) in (
+    c.tree-2.ensures c.in_ok-below.ensures.found) in (
       omega (arith, c.if-levels-eq0.false),
       (
-        below_can_be_visited library.tree (c.args.levels - 1) c.args.part_step spot _ c.lawful.ensures.tree can
-            (sifted_in (IsApart library.tree.sizes spot.to_top c.rect-back.result)
-            (spots_under library.tree c.args.part_step spot) c.deref-next-items.result.now _
-            kept (In-get_or c.deref-next-items.result.now c.loop-next.next-index _ c.loop-next-test.true)),
-        c.requires.near,
+        c.loop-next.invariant.0,
+        (
+          below_can_be_visited library.tree (c.args.levels - 1) c.args.part_step spot _ c.lawful.ensures.tree can
+              (sifted_in (IsApart library.tree.sizes spot.to_top c.rect-back.result)
+              (spots_under library.tree c.args.part_step spot) c.deref-next-items.result.now _
+              kept (In-get_or c.deref-next-items.result.now c.loop-next.next-index _ c.loop-next-test.true)),
+          c.requires.near,
+        ),
       ),
     )
 
@@ -114,18 +126,20 @@ loop-next-preserved t c =
     let spot = c.args.spot.now in
     let deep : c.args.levels ≡ suc (c.args.levels - 1) = omega (arith, c.if-levels-eq0.false) in
     let can : CanBeVisited library.tree (suc (c.args.levels - 1)) c.args.part_step spot =
-    subst (λ (n : ℕ). CanBeVisited library.tree n c.args.part_step spot) deep c.requires.spot in
-    told_next (tree_to (seen library) (c.args.levels - 1)) c.args.area (standing_at (seen library) spot) spot.element
-    (spots_under library.tree c.args.part_step spot)
-    c.deref-next-items.result.now c.loop-next.next-index (c.loop-next.next-index + 1) _ c.args.tiles.now.items c.loop-next.tiles.items
-    c.visit_spot.new.tiles.items
-    c.loop-next.invariant (omega arith) (slice_get-get_or c.deref-next-items.result.now c.loop-next.next-index _ c.loop-next-test.true)
-    (visit_numbered library (c.args.levels - 1) c.args.part_step spot c.lawful.ensures can) c.in_ok-visit_spot.ensures
+    subst (λ (n : ℕ). CanBeVisited library.tree n c.args.part_step spot) deep c.requires.spot in (
+      c.visit_spot.ensures.uses,
+      told_next (tree_to (seen library) (c.args.levels - 1)) c.args.area (standing_at (seen library) spot) spot.element
+          (spots_under library.tree c.args.part_step spot)
+          c.deref-next-items.result.now c.loop-next.next-index (c.loop-next.next-index + 1) _ c.args.tiles.now.items c.loop-next.tiles.items
+          c.visit_spot.new.tiles.items
+          c.loop-next.invariant.1 (omega arith) (slice_get-get_or c.deref-next-items.result.now c.loop-next.next-index _ c.loop-next-test.true)
+          (visit_numbered library (c.args.levels - 1) c.args.part_step spot c.lawful.ensures can) c.in_ok-visit_spot.ensures.tiles,
+    )
 
-pub returns : goal.returns
-returns t c =
+pub returns-clause-tiles : goal.returns-clause-tiles
+returns-clause-tiles t c =
     let library = c.args.library.now in
     visit_all library c.args.levels (c.args.levels - 1) c.args.part_step c.args.spot.now c.args.area c.deref-next-items.result.now
     c.loop-next.next-index
     c.args.tiles.now.items c.loop-next.tiles.items c.lawful.ensures c.requires.spot.cell (omega (arith, c.if-levels-eq0.false))
-    (omega (arith, c.loop-next-test.false, c.loop-next.auto)) c.loop-next.invariant
+    (omega (arith, c.loop-next-test.false, c.loop-next.auto)) c.loop-next.invariant.1

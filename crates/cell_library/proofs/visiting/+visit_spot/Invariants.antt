@@ -3,6 +3,7 @@ use Rattle.cell_library.specs.LayoutTrees.{tree_to}
 use Rattle.cell_library.specs.Libraries.{seen}
 use Rattle.cell_library.specs.Spots.{standing_at, AreToldTo}
 use Rattle.cell_library.specs.UsePlaces.{spots_under}
+use Rattle.cell_library.specs.UseTrees.{AreUseTrees}
 use Rattle.cell_library.proofs.visiting.+visit_spot.Given as goal
 
 abbrev pub decreases-visit_spot : goal.decreases-visit_spot
@@ -10,5 +11,6 @@ decreases-visit_spot l = l.levels
 
 abbrev pub invariant-loop-next : goal.invariant-loop-next
 invariant-loop-next l =
-    AreToldTo (tree_to (seen l.library) (l.levels - 1)) l.area (standing_at (seen l.library) l.spot) l.spot.element
+    AreUseTrees l.library.tree l.use_trees
+    × AreToldTo (tree_to (seen l.library) (l.levels - 1)) l.area (standing_at (seen l.library) l.spot) l.spot.element
     (spots_under l.library.tree l.part_step l.spot) l.next-items l.next-index l.fn.tiles.items l.tiles.items

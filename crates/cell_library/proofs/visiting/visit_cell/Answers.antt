@@ -12,9 +12,9 @@ visit_spot-requires-clause-spot c =
 pub returns-clause-tiles : goal.returns-clause-tiles
 returns-clause-tiles c =
     visited_parts (seen c.args.library.now) c.args.cell.0 c.args.area c.new-tiles.result.items c.visit_spot.new.tiles.items c.new-tiles.ensures.items
-    c.in_ok-visit_spot.ensures
+    c.in_ok-visit_spot.ensures.tiles
 
 pub returns-clause-sets : goal.returns-clause-sets
 returns-clause-sets c =
     visited_sets c.args.library.now.tech (seen c.args.library.now) c.args.cell.0 c.args.area c.new-tiles.result.items c.visit_spot.new.tiles.items
-    c.new-tiles.ensures.items c.in_ok-visit_spot.ensures
+    c.new-tiles.ensures.items c.in_ok-visit_spot.ensures.tiles

@@ -1,4 +1,5 @@
 use Rattle.std.proofs.Common.{◌≡◌, ℕ, subst}
+use Rattle.std.specs.Prelude.{IfOk}
 use Rattle.finite_sets.specs.Lists.{Lists}
 use Rattle.geo_core.specs.Covering.{Covers}
 use Rattle.layout_model.specs.Places.{Place}
@@ -9,13 +10,11 @@ use Rattle.cell_library.proofs.reader.Reader.visit.Goals as goal
 
 pub returns-clause-tiles : goal.returns-clause-tiles
 returns-clause-tiles g c =
-    subst (λ (library : LibraryParts). Lists (IsPartTileIn (tree_at (seen library) c.args.cell.0) c.args.area) c.in_ok-tiles.tiles.items)
-    c.self.view_is
-    c.in_ok-tiles.ensures.tiles
+    subst (λ (library : LibraryParts). IfOk c.visit.result (λ tiles. Lists (IsPartTileIn (tree_at (seen library) c.args.cell.0) c.args.area) tiles.items))
+    c.visitor-visitor.ensures c.visit.ensures.tiles
 
 pub returns-clause-sets : goal.returns-clause-sets
 returns-clause-sets g c =
-    subst (λ (library : LibraryParts). (part : ℕ) (place : Place) → Covers c.args.area place.square
-    → set_of_tiles library.tech c.in_ok-tiles.tiles.items part place ≡ set_of_part library.tech (tree_at
-    (seen library) c.args.cell.0) part place) c.self.view_is
-    c.in_ok-tiles.ensures.sets
+    subst (λ (library : LibraryParts). IfOk c.visit.result (λ tiles. (part : ℕ) (place : Place) → Covers c.args.area place.square
+    → set_of_tiles library.tech tiles.items part place ≡ set_of_part library.tech (tree_at (seen library) c.args.cell.0) part place))
+    c.visitor-visitor.ensures c.visit.ensures.sets

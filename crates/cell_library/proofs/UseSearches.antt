@@ -1,0 +1,234 @@
+-- A search of the uses of a cell by area: the elements of those that are not found do not meet the area.
+use Rattle.std.proofs.Common.{◌≡◌, ℕ, ℤ, zero, suc, ◌+◌, ◌-◌, ◌<◌, ◌≤◌, List, [], ◌∷◌, length, take, get_or, Option, Some, refl, sym, ap, subst, ◌∙◌, arith}
+use Rattle.std.proofs.Common.{inl, inr}
+use Rattle.std.specs.Prelude.{slice_get, unwrap_or}
+use Rattle.std.specs.Option.{option_map}
+use Rattle.std.proofs.lemmas.Bool.{cases_lt}
+use Rattle.std.proofs.lemmas.List.{length-map, take_all}
+use Rattle.std.proofs.lemmas.Option.{get_or_from_slice_get, slice_get-map, slice_get_within}
+use Rattle.finite_sets.specs.Lists.{In}
+use Rattle.finite_sets.proofs.Members.{In-get_or, In-index}
+use Rattle.geo_core.specs.declared.squares.Rect.{Rect}
+use Rattle.geo_core.specs.declared.transforms.Transform.{Transform}
+use Rattle.geo_core.specs.Areas.{common_rect}
+use Rattle.geo_core.specs.Covering.{Covers, IsProper}
+use Rattle.geo_core.specs.Images.{image, inverted, rect_image}
+use Rattle.geo_core.proofs.CoveringLaws.{covers_both}
+use Rattle.geo_core.proofs.ImageLaws.{image-back}
+use Rattle.layout_model.specs.Places.{Place}
+use Rattle.cell_tree.specs.declared.sizes.Size.{Size}
+use Rattle.cell_tree.specs.declared.use_tables.UseBody.{UseBody}
+use Rattle.cell_tree.specs.Hulls.{displaced, element_hulls}
+use Rattle.cell_tree.specs.Sizes.{size_at}
+use Rattle.cell_tree.specs.Trees.{Tree, IsLawfulTree, cell_at}
+use Rattle.cell_tree.specs.Uses.{displacements}
+use Rattle.rect_trees.specs.Meetings.{AreMeeting}
+use Rattle.cell_library.specs.declared.spots.Spot.{Spot}
+use Rattle.cell_library.specs.declared.spots.UsePlace.{UsePlace}
+use Rattle.cell_library.specs.declared.use_trees.TheConstants.{NO_BOX}
+use Rattle.cell_library.specs.declared.use_trees.UseStart.{UseStart}
+use Rattle.cell_library.specs.declared.use_trees.UseTree.{UseTree}
+use Rattle.cell_library.specs.LayoutTrees.{element_transform}
+use Rattle.cell_library.specs.Spots.{spots_from, AddsSpots, AreSiftedBy}
+use Rattle.cell_library.specs.UsePlaces.{spots_before, spots_of_use, spots_under, HasRoomBelow, IsApart}
+use Rattle.cell_library.specs.UseTrees.{place_at, start_at, use_box, IsUseTree}
+use Rattle.cell_library.proofs.HullsHoldMaterial.{covered_by_all, covers_from_back, element_image, In-element_hulls}
+use Rattle.cell_library.proofs.PlacedRects.{back_on}
+use Rattle.cell_library.proofs.SpotLaws.{spots_dropped, spots_none}
+use Rattle.cell_library.proofs.UseSums.{place_of, place_room, spot_at_in, spots_next, use_known, HasRoomAt, IsUseAt}
+use Rattle.cell_library.proofs.UseTreeLaws.{entry_box}
+use Rattle.cell_library.proofs.VisitLaws.{covered_is_proper}
+
+-- ---- one use
+
+-- where an area misses the box of a use, it misses all its elements
+pub use_apart : (sizes : List Size) (from : UsePlace) (used : UseBody) (back : Rect) → (IsProper (common_rect (use_box sizes used) back) → ⊥)
+    → (spot : Spot) → In spot (spots_of_use sizes from used) → IsApart sizes from.outer back spot
+use_apart sizes from used back missed spot stands hull is square in_hull in_back =
+    let hulls = element_hulls used (size_at sizes used.child.0).hull in
+    let found = spot_at_in from.part_step (size_at sizes used.child.0).elements from.outer used (displacements used.grid) from.part from.element spot stands in
+    let placed = element_transform used.placed found.displaced in
+    let element = rect_image used.placed (displaced hull found.displaced) in
+    let child : (size_at sizes used.child.0).hull ≡ Some hull = ap (λ (k : ℕ). (size_at sizes k).hull) (sym found.cell) ∙ is in
+    let at_child : image (inverted spot.to_top) (image from.outer square) ≡ image (inverted placed) square =
+    ap (λ (t : Transform). image (inverted t) (image from.outer square)) found.moved
+    ∙ ap (λ (p : Place). p.square) (back_on placed from.outer (record { plane = 0; square = image from.outer square }))
+    ∙ ap (image (inverted placed)) (image-back from.outer square) in
+    let in_element : Covers element square =
+    subst (λ (r : Rect). Covers r square) (element_image used.placed found.displaced hull)
+    (covers_from_back placed hull (record { plane = 0; square = square }) (subst (Covers hull) at_child in_hull)) in
+    let step_in : In found.displaced (displacements used.grid) =
+    subst (λ (s : ℤ × ℤ). In s (displacements used.grid))
+    (get_or_from_slice_get (displacements used.grid) found.j found.displaced found.displaced found.there)
+    (In-get_or (displacements used.grid) found.j found.displaced (slice_get_within (displacements used.grid) found.j found.displaced found.there)) in
+    let among : In element hulls = In-element_hulls used (size_at sizes used.child.0).hull hull found.displaced child step_in in
+    let round = covered_by_all hulls element square among in_element in
+    let box : use_box sizes used ≡ round.0 = ap (λ (o : Option Rect). unwrap_or o NO_BOX) round.1 in
+    missed (covered_is_proper (common_rect (use_box sizes used) back) square (covers_both (use_box sizes used) back square
+    (subst (λ (r : Rect). Covers r square) (sym box) round.2) in_back))
+
+-- ---- use by use
+
+get_some : {X : Type 0} (xs : List X) (k : ℕ) → k < length xs → (x : X) × (slice_get xs k ≡ Some x)
+get_some [] k within = absurd (omega (arith, within))
+get_some (x ∷ xs) zero within = (x, refl)
+get_some (x ∷ xs) (suc k) within = get_some xs k (omega (arith, within))
+
+-- A search has looked at the first of the positions that were found, all of which come before this use, and the others do not.
+pub record IsSearchedTo (tree : Tree) (step : ℕ) (spot : Spot) (back : Rect) (met : List ℕ) (i : ℕ) (found : List Spot) : Type 0 where
+  pub next : ℕ
+  pub within : next ≤ length (cell_at tree.cells spot.cell.0).uses
+  pub before : (j : ℕ) → j < i → get_or met j 0 < next
+  pub after : (j : ℕ) → i ≤ j → j < length met → next ≤ get_or met j 0
+  pub adds : AddsSpots (IsApart tree.sizes spot.to_top back) (spots_before tree step spot next) [] found
+
+-- The use of the cell at a spot at this position, and where its elements begin, which have room there.
+pub record IsFoundAt (tree : Tree) (step : ℕ) (spot : Spot) (known : UseTree) (k : ℕ) : Type 0 where
+  pub below : k < length (cell_at tree.cells spot.cell.0).uses
+  pub used : UseBody
+  pub at : IsUseAt tree spot.cell.0 k used
+  pub room : HasRoomAt tree (place_of tree step spot k) used
+  pub start_there : k < length known.starts.items
+  pub start_is : (default : UseStart) → get_or known.starts.items k default
+      ≡ start_at (size_at tree.sizes) (cell_at tree.cells spot.cell.0).uses k
+
+-- of the uses of a cell those were found that meet the area
+module _ (tree : Tree) (step : ℕ) (spot : Spot) (back : Rect) (known : UseTree) (met : List ℕ) (lawful : IsLawfulTree tree)
+    (there : spot.cell.0 < length tree.cells) (are : IsUseTree tree spot.cell.0 known) (meeting : AreMeeting known.boxes back met) where
+  abbrev uses : List (List ℕ × UseBody)
+  uses = (cell_at tree.cells spot.cell.0).uses
+
+  abbrev Misses : Spot → Type 0
+  Misses = IsApart tree.sizes spot.to_top back
+
+  use_there : (k : ℕ) → k < length uses → (used : UseBody) × IsUseAt tree spot.cell.0 k used
+  use_there k below =
+      let entry = get_some uses k below in
+      (entry.0.1, use_known tree spot.cell.0 k entry.0.1 lawful there (ap (option_map (λ (e : List ℕ × UseBody). e.1)) entry.1))
+
+  box_at : (k : ℕ) (used : UseBody) → IsUseAt tree spot.cell.0 k used → slice_get known.boxes k ≡ Some (use_box tree.sizes used)
+  box_at k used at =
+      ap (λ (boxes : List Rect). slice_get boxes k) are.boxes
+      ∙ slice_get-map (entry_box tree) uses k ∙ ap (option_map (entry_box tree)) at.there
+
+  met_there : (k : ℕ) → In k met → k < length uses
+  met_there k found =
+      let is = (meeting.exact k).0 found in
+      let below = slice_get_within known.boxes k is.rect is.there in
+      let long = ap (λ (boxes : List Rect). length boxes) are.boxes ∙ length-map {B = Rect} uses (entry_box tree) in
+      omega (arith, below, long)
+
+  -- what is known of the use at a position that was found
+  pub found_at : (i : ℕ) → i < length met → HasRoomBelow tree step spot → IsFoundAt tree step spot known (get_or met i 0)
+  found_at i inside room =
+      let k = get_or met i 0 in
+      let below = met_there k (In-get_or met i 0 inside) in
+      let at = use_there k below in
+      record {
+        below = below;
+        used = at.0;
+        at = at.1;
+        room = place_room tree step spot k at.0 lawful room at.1;
+        start_there = slice_get_within known.starts.items k (start_at (size_at tree.sizes) uses k) (are.starts k below);
+        start_is = λ default. get_or_from_slice_get known.starts.items k (start_at (size_at tree.sizes) uses k) default (are.starts k below);
+      }
+
+  -- where its elements stand
+  pub place_found : (i : ℕ) (start : UseStart) (from : UsePlace) → i < length met → HasRoomBelow tree step spot
+      → start ≡ get_or known.starts.items (get_or met i 0) start → from ≡ place_at step spot start → from ≡ place_of tree step spot (get_or met i 0)
+  place_found i start from inside room is placed = placed ∙ ap (place_at step spot) (is ∙ (found_at i inside room).start_is start)
+
+  -- the spots of a use that was not found were dropped
+  one_dropped : (k : ℕ) (found : List Spot) → k < length uses → (In k met → ⊥) → AddsSpots Misses (spots_before tree step spot k) [] found
+      → AddsSpots Misses (spots_before tree step spot (suc k)) [] found
+  one_dropped k found below absent adds =
+      let at = use_there k below in
+      spots_next Misses tree step spot k (suc k) at.0 found found at.1 refl adds
+      (spots_dropped Misses (spots_of_use tree.sizes (place_of tree step spot k) at.0) found
+      (use_apart tree.sizes (place_of tree step spot k) at.0 back (λ proper. absent ((meeting.exact k).1
+      (record { rect = use_box tree.sizes at.0; there = box_at k at.0 at.1; meets = proper })))))
+
+  -- those of several one after another
+  all_dropped : (k more : ℕ) (found : List Spot) → k + more ≤ length uses → ((j : ℕ) → k ≤ j → j < k + more → In j met → ⊥)
+      → AddsSpots Misses (spots_before tree step spot k) [] found → AddsSpots Misses (spots_before tree step spot (k + more)) [] found
+  all_dropped k zero found within absent adds =
+      subst (λ (n : ℕ). AddsSpots Misses (spots_before tree step spot n) [] found) (let e : k ≡ k + 0 = omega arith in e) adds
+  all_dropped k (suc more) found within absent adds =
+      subst (λ (n : ℕ). AddsSpots Misses (spots_before tree step spot n) [] found) (let e : suc (k + more) ≡ k + suc more = omega arith in e)
+      (one_dropped (k + more) found (omega (arith, within)) (absent (k + more) (omega arith) (omega arith))
+      (all_dropped k more found (omega (arith, within)) (λ j low high. absent j low (omega (arith, high))) adds))
+
+  -- what was found is not among the uses that come before the next of it
+  not_met : (i : ℕ) (found : List Spot) (now : IsSearchedTo tree step spot back met i found) (q : ℕ) → now.next ≤ q
+      → (i < length met → q < get_or met i 0) → In q met → ⊥
+  not_met i found now q low high stands =
+      let at = In-index q met stands in
+      let j = at.0 in
+      let is : get_or met j 0 ≡ q = at.1.1 0 in
+      elim (cases_lt j i) [
+        | inl early ↦ (let b = now.before j early in omega (arith, b, is, low))
+        | inr late ↦ elim (cases_lt i j) [
+          | inl later ↦ (
+              let ordered : get_or met i 0 < get_or met j 0 = meeting.ordered i j 0 later at.1.0 in
+              let less = high (omega (arith, later, at.1.0)) in
+              omega (arith, ordered, less, is))
+          | inr same ↦ (
+              let e : i ≡ j = omega (arith, late, same) in
+              let less = high (omega (arith, e, at.1.0)) in
+              let here : get_or met i 0 ≡ get_or met j 0 = ap (λ (n : ℕ). get_or met n 0) e in
+              omega (arith, less, is, here))
+        ]
+      ]
+
+  -- before anything was found
+  pub search_start : (found : List Spot) → found ≡ [] → IsSearchedTo tree step spot back met 0 found
+  search_start found none = record {
+    next = 0;
+    within = omega arith;
+    before = λ j less. absurd (omega (arith, less));
+    after = λ j low high. omega arith;
+    adds = subst (λ (f : List Spot). AddsSpots Misses [] [] f) (sym none) (spots_none Misses []);
+  }
+
+  -- the spots of the next use that was found were added
+  pub search_next : (i j p : ℕ) (used : UseBody) (found new : List Spot) → IsSearchedTo tree step spot back met i found → i < length met
+      → p ≡ get_or met i 0 → j ≡ i + 1 → IsUseAt tree spot.cell.0 p used
+      → AddsSpots Misses (spots_of_use tree.sizes (place_of tree step spot p) used) found new → IsSearchedTo tree step spot back met j new
+  search_next i j p used found new now more is after at adds =
+      let first = now.next in
+      let there : p < length uses = slice_get_within uses p (at.id, used) at.there in
+      let low : first ≤ p = (let a = now.after i (omega arith) more in omega (arith, a, is)) in
+      let long : first + (p - first) ≡ p = omega (arith, low) in
+      let to_it : AddsSpots Misses (spots_before tree step spot p) [] found =
+      subst (λ (n : ℕ). AddsSpots Misses (spots_before tree step spot n) [] found) long
+      (all_dropped first (p - first) found (omega (arith, long, there))
+      (λ q from to. not_met i found now q from (λ inside. omega (arith, to, long, is))) now.adds) in
+      record {
+        next = suc p;
+        within = there;
+        before = λ k less. elim (cases_lt k i) [
+          | inl early ↦ (let b = now.before k early in omega (arith, b, low))
+          | inr late ↦ (
+              let e : k ≡ i = omega (arith, late, less, after) in
+              let here : get_or met k 0 ≡ get_or met i 0 = ap (λ (n : ℕ). get_or met n 0) e in omega (arith, here, is))
+        ];
+        after = λ k past inside.
+            let ordered : get_or met i 0 < get_or met k 0 = meeting.ordered i k 0 (omega (arith, past, after)) inside in
+            omega (arith, ordered, is);
+        adds = spots_next Misses tree step spot p (suc p) used found new at refl to_it adds;
+      }
+
+  -- all that were found
+  pub search_end : (i : ℕ) (found : List Spot) → IsSearchedTo tree step spot back met i found → length met ≤ i
+      → AreSiftedBy Misses (spots_under tree step spot) found
+  search_end i found now done =
+      let first = now.next in
+      let within = now.within in
+      let long : first + (length uses - first) ≡ length uses = omega (arith, within) in
+      let adds =
+      all_dropped first (length uses - first) found (omega (arith, long)) (λ q from to. not_met i found now q from (λ inside. absurd (omega
+      (arith, inside, done)))) now.adds in
+      let all : AddsSpots Misses (spots_under tree step spot) [] found =
+      subst (λ (us : List (List ℕ × UseBody)). AddsSpots Misses (spots_from step (size_at tree.sizes) spot.to_top us (spot.part + step)
+      (spot.element + 1)) [] found) (ap (λ (n : ℕ). take n uses) long ∙ take_all (length uses) uses (omega arith)) adds in
+      subst (AreSiftedBy Misses (spots_under tree step spot)) (sym all.is) all.sifted

@@ -1,0 +1,6 @@
+use Rattle.std.proofs.Common.{arith}
+use Rattle.cell_tree.specs.declared.sizes.Dimension.TheVariants.{Elements}
+use Rattle.cell_library.proofs.use_trees.behind.Goals as goal
+
+pub overflow_cast-size : goal.overflow_cast-size
+overflow_cast-size c = omega (arith, c.elements-size.ensures, c.requires.lawful.sizes.within Elements c.args.used.now.child.0)

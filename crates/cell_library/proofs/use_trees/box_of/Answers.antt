@@ -1,0 +1,8 @@
+use Rattle.std.proofs.Common.{sym, subst}
+use Rattle.cell_tree.specs.declared.sizes.Dimension.TheVariants.{Hull}
+use Rattle.cell_tree.specs.Sizes.{IsHullInRange}
+use Rattle.cell_library.proofs.use_trees.box_of.Goals as goal
+
+pub hull_below-requires-clause-near : goal.hull_below-requires-clause-near
+hull_below-requires-clause-near c =
+    subst IsHullInRange (sym c.hull.ensures) (c.requires.lawful.sizes.within Hull c.args.used.now.child.0)
