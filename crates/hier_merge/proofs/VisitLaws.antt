@@ -21,7 +21,7 @@ use Rattle.layout_trees.proofs.SetUnions.{none_union, union_assoc, union_none, u
 use Rattle.cell_library.specs.declared.part_tiles.PartTile.{PartTile}
 use Rattle.cell_library.specs.PartTiles.{IsPartTileIn, set_from, set_of_part, set_of_tiles}
 use Rattle.hier_merge.specs.Interactions.{IsWorkOver}
-use Rattle.hier_merge.specs.Visits.{AddsVisit, AreVisits, CountsVisit, IsVisit}
+use Rattle.hier_merge.specs.Visits.{AreVisits, IsVisit}
 
 -- ---- unions over lists of tiles
 
@@ -171,23 +171,27 @@ visits_next raw tree areas count tiles found default below visits visit =
     subst (λ (all : List Rect). AreVisits raw tree all (tiles ++ found)) (sym (taken_next areas count default below))
     (visits_more raw tree (take count areas) tiles (slice_index_or areas count default) found visits visit)
 
--- what an added visit of the next area leaves
-pub next_added : (raw : RawTech) (tree : CellTree) (areas : List Rect) (count : ℕ) (before after : List PartTile) (first old new : ℕ) (default : Rect)
+-- the tiles of a visit of the next area are added
+pub next_added : (raw : RawTech) (tree : CellTree) (areas : List Rect) (count : ℕ) (before found after : List PartTile) (first old new : ℕ) (default : Rect)
     → count < length areas → AreVisits raw tree (take count areas) before → old ≡ first + length before
-    → AddsVisit raw tree (slice_index_or areas count default) before after old new
+    → IsVisit raw tree (slice_index_or areas count default) found → after ≡ before ++ found → new ≡ old + length found
     → AreVisits raw tree (take (count + 1) areas) after × (new ≡ first + length after)
-next_added raw tree areas count before after first old new default below visits steps added = (
-  subst (λ (tiles : List PartTile). AreVisits raw tree (take (count + 1) areas) tiles) (sym added.tiles)
-      (visits_next raw tree areas count before added.found default below visits added.visit),
-  omega (arith, steps, added.steps, ap (λ (t : List PartTile). length t) added.tiles, length-append before added.found),
+next_added raw tree areas count before found after first old new default below visits steps visit added more = (
+  subst (λ (tiles : List PartTile). AreVisits raw tree (take (count + 1) areas) tiles) (sym added)
+      (visits_next raw tree areas count before found default below visits visit),
+  omega (arith, steps, more, ap (λ (t : List PartTile). length t) added, length-append before found),
 )
 
--- what a visit of the next area counts is no more than the work over all
-pub next_counted : (raw : RawTech) (tree : CellTree) (areas : List Rect) (count : ℕ) (before : List PartTile) (first old new work : ℕ) (default : Rect)
-    → count < length areas → AreVisits raw tree (take count areas) before → old ≡ first + length before
-    → CountsVisit raw tree (slice_index_or areas count default) old new → IsWorkOver tree areas work → new ≤ first + work
-next_counted raw tree areas count before first old new work default below visits steps (inl same) over =
+-- what is counted before a visit of the next area is no more than the work over all
+pub before_counted : (raw : RawTech) (tree : CellTree) (areas : List Rect) (count : ℕ) (before : List PartTile) (first old new work : ℕ)
+    → AreVisits raw tree (take count areas) before → old ≡ first + length before → new ≡ old → IsWorkOver tree areas work → new ≤ first + work
+before_counted raw tree areas count before first old new work visits steps same over =
     omega (arith, steps, same, work_taken raw tree areas count before work visits over)
-next_counted raw tree areas count before first old new work default below visits steps (inr (found, visit, more)) over =
+
+-- nor is what is counted after it
+pub next_counted : (raw : RawTech) (tree : CellTree) (areas : List Rect) (count : ℕ) (before found : List PartTile) (first old new work : ℕ) (default : Rect)
+    → count < length areas → AreVisits raw tree (take count areas) before → old ≡ first + length before
+    → IsVisit raw tree (slice_index_or areas count default) found → new ≡ old + length found → IsWorkOver tree areas work → new ≤ first + work
+next_counted raw tree areas count before found first old new work default below visits steps visit more over =
     let taken = work_taken raw tree areas (count + 1) (before ++ found) work (visits_next raw tree areas count before found default below visits visit) over in
     omega (arith, steps, more, taken, length-append before found)

@@ -1,5 +1,5 @@
 -- The tiles that visits of areas hand out, and what they make of the parts of a cell.
-use Rattle.std.specs.Prelude.{◌≡◌, ◌==◌, ◌⊎◌, ◌+◌, ◌<◌, length, ℕ, if◌then◌else◌, List, [], ◌∷◌, ◌++◌, All}
+use Rattle.std.specs.Prelude.{◌≡◌, ◌==◌, ◌<◌, ℕ, if◌then◌else◌, List, [], ◌∷◌, ◌++◌, All}
 use Rattle.finite_sets.specs.Lists.{Lists}
 use Rattle.geo_core.specs.declared.squares.Rect.{Rect}
 use Rattle.geo_core.specs.Areas.{IsNear}
@@ -35,14 +35,3 @@ tiles_on raw plane (tile ∷ tiles) = if tile.plane == plane then set_tile raw t
 -- The tiles are of these parts, and near.
 abbrev pub AreOfParts : ℕ → List PartTile → Type 0
 AreOfParts count tiles = All (λ tile. (tile.part < count) × IsNear tile.area) tiles
-
--- A visit of the area added its tiles, with a step for each.
-pub record AddsVisit (raw : RawTech) (tree : CellTree) (area : Rect) (before after : List PartTile) (old new : ℕ) : Type 0 where
-  pub found : List PartTile
-  pub visit : IsVisit raw tree area found
-  pub tiles : after ≡ before ++ found
-  pub steps : new ≡ old + length found
-
--- A visit of the area counted its steps, or none were counted.
-abbrev pub CountsVisit : RawTech → CellTree → Rect → ℕ → ℕ → Type 0
-CountsVisit raw tree area old new = (new ≡ old) ⊎ ((found : List PartTile) × IsVisit raw tree area found × (new ≡ old + length found))

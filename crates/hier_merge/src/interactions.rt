@@ -1,15 +1,14 @@
 //! Where the parts of a cell interact, and the tiles that they have there.
-ghost use Rattle.std.specs.Prelude.{◌≡◌, ◌≤◌, ◌+◌, ◌++◌, ◌<◌, ℕ, All, IfOk, OnOk, OnErr, length};
+ghost use Rattle.std.specs.Prelude.{◌≡◌, ◌≤◌, ◌+◌, ◌++◌, ◌<◌, ℕ, All, IfOk, length};
 ghost use Rattle.std.specs.Option.{option_to_list};
 ghost use Rattle.geo_core.specs.Areas.{IsNear};
-ghost use Rattle.geo_core.specs.Covering.{IsProper};
 ghost use Rattle.layout_trees.specs.FlatSets.{parts_in};
 ghost use Rattle.cell_tree.specs.Hulls.{IsLawfulBox};
 ghost use Rattle.cell_library.specs.Libraries.{seen};
 ghost use Rattle.cell_library.specs.LayoutTrees.{tree_at};
 ghost use Rattle.cell_library.specs.ElementBoxes.{HoldParts};
 ghost use Rattle.hier_merge.specs.Interactions.{ArePartBoxes, IsWorkOver};
-ghost use Rattle.hier_merge.specs.Visits.{AddsVisit, AreVisits, CountsVisit};
+ghost use Rattle.hier_merge.specs.Visits.{AreVisits};
 
 use cell_library::{PartTile, Reader};
 use ext_model::CellKey;
@@ -50,7 +49,7 @@ fn all_boxes(alloc: Global, own: Option<Rect>, elements: &[Rect]) -> Result<Vec<
     Ok(boxes)
 }
 
-/// The tiles that visits of the areas hand out, one after another.
+/// The tiles that visits of the areas hand out, one after another, for a step each. Want of memory alone refuses.
 pub fn visit_all<L: Ledger>(
     alloc: Global,
     library: &Reader<'_>,
@@ -59,33 +58,16 @@ pub fn visit_all<L: Ledger>(
     steps: &mut Steps<L>,
 ) -> Result<Vec<PartTile>, AllocError>
     requires cell { cell.0 < length library.now.contents }
-    requires proper { All IsProper areas.now }
     requires near { All IsNear areas.now }
     ensures tiles { IfOk result (λ tiles. AreVisits library.now.tech (tree_at (seen library.now) cell.0) areas.now tiles.items) }
+    ensures counted { IfOk result (λ tiles. steps.new ≡ steps.old + length tiles.items) }
     ensures steps { (work : ℕ) → IsWorkOver (tree_at (seen library.now) cell.0) areas.now work → steps.new ≤ steps.old + work }
 {
+    let mut visitor = library.visitor();
     let mut tiles = Vec::new(alloc);
     for area in areas {
-        visit_one(library, cell, *area, &mut tiles, steps)?;
+        let found = visitor.visit(cell, *area, steps)?;
+        tiles.extend_from_slice(found.as_slice())?;
     }
     Ok(tiles)
-}
-
-// Adds the tiles that a visit of the area hands out.
-fn visit_one<L: Ledger>(
-    library: &Reader<'_>,
-    cell: CellKey,
-    area: Rect,
-    tiles: &mut Vec<PartTile>,
-    steps: &mut Steps<L>,
-) -> Result<(), AllocError>
-    requires cell { cell.0 < length library.now.contents }
-    requires proper { IsProper area }
-    requires near { IsNear area }
-    ensures added { OnOk result (AddsVisit library.now.tech (tree_at (seen library.now) cell.0) area tiles.old.items tiles.new.items steps.old steps.new) }
-    ensures counted { OnErr result (CountsVisit library.now.tech (tree_at (seen library.now) cell.0) area steps.old steps.new) }
-{
-    let found = library.visit(cell, area, steps)?;
-    tiles.extend_from_slice(found.as_slice())?;
-    Ok(())
 }

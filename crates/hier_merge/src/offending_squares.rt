@@ -1,6 +1,5 @@
 //! The squares at which the parts of a cell spoil each other.
 ghost use Rattle.std.specs.Prelude.{◌≡◌, ◌≤◌, ◌+◌, ◌<◌, ◌↔◌, ◌++◌, ℕ, [], map, IfOk, OnOk, length};
-ghost use Rattle.tech_model.specs.Types.{parts_of};
 ghost use Rattle.layout_trees.specs.FlatSets.{parts_in};
 ghost use Rattle.offences.specs.Offences.{HaveTypes, OffendsOn};
 ghost use Rattle.offences.specs.SetTiles.{tile_parts};
@@ -24,7 +23,7 @@ use offences::{OffenceFault, SetTile, offending_tiles};
 use std::alloc::{AllocError, Global};
 use std::sync::ledger::Ledger;
 use step_count::Steps;
-use tech_model::{PartSet, Tech, TypeId};
+use tech_model::Tech;
 
 /// The strips of the squares of the cell that offend, by plane. All cells below the cell are clean.
 ///
@@ -41,6 +40,7 @@ pub fn offending_of<L: Ledger>(
         (OffendsOn library.now.tech (parts_in library.now.tech (tree_at (seen library.now) cell.0))) (length library.now.tech.planes) found.items) }
     ensures clean { IfOk result (λ found. (found.items ≡ []) ↔ IsClean library.now.tech (tree_at (seen library.now) cell.0)) }
     ensures keeps { IfOk result (λ found. found.items ≡ [] → KeepsWhatItHas library.now.tech (tree_at (seen library.now) cell.0)) }
+    ensures work { IfOk result (λ _. (work : ℕ) × IsWork (seen library.now) cell.0 work × (steps.new ≤ steps.old + work + 1)) }
     ensures steps { (work : ℕ) → IsWork (seen library.now) cell.0 work → steps.new ≤ steps.old + work + 1 }
 {
     library.lawful();
@@ -62,6 +62,7 @@ fn meeting_tiles<L: Ledger>(
 ) -> Result<Vec<PartTile>, AllocError>
     requires { cell.0 < length library.now.contents }
     ensures tiles { IfOk result (λ tiles. AreMeetingTiles library.now.tech (tree_at (seen library.now) cell.0) tiles.items) }
+    ensures work { IfOk result (λ _. (work : ℕ) × IsWork (seen library.now) cell.0 work × (steps.new ≤ steps.old + work + 1)) }
     ensures steps { (work : ℕ) → IsWork (seen library.now) cell.0 work → steps.new ≤ steps.old + work + 1 }
 {
     library.lawful();
@@ -128,18 +129,6 @@ fn set_tile(tech: &Tech, tile: &PartTile) -> SetTile
     SetTile {
         part: tile.part as usize,
         area: tile.area,
-        set: parts_of(tech, tile.kind),
+        set: tech.raw().parts_of(tile.kind),
     }
-}
-
-// The set of a type, empty for space.
-fn parts_of(tech: &Tech, kind: TypeId) -> PartSet
-    ensures { result.0 ≡ parts_of tech.now kind.0 }
-{
-    let types = tech.raw().types.items();
-    let number = usize::from(kind.0);
-    if number == 0 || number > types.len() {
-        return PartSet(0);
-    }
-    types[number - 1].parts
 }

@@ -1,28 +1,56 @@
-use Rattle.std.proofs.Common.{◌≡◌, ◌+◌, length, arith}
+use Rattle.std.proofs.Common.{◌≡◌, ◌+◌, ◌++◌, List, length, pos, ap, subst, ◌∙◌, arith}
+use Rattle.std.specs.Prelude.{slice_index_or}
+use Rattle.geo_core.specs.declared.squares.Rect.{Rect}
 use Rattle.layout_trees.specs.CellTrees.{CellTree}
-use Rattle.cell_library.specs.Libraries.{seen}
+use Rattle.cell_library.specs.declared.part_tiles.PartTile.{PartTile}
+use Rattle.cell_library.specs.Libraries.{LibraryParts, seen}
 use Rattle.cell_library.specs.LayoutTrees.{tree_at}
-use Rattle.hier_merge.proofs.VisitLaws.{next_added, next_counted, work_taken}
+use Rattle.hier_merge.specs.Visits.{IsVisit}
+use Rattle.hier_merge.proofs.VisitLaws.{before_counted, next_added, next_counted, work_taken}
 use Rattle.hier_merge.proofs.interactions.visit_all.Goals as goal
 
-pub returns-in_err-visit_one-clause-steps : goal.returns-in_err-visit_one-clause-steps
-returns-in_err-visit_one-clause-steps g c = λ work over.
+-- what is past the last area
+abbrev no_area : Rect
+no_area = record { xlo = pos 0; ylo = pos 0; xhi = pos 0; yhi = pos 0 }
+
+pub returns-in_err-found-clause-steps : goal.returns-in_err-found-clause-steps
+returns-in_err-found-clause-steps g c = λ work over.
+    let library = c.args.library.now in
+    before_counted library.tech (tree_at (seen library) c.args.cell.0) c.args.areas.now c.loop-area.area-index c.loop-area.tiles.items c.args.steps.now
+    c.loop-area.steps c.visit.new.steps work c.loop-area.invariant.visits c.loop-area.invariant.steps c.in_err-found.ensures.refused over
+
+pub returns-in_err-extend_from_slice-clause-steps : goal.returns-in_err-extend_from_slice-clause-steps
+returns-in_err-extend_from_slice-clause-steps g c = λ work over.
     let library = c.args.library.now in
     let tree : CellTree = tree_at (seen library) c.args.cell.0 in
-    next_counted library.tech tree c.args.areas.now c.loop-area.area-index c.loop-area.tiles.items c.args.steps.now c.loop-area.steps c.visit_one.new.steps
-    work _ c.loop-area-test.true c.loop-area.invariant.0 c.loop-area.invariant.1 c.in_err-visit_one.ensures.counted over
+    let found = c.in_ok-found.found.items in
+    let visit =
+    subst (λ (l : LibraryParts). IsVisit l.tech (tree_at (seen l) c.args.cell.0)
+    (slice_index_or c.args.areas.now c.loop-area.area-index no_area) found) c.loop-area.invariant.same
+    (record { lists = c.in_ok-found.ensures.tiles; sets = c.in_ok-found.ensures.sets }) in
+    next_counted library.tech tree c.args.areas.now c.loop-area.area-index c.loop-area.tiles.items found c.args.steps.now c.loop-area.steps
+    c.visit.new.steps work no_area c.loop-area-test.true c.loop-area.invariant.visits c.loop-area.invariant.steps visit c.in_ok-found.ensures.steps over
 
 pub loop-area-preserved : goal.loop-area-preserved
 loop-area-preserved g c =
     let library = c.args.library.now in
     let tree : CellTree = tree_at (seen library) c.args.cell.0 in
-    next_added library.tech tree c.args.areas.now c.loop-area.area-index c.loop-area.tiles.items c.visit_one.new.tiles.items c.args.steps.now
-    c.loop-area.steps c.visit_one.new.steps _ c.loop-area-test.true c.loop-area.invariant.0 c.loop-area.invariant.1 c.in_ok-visit_one.ensures.added
+    let found = c.in_ok-found.found.items in
+    let visit =
+    subst (λ (l : LibraryParts). IsVisit l.tech (tree_at (seen l) c.args.cell.0)
+    (slice_index_or c.args.areas.now c.loop-area.area-index no_area) found) c.loop-area.invariant.same
+    (record { lists = c.in_ok-found.ensures.tiles; sets = c.in_ok-found.ensures.sets }) in
+    let next =
+    next_added library.tech tree c.args.areas.now c.loop-area.area-index c.loop-area.tiles.items found c.extend_from_slice.new.self.items c.args.steps.now
+    c.loop-area.steps c.visit.new.steps no_area c.loop-area-test.true c.loop-area.invariant.visits c.loop-area.invariant.steps visit
+    (c.in_ok-extend_from_slice.ensures.items ∙ ap (λ (more : List PartTile). c.loop-area.tiles.items ++ more) c.as_slice.ensures.value)
+    c.in_ok-found.ensures.steps in
+    record { same = c.visit.ensures.same ∙ c.loop-area.invariant.same; visits = next.0; steps = next.1 }
 
 pub returns-clause-steps : goal.returns-clause-steps
 returns-clause-steps g c = λ work over.
     let library = c.args.library.now in
     let tree : CellTree = tree_at (seen library) c.args.cell.0 in
-    let taken = work_taken library.tech tree c.args.areas.now c.loop-area.area-index c.loop-area.tiles.items work c.loop-area.invariant.0 over in
-    let steps : c.loop-area.steps ≡ c.args.steps.now + length c.loop-area.tiles.items = c.loop-area.invariant.1 in
+    let taken = work_taken library.tech tree c.args.areas.now c.loop-area.area-index c.loop-area.tiles.items work c.loop-area.invariant.visits over in
+    let steps : c.loop-area.steps ≡ c.args.steps.now + length c.loop-area.tiles.items = c.loop-area.invariant.steps in
     omega (arith, steps, taken)

@@ -4,8 +4,10 @@ use Rattle.cell_library.specs.LayoutTrees.{tree_at}
 use Rattle.hier_merge.specs.Visits.{AreVisits}
 use Rattle.hier_merge.proofs.interactions.visit_all.Given as goal
 
--- the tiles are those of visits of the areas so far, with a step for each
+-- the visitor stays with the library, and the tiles are those of visits of the areas so far, with a step for each
 abbrev pub invariant-loop-area : goal.invariant-loop-area
-invariant-loop-area g l =
-    AreVisits l.library.tech (tree_at (seen l.library) l.cell.0) (take l.area-index l.areas) l.tiles.items
-    × (l.steps ≡ l.fn.steps + length l.tiles.items)
+invariant-loop-area g l = record {
+  same : l.visitor ≡ l.library;
+  visits : AreVisits l.library.tech (tree_at (seen l.library) l.cell.0) (take l.area-index l.areas) l.tiles.items;
+  steps : l.steps ≡ l.fn.steps + length l.tiles.items;
+}

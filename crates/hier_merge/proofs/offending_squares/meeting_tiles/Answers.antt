@@ -1,8 +1,7 @@
-use Rattle.std.proofs.Common.{List, sym, subst, arith}
+use Rattle.std.proofs.Common.{List, length, sym, subst, arith}
 use Rattle.std.specs.Prelude.{All}
 use Rattle.geo_core.specs.declared.squares.Rect.{Rect}
 use Rattle.geo_core.specs.Areas.{IsNear}
-use Rattle.geo_core.specs.Covering.{IsProper}
 use Rattle.geo_core.specs.Strips.{IsStrips}
 use Rattle.interact.specs.Interactions.{IsShared}
 use Rattle.cell_tree.specs.Hulls.{IsLawfulBox}
@@ -10,13 +9,8 @@ use Rattle.cell_library.specs.LayoutTrees.{tree_at}
 use Rattle.cell_library.specs.Libraries.{seen}
 use Rattle.hier_merge.specs.Visits.{AreVisits}
 use Rattle.hier_merge.proofs.NearAreas.{areas_are_near, strips_are_proper}
-use Rattle.hier_merge.proofs.WorkLaws.{within_work}
+use Rattle.hier_merge.proofs.WorkLaws.{visited_work, within_work}
 use Rattle.hier_merge.proofs.offending_squares.meeting_tiles.Goals as goal
-
-pub visit_all-requires-clause-proper : goal.visit_all-requires-clause-proper
-visit_all-requires-clause-proper g c =
-    subst (All IsProper) (sym c.as_slice-2.ensures.value)
-    (strips_are_proper (IsShared c.as_slice.result.now) c.in_ok-areas.areas.items c.in_ok-areas.ensures.strips)
 
 pub visit_all-requires-clause-near : goal.visit_all-requires-clause-near
 visit_all-requires-clause-near g c =
@@ -59,3 +53,14 @@ returns-clause-steps g c work is =
     c.as_slice-2.result.now c.part_boxes.new.steps c.visit_all.new.steps c.in_ok-boxes.ensures.boxes c.as_slice.ensures.value
     c.in_ok-areas.ensures.strips c.as_slice-2.ensures.value c.visit_all.ensures.steps work is in
     omega (arith, bound, c.part_boxes.ensures.step)
+
+pub returns-clause-work : goal.returns-clause-work
+returns-clause-work g c =
+    let work = length c.in_ok-tiles.tiles.items in
+    let counted = c.in_ok-tiles.ensures.counted in (
+      work,
+      visited_work c.args.library.now c.lawful.ensures c.args.cell.0 c.in_ok-boxes.boxes.items c.as_slice.result.now c.in_ok-areas.areas.items
+          c.as_slice-2.result.now c.in_ok-tiles.tiles.items c.in_ok-boxes.ensures.boxes c.as_slice.ensures.value c.in_ok-areas.ensures.strips
+          c.as_slice-2.ensures.value c.in_ok-tiles.ensures.tiles,
+      omega (arith, counted, c.part_boxes.ensures.step),
+    )
