@@ -1,30 +1,29 @@
--- Cutting an area in two: the sides along which a member cuts it, and the halves.
-use Rattle.std.proofs.Common.{◌≡◌, ◌⊎◌, inl, inr, true, false, ◌≤ℤ◌, ◌<ℤ◌, arith}
+-- Cutting an area in two: the sides along which a rectangle cuts it, and the halves.
+use Rattle.std.proofs.Common.{◌≡◌, ◌⊎◌, inl, inr, Bool, true, false, ◌≤ℤ◌, ◌<ℤ◌, refl, sym, arith}
 use Rattle.std.proofs.lemmas.Int.{ints, clamps}
 use Rattle.finite_sets.proofs.Orders.{at_most_or_greater}
 use Rattle.geo_core.specs.declared.squares.Square.{Square}
 use Rattle.geo_core.specs.declared.squares.Rect.{Rect}
 use Rattle.geo_core.specs.Areas.{common_rect, AreDisjoint}
 use Rattle.geo_core.specs.Covering.{Covers, IsProper}
-use Rattle.geo_core.proofs.CoveringLaws.{IsProper-has_square}
+use Rattle.geo_core.proofs.CoveringLaws.{IsProper-has_square, has_square-IsProper}
 use Rattle.rect_overlays.specs.declared.cuts.Cut.{Cut}
 use Rattle.rect_overlays.specs.declared.cuts.Cut.TheVariants.{Column, Row}
-use Rattle.rect_overlays.specs.declared.regions.Member.{Member}
-use Rattle.rect_overlays.specs.Cuts.{low_half, high_half, IsInside}
+use Rattle.rect_overlays.specs.Cuts.{low_half, high_half, is_past_low, is_past_high, IsInside}
 use Rattle.rect_overlays.specs.Regions.{meets, goes_round}
 
--- where a member begins above the lowest row of an area that it meets, its lower side cuts the area
-pub begins_inside : (area : Rect) (member : Member) → meets area member ≡ true → area.ylo <ℤ member.area.ylo → member.area.ylo <ℤ area.yhi
-begins_inside area member meet above =
-    let common = common_rect member.area area in
+-- where a rectangle begins above the lowest row of an area that it meets, its lower side cuts the area
+pub begins_inside : (area : Rect) (rect : Rect) → meets area rect ≡ true → area.ylo <ℤ rect.ylo → rect.ylo <ℤ area.yhi
+begins_inside area rect meet above =
+    let common = common_rect rect area in
     let high : common.ylo <ℤ common.yhi = (IsProper-has_square common meet).high in
     omega (arith, ints, clamps)
 
 -- and where it has all columns of the area and begins no higher, its upper side does, unless it goes round the area
-pub ends_inside : (area : Rect) (member : Member) → meets area member ≡ true → goes_round area member ≡ false → member.area.xlo ≤ℤ area.xlo
-    → area.xhi ≤ℤ member.area.xhi → member.area.ylo ≤ℤ area.ylo → (area.ylo <ℤ member.area.yhi) × (member.area.yhi <ℤ area.yhi)
-ends_inside area member meet partial left right low =
-    let common = common_rect member.area area in
+pub ends_inside : (area : Rect) (rect : Rect) → meets area rect ≡ true → goes_round area rect ≡ false → rect.xlo ≤ℤ area.xlo
+    → area.xhi ≤ℤ rect.xhi → rect.ylo ≤ℤ area.ylo → (area.ylo <ℤ rect.yhi) × (rect.yhi <ℤ area.yhi)
+ends_inside area rect meet partial left right low =
+    let common = common_rect rect area in
     let high : common.ylo <ℤ common.yhi = (IsProper-has_square common meet).high in
     (omega (arith, ints, clamps), grind (arith, ints))
 
@@ -81,9 +80,9 @@ halves_are_apart area (Row y) square low high =
     let above : y ≤ℤ square.y = high.above_ylo in
     omega (arith, ints)
 
--- a member that goes round an area covers each square of it
-pub round_covers : (area : Rect) (member : Member) (square : Square) → goes_round area member ≡ true → Covers area square → Covers member.area square
-round_covers area member square round c =
+-- a rectangle that goes round an area covers each square of it
+pub round_covers : (area : Rect) (rect : Rect) (square : Square) → goes_round area rect ≡ true → Covers area square → Covers rect square
+round_covers area rect square round c =
     let left : area.xlo ≤ℤ square.x = c.right_of_xlo in
     let right : square.x <ℤ area.xhi = c.left_of_xhi in
     let low : area.ylo ≤ℤ square.y = c.above_ylo in
@@ -94,3 +93,47 @@ round_covers area member square round c =
       above_ylo = grind (arith, ints);
       below_yhi = grind (arith, ints);
     }
+
+same_test : (a b : Bool) → (a ≡ true → b ≡ true) → (b ≡ true → a ≡ true) → a ≡ b
+same_test true b there back = sym (there refl)
+same_test false true there back = back refl
+same_test false false there back = refl
+
+-- a rectangle with a square in an area goes past a cut just if it has one in that half
+pub past_low : (area : Rect) (cut : Cut) (rect : Rect) → IsInside area cut → meets area rect ≡ true
+    → is_past_low cut rect ≡ meets (low_half area cut) rect
+past_low area (Column x) rect inside meet =
+    let common = common_rect rect area in
+    let both = IsProper-has_square common meet in
+    let wide : common.xlo <ℤ common.xhi = both.wide in
+    let half = common_rect rect (low_half area (Column x)) in
+    same_test (is_past_low (Column x) rect) (meets (low_half area (Column x)) rect)
+    (λ past. let less : rect.xlo <ℤ x = grind (arith, ints) in has_square-IsProper half (record { wide = omega (arith, ints, clamps, inside.0); high = both.high }))
+    (λ met. let less : half.xlo <ℤ half.xhi = (IsProper-has_square half met).wide in let low : rect.xlo <ℤ x = omega (arith, ints, clamps) in grind (arith, ints))
+past_low area (Row y) rect inside meet =
+    let common = common_rect rect area in
+    let both = IsProper-has_square common meet in
+    let high : common.ylo <ℤ common.yhi = both.high in
+    let half = common_rect rect (low_half area (Row y)) in
+    same_test (is_past_low (Row y) rect) (meets (low_half area (Row y)) rect)
+    (λ past. let less : rect.ylo <ℤ y = grind (arith, ints) in has_square-IsProper half (record { wide = both.wide; high = omega (arith, ints, clamps, inside.0) }))
+    (λ met. let less : half.ylo <ℤ half.yhi = (IsProper-has_square half met).high in let low : rect.ylo <ℤ y = omega (arith, ints, clamps) in grind (arith, ints))
+
+pub past_high : (area : Rect) (cut : Cut) (rect : Rect) → IsInside area cut → meets area rect ≡ true
+    → is_past_high cut rect ≡ meets (high_half area cut) rect
+past_high area (Column x) rect inside meet =
+    let common = common_rect rect area in
+    let both = IsProper-has_square common meet in
+    let wide : common.xlo <ℤ common.xhi = both.wide in
+    let half = common_rect rect (high_half area (Column x)) in
+    same_test (is_past_high (Column x) rect) (meets (high_half area (Column x)) rect)
+    (λ past. let less : x <ℤ rect.xhi = grind (arith, ints) in has_square-IsProper half (record { wide = omega (arith, ints, clamps, inside.1); high = both.high }))
+    (λ met. let less : half.xlo <ℤ half.xhi = (IsProper-has_square half met).wide in let high : x <ℤ rect.xhi = omega (arith, ints, clamps) in grind (arith, ints))
+past_high area (Row y) rect inside meet =
+    let common = common_rect rect area in
+    let both = IsProper-has_square common meet in
+    let high : common.ylo <ℤ common.yhi = both.high in
+    let half = common_rect rect (high_half area (Row y)) in
+    same_test (is_past_high (Row y) rect) (meets (high_half area (Row y)) rect)
+    (λ past. let less : y <ℤ rect.yhi = grind (arith, ints) in has_square-IsProper half (record { wide = both.wide; high = omega (arith, ints, clamps, inside.1) }))
+    (λ met. let less : half.ylo <ℤ half.yhi = (IsProper-has_square half met).high in let above : y <ℤ rect.yhi = omega (arith, ints, clamps) in grind (arith, ints))

@@ -1,23 +1,18 @@
--- Lists of members and of regions.
-use Rattle.std.proofs.Common.{◌≡◌, inl, inr, true, false, ℕ, ◌+◌, ◌≤◌, ◌<◌, zero, suc, List, [], ◌∷◌, ◌++◌, length, map, get_or, drop, pos}
-use Rattle.std.proofs.Common.{Bool, Some, append_assoc, refl, sym, ◌∙◌, ap, subst, arith}
-use Rattle.std.specs.Prelude.{AllPairs, slice_get, find, not, None, ◌==◌}
-use Rattle.std.proofs.lemmas.Bool.Decides.{nat_tests}
+-- Lists of indices and of regions.
+use Rattle.std.proofs.Common.{◌≡◌, ◌≢◌, inl, inr, Bool, true, false, ℕ, zero, suc, ◌+◌, ◌-◌, ◌<◌, List, [], ◌∷◌, ◌++◌, length, map, get_or, take, drop}
+use Rattle.std.proofs.Common.{Some, refl, ◌∙◌, ap, subst, cond, arith}
+use Rattle.std.specs.Prelude.{All, AllPairs, filter, find, not, None}
+use Rattle.std.specs.List.{range_with_len}
+use Rattle.std.proofs.Math.Seq.{drop-append_seam, take-append_seam}
+use Rattle.std.proofs.lemmas.List.{length-append}
+use Rattle.std.proofs.lemmas.List.Elements.{filter-append}
+use Rattle.std.proofs.lemmas.List.FromFn.{length-range_with_len, get_or-range_with_len}
 use Rattle.finite_sets.specs.Lists.{In}
-use Rattle.finite_sets.proofs.Members.{In-append_left, In-push, In-push_cases}
-use Rattle.finite_sets.proofs.Pairs.{Pairwise, AllPairs-from_Pairwise, Pairwise-from_AllPairs, Pairwise-map}
-use Rattle.finite_sets.proofs.Searches.{find-In, find-passes, find-none, drop_split}
-use Rattle.std.proofs.lemmas.List.{append-nil, drop_all, get_or_default}
+use Rattle.finite_sets.proofs.Members.{In-append_left, In-push, In-index}
+use Rattle.finite_sets.proofs.Pairs.{Pairwise, AllPairs-from_Pairwise, Pairwise-from_AllPairs, Pairwise-push}
+use Rattle.finite_sets.proofs.Searches.{find-In, find-passes, find-none}
 use Rattle.geo_core.specs.declared.squares.Rect.{Rect}
-use Rattle.rect_overlays.specs.declared.regions.Member.{Member}
-use Rattle.rect_overlays.specs.Regions.{members_from, meets, goes_round, AllMeet, AllGoRound}
-
-Pairwise-push : {X : Type 0} (R : X → X → Type 0) (xs : List X) (y : X) → Pairwise R xs → ((x : X) → In x xs → R x y) → Pairwise R (xs ++ y ∷ [])
-Pairwise-push R [] y h all = ((λ z i. absurd i), tt)
-Pairwise-push R (x ∷ xs) y h all = (
-  (λ z i. elim (In-push_cases z xs y i) [ inl j ↦ h.0 z j | inr e ↦ subst (R x) e (all x (inl refl)) ]),
-  Pairwise-push R xs y h.1 (λ z i. all z (inr i)),
-)
+use Rattle.rect_overlays.specs.Regions.{AllMeet, AllGoRound, meets_at, goes_round_at}
 
 -- one more thing at the end
 pub AllPairs-push : {X : Type 0} (R : X → X → Type 0) (xs : List X) (y : X) → AllPairs R xs → ((x : X) → In x xs → R x y) → AllPairs R (xs ++ y ∷ [])
@@ -35,44 +30,69 @@ Pairwise-front {X} R (x ∷ xs) y h =
 pub AllPairs-front : {X : Type 0} (R : X → X → Type 0) (xs : List X) (y : X) → AllPairs R (xs ++ y ∷ []) → AllPairs R xs × ((x : X) → In x xs → R x y)
 AllPairs-front R xs y h = let p = Pairwise-front R xs y (Pairwise-from_AllPairs R (xs ++ y ∷ []) h) in (AllPairs-from_Pairwise R xs p.0, p.1)
 
--- a fact of the images of any two things
-pub AllPairs-map : {X Y : Type 0} (f : X → Y) (R : Y → Y → Type 0) (xs : List X) → AllPairs (λ a b. R (f a) (f b)) xs → AllPairs R (map f xs)
-AllPairs-map f R xs h = AllPairs-from_Pairwise R (map f xs) (Pairwise-map f R xs (Pairwise-from_AllPairs (λ a b. R (f a) (f b)) xs h))
+-- one more number in a row
+pub range_more : (a n : ℕ) → range_with_len a (suc n) ≡ range_with_len a n ++ (a + n) ∷ []
+range_more a zero = ap (λ (k : ℕ). k ∷ []) (omega arith)
+range_more a (suc n) = ap (λ (v : List ℕ). a ∷ v) (range_more (a + 1) n ∙ ap (λ (k : ℕ). range_with_len (a + 1) n ++ k ∷ []) (omega arith))
 
--- a rectangle without a square
-abbrev pub no_area : Rect
-no_area = record { xlo = pos 0; ylo = pos 0; xhi = pos 0; yhi = pos 0 }
+pub range_one_more : (n : ℕ) → range_with_len 0 (n + 1) ≡ range_with_len 0 n ++ n ∷ []
+range_one_more n =
+    ap (range_with_len 0) (let next : n + 1 ≡ suc n = omega arith in next) ∙ range_more 0 n
+    ∙ ap (λ (k : ℕ). range_with_len 0 n ++ k ∷ []) (omega arith)
 
--- a member is the rectangle at its place
-pub there_is : (place : ℕ) (rects : List Rect) (member : Member) → In member (members_from place rects)
-    → (k : ℕ) × ((member.place ≡ place + k) × (slice_get rects k ≡ Some member.area))
-there_is place [] member i = absurd i
-there_is place (area ∷ areas) member (inl e) = (0, (ap (λ (m : Member). m.place) (sym e) ∙ omega arith, ap (λ (m : Member). Some m.area) e))
-there_is place (area ∷ areas) member (inr i) =
-    let rest = there_is (place + 1) areas member i in
-    let at : member.place ≡ (place + 1) + rest.0 = rest.1.0 in
-    (suc rest.0, (omega arith, rest.1.1))
+-- numbers in a row rise
+pub range_rises : (n : ℕ) → AllPairs ◌<◌ (range_with_len 0 n)
+range_rises n i j d less below =
+    let within : j < n = subst (λ (k : ℕ). j < k) (length-range_with_len 0 n) below in
+    let first : get_or (range_with_len 0 n) i d ≡ 0 + i = get_or-range_with_len 0 n i d (omega arith) in
+    let second : get_or (range_with_len 0 n) j d ≡ 0 + j = get_or-range_with_len 0 n j d within in
+    omega arith
 
--- and each rectangle has a member
-pub member_there : (place : ℕ) (rects : List Rect) (k : ℕ) (area : Rect) → slice_get rects k ≡ Some area
-    → In (record { area = area; place = place + k }) (members_from place rects)
-member_there place [] k area e = absurd (cc)
-member_there place (first ∷ areas) zero area e = let none : place ≡ place + 0 = omega arith in
-    inl (let whole : record { area = first; place = place } ≡ record { area = area; place = place + 0 } = cc in whole)
-member_there place (first ∷ areas) (suc k) area e =
-    inr (subst (λ (n : ℕ). In (record { area = area; place = n }) (members_from (place + 1) areas)) (omega arith)
-    (member_there (place + 1) areas k area e))
+-- what is mapped to a list with a thing at its end ends with one that is mapped to that
+pub map_ends : {X Y : Type 0} (f : X → Y) (xs : List X) (ys : List Y) (y : Y) → map f xs ≡ ys ++ y ∷ []
+    → (front : List X) × (last : X) × ((xs ≡ front ++ last ∷ []) × (map f front ≡ ys) × (f last ≡ y))
+map_ends f [] [] y e = absurd (cc)
+map_ends f [] (z ∷ ys) y e = absurd (cc)
+map_ends {X} f (x ∷ []) [] y e = ([], x, (refl, refl, cc))
+map_ends {X} {Y} f (x ∷ x' ∷ xs) [] y e = let none : f x' ∷ map f xs ≡ [] = cc in absurd (cc)
+map_ends {X} {Y} f (x ∷ xs) (z ∷ ys) y e =
+    let tail : map f xs ≡ ys ++ y ∷ [] = cc in
+    let head : f x ≡ z = cc in
+    let found = map_ends f xs ys y tail in
+    (x ∷ found.0, found.1, (ap (λ (v : List X). x ∷ v) found.2.0, (let fronts : map f found.0 ≡ ys = found.2.1 in cc), found.2.2))
 
-members_rise : (place : ℕ) (rects : List Rect) → Pairwise (λ (a b : Member). a.place < b.place) (members_from place rects)
-members_rise place [] = tt
-members_rise place (area ∷ areas) = (
-  (λ member i. let later = there_is (place + 1) areas member i in let at : member.place ≡ (place + 1) + later.0 = later.1.0 in omega arith),
-  members_rise (place + 1) areas,
-)
+-- the last so many things of a list, and those before them
+pub last_are : {X : Type 0} (xs ys : List X) → drop (length (xs ++ ys) - length ys) (xs ++ ys) ≡ ys
+last_are {X} xs ys = subst (λ (n : ℕ). drop n (xs ++ ys) ≡ ys) (let all = length-append xs ys in omega (arith, all)) (drop-append_seam xs ys)
 
--- their places rise
-pub members_are_ordered : (place : ℕ) (rects : List Rect) → AllPairs (λ (a b : Member). a.place < b.place) (members_from place rects)
-members_are_ordered place rects = AllPairs-from_Pairwise (λ (a b : Member). a.place < b.place) (members_from place rects) (members_rise place rects)
+pub front_is : {X : Type 0} (xs ys : List X) → take (length (xs ++ ys) - length ys) (xs ++ ys) ≡ xs
+front_is {X} xs ys = subst (λ (n : ℕ). take n (xs ++ ys) ≡ xs) (let all = length-append xs ys in omega (arith, all)) (take-append_seam xs ys)
+
+-- tests that agree on a list keep the same of it
+pub same_kept : {X : Type 0} (p q : X → Bool) (xs : List X) → ((x : X) → In x xs → p x ≡ q x) → filter p xs ≡ filter q xs
+same_kept p q [] same = refl
+same_kept {X} p q (x ∷ xs) same =
+    let rest = same_kept p q xs (λ y i. same y (inr i)) in
+    ap (λ (b : Bool). cond b (x ∷ filter p xs) (filter p xs)) (same x (inl refl)) ∙ ap (λ (v : List X). cond (q x) (x ∷ v) v) rest
+
+-- one thing more, kept or not
+pub kept_more : {X : Type 0} (p : X → Bool) (xs : List X) (x : X) → filter p (xs ++ x ∷ []) ≡ filter p xs ++ cond (p x) (x ∷ []) []
+kept_more p xs x = filter-append p xs (x ∷ [])
+
+-- a list that has a thing is not empty
+pub In-some : {X : Type 0} (x : X) (xs : List X) → In x xs → xs ≢ []
+In-some x [] i = absurd i
+In-some x (y ∷ xs) i = λ e. absurd (cc)
+
+-- nor is one of some length
+pub length-some : {X : Type 0} (xs : List X) → 0 < length xs → xs ≢ []
+length-some [] less = absurd (omega arith)
+length-some (x ∷ xs) less = λ e. absurd (cc)
+
+-- and one that is not empty has a thing
+pub some-In : {X : Type 0} (xs : List X) → xs ≢ [] → (x : X) × In x xs
+some-In [] some = absurd (some refl)
+some-In (x ∷ xs) some = (x, inl refl)
 
 true_or : (b : Bool) → not b ≡ false → b ≡ true
 true_or true e = refl
@@ -83,53 +103,31 @@ false_or true e = cc
 false_or false e = refl
 
 -- where none is found that doesn't, each goes round the area
-pub all_go_round : (area : Rect) (members : List Member) → find (λ member. not (goes_round area member)) members ≡ None → AllGoRound area members
-all_go_round area members h member i = true_or (goes_round area member) (find-none (λ m. not (goes_round area m)) members member h i)
+pub all_go_round : (rects : List Rect) (area : Rect) (members : List ℕ) → find (λ member. not (goes_round_at rects area member)) members ≡ None
+    → AllGoRound rects area members
+all_go_round rects area members h member i =
+    true_or (goes_round_at rects area member) (find-none (λ m. not (goes_round_at rects area m)) members member h i)
 
 -- what is found has a square in the area
-pub found_meets : (area : Rect) (members : List Member) (member : Member) → find (λ member. not (goes_round area member)) members ≡ Some member
-    → AllMeet area members → meets area member ≡ true
-found_meets area members member h all = all member (find-In (λ m. not (goes_round area m)) members member h)
+pub found_meets : (rects : List Rect) (area : Rect) (members : List ℕ) (member : ℕ)
+    → find (λ member. not (goes_round_at rects area member)) members ≡ Some member → AllMeet rects area members → meets_at rects area member ≡ true
+found_meets rects area members member h all = all member (find-In (λ m. not (goes_round_at rects area m)) members member h)
 
 -- and doesn't go round it
-pub found_is_partial : (area : Rect) (members : List Member) (member : Member) → find (λ member. not (goes_round area member)) members ≡ Some member
-    → goes_round area member ≡ false
-found_is_partial area members member h = false_or (goes_round area member) (find-passes (λ m. not (goes_round area m)) members member h)
+pub found_is_partial : (rects : List Rect) (area : Rect) (members : List ℕ) (member : ℕ)
+    → find (λ member. not (goes_round_at rects area member)) members ≡ Some member → goes_round_at rects area member ≡ false
+found_is_partial rects area members member h =
+    false_or (goes_round_at rects area member) (find-passes (λ m. not (goes_round_at rects area m)) members member h)
 
--- the members so far and those to come stay all as one more is added
-pub adds_member : (rects : List Rect) (i : ℕ) (members members' : List Member) (area d : Rect) → i < length rects → area ≡ get_or rects i d
-    → members' ≡ members ++ record { area = area; place = i } ∷ [] → members ++ members_from i (drop i rects) ≡ members_from 0 rects
-    → members' ++ members_from (i + 1) (drop (i + 1) rects) ≡ members_from 0 rects
-adds_member rects i members members' area d less here adds all =
-    let member : Member = record { area = area; place = i } in
-    let same : area ≡ get_or rects i area = here ∙ get_or_default rects i d area less in
-    ap (λ (v : List Member). v ++ members_from (i + 1) (drop (i + 1) rects)) adds
-    ∙ append_assoc members (member ∷ []) (members_from (i + 1) (drop (i + 1) rects))
-    ∙ ap (λ (v : List Rect). members ++ members_from i v) (sym (drop_split rects i area less same))
-    ∙ all
-
--- and at the end they are all
-pub all_members : (rects : List Rect) (i : ℕ) (members : List Member) → length rects ≤ i
-    → members ++ members_from i (drop i rects) ≡ members_from 0 rects
-    → members ≡ members_from 0 rects
-all_members rects i members past all =
-    sym (append-nil members) ∙ ap (λ (v : List Rect). members ++ members_from i v) (sym (drop_all i rects past)) ∙ all
-
--- a member without a square
-abbrev pub no_member : Member
-no_member = record { area = no_area; place = 0 }
-
--- a list of no things is empty
-pub nothing_left : {X : Type 0} (xs : List X) (n : ℕ) → true ≡ (n == 0) → n ≡ length xs → xs ≡ []
-nothing_left [] n e l = refl
-nothing_left (x ∷ xs) n e l = let f : n == 0 ≡ false = grind (arith, nat_tests) in absurd (cc)
-
--- and of some things it is not
-pub something_left : {X : Type 0} (xs : List X) (n : ℕ) → false ≡ (n == 0) → n ≡ length xs → xs ≡ [] → ⊥
-something_left [] n e l none = let f : n == 0 ≡ true = grind (arith, nat_tests) in cc
-something_left (x ∷ xs) n e l none = cc
+-- a fact of all things in a list
+pub In-All : {X : Type 0} (P : X → Type 0) (xs : List X) (x : X) → All P xs → In x xs → P x
+In-All P xs x all i = let k = In-index x xs i in subst P (k.1.1 x) (all k.0 x k.1.0)
 
 -- a list whose length is not above 0 is empty
 pub none_left : {X : Type 0} (xs : List X) (n : ℕ) → (0 < n → false ≡ true) → n ≡ length xs → xs ≡ []
 none_left [] n few l = refl
 none_left (x ∷ xs) n few l = let some : 0 < n = omega arith in absurd (let e = few some in cc)
+
+-- what is found among numbers below a bound is below it
+pub found_below : (test : ℕ → Bool) (members : List ℕ) (n member : ℕ) → All (λ k. k < n) members → find test members ≡ Some member → member < n
+found_below test members n member all e = In-All (λ (k : ℕ). k < n) members member all (find-In test members member e)

@@ -1,7 +1,8 @@
 -- How much there is left to do: it falls as a region is made a stack or cut in two.
-use Rattle.std.proofs.Common.{◌≡◌, inl, inr, ℕ, ◌+◌, ◌-◌, ◌*◌, ◌<◌, ◌≤◌, ℤ, ◌≤ℤ◌, ◌<ℤ◌, List, [], ◌∷◌, ◌++◌, ◌∙◌, ap, arith}
-use Rattle.std.specs.Prelude.{sum_by, Option}
+use Rattle.std.proofs.Common.{◌≡◌, inl, inr, ℕ, ◌+◌, ◌-◌, ◌*◌, ◌<◌, ◌≤◌, ℤ, ◌≤ℤ◌, ◌<ℤ◌, List, [], ◌∷◌, ◌++◌, map, ◌∙◌, ap, arith}
+use Rattle.std.specs.Prelude.{sum_by}
 use Rattle.std.proofs.lemmas.Int.{ints}
+use Rattle.std.proofs.lemmas.List.{map-append}
 use Rattle.std.proofs.lemmas.List.Sums.{sum_by-append, sum_by-cons}
 use Rattle.std.proofs.lemmas.Nat.{mul-le}
 use Rattle.finite_sets.specs.Range.{extent}
@@ -11,12 +12,11 @@ use Rattle.geo_core.specs.Areas.{LiesWithin}
 use Rattle.geo_core.specs.Covering.{IsProper}
 use Rattle.rect_overlays.specs.declared.cuts.Cut.{Cut}
 use Rattle.rect_overlays.specs.declared.cuts.Cut.TheVariants.{Column, Row}
-use Rattle.rect_overlays.specs.declared.regions.Member.{Member}
-use Rattle.rect_overlays.specs.declared.regions.Region.{Region}
-use Rattle.rect_overlays.specs.declared.stacks.Stack.{Stack}
+use Rattle.rect_overlays.specs.declared.regions.Regions.{Regions}
+use Rattle.rect_overlays.specs.declared.regions.Span.{Span}
 use Rattle.rect_overlays.specs.Cuts.{low_half, high_half, IsInside}
-use Rattle.rect_overlays.specs.Regions.{IsPart, AddsPart}
-use Rattle.rect_overlays.specs.Splits.{IsTurn}
+use Rattle.rect_overlays.specs.Regions.{Region, span_of, IsPart, AddsPart, Holds}
+use Rattle.rect_overlays.specs.Splits.{AddsHalves, CutsInTwo}
 use Rattle.rect_overlays.proofs.Halves.{low_is_proper, high_is_proper}
 
 -- how many squares an area has
@@ -27,9 +27,9 @@ squares_in area = extent area.xlo area.xhi * extent area.ylo area.yhi
 pub weight : Rect → ℕ
 weight area = 2 * squares_in area - 1
 
--- what all regions weigh
-pub weights : List Region → ℕ
-weights regions = sum_by (λ region. weight region.area) regions
+-- what all regions with these spans weigh
+pub weights : List Span → ℕ
+weights spans = sum_by (λ span. weight span.area) spans
 
 some_extent : (low high : ℤ) → low <ℤ high → 1 ≤ extent low high
 some_extent low high h = let e = extent_up low high (omega (arith, ints)) in omega (arith, ints)
@@ -77,36 +77,48 @@ weighs_something : (area : Rect) → IsProper area → 0 < weight area
 unfolding weight
 weighs_something area proper = let some = some_square area proper in omega arith
 
-part_weighs_less : (members : List Member) (area : Rect) (part : Region) → IsPart members area part → weight part.area ≤ weight area
+part_weighs_less : (rects : List Rect) (members : List ℕ) (area : Rect) (part : Region) → IsPart rects members area part
+    → weight part.area ≤ weight area
 unfolding weight
-part_weighs_less members area part is = let more = more_squares part.area area is.proper is.hull.within in omega arith
+part_weighs_less rects members area part is = let more = more_squares part.area area is.proper is.hull.within in omega arith
 
-weights-push : (regions : List Region) (region : Region) → weights (regions ++ region ∷ []) ≡ weights regions + weight region.area
+weights-push : (spans : List Span) (span : Span) → weights (spans ++ span ∷ []) ≡ weights spans + weight span.area
 unfolding weights
-weights-push regions region =
-    let one = sum_by-cons (λ (r : Region). weight r.area) region [] in
-    sum_by-append (λ (r : Region). weight r.area) regions (region ∷ []) ∙ omega (arith, one)
+weights-push spans span =
+    let one = sum_by-cons (λ (s : Span). weight s.area) span [] in
+    sum_by-append (λ (s : Span). weight s.area) spans (span ∷ []) ∙ omega (arith, one)
 
-adds_weight : (members : List Member) (area : Rect) (before after : List Region) → AddsPart members area before after
-    → weights after ≤ weights before + weight area
-adds_weight members area before after (inl (part, (is, e))) =
-    let more = part_weighs_less members area part is in
-    let whole : weights after ≡ weights before + weight part.area = ap weights e ∙ weights-push before part in
+adds_weight : (rects : List Rect) (members : List ℕ) (area : Rect) (before after : List Region) → AddsPart rects members area before after
+    → weights (map span_of after) ≤ weights (map span_of before) + weight area
+adds_weight rects members area before after (inl (part, (is, e))) =
+    let more = part_weighs_less rects members area part is in
+    let whole : weights (map span_of after) ≡ weights (map span_of before) + weight part.area =
+    ap (λ (v : List Region). weights (map span_of v)) e ∙ ap weights (map-append span_of before (part ∷ []))
+    ∙ weights-push (map span_of before) (span_of part) in
     omega arith
-adds_weight members area before after (inr (none, e)) = let same : weights after ≡ weights before = ap weights e in omega arith
+adds_weight rects members area before after (inr (none, e)) =
+    let same : weights (map span_of after) ≡ weights (map span_of before) = ap (λ (v : List Region). weights (map span_of v)) e in omega arith
 
--- each turn leaves less
-pub turn_leaves_less : (enough : Option ℕ) (rest : List Region) (region : Region) (stacks : List Stack) (regions' : List Region)
-    (stacks' : List Stack) → IsProper region.area → IsTurn enough region rest stacks regions' stacks'
-    → weights regions' < weights (rest ++ region ∷ [])
-turn_leaves_less enough rest region stacks regions' stacks' proper (inl finish) =
-    let same : weights regions' ≡ weights rest = ap weights finish.regions_after in
-    let some = weighs_something region.area proper in
-    let all = weights-push rest region in
+-- a region less weighs less
+pub less_without : (spans : List Span) (span : Span) → IsProper span.area → weights spans < weights (spans ++ span ∷ [])
+less_without spans span proper =
+    let some = weighs_something span.area proper in
+    let all = weights-push spans span in
     omega arith
-turn_leaves_less enough rest region stacks regions' stacks' proper (inr cut) =
-    let low = adds_weight region.members.items (low_half region.area cut.cut) rest cut.halves.0 cut.halves.1.0 in
-    let high = adds_weight region.members.items (high_half region.area cut.cut) cut.halves.0 regions' cut.halves.1.1 in
-    let less = halves_weigh_less region.area cut.cut proper cut.inside in
-    let all = weights-push rest region in
+
+-- and so do its two halves
+pub less_in_halves : (rects : List Rect) (rest : List Region) (region : Region) (cut : Cut) (before after : Regions) (span : Span)
+    → IsProper region.area → IsInside region.area cut → Holds before rest → region.area ≡ span.area → CutsInTwo rects region cut before after
+    → weights after.spans.items < weights (before.spans.items ++ span ∷ [])
+less_in_halves rects rest region cut before after span proper inside h same cuts =
+    let found = cuts rest h in
+    let held = found.0 in
+    let halves : AddsHalves rects region cut rest held = found.1.1 in
+    let low = adds_weight rects region.members (low_half region.area cut) rest halves.0 halves.1.0 in
+    let high = adds_weight rects region.members (high_half region.area cut) halves.0 held halves.1.1 in
+    let less = halves_weigh_less region.area cut proper inside in
+    let all = weights-push before.spans.items span in
+    let at_first : weights before.spans.items ≡ weights (map span_of rest) = ap weights h.spans in
+    let at_last : weights after.spans.items ≡ weights (map span_of held) = ap weights found.1.0.spans in
+    let region_weight : weight region.area ≡ weight span.area = ap weight same in
     omega arith

@@ -23,3 +23,13 @@ IsInside area (Row y) = (area.ylo <ℤ y) × (y <ℤ area.yhi)
 abbrev pub is_inside : Rect → Cut → Bool
 is_inside area (Column x) = int_lt area.xlo x && int_lt x area.xhi
 is_inside area (Row y) = int_lt area.ylo y && int_lt y area.yhi
+
+-- whether the rectangle goes to the left of the cut or below it
+abbrev pub is_past_low : Cut → Rect → Bool
+is_past_low (Column x) rect = int_lt rect.xlo x
+is_past_low (Row y) rect = int_lt rect.ylo y
+
+-- whether the rectangle goes to the right of the cut or above it
+abbrev pub is_past_high : Cut → Rect → Bool
+is_past_high (Column x) rect = int_lt x rect.xhi
+is_past_high (Row y) rect = int_lt y rect.yhi

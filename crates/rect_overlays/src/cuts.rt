@@ -1,17 +1,12 @@
 //! Where an area is cut in two.
-ghost use Rattle.std.specs.Prelude.{◌≡◌, ◌≤◌, ◌⊎◌, IfSome, IfNone, find, length, not, true, false};
-ghost use Rattle.rect_overlays.specs.Cuts.{low_half, high_half, is_inside, IsInside};
-ghost use Rattle.rect_overlays.specs.Regions.{meets, goes_round, AllMeet, AllGoRound};
-ghost use Rattle.rect_overlays.specs.Stacks.{AreEnough};
+ghost use Rattle.std.specs.Prelude.{◌≡◌, ◌≤◌, ◌<◌, ◌⊎◌, All, IfSome, IfNone, find, filter, length, not, true, false};
+ghost use Rattle.rect_overlays.specs.Cuts.{low_half, high_half, is_inside, is_past_low, is_past_high, IsInside};
+ghost use Rattle.rect_overlays.specs.Regions.{meets, goes_round, goes_round_at, has_columns, has_rows, AllMeet, AllGoRound, AreEnoughAround};
 
-use crate::regions::{Member, Region};
 use geo_core::Rect;
 
-/// How many rectangles are looked at, to choose a cut.
-const SAMPLE: usize = 10;
-
-/// What spreads the sample over a list: a prime, so that it has each of a short list once.
-const SPREAD: usize = 2_654_435_761;
+/// How many rectangles are looked at, at most, to choose a cut.
+const SAMPLE: usize = 8;
 
 /// A line along which an area is cut.
 #[derive(Clone, Copy)]
@@ -76,7 +71,9 @@ impl Cut {
     }
 
     /// Whether the rectangle goes to the left of it or below it.
-    fn is_past_low(&self, area: &Rect) -> bool {
+    pub fn is_past_low(&self, area: &Rect) -> bool
+        ensures { result ≡ is_past_low self.now area.now }
+    {
         match *self {
             Cut::Column(x) => area.xlo < x,
             Cut::Row(y) => area.ylo < y,
@@ -84,7 +81,9 @@ impl Cut {
     }
 
     /// Whether the rectangle goes to the right of it or above it.
-    fn is_past_high(&self, area: &Rect) -> bool {
+    pub fn is_past_high(&self, area: &Rect) -> bool
+        ensures { result ≡ is_past_high self.now area.now }
+    {
         match *self {
             Cut::Column(x) => x < area.xhi,
             Cut::Row(y) => y < area.yhi,
@@ -92,46 +91,100 @@ impl Cut {
     }
 }
 
-/// Where the region is to be cut, unless as many of its members as are enough go round it, or all of them.
-pub fn next_cut(region: &Region, around: usize, enough: Option<usize>) -> Option<Cut>
-    requires { AllMeet region.now.area region.now.members.items }
-    ensures some { IfSome result (IsInside region.now.area) }
-    ensures none { IfNone result (AreEnough enough around ⊎ AllGoRound region.now.area region.now.members.items) }
+/// Whether the rectangle goes round the whole area.
+pub fn goes_round(area: &Rect, rect: &Rect) -> bool
+    ensures { result ≡ goes_round area.now rect.now }
+{
+    has_columns(area, rect) && has_rows(area, rect)
+}
+
+/// Whether the rectangle has all columns of the area.
+fn has_columns(area: &Rect, rect: &Rect) -> bool
+    ensures { result ≡ has_columns area.now rect.now }
+{
+    rect.xlo <= area.xlo && area.xhi <= rect.xhi
+}
+
+/// Whether the rectangle has all rows of the area.
+fn has_rows(area: &Rect, rect: &Rect) -> bool
+    ensures { result ≡ has_rows area.now rect.now }
+{
+    rect.ylo <= area.ylo && area.yhi <= rect.yhi
+}
+
+/// Where the area is to be cut, unless as many of its members as are enough go round it, or all of them.
+pub fn next_cut(
+    rects: &[Rect],
+    area: &Rect,
+    members: &[usize],
+    enough: Option<usize>,
+) -> Option<Cut>
+    requires within { All (λ member. member < length rects.now) members.now }
+    requires meet { AllMeet rects.now area.now members.now }
+    ensures some { IfSome result (IsInside area.now) }
+    ensures none { IfNone result (AreEnoughAround rects.now area.now members.now enough ⊎ AllGoRound rects.now area.now members.now) }
+{
+    let partial = first_partial(rects, area, members)?;
+    if are_enough(rects, area, members, enough) {
+        return None;
+    }
+    Some(best_cut(rects, area, members, &rects[partial]))
+}
+
+/// The first member that doesn't go round the area.
+fn first_partial(rects: &[Rect], area: &Rect, members: &[usize]) -> Option<usize>
+    requires { All (λ member. member < length rects.now) members.now }
+    ensures { result ≡ find (λ member. not (goes_round_at rects.now area.now member)) members.now }
+{
+    members
+        .iter()
+        .copied()
+        .find(|member| !goes_round(area, &rects[*member]))
+}
+
+/// Whether some members go round the area, and so many as are enough.
+fn are_enough(rects: &[Rect], area: &Rect, members: &[usize], enough: Option<usize>) -> bool
+    requires { All (λ member. member < length rects.now) members.now }
+    ensures { result ≡ true → AreEnoughAround rects.now area.now members.now enough }
 {
     match enough {
-        Some(least) if least <= around => None,
-        _ => {
-            let partial = first_partial(region)?;
-            Some(best_cut(region, &partial))
+        None => false,
+        Some(least) => {
+            let least = least.max(1);
+            least <= members.len() && least <= count_around(rects, area, members)
         }
     }
 }
 
-/// The first member that doesn't go round the region.
-fn first_partial(region: &Region) -> Option<Member>
-    ensures { result ≡ find (λ member. not (goes_round region.now.area member)) region.now.members.items }
+/// How many members go round the area.
+fn count_around(rects: &[Rect], area: &Rect, members: &[usize]) -> usize
+    requires { All (λ member. member < length rects.now) members.now }
+    ensures { result ≡ length (filter (goes_round_at rects.now area.now) members.now) }
 {
-    region
-        .members
+    members
         .iter()
-        .find(|member| !member.goes_round(&region.area))
-        .copied()
+        .filter(|member| goes_round(area, &rects[**member]))
+        .count()
 }
 
-/// A side of a member that cuts the region: of those of a sample that which leaves few members in each half and few in both.
-fn best_cut(region: &Region, partial: &Member) -> Cut
-    requires meets { meets region.now.area partial.now ≡ true }
-    requires partial { goes_round region.now.area partial.now ≡ false }
-    ensures { IsInside region.now.area result }
+/// A side of a member that cuts the area: of those of a sample that which leaves few members in each half and few in both.
+fn best_cut(rects: &[Rect], area: &Rect, members: &[usize], partial: &Rect) -> Cut
+    requires within { All (λ member. member < length rects.now) members.now }
+    requires meets { meets area.now partial.now ≡ true }
+    requires partial { goes_round area.now partial.now ≡ false }
+    ensures { IsInside area.now result }
 {
+    let mut best = inner_side(area, partial);
+    if members.len() <= 2 {
+        return best;
+    }
     let mut sample = [*partial; SAMPLE];
-    let count = sample_of(region.members.as_slice(), &mut sample);
+    let count = sample_of(rects, members, &mut sample);
     let sample = &sample[..count];
-    let mut best = inner_side(&region.area, partial);
     let mut least = cost(&best, sample);
-    for member in sample {
-        for cut in sides(&member.area) {
-            if cut.is_inside(&region.area) {
+    for rect in sample {
+        for cut in sides(rect) {
+            if cut.is_inside(area) {
                 let cost = cost(&cut, sample);
                 if cost < least {
                     best = cut;
@@ -143,32 +196,37 @@ fn best_cut(region: &Region, partial: &Member) -> Cut
     best
 }
 
-/// Copies a sample of the members to the front of an array, and says how many it has.
-fn sample_of(members: &[Member], sample: &mut [Member; SAMPLE]) -> usize
+/// Copies rectangles that lie evenly spread over the members to the front of an array, and says how many.
+fn sample_of(rects: &[Rect], members: &[usize], sample: &mut [Rect; SAMPLE]) -> usize
+    requires { All (λ member. member < length rects.now) members.now }
     ensures { result ≤ SAMPLE }
 {
-    let count = members.len().min(SAMPLE);
-    for k in 0..count {
-        sample[k] = members[k * SPREAD % members.len()];
+    let step = members.len() / SAMPLE + 1;
+    let mut next = step / 2;
+    for count in 0..SAMPLE {
+        if next >= members.len() {
+            return count;
+        }
+        sample[count] = rects[members[next]];
+        next += step;
     }
-    count
+    SAMPLE
 }
 
 /// A side of the rectangle that cuts the area.
-fn inner_side(area: &Rect, partial: &Member) -> Cut
+fn inner_side(area: &Rect, partial: &Rect) -> Cut
     requires meets { meets area.now partial.now ≡ true }
     requires partial { goes_round area.now partial.now ≡ false }
     ensures { IsInside area.now result }
 {
-    let Rect { xlo, ylo, xhi, yhi } = partial.area;
-    if area.xlo < xlo {
-        Cut::Column(xlo)
-    } else if xhi < area.xhi {
-        Cut::Column(xhi)
-    } else if area.ylo < ylo {
-        Cut::Row(ylo)
+    if area.xlo < partial.xlo {
+        Cut::Column(partial.xlo)
+    } else if partial.xhi < area.xhi {
+        Cut::Column(partial.xhi)
+    } else if area.ylo < partial.ylo {
+        Cut::Row(partial.ylo)
     } else {
-        Cut::Row(yhi)
+        Cut::Row(partial.yhi)
     }
 }
 
@@ -183,16 +241,10 @@ fn sides(area: &Rect) -> [Cut; 4] {
 }
 
 /// What a cut costs: how many of the sample are in either half, those in both twice, and how many in the fuller one.
-fn cost(cut: &Cut, sample: &[Member]) -> usize
+fn cost(cut: &Cut, sample: &[Rect]) -> usize
     requires { length sample.now ≤ SAMPLE }
 {
-    let low = sample
-        .iter()
-        .filter(|member| cut.is_past_low(&member.area))
-        .count();
-    let high = sample
-        .iter()
-        .filter(|member| cut.is_past_high(&member.area))
-        .count();
+    let low = sample.iter().filter(|rect| cut.is_past_low(rect)).count();
+    let high = sample.iter().filter(|rect| cut.is_past_high(rect)).count();
     low + high + low.max(high)
 }

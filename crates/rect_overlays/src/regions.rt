@@ -1,109 +1,124 @@
-//! Areas that are to be cut into stacks.
-ghost use Rattle.std.specs.Prelude.{◌≡◌, IfOk, OnOk, filter, map};
-ghost use Rattle.geo_core.specs.Covering.{IsProper};
-ghost use Rattle.rect_overlays.specs.Regions.{members_from, goes_round, has_columns, has_rows, turned_over, AllLieWithin, AddsPart};
+//! Regions: areas that are to be made stacks or cut, with the rectangles that have squares in them.
+ghost use Rattle.std.specs.Prelude.{◌≡◌, ◌++◌, ◌∷◌, [], ◌-◌, if◌then◌else◌, take, drop, length, IfOk, OnOk};
+ghost use Rattle.geo_core.specs.Areas.{joined_rect};
+ghost use Rattle.rect_overlays.specs.Regions.{turned_over, AddsGathered, IsBeginning};
 
 use geo_core::Rect;
 use std::alloc::{AllocError, Global};
 
 /// The whole grid.
-pub const GRID: Rect = Rect {
+const GRID: Rect = Rect {
     xlo: i64::MIN,
     ylo: i64::MIN,
     xhi: i64::MAX,
     yhi: i64::MAX,
 };
 
-/// A rectangle of a list, and its place there.
+/// The area of a region, and how many members it has.
 #[derive(Clone, Copy)]
-pub struct Member {
+pub struct Span {
     pub area: Rect,
-    pub place: usize,
+    pub count: usize,
 }
 
-/// An area, and the rectangles that have squares in it, in order.
+/// Regions: the area of each, and the members of all, those of one behind those of another.
 #[derive(Drop)]
-pub struct Region {
-    pub area: Rect,
-    pub members: Vec<Member>,
+pub struct Regions {
+    pub spans: Vec<Span>,
+    pub members: Vec<usize>,
 }
 
-impl Member {
-    /// Whether it goes round the whole area.
-    pub fn goes_round(&self, area: &Rect) -> bool
-        ensures { result ≡ goes_round area.now self.now }
+/// Rectangles, by their indices in a list, and what goes round all that they have of an area.
+#[derive(Drop)]
+pub struct Part {
+    pub hull: Rect,
+    pub members: Vec<usize>,
+}
+
+impl Part {
+    /// No rectangles.
+    pub fn new(alloc: Global) -> Part
+        ensures { result.members.items ≡ [] }
     {
-        self.has_columns(area) && self.has_rows(area)
-    }
-
-    /// Whether it has all columns of the area.
-    fn has_columns(&self, area: &Rect) -> bool
-        ensures { result ≡ has_columns area.now self.now }
-    {
-        self.area.xlo <= area.xlo && area.xhi <= self.area.xhi
-    }
-
-    /// Whether it has all rows of the area.
-    fn has_rows(&self, area: &Rect) -> bool
-        ensures { result ≡ has_rows area.now self.now }
-    {
-        self.area.ylo <= area.ylo && area.yhi <= self.area.yhi
-    }
-}
-
-/// The rectangles of a list with their places.
-pub fn members_of(alloc: Global, rects: &[Rect]) -> Result<Vec<Member>, AllocError>
-    ensures all { IfOk result (λ members. members.items ≡ members_from 0 rects.now) }
-    ensures within { IfOk result (λ members. AllLieWithin GRID members.items) }
-{
-    let mut members = Vec::new(alloc);
-    for (place, rect) in rects.iter().enumerate() {
-        // Each bound is read, since what is read is known to be on the grid.
-        let Rect { xlo, ylo, xhi, yhi } = *rect;
-        let area = Rect { xlo, ylo, xhi, yhi };
-        members.push(Member { area, place })?;
-    }
-    Ok(members)
-}
-
-/// The places of the members that go round the region.
-pub fn places_around(alloc: Global, region: &Region) -> Result<Vec<usize>, AllocError>
-    ensures { IfOk result (λ places. places.items
-        ≡ map (λ member. member.place) (filter (goes_round region.now.area) region.now.members.items)) }
-{
-    region
-        .members
-        .iter()
-        .filter(|member| member.goes_round(&region.area))
-        .map(|member| member.place)
-        .collect(alloc)
-}
-
-/// Adds what the members have of the area as one region, unless they have nothing of it.
-pub fn add_part(
-    alloc: Global,
-    members: &[Member],
-    area: &Rect,
-    regions: &mut Vec<Region>,
-) -> Result<(), AllocError>
-    requires { IsProper area.now }
-    ensures { OnOk result (AddsPart members.now area.now regions.old.items regions.new.items) }
-{
-    let mut inside = Vec::new(alloc);
-    let mut hull = turned_over(area);
-    for member in members {
-        let common = member.area.common(area);
-        if common.has_square() {
-            inside.push(*member)?;
-            hull = hull.joined(&common);
+        Part {
+            hull: turned_over(&GRID),
+            members: Vec::new(alloc),
         }
     }
-    if !inside.is_empty() {
-        regions.push(Region {
-            area: hull,
-            members: inside,
-        })?;
+
+    /// Lets all rectangles go, to begin with another area.
+    pub fn clear(&mut self, area: &Rect)
+        ensures members { self.new.members.items ≡ [] }
+        ensures hull { self.new.hull ≡ turned_over area.now }
+    {
+        self.hull = turned_over(area);
+        self.members.clear();
     }
+
+    /// Adds a rectangle if it is inside the area, of which it has that much.
+    pub fn add_if(
+        &mut self,
+        is_inside: bool,
+        member: usize,
+        common: &Rect,
+    ) -> Result<(), AllocError>
+        ensures members { OnOk result (self.new.members.items ≡ self.old.members.items ++ (if is_inside then member ∷ [] else [])) }
+        ensures hull { OnOk result (self.new.hull ≡ (if is_inside then joined_rect self.old.hull common.now else self.old.hull)) }
+    {
+        if is_inside {
+            self.members.push(member)?;
+            self.hull = self.hull.joined(common);
+        }
+        Ok(())
+    }
+}
+
+impl Regions {
+    /// What the rectangles of a list have of the grid, as one region, unless it is nothing.
+    pub fn around(alloc: Global, rects: &[Rect]) -> Result<Regions, AllocError>
+        ensures { IfOk result (IsBeginning rects.now) }
+    {
+        let mut whole = Part::new(alloc);
+        for (index, rect) in rects.iter().enumerate() {
+            whole.add_if(rect.has_square(), index, rect)?;
+        }
+        let mut regions = Regions {
+            spans: Vec::new(alloc),
+            members: Vec::new(alloc),
+        };
+        regions.push(&whole)?;
+        Ok(regions)
+    }
+
+    /// Adds a part as a region, unless it has no rectangle.
+    pub fn push(&mut self, part: &Part) -> Result<(), AllocError>
+        ensures { OnOk result (AddsGathered part.now self.old self.new) }
+    {
+        if part.members.is_empty() {
+            return Ok(());
+        }
+        self.members.extend_from_slice(part.members.as_slice())?;
+        self.spans.push(Span {
+            area: part.hull,
+            count: part.members.len(),
+        })?;
+        Ok(())
+    }
+}
+
+/// Moves the last so many members of a list to another list, in the place of what that has.
+pub fn move_last(
+    members: &mut Vec<usize>,
+    count: usize,
+    taken: &mut Vec<usize>,
+) -> Result<(), AllocError>
+    ensures taken { OnOk result (taken.new.items ≡ drop (length members.old.items - count) members.old.items) }
+    ensures rest { OnOk result (members.new.items ≡ take (length members.old.items - count) members.old.items) }
+{
+    let start = members.len().saturating_sub(count);
+    taken.clear();
+    taken.extend_from_slice(&members.as_slice()[start..])?;
+    members.truncate(start);
     Ok(())
 }
 

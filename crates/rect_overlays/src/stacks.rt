@@ -1,13 +1,13 @@
 //! The pieces that rectangles make where they lie over each other.
-ghost use Rattle.std.specs.Prelude.{IfOk, OnOk};
-ghost use Rattle.rect_overlays.specs.Regions.{AllMeet};
-ghost use Rattle.rect_overlays.specs.Cuts.{IsInside};
-ghost use Rattle.rect_overlays.specs.Splits.{AddsHalves, IsTurn};
+ghost use Rattle.std.specs.Prelude.{◌≡◌, ◌<◌, All, IfOk, OnOk, filter, length};
 ghost use Rattle.geo_core.specs.Covering.{IsProper};
+ghost use Rattle.rect_overlays.specs.Cuts.{low_half, high_half, IsInside};
+ghost use Rattle.rect_overlays.specs.Regions.{goes_round_at, AllMeet, IsGathered};
+ghost use Rattle.rect_overlays.specs.Splits.{CutsInTwo};
 ghost use Rattle.rect_overlays.specs.Stacks.{AreStacks};
 
-use crate::cuts::{Cut, next_cut};
-use crate::regions::{GRID, Region, add_part, members_of, places_around};
+use crate::cuts::{Cut, goes_round, next_cut};
+use crate::regions::{Part, Regions, move_last};
 use geo_core::Rect;
 use std::alloc::{AllocError, Global};
 
@@ -16,8 +16,15 @@ use std::alloc::{AllocError, Global};
 pub struct Stack {
     /// The squares of the piece.
     pub area: Rect,
-    /// The places in the list of rectangles that cover it, in order: of all of them, unless these were enough.
+    /// The indices in the list of the rectangles that cover it, in order: of all of them, unless these were enough.
     pub members: Vec<usize>,
+}
+
+/// Where the halves of a region are gathered, kept from one region to the next.
+#[derive(Drop)]
+struct Halves {
+    low: Part,
+    high: Part,
 }
 
 /// The pieces of what the rectangles cover, in no order that callers may count on: they lie apart, each is covered whole by its members, and
@@ -31,53 +38,91 @@ pub fn overlay(
 ) -> Result<Vec<Stack>, AllocError>
     ensures { IfOk result (λ stacks. AreStacks rects.now enough stacks.items) }
 {
-    let members = members_of(alloc, rects)?;
-    let mut regions = Vec::new(alloc);
-    add_part(alloc, members.as_slice(), &GRID, &mut regions)?;
+    let mut regions = Regions::around(alloc, rects)?;
+    let mut taken = Vec::new(alloc);
+    let mut halves = Halves {
+        low: Part::new(alloc),
+        high: Part::new(alloc),
+    };
     let mut stacks = Vec::new(alloc);
-    while let Some(region) = regions.pop() {
-        take_apart(alloc, &region, enough, &mut regions, &mut stacks)?;
+    while let Some(span) = regions.spans.pop() {
+        move_last(&mut regions.members, span.count, &mut taken)?;
+        let members = taken.as_slice();
+        match next_cut(rects, &span.area, members, enough) {
+            Some(cut) => cut_in_two(rects, &span.area, members, &cut, &mut halves, &mut regions)?,
+            None => stacks.push(stack_of(alloc, rects, &span.area, members)?)?,
+        }
     }
     Ok(stacks)
 }
 
-/// Makes a stack of the region, or cuts it in two.
-fn take_apart(
-    alloc: Global,
-    region: &Region,
-    enough: Option<usize>,
-    regions: &mut Vec<Region>,
-    stacks: &mut Vec<Stack>,
-) -> Result<(), AllocError>
-    requires meet { AllMeet region.now.area region.now.members.items }
-    requires proper { IsProper region.now.area }
-    ensures { OnOk result (IsTurn enough region.now regions.old.items stacks.old.items regions.new.items stacks.new.items) }
-{
-    let places = places_around(alloc, region)?;
-    match next_cut(region, places.len(), enough) {
-        Some(cut) => cut_in_two(alloc, region, &cut, regions),
-        None => {
-            stacks.push(Stack {
-                area: region.area,
-                members: places,
-            })?;
-            Ok(())
-        }
-    }
-}
-
 /// Adds what is in the two halves of a region.
 fn cut_in_two(
-    alloc: Global,
-    region: &Region,
+    rects: &[Rect],
+    area: &Rect,
+    members: &[usize],
     cut: &Cut,
-    regions: &mut Vec<Region>,
+    halves: &mut Halves,
+    regions: &mut Regions,
 ) -> Result<(), AllocError>
-    requires proper { IsProper region.now.area }
-    requires inside { IsInside region.now.area cut.now }
-    ensures { OnOk result (AddsHalves region.now cut.now regions.old.items regions.new.items) }
+    requires within { All (λ member. member < length rects.now) members.now }
+    requires meet { AllMeet rects.now area.now members.now }
+    requires proper { IsProper area.now }
+    requires inside { IsInside area.now cut.now }
+    ensures { OnOk result (CutsInTwo rects.now (record { area = area.now; members = members.now }) cut.now regions.old regions.new) }
 {
-    let members = region.members.as_slice();
-    add_part(alloc, members, &cut.low_half(&region.area), regions)?;
-    add_part(alloc, members, &cut.high_half(&region.area), regions)
+    gather(rects, area, members, cut, halves)?;
+    regions.push(&halves.low)?;
+    regions.push(&halves.high)
+}
+
+/// Gathers what the members of a region have of either half.
+fn gather(
+    rects: &[Rect],
+    area: &Rect,
+    members: &[usize],
+    cut: &Cut,
+    halves: &mut Halves,
+) -> Result<(), AllocError>
+    requires within { All (λ member. member < length rects.now) members.now }
+    requires meet { AllMeet rects.now area.now members.now }
+    requires proper { IsProper area.now }
+    requires inside { IsInside area.now cut.now }
+    ensures low { OnOk result (IsGathered rects.now members.now (low_half area.now cut.now) halves.new.low) }
+    ensures high { OnOk result (IsGathered rects.now members.now (high_half area.now cut.now) halves.new.high) }
+{
+    let low_area = cut.low_half(area);
+    let high_area = cut.high_half(area);
+    halves.low.clear(&low_area);
+    halves.high.clear(&high_area);
+    for member in members {
+        let rect = rects[*member];
+        let low = rect.common(&low_area);
+        let high = rect.common(&high_area);
+        halves.low.add_if(cut.is_past_low(&rect), *member, &low)?;
+        halves.high.add_if(cut.is_past_high(&rect), *member, &high)?;
+    }
+    Ok(())
+}
+
+/// The area and the members that go round it.
+fn stack_of(
+    alloc: Global,
+    rects: &[Rect],
+    area: &Rect,
+    members: &[usize],
+) -> Result<Stack, AllocError>
+    requires { All (λ member. member < length rects.now) members.now }
+    ensures area { IfOk result (λ stack. stack.area ≡ area.now) }
+    ensures members { IfOk result (λ stack. stack.members.items ≡ filter (goes_round_at rects.now area.now) members.now) }
+{
+    let around = members
+        .iter()
+        .copied()
+        .filter(|member| goes_round(area, &rects[*member]))
+        .collect(alloc)?;
+    Ok(Stack {
+        area: *area,
+        members: around,
+    })
 }
