@@ -14,7 +14,7 @@ use Rattle.layout_model.specs.Places.{Place, AreNeighbours, AreStacked}
 use Rattle.layout_model.specs.Layouts.{Layout, IsMaterial}
 use Rattle.layout_model.specs.Links.{AreLinked, AreOneNode}
 use Rattle.layout_model.specs.Laws.{ConnectsBothWays}
-use Rattle.flood_nodes.proofs.Abutting.{shared_abut, neighbours_share}
+use Rattle.rect_contacts.proofs.Abutting.{shared_abut, neighbours_share}
 use Rattle.flood_nodes.proofs.Walks.{walk}
 use Rattle.layout_model.specs.declared.region_tiles.RegionTile.{RegionTile}
 use Rattle.layout_model.specs.RegionTiles.{LiesIn, AreLayoutTiles}

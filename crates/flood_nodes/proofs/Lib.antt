@@ -1,4 +1,3 @@
-pub mod Abutting
 pub mod Walks
 pub mod ShareLaws
 pub mod TileEdges

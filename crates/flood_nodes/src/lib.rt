@@ -3,7 +3,7 @@
 //! # How the proof goes
 //!
 //! Within a tile one walks from any square to any other, along a row and then along a column (`Walks`), and two tiles share
-//! part of an edge exactly where a square of the one is next to a square of the other (`Abutting`). So chains of links between
+//! part of an edge exactly where a square of the one is next to a square of the other (`Abutting` of `rect_contacts`). So chains of links between
 //! places are chains of contacts between tiles, and of tiles that lie upon each other, both ways (`LayoutRegions`). Tiles are
 //! gathered plane by plane, with their contacts (`GatherLaws`); which of them are linked is told by their types (`LinkLaws`, and
 //! `StackLaws` for two planes), and they keep their places when they get numbers (`Renumbering`). `ShareLaws`, `TileEdges`,

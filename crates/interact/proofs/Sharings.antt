@@ -11,13 +11,14 @@ use Rattle.finite_sets.proofs.Members.{In-map, In-map_source, In-filter, In-filt
 use Rattle.finite_sets.proofs.Searches.{All-from_In}
 use Rattle.geo_core.specs.declared.squares.Square.{Square}
 use Rattle.geo_core.specs.declared.squares.Rect.{Rect}
-use Rattle.geo_core.specs.Areas.{LiesWithin}
+use Rattle.geo_core.specs.Areas.{widened, LiesWithin}
 use Rattle.geo_core.specs.Covering.{Covers}
 use Rattle.geo_core.specs.Strips.{IsInUnion, IsStrip, IsStrips}
 use Rattle.geo_core.proofs.StripSets.{strip_is_proper, strip_within, strips_same}
 use Rattle.rect_overlays.specs.declared.stacks.Stack.{Stack}
 use Rattle.rect_overlays.specs.Stacks.{IsStack, AreStacks}
-use Rattle.interact.specs.Interactions.{widened, IsShared}
+use Rattle.rect_overlays.proofs.Parts.{within_covers}
+use Rattle.interact.specs.NearBoxes.{IsShared}
 use Rattle.interact.specs.Sharing.{is_shared}
 
 -- the areas of the stacks that have two members or more
@@ -30,8 +31,8 @@ many stack test = let n = stack.members.ok.0 in grind (arith, nat_tests)
 many_are_shared : (stack : Stack) → 2 ≤ length stack.members.items → is_shared stack ≡ true
 many_are_shared stack some = let n = stack.members.ok.0 in grind (arith, nat_tests)
 
-two_places : (xs : List ℕ) (a b : ℕ) → a ≢ b → In a xs → In b xs → 2 ≤ length xs
-two_places xs a b differ i j = length-distinct (a ∷ b ∷ []) xs
+two_members : (xs : List ℕ) (a b : ℕ) → a ≢ b → In a xs → In b xs → 2 ≤ length xs
+two_members xs a b differ i j = length-distinct (a ∷ b ∷ []) xs
     ((λ h. elim h [ inl e ↦ differ (sym e) | inr none ↦ absurd none ]), ((λ h. absurd h), tt))
     (λ x h. elim h [ inl e ↦ subst (λ (y : ℕ). In y xs) e i | inr g ↦ elim g [ inl e ↦ subst (λ (y : ℕ). In y xs) e j | inr none ↦ absurd none ] ])
 
@@ -71,16 +72,16 @@ shared_is_in_union boxes stacks are square shared =
     let is = are.each stack found.1.0 in
     let some : 2 ≤ length stack.members.items = elim is.others [
       | inl enough ↦ enough
-      | inr all ↦ two_places stack.members.items shared.first shared.second shared.differ (all shared.first square found.1.1 shared.in_first)
+      | inr all ↦ two_members stack.members.items shared.first shared.second shared.differ (all shared.first square found.1.1 shared.in_first)
           (all shared.second square found.1.1 shared.in_second)
     ] in
     let kept = In-filter is_shared stack stacks found.1.0 (many_are_shared stack some) in
     (stack.area, (In-map (λ (s : Stack). s.area) stack (filter is_shared stacks) kept, found.1.1))
 
 -- the strips of these stacks are those of the squares that two grown boxes share
-pub strips_are_shared : (boxes grown_boxes : List Rect) (stacks : List Stack) (shared areas : List Rect) → grown_boxes ≡ map widened boxes
-    → shared ≡ shared_areas stacks → AreStacks grown_boxes (Some 2) stacks → IsStrips (IsInUnion shared) areas → IsStrips (IsShared boxes) areas
-strips_are_shared boxes grown_boxes stacks shared areas e f are strips =
+pub strips_are_shared : (boxes widened_boxes : List Rect) (stacks : List Stack) (shared areas : List Rect) → widened_boxes ≡ map widened boxes
+    → shared ≡ shared_areas stacks → AreStacks widened_boxes (Some 2) stacks → IsStrips (IsInUnion shared) areas → IsStrips (IsShared boxes) areas
+strips_are_shared boxes widened_boxes stacks shared areas e f are strips =
     let are' = subst (λ (v : List Rect). AreStacks v (Some 2) stacks) e are in
     strips_same (IsInUnion (shared_areas stacks)) (IsShared boxes) (union_is_shared boxes stacks are') (shared_is_in_union boxes stacks are') areas
     (subst (λ (v : List Rect). IsStrips (IsInUnion v) areas) f strips)
@@ -90,26 +91,18 @@ shared_within : (boxes : List Rect) (around : Rect) → All (λ area. LiesWithin
     → Covers around square
 shared_within boxes around all square shared =
     let at = shared.in_first in
-    let place = shared.first in
-    let grown_boxes = map widened boxes in
-    let inside = slice_get_within grown_boxes place at.area at.there in
-    let there : In at.area grown_boxes =
-    subst (λ (area : Rect). In area grown_boxes) (get_or_from_slice_get grown_boxes place at.area at.area at.there)
-    (In-get_or grown_boxes place at.area inside) in
+    let index = shared.first in
+    let widened_boxes = map widened boxes in
+    let inside = slice_get_within widened_boxes index at.area at.there in
+    let there : In at.area widened_boxes =
+    subst (λ (area : Rect). In area widened_boxes) (get_or_from_slice_get widened_boxes index at.area at.area at.there)
+    (In-get_or widened_boxes index at.area inside) in
     let source = In-map_source widened at.area boxes there in
     let k = In-index source.0 boxes source.1.0 in
     let near : LiesWithin (widened source.0) around =
     subst (λ (area : Rect). LiesWithin (widened area) around) (k.1.1 source.0) (all k.0 source.0 k.1.0) in
     let within : LiesWithin at.area around = subst (λ (area : Rect). LiesWithin area around) source.1.1 near in
-    let left : around.xlo ≤ℤ at.area.xlo = within.right_of_xlo in
-    let low : around.ylo ≤ℤ at.area.ylo = within.above_ylo in
-    let right : at.area.xhi ≤ℤ around.xhi = within.left_of_xhi in
-    let high : at.area.yhi ≤ℤ around.yhi = within.below_yhi in
-    let c0 : at.area.xlo ≤ℤ square.x = at.covers.right_of_xlo in
-    let c1 : square.x <ℤ at.area.xhi = at.covers.left_of_xhi in
-    let c2 : at.area.ylo ≤ℤ square.y = at.covers.above_ylo in
-    let c3 : square.y <ℤ at.area.yhi = at.covers.below_yhi in
-    record { right_of_xlo = omega (arith, ints); left_of_xhi = omega (arith, ints); above_ylo = omega (arith, ints); below_yhi = omega (arith, ints) }
+    within_covers at.area around square within at.covers
 
 -- so does each of the strips
 strip_lies_within : (S : Square → Type 0) (around area : Rect) → ((square : Square) → S square → Covers around square) → IsStrip S area

@@ -1,2 +1,2 @@
-pub mod Interactions
+pub mod NearBoxes
 pub mod Sharing

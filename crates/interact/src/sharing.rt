@@ -1,9 +1,9 @@
 //! The areas in which boxes are near each other.
 ghost use Rattle.std.specs.Prelude.{◌≡◌, IfOk, All, filter, map};
 ghost use Rattle.geo_core.specs.declared.squares.Rect.{Rect as OneRect};
-ghost use Rattle.geo_core.specs.Areas.{LiesWithin};
+ghost use Rattle.geo_core.specs.Areas.{widened, LiesWithin};
 ghost use Rattle.geo_core.specs.Strips.{IsStrips};
-ghost use Rattle.interact.specs.Interactions.{widened, IsNearBox, IsShared};
+ghost use Rattle.interact.specs.NearBoxes.{IsNearBox, IsShared};
 ghost use Rattle.interact.specs.Sharing.{is_shared};
 
 use geo_core::{GeoFault, Rect, strips};
@@ -20,7 +20,7 @@ pub fn areas(alloc: Global, boxes: &[Rect]) -> Result<Vec<Rect>, AllocError>
     ensures within { IfOk result (λ areas. (around : OneRect) → All (λ area. LiesWithin (widened area) around) boxes.now
         → All (λ area. LiesWithin area around) areas.items) }
 {
-    let widened = grown_boxes(alloc, boxes)?;
+    let widened = widened_boxes(alloc, boxes)?;
     let stacks = overlay(alloc, widened.as_slice(), Some(2))?;
     let shared = shared_areas(alloc, stacks.as_slice())?;
     match strips(alloc, shared.as_slice()) {
@@ -30,28 +30,15 @@ pub fn areas(alloc: Global, boxes: &[Rect]) -> Result<Vec<Rect>, AllocError>
 }
 
 /// The boxes, each grown by one on every side.
-fn grown_boxes(alloc: Global, boxes: &[Rect]) -> Result<Vec<Rect>, AllocError>
+fn widened_boxes(alloc: Global, boxes: &[Rect]) -> Result<Vec<Rect>, AllocError>
     requires { All IsNearBox boxes.now }
     ensures { IfOk result (λ found. found.items ≡ map widened boxes.now) }
 {
     let mut found = Vec::new(alloc);
     for area in boxes {
-        found.push(widened(area))?;
+        found.push(area.widened())?;
     }
     Ok(found)
-}
-
-/// The box, grown by one on every side.
-fn widened(area: &Rect) -> Rect
-    requires { IsNearBox area.now }
-    ensures { result ≡ widened area.now }
-{
-    Rect {
-        xlo: area.xlo - 1,
-        ylo: area.ylo - 1,
-        xhi: area.xhi + 1,
-        yhi: area.yhi + 1,
-    }
 }
 
 /// The areas of the stacks that two rectangles or more cover.

@@ -11,3 +11,4 @@ pub mod BothWays
 pub mod EventOrder
 pub mod RowLaws
 pub mod CommonSweep
+pub mod Abutting

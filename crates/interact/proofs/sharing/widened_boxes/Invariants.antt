@@ -1,6 +1,6 @@
 use Rattle.std.proofs.Common.{◌≡◌, take, map}
-use Rattle.interact.specs.Interactions.{widened}
-use Rattle.interact.proofs.sharing.grown_boxes.Given as goal
+use Rattle.geo_core.specs.Areas.{widened}
+use Rattle.interact.proofs.sharing.widened_boxes.Given as goal
 
 -- the boxes so far are grown
 abbrev pub invariant-loop-area : goal.invariant-loop-area

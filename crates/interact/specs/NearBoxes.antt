@@ -1,13 +1,9 @@
 -- Where boxes are so near each other that what lies in them may touch.
-use Rattle.std.specs.Prelude.{◌≢◌, ◌≤ℤ◌, ℕ, pos, ◌+ℤ◌, ◌-ℤ◌, List, map}
+use Rattle.std.specs.Prelude.{◌≢◌, ◌≤ℤ◌, ℕ, List, map}
 use Rattle.geo_core.specs.declared.squares.Square.{Square}
 use Rattle.geo_core.specs.declared.squares.Rect.{Rect}
-use Rattle.geo_core.specs.Areas.{IsNear}
+use Rattle.geo_core.specs.Areas.{widened, IsNear}
 use Rattle.rect_overlays.specs.Stacks.{CoversAt}
-
--- the box, grown by one on every side
-abbrev pub widened : Rect → Rect
-widened area = record { xlo = area.xlo -ℤ pos 1; ylo = area.ylo -ℤ pos 1; xhi = area.xhi +ℤ pos 1; yhi = area.yhi +ℤ pos 1 }
 
 -- A box: none of its sides lies past the one across, but they may meet, as those of a point do.
 pub record IsNearBox (area : Rect) : Type 0 where
@@ -15,7 +11,7 @@ pub record IsNearBox (area : Rect) : Type 0 where
   pub high : area.ylo ≤ℤ area.yhi
   pub near : IsNear area
 
--- The square lies in two of the boxes, each grown by one. Boxes at two places are two boxes, be they equal or not.
+-- The square lies in two of the boxes, each grown by one. Boxes with two indices are two boxes, be they equal or not.
 pub record IsShared (boxes : List Rect) (square : Square) : Type 0 where
   pub first : ℕ
   pub second : ℕ
