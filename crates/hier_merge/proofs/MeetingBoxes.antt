@@ -15,7 +15,8 @@ use Rattle.tech_model.specs.declared.raw.RawTech.{RawTech}
 use Rattle.layout_model.specs.Places.{Place}
 use Rattle.layout_trees.specs.CellTrees.{CellTree}
 use Rattle.layout_trees.specs.FlatSets.{parts_in}
-use Rattle.interact.specs.Interactions.{widened, IsShared}
+use Rattle.interact.specs.NearBoxes.{IsShared}
+use Rattle.geo_core.specs.Areas.{widened}
 use Rattle.offences.specs.Offences.{SetLayout}
 use Rattle.hierarchy_model.specs.Restrictions.{HoldsMeetings, IsRestriction, PartStands}
 use Rattle.cell_library.specs.declared.part_tiles.PartTile.{PartTile}

@@ -14,7 +14,7 @@ use Rattle.layout_model.specs.Places.{Place}
 use Rattle.layout_trees.specs.CellTrees.{CellTree}
 use Rattle.layout_trees.specs.CellTrees.CellTree.{cell_tree}
 use Rattle.layout_trees.specs.FlatSets.{parts_in, IsTyped}
-use Rattle.interact.specs.Interactions.{IsShared}
+use Rattle.interact.specs.NearBoxes.{IsShared}
 use Rattle.offences.specs.Offences.{HaveTypes, Offends, OffendsOn, SetLayout, joined_at}
 use Rattle.offences.specs.SetTiles.{tile_part, tile_parts}
 use Rattle.hierarchy_model.specs.CleanCells.{IsClean, IsCleanBelow}

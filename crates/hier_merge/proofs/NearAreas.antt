@@ -8,7 +8,7 @@ use Rattle.finite_sets.proofs.Searches.{All-from_In}
 use Rattle.geo_core.specs.declared.limits.TheConstants.{PAINT_EDGE, PLANE_EDGE}
 use Rattle.geo_core.specs.declared.squares.Square.{Square}
 use Rattle.geo_core.specs.declared.squares.Rect.{Rect}
-use Rattle.geo_core.specs.Areas.{common_rect, IsNear, LiesWithin}
+use Rattle.geo_core.specs.Areas.{common_rect, widened, IsNear, LiesWithin}
 use Rattle.geo_core.specs.Covering.{IsProper}
 use Rattle.geo_core.specs.Images.{rect_image}
 use Rattle.geo_core.specs.Strips.{IsStrips}
@@ -17,7 +17,6 @@ use Rattle.tech_model.specs.declared.raw.RawTech.{RawTech}
 use Rattle.tech_model.proofs.WellFormedLaws.{All_In}
 use Rattle.layout_trees.specs.CellTrees.{CellTree}
 use Rattle.layout_trees.specs.FlatSets.{parts_in}
-use Rattle.interact.specs.Interactions.{widened}
 use Rattle.cell_tree.specs.Hulls.{IsLawfulBox}
 use Rattle.cell_library.specs.declared.part_tiles.PartTile.{PartTile}
 use Rattle.cell_library.specs.PartTiles.{IsPartTileIn}

@@ -13,7 +13,7 @@ use Rattle.tech_model.proofs.WellFormedLaws.{All_In}
 use Rattle.layout_model.specs.Places.{Place}
 use Rattle.layout_trees.proofs.SetUnions.{none_union}
 use Rattle.offences.specs.declared.set_tiles.SetTile.{SetTile}
-use Rattle.offences.specs.SetTiles.{tile_part, AreTilesOfParts, set_from as set_of_set_tile}
+use Rattle.offences.specs.SetTiles.{tile_part, AreTilesOfParts, set_of_set_tile}
 use Rattle.cell_library.specs.declared.part_tiles.PartTile.{PartTile}
 use Rattle.cell_library.specs.PartTiles.{set_from, set_of_tiles}
 use Rattle.hier_merge.specs.Visits.{AreOfParts, set_tile, tiles_on}

@@ -14,7 +14,7 @@ use Rattle.geo_core.proofs.StripSets.{strips_same}
 use Rattle.tech_model.specs.declared.raw.RawTech.{RawTech}
 use Rattle.layout_model.specs.Layouts.{Layout}
 use Rattle.layout_trees.specs.CellTrees.{CellTree}
-use Rattle.interact.specs.Interactions.{IsShared}
+use Rattle.interact.specs.NearBoxes.{IsShared}
 use Rattle.cell_library.specs.declared.part_tiles.PartTile.{PartTile}
 use Rattle.cell_library.specs.LayoutTrees.{tree_at}
 use Rattle.cell_library.specs.Libraries.{IsLawfulLibrary, LibraryParts, seen}

@@ -9,7 +9,7 @@ use Rattle.layout_model.specs.Places.{Place}
 use Rattle.layout_model.specs.Layouts.{Layout}
 use Rattle.cell_paint.specs.Paints.{IsPaintBox}
 use Rattle.layout_trees.specs.CellTrees.{CellTree}
-use Rattle.interact.specs.Interactions.{IsShared}
+use Rattle.interact.specs.NearBoxes.{IsShared}
 use Rattle.cell_library.specs.declared.part_tiles.PartTile.{PartTile}
 use Rattle.cell_library.specs.ElementBoxes.{AreElementBoxes}
 use Rattle.cell_library.specs.LayoutTrees.{tree_at}

@@ -6,7 +6,7 @@ use Rattle.geo_core.specs.Strips.{IsStrips}
 use Rattle.tech_model.specs.declared.raw.RawTech.{RawTech}
 use Rattle.layout_trees.specs.CellTrees.{CellTree}
 use Rattle.layout_trees.specs.FlatSets.{parts_in}
-use Rattle.interact.specs.Interactions.{IsShared}
+use Rattle.interact.specs.NearBoxes.{IsShared}
 use Rattle.cell_library.specs.declared.part_tiles.PartTile.{PartTile}
 use Rattle.cell_library.specs.ElementBoxes.{HoldParts}
 use Rattle.hier_merge.specs.Visits.{AreVisits}

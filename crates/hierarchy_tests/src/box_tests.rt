@@ -1,6 +1,6 @@
 //! Boxes of parts, and the areas in which they may interact.
 ghost use Rattle.std.specs.Prelude.{IsTrue, All};
-ghost use Rattle.interact.specs.Interactions.{IsNearBox};
+ghost use Rattle.interact.specs.NearBoxes.{IsNearBox};
 
 use crate::rects::{Bounds, are_listed, rects};
 use geo_core::Rect;

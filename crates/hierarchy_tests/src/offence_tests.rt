@@ -1,8 +1,7 @@
 //! Painted parts, and where they spoil each other on the active plane.
 ghost use Rattle.std.specs.Prelude.{◌≡◌, ◌<◌, IsTrue, IfOk, IfSome, All, length};
-ghost use Rattle.geo_core.specs.Areas.{IsNear};
+ghost use Rattle.geo_core.specs.Areas.{widened, IsNear};
 ghost use Rattle.geo_core.specs.Covering.{IsProper};
-ghost use Rattle.interact.specs.Interactions.{widened};
 ghost use Rattle.layout_model.specs.LayerTypes.{AreTypesOf};
 ghost use Rattle.cell_paint.specs.Paints.{seen_kind};
 

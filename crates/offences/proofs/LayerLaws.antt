@@ -15,11 +15,10 @@ use Rattle.finite_sets.proofs.Members.{In-append_left, In-append_right, In-appen
 use Rattle.finite_sets.proofs.Searches.{list_any-In, All-from_In}
 use Rattle.geo_core.specs.declared.squares.Square.{Square}
 use Rattle.geo_core.specs.declared.squares.Rect.{Rect}
-use Rattle.geo_core.specs.Areas.{IsNear, LiesWithin, common_rect}
+use Rattle.geo_core.specs.Areas.{widened, IsNear, LiesWithin, common_rect}
 use Rattle.geo_core.specs.Covering.{Covers, IsProper, is_covered}
 use Rattle.geo_core.specs.Neighbours.{AreEdgeNeighbours, AreOneApart}
 use Rattle.geo_core.proofs.CoveringLaws.{Covers-is_covered, is_covered-Covers, covers_first, covers_second, covers_both}
-use Rattle.interact.specs.Interactions.{widened}
 use Rattle.tech_model.specs.declared.raw.TypeId.{TypeId}
 use Rattle.tech_model.specs.declared.raw.RawTech.{RawTech}
 use Rattle.tech_model.specs.LayerTiles.{AreTilesOf}
@@ -31,7 +30,7 @@ use Rattle.tech_model.proofs.SetLaws.{set_not_empty}
 use Rattle.layout_model.specs.LayerTypes.{Kinds, AreTypesOf, or_space}
 use Rattle.layout_model.specs.Places.{Place, AreNeighbours}
 use Rattle.offences.specs.declared.set_tiles.SetTile.{SetTile}
-use Rattle.offences.specs.LayerParts.{set_tile, IsPartTile, ArePartTiles}
+use Rattle.offences.specs.LayerParts.{layer_tile, IsPartTile, ArePartTiles}
 use Rattle.offences.specs.Offences.{SetLayout, joined_at, flat_type, union_of, is_exactly, parts_with, HasKind, Offends, OffendsOn, HaveTypes}
 use Rattle.offences.specs.Pieces.{CoverExactly}
 use Rattle.offences.specs.Roles.{role_of}
@@ -200,9 +199,9 @@ module _ (raw : RawTech) (plane : ℕ) (area : Rect) where
   -- and with the tiles of one more
   pub more_part_tiles : (parts : List Kinds) (tiles : List SetTile) (kinds : Kinds) (found : List (Rect × TypeId))
       → ArePartTiles raw plane area parts tiles
-      → AreTilesOf (kinds plane) area found → ArePartTiles raw plane area (parts ++ kinds ∷ []) (tiles ++ map (set_tile raw (length parts)) found)
+      → AreTilesOf (kinds plane) area found → ArePartTiles raw plane area (parts ++ kinds ∷ []) (tiles ++ map (layer_tile raw (length parts)) found)
   more_part_tiles parts tiles kinds found so_far are = record {
-    each = λ tile h. elim (In-append_cases tile tiles (map (set_tile raw (length parts)) found) h) [
+    each = λ tile h. elim (In-append_cases tile tiles (map (layer_tile raw (length parts)) found) h) [
       | inl k ↦ (
           let is = so_far.each tile k in
           record {
@@ -215,7 +214,7 @@ module _ (raw : RawTech) (plane : ℕ) (area : Rect) where
             squares = is.squares;
           })
       | inr k ↦ (
-          let source = In-map_source (set_tile raw (length parts)) tile found k in
+          let source = In-map_source (layer_tile raw (length parts)) tile found k in
           let of = are.each source.0 source.1.0 in
           subst (IsPartTile raw plane area (parts ++ kinds ∷ [])) source.1.1 (record {
             kinds = kinds;
@@ -230,13 +229,13 @@ module _ (raw : RawTech) (plane : ℕ) (area : Rect) where
     every = λ part others there square kind covers is material. elim (slice_get-push_cases parts kinds others part there) [
       | inl h ↦ (
           let tile = so_far.every part others h square kind covers is material in
-          (tile.0, (In-append_left tile.0 tiles (map (set_tile raw (length parts)) found) tile.1.0, tile.1.1, tile.1.2)))
+          (tile.0, (In-append_left tile.0 tiles (map (layer_tile raw (length parts)) found) tile.1.0, tile.1.1, tile.1.2)))
       | inr h ↦ (
           let tile = are.every square kind covers (ap (λ (k : Kinds). k plane square) h.1 ∙ is) material in (
-            set_tile raw (length parts) tile.0,
+            layer_tile raw (length parts) tile.0,
             (
-              In-append_right (set_tile raw (length parts) tile.0) tiles (map (set_tile raw (length parts)) found)
-                  (In-map (set_tile raw (length parts)) tile.0 found tile.1.0),
+              In-append_right (layer_tile raw (length parts) tile.0) tiles (map (layer_tile raw (length parts)) found)
+                  (In-map (layer_tile raw (length parts)) tile.0 found tile.1.0),
               sym h.0,
               tile.1.1,
             ),
@@ -248,14 +247,14 @@ module _ (raw : RawTech) (plane : ℕ) (area : Rect) where
     -- one more part of a list
     pub next_part_tiles : (x : X) → i < length xs → x ≡ get_or xs i x → (tiles after : List SetTile) (found : List (Rect × TypeId))
         → ArePartTiles raw plane area (map kind (take i xs)) tiles → AreTilesOf (kind x plane) area found
-        → after ≡ tiles ++ map (set_tile raw i) found
+        → after ≡ tiles ++ map (layer_tile raw i) found
         → ArePartTiles raw plane area (map kind (take (i + 1) xs)) after
     next_part_tiles x less is tiles after found so_far are made =
         let parts = map kind (take i xs) in
         let long : length parts ≡ i = length-map (take i xs) kind ∙ length-take-le i xs (omega arith) in
         let more : map kind (take (i + 1) xs) ≡ parts ++ kind x ∷ [] =
         ap (map kind) (take_more xs i x less) ∙ map-append kind (take i xs) (get_or xs i x ∷ []) ∙ ap (λ (y : X). parts ++ kind y ∷ []) (sym is) in
-        let all : after ≡ tiles ++ map (set_tile raw (length parts)) found = made ∙ ap (λ (n : ℕ). tiles ++ map (set_tile raw n) found) (sym long) in
+        let all : after ≡ tiles ++ map (layer_tile raw (length parts)) found = made ∙ ap (λ (n : ℕ). tiles ++ map (layer_tile raw n) found) (sym long) in
         subst (λ (ks : List Kinds). ArePartTiles raw plane area ks after) (sym more)
         (subst (ArePartTiles raw plane area (parts ++ kind x ∷ [])) (sym all) (more_part_tiles parts tiles (kind x) found so_far are))
 
@@ -497,6 +496,22 @@ grown_proper area proper =
     let wide : area.xlo <ℤ area.xhi = proper.wide in
     let high : area.ylo <ℤ area.yhi = proper.high in
     record { wide = omega (arith, ints); high = omega (arith, ints) }
+
+-- a rectangle with a square is near where it is near when grown by one
+pub near_before : (area : Rect) → IsProper area → IsNear (widened area) → IsNear area
+near_before area proper near =
+    let wide : area.xlo <ℤ area.xhi = proper.wide in
+    let high : area.ylo <ℤ area.yhi = proper.high in
+    let left = near.xlo in
+    let low = near.ylo in
+    let right = near.xhi in
+    let top = near.yhi in
+    record {
+      xlo = (omega (arith, ints, left.0), omega (arith, ints, wide, right.1));
+      ylo = (omega (arith, ints, low.0), omega (arith, ints, high, top.1));
+      xhi = (omega (arith, ints, wide, left.0), omega (arith, ints, right.1));
+      yhi = (omega (arith, ints, high, low.0), omega (arith, ints, top.1));
+    }
 
 -- what covers a set, cut to an area
 pub cut_covers : (S T : Square → Type 0) (area : Rect) (pieces : List Rect) → CoverExactly S pieces

@@ -27,23 +27,23 @@ use Rattle.tech_model.proofs.WellFormedLaws.{All_In}
 use Rattle.tech_model.proofs.RuleLaws.{In-flat_map, In-flat_map_source}
 use Rattle.offences.specs.declared.typed_stacks.TypedStack.{TypedStack}
 use Rattle.offences.specs.Offences.{SetLayout, joined_at, flat_type, OffendsOn, ChangesRole}
-use Rattle.offences.specs.Pieces.{is_spoiled, has_owner, changed, changed_at, changed_pieces, spoiled_areas, CoverExactly, AreFoundChanges}
+use Rattle.offences.specs.Pieces.{is_spoiled, has_owner, changed, changed_across, changed_pieces, spoiled_areas, CoverExactly, AreFoundChanges}
 use Rattle.offences.specs.Pieces.{no_channel, of_contacts}
 use Rattle.offences.specs.Roles.{role_of}
-use Rattle.offences.specs.TypedStacks.{areas_of, on_plane, typed_stack_at, no_typed_stack, AreTypedStacks}
+use Rattle.offences.specs.TypedStacks.{typed_stack_areas, on_plane, typed_stack_at, no_typed_stack, AreTypedStacks}
 use Rattle.offences.proofs.ChangeLaws.{changed_sound, changed_whole, changes_elsewhere, owns_here, union_none}
 use Rattle.offences.proofs.SideLaws.{neighbours_touch}
 use Rattle.offences.proofs.SpoiledLaws.{channel_is_material, same_some, some_is_not_none, passing, OffendsAlone, spoiled_offends, offends_spoiled}
 
 -- one more contact
 pub changed_more : (raw : RawTech) (typed_stacks : List TypedStack) (contacts : List Contact) (i : ℕ) (d : Contact) → i < length contacts
-    → changed_pieces raw typed_stacks (take (i + 1) contacts) ≡ changed_pieces raw typed_stacks (take i contacts) ++ changed_at raw typed_stacks
+    → changed_pieces raw typed_stacks (take (i + 1) contacts) ≡ changed_pieces raw typed_stacks (take i contacts) ++ changed_across raw typed_stacks
     (get_or contacts i d)
 changed_more raw typed_stacks contacts i d less =
     ap (changed_pieces raw typed_stacks) (take_more contacts i d less)
-    ∙ flat_map-append (changed_at raw typed_stacks) (take i contacts) (get_or contacts i d ∷ [])
+    ∙ flat_map-append (changed_across raw typed_stacks) (take i contacts) (get_or contacts i d ∷ [])
     ∙ ap (λ (pieces : List Rect). changed_pieces raw typed_stacks (take i contacts) ++ pieces)
-    (append-nil (changed_at raw typed_stacks (get_or contacts i d)))
+    (append-nil (changed_across raw typed_stacks (get_or contacts i d)))
 
 -- A piece of the list covers the square, at a place of the list.
 record Stands (typed_stacks : List TypedStack) (square : Square) : Type 0 where
@@ -175,7 +175,7 @@ module _ (raw : RawTech) (formed : IsWellFormed raw) (parts : List SetLayout) (p
     ];
   }
 
-  area_at : (i : ℕ) → rect_at (areas_of typed_stacks) i ≡ (typed_stack_at typed_stacks i).area
+  area_at : (i : ℕ) → rect_at (typed_stack_areas typed_stacks) i ≡ (typed_stack_at typed_stacks i).area
   area_at i = get_or-map (λ (s : TypedStack). s.area) typed_stacks i no_typed_stack
 
   -- beside a channel that changes some piece is
@@ -193,11 +193,11 @@ module _ (raw : RawTech) (formed : IsWellFormed raw) (parts : List SetLayout) (p
   ]
 
   -- the pieces of contacts are those of changes
-  pub contacts_change : (contacts : List Contact) → Lists (IsSharedEdge (areas_of typed_stacks)) contacts
+  pub contacts_change : (contacts : List Contact) → Lists (IsSharedEdge (typed_stack_areas typed_stacks)) contacts
       → AreChanges (changed_pieces raw typed_stacks contacts)
   contacts_change contacts touch = record {
     each = λ piece h.
-        let source = In-flat_map_source (changed_at raw typed_stacks) piece contacts h in
+        let source = In-flat_map_source (changed_across raw typed_stacks) piece contacts h in
         let contact = source.0 in
         let edge = touch.2 contact source.1.0 in
         let long = length-map typed_stacks (λ (s : TypedStack). s.area) in
@@ -225,14 +225,14 @@ module _ (raw : RawTech) (formed : IsWellFormed raw) (parts : List SetLayout) (p
               (subst (λ (k : ℕ). Covers (typed_stack_at typed_stacks k).area change.beside.square) (sym same) stands.covers))
           | inr differ ↦ (
               let long = length-map typed_stacks (λ (s : TypedStack). s.area) in
-              let meet = neighbours_touch (areas_of typed_stacks) contacts are.apart touch i j differ (omega (arith, long, below))
+              let meet = neighbours_touch (typed_stack_areas typed_stacks) contacts are.apart touch i j differ (omega (arith, long, below))
               (omega (arith, long, stands.below))
               square change.beside.square (subst (λ (r : Rect). Covers r square) (sym (area_at i)) covers)
               (subst (λ (r : Rect). Covers r change.beside.square) (sym (area_at j)) stands.covers) change.neighbour.1 in
               let contact = meet.contact in
               let first = typed_stack_at typed_stacks contact.first in
               let second = typed_stack_at typed_stacks contact.second in
-              let in_contact : In found.0 (changed_at raw typed_stacks contact) = elim meet.places [
+              let in_contact : In found.0 (changed_across raw typed_stacks contact) = elim meet.places [
                 | inl p ↦ In-append_left found.0 (changed raw first second) (changed raw second first)
                     (subst (λ (k : ℕ). In found.0 (changed raw (typed_stack_at typed_stacks k) second)) (sym p.0)
                     (subst (λ (k : ℕ). In found.0 (changed raw here (typed_stack_at typed_stacks k))) (sym p.1) found.1.0))
@@ -240,7 +240,7 @@ module _ (raw : RawTech) (formed : IsWellFormed raw) (parts : List SetLayout) (p
                     (subst (λ (k : ℕ). In found.0 (changed raw (typed_stack_at typed_stacks k) first)) (sym p.1)
                     (subst (λ (k : ℕ). In found.0 (changed raw here (typed_stack_at typed_stacks k))) (sym p.0) found.1.0))
               ] in
-              (found.0, (In-flat_map (changed_at raw typed_stacks) contact found.0 contacts meet.listed in_contact, found.1.1)))
+              (found.0, (In-flat_map (changed_across raw typed_stacks) contact found.0 contacts meet.listed in_contact, found.1.1)))
         ];
   }
 
@@ -256,13 +256,13 @@ module _ (raw : RawTech) (formed : IsWellFormed raw) (parts : List SetLayout) (p
   }
 
 -- a fact of the areas of pieces
-pub all_areas : (P : Rect → Type 0) (typed_stacks : List TypedStack) → All (λ typed_stack. P typed_stack.area) typed_stacks → All P (areas_of typed_stacks)
-all_areas P typed_stacks all = All-from_In P (areas_of typed_stacks) (λ area h.
+pub all_areas : (P : Rect → Type 0) (typed_stacks : List TypedStack) → All (λ typed_stack. P typed_stack.area) typed_stacks → All P (typed_stack_areas typed_stacks)
+all_areas P typed_stacks all = All-from_In P (typed_stack_areas typed_stacks) (λ area h.
     let source = In-map_source (λ (s : TypedStack). s.area) area typed_stacks h in
     subst P source.1.1 (All_In (λ (s : TypedStack). P s.area) typed_stacks source.0 all source.1.0))
 
 -- contacts are of pieces
-pub contacts_within : (typed_stacks : List TypedStack) (contacts : List Contact) → Lists (IsSharedEdge (areas_of typed_stacks)) contacts
+pub contacts_within : (typed_stacks : List TypedStack) (contacts : List Contact) → Lists (IsSharedEdge (typed_stack_areas typed_stacks)) contacts
     → All (λ contact. (contact.first < length typed_stacks) × (contact.second < length typed_stacks)) contacts
 contacts_within typed_stacks contacts touch = All-from_In (λ contact. (contact.first < length typed_stacks) × (contact.second < length typed_stacks)) contacts
     (λ contact h.

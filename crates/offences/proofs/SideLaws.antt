@@ -2,7 +2,7 @@
 use Rattle.std.proofs.Common.{◌≡◌, ◌≢◌, ◌⊎◌, inl, inr, ℤ, pos, negsuc, ◌+ℤ◌, ◌-ℤ◌, ◌≤ℤ◌, ◌<ℤ◌, ℕ, ◌<◌, List, length, refl, sym, subst, arith}
 use Rattle.std.specs.Prelude.{AllPairs}
 use Rattle.std.proofs.lemmas.Bool.{cases_lt}
-use Rattle.std.proofs.lemmas.Int.{ints, clamps, by_lt_z}
+use Rattle.std.proofs.lemmas.Int.{ints}
 use Rattle.finite_sets.specs.Lists.{In, Lists}
 use Rattle.geo_core.specs.declared.squares.Square.{Square}
 use Rattle.geo_core.specs.declared.squares.Rect.{Rect}
@@ -12,9 +12,9 @@ use Rattle.geo_core.specs.Neighbours.{AreEdgeNeighbours}
 use Rattle.geo_core.proofs.CoveringLaws.{covers_first, covers_second, covers_both}
 use Rattle.geo_core.proofs.NeighbourLaws.{AreEdgeNeighbours-sym}
 use Rattle.rect_contacts.specs.declared.contacts.Contact.{Contact}
-use Rattle.rect_contacts.specs.Contacts.{overlap, shared_beside, shared_upon, shared_length, IsSharedEdge}
+use Rattle.rect_contacts.specs.Contacts.{shared_length, IsSharedEdge}
 use Rattle.rect_contacts.specs.Rects.{rect_at, no_rect}
-use Rattle.rect_contacts.proofs.Shared.{shared_beside-cases, shared_upon-cases, shared_beside-not_negative, shared_upon-not_negative}
+use Rattle.rect_contacts.proofs.Abutting.{neighbours_share}
 use Rattle.offences.specs.Pieces.{moved_rect, sides_of}
 
 -- the square, moved
@@ -104,91 +104,6 @@ module _ (here beside : Rect) (square : Square) where
     common_rect here (moved_rect beside (pos 0) (pos 1)),
     (inr (inr (inl refl)), side_covers (pos 0) (pos 1) n (omega (arith, ints)) (omega (arith, ints)) c d),
   )
-
--- two intervals with an integer in common
-overlap-common : (lo hi lo' hi' x : ℤ) → lo ≤ℤ x → x <ℤ hi → lo' ≤ℤ x → x <ℤ hi' → pos 0 <ℤ overlap lo hi lo' hi'
-unfolding overlap
-overlap-common lo hi lo' hi' x p q r s = omega (arith, ints, clamps)
-
--- neighbours in one row, of which neither lies in the other's rectangle
-right_shares : (a b : Rect) (s t : Square) → Covers a s → Covers b t → (Covers a t → ⊥) → (Covers b s → ⊥) → t.x ≡ s.x +ℤ pos 1 → s.y ≡ t.y
-    → pos 0 <ℤ shared_beside a b
-right_shares a b s t p q not_a not_b right row =
-    let ends : a.xhi ≤ℤ t.x =
-    by_lt_z t.x a.xhi
-    (λ inside. absurd (not_a (record {
-      right_of_xlo = omega (arith, ints);
-      left_of_xhi = inside;
-      above_ylo = omega (arith, ints);
-      below_yhi = omega (arith, ints);
-    })))
-    (λ outside. outside) in
-    let begins : t.x ≤ℤ b.xlo =
-    by_lt_z s.x b.xlo
-    (λ outside. omega (arith, ints))
-    (λ inside. absurd (not_b (record {
-      right_of_xlo = inside;
-      left_of_xhi = omega (arith, ints);
-      above_ylo = omega (arith, ints);
-      below_yhi = omega (arith, ints);
-    }))) in
-    let meets : a.xhi ≡ b.xlo = omega (arith, ints) in
-    elim (shared_beside-cases a b) [
-      | inr k ↦ absurd (k.0 meets)
-      | inl k ↦ subst (λ (z : ℤ). pos 0 <ℤ z) (sym k.1) (overlap-common a.ylo a.yhi b.ylo b.yhi s.y p.above_ylo p.below_yhi (omega (arith, ints))
-          (omega (arith, ints)))
-    ]
-
--- neighbours in one column, of which neither lies in the other's rectangle
-up_shares : (a b : Rect) (s t : Square) → Covers a s → Covers b t → (Covers a t → ⊥) → (Covers b s → ⊥) → s.x ≡ t.x → t.y ≡ s.y +ℤ pos 1
-    → pos 0 <ℤ shared_upon a b
-up_shares a b s t p q not_a not_b column up =
-    let ends : a.yhi ≤ℤ t.y =
-    by_lt_z t.y a.yhi
-    (λ inside. absurd (not_a (record {
-      right_of_xlo = omega (arith, ints);
-      left_of_xhi = omega (arith, ints);
-      above_ylo = omega (arith, ints);
-      below_yhi = inside;
-    })))
-    (λ outside. outside) in
-    let begins : t.y ≤ℤ b.ylo =
-    by_lt_z s.y b.ylo
-    (λ outside. omega (arith, ints))
-    (λ inside. absurd (not_b (record {
-      right_of_xlo = omega (arith, ints);
-      left_of_xhi = omega (arith, ints);
-      above_ylo = inside;
-      below_yhi = omega (arith, ints);
-    }))) in
-    let meets : a.yhi ≡ b.ylo = omega (arith, ints) in
-    elim (shared_upon-cases a b) [
-      | inr k ↦ absurd (k.0 meets)
-      | inl k ↦ subst (λ (z : ℤ). pos 0 <ℤ z) (sym k.1) (overlap-common a.xlo a.xhi b.xlo b.xhi s.x p.right_of_xlo p.left_of_xhi (omega (arith, ints))
-          (omega (arith, ints)))
-    ]
-
--- one part of the shared length is not 0
-some_beside : (a b : Rect) → pos 0 <ℤ shared_beside a b → pos 0 <ℤ shared_length a b
-some_beside a b h = omega (arith, ints, shared_beside-not_negative b a, shared_upon-not_negative a b, shared_upon-not_negative b a)
-
-some_beside_back : (a b : Rect) → pos 0 <ℤ shared_beside b a → pos 0 <ℤ shared_length a b
-some_beside_back a b h = omega (arith, ints, shared_beside-not_negative a b, shared_upon-not_negative a b, shared_upon-not_negative b a)
-
-some_upon : (a b : Rect) → pos 0 <ℤ shared_upon a b → pos 0 <ℤ shared_length a b
-some_upon a b h = omega (arith, ints, shared_beside-not_negative a b, shared_beside-not_negative b a, shared_upon-not_negative b a)
-
-some_upon_back : (a b : Rect) → pos 0 <ℤ shared_upon b a → pos 0 <ℤ shared_length a b
-some_upon_back a b h = omega (arith, ints, shared_beside-not_negative a b, shared_beside-not_negative b a, shared_upon-not_negative a b)
-
--- disjoint rectangles with neighbours share part of an edge
-pub neighbours_share : (a b : Rect) (s t : Square) → AreDisjoint a b → Covers a s → Covers b t → AreEdgeNeighbours s t → pos 0 <ℤ shared_length a b
-neighbours_share a b s t apart p q (inl (inl right, row)) = some_beside a b (right_shares a b s t p q (λ h. apart t h q) (λ h. apart s p h) right row)
-neighbours_share a b s t apart p q (inl (inr left, row)) = some_beside_back a b
-    (right_shares b a t s q p (λ h. apart s p h) (λ h. apart t h q) left (sym row))
-neighbours_share a b s t apart p q (inr (column, inl up)) = some_upon a b (up_shares a b s t p q (λ h. apart t h q) (λ h. apart s p h) column up)
-neighbours_share a b s t apart p q (inr (column, inr down)) = some_upon_back a b
-    (up_shares b a t s q p (λ h. apart s p h) (λ h. apart t h q) (sym column) down)
 
 -- the contact of two places of a list of rectangles
 contact_at : (rects : List Rect) (i j : ℕ) → Contact

@@ -1,16 +1,14 @@
 -- Stacks of tiles, and what their members make.
-use Rattle.std.proofs.Common.{◌≡◌, inl, inr, ◌+◌, ◌<◌, ◌<ℤ◌, ◌==◌, ℕ, suc, Bool, true, false, cond, List, [], ◌∷◌, ◌++◌, length, map, filter, take}
-use Rattle.std.proofs.Common.{get_or, refl, sym, ap, subst, ◌∙◌, arith, vec_len}
-use Rattle.std.specs.Prelude.{All, AllPairs, None, Some, not}
+use Rattle.std.proofs.Common.{◌≡◌, ◌≢◌, inl, inr, ◌+◌, ◌<◌, ◌<ℤ◌, ℕ, List, [], ◌∷◌, ◌++◌, length, map, take}
+use Rattle.std.proofs.Common.{get_or, refl, sym, ap, subst, ◌∙◌, arith}
+use Rattle.std.specs.Prelude.{All, AllPairs, None, Some}
 use Rattle.std.specs.Option.{option_map}
-use Rattle.std.proofs.lemmas.Bool.{not_from_false, not_from_true, ne_eqb}
-use Rattle.std.proofs.lemmas.List.{take_more, length-map, append-nil, map-append}
-use Rattle.std.proofs.lemmas.List.Elements.{filter-append}
+use Rattle.std.proofs.lemmas.List.{take_more, length-map, map-append}
 use Rattle.std.proofs.lemmas.Option.{slice_get-map, slice_get_within, slice_get-get_or}
 use Rattle.finite_sets.specs.Lists.{In}
-use Rattle.finite_sets.proofs.Members.{In-get_or, In-index, In-push_cases, In-append_left, In-push, In-filter_source}
+use Rattle.finite_sets.proofs.Members.{In-get_or, In-index, In-push_cases, In-append_left, In-push}
 use Rattle.finite_sets.proofs.Searches.{All-from_In}
-use Rattle.finite_sets.proofs.Pairs.{Pairwise, Pairwise-from_AllPairs, AllPairs-from_Pairwise, Pairwise-map}
+use Rattle.finite_sets.proofs.Pairs.{Pairwise-from_AllPairs, AllPairs-from_Pairwise, Pairwise-map}
 use Rattle.geo_core.specs.declared.squares.Square.{Square}
 use Rattle.geo_core.specs.declared.squares.Rect.{Rect}
 use Rattle.geo_core.specs.Areas.{AreDisjoint, corner_of}
@@ -22,7 +20,7 @@ use Rattle.tech_model.specs.declared.raw.RawTech.{RawTech}
 use Rattle.offences.specs.declared.set_tiles.SetTile.{SetTile}
 use Rattle.offences.specs.declared.typed_stacks.TypedStack.{TypedStack}
 use Rattle.offences.specs.PartSets.{tile_at, no_tile}
-use Rattle.offences.specs.TypedStacks.{has_members, StandsFor, IsOfStack, StandForAll}
+use Rattle.offences.specs.TypedStacks.{StandsFor, IsOfStack, StandForAll}
 
 -- the areas of tiles
 abbrev pub tile_areas : List SetTile → List Rect
@@ -85,32 +83,13 @@ members_within tiles stack is = All-from_In (λ member. member < length tiles) s
     (λ member h. (covers_tile tiles member (corner_of stack.area)
     (is.members member h (corner_of stack.area) (covers_corner stack.area is.proper))).0)
 
--- a stack that is not empty has members
-pub members_some : (stack : Stack) (empty : Bool) → empty ≡ (vec_len stack.members == 0) → empty ≡ false → has_members stack ≡ true
-members_some stack empty is fails = not_from_false (length stack.members.items == 0) (ap (λ (n : ℕ). n == 0) (sym stack.members.ok.0)
-    ∙ sym is ∙ fails)
-
--- and an empty one has none
-pub members_none : (stack : Stack) (empty : Bool) → empty ≡ (vec_len stack.members == 0) → empty ≡ true → has_members stack ≡ false
-members_none stack empty is passes = not_from_true (length stack.members.items == 0) (ap (λ (n : ℕ). n == 0) (sym stack.members.ok.0)
-    ∙ sym is ∙ passes)
-
--- what has members has a first one
-pub some_member : (stack : Stack) → has_members stack ≡ true → (member : ℕ) × In member stack.members.items
-some_member stack some = go stack.members.items some
+-- a stack has a member
+pub some_member : (tiles : List SetTile) (stack : Stack) → IsStack (tile_areas tiles) None stack → (member : ℕ) × In member stack.members.items
+some_member tiles stack is = go stack.members.items is.some
   where
-    go : (members : List ℕ) → not (length members == 0) ≡ true → (member : ℕ) × In member members
-    go [] some = absurd (cc)
+    go : (members : List ℕ) → members ≢ [] → (member : ℕ) × In member members
+    go [] some = absurd (some refl)
     go (member ∷ members) some = (member, inl refl)
-
--- a stack with a member has members
-pub member_some : (stack : Stack) (member : ℕ) → In member stack.members.items → has_members stack ≡ true
-member_some stack member h = go stack.members.items h
-  where
-    go : (members : List ℕ) → In member members → not (length members == 0) ≡ true
-    go [] h = absurd h
-    go (m ∷ members) h = not_from_false (length (m ∷ members) == 0)
-        (ne_eqb (length (m ∷ members)) 0 (λ none. let none' : suc (length members) ≡ 0 = none in omega arith))
 
 module _ (raw : RawTech) (plane : ℕ) (tiles : List SetTile) (stacks : List Stack) where
   -- before the first stack
@@ -122,28 +101,20 @@ module _ (raw : RawTech) (plane : ℕ) (tiles : List SetTile) (stacks : List Sta
     more : take (i + 1) stacks ≡ take i stacks ++ stack ∷ []
     more = take_more stacks i stack less ∙ ap (λ (s : Stack). take i stacks ++ s ∷ []) (sym is)
 
-    filtered : (b : Bool) → has_members stack ≡ b
-        → filter has_members (take (i + 1) stacks) ≡ filter has_members (take i stacks) ++ cond b (stack ∷ []) []
-    filtered b e =
-        ap (filter has_members) more ∙ filter-append has_members (take i stacks) (stack ∷ [])
-        ∙ ap (λ (b : Bool). filter has_members (take i stacks) ++ cond b (stack ∷ []) []) e
-
     wider : (typed_stack : TypedStack) → IsOfStack raw plane tiles (take i stacks) typed_stack → IsOfStack raw plane tiles (take (i + 1) stacks) typed_stack
     wider typed_stack of = record {
       stack = of.stack;
       listed = subst (In of.stack) (sym more) (In-append_left of.stack (take i stacks) (stack ∷ []) of.listed);
-      some = of.some;
       stands = of.stands;
     }
 
-    -- the next stack has members
-    pub with_typed_stack : (typed_stack : TypedStack) → has_members stack ≡ true → StandsFor raw plane tiles stack typed_stack
+    -- one more stack
+    pub with_typed_stack : (typed_stack : TypedStack) → StandsFor raw plane tiles stack typed_stack
         → StandForAll raw plane tiles (take (i + 1) stacks) (typed_stacks ++ typed_stack ∷ [])
-    with_typed_stack typed_stack some stands =
+    with_typed_stack typed_stack stands =
         let of : IsOfStack raw plane tiles (take (i + 1) stacks) typed_stack = record {
           stack = stack;
           listed = subst (In stack) (sym more) (In-push (take i stacks) stack);
-          some = some;
           stands = stands;
         } in
         record {
@@ -153,32 +124,12 @@ module _ (raw : RawTech) (plane : ℕ) (tiles : List SetTile) (stacks : List Sta
           ];
           areas = map-append (λ (s : TypedStack). s.area) typed_stacks (typed_stack ∷ [])
               ∙ ap (λ (areas : List Rect). areas ++ typed_stack.area ∷ []) so_far.areas
-              ∙ ap (λ (area : Rect). map (λ (s : Stack). s.area) (filter has_members (take i stacks)) ++ area ∷ []) stands.area
-              ∙ sym (ap (map (λ (s : Stack). s.area)) (filtered true some)
-              ∙ map-append (λ (s : Stack). s.area) (filter has_members (take i stacks)) (stack ∷ []));
+              ∙ ap (λ (area : Rect). map (λ (s : Stack). s.area) (take i stacks) ++ area ∷ []) stands.area
+              ∙ sym (ap (map (λ (s : Stack). s.area)) more ∙ map-append (λ (s : Stack). s.area) (take i stacks) (stack ∷ []));
         }
 
-    -- it has none
-    pub without_typed_stack : has_members stack ≡ false → StandForAll raw plane tiles (take (i + 1) stacks) typed_stacks
-    without_typed_stack none = record {
-      each = λ other h. wider other (so_far.each other h);
-      areas = so_far.areas
-          ∙ sym (ap (map (λ (s : Stack). s.area)) (filtered false none ∙ append-nil (filter has_members (take i stacks))));
-    }
-
--- a fact of any two things of a list holds of any two that a filter keeps
-pub Pairwise-filter : {X : Type 0} (R : X → X → Type 0) (test : X → Bool) (xs : List X) → Pairwise R xs → Pairwise R (filter test xs)
-Pairwise-filter R test [] pairs = tt
-Pairwise-filter {X} R test (x ∷ xs) pairs =
-    elim (test x) as (λ b. Pairwise R (cond b (x ∷ filter test xs) (filter test xs))) [
-      | true ↦ ((λ y h. pairs.0 y (In-filter_source test y xs h)), Pairwise-filter R test xs pairs.1)
-      | false ↦ Pairwise-filter R test xs pairs.1
-    ]
-
--- the areas of the stacks that have members lie apart
-pub stack_areas_apart : (stacks : List Stack) → AllPairs (λ a b. AreDisjoint a.area b.area) stacks
-    → AllPairs AreDisjoint (map (λ (s : Stack). s.area) (filter has_members stacks))
-stack_areas_apart stacks apart = AllPairs-from_Pairwise AreDisjoint (map (λ (s : Stack). s.area) (filter has_members stacks))
-    (Pairwise-map (λ (s : Stack). s.area) AreDisjoint (filter has_members stacks)
-    (Pairwise-filter (λ (a : Stack) (b : Stack). AreDisjoint a.area b.area) has_members stacks
-    (Pairwise-from_AllPairs (λ (a : Stack) (b : Stack). AreDisjoint a.area b.area) stacks apart)))
+-- the areas of the stacks lie apart
+pub stack_areas_apart : (stacks : List Stack) → AllPairs (λ a b. AreDisjoint a.area b.area) stacks → AllPairs AreDisjoint (map (λ (s : Stack). s.area) stacks)
+stack_areas_apart stacks apart = AllPairs-from_Pairwise AreDisjoint (map (λ (s : Stack). s.area) stacks)
+    (Pairwise-map (λ (s : Stack). s.area) AreDisjoint stacks
+    (Pairwise-from_AllPairs (λ (a : Stack) (b : Stack). AreDisjoint a.area b.area) stacks apart))

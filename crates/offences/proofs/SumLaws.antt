@@ -7,7 +7,7 @@ use Rattle.std.proofs.lemmas.Bool.{eq-eqb, ne_eqb, cases_eq}
 use Rattle.std.proofs.lemmas.List.{take_more, take_all}
 use Rattle.finite_sets.specs.Lists.{In}
 use Rattle.finite_sets.proofs.Members.{In-get_or, In-push_cases}
-use Rattle.finite_sets.proofs.Pairs.{Pairwise, AllPairs-from_Pairwise}
+use Rattle.finite_sets.proofs.Pairs.{Pairwise, AllPairs-from_Pairwise, Pairwise-push}
 use Rattle.offences.specs.declared.set_tiles.SetTile.{SetTile}
 use Rattle.offences.specs.declared.part_sets.PartSum.{PartSum}
 use Rattle.offences.specs.PartSets.{no_tile, tile_at, AreInPartOrder, set_if, member_set, listed_set, all_sets, HasMember, HaveSetsOf}
@@ -41,14 +41,6 @@ no_sum = record { part = 0; set = record { 0 = 0 } }
 pub all_sets-push : (sums : List PartSum) (sum : PartSum) → all_sets (sums ++ sum ∷ []) ≡ bit_or (all_sets sums) sum.set.0
 all_sets-push [] sum = or_zero_r sum.set.0 ∙ sym (or_zero_l sum.set.0)
 all_sets-push (s ∷ sums) sum = ap (bit_or s.set.0) (all_sets-push sums sum) ∙ sym (union_assoc s.set.0 (all_sets sums) sum.set.0)
-
--- one more thing at the end of a list of which each stands before the next
-Pairwise-push : {X : Type 0} (R : X → X → Type 0) (xs : List X) (y : X) → Pairwise R xs → ((x : X) → In x xs → R x y) → Pairwise R (xs ++ y ∷ [])
-Pairwise-push R [] y pairs before = ((λ z h. absurd h), tt)
-Pairwise-push {X} R (x ∷ xs) y pairs before = (
-  (λ z h. elim (In-push_cases z xs y h) [ inl k ↦ pairs.0 z k | inr e ↦ subst (R x) e (before x (inl refl)) ]),
-  Pairwise-push R xs y pairs.1 (λ z h. before z (inr h)),
-)
 
 -- The sums of the first of the members: those of the parts that are passed, and that of the part at hand.
 pub record AreSumsUpTo (tiles : List SetTile) (members : List ℕ) (done : ℕ) (sums : List PartSum) (sum : PartSum) : Type 0 where

@@ -17,7 +17,7 @@ use Rattle.offences.specs.declared.set_tiles.SetTile.{SetTile}
 use Rattle.offences.specs.declared.part_sets.PartSum.{PartSum}
 use Rattle.offences.specs.Offences.{SetLayout, union_of}
 use Rattle.offences.specs.PartSets.{tile_at, set_if, member_set, listed_set, all_sets}
-use Rattle.offences.specs.SetTiles.{set_from, tile_part, tile_parts}
+use Rattle.offences.specs.SetTiles.{set_of_set_tile, tile_part, tile_parts}
 use Rattle.offences.proofs.UnionLaws.{no_part, set_if-bit, set_if-kept}
 
 -- A thing of the list has this part in its set.
@@ -53,9 +53,9 @@ pub record HasTile (tiles : List SetTile) (plane part : ℕ) (place : Place) (i 
   pub covers : Covers tile.area place.square
   pub bit : bit_at tile.set.0 i ≡ 1
 
-set_from-bit : (tile : SetTile) (plane part : ℕ) (place : Place) (i : ℕ) → bit_at (set_from plane part tile place) i ≡ 1
+set_of_set_tile-bit : (tile : SetTile) (plane part : ℕ) (place : Place) (i : ℕ) → bit_at (set_of_set_tile plane part tile place) i ≡ 1
     → (tile.part ≡ part) × (place.plane ≡ plane) × Covers tile.area place.square × (bit_at tile.set.0 i ≡ 1)
-set_from-bit tile plane part place i bit =
+set_of_set_tile-bit tile plane part place i bit =
     let test = tile.part == part && place.plane == plane && is_covered tile.area place.square in
     let P : Bool → Type 0 = λ b. bit_at (cond b tile.set.0 0) i ≡ 1 in
     elim (cases_Bool test) [
@@ -70,9 +70,9 @@ set_from-bit tile plane part place i bit =
       | inr fails ↦ absurd (no_part i (subst P fails bit))
     ]
 
-set_from-kept : (tile : SetTile) (plane part : ℕ) (place : Place) (i : ℕ) → tile.part ≡ part → place.plane ≡ plane → Covers tile.area place.square
-    → bit_at tile.set.0 i ≡ 1 → bit_at (set_from plane part tile place) i ≡ 1
-set_from-kept tile plane part place i e p covers bit =
+set_of_set_tile-kept : (tile : SetTile) (plane part : ℕ) (place : Place) (i : ℕ) → tile.part ≡ part → place.plane ≡ plane → Covers tile.area place.square
+    → bit_at tile.set.0 i ≡ 1 → bit_at (set_of_set_tile plane part tile place) i ≡ 1
+set_of_set_tile-kept tile plane part place i e p covers bit =
     let P : Bool → Type 0 = λ b. bit_at (cond b tile.set.0 0) i ≡ 1 in
     subst P (sym (and_from (tile.part == part && place.plane == plane) (is_covered tile.area place.square)
     (and_from (tile.part == part) (place.plane == plane) (eq-eqb tile.part part e) (eq-eqb place.plane plane p))
@@ -82,15 +82,15 @@ module _ (tiles : List SetTile) (plane part : ℕ) (place : Place) where
   -- a bit of a part is one of a tile
   pub part_bit : (i : ℕ) → bit_at (tile_part tiles plane part place) i ≡ 1 → HasTile tiles plane part place i
   part_bit i bit =
-      let has = union_bit (λ ts. tile_part ts plane part place) (λ tile. set_from plane part tile place) refl (λ t ts. refl) tiles i bit in
-      let parts = set_from-bit has.thing plane part place i has.bit in
+      let has = union_bit (λ ts. tile_part ts plane part place) (λ tile. set_of_set_tile plane part tile place) refl (λ t ts. refl) tiles i bit in
+      let parts = set_of_set_tile-bit has.thing plane part place i has.bit in
       record { tile = has.thing; listed = has.listed; of_part = parts.0; same_plane = parts.1; covers = parts.2; bit = parts.3 }
 
   -- and each bit of a tile is one of the part
   pub part_kept : (i : ℕ) → HasTile tiles plane part place i → bit_at (tile_part tiles plane part place) i ≡ 1
   part_kept i has =
-      bit_kept (λ ts. tile_part ts plane part place) (λ tile. set_from plane part tile place) refl (λ t ts. refl) tiles i has.tile has.listed
-      (set_from-kept has.tile plane part place i has.of_part has.same_plane has.covers has.bit)
+      bit_kept (λ ts. tile_part ts plane part place) (λ tile. set_of_set_tile plane part tile place) refl (λ t ts. refl) tiles i has.tile has.listed
+      (set_of_set_tile-kept has.tile plane part place i has.of_part has.same_plane has.covers has.bit)
 
 -- A member of the part has this bit in its set.
 pub record HasMemberBit (tiles : List SetTile) (part : ℕ) (members : List ℕ) (i : ℕ) : Type 0 where

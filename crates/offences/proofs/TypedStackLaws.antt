@@ -1,12 +1,12 @@
 -- What the members of stacks make is what the parts have there.
-use Rattle.std.proofs.Common.{◌≡◌, ◌≢◌, inl, inr, ◌<◌, ◌<ℤ◌, ◌≤ℤ◌, ◌-ℤ◌, pos, ℕ, true, List, map, filter, refl, sym, ap, subst, ◌∙◌, arith}
+use Rattle.std.proofs.Common.{◌≡◌, ◌≢◌, inl, inr, ◌<◌, ◌<ℤ◌, ◌≤ℤ◌, ◌-ℤ◌, pos, ℕ, List, map, refl, sym, ap, subst, ◌∙◌, arith}
 use Rattle.std.specs.Prelude.{AllPairs, Some, None, Option, IsPermutation}
 use Rattle.std.specs.Int.{bit_at}
 use Rattle.std.specs.Option.{option_map}
 use Rattle.std.proofs.lemmas.Int.{ints}
 use Rattle.std.proofs.lemmas.List.Sorted.{IsPermutation-sym}
 use Rattle.finite_sets.specs.Lists.{In}
-use Rattle.finite_sets.proofs.Members.{In-map, In-map_source, In-filter, In-permutation}
+use Rattle.finite_sets.proofs.Members.{In-map, In-map_source, In-permutation}
 use Rattle.finite_sets.proofs.Pairs.{Pairwise-from_AllPairs, AllPairs-from_Pairwise, Pairwise-map}
 use Rattle.geo_core.specs.declared.squares.Square.{Square}
 use Rattle.geo_core.specs.declared.squares.Rect.{Rect}
@@ -26,10 +26,10 @@ use Rattle.offences.specs.Changes.{number_of}
 use Rattle.offences.specs.Offences.{SetLayout, union_of, HaveTypes}
 use Rattle.offences.specs.PartSets.{tile_at, member_set, listed_set, all_sets, HaveSetsOf}
 use Rattle.offences.specs.SetTiles.{AreTilesOfParts, tile_part, tile_parts}
-use Rattle.offences.specs.TypedStacks.{has_members, areas_of, kind_of, kind_in, AreByPart, on_plane, StandsFor, StandForAll, IsTypedStack}
+use Rattle.offences.specs.TypedStacks.{typed_stack_areas, kind_of, kind_in, AreByPart, on_plane, StandsFor, StandForAll, IsTypedStack}
 use Rattle.offences.specs.TypedStacks.{AreTypedStacks}
 use Rattle.offences.proofs.KindLaws.{kinds_of_sums, kind_in-listed}
-use Rattle.offences.proofs.StackLaws.{tile_areas, In-tile_at, covers_corner, covers_tile, tile_covers, some_member, member_some, stack_areas_apart}
+use Rattle.offences.proofs.StackLaws.{tile_areas, In-tile_at, covers_corner, covers_tile, tile_covers, some_member, stack_areas_apart}
 use Rattle.offences.proofs.TileLaws.{part_bit, part_kept, member_bit, member_kept, listed_bit, listed_kept, all_bit, all_kept, length-parts}
 use Rattle.offences.proofs.TileLaws.{part_at, at_part, parts_bit, parts_kept}
 use Rattle.offences.proofs.UnionLaws.{same_sets, no_part}
@@ -172,10 +172,10 @@ module _ (raw : RawTech) (plane : ℕ) (tiles sorted : List SetTile) (moved : Is
             (λ i bit. absurd (no_part i bit)))
 
         -- what is made of the sums stands there
-        pub is_typed_stack : has_members stack ≡ true → (typed_stack : TypedStack) → (stands : StandsFor raw plane sorted stack typed_stack) → stands.sums ≡ sums
+        pub is_typed_stack : (typed_stack : TypedStack) → (stands : StandsFor raw plane sorted stack typed_stack) → stands.sums ≡ sums
             → IsTypedStack raw (tile_parts tiles plane count) plane typed_stack
-        is_typed_stack some typed_stack stands same =
-            let member = some_member stack some in
+        is_typed_stack typed_stack stands same =
+            let member = some_member sorted stack is in
             let corner = member_covers member.0 member.1 (corner_of stack.area) (covers_corner stack.area is.proper) in
             let near = (All_In (λ (tile : SetTile). (tile.part < count) × IsNear tile.area) tiles (tile_at sorted member.0) of_parts corner.0).1 in
             let kinds : typed_stack.kinds ≡ map (kind_of raw plane) sums = stands.kinds ∙ ap (map (kind_of raw plane)) same in
@@ -218,10 +218,8 @@ module _ (raw : RawTech) (plane : ℕ) (tiles sorted : List SetTile) (moved : Is
         let at = tile_covers sorted has.tile square (here has.tile has.listed) has.covers in
         let found = are.every at.0 square at.1.1 in
         let stack = found.0 in
-        let member = tile_is_member stack (are.each stack found.1.0) has.tile square found.1.1 has.listed has.covers in
-        let kept : In stack (filter has_members stacks) = In-filter has_members stack stacks found.1.0 (member_some stack member.0 member.1.0) in
-        let listed : In stack.area (areas_of typed_stacks) = subst (In stack.area) (sym stand.areas)
-        (In-map (λ (s : Stack). s.area) stack (filter has_members stacks) kept) in
+        let listed : In stack.area (typed_stack_areas typed_stacks) = subst (In stack.area) (sym stand.areas)
+        (In-map (λ (s : Stack). s.area) stack stacks found.1.0) in
         let typed_stack = In-map_source (λ (s : TypedStack). s.area) stack.area typed_stacks listed in
         absurd (out typed_stack.0 typed_stack.1.0 (subst (λ (r : Rect). Covers r square) (sym typed_stack.1.1) found.1.1)))
         (λ i bit. absurd (no_part i bit))
@@ -231,7 +229,7 @@ module _ (raw : RawTech) (plane : ℕ) (tiles sorted : List SetTile) (moved : Is
     are_typed_stacks = record {
       each = λ typed_stack h.
           let of = stand.each typed_stack h in
-          is_typed_stack of.stack (are.each of.stack of.listed) count of_parts of.stands.sums of.stands.are types of.some typed_stack of.stands refl;
+          is_typed_stack of.stack (are.each of.stack of.listed) count of_parts of.stands.sums of.stands.are types typed_stack of.stands refl;
       apart = subst (AllPairs AreDisjoint) (sym stand.areas) (stack_areas_apart stacks are.apart);
       outside = λ square out position part there.
           let p = part_at tiles plane count position part there in

@@ -12,8 +12,8 @@ use Rattle.layout_model.specs.LayerTypes.{Kinds}
 use Rattle.offences.specs.declared.set_tiles.SetTile.{SetTile}
 
 -- a tile of a part, with the set of its type
-abbrev pub set_tile : RawTech → ℕ → Rect × TypeId → SetTile
-set_tile raw part tile = record { part = part; area = tile.0; set = record { 0 = parts_of raw tile.1.0 } }
+abbrev pub layer_tile : RawTech → ℕ → Rect × TypeId → SetTile
+layer_tile raw part tile = record { part = part; area = tile.0; set = record { 0 = parts_of raw tile.1.0 } }
 
 -- The tile is of one of the parts, lies inside the area, and each of its squares has a type with its set.
 pub record IsPartTile (raw : RawTech) (plane : ℕ) (area : Rect) (parts : List Kinds) (tile : SetTile) : Type 0 where

@@ -18,7 +18,7 @@ use Rattle.offences.specs.declared.typed_stacks.PartKind.{PartKind}
 use Rattle.offences.specs.declared.typed_stacks.TypedStack.{TypedStack}
 use Rattle.offences.specs.Changes.{number_of, same_role}
 use Rattle.offences.specs.Roles.{role_of}
-use Rattle.offences.specs.TypedStacks.{has_kind, kind_in, typed_stack_at, areas_of}
+use Rattle.offences.specs.TypedStacks.{has_kind, kind_in, typed_stack_at, typed_stack_areas}
 
 -- the flat type hides the part's
 abbrev pub is_hidden : RawTech → ℕ → PartKind → Bool
@@ -66,8 +66,8 @@ abbrev pub changed : RawTech → TypedStack → TypedStack → List Rect
 changed raw here beside = changed_by raw here.owner here beside
 
 -- the squares that offend for what stands on the other side of a contact
-abbrev pub changed_at : RawTech → List TypedStack → Contact → List Rect
-changed_at raw typed_stacks contact =
+abbrev pub changed_across : RawTech → List TypedStack → Contact → List Rect
+changed_across raw typed_stacks contact =
     changed raw (typed_stack_at typed_stacks contact.first) (typed_stack_at typed_stacks contact.second)
     ++ changed raw (typed_stack_at typed_stacks contact.second) (typed_stack_at typed_stacks contact.first)
 
@@ -81,7 +81,7 @@ spoiled_areas raw typed_stacks = map (λ typed_stack. typed_stack.area) (filter 
 
 -- what offends for what stands beside it
 abbrev pub changed_pieces : RawTech → List TypedStack → List Contact → List Rect
-changed_pieces raw typed_stacks contacts = flat_map (changed_at raw typed_stacks) contacts
+changed_pieces raw typed_stacks contacts = flat_map (changed_across raw typed_stacks) contacts
 
 -- The rectangles cover exactly the squares with this fact.
 pub record CoverExactly (S : Square → Type 0) (pieces : List Rect) : Type 0 where
@@ -91,5 +91,5 @@ pub record CoverExactly (S : Square → Type 0) (pieces : List Rect) : Type 0 wh
 -- The pieces are those of all contacts, or no piece is of a channel and there are none.
 pub data AreFoundChanges (raw : RawTech) (typed_stacks : List TypedStack) (pieces : List Rect) : Type 0 where
   no_channel : list_any has_owner typed_stacks ≡ false → pieces ≡ [] → AreFoundChanges raw typed_stacks pieces
-  of_contacts : (contacts : List Contact) → Lists (IsSharedEdge (areas_of typed_stacks)) contacts → pieces ≡ changed_pieces raw typed_stacks contacts
+  of_contacts : (contacts : List Contact) → Lists (IsSharedEdge (typed_stack_areas typed_stacks)) contacts → pieces ≡ changed_pieces raw typed_stacks contacts
       → AreFoundChanges raw typed_stacks pieces

@@ -11,14 +11,14 @@ use Rattle.offences.specs.Offences.{SetLayout}
 use Rattle.offences.specs.declared.set_tiles.SetTile.{SetTile}
 
 -- what a tile adds to a part at a place of the plane
-abbrev pub set_from : ℕ → ℕ → SetTile → Place → ℕ
-set_from plane part tile place =
+abbrev pub set_of_set_tile : ℕ → ℕ → SetTile → Place → ℕ
+set_of_set_tile plane part tile place =
     if tile.part == part && place.plane == plane && is_covered tile.area place.square then tile.set.0 else 0
 
 -- what the tiles of the plane make of a part: at each place the union of the sets of its tiles there
 abbrev pub tile_part : List SetTile → ℕ → ℕ → SetLayout
 tile_part [] plane part place = 0
-tile_part (tile ∷ tiles) plane part place = bit_or (set_from plane part tile place) (tile_part tiles plane part place)
+tile_part (tile ∷ tiles) plane part place = bit_or (set_of_set_tile plane part tile place) (tile_part tiles plane part place)
 
 -- the parts of these tiles, so many as there are said to be
 abbrev pub tile_parts : List SetTile → ℕ → ℕ → List SetLayout

@@ -1,5 +1,5 @@
 -- Pieces of a plane on whose squares each part has one type.
-use Rattle.std.specs.Prelude.{◌≡◌, ◌≢◌, ◌<◌, ◌==◌, not, ℕ, Bool, true, if◌then◌else◌, List, [], ◌∷◌, length, map, filter, find, slice_get}
+use Rattle.std.specs.Prelude.{◌≡◌, ◌≢◌, ◌<◌, ◌==◌, ℕ, Bool, if◌then◌else◌, List, [], ◌∷◌, length, map, find, slice_get}
 use Rattle.std.specs.Prelude.{slice_index_or}
 use Rattle.std.specs.Prelude.{Option, Some, None, unwrap_or, AllPairs}
 use Rattle.std.specs.Option.{option_map}
@@ -46,25 +46,20 @@ pub record StandsFor (raw : RawTech) (plane : ℕ) (tiles : List SetTile) (stack
   pub kinds : typed_stack.kinds ≡ map (kind_of raw plane) sums
   pub owner : typed_stack.owner ≡ owner_of raw typed_stack.flat typed_stack.kinds
 
--- some rectangle covers the stack
-abbrev pub has_members : Stack → Bool
-has_members stack = not (length stack.members.items == 0)
-
 -- the areas of pieces
-abbrev pub areas_of : List TypedStack → List Rect
-areas_of typed_stacks = map (λ typed_stack. typed_stack.area) typed_stacks
+abbrev pub typed_stack_areas : List TypedStack → List Rect
+typed_stack_areas typed_stacks = map (λ typed_stack. typed_stack.area) typed_stacks
 
--- The piece is what the members of one of the stacks make, which has some.
+-- The piece is what the members of one of the stacks make.
 pub record IsOfStack (raw : RawTech) (plane : ℕ) (tiles : List SetTile) (stacks : List Stack) (typed_stack : TypedStack) : Type 0 where
   pub stack : Stack
   pub listed : In stack stacks
-  pub some : has_members stack ≡ true
   pub stands : StandsFor raw plane tiles stack typed_stack
 
--- The pieces are those of the stacks that have members.
+-- The pieces are those of the stacks, in their order.
 pub record StandForAll (raw : RawTech) (plane : ℕ) (tiles : List SetTile) (stacks : List Stack) (typed_stacks : List TypedStack) : Type 0 where
   pub each : (typed_stack : TypedStack) → In typed_stack typed_stacks → IsOfStack raw plane tiles stacks typed_stack
-  pub areas : areas_of typed_stacks ≡ map (λ stack. stack.area) (filter has_members stacks)
+  pub areas : typed_stack_areas typed_stacks ≡ map (λ stack. stack.area) stacks
 
 -- the type of a part in a list of types: space where it is not listed
 abbrev pub kind_in : List PartKind → ℕ → ℕ
@@ -94,7 +89,7 @@ pub record IsTypedStack (raw : RawTech) (parts : List SetLayout) (plane : ℕ) (
 -- The pieces lie apart, and no part has anything outside them.
 pub record AreTypedStacks (raw : RawTech) (parts : List SetLayout) (plane : ℕ) (typed_stacks : List TypedStack) : Type 0 where
   pub each : (typed_stack : TypedStack) → In typed_stack typed_stacks → IsTypedStack raw parts plane typed_stack
-  pub apart : AllPairs AreDisjoint (areas_of typed_stacks)
+  pub apart : AllPairs AreDisjoint (typed_stack_areas typed_stacks)
   pub outside : (square : Square) → ((typed_stack : TypedStack) → In typed_stack typed_stacks → Covers typed_stack.area square → ⊥)
       → (position : ℕ) (part : SetLayout) → slice_get parts position ≡ Some part → part (on_plane plane square) ≡ 0
 

@@ -1,13 +1,11 @@
 //! Offences of parts that are given as layers.
 ghost use Rattle.std.specs.Prelude.{◌≡◌, ◌≢◌, ◌++◌, None, ℕ, IfOk, OnOk, All, map, length};
 ghost use Rattle.geo_core.specs.declared.squares.Square.{Square as OneSquare};
-ghost use Rattle.geo_core.specs.Areas.{IsNear, common_rect};
+ghost use Rattle.geo_core.specs.Areas.{widened, common_rect, IsNear};
 ghost use Rattle.geo_core.specs.Covering.{Covers, IsProper};
 ghost use Rattle.geo_core.specs.Strips.{IsStrips};
-ghost use Rattle.tech_model.specs.Types.{parts_of};
 ghost use Rattle.layout_model.specs.LayerTypes.{AreTypesOf};
-ghost use Rattle.interact.specs.Interactions.{widened};
-ghost use Rattle.offences.specs.LayerParts.{set_tile, ArePartTiles};
+ghost use Rattle.offences.specs.LayerParts.{layer_tile, ArePartTiles};
 ghost use Rattle.offences.specs.Offences.{OffendsOn};
 ghost use Rattle.offences.specs.SetTiles.{set_layout};
 
@@ -16,23 +14,7 @@ use crate::pieces::bad_pieces;
 use crate::set_tiles::SetTile;
 use geo_core::{Rect, strips};
 use std::alloc::{AllocError, Global};
-use tech_model::{Layers, PartSet, RawTech, Tech, TechFault, TypeId};
-
-/// The set of a type, which is empty for space.
-fn parts_of(raw: &RawTech, kind: TypeId) -> PartSet
-    ensures { result.0 ≡ parts_of raw.now kind.0 }
-{
-    if kind.0 == 0 {
-        return PartSet(0);
-    }
-    let place = usize::from(kind.0 - 1);
-    let types = raw.types.items();
-    if place < types.len() {
-        types[place].parts
-    } else {
-        PartSet(0)
-    }
-}
+use tech_model::{Layers, RawTech, Tech, TechFault, TypeId};
 
 /// Adds the tiles of a part, with the sets of their types.
 fn push_tiles(
@@ -41,19 +23,19 @@ fn push_tiles(
     part: usize,
     tiles: &[(Rect, TypeId)],
 ) -> Result<(), AllocError>
-    ensures { OnOk result (gathered.new.items ≡ gathered.old.items ++ map (set_tile raw.now part) tiles.now) }
+    ensures { OnOk result (gathered.new.items ≡ gathered.old.items ++ map (layer_tile raw.now part) tiles.now) }
 {
     for (area, kind) in tiles {
         gathered.push(SetTile {
             part,
             area: *area,
-            set: parts_of(raw, *kind),
+            set: raw.parts_of(*kind),
         })?;
     }
     Ok(())
 }
 
-/// The tiles of all parts in an area, each with the place of its part.
+/// The tiles of all parts in an area, each with the number of its part.
 fn part_tiles<Y: Layers>(
     alloc: Global,
     raw: &RawTech,
@@ -66,24 +48,11 @@ fn part_tiles<Y: Layers>(
     ensures { IfOk result (λ tiles. ArePartTiles raw.now plane area (map Y.kind parts.now) tiles.items) }
 {
     let mut gathered = Vec::new(alloc);
-    for (place, part) in parts.iter().enumerate() {
+    for (number, part) in parts.iter().enumerate() {
         let tiles = part.tiles(alloc, plane, area)?;
-        push_tiles(&mut gathered, raw, place, tiles.as_slice())?;
+        push_tiles(&mut gathered, raw, number, tiles.as_slice())?;
     }
     Ok(gathered)
-}
-
-/// The area, grown by one on every side.
-fn widened(area: &Rect) -> Rect
-    requires { IsNear (widened area.now) }
-    ensures { result ≡ widened area.now }
-{
-    Rect {
-        xlo: area.xlo - 1,
-        ylo: area.ylo - 1,
-        xhi: area.xhi + 1,
-        yhi: area.yhi + 1,
-    }
 }
 
 /// What the rectangles have in common with an area.
@@ -111,7 +80,7 @@ pub fn offending<Y: Layers>(
     ensures { IfOk result (λ found. IsStrips (λ square. Covers area square
         × OffendsOn tech.now (map (λ part. set_layout tech.now (Y.kind part)) parts.now) plane square) found.items) }
 {
-    let around = widened(&area);
+    let around = area.widened();
     let tiles = part_tiles(alloc, tech.raw(), parts, plane, around)?;
     let pieces = bad_pieces(alloc, tech, tiles.as_slice(), plane, parts.len())?;
     let inside = cut(alloc, pieces.as_slice(), &area)?;

@@ -6,7 +6,7 @@ ghost use Rattle.geo_core.specs.Covering.{IsProper};
 ghost use Rattle.offences.specs.Offences.{OffendsOn, HaveTypes};
 ghost use Rattle.offences.specs.Pieces.{has_owner, CoverExactly, AreFoundChanges};
 ghost use Rattle.offences.specs.SetTiles.{AreTilesOfParts, tile_parts};
-ghost use Rattle.offences.specs.TypedStacks.{areas_of, AreByPart};
+ghost use Rattle.offences.specs.TypedStacks.{typed_stack_areas, AreByPart};
 
 use crate::changes::changed_pieces;
 use crate::set_tiles::SetTile;
@@ -18,8 +18,8 @@ use std::alloc::{AllocError, Global};
 use tech_model::{RawTech, Tech};
 
 /// The areas of pieces.
-fn areas_of(alloc: Global, typed_stacks: &[TypedStack]) -> Result<Vec<Rect>, AllocError>
-    ensures { IfOk result (λ areas. areas.items ≡ areas_of typed_stacks.now) }
+fn typed_stack_areas(alloc: Global, typed_stacks: &[TypedStack]) -> Result<Vec<Rect>, AllocError>
+    ensures { IfOk result (λ areas. areas.items ≡ typed_stack_areas typed_stacks.now) }
 {
     typed_stacks
         .iter()
@@ -45,13 +45,13 @@ fn changes(
     requires ordered { All (λ typed_stack. AreByPart typed_stack.kinds) typed_stacks.now }
     requires near { All (λ typed_stack. IsNear typed_stack.area) typed_stacks.now }
     requires proper { All (λ typed_stack. IsProper typed_stack.area) typed_stacks.now }
-    requires apart { AllPairs AreDisjoint (areas_of typed_stacks.now) }
+    requires apart { AllPairs AreDisjoint (typed_stack_areas typed_stacks.now) }
     ensures { IfOk result (λ pieces. AreFoundChanges raw.now typed_stacks.now pieces.items) }
 {
     if !have_channel(typed_stacks) {
         return Ok(Vec::new(alloc));
     }
-    let areas = areas_of(alloc, typed_stacks)?;
+    let areas = typed_stack_areas(alloc, typed_stacks)?;
     let contacts = touching(alloc, areas.as_slice())?;
     changed_pieces(alloc, raw, typed_stacks, contacts.as_slice())
 }

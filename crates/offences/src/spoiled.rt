@@ -3,7 +3,6 @@ ghost use Rattle.std.specs.Prelude.{◌≡◌, IfOk};
 ghost use Rattle.std.specs.List.{list_any};
 ghost use Rattle.offences.specs.Pieces.{is_hidden, is_shared, is_lost, is_spoiled, spoiled_areas};
 
-use crate::roles::is_channel;
 use crate::typed_stacks::{PartKind, TypedStack};
 use geo_core::Rect;
 use std::alloc::{AllocError, Global};
@@ -20,14 +19,14 @@ fn hides_part(tech: &Tech, flat: TypeId, kinds: &[PartKind]) -> bool
 fn shares_channel(raw: &RawTech, flat: TypeId, kinds: &[PartKind]) -> bool
     ensures { result ≡ is_shared raw.now flat.0 kinds.now }
 {
-    is_channel(raw, flat) && kinds.iter().filter(|entry| entry.kind.0 == flat.0).count() != 1
+    raw.is_channel(flat) && kinds.iter().filter(|entry| entry.kind.0 == flat.0).count() != 1
 }
 
 /// Whether some part has a channel's type that is not the flat type.
 fn loses_channel(raw: &RawTech, flat: TypeId, kinds: &[PartKind]) -> bool
     ensures { result ≡ list_any (is_lost raw.now flat.0) kinds.now }
 {
-    kinds.iter().any(|entry| is_channel(raw, entry.kind) && entry.kind.0 != flat.0)
+    kinds.iter().any(|entry| raw.is_channel(entry.kind) && entry.kind.0 != flat.0)
 }
 
 /// Whether each square of the piece offends, whatever stands beside it.

@@ -6,7 +6,6 @@ ghost use Rattle.offences.specs.PartSets.{AreInPartOrder};
 ghost use Rattle.offences.specs.TypedStacks.{kind_of, has_kind, owner_of, StandsFor, StandForAll, StandForTiles};
 
 use crate::part_sets::{PartSum, all_sets, part_sets};
-use crate::roles::is_channel;
 use crate::set_tiles::SetTile;
 use geo_core::{List, Rect};
 use rect_overlays::{Stack, overlay};
@@ -63,7 +62,7 @@ fn owner_of(raw: &RawTech, flat: Option<TypeId>, kinds: &[PartKind]) -> Option<P
     match flat {
         None => None,
         Some(flat) => {
-            if is_channel(raw, flat) {
+            if raw.is_channel(flat) {
                 first_with(kinds, flat)
             } else {
                 None
@@ -108,13 +107,13 @@ fn by_part(alloc: Global, tiles: &[SetTile]) -> Result<Vec<SetTile>, AllocError>
 }
 
 /// The areas of tiles.
-fn areas_of(alloc: Global, tiles: &[SetTile]) -> Result<Vec<Rect>, AllocError>
+fn tile_areas(alloc: Global, tiles: &[SetTile]) -> Result<Vec<Rect>, AllocError>
     ensures { IfOk result (λ areas. areas.items ≡ map (λ tile. tile.area) tiles.now) }
 {
     tiles.iter().map(|tile| tile.area).collect(alloc)
 }
 
-/// What the members of each stack make. A stack that no tile covers is left out: everything is space there.
+/// What the members of each stack make.
 fn typed_stacks_of(
     alloc: Global,
     tech: &Tech,
@@ -128,10 +127,8 @@ fn typed_stacks_of(
 {
     let mut typed_stacks = Vec::with_capacity(alloc, stacks.len())?;
     for stack in stacks {
-        if !stack.members.is_empty() {
-            let typed_stack = typed_stack_of(alloc, tech, tiles, stack, plane)?;
-            typed_stacks.push(typed_stack)?;
-        }
+        let typed_stack = typed_stack_of(alloc, tech, tiles, stack, plane)?;
+        typed_stacks.push(typed_stack)?;
     }
     Ok(typed_stacks)
 }
@@ -147,7 +144,7 @@ pub fn typed_stacks(
     ensures { IfOk result (λ typed_stacks. StandForTiles tech.now plane tiles.now typed_stacks.items) }
 {
     let sorted = by_part(alloc, tiles)?;
-    let areas = areas_of(alloc, sorted.as_slice())?;
+    let areas = tile_areas(alloc, sorted.as_slice())?;
     let stacks = overlay(alloc, areas.as_slice(), None)?;
     typed_stacks_of(alloc, tech, sorted.as_slice(), stacks.as_slice(), plane)
 }

@@ -3,7 +3,7 @@ use Rattle.std.specs.Prelude.{All}
 use Rattle.geo_core.specs.declared.squares.Rect.{Rect}
 use Rattle.geo_core.specs.Areas.{IsNear}
 use Rattle.geo_core.specs.Strips.{IsStrips}
-use Rattle.interact.specs.Interactions.{IsShared}
+use Rattle.interact.specs.NearBoxes.{IsShared}
 use Rattle.cell_tree.specs.Hulls.{IsLawfulBox}
 use Rattle.cell_library.specs.LayoutTrees.{tree_at}
 use Rattle.cell_library.specs.Libraries.{seen}

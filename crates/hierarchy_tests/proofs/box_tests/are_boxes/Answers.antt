@@ -1,6 +1,6 @@
 use Rattle.std.proofs.Common.{ℕ, get_or, refl, subst, below_more, arith}
 use Rattle.std.proofs.lemmas.List.{get_or_default}
-use Rattle.interact.specs.Interactions.{IsNearBox}
+use Rattle.interact.specs.NearBoxes.{IsNearBox}
 use Rattle.hierarchy_tests.proofs.box_tests.are_boxes.Goals as goal
 
 pub loop-area-preserved : goal.loop-area-preserved

@@ -1,6 +1,6 @@
 use Rattle.std.proofs.Common.{ℕ, ◌<◌, get_or}
 use Rattle.geo_core.specs.declared.squares.Rect.{Rect}
-use Rattle.interact.specs.Interactions.{IsNearBox}
+use Rattle.interact.specs.NearBoxes.{IsNearBox}
 use Rattle.hierarchy_tests.proofs.box_tests.are_boxes.Given as goal
 
 -- the areas so far are boxes

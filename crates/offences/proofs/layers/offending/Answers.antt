@@ -4,11 +4,10 @@ use Rattle.std.proofs.lemmas.List.{length-map}
 use Rattle.std.proofs.lemmas.List.Elements.{All-map}
 use Rattle.geo_core.specs.declared.squares.Square.{Square}
 use Rattle.geo_core.specs.declared.squares.Rect.{Rect}
-use Rattle.geo_core.specs.Areas.{common_rect}
+use Rattle.geo_core.specs.Areas.{widened, common_rect}
 use Rattle.geo_core.specs.Covering.{Covers, IsProper}
 use Rattle.geo_core.specs.Strips.{IsInUnion, IsStrips}
 use Rattle.geo_core.proofs.StripSets.{strips_same}
-use Rattle.interact.specs.Interactions.{widened}
 use Rattle.tech_model.specs.declared.raw.RawTech.{RawTech}
 use Rattle.layout_model.specs.LayerTypes.{Kinds, AreTypesOf}
 use Rattle.offences.specs.declared.set_tiles.SetTile.{SetTile}
@@ -16,8 +15,11 @@ use Rattle.offences.specs.LayerParts.{ArePartTiles}
 use Rattle.offences.specs.Offences.{SetLayout, OffendsOn, HaveTypes}
 use Rattle.offences.specs.Pieces.{CoverExactly}
 use Rattle.offences.specs.SetTiles.{AreTilesOfParts, tile_parts, set_layout}
-use Rattle.offences.proofs.LayerLaws.{grown_proper, tiles_of_parts, tiles_have_types, layers_covered, map_twice}
+use Rattle.offences.proofs.LayerLaws.{grown_proper, near_before, tiles_of_parts, tiles_have_types, layers_covered, map_twice}
 use Rattle.offences.proofs.layers.offending.Goals as goal
+
+pub widened-around-requires : goal.widened-around-requires
+widened-around-requires g c = near_before c.args.area c.requires.proper c.requires.near
 
 pub part_tiles-requires-clause-proper : goal.part_tiles-requires-clause-proper
 part_tiles-requires-clause-proper g c = subst IsProper (sym c.widened-around.ensures) (grown_proper c.args.area c.requires.proper)

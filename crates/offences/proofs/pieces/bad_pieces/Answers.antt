@@ -8,7 +8,7 @@ use Rattle.offences.specs.declared.typed_stacks.TypedStack.{TypedStack}
 use Rattle.offences.specs.Offences.{OffendsOn}
 use Rattle.offences.specs.Pieces.{CoverExactly, AreFoundChanges, spoiled_areas}
 use Rattle.offences.specs.SetTiles.{tile_parts}
-use Rattle.offences.specs.TypedStacks.{AreByPart, areas_of}
+use Rattle.offences.specs.TypedStacks.{AreByPart, typed_stack_areas}
 use Rattle.offences.proofs.PieceLaws.{pieces_cover, found_changes}
 use Rattle.offences.proofs.pieces.bad_pieces.Goals as goal
 
@@ -36,7 +36,7 @@ changes-requires-clause-proper c =
 pub changes-requires-clause-apart : goal.changes-requires-clause-apart
 changes-requires-clause-apart c =
     let are = c.in_ok-typed_stacks.ensures c.args.count c.requires.parts c.requires.types in
-    subst (λ (typed_stacks : List TypedStack). AllPairs AreDisjoint (areas_of typed_stacks)) (sym c.as_slice-2.ensures.value) are.apart
+    subst (λ (typed_stacks : List TypedStack). AllPairs AreDisjoint (typed_stack_areas typed_stacks)) (sym c.as_slice-2.ensures.value) are.apart
 
 pub returns : goal.returns
 returns c =

@@ -8,7 +8,7 @@ use Rattle.geo_core.specs.Covering.{IsProper}
 use Rattle.rect_contacts.specs.declared.contacts.Contact.{Contact}
 use Rattle.rect_contacts.specs.Contacts.{IsSharedEdge}
 use Rattle.offences.specs.Pieces.{AreFoundChanges, of_contacts, changed_pieces}
-use Rattle.offences.specs.TypedStacks.{areas_of}
+use Rattle.offences.specs.TypedStacks.{typed_stack_areas}
 use Rattle.offences.proofs.PieceLaws.{all_areas, contacts_within}
 use Rattle.offences.proofs.pieces.changes.Goals as goal
 
@@ -24,7 +24,7 @@ pub changed_pieces-requires-clause-within : goal.changed_pieces-requires-clause-
 changed_pieces-requires-clause-within c =
     let typed_stacks = c.args.typed_stacks.now in
     let contacts = c.in_ok-contacts.contacts.items in
-    let touch : Lists (IsSharedEdge (areas_of typed_stacks)) contacts =
+    let touch : Lists (IsSharedEdge (typed_stack_areas typed_stacks)) contacts =
     subst (λ (areas : List Rect). Lists (IsSharedEdge areas) contacts) (c.as_slice.ensures.value ∙ c.in_ok-areas.ensures) c.in_ok-contacts.ensures in
     subst (All (λ contact. (contact.first < length typed_stacks) × (contact.second < length typed_stacks))) (sym c.as_slice-2.ensures.value)
     (contacts_within typed_stacks contacts touch)
@@ -34,7 +34,7 @@ returns c =
     let raw = c.args.raw.now in
     let typed_stacks = c.args.typed_stacks.now in
     let contacts = c.in_ok-contacts.contacts.items in
-    let touch : Lists (IsSharedEdge (areas_of typed_stacks)) contacts =
+    let touch : Lists (IsSharedEdge (typed_stack_areas typed_stacks)) contacts =
     subst (λ (areas : List Rect). Lists (IsSharedEdge areas) contacts) (c.as_slice.ensures.value ∙ c.in_ok-areas.ensures) c.in_ok-contacts.ensures in
     IfOk-weaker c.changed_pieces.result (λ pieces. pieces.items ≡ changed_pieces raw typed_stacks c.as_slice-2.result.now)
     (λ pieces. AreFoundChanges raw typed_stacks pieces.items)

@@ -1,9 +1,8 @@
 use Rattle.std.proofs.Common.{sym, subst}
 use Rattle.finite_sets.specs.Lists.{In}
 use Rattle.finite_sets.proofs.Members.{In-get_or}
-use Rattle.offences.proofs.StackLaws.{members_within, members_some, members_none, no_typed_stacks, with_typed_stack, without_typed_stack}
+use Rattle.offences.proofs.StackLaws.{members_within, no_typed_stacks, with_typed_stack}
 use Rattle.offences.proofs.typed_stacks.typed_stacks_of.Goals as goal
-use Rattle.offences.proofs.typed_stacks.typed_stacks_of.Goals.{then-not-is_empty+in_ok-typed_stack+in_ok-push, else-not-is_empty}
 
 pub typed_stack_of-requires-clause-within : goal.typed_stack_of-requires-clause-within
 typed_stack_of-requires-clause-within c =
@@ -35,11 +34,6 @@ loop-stack-preserved c =
     let typed_stacks = c.loop-stack.typed_stacks.items in
     let less = c.loop-stack-test.true in
     let so_far = c.loop-stack.invariant in
-    elim c.if-not-is_empty.branch [
-      | then-not-is_empty+in_ok-typed_stack+in_ok-push w ↦ rw (w.typed_stacks-is, w.in_ok-push.ensures.items)
-          (with_typed_stack raw plane tiles stacks i stack typed_stacks less c.stack-item.is so_far w.in_ok-typed_stack.typed_stack
-          (members_some stack c.is_empty.result c.is_empty.ensures w.if-not-is_empty.true) w.in_ok-typed_stack.ensures)
-      | else-not-is_empty w ↦ rw w.typed_stacks-is
-          (without_typed_stack raw plane tiles stacks i stack typed_stacks less c.stack-item.is so_far
-          (members_none stack c.is_empty.result c.is_empty.ensures w.if-not-is_empty.false))
-    ]
+    rw c.in_ok-push.ensures.items
+    (with_typed_stack raw plane tiles stacks i stack typed_stacks less c.stack-item.is so_far c.in_ok-typed_stack.typed_stack
+    c.in_ok-typed_stack.ensures)
