@@ -1,5 +1,5 @@
 -- Stacks of tiles, and what their members make.
-use Rattle.std.proofs.Common.{◌≡◌, ◌≢◌, inl, inr, ◌+◌, ◌<◌, ◌<ℤ◌, ℕ, List, [], ◌∷◌, ◌++◌, length, map, take}
+use Rattle.std.proofs.Common.{◌≡◌, ◌≢◌, inl, inr, ◌+◌, ◌<◌, ℕ, List, [], ◌∷◌, ◌++◌, length, map, take}
 use Rattle.std.proofs.Common.{get_or, refl, sym, ap, subst, ◌∙◌, arith}
 use Rattle.std.specs.Prelude.{All, AllPairs, None, Some}
 use Rattle.std.specs.Option.{option_map}
@@ -12,8 +12,8 @@ use Rattle.finite_sets.proofs.Pairs.{Pairwise-from_AllPairs, AllPairs-from_Pairw
 use Rattle.geo_core.specs.declared.squares.Square.{Square}
 use Rattle.geo_core.specs.declared.squares.Rect.{Rect}
 use Rattle.geo_core.specs.Areas.{AreDisjoint, corner_of}
-use Rattle.geo_core.specs.Covering.{Covers, IsProper}
-use Rattle.std.proofs.lemmas.Int.{ints}
+use Rattle.geo_core.specs.Covering.{Covers}
+use Rattle.geo_core.proofs.CornerLaws.{corner_covers}
 use Rattle.rect_overlays.specs.declared.stacks.Stack.{Stack}
 use Rattle.rect_overlays.specs.Stacks.{CoversAt, IsStack}
 use Rattle.tech_model.specs.declared.raw.RawTech.{RawTech}
@@ -25,18 +25,6 @@ use Rattle.offences.specs.TypedStacks.{StandsFor, IsOfStack, StandForAll}
 -- the areas of tiles
 abbrev pub tile_areas : List SetTile → List Rect
 tile_areas tiles = map (λ tile. tile.area) tiles
-
--- a rectangle with a square covers its lower left one
-pub covers_corner : (area : Rect) → IsProper area → Covers area (corner_of area)
-covers_corner area proper =
-    let wide : area.xlo <ℤ area.xhi = proper.wide in
-    let high : area.ylo <ℤ area.yhi = proper.high in
-    record {
-      right_of_xlo = omega (arith, ints);
-      left_of_xhi = wide;
-      above_ylo = omega (arith, ints);
-      below_yhi = high;
-    }
 
 -- the tile at a place covers what the rectangle there does
 pub covers_tile : (tiles : List SetTile) (place : ℕ) (square : Square) → CoversAt (tile_areas tiles) place square
@@ -81,7 +69,7 @@ pub members_within : (tiles : List SetTile) (stack : Stack) → IsStack (tile_ar
     → All (λ member. member < length tiles) stack.members.items
 members_within tiles stack is = All-from_In (λ member. member < length tiles) stack.members.items
     (λ member h. (covers_tile tiles member (corner_of stack.area)
-    (is.members member h (corner_of stack.area) (covers_corner stack.area is.proper))).0)
+    (is.members member h (corner_of stack.area) (corner_covers stack.area (corner_of stack.area) is.proper refl refl))).0)
 
 -- a stack has a member
 pub some_member : (tiles : List SetTile) (stack : Stack) → IsStack (tile_areas tiles) None stack → (member : ℕ) × In member stack.members.items

@@ -11,6 +11,7 @@ use Rattle.finite_sets.proofs.Pairs.{Pairwise-from_AllPairs, AllPairs-from_Pairw
 use Rattle.geo_core.specs.declared.squares.Square.{Square}
 use Rattle.geo_core.specs.declared.squares.Rect.{Rect}
 use Rattle.geo_core.specs.Areas.{IsNear, AreDisjoint, corner_of}
+use Rattle.geo_core.proofs.CornerLaws.{corner_covers}
 use Rattle.geo_core.specs.Covering.{Covers, IsProper}
 use Rattle.rect_overlays.specs.declared.stacks.Stack.{Stack}
 use Rattle.rect_overlays.specs.Stacks.{IsStack, AreStacks}
@@ -29,7 +30,7 @@ use Rattle.offences.specs.SetTiles.{AreTilesOfParts, tile_part, tile_parts}
 use Rattle.offences.specs.TypedStacks.{typed_stack_areas, kind_of, kind_in, AreByPart, on_plane, StandsFor, StandForAll, IsTypedStack}
 use Rattle.offences.specs.TypedStacks.{AreTypedStacks}
 use Rattle.offences.proofs.KindLaws.{kinds_of_sums, kind_in-listed}
-use Rattle.offences.proofs.StackLaws.{tile_areas, In-tile_at, covers_corner, covers_tile, tile_covers, some_member, stack_areas_apart}
+use Rattle.offences.proofs.StackLaws.{tile_areas, In-tile_at, covers_tile, tile_covers, some_member, stack_areas_apart}
 use Rattle.offences.proofs.TileLaws.{part_bit, part_kept, member_bit, member_kept, listed_bit, listed_kept, all_bit, all_kept, length-parts}
 use Rattle.offences.proofs.TileLaws.{part_at, at_part, parts_bit, parts_kept}
 use Rattle.offences.proofs.UnionLaws.{same_sets, no_part}
@@ -39,7 +40,7 @@ near_inside : (inner outer : Rect) → IsProper inner → IsNear outer → ((squ
 near_inside inner outer proper near inside =
     let wide : inner.xlo <ℤ inner.xhi = proper.wide in
     let high : inner.ylo <ℤ inner.yhi = proper.high in
-    let low = inside (corner_of inner) (covers_corner inner proper) in
+    let low = inside (corner_of inner) (corner_covers inner (corner_of inner) proper refl refl) in
     let top = inside (record { x = inner.xhi -ℤ pos 1; y = inner.yhi -ℤ pos 1 }) (record {
       right_of_xlo = omega (arith, ints);
       left_of_xhi = omega (arith, ints);
@@ -125,7 +126,7 @@ module _ (raw : RawTech) (plane : ℕ) (tiles sorted : List SetTile) (moved : Is
       sum_below : (sum : PartSum) → In sum sums → sum.part < count
       sum_below sum h =
           let has = are.parts sum h in
-          let at = member_covers has.member has.listed (corner_of stack.area) (covers_corner stack.area is.proper) in
+          let at = member_covers has.member has.listed (corner_of stack.area) (corner_covers stack.area (corner_of stack.area) is.proper refl refl) in
           subst (λ (p : ℕ). p < count) has.is (All_In (λ (tile : SetTile). (tile.part < count) × IsNear tile.area) tiles
           (tile_at sorted has.member) of_parts at.0).0
 
@@ -162,7 +163,7 @@ module _ (raw : RawTech) (plane : ℕ) (tiles sorted : List SetTile) (moved : Is
         kind_is_material : (sum : PartSum) → In sum sums → (kind_of raw plane sum).kind.0 ≢ 0
         kind_is_material sum h none =
             let corner = corner_of stack.area in
-            let covers = covers_corner stack.area is.proper in
+            let covers = corner_covers stack.area (corner_of stack.area) is.proper refl refl in
             let entry = kind_of raw plane sum in
             let listed = kind_in-listed (map (kind_of raw plane) sums) kinds_by_part entry (In-map (kind_of raw plane) sum sums h) in
             let empty : listed_set sum.part sums ≡ 0 = joined-space raw plane (listed_set sum.part sums)
@@ -176,7 +177,7 @@ module _ (raw : RawTech) (plane : ℕ) (tiles sorted : List SetTile) (moved : Is
             → IsTypedStack raw (tile_parts tiles plane count) plane typed_stack
         is_typed_stack typed_stack stands same =
             let member = some_member sorted stack is in
-            let corner = member_covers member.0 member.1 (corner_of stack.area) (covers_corner stack.area is.proper) in
+            let corner = member_covers member.0 member.1 (corner_of stack.area) (corner_covers stack.area (corner_of stack.area) is.proper refl refl) in
             let near = (All_In (λ (tile : SetTile). (tile.part < count) × IsNear tile.area) tiles (tile_at sorted member.0) of_parts corner.0).1 in
             let kinds : typed_stack.kinds ≡ map (kind_of raw plane) sums = stands.kinds ∙ ap (map (kind_of raw plane)) same in
             let flat : typed_stack.flat ≡ option_map type_number (joined raw plane (all_sets sums)) =

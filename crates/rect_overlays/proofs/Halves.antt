@@ -108,16 +108,22 @@ past_low area (Column x) rect inside meet =
     let wide : common.xlo <ℤ common.xhi = both.wide in
     let half = common_rect rect (low_half area (Column x)) in
     same_test (is_past_low (Column x) rect) (meets (low_half area (Column x)) rect)
-    (λ past. let less : rect.xlo <ℤ x = grind (arith, ints) in has_square-IsProper half (record { wide = omega (arith, ints, clamps, inside.0); high = both.high }))
-    (λ met. let less : half.xlo <ℤ half.xhi = (IsProper-has_square half met).wide in let low : rect.xlo <ℤ x = omega (arith, ints, clamps) in grind (arith, ints))
+    (λ past. let less : rect.xlo <ℤ x = grind (arith, ints) in
+    has_square-IsProper half (record { wide = omega (arith, ints, clamps, inside.0); high = both.high }))
+    (λ met. let less : half.xlo <ℤ half.xhi = (IsProper-has_square half met).wide in
+    let low : rect.xlo <ℤ x = omega (arith, ints, clamps) in
+    grind (arith, ints))
 past_low area (Row y) rect inside meet =
     let common = common_rect rect area in
     let both = IsProper-has_square common meet in
     let high : common.ylo <ℤ common.yhi = both.high in
     let half = common_rect rect (low_half area (Row y)) in
     same_test (is_past_low (Row y) rect) (meets (low_half area (Row y)) rect)
-    (λ past. let less : rect.ylo <ℤ y = grind (arith, ints) in has_square-IsProper half (record { wide = both.wide; high = omega (arith, ints, clamps, inside.0) }))
-    (λ met. let less : half.ylo <ℤ half.yhi = (IsProper-has_square half met).high in let low : rect.ylo <ℤ y = omega (arith, ints, clamps) in grind (arith, ints))
+    (λ past. let less : rect.ylo <ℤ y = grind (arith, ints) in
+    has_square-IsProper half (record { wide = both.wide; high = omega (arith, ints, clamps, inside.0) }))
+    (λ met. let less : half.ylo <ℤ half.yhi = (IsProper-has_square half met).high in
+    let low : rect.ylo <ℤ y = omega (arith, ints, clamps) in
+    grind (arith, ints))
 
 pub past_high : (area : Rect) (cut : Cut) (rect : Rect) → IsInside area cut → meets area rect ≡ true
     → is_past_high cut rect ≡ meets (high_half area cut) rect
@@ -127,13 +133,19 @@ past_high area (Column x) rect inside meet =
     let wide : common.xlo <ℤ common.xhi = both.wide in
     let half = common_rect rect (high_half area (Column x)) in
     same_test (is_past_high (Column x) rect) (meets (high_half area (Column x)) rect)
-    (λ past. let less : x <ℤ rect.xhi = grind (arith, ints) in has_square-IsProper half (record { wide = omega (arith, ints, clamps, inside.1); high = both.high }))
-    (λ met. let less : half.xlo <ℤ half.xhi = (IsProper-has_square half met).wide in let high : x <ℤ rect.xhi = omega (arith, ints, clamps) in grind (arith, ints))
+    (λ past. let less : x <ℤ rect.xhi = grind (arith, ints) in
+    has_square-IsProper half (record { wide = omega (arith, ints, clamps, inside.1); high = both.high }))
+    (λ met. let less : half.xlo <ℤ half.xhi = (IsProper-has_square half met).wide in
+    let high : x <ℤ rect.xhi = omega (arith, ints, clamps) in
+    grind (arith, ints))
 past_high area (Row y) rect inside meet =
     let common = common_rect rect area in
     let both = IsProper-has_square common meet in
     let high : common.ylo <ℤ common.yhi = both.high in
     let half = common_rect rect (high_half area (Row y)) in
     same_test (is_past_high (Row y) rect) (meets (high_half area (Row y)) rect)
-    (λ past. let less : y <ℤ rect.yhi = grind (arith, ints) in has_square-IsProper half (record { wide = both.wide; high = omega (arith, ints, clamps, inside.1) }))
-    (λ met. let less : half.ylo <ℤ half.yhi = (IsProper-has_square half met).high in let above : y <ℤ rect.yhi = omega (arith, ints, clamps) in grind (arith, ints))
+    (λ past. let less : y <ℤ rect.yhi = grind (arith, ints) in
+    has_square-IsProper half (record { wide = both.wide; high = omega (arith, ints, clamps, inside.1) }))
+    (λ met. let less : half.ylo <ℤ half.yhi = (IsProper-has_square half met).high in
+    let above : y <ℤ rect.yhi = omega (arith, ints, clamps) in
+    grind (arith, ints))

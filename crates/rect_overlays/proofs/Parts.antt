@@ -52,7 +52,7 @@ common_within a b = record {
 }
 
 -- the area turned over goes nowhere past it
-pub turned_within : (area : Rect) → IsProper area → LiesWithin (turned_over area) area
+turned_within : (area : Rect) → IsProper area → LiesWithin (turned_over area) area
 turned_within area proper =
     let wide : area.xlo <ℤ area.xhi = proper.wide in
     let high : area.ylo <ℤ area.yhi = proper.high in
@@ -130,8 +130,15 @@ module _ (rects : List Rect) where
   }
 
   -- at first none is
-  pub gathers_none : (area : Rect) (part : Part) → LiesWithin part.hull area → part.members.items ≡ [] → IsGathered rects [] area part
-  gathers_none area part within none = record { hull = record { within = within; holds = λ index i. absurd i }; kept = none }
+  pub gathers_none : (area : Rect) (part : Part) → IsProper area → part.hull ≡ turned_over area → part.members.items ≡ []
+      → IsGathered rects [] area part
+  gathers_none area part proper turned none = record {
+    hull = record {
+      within = subst (λ (hull : Rect). LiesWithin hull area) (sym turned) (turned_within area proper);
+      holds = λ index i. absurd i;
+    };
+    kept = none;
+  }
 
   -- the hull of rectangles of which some meets the area has a square
   pub hull_is_proper : (indices : List ℕ) (area hull : Rect) (index : ℕ) → IsHull rects indices area hull → In index indices

@@ -1,5 +1,5 @@
 -- What is known of a region that is taken off.
-use Rattle.std.proofs.Common.{◌≡◌, ℕ, ◌-◌, ◌<◌, List, [], ◌∷◌, ◌++◌, length, take, drop, refl, sym, ◌∙◌, ap, subst}
+use Rattle.std.proofs.Common.{Vec, Global, ◌≡◌, ℕ, ◌-◌, ◌<◌, List, [], ◌∷◌, ◌++◌, length, take, drop, refl, sym, ◌∙◌, ap, subst}
 use Rattle.std.specs.Prelude.{All, Option}
 use Rattle.finite_sets.proofs.Searches.{All-from_In}
 use Rattle.geo_core.specs.declared.squares.Rect.{Rect}
@@ -14,58 +14,45 @@ use Rattle.rect_overlays.proofs.Held.{last_is_taken}
 use Rattle.rect_overlays.proofs.Splitting.{last_is_region, finish_keeps, cut_keeps}
 use Rattle.rect_overlays.proofs.Weights.{weights, less_without, less_in_halves}
 
--- The span and the members of the last region are moved off.
-pub record TakesLast (before after : Regions) (span : Span) (taken : List ℕ) : Type 0 where
-  pub spans : before.spans.items ≡ after.spans.items ++ span ∷ []
-  pub taken_is : taken ≡ drop (length before.members.items - span.count) before.members.items
-  pub members : after.members.items ≡ take (length before.members.items - span.count) before.members.items
-
-module _ (rects : List Rect) (enough : Option ℕ) (before after : Regions) (span : Span) (taken : List ℕ) (stacks : List Stack)
-    (split : IsSplitWith rects enough before stacks) (takes : TakesLast before after span taken) where
-  abbrev region : Region
-  region = record { area = span.area; members = taken }
-
-  -- the others are those that are left
-  taken_off : (rest : List Region) × (Holds after rest × IsSplit rects enough (rest ++ region ∷ []) stacks)
-  taken_off =
-      let found = last_is_taken before split.0 after.spans.items span taken after.members.items split.1.0 takes.spans takes.taken_is takes.members in
-      let last = found.2.0 in
-      let area : found.1.area ≡ span.area = ap (λ (s : Span). s.area) last.span_is in
-      let same : record { area = found.1.area; members = found.1.members } ≡ region =
-      ap (λ (a : Rect). record { area = a; members = found.1.members }) area
-      ∙ ap (λ (v : List ℕ). record { area = span.area; members = v }) (sym last.taken_is) in (
-        found.0,
-        (
-          record { spans = found.2.1; members = last.members_are },
-          subst (λ (r : Region). IsSplit rects enough (found.0 ++ r ∷ []) stacks) same
-              (subst (λ (v : List Region). IsSplit rects enough v stacks) last.is split.1.1),
-        ),
-      )
-
-  -- it is a region
-  pub taken_is_region : IsRegion rects region
-  taken_is_region = last_is_region rects enough taken_off.0 region stacks taken_off.1.1
-
-  -- whose members are indices of the list
-  pub taken_are_within : All (λ member. member < length rects) taken
-  taken_are_within = All-from_In (λ member. member < length rects) taken taken_is_region.knows.each
-
-  -- it is made a stack
+-- What is known once the last region is taken off: it is a region, and whether it is made a stack or cut in two, the stacks and the regions
+-- that are left are a split, and there is less left to do.
+pub record IsTakenOff (rects : List Rect) (enough : Option ℕ) (before after : Regions) (region : Region) (stacks : List Stack) : Type 0 where
+  pub is : IsRegion rects region
+  pub within : All (λ member. member < length rects) region.members
   pub finish_splits : (stack : Stack) → IsMade rects enough region stack → IsSplitWith rects enough after (stacks ++ stack ∷ [])
-  finish_splits stack made = (taken_off.0, (taken_off.1.0, finish_keeps rects enough taken_off.0 region stacks taken_off.1.1 stack made))
-
   pub finish_leaves_less : weights after.spans.items < weights before.spans.items
-  finish_leaves_less = subst (λ (v : List Span). weights after.spans.items < weights v) (sym takes.spans)
-      (less_without after.spans.items span taken_is_region.proper)
-
-  -- or cut in two
-  pub cut_splits : (cut : Cut) (after' : Regions) → IsInside span.area cut → CutsInTwo rects region cut after after'
+  pub cut_splits : (cut : Cut) (after' : Regions) → IsInside region.area cut → CutsInTwo rects region cut after after'
       → IsSplitWith rects enough after' stacks
-  cut_splits cut after' inside cuts =
-      let found = cuts taken_off.0 taken_off.1.0 in
-      (found.0, (found.1.0, cut_keeps rects enough taken_off.0 region stacks taken_off.1.1 cut found.0 inside found.1.1))
-
-  pub cut_leaves_less : (cut : Cut) (after' : Regions) → IsInside span.area cut → CutsInTwo rects region cut after after'
+  pub cut_leaves_less : (cut : Cut) (after' : Regions) → IsInside region.area cut → CutsInTwo rects region cut after after'
       → weights after'.spans.items < weights before.spans.items
-  cut_leaves_less cut after' inside cuts = subst (λ (v : List Span). weights after'.spans.items < weights v) (sym takes.spans)
-      (less_in_halves rects taken_off.0 region cut after after' span taken_is_region.proper inside taken_off.1.0 refl cuts)
+
+-- so it is where the last span and the last so many members are moved off
+pub taken_off : (rects : List Rect) (enough : Option ℕ) (before : Regions) (spans : Vec Span Global) (members : Vec ℕ Global) (span : Span)
+    (taken : List ℕ) (stacks : List Stack) → IsSplitWith rects enough before stacks → before.spans.items ≡ spans.items ++ span ∷ []
+    → taken ≡ drop (length before.members.items - span.count) before.members.items
+    → members.items ≡ take (length before.members.items - span.count) before.members.items
+    → IsTakenOff rects enough before (record { spans = spans; members = members }) (record { area = span.area; members = taken }) stacks
+taken_off rects enough before spans members span taken stacks split ends last front =
+    let after : Regions = record { spans = spans; members = members } in
+    let region : Region = record { area = span.area; members = taken } in
+    let found = last_is_taken before split.0 spans.items span taken members.items split.1.0 ends last front in
+    let rest = found.0 in
+    let area : found.1.area ≡ span.area = ap (λ (s : Span). s.area) found.2.0.span_is in
+    let same : record { area = found.1.area; members = found.1.members } ≡ region =
+    ap (λ (a : Rect). record { area = a; members = found.1.members }) area
+    ∙ ap (λ (v : List ℕ). record { area = span.area; members = v }) (sym found.2.0.taken_is) in
+    let holds : Holds after rest = record { spans = found.2.1; members = found.2.0.members_are } in
+    let all : IsSplit rects enough (rest ++ region ∷ []) stacks =
+    subst (λ (r : Region). IsSplit rects enough (rest ++ r ∷ []) stacks) same
+    (subst (λ (v : List Region). IsSplit rects enough v stacks) found.2.0.is split.1.1) in
+    let is = last_is_region rects enough rest region stacks all in
+    record {
+      is = is;
+      within = All-from_In (λ member. member < length rects) taken is.knows.each;
+      finish_splits = λ stack made. (rest, (holds, finish_keeps rects enough rest region stacks all stack made));
+      finish_leaves_less = subst (λ (v : List Span). weights spans.items < weights v) (sym ends) (less_without spans.items span is.proper);
+      cut_splits = λ cut after' inside cuts.
+          let made = cuts rest holds in (made.0, (made.1.0, cut_keeps rects enough rest region stacks all cut made.0 inside made.1.1));
+      cut_leaves_less = λ cut after' inside cuts. subst (λ (v : List Span). weights after'.spans.items < weights v) (sym ends)
+          (less_in_halves rects rest region cut after after' span is.proper inside holds refl cuts);
+    }

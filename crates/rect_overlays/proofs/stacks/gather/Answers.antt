@@ -2,12 +2,12 @@ use Rattle.std.proofs.Common.{◌≡◌, ◌+◌, ◌++◌, ◌∷◌, [], ℕ, 
 use Rattle.std.proofs.lemmas.List.{take_more}
 use Rattle.finite_sets.proofs.Members.{In-get_or}
 use Rattle.geo_core.specs.declared.squares.Rect.{Rect}
-use Rattle.geo_core.specs.Areas.{joined_rect, LiesWithin}
+use Rattle.geo_core.specs.Areas.{joined_rect}
 use Rattle.geo_core.specs.Covering.{IsProper}
 use Rattle.rect_contacts.specs.Rects.{rect_at}
 use Rattle.rect_overlays.specs.Regions.{meets, IsGathered}
 use Rattle.rect_overlays.proofs.Halves.{low_is_proper, high_is_proper, past_low, past_high}
-use Rattle.rect_overlays.proofs.Parts.{turned_within, gathers_none, gathers_more}
+use Rattle.rect_overlays.proofs.Parts.{gathers_none, gathers_more}
 use Rattle.rect_overlays.proofs.stacks.gather.Goals as goal
 
 pub loop-member-init : goal.loop-member-init
@@ -19,10 +19,8 @@ loop-member-init c =
     let low_proper = subst IsProper (sym c.low_half-low_area.ensures) (low_is_proper area cut c.requires.proper c.requires.inside) in
     let high_proper = subst IsProper (sym c.high_half-high_area.ensures) (high_is_proper area cut c.requires.proper c.requires.inside) in
     record {
-      low = gathers_none c.args.rects.now low c.clear.new.self (subst (λ (r : Rect). LiesWithin r low) (sym c.clear.ensures.hull) (turned_within low low_proper))
-          c.clear.ensures.members;
-      high = gathers_none c.args.rects.now high c.clear-2.new.self (subst (λ (r : Rect). LiesWithin r high) (sym c.clear-2.ensures.hull) (turned_within high high_proper))
-          c.clear-2.ensures.members;
+      low = gathers_none c.args.rects.now low c.clear.new.self low_proper c.clear.ensures.hull c.clear.ensures.members;
+      high = gathers_none c.args.rects.now high c.clear-2.new.self high_proper c.clear-2.ensures.hull c.clear-2.ensures.members;
     }
 
 joined : (test : Bool) (hull : Rect) {common common' : Rect} → common ≡ common'
@@ -50,8 +48,10 @@ loop-member-preserved c =
     record {
       low = subst (λ (v : List ℕ). IsGathered rects v low c.add_if.new.self) (sym more)
           (gathers_more rects before member low c.loop-member.halves.low c.add_if.new.self c.is_past_low.result test_low c.loop-member.invariant.low
-          c.in_ok-add_if.ensures.members (c.in_ok-add_if.ensures.hull ∙ joined c.is_past_low.result c.loop-member.halves.low.hull c.common-low.ensures));
+          c.in_ok-add_if.ensures.members
+          (c.in_ok-add_if.ensures.hull ∙ joined c.is_past_low.result c.loop-member.halves.low.hull c.common-low.ensures));
       high = subst (λ (v : List ℕ). IsGathered rects v high c.add_if-in-loop-member.new.self) (sym more)
           (gathers_more rects before member high c.loop-member.halves.high c.add_if-in-loop-member.new.self c.is_past_high.result test_high
-          c.loop-member.invariant.high c.in_ok-add_if-2.ensures.members (c.in_ok-add_if-2.ensures.hull ∙ joined c.is_past_high.result c.loop-member.halves.high.hull c.common-high.ensures));
+          c.loop-member.invariant.high c.in_ok-add_if-2.ensures.members
+          (c.in_ok-add_if-2.ensures.hull ∙ joined c.is_past_high.result c.loop-member.halves.high.hull c.common-high.ensures));
     }
