@@ -1,11 +1,11 @@
 -- A search of the uses of a cell by area: the elements of those that are not found do not meet the area.
-use Rattle.std.proofs.Common.{◌≡◌, ℕ, ℤ, zero, suc, ◌+◌, ◌-◌, ◌<◌, ◌≤◌, List, [], ◌∷◌, length, take, get_or, Option, Some, refl, sym, ap, subst, ◌∙◌, arith}
+use Rattle.std.proofs.Common.{◌≡◌, ℕ, ℤ, zero, suc, ◌+◌, ◌-◌, ◌<◌, ◌≤◌, List, [], length, take, get_or, Option, Some, refl, sym, ap, subst, ◌∙◌, arith}
 use Rattle.std.proofs.Common.{inl, inr}
 use Rattle.std.specs.Prelude.{slice_get, unwrap_or}
 use Rattle.std.specs.Option.{option_map}
 use Rattle.std.proofs.lemmas.Bool.{cases_lt}
 use Rattle.std.proofs.lemmas.List.{length-map, take_all}
-use Rattle.std.proofs.lemmas.Option.{get_or_from_slice_get, slice_get-map, slice_get_within}
+use Rattle.std.proofs.lemmas.Option.{get_or_from_slice_get, slice_get-map, slice_get_cases, slice_get_within}
 use Rattle.finite_sets.specs.Lists.{In}
 use Rattle.finite_sets.proofs.Members.{In-get_or, In-index}
 use Rattle.geo_core.specs.declared.squares.Rect.{Rect}
@@ -16,6 +16,7 @@ use Rattle.geo_core.specs.Images.{image, inverted, rect_image}
 use Rattle.geo_core.proofs.CoveringLaws.{covers_both}
 use Rattle.geo_core.proofs.ImageLaws.{image-back}
 use Rattle.layout_model.specs.Places.{Place}
+use Rattle.cell_tree.specs.declared.limits.TheConstants.{MOST_ELEMENTS_BELOW}
 use Rattle.cell_tree.specs.declared.sizes.Size.{Size}
 use Rattle.cell_tree.specs.declared.use_tables.UseBody.{UseBody}
 use Rattle.cell_tree.specs.Hulls.{displaced, element_hulls}
@@ -34,7 +35,7 @@ use Rattle.cell_library.specs.UsePlaces.{spots_before, spots_of_use, spots_under
 use Rattle.cell_library.specs.UseTrees.{place_at, start_at, use_box, IsUseTree}
 use Rattle.cell_library.proofs.HullsHoldMaterial.{covered_by_all, covers_from_back, element_image, In-element_hulls}
 use Rattle.cell_library.proofs.PlacedRects.{back_on}
-use Rattle.cell_library.proofs.SpotLaws.{spots_dropped, spots_none}
+use Rattle.cell_library.proofs.SpotLaws.{spots_dropped}
 use Rattle.cell_library.proofs.UseSums.{place_of, place_room, spot_at_in, spots_next, use_known, HasRoomAt, IsUseAt}
 use Rattle.cell_library.proofs.UseTreeLaws.{entry_box}
 use Rattle.cell_library.proofs.VisitLaws.{covered_is_proper}
@@ -69,11 +70,6 @@ use_apart sizes from used back missed spot stands hull is square in_hull in_back
 
 -- ---- use by use
 
-get_some : {X : Type 0} (xs : List X) (k : ℕ) → k < length xs → (x : X) × (slice_get xs k ≡ Some x)
-get_some [] k within = absurd (omega (arith, within))
-get_some (x ∷ xs) zero within = (x, refl)
-get_some (x ∷ xs) (suc k) within = get_some xs k (omega (arith, within))
-
 -- A search has looked at the first of the positions that were found, all of which come before this use, and the others do not.
 pub record IsSearchedTo (tree : Tree) (step : ℕ) (spot : Spot) (back : Rect) (met : List ℕ) (i : ℕ) (found : List Spot) : Type 0 where
   pub next : ℕ
@@ -82,19 +78,23 @@ pub record IsSearchedTo (tree : Tree) (step : ℕ) (spot : Spot) (back : Rect) (
   pub after : (j : ℕ) → i ≤ j → j < length met → next ≤ get_or met j 0
   pub adds : AddsSpots (IsApart tree.sizes spot.to_top back) (spots_before tree step spot next) [] found
 
--- The use of the cell at a spot at this position, and where its elements begin, which have room there.
-pub record IsFoundAt (tree : Tree) (step : ℕ) (spot : Spot) (known : UseTree) (k : ℕ) : Type 0 where
-  pub below : k < length (cell_at tree.cells spot.cell.0).uses
-  pub used : UseBody
-  pub at : IsUseAt tree spot.cell.0 k used
-  pub room : HasRoomAt tree (place_of tree step spot k) used
-  pub start_there : k < length known.starts.items
-  pub start_is : (default : UseStart) → get_or known.starts.items k default
-      ≡ start_at (size_at tree.sizes) (cell_at tree.cells spot.cell.0).uses k
+-- The uses of the cell at a spot are known, whose elements have room there, and those were found that meet the area.
+pub record IsSearch (tree : Tree) (step : ℕ) (spot : Spot) (back : Rect) (known : UseTree) (met : List ℕ) : Type 0 where
+  pub lawful : IsLawfulTree tree
+  pub room : HasRoomBelow tree step spot
+  pub are : IsUseTree tree spot.cell.0 known
+  pub meeting : AreMeeting known.boxes back met
 
--- of the uses of a cell those were found that meet the area
-module _ (tree : Tree) (step : ℕ) (spot : Spot) (back : Rect) (known : UseTree) (met : List ℕ) (lawful : IsLawfulTree tree)
-    (there : spot.cell.0 < length tree.cells) (are : IsUseTree tree spot.cell.0 known) (meeting : AreMeeting known.boxes back met) where
+-- positions that are those that were found
+pub search_of : (tree : Tree) (step : ℕ) (spot : Spot) (back : Rect) (known : UseTree) (met found : List ℕ) → IsLawfulTree tree
+    → HasRoomBelow tree step spot → IsUseTree tree spot.cell.0 known → AreMeeting known.boxes back found → met ≡ found
+    → IsSearch tree step spot back known met
+search_of tree step spot back known met found lawful room are meeting same =
+    record { lawful = lawful; room = room; are = are; meeting = subst (AreMeeting known.boxes back) (sym same) meeting }
+
+-- what such a search finds
+module _ (tree : Tree) (step : ℕ) (spot : Spot) (back : Rect) (known : UseTree) (met : List ℕ)
+    (search : IsSearch tree step spot back known met) where
   abbrev uses : List (List ℕ × UseBody)
   uses = (cell_at tree.cells spot.cell.0).uses
 
@@ -102,41 +102,61 @@ module _ (tree : Tree) (step : ℕ) (spot : Spot) (back : Rect) (known : UseTree
   Misses = IsApart tree.sizes spot.to_top back
 
   use_there : (k : ℕ) → k < length uses → (used : UseBody) × IsUseAt tree spot.cell.0 k used
-  use_there k below =
-      let entry = get_some uses k below in
-      (entry.0.1, use_known tree spot.cell.0 k entry.0.1 lawful there (ap (option_map (λ (e : List ℕ × UseBody). e.1)) entry.1))
+  use_there k below = elim (slice_get_cases uses k).1 [
+    | inl found ↦ (
+      found.0.1,
+      use_known tree spot.cell.0 k found.0.1 search.lawful search.room.cell (ap (option_map (λ (e : List ℕ × UseBody). e.1)) found.2),
+    )
+    | inr past ↦ absurd (omega (arith, past.0, below))
+  ]
 
   box_at : (k : ℕ) (used : UseBody) → IsUseAt tree spot.cell.0 k used → slice_get known.boxes k ≡ Some (use_box tree.sizes used)
   box_at k used at =
-      ap (λ (boxes : List Rect). slice_get boxes k) are.boxes
+      ap (λ (boxes : List Rect). slice_get boxes k) search.are.boxes
       ∙ slice_get-map (entry_box tree) uses k ∙ ap (option_map (entry_box tree)) at.there
 
   met_there : (k : ℕ) → In k met → k < length uses
   met_there k found =
-      let is = (meeting.exact k).0 found in
+      let is = (search.meeting.exact k).0 found in
       let below = slice_get_within known.boxes k is.rect is.there in
-      let long = ap (λ (boxes : List Rect). length boxes) are.boxes ∙ length-map {B = Rect} uses (entry_box tree) in
+      let long = ap (λ (boxes : List Rect). length boxes) search.are.boxes ∙ length-map {B = Rect} uses (entry_box tree) in
       omega (arith, below, long)
 
-  -- what is known of the use at a position that was found
-  pub found_at : (i : ℕ) → i < length met → HasRoomBelow tree step spot → IsFoundAt tree step spot known (get_or met i 0)
-  found_at i inside room =
-      let k = get_or met i 0 in
-      let below = met_there k (In-get_or met i 0 inside) in
-      let at = use_there k below in
-      record {
-        below = below;
-        used = at.0;
-        at = at.1;
-        room = place_room tree step spot k at.0 lawful room at.1;
-        start_there = slice_get_within known.starts.items k (start_at (size_at tree.sizes) uses k) (are.starts k below);
-        start_is = λ default. get_or_from_slice_get known.starts.items k (start_at (size_at tree.sizes) uses k) default (are.starts k below);
-      }
+  -- there is a use at a position that was found
+  pub found_below : (i : ℕ) → i < length met → get_or met i 0 < length uses
+  found_below i inside = met_there (get_or met i 0) (In-get_or met i 0 inside)
 
-  -- where its elements stand
-  pub place_found : (i : ℕ) (start : UseStart) (from : UsePlace) → i < length met → HasRoomBelow tree step spot
-      → start ≡ get_or known.starts.items (get_or met i 0) start → from ≡ place_at step spot start → from ≡ place_of tree step spot (get_or met i 0)
-  place_found i start from inside room is placed = placed ∙ ap (place_at step spot) (is ∙ (found_at i inside room).start_is start)
+  -- and it is known where its elements begin
+  pub start_there : (i : ℕ) → i < length met → get_or met i 0 < length known.starts.items
+  start_there i inside =
+      slice_get_within known.starts.items (get_or met i 0) (start_at (size_at tree.sizes) uses (get_or met i 0))
+      (search.are.starts (get_or met i 0) (found_below i inside))
+
+  -- so it is known where they stand
+  pub place_found : (i : ℕ) (start : UseStart) (from : UsePlace) → i < length met → start ≡ get_or known.starts.items (get_or met i 0) start
+      → from ≡ place_at step spot start → from ≡ place_of tree step spot (get_or met i 0)
+  place_found i start from inside is placed =
+      placed
+      ∙ ap (place_at step spot) (is ∙ get_or_from_slice_get known.starts.items (get_or met i 0) (start_at (size_at tree.sizes) uses (get_or met i 0))
+      start (search.are.starts (get_or met i 0) (found_below i inside)))
+
+  -- where they have room
+  pub room_found : (i : ℕ) (start : UseStart) (from : UsePlace) (used : UseBody) → i < length met
+      → start ≡ get_or known.starts.items (get_or met i 0) start → from ≡ place_at step spot start → IsUseAt tree spot.cell.0 (get_or met i 0) used
+      → HasRoomAt tree from used
+  room_found i start from used inside is placed at =
+      subst (λ (f : UsePlace). HasRoomAt tree f used) (sym (place_found i start from inside is placed))
+      (place_room tree step spot (get_or met i 0) used search.lawful search.room at)
+
+  -- and their numbers fit
+  pub place_fits : (i : ℕ) (start : UseStart) → i < length met → start ≡ get_or known.starts.items (get_or met i 0) start
+      → ((place_at step spot start).part ≤ MOST_ELEMENTS_BELOW) × ((place_at step spot start).element ≤ MOST_ELEMENTS_BELOW)
+  place_fits i start inside is =
+      let at = use_there (get_or met i 0) (found_below i inside) in
+      let room = room_found i start (place_at step spot start) at.0 inside is refl at.1 in
+      let parts = room.parts in
+      let elements = room.elements in
+      (omega (arith, parts), omega (arith, elements))
 
   -- the spots of a use that was not found were dropped
   one_dropped : (k : ℕ) (found : List Spot) → k < length uses → (In k met → ⊥) → AddsSpots Misses (spots_before tree step spot k) [] found
@@ -145,7 +165,7 @@ module _ (tree : Tree) (step : ℕ) (spot : Spot) (back : Rect) (known : UseTree
       let at = use_there k below in
       spots_next Misses tree step spot k (suc k) at.0 found found at.1 refl adds
       (spots_dropped Misses (spots_of_use tree.sizes (place_of tree step spot k) at.0) found
-      (use_apart tree.sizes (place_of tree step spot k) at.0 back (λ proper. absent ((meeting.exact k).1
+      (use_apart tree.sizes (place_of tree step spot k) at.0 back (λ proper. absent ((search.meeting.exact k).1
       (record { rect = use_box tree.sizes at.0; there = box_at k at.0 at.1; meets = proper })))))
 
   -- those of several one after another
@@ -169,7 +189,7 @@ module _ (tree : Tree) (step : ℕ) (spot : Spot) (back : Rect) (known : UseTree
         | inl early ↦ (let b = now.before j early in omega (arith, b, is, low))
         | inr late ↦ elim (cases_lt i j) [
           | inl later ↦ (
-              let ordered : get_or met i 0 < get_or met j 0 = meeting.ordered i j 0 later at.1.0 in
+              let ordered : get_or met i 0 < get_or met j 0 = search.meeting.ordered i j 0 later at.1.0 in
               let less = high (omega (arith, later, at.1.0)) in
               omega (arith, ordered, less, is))
           | inr same ↦ (
@@ -179,16 +199,6 @@ module _ (tree : Tree) (step : ℕ) (spot : Spot) (back : Rect) (known : UseTree
               omega (arith, less, is, here))
         ]
       ]
-
-  -- before anything was found
-  pub search_start : (found : List Spot) → found ≡ [] → IsSearchedTo tree step spot back met 0 found
-  search_start found none = record {
-    next = 0;
-    within = omega arith;
-    before = λ j less. absurd (omega (arith, less));
-    after = λ j low high. omega arith;
-    adds = subst (λ (f : List Spot). AddsSpots Misses [] [] f) (sym none) (spots_none Misses []);
-  }
 
   -- the spots of the next use that was found were added
   pub search_next : (i j p : ℕ) (used : UseBody) (found new : List Spot) → IsSearchedTo tree step spot back met i found → i < length met
@@ -213,7 +223,7 @@ module _ (tree : Tree) (step : ℕ) (spot : Spot) (back : Rect) (known : UseTree
               let here : get_or met k 0 ≡ get_or met i 0 = ap (λ (n : ℕ). get_or met n 0) e in omega (arith, here, is))
         ];
         after = λ k past inside.
-            let ordered : get_or met i 0 < get_or met k 0 = meeting.ordered i k 0 (omega (arith, past, after)) inside in
+            let ordered : get_or met i 0 < get_or met k 0 = search.meeting.ordered i k 0 (omega (arith, past, after)) inside in
             omega (arith, ordered, is);
         adds = spots_next Misses tree step spot p (suc p) used found new at refl to_it adds;
       }

@@ -1,5 +1,5 @@
 -- The uses of a cell as they are found by area, use by use.
-use Rattle.std.proofs.Common.{◌≡◌, ℕ, suc, ◌+◌, ◌<◌, ◌≤◌, List, [], ◌∷◌, ◌++◌, ◌⊎◌, length, map, take, inl, inr, Some, sym, ap, subst, ◌∙◌, arith}
+use Rattle.std.proofs.Common.{◌≡◌, ℕ, suc, ◌+◌, ◌<◌, List, [], ◌∷◌, ◌++◌, ◌⊎◌, length, map, take, inl, inr, Some, sym, ap, subst, ◌∙◌, arith}
 use Rattle.std.specs.Prelude.{slice_get}
 use Rattle.std.proofs.lemmas.List.{length-append}
 use Rattle.geo_core.specs.declared.squares.Rect.{Rect}
@@ -8,9 +8,8 @@ use Rattle.cell_tree.specs.Sizes.{size_at}
 use Rattle.cell_tree.specs.Trees.{Tree, cell_at}
 use Rattle.cell_tree.proofs.AddLaws.{get_before, get_end}
 use Rattle.cell_library.specs.declared.use_trees.UseStart.{UseStart}
-use Rattle.cell_library.specs.declared.use_trees.UseTree.{UseTree}
-use Rattle.cell_library.specs.UseTrees.{start_at, start_behind, use_box, IsUseTree}
-use Rattle.cell_library.proofs.GridSteps.{images_all, images_on}
+use Rattle.cell_library.specs.UseTrees.{start_at, start_behind, use_box}
+use Rattle.cell_library.proofs.GridSteps.{images_on}
 use Rattle.cell_library.proofs.UseSums.{start_next, IsUseAt}
 
 -- the box of a use of a list
@@ -23,16 +22,6 @@ pub record AreFirstUses (tree : Tree) (cell k : ℕ) (boxes : List Rect) (starts
   pub count : length starts ≡ k
   pub starts_are : (j : ℕ) → j < k → slice_get starts j ≡ Some (start_at (size_at tree.sizes) (cell_at tree.cells cell).uses j)
   pub start_is : start ≡ start_at (size_at tree.sizes) (cell_at tree.cells cell).uses k
-
--- no uses
-pub first_none : (tree : Tree) (cell : ℕ) (boxes : List Rect) (starts : List UseStart) → boxes ≡ [] → starts ≡ []
-    → AreFirstUses tree cell 0 boxes starts (record { elements = 0; standing = 0 })
-first_none tree cell boxes starts none_boxes none_starts = record {
-  boxes_are = none_boxes;
-  count = ap (λ (xs : List UseStart). length xs) none_starts;
-  starts_are = λ j less. absurd (omega (arith, less));
-  start_is = λ i. record { elements = 0; standing = 0 };
-}
 
 -- one use more
 pub first_more : (tree : Tree) (cell k next : ℕ) (used : UseBody) (boxes new_boxes : List Rect) (starts new_starts : List UseStart) (start behind : UseStart)
@@ -66,12 +55,3 @@ first_more tree cell k next used boxes new_boxes starts new_starts start behind 
   where
     last_or_before : (k j : ℕ) → j < k + 1 → (j < k) ⊎ (j ≡ k)
     last_or_before k j less = grind arith
-
--- all uses
-pub first_all : (tree : Tree) (cell k : ℕ) (boxes : List Rect) (start : UseStart) (uses : UseTree)
-    → AreFirstUses tree cell k boxes uses.starts.items start → length (cell_at tree.cells cell).uses ≤ k → uses.boxes ≡ boxes
-    → IsUseTree tree cell uses
-first_all tree cell k boxes start uses first past same = record {
-  boxes = same ∙ images_all (entry_box tree) (cell_at tree.cells cell).uses k [] boxes past first.boxes_are;
-  starts = λ j less. first.starts_are j (omega (arith, less, past));
-}
