@@ -1,0 +1,5 @@
+pub mod Additions
+pub mod MadeCells
+pub mod Refusals
+pub mod Sizes
+pub mod Trees
