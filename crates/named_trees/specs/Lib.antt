@@ -1,0 +1,3 @@
+pub mod FlatLayouts
+pub mod MemberGroups
+pub mod NamedTrees

@@ -1,0 +1,4 @@
+pub mod Merges
+pub mod PlaceWeights
+pub mod TreeCircuits
+pub mod TreeRecords
