@@ -8,7 +8,7 @@ mod SameTerminals
 mod SameFets
 pub mod SomeEdges
 mod OwnMeanings
-mod NameForms
+pub mod NameForms
 mod NodeSizes
 pub mod NodesByName
 pub mod FetSizes

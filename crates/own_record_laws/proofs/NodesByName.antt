@@ -141,7 +141,7 @@ first_name-injective raw well k l k_in l_in same =
     ]
 
 -- the last byte of a text
-ends_in-mark : (byte : ℕ) (text : List ℕ) → ends_in byte (text ++ byte ∷ []) ≡ true
+pub ends_in-mark : (byte : ℕ) (text : List ℕ) → ends_in byte (text ++ byte ∷ []) ≡ true
 ends_in-mark byte [] = eq-eqb byte byte refl
 ends_in-mark byte (first ∷ []) = eq-eqb byte byte refl
 ends_in-mark byte (first ∷ next ∷ text) = ends_in-mark byte (next ∷ text)

@@ -25,7 +25,7 @@ use Rattle.own_records.specs.FetRecords.{IsNoLaterName, IsOfNode}
 use Rattle.own_records.specs.OwnCircuits.{IsInSome}
 
 -- two names of which neither is later than the other are one
-later_both_ways : (a b : List ℕ) → IsNoLaterName a b → IsNoLaterName b a → a ≡ b
+pub later_both_ways : (a b : List ℕ) → IsNoLaterName a b → IsNoLaterName b a → a ≡ b
 later_both_ways a b (inl same) back = same
 later_both_ways a b (inr before) (inl same) = sym same
 later_both_ways a b (inr before) (inr after) = absurd (not_before_itself a (name_cmp_total.trans a b a before after))
