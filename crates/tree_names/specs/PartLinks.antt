@@ -1,0 +1,22 @@
+-- Links of the parts of a cell, as links of a layout of the cell.
+use Rattle.tech_model.specs.declared.raw.RawTech.{RawTech}
+use Rattle.tech_model.specs.Types.{connects}
+use Rattle.layout_model.specs.Layouts.{Layout}
+use Rattle.layout_model.specs.Links.{AreLinked}
+use Rattle.layout_model.specs.Places.{Place}
+use Rattle.named_trees.specs.FlatLayouts.{flat_layout}
+use Rattle.named_trees.specs.NamedTrees.{NamedTree, NamedElements, named_elements_in, own_body, place_forth}
+use Rattle.named_trees.specs.NamedTrees.NamedElements.{no_more, element_then}
+
+-- The links of the flat layout of each element are links of this layout, where the element's transform takes them.
+abbrev pub LinksGoUp : RawTech → NamedElements → Layout → Type 0
+LinksGoUp raw no_more flat = Unit {0}
+LinksGoUp raw (element_then id placed tree rest) flat =
+    ((a b : Place) → AreLinked (connects raw) (flat_layout raw tree) a b
+    → AreLinked (connects raw) flat (place_forth placed a) (place_forth placed b))
+    × LinksGoUp raw rest flat
+
+-- The links of each part are links of the flat layout.
+pub record PartsKeepLinks (raw : RawTech) (tree : NamedTree) : Type 0 where
+  pub own : (a b : Place) → AreLinked (connects raw) (own_body tree).layout a b → AreLinked (connects raw) (flat_layout raw tree) a b
+  pub elements : LinksGoUp raw (named_elements_in tree) (flat_layout raw tree)
