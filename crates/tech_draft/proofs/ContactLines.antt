@@ -1,27 +1,35 @@
--- A line of the section `contact` keeps the lists sound.
-use Rattle.std.proofs.Common.{◌≡◌, ◌+◌, ◌-◌, ◌<◌, ◌≤◌, ◌==◌, ℕ, Bool, true, false, List, [], ◌∷◌, ◌++◌, length, map, filter, refl, sym, subst, arith, inl, inr}
-use Rattle.std.specs.Prelude.{All, IsTrue, None, not, nat_lt, is_none}
-use Rattle.std.proofs.lemmas.Bool.{or_parts, not-false, not-true, ltb-false, eqb-false}
+-- What is known of a line of the section `contact` that breaks no rule.
+use Rattle.std.proofs.Common.{◌≡◌, ◌≢◌, ◌+◌, ◌<◌, ◌≤◌, ◌==◌, ◌||◌, ℕ, Bool, true, false, List, [], ◌∷◌, ◌++◌, length, map, filter, refl, sym, ap, subst, ◌∙◌, arith, inl, inr}
+use Rattle.std.specs.Prelude.{IsTrue, not}
+use Rattle.std.specs.List.{list_any}
+use Rattle.std.proofs.lemmas.Bool.{cases_Bool, cases_eq, or_parts, not-false, not-true, eqb-true, eqb-false, ne_eqb, true≢false}
 use Rattle.std.proofs.lemmas.List.{length-map}
 use Rattle.finite_sets.specs.Lists.{In, Distinct}
-use Rattle.finite_sets.proofs.Members.{In-push, In-append_left, In-map_source, In-filter_source, In-filter_passes}
-use Rattle.finite_sets.proofs.Searches.{list_any-In, All-from_In, option_or-none}
+use Rattle.finite_sets.proofs.Members.{In-push, In-append_left, In-map, In-map_source, In-filter, In-filter_source, In-filter_passes}
+use Rattle.finite_sets.proofs.Searches.{list_any-In}
+use Rattle.tech_model.specs.declared.raw.LayerId.{LayerId}
 use Rattle.tech_model.specs.declared.raw.TypeId.{TypeId}
 use Rattle.tech_model.specs.declared.raw.RawTech.{RawTech}
-use Rattle.tech_model.specs.declared.faults.TechFault.TheVariants.{BadForm, NoType, Twice, TooMany, TypeExpression}
-use Rattle.tech_model.specs.declared.faults.Table.TheVariants.{Types}
-use Rattle.tech_model.specs.Types.{type_number, is_type, plane_of, images_of, layer_named}
-use Rattle.tech_draft.specs.Drafts.{Drafted}
-use Rattle.tech_draft.specs.Entries.{fault_if, first_where}
-use Rattle.tech_draft.specs.SetLines.{layer_of_word, type_of_word, plane_of_word, is_contact, is_expression, layer_words_fault, has_number, has_repeat}
-use Rattle.tech_draft.specs.SetLines.{are_misplaced, contact_part_fault, is_contact_form, contact_rules_fault, contact_fault, other_residues, own_pair}
-use Rattle.tech_draft.specs.SetLines.{with_contact}
-use Rattle.tech_draft.specs.Sound.{HasLists, HasSoundLists}
-use Rattle.tech_draft.proofs.ListFacts.{one_thing, map_map, Distinct-map_filter, filter_fewer}
-use Rattle.tech_draft.proofs.NoFaults.{no_fault, first_none}
-use Rattle.tech_draft.proofs.WordTypes.{named_below, listed_layer, word_type}
-use Rattle.tech_draft.proofs.ContactLists.{HasRoom, imaged-lists}
 use Rattle.tech_model.specs.declared.limits.TheConstants.{MOST_TYPES}
+use Rattle.tech_model.specs.Types.{type_number, layer_number, is_type, plane_of}
+use Rattle.tech_draft.specs.Drafts.{Drafted}
+use Rattle.tech_draft.specs.Lookups.{has_type, type_of_word, plane_of_word, layer_of_word, is_contact}
+use Rattle.tech_draft.specs.SetLines.{has_number, has_repeat, are_misplaced, is_part, other_residues, residues_of_layer}
+use Rattle.tech_draft.specs.Sound.{IsPart}
+use Rattle.tech_draft.proofs.LookupLaws.{IsNamed, part_word, single_word}
+use Rattle.tech_draft.proofs.ContactSteps.{IsContactPlan, IsContactLine}
+
+-- The words name layers, the residues stand on planes of their own, one of them the base's, and none is a contact or the base.
+pub record KeepsContactRules (draft : Drafted) (base : List ℕ) (residues : List (List ℕ)) : Type 0 where
+  pub some : 1 < length residues
+  pub named : (word : List ℕ) → In word (base ∷ residues) → IsNamed draft.raw word
+  pub placed : are_misplaced draft.raw base residues ≡ false
+  pub simple : is_contact draft.raw base ≡ false
+  pub free : is_part draft (type_of_word draft.raw base) ≡ false
+  pub atoms : (word : List ℕ) → In word residues → (is_contact draft.raw word || (type_of_word draft.raw word).0 == (type_of_word draft.raw base).0) ≡ false
+  pub room : length draft.raw.types + length (other_residues draft.raw base residues) ≤ MOST_TYPES
+
+-- ---- planes
 
 -- where no number stands twice, all differ, and none stands among those before them
 repeat_none : (before numbers : List ℕ) → has_repeat before numbers ≡ false → Distinct numbers × ((n : ℕ) → In n before → In n numbers → ⊥)
@@ -36,25 +44,6 @@ repeat_none before (m ∷ numbers) none =
       ],
     )
 
--- the words name layers
-pub words_named : (raw : RawTech) (words : List (List ℕ)) (word : List ℕ) → layer_words_fault raw words ≡ None → In word words → is_none (layer_named raw word) ≡ false
-words_named raw words word none is =
-    let parts = option_or-none (first_where is_expression TypeExpression words) (first_where (λ word. is_none (layer_named raw word)) NoType words) none in
-    first_none (λ word. is_none (layer_named raw word)) NoType words word parts.1 is
-
--- a word's layer that is no contact has one image
-pub single_image : (raw : RawTech) (word : List ℕ) → HasLists raw → is_none (layer_named raw word) ≡ false → is_contact raw word ≡ false
-    → images_of raw (layer_of_word raw word) ≡ type_of_word raw word ∷ []
-unfolding is_contact
-single_image raw word lists named none =
-    one_thing (images_of raw (layer_of_word raw word)) (type_number 0) (listed_layer raw (layer_of_word raw word) lists (named_below raw word named)).placed
-    (ltb-false 1 (length (images_of raw (layer_of_word raw word))) none)
-
--- a residue on another plane than the base's
-abbrev elsewhere : RawTech → List ℕ → List (List ℕ) → List (List ℕ)
-elsewhere raw base residues = filter (λ word. not (plane_of_word raw word == plane_of_word raw base)) residues
-
--- the planes of the residues differ, and one is the base's
 placed : (raw : RawTech) (base : List ℕ) (residues : List (List ℕ)) → are_misplaced raw base residues ≡ false
     → Distinct (map (plane_of_word raw) residues) × (has_number (map (plane_of_word raw) residues) (plane_of_word raw base) ≡ true)
 unfolding are_misplaced
@@ -62,57 +51,122 @@ placed raw base residues well =
     let parts = or_parts (has_repeat [] (map (plane_of_word raw) residues)) (not (has_number (map (plane_of_word raw) residues) (plane_of_word raw base))) well in
     ((repeat_none [] (map (plane_of_word raw) residues) parts.0).0, not-false (has_number (map (plane_of_word raw) residues) (plane_of_word raw base)) parts.1)
 
+-- what differs in f does so after a filter
+distinct_filter : {X Y : Type 0} (f : X → Y) (test : X → Bool) (xs : List X) → Distinct (map f xs) → Distinct (map f (filter test xs))
+distinct_filter f test [] distinct = tt
+distinct_filter f test (x ∷ xs) distinct = elim (cases_Bool (test x)) [
+  | inl passes ↦ rw passes (
+    (λ is. let source = In-map_source f (f x) (filter test xs) is in
+        distinct.0 (subst (λ y. In y (map f xs)) source.1.1 (In-map f source.0 xs (In-filter_source test source.0 xs source.1.0)))),
+    distinct_filter f test xs distinct.1,
+  )
+  | inr fails ↦ rw fails (distinct_filter f test xs distinct.1)
+]
+
+-- two functions one after the other are one
+map_map : {X Y Z : Type 0} (f : Y → Z) (g : X → Y) (xs : List X) → map f (map g xs) ≡ map (λ x. f (g x)) xs
+map_map f g [] = refl
+map_map f g (x ∷ xs) = ap (λ zs. f (g x) ∷ zs) (map_map f g xs)
+
+-- a number that a list has is that of one of the things that the list is made of
+number_source : {X : Type 0} (f : X → ℕ) (n : ℕ) (xs : List X) → has_number (map f xs) n ≡ true → (x : X) × (In x xs × (f x ≡ n))
+number_source f n [] some = absurd (true≢false (sym some))
+number_source f n (x ∷ xs) some = elim (cases_Bool (f x == n)) [
+  | inl here ↦ (x, (inl refl, eqb-true (f x) n here))
+  | inr other ↦ let later = number_source f n xs (rw other at some) in (later.0, (inr later.1.0, later.1.1))
+]
+
+-- a residue on another plane than the base's
+abbrev is_elsewhere : RawTech → List ℕ → List ℕ → Bool
+is_elsewhere raw base word = not (plane_of_word raw word == plane_of_word raw base)
+
 other_planes : (raw : RawTech) (base : List ℕ) (residues : List (List ℕ)) → are_misplaced raw base residues ≡ false
     → Distinct (plane_of_word raw base ∷ map (λ t. plane_of raw t.0) (other_residues raw base residues))
 other_planes raw base residues well =
-    let others = map_map (λ (t : TypeId). plane_of raw t.0) (type_of_word raw) (elsewhere raw base residues) in
-    let test : List ℕ → Bool = λ word. not (plane_of_word raw word == plane_of_word raw base) in
-    subst (λ (ps : List ℕ). Distinct (plane_of_word raw base ∷ ps)) (sym others) (
+    let others = filter (is_elsewhere raw base) residues in
+    subst (λ (ps : List ℕ). Distinct (plane_of_word raw base ∷ ps)) (sym (map_map (λ (t : TypeId). plane_of raw t.0) (type_of_word raw) others)) (
       (λ is.
-          let source = In-map_source (plane_of_word raw) (plane_of_word raw base) (elsewhere raw base residues) is in
-          let apart = not-true (plane_of_word raw source.0 == plane_of_word raw base) (In-filter_passes test source.0 residues source.1.0) in
+          let source = In-map_source (plane_of_word raw) (plane_of_word raw base) others is in
+          let apart = not-true (plane_of_word raw source.0 == plane_of_word raw base) (In-filter_passes (is_elsewhere raw base) source.0 residues source.1.0) in
           eqb-false (plane_of_word raw source.0) (plane_of_word raw base) apart source.1.1),
-      Distinct-map_filter (plane_of_word raw) test residues (placed raw base residues well).0,
+      distinct_filter (plane_of_word raw) (is_elsewhere raw base) residues (placed raw base residues well).0,
     )
 
-others_types : (raw : RawTech) (base : List ℕ) (residues : List (List ℕ)) → HasLists raw → ((word : List ℕ) → In word residues → is_none (layer_named raw word) ≡ false)
-    → All (λ t. IsTrue (is_type raw t.0)) (other_residues raw base residues)
-others_types raw base residues lists named = All-from_In (λ (t : TypeId). IsTrue (is_type raw t.0)) (other_residues raw base residues) (λ t is.
-    let source = In-map_source (type_of_word raw) t (elsewhere raw base residues) is in
-    let among = In-filter_source (λ (word : List ℕ). not (plane_of_word raw word == plane_of_word raw base)) source.0 residues source.1.0 in
-    subst (λ (t : TypeId). IsTrue (is_type raw t.0)) source.1.1 (word_type raw source.0 lists (named source.0 among)))
+holds_something : {X : Type 0} (x : X) (xs : List X) → In x xs → 0 < length xs
+holds_something x [] absent = absurd absent
+holds_something x (y ∷ xs) inside = omega arith
 
-few_others : (raw : RawTech) (base : List ℕ) (residues : List (List ℕ)) → are_misplaced raw base residues ≡ false → length (other_residues raw base residues) < length residues
-few_others raw base residues well =
-    let fewer = filter_fewer (plane_of_word raw) (plane_of_word raw base) residues (placed raw base residues well).1 in
-    omega (arith, fewer, length-map (elsewhere raw base residues) (type_of_word raw))
+-- of two residues on two planes one stands on another plane than the base
+others_some : (raw : RawTech) (base : List ℕ) (residues : List (List ℕ)) → 1 < length residues → Distinct (map (plane_of_word raw) residues)
+    → 0 < length (filter (is_elsewhere raw base) residues)
+others_some raw base [] many apart = absurd (omega arith)
+others_some raw base (a ∷ []) many apart = absurd (omega arith)
+others_some raw base (a ∷ b ∷ words) many apart =
+    elim (cases_eq (plane_of_word raw a) (plane_of_word raw base)) [
+      | inl same ↦
+          let other = λ (too : plane_of_word raw b ≡ plane_of_word raw base). apart.0 (inl (too ∙ sym same)) in
+          holds_something b (filter (is_elsewhere raw base) (a ∷ b ∷ words))
+          (In-filter (is_elsewhere raw base) b (a ∷ b ∷ words) (inr (inl refl)) (ap not (ne_eqb (plane_of_word raw b) (plane_of_word raw base) other)))
+      | inr other ↦
+          holds_something a (filter (is_elsewhere raw base) (a ∷ b ∷ words))
+          (In-filter (is_elsewhere raw base) a (a ∷ b ∷ words) (inl refl) (ap not (ne_eqb (plane_of_word raw a) (plane_of_word raw base) other)))
+    ]
 
--- A line that breaks no rule has room for its images: its words name layers, and the base's has one image.
-pub contact_room : (draft : Drafted) (base : List ℕ) (residues : List (List ℕ)) → HasSoundLists draft → contact_fault draft (base ∷ residues) ≡ None
-    → HasRoom draft.raw (layer_of_word draft.raw base) (type_of_word draft.raw base) (other_residues draft.raw base residues)
-unfolding contact_fault
-contact_room draft base residues lists none =
+-- ---- the line
+
+part_free : (draft : Drafted) (t : TypeId) → is_part draft t ≡ false → (list_any (λ pair. pair.1.0 == t.0) draft.residues ≡ false) × (has_type draft.used t ≡ false)
+unfolding is_part
+part_free draft t none = or_parts (list_any (λ pair. pair.1.0 == t.0) draft.residues) (has_type draft.used t) none
+
+-- the word of one of the other residues
+other_word : (raw : RawTech) (base : List ℕ) (residues : List (List ℕ)) (t : TypeId) → In t (other_residues raw base residues) → (word : List ℕ) × (In word residues × (type_of_word raw word ≡ t))
+other_word raw base residues t inside =
+    let source = In-map_source (type_of_word raw) t (filter (is_elsewhere raw base) residues) inside in
+    (source.0, (In-filter_source (is_elsewhere raw base) source.0 residues source.1.0, source.1.1))
+
+-- there is room for the images
+pub contact_plan : (draft : Drafted) (base : List ℕ) (residues : List (List ℕ)) → KeepsContactRules draft base residues
+    → IsContactPlan draft.raw (layer_of_word draft.raw base) (type_of_word draft.raw base) (other_residues draft.raw base residues)
+contact_plan draft base residues rules =
     let raw = draft.raw in
-    let form = option_or-none (fault_if (not (is_contact_form (base ∷ residues))) BadForm) _ none in
-    let words = option_or-none (layer_words_fault raw (base ∷ residues)) (contact_rules_fault draft base residues) form.1 in
-    let rules = option_or-none (fault_if (are_misplaced raw base residues) BadForm) _ words.1 in
-    let once = option_or-none (fault_if (is_contact raw base) (Twice base)) _ rules.1 in
-    let part = option_or-none (contact_part_fault draft base residues) _ once.1 in
-    let well = no_fault (are_misplaced raw base residues) BadForm rules.0 in
-    let named : (word : List ℕ) → In word (base ∷ residues) → is_none (layer_named raw word) ≡ false = λ word is. words_named raw (base ∷ residues) word words.0 is in
-    let few = no_fault (nat_lt MOST_TYPES (length raw.types + (length residues - 1))) (TooMany Types) part.1 in
-    let limit : length raw.types + (length residues - 1) ≤ MOST_TYPES = ltb-false MOST_TYPES (length raw.types + (length residues - 1)) few in
-    let fewer = few_others raw base residues well in
+    let named = rules.named base (inl refl) in
     record {
-      layer_below = named_below raw base (named base (inl refl));
-      single = single_image raw base lists (named base (inl refl)) (no_fault (is_contact raw base) (Twice base) once.0);
-      limit = omega (arith, limit, fewer);
-      residues = others_types raw base residues lists (λ word is. named word (inr is));
-      planes = other_planes raw base residues well;
+      below = named.below;
+      single = single_word raw base named rules.simple;
+      is_own = named.is;
+      own_layer = named.layer;
+      limit = rules.room;
+      residues = λ t inside.
+          let word = other_word raw base residues t inside in
+          subst (λ (u : TypeId). IsTrue (is_type raw u.0)) word.1.1 (rules.named word.0 (inr word.1.0)).is;
+      planes = other_planes raw base residues rules.placed;
     }
 
--- a `contact` line keeps the lists sound
-pub lists-contact : (draft : Drafted) (words : List (List ℕ)) → HasSoundLists draft → contact_fault draft words ≡ None → HasSoundLists (with_contact draft words)
-lists-contact draft [] lists none = lists
-lists-contact draft (base ∷ residues) lists none =
-    imaged-lists draft.raw (layer_of_word draft.raw base) (own_pair draft.raw base residues) (other_residues draft.raw base residues) lists (contact_room draft base residues lists none)
+-- the residues may be those of the base's layer
+pub contact_line-keeps : (draft : Drafted) (base : List ℕ) (residues : List (List ℕ)) → KeepsContactRules draft base residues
+    → IsContactLine draft (layer_of_word draft.raw base) (type_of_word draft.raw base) (other_residues draft.raw base residues)
+    (residues_of_layer draft.raw (layer_of_word draft.raw base) residues)
+contact_line-keeps draft base residues rules =
+    let raw = draft.raw in
+    let own = type_of_word raw base in
+    let layer = layer_of_word raw base in
+    let noted : List ℕ → LayerId × TypeId = λ word. (layer_number layer, type_of_word raw word) in
+    let planes = placed raw base residues rules.placed in
+    let home = number_source (plane_of_word raw) (plane_of_word raw base) residues planes.1 in
+    let free = part_free draft own rules.free in
+    record {
+      some = omega (arith, others_some raw base residues rules.some planes.0, length-map (filter (is_elsewhere raw base) residues) (type_of_word raw));
+      unused = λ t inside. eqb-false t own.0 (list_any-In (λ (u : TypeId). u.0 == own.0) draft.used (type_number t) free.1 inside);
+      no_residue = λ pair inside. eqb-false pair.1.0 own.0 (list_any-In (λ (pair : LayerId × TypeId). pair.1.0 == own.0) draft.residues pair free.0 inside);
+      residues = λ pair inside.
+          let word = In-map_source noted pair residues inside in
+          let rule = or_parts (is_contact raw word.0) ((type_of_word raw word.0).0 == own.0) (rules.atoms word.0 word.1.0) in
+          subst (λ (p : LayerId × TypeId). (p.0.0 ≡ layer) × (IsPart raw p.1.0 × (p.1.0 ≢ own.0))) word.1.1
+          (refl, (part_word raw word.0 (rules.named word.0 (inr word.1.0)) rule.0, eqb-false (type_of_word raw word.0).0 own.0 rule.1));
+      home = type_of_word raw home.0;
+      home_noted = In-map noted home.0 residues home.1.0;
+      home_plane = home.1.1;
+      others_noted = λ t inside.
+          let word = other_word raw base residues t inside in
+          subst (λ (u : TypeId). In (layer_number layer, u) (residues_of_layer raw layer residues)) word.1.1 (In-map noted word.0 residues word.1.0);
+    }

@@ -1,17 +1,21 @@
 -- Technologies that keep the types of another: what holds of the other's lists still holds.
-use Rattle.std.proofs.Common.{◌≡◌, ◌-◌, ◌≤◌, ℕ, List, [], ◌∷◌, length, map, get_or, refl, sym, ap, subst, ◌∙◌, arith}
+use Rattle.std.proofs.Common.{◌≡◌, ◌-◌, ◌<◌, ◌≤◌, ℕ, List, [], ◌∷◌, length, map, get_or, set, refl, sym, ap, subst, ◌∙◌, arith, inl, inr}
 use Rattle.std.specs.Prelude.{All, IsTrue}
+use Rattle.std.proofs.lemmas.Bool.{cases_eq, cases_lt, cond-true}
+use Rattle.std.proofs.lemmas.List.{length-set, get_or-set_same, get_or-set_other, set_past, get_or_past}
 use Rattle.std.proofs.lemmas.List.Elements.{All-weaker, All-head, All-tail}
 use Rattle.finite_sets.specs.Lists.{Distinct}
 use Rattle.tech_model.specs.declared.raw.TypeId.{TypeId}
-use Rattle.tech_model.specs.declared.raw.LayerRec.{LayerRec}
 use Rattle.tech_model.specs.declared.raw.TypeRec.{TypeRec}
+use Rattle.tech_model.specs.declared.raw.LayerRec.{LayerRec}
 use Rattle.tech_model.specs.declared.raw.ClassRec.{ClassRec}
 use Rattle.tech_model.specs.declared.raw.FetRule.{FetRule}
 use Rattle.tech_model.specs.declared.raw.RawTech.{RawTech}
-use Rattle.tech_model.specs.Types.{is_type, plane_of, layer_of, no_type}
+use Rattle.tech_model.specs.Types.{is_type, type_at, plane_of, layer_of, parts_of, images_of, no_type, no_layer}
 use Rattle.tech_model.specs.WellFormed.{IsLayer, IsClass, IsFet, IsPair}
 use Rattle.tech_model.proofs.WellFormedLaws.{type_bounds, type_from_bounds}
+use Rattle.tech_draft.specs.SetLines.{with_set}
+use Rattle.tech_draft.specs.Sound.{HasImages, HasSoundLayers, HasSoundRules}
 
 -- the other has all types, on their planes and of their layers
 pub record Keeps (raw next : RawTech) : Type 0 where
@@ -19,16 +23,29 @@ pub record Keeps (raw next : RawTech) : Type 0 where
   pub planes : (t : ℕ) → IsTrue (is_type raw t) → plane_of next t ≡ plane_of raw t
   pub layers : (t : ℕ) → IsTrue (is_type raw t) → layer_of next t ≡ layer_of raw t
 
+-- a type's parts are those of its record
+pub parts_at : (raw : RawTech) (t : ℕ) → IsTrue (is_type raw t) → parts_of raw t ≡ (type_at raw t).parts.0
+parts_at raw t is = cond-true (is_type raw t) (type_at raw t).parts.0 0 is
+
+-- a layer with images is one of the list
+pub has_images-below : (raw : RawTech) (layer : ℕ) → HasImages raw layer → layer < length raw.layers
+has_images-below raw layer many = elim (cases_lt layer (length raw.layers)) [
+  | inl below ↦ below
+  | inr past ↦
+      let none : length (images_of raw layer) ≡ 0 = ap (λ (l : LayerRec). length l.images) (get_or_past raw.layers layer no_layer past) in
+      absurd (omega (arith, many, none))
+]
+
+-- ---- what holds of the lists
+
 -- a type stays a type
 pub kept_type : (raw next : RawTech) → Keeps raw next → (t : ℕ) → IsTrue (is_type raw t) → IsTrue (is_type next t)
 kept_type raw next keeps t is = let bounds = type_bounds raw t is in type_from_bounds next t bounds.0 (omega (arith, bounds.1, keeps.more))
 
--- types stay types
-pub kept_types : (raw next : RawTech) → Keeps raw next → (types : List TypeId) → All (λ t. IsTrue (is_type raw t.0)) types → All (λ t. IsTrue (is_type next t.0)) types
+kept_types : (raw next : RawTech) → Keeps raw next → (types : List TypeId) → All (λ t. IsTrue (is_type raw t.0)) types → All (λ t. IsTrue (is_type next t.0)) types
 kept_types raw next keeps types all = All-weaker (λ (t : TypeId). IsTrue (is_type raw t.0)) (λ (t : TypeId). IsTrue (is_type next t.0)) (λ t. kept_type raw next keeps t.0) types all
 
--- types stay on their planes
-pub kept_planes : (raw next : RawTech) → Keeps raw next → (types : List TypeId) → All (λ t. IsTrue (is_type raw t.0)) types
+kept_planes : (raw next : RawTech) → Keeps raw next → (types : List TypeId) → All (λ t. IsTrue (is_type raw t.0)) types
     → map (λ t. plane_of next t.0) types ≡ map (λ t. plane_of raw t.0) types
 kept_planes raw next keeps [] all = refl
 kept_planes raw next keeps (t ∷ types) all =
@@ -36,8 +53,7 @@ kept_planes raw next keeps (t ∷ types) all =
     let rest = kept_planes raw next keeps types (All-tail (λ (t : TypeId). IsTrue (is_type raw t.0)) t types all) in
     ap (λ (p : ℕ). p ∷ map (λ (t : TypeId). plane_of next t.0) types) here ∙ ap (λ (ps : List ℕ). plane_of raw t.0 ∷ ps) rest
 
--- a layer that fitted the lists fits them still
-pub kept_layer : (raw next : RawTech) → Keeps raw next → (layer : LayerRec) → IsLayer raw layer → IsLayer next layer
+kept_layer : (raw next : RawTech) → Keeps raw next → (layer : LayerRec) → IsLayer raw layer → IsLayer next layer
 kept_layer raw next keeps layer is = record {
   named = is.named;
   names = is.names;
@@ -50,8 +66,7 @@ kept_layer raw next keeps layer is = record {
 pub kept_layers : (raw next : RawTech) → Keeps raw next → (layers : List LayerRec) → All (IsLayer raw) layers → All (IsLayer next) layers
 kept_layers raw next keeps layers all = All-weaker (IsLayer raw) (IsLayer next) (kept_layer raw next keeps) layers all
 
--- a class that fitted the lists fits them still
-pub kept_class : (raw next : RawTech) → Keeps raw next → (class : ClassRec) → IsClass raw class → IsClass next class
+kept_class : (raw next : RawTech) → Keeps raw next → (class : ClassRec) → IsClass raw class → IsClass next class
 kept_class raw next keeps class is = record {
   value = is.value;
   per_area = is.per_area;
@@ -63,8 +78,7 @@ kept_class raw next keeps class is = record {
 pub kept_classes : (raw next : RawTech) → Keeps raw next → (classes : List ClassRec) → All (IsClass raw) classes → All (IsClass next) classes
 kept_classes raw next keeps classes all = All-weaker (IsClass raw) (IsClass next) (kept_class raw next keeps) classes all
 
--- a transistor that fitted the lists fits them still
-pub kept_fet : (raw next : RawTech) → Keeps raw next → (fet : FetRule) → IsFet raw fet → IsFet next fet
+kept_fet : (raw next : RawTech) → Keeps raw next → (fet : FetRule) → IsFet raw fet → IsFet next fet
 kept_fet raw next keeps fet is = record {
   kind = kept_type raw next keeps fet.kind.0 is.kind;
   terminals = kept_types raw next keeps fet.terminals is.terminals;
@@ -87,10 +101,79 @@ kept_pair raw next keeps pair is = record {
 pub kept_pairs : (raw next : RawTech) → Keeps raw next → (pairs : List (TypeId × TypeId)) → All (IsPair raw) pairs → All (IsPair next) pairs
 kept_pairs raw next keeps pairs all = All-weaker (IsPair raw) (IsPair next) (kept_pair raw next keeps) pairs all
 
--- the types are the same
-pub same-keeps : (raw next : RawTech) → next.types ≡ raw.types → Keeps raw next
-same-keeps raw next same = record {
-  more = omega (arith, ap (λ (types : List TypeRec). length types) same);
-  planes = λ t is. ap (λ (types : List TypeRec). (get_or types (t - 1) no_type).plane) same;
-  layers = λ t is. ap (λ (types : List TypeRec). (get_or types (t - 1) no_type).layer.0) same;
-}
+-- the technology with other names, planes, types and layers
+abbrev pub with_shape : RawTech → List ℕ → List (List ℕ) → List TypeRec → List LayerRec → RawTech
+with_shape raw name planes types layers = record raw { name = name; planes = planes; types = types; layers = layers }
+
+-- pairs, classes and transistors stay sound
+pub kept_rules : (raw : RawTech) (name : List ℕ) (planes : List (List ℕ)) (types : List TypeRec) (layers : List LayerRec)
+    → Keeps raw (with_shape raw name planes types layers) → HasSoundRules raw → HasSoundRules (with_shape raw name planes types layers)
+kept_rules raw name planes types layers keeps rules =
+    let next = with_shape raw name planes types layers in
+    record {
+      pairs = kept_pairs raw next keeps raw.pairs rules.pairs;
+      classes_limit = rules.classes_limit;
+      classes = kept_classes raw next keeps raw.classes rules.classes;
+      classes_apart = rules.classes_apart;
+      fets_limit = rules.fets_limit;
+      fets = kept_fets raw next keeps raw.fets rules.fets;
+      fets_differ = rules.fets_differ;
+    }
+
+-- ---- types that stay where they are
+
+-- as many types, on the same planes and of the same layers
+pub record HasSamePlaces (types next : List TypeRec) : Type 0 where
+  pub many : length next ≡ length types
+  pub planes : (k : ℕ) → (get_or next k no_type).plane ≡ (get_or types k no_type).plane
+  pub layers : (k : ℕ) → (get_or next k no_type).layer.0 ≡ (get_or types k no_type).layer.0
+
+-- the same types
+pub same_places : (types : List TypeRec) → HasSamePlaces types types
+same_places types = record { many = refl; planes = λ k. refl; layers = λ k. refl }
+
+-- a write of something with the same f changes no f
+pub set_same : {X Y : Type 0} (f : X → Y) (xs : List X) (i : ℕ) (v d : X) → f v ≡ f (get_or xs i d) → (k : ℕ) → f (get_or (set xs i v) k d) ≡ f (get_or xs k d)
+set_same f xs i v d same k = elim (cases_eq k i) [
+  | inl here ↦ elim (cases_lt i (length xs)) [
+    | inl below ↦ ap (λ (n : ℕ). f (get_or (set xs i v) n d)) here ∙ ap f (get_or-set_same xs i v d below) ∙ same ∙ ap (λ (n : ℕ). f (get_or xs n d)) (sym here)
+    | inr past ↦ ap (λ zs. f (get_or zs k d)) (set_past xs i v past)
+  ]
+  | inr other ↦ ap f (get_or-set_other xs i k v d other)
+]
+
+-- a write of a set keeps planes and layers
+pub with_set-places : (raw : RawTech) (t : TypeId) (parts : ℕ) → HasSamePlaces raw.types (with_set raw t parts)
+with_set-places raw t parts =
+    let changed : TypeRec = record (type_at raw t.0) { parts = record { 0 = parts } } in
+    record {
+      many = length-set raw.types (t.0 - 1) changed;
+      planes = set_same (λ (kind : TypeRec). kind.plane) raw.types (t.0 - 1) changed no_type refl;
+      layers = set_same (λ (kind : TypeRec). kind.layer.0) raw.types (t.0 - 1) changed no_type refl;
+    }
+
+-- types that stay where they are are kept
+pub places-keep : (raw next : RawTech) → HasSamePlaces raw.types next.types → Keeps raw next
+places-keep raw next same = record { more = omega (arith, same.many); planes = λ t is. same.planes (t - 1); layers = λ t is. same.layers (t - 1) }
+
+-- a type was one before
+pub same_type : (raw next : RawTech) → HasSamePlaces raw.types next.types → (t : ℕ) → IsTrue (is_type next t) → IsTrue (is_type raw t)
+same_type raw next same t is = let bounds = type_bounds next t is in type_from_bounds raw t bounds.0 (omega (arith, bounds.1, same.many))
+
+-- layers stay sound
+pub places-layers : (raw next : RawTech) → HasSamePlaces raw.types next.types → next.layers ≡ raw.layers → length raw.planes ≤ length next.planes
+    → HasSoundLayers raw → HasSoundLayers next
+places-layers raw next same layers planes sound =
+    let keeps = places-keep raw next same in
+    let count : length next.layers ≡ length raw.layers = ap length layers in
+    let images : (l : ℕ) → images_of next l ≡ images_of raw l = λ l. ap (λ (all : List LayerRec). (get_or all l no_layer).images) layers in
+    record {
+      types_limit = omega (arith, same.many, sound.types_limit);
+      limit = omega (arith, same.many, count, sound.limit);
+      layers = subst (All (IsLayer next)) (sym layers) (kept_layers raw next keeps raw.layers sound.layers);
+      names_differ = rw layers sound.names_differ;
+      type_planes = λ t is. omega (arith, same.planes (t - 1), sound.type_planes t (same_type raw next same t is), planes);
+      type_layers = λ t is. omega (arith, same.layers (t - 1), sound.type_layers t (same_type raw next same t is), count);
+      is_image = λ t is. rw (images (layer_of next t), same.layers (t - 1)) (sound.is_image t (same_type raw next same t is));
+      of_one_layer = λ l t below is. same.layers (t - 1) ∙ sound.of_one_layer l t (omega (arith, below, count)) (rw (images l) at is);
+    }

@@ -1,29 +1,45 @@
--- Drafts are sound from the start and after each line that is read, and a sound draft with a name is a well-formed technology.
-use Rattle.std.proofs.Common.{◌≡◌, ℕ, List, sym, subst}
-use Rattle.std.specs.Prelude.{IsTrue, Ok}
+-- A draft of which no line was read is sound.
+use Rattle.std.proofs.Common.{◌≤◌, ℕ, List, refl, arith, inl}
+use Rattle.std.specs.Prelude.{IsTrue}
+use Rattle.std.proofs.lemmas.List.Elements.{All-nil}
 use Rattle.text_scan.specs.PlainNames.{is_plain_name}
-use Rattle.tech_model.specs.declared.faults.Section.{Section}
-use Rattle.tech_model.specs.WellFormed.{IsWellFormed}
-use Rattle.tech_draft.specs.Drafts.{Drafted, empty_draft}
-use Rattle.tech_draft.specs.Lines.{line_in}
+use Rattle.tech_model.specs.Types.{is_type}
+use Rattle.tech_model.specs.WellFormed.{IsLayer, IsPair, IsClass, IsFet}
+use Rattle.tech_model.proofs.WellFormedLaws.{type_bounds}
+use Rattle.tech_draft.specs.Drafts.{empty_raw, empty_draft}
 use Rattle.tech_draft.specs.Sound.{IsSound}
-use Rattle.tech_draft.proofs.FinishedLists.{well_formed-finished}
-use Rattle.tech_draft.proofs.SoundLines.{lists-empty, lists-line}
-use Rattle.tech_draft.proofs.SetLineLaws.{sets-empty, sets-line}
-use Rattle.tech_draft.proofs.SetFinished.{finished-sets}
-use Rattle.tech_draft.proofs.SetFolds.{finished-each}
-use Rattle.tech_draft.specs.Finished.{finished}
+
+-- there is no type yet
+no_type_yet : {X : Type 0} (t : ℕ) → IsTrue (is_type empty_raw t) → X
+no_type_yet t is = let bounds = type_bounds empty_raw t is in let high : t ≤ 0 = bounds.1 in absurd (omega (arith, bounds.0, high))
 
 -- a draft of which no line was read is sound
 pub IsSound-empty : IsSound empty_draft
-IsSound-empty = record { lists = lists-empty; sets = sets-empty }
-
--- a line that is read keeps a draft sound
-pub IsSound-line : (section : Section) (draft next : Drafted) (words : List (List ℕ)) → IsSound draft → line_in section draft words ≡ Ok next → IsSound next
-IsSound-line section draft next words sound read =
-    record { lists = lists-line section draft next words sound.lists read; sets = sets-line section draft next words sound.lists sound.sets read }
-
--- a sound draft with a name is a well-formed technology
-pub finished-well_formed : (draft : Drafted) → IsSound draft → IsTrue (is_plain_name draft.raw.name) → IsWellFormed (finished draft)
-finished-well_formed draft sound plain =
-    subst IsWellFormed (sym (finished-each draft sound.sets)) (well_formed-finished draft sound.lists plain (finished-sets draft sound.lists sound.sets))
+IsSound-empty = record {
+  names = record { plain = inl refl; limit = omega arith; plane_names = All-nil (λ (name : List ℕ). IsTrue (is_plain_name name)); differ = tt };
+  layers = record {
+    types_limit = omega arith;
+    limit = omega arith;
+    layers = All-nil (IsLayer empty_raw);
+    names_differ = λ i j d before below. absurd (omega arith);
+    type_planes = λ t is. no_type_yet t is;
+    type_layers = λ t is. no_type_yet t is;
+    is_image = λ t is. no_type_yet t is;
+    of_one_layer = λ layer t below is. absurd (omega arith);
+  };
+  rules = record {
+    pairs = All-nil (IsPair empty_raw);
+    classes_limit = omega arith;
+    classes = All-nil (IsClass empty_raw);
+    classes_apart = λ i j d before below. absurd (omega arith);
+    fets_limit = omega arith;
+    fets = All-nil (IsFet empty_raw);
+    fets_differ = tt;
+  };
+  sets = record {
+    simple = λ t is simple. no_type_yet t is;
+    images = λ t is many. no_type_yet t is;
+    used = λ t absent. absurd absent;
+    residues = λ pair absent. absurd absent;
+  };
+}

@@ -1,63 +1,372 @@
--- The lists of a draft are sound from the start, and each line that is read keeps them so.
-use Rattle.std.proofs.Common.{◌≡◌, ◌≤◌, ℕ, List, subst, arith, inl, refl}
-use Rattle.std.specs.Prelude.{IsTrue, None, Ok}
-use Rattle.std.proofs.lemmas.List.Elements.{All-nil}
+-- Each line that is taken keeps a draft sound.
+use Rattle.std.proofs.Common.{◌≡◌, ◌<◌, ◌≤◌, ◌+◌, ◌==◌, ◌||◌, ℕ, true, false, List, [], ◌∷◌, ◌++◌, length, refl, sym, ap, subst, ◌∙◌, arith, inl, inr}
+use Rattle.std.specs.Prelude.{IsTrue, Option, Some, None, Result, Ok, not, nat_lt, nat_le, codes}
+use Rattle.std.specs.List.{list_any, list_all}
+use Rattle.std.specs.Option.{ok_or}
+use Rattle.std.specs.Str.{bytes_eq}
+use Rattle.std.proofs.lemmas.Bool.{cases_Bool, or_parts, and_parts, not-false, not-true, ltb-false, leb-false, eqb-true, eqb-false, true≢false}
+use Rattle.std.proofs.lemmas.List.{length_push}
+use Rattle.std.proofs.lemmas.List.Elements.{All-push}
+use Rattle.std.proofs.lemmas.List.Splits.{length-slice_split}
+use Rattle.std.proofs.lemmas.List.Quantifiers.{position-Some}
+use Rattle.std.proofs.lemmas.Slice.Eq.{bytes_eq-Decides}
+use Rattle.finite_sets.specs.Lists.{In}
+use Rattle.finite_sets.proofs.Distincts.{Distinct-push}
+use Rattle.finite_sets.proofs.Searches.{All-from_In, list_all-In, list_any-In, position_from-none}
+use Rattle.text_scan.specs.PlainNames.{is_plain_name}
+use Rattle.text_form.specs.SaidLines.{and_then}
+use Rattle.tech_model.specs.declared.raw.TypeId.{TypeId}
+use Rattle.tech_model.specs.declared.raw.ClassRec.{ClassRec}
+use Rattle.tech_model.specs.declared.raw.FetRule.{FetRule}
 use Rattle.tech_model.specs.declared.faults.Section.{Section}
 use Rattle.tech_model.specs.declared.faults.Section.TheVariants.{Tech, Planes, Types, Contact, Compose, Connect, Extract}
-use Rattle.tech_model.specs.Types.{is_type}
-use Rattle.tech_model.specs.WellFormed.{IsLayer, IsPair, IsClass, IsFet}
-use Rattle.tech_model.proofs.WellFormedLaws.{type_bounds}
-use Rattle.text_scan.specs.PlainNames.{is_plain_name}
-use Rattle.tech_draft.specs.Drafts.{Drafted, empty_raw, empty_draft}
-use Rattle.tech_draft.specs.Lines.{line_fault, with_line, line_in}
-use Rattle.tech_draft.specs.Sound.{HasSoundLists}
-use Rattle.tech_draft.proofs.NoFaults.{line_read}
-use Rattle.tech_draft.proofs.NameLines.{lists-tech, lists-planes}
-use Rattle.tech_draft.proofs.AtomLines.{lists-types}
-use Rattle.tech_draft.proofs.ContactLines.{lists-contact}
-use Rattle.tech_draft.proofs.ComposeLines.{lists-compose}
-use Rattle.tech_draft.proofs.PairLines.{lists-connect}
-use Rattle.tech_draft.proofs.ExtractLines.{lists-extract}
+use Rattle.tech_model.specs.declared.faults.TechFault.{TechFault}
+use Rattle.tech_model.specs.declared.faults.TechFault.TheVariants.{BadForm, NoPlane, Twice, ContactPart, TooMany}
+use Rattle.tech_model.specs.declared.faults.Table.TheVariants as tables
+use Rattle.tech_model.specs.declared.limits.TheConstants.{MOST_PLANES, MOST_TYPES, MOST_CLASSES, MOST_FETS, LARGEST_MEASURE}
+use Rattle.tech_model.specs.Forms.{is_layer_name}
+use Rattle.tech_model.specs.Types.{plane_of, has_name}
+use Rattle.tech_draft.specs.Drafts.{Drafted}
+use Rattle.tech_draft.specs.Words.{one_word, two_words, three_words, four_words, has_three_words, has_form, is_comma, pieces_of, is_entry_list, measure_in, name_part}
+use Rattle.tech_draft.specs.declared.words.WordForm.TheVariants.{LayerName, LayerTerm}
+use Rattle.tech_draft.specs.declared.draft.word_rules.WordRule.TheVariants as rule
+use Rattle.tech_draft.specs.WordRules.{refuse, check_entries, check_layers}
+use Rattle.tech_draft.specs.Lookups.{plane_named, entry_types, has_type, types_of_list, type_of_word, layer_of_word, is_contact}
+use Rattle.tech_draft.specs.TypeLines.{with_name, new_name, name_line, with_plane, new_plane, plane_line, new_names, with_atom, new_atom, new_type, type_line}
+use Rattle.tech_draft.specs.SetLines.{are_misplaced, is_part, other_residues, residues_of_layer, with_contact, new_contact, is_contact_form, contact_line}
+use Rattle.tech_draft.specs.SetLines.{are_composable, is_settled, with_union, new_union, composed, compose_line}
+use Rattle.tech_draft.specs.ListLines.{with_pairs, with_pair_list, connected, connect_line, with_class, new_class, resist_line, shared_class, uncapped}
+use Rattle.tech_draft.specs.ListLines.{with_capacitance, new_capacitance, cap_line, is_fet_form, has_fet, with_rule, fet_with, check_fet, new_fet, fet_line, extract_line}
+use Rattle.tech_draft.specs.Lines.{line_in}
+use Rattle.tech_draft.specs.Sound.{HasSoundNames, HasSoundRules, IsPart, IsSound}
+use Rattle.tech_draft.proofs.AtomSteps.{IsNewLayer, atom-keeps, atom_layers, atom_step}
+use Rattle.tech_draft.proofs.ContactLines.{KeepsContactRules, contact_plan, contact_line-keeps}
+use Rattle.tech_draft.proofs.ContactSteps.{images-keeps, images_layers, contact_step}
+use Rattle.tech_draft.proofs.IndexLaws.{new_names-free}
+use Rattle.tech_draft.proofs.Keeps.{kept_rules, places-keep, places-layers, same_places, with_set-places}
+use Rattle.tech_draft.proofs.LookupLaws.{IsNamed, word_named, part_word}
+use Rattle.tech_draft.proofs.Refusals.{and_then-ok, rule-ok, none_breaks, entries_mean, layers_mean}
+use Rattle.tech_draft.proofs.RuleLines.{with_lists, connect_rules, measure-small, class_rules, cap_rules, fet_rules}
+use Rattle.tech_draft.proofs.Steps.{sets_after, with_rules, rules_step}
+use Rattle.tech_draft.proofs.UnionSteps.{IsUnionLine, union_of, union-keeps, union_step}
 
--- there is no type yet
-no_type_yet : {X : Type 0} (t : ℕ) → IsTrue (is_type empty_raw t) → X
-no_type_yet t is = let bounds = type_bounds empty_raw t is in let high : t ≤ 0 = bounds.1 in absurd (omega (arith, bounds.0, high))
+abbrev right : Drafted → Result Drafted TechFault
+right draft = Ok draft
 
--- the lists of a draft of which no line was read are sound
-pub lists-empty : HasSoundLists empty_draft
-lists-empty = record {
-  planes_limit = omega arith;
-  types_limit = omega arith;
-  layers_limit = omega arith;
-  classes_limit = omega arith;
-  fets_limit = omega arith;
-  name = inl refl;
-  plane_names = All-nil (λ (name : List ℕ). IsTrue (is_plain_name name));
-  planes_differ = tt;
-  layers = All-nil (IsLayer empty_raw);
-  names_differ = λ i j d before below. absurd (omega arith);
-  type_planes = λ t is. no_type_yet t is;
-  type_layers = λ t is. no_type_yet t is;
-  is_image = λ t is. no_type_yet t is;
-  of_one_layer = λ layer t below is. absurd (omega arith);
-  pairs = All-nil (IsPair empty_raw);
-  classes = All-nil (IsClass empty_raw);
-  classes_apart = λ i j d before below. absurd (omega arith);
-  fets = All-nil (IsFet empty_raw);
-  fets_differ = tt;
-}
+-- what a line makes is what it leaves
+made : (after next : Drafted) → right after ≡ right next → IsSound after → IsSound next
+made after next is sound = let same : after ≡ next = cc in subst IsSound same sound
 
-lists-with : (section : Section) (draft : Drafted) (words : List (List ℕ)) → HasSoundLists draft → line_fault section draft words ≡ None → HasSoundLists (with_line section draft words)
-lists-with Tech draft words lists none = lists-tech draft words lists none
-lists-with Planes draft words lists none = lists-planes draft words lists none
-lists-with Types draft words lists none = lists-types draft words lists none
-lists-with Contact draft words lists none = lists-contact draft words lists none
-lists-with Compose draft words lists none = lists-compose draft words lists none
-lists-with Connect draft words lists none = lists-connect draft words lists none
-lists-with Extract draft words lists none = lists-extract draft words lists none
+-- names, planes and rules that fit the lists
+rules-sound : (draft : Drafted) (name : List ℕ) (planes : List (List ℕ)) (pairs : List (TypeId × TypeId)) (classes : List ClassRec) (fets : List FetRule) (capped : List ℕ)
+    → IsSound draft → HasSoundNames name planes → length draft.raw.planes ≤ length planes → HasSoundRules (with_lists draft.raw pairs classes fets)
+    → IsSound (with_rules draft name planes pairs classes fets capped)
+rules-sound draft name planes pairs classes fets capped sound names more rules =
+    let new = with_rules draft name planes pairs classes fets capped in
+    let old = with_lists draft.raw pairs classes fets in
+    record {
+      names = names;
+      layers = places-layers draft.raw new.raw (same_places draft.raw.types) refl more sound.layers;
+      rules = kept_rules old name planes draft.raw.types draft.raw.layers (places-keep old new.raw (same_places draft.raw.types)) rules;
+      sets = sets_after draft new (rules_step draft name planes pairs classes fets capped sound.sets) sound.sets;
+    }
 
--- each line that is read keeps the lists sound
-pub lists-line : (section : Section) (draft next : Drafted) (words : List (List ℕ)) → HasSoundLists draft → line_in section draft words ≡ Ok next → HasSoundLists next
-lists-line section draft next words lists read =
-    let parts = line_read section draft next words read in
-    subst HasSoundLists parts.1 (lists-with section draft words lists parts.0)
+-- ---- names and planes
+
+sound-name : (draft next : Drafted) (words : List (List ℕ)) → IsSound draft → name_line draft words ≡ Ok next → IsSound next
+unfolding name_line
+sound-name draft next words sound is =
+    let raw = draft.raw in
+    let line = and_then-ok (one_word words) (new_name draft) next is in
+    let name = line.0 in
+    let form = rule-ok (not (length raw.name == 0) || not (is_plain_name name)) BadForm (Ok (with_name draft name)) next line.1.1 in
+    let plain = not-false (is_plain_name name) (or_parts (not (length raw.name == 0)) (not (is_plain_name name)) form.0).1 in
+    let names : HasSoundNames name raw.planes =
+    record { plain = inr plain; limit = sound.names.limit; plane_names = sound.names.plane_names; differ = sound.names.differ } in
+    made (with_name draft name) next form.1
+    (rules-sound draft name raw.planes raw.pairs raw.classes raw.fets draft.capped sound names (omega arith) sound.rules)
+
+-- the word is none of these
+absent_word : (word : List ℕ) (words : List (List ℕ)) → list_any (bytes_eq word) words ≡ false → In word words → ⊥
+absent_word word words none is = true≢false (sym ((bytes_eq-Decides word word).1 refl) ∙ list_any-In (bytes_eq word) words word none is)
+
+sound-plane : (draft next : Drafted) (words : List (List ℕ)) → IsSound draft → plane_line draft words ≡ Ok next → IsSound next
+unfolding plane_line
+sound-plane draft next words sound is =
+    let raw = draft.raw in
+    let line = and_then-ok (one_word words) (new_plane draft) next is in
+    let name = line.0 in
+    let form = rule-ok (not (is_plain_name name)) BadForm _ next line.1.1 in
+    let once = rule-ok (list_any (bytes_eq name) raw.planes) (Twice name) _ next form.1 in
+    let room = rule-ok (nat_le MOST_PLANES (length raw.planes)) (TooMany tables.Planes) (Ok (with_plane draft name)) next once.1 in
+    let few = leb-false MOST_PLANES (length raw.planes) room.0 in
+    let long = length_push raw.planes name in
+    let names : HasSoundNames raw.name (raw.planes ++ name ∷ []) = record {
+      plain = sound.names.plain;
+      limit = omega (arith, long, few);
+      plane_names = All-push (λ (n : List ℕ). IsTrue (is_plain_name n)) raw.planes name sound.names.plane_names (not-false (is_plain_name name) form.0);
+      differ = Distinct-push raw.planes name sound.names.differ (absent_word name raw.planes once.0);
+    } in
+    made (with_plane draft name) next room.1
+    (rules-sound draft raw.name (raw.planes ++ name ∷ []) raw.pairs raw.classes raw.fets draft.capped sound names (omega (arith, long)) sound.rules)
+
+-- ---- types
+
+found_some : {X : Type 0} (o : Option X) (fault : TechFault) (x : X) → ok_or o fault ≡ Ok x → o ≡ Some x
+found_some None fault x is = absurd (cc)
+found_some (Some y) fault x is = let same : y ≡ x = cc in ap (λ z. Some z) same
+
+new_layer-line : (draft : Drafted) (word : List ℕ) (names : List (List ℕ)) (plane : ℕ) → 0 < length names → list_all (has_form LayerName) names ≡ true
+    → plane_named draft.raw word ≡ Some plane → new_names draft.raw [] names ≡ Ok tt → length draft.raw.types < MOST_TYPES → IsNewLayer draft.raw plane names
+new_layer-line draft word names plane some good placed new room =
+    let raw = draft.raw in
+    record {
+      plane_below = (position-Some (bytes_eq word) raw.planes plane [] placed).0;
+      named = some;
+      forms = All-from_In (λ (name : List ℕ). IsTrue (is_layer_name name)) names (λ name is. list_all-In (has_form LayerName) names name good is);
+      new = λ layer name layer_in had is. elim (cases_Bool (list_any (bytes_eq name) names)) [
+        | inl listed ↦ absent_word name layer.names (position_from-none (has_name name) 0 raw.layers layer (new_names-free raw [] names name new listed) layer_in) had
+        | inr missing ↦ absent_word name names missing is
+      ];
+      limit = room;
+    }
+
+sound-type : (draft next : Drafted) (words : List (List ℕ)) → IsSound draft → type_line draft words ≡ Ok next → IsSound next
+unfolding type_line
+sound-type draft next words sound is =
+    let raw = draft.raw in
+    let line = and_then-ok (two_words words) (λ line. new_type draft line.0 (pieces_of line.1)) next is in
+    let word = line.0.0 in
+    let names = pieces_of line.0.1 in
+    let form = rule-ok (not (is_plain_name word) || not (list_all (has_form LayerName) names)) BadForm _ next line.1.1 in
+    let good = not-false (list_all (has_form LayerName) names) (or_parts (not (is_plain_name word)) (not (list_all (has_form LayerName) names)) form.0).1 in
+    let placed = and_then-ok (ok_or (plane_named raw word) (NoPlane word)) (new_atom draft names) next form.1 in
+    let plane = placed.0 in
+    let after : Drafted = record draft { raw = with_atom raw plane names } in
+    let new = and_then-ok (new_names raw [] names) _ next placed.1.1 in
+    let room = rule-ok (nat_le MOST_TYPES (length raw.types)) (TooMany tables.Types) (Ok after) next new.1.1 in
+    let fresh = new_layer-line draft word names plane (omega (arith, length-slice_split is_comma line.0.1)) good
+    (found_some (plane_named raw word) (NoPlane word) plane placed.1.0) new.1.0 (leb-false MOST_TYPES (length raw.types) room.0) in
+    made after next room.1 (record {
+      names = sound.names;
+      layers = atom_layers raw plane names sound.layers fresh;
+      rules = kept_rules raw raw.name raw.planes after.raw.types after.raw.layers (atom-keeps raw plane names) sound.rules;
+      sets = sets_after draft after (atom_step draft plane names sound.layers sound.sets) sound.sets;
+    })
+
+-- ---- contacts
+
+three_long : (words : List (List ℕ)) → has_three_words words ≡ true → 2 < length words
+three_long [] is = absurd (cc)
+three_long (a ∷ []) is = absurd (cc)
+three_long (a ∷ b ∷ []) is = absurd (cc)
+three_long (a ∷ b ∷ c ∷ rest) is = omega arith
+
+layers_named : (draft : Drafted) (words : List (List ℕ)) → IsSound draft → check_layers draft.raw words ≡ Ok tt → (word : List ℕ) → In word words → IsNamed draft.raw word
+layers_named draft words sound is word inside =
+    let mean = layers_mean draft.raw words is word inside in
+    word_named draft.raw word sound.layers mean.0 mean.1
+
+new_contact-rules : (draft next : Drafted) (base : List ℕ) (residues : List (List ℕ)) → 2 < length (base ∷ residues)
+    → ((word : List ℕ) → In word (base ∷ residues) → IsNamed draft.raw word) → new_contact draft base residues ≡ Ok next
+    → KeepsContactRules draft base residues × (right (with_contact draft base residues) ≡ right next)
+new_contact-rules draft next base residues many named is =
+    let raw = draft.raw in
+    let own = type_of_word raw base in
+    let count = length raw.types + length (other_residues raw base residues) in
+    let place = rule-ok (are_misplaced raw base residues) BadForm _ next is in
+    let once = rule-ok (is_contact raw base) (Twice base) _ next place.1 in
+    let part = rule-ok (is_part draft own) (ContactPart base) _ next once.1 in
+    let atoms = and_then-ok (refuse raw (rule.ContactOr own) residues) _ next part.1 in
+    let room = rule-ok (nat_lt MOST_TYPES count) (TooMany tables.Types) (Ok (with_contact draft base residues)) next atoms.1.1 in
+    let rules : KeepsContactRules draft base residues = record {
+      some = omega (arith, many);
+      named = named;
+      placed = place.0;
+      simple = once.0;
+      free = part.0;
+      atoms = none_breaks raw (rule.ContactOr own) residues atoms.1.0;
+      room = ltb-false MOST_TYPES count room.0;
+    } in
+    (rules, room.1)
+
+sound-contact : (draft next : Drafted) (words : List (List ℕ)) → IsSound draft → contact_line draft words ≡ Ok next → IsSound next
+unfolding contact_line
+sound-contact draft next [] sound is = absurd (cc)
+sound-contact draft next (base ∷ residues) sound is =
+    let raw = draft.raw in
+    let form = rule-ok (not (is_contact_form (base ∷ residues))) BadForm _ next is in
+    let long = three_long (base ∷ residues) (and_parts (has_three_words (base ∷ residues)) (list_all (has_form LayerTerm) (base ∷ residues)) (not-false (is_contact_form (base ∷ residues)) form.0)).0 in
+    let known = and_then-ok (check_layers raw (base ∷ residues)) _ next form.1 in
+    let rules = new_contact-rules draft next base residues long (layers_named draft (base ∷ residues) sound known.1.0) known.1.1 in
+    let layer = layer_of_word raw base in
+    let own = type_of_word raw base in
+    let others = other_residues raw base residues in
+    let after = with_contact draft base residues in
+    let plan = contact_plan draft base residues rules.0 in
+    made after next rules.1 (record {
+      names = sound.names;
+      layers = images_layers raw layer own others sound.layers plan;
+      rules = kept_rules raw raw.name raw.planes after.raw.types after.raw.layers (images-keeps raw layer own others plan.is_own) sound.rules;
+      sets = sets_after draft after
+          (contact_step draft layer own others (residues_of_layer raw layer residues) sound.layers sound.sets plan (contact_line-keeps draft base residues rules.0)) sound.sets;
+    })
+
+-- ---- composed types
+
+union_line : (draft : Drafted) (whole first second : TypeId) → are_composable draft.raw whole first second ≡ true → is_settled draft whole ≡ false
+    → IsPart draft.raw whole.0 → IsPart draft.raw first.0 → IsPart draft.raw second.0 → IsUnionLine draft whole first second
+unfolding are_composable is_settled
+union_line draft whole first second good free is_whole is_first is_second =
+    let raw = draft.raw in
+    let parts = and_parts _ (not (first.0 == second.0)) good in
+    let others = and_parts _ (not (second.0 == whole.0)) parts.0 in
+    let other = and_parts _ (not (first.0 == whole.0)) others.0 in
+    let planes = and_parts (plane_of raw first.0 == plane_of raw whole.0) (plane_of raw second.0 == plane_of raw whole.0) other.0 in
+    let unused = (or_parts (has_type draft.results whole) (has_type draft.used whole) free).1 in
+    record {
+      is_whole = is_whole;
+      is_first = is_first;
+      is_second = is_second;
+      first_plane = eqb-true (plane_of raw first.0) (plane_of raw whole.0) planes.0;
+      second_plane = eqb-true (plane_of raw second.0) (plane_of raw whole.0) planes.1;
+      first_other = eqb-false first.0 whole.0 (not-true (first.0 == whole.0) other.1);
+      second_other = eqb-false second.0 whole.0 (not-true (second.0 == whole.0) others.1);
+      differ = eqb-false first.0 second.0 (not-true (first.0 == second.0) parts.1);
+      unused = λ t inside. eqb-false t.0 whole.0 (list_any-In (λ (u : TypeId). u.0 == whole.0) draft.used t unused inside);
+    }
+
+sound-union : (draft next : Drafted) (whole first second : List ℕ) → IsSound draft → ((word : List ℕ) → In word (whole ∷ first ∷ second ∷ []) → IsNamed draft.raw word)
+    → new_union draft whole first second ≡ Ok next → IsSound next
+sound-union draft next whole first second sound named is =
+    let raw = draft.raw in
+    let words = whole ∷ first ∷ second ∷ [] in
+    let w = type_of_word raw whole in
+    let f = type_of_word raw first in
+    let s = type_of_word raw second in
+    let form = rule-ok (not (are_composable raw w f s)) BadForm _ next is in
+    let once = rule-ok (is_settled draft w) (Twice whole) _ next form.1 in
+    let parts = and_then-ok (refuse raw rule.Contact words) _ next once.1 in
+    let part : (word : List ℕ) → In word words → IsPart raw (type_of_word raw word).0 =
+    λ word inside. part_word raw word (named word inside) (none_breaks raw rule.Contact words parts.1.0 word inside) in
+    let line = union_line draft w f s (not-false (are_composable raw w f s) form.0) once.0 (part whole (inl refl)) (part first (inr (inl refl))) (part second (inr (inr (inl refl)))) in
+    let after = with_union draft w f s in
+    made after next parts.1.1 (record {
+      names = sound.names;
+      layers = places-layers raw after.raw (with_set-places raw w (union_of raw f s)) refl (omega arith) sound.layers;
+      rules = kept_rules raw raw.name raw.planes after.raw.types raw.layers (union-keeps raw w f s) sound.rules;
+      sets = sets_after draft after (union_step draft w f s sound.sets line) sound.sets;
+    })
+
+sound-compose : (draft next : Drafted) (words : List (List ℕ)) → IsSound draft → compose_line draft words ≡ Ok next → IsSound next
+unfolding compose_line
+sound-compose draft next [] sound is = absurd (cc)
+sound-compose draft next (key ∷ words) sound is =
+    let named = rule-ok (not (bytes_eq key (codes "compose"))) BadForm _ next is in
+    let line = and_then-ok (three_words words) (λ line. composed draft line.0 line.1 line.2) next named.1 in
+    let whole = line.0.0 in
+    let first = line.0.1 in
+    let second = line.0.2 in
+    let form = rule-ok (not (list_all (has_form LayerTerm) (whole ∷ first ∷ second ∷ []))) BadForm _ next line.1.1 in
+    let known = and_then-ok (check_layers draft.raw (whole ∷ first ∷ second ∷ [])) _ next form.1 in
+    sound-union draft next whole first second sound (layers_named draft (whole ∷ first ∷ second ∷ []) sound known.1.0) known.1.1
+
+-- ---- pairs, classes and transistors
+
+sound-connect : (draft next : Drafted) (words : List (List ℕ)) → IsSound draft → connect_line draft words ≡ Ok next → IsSound next
+unfolding connect_line
+sound-connect draft next words sound is =
+    let raw = draft.raw in
+    let line = and_then-ok (two_words words) (λ line. connected draft line.0 line.1) next is in
+    let first = line.0.0 in
+    let second = line.0.1 in
+    let form = rule-ok (not (is_entry_list first) || not (is_entry_list second)) BadForm _ next line.1.1 in
+    let known = and_then-ok (check_entries raw (pieces_of first ++ pieces_of second)) _ next form.1 in
+    let pairs = with_pairs raw (types_of_list raw first) (types_of_list raw second) in
+    made (with_pair_list draft pairs) next known.1.1
+    (rules-sound draft raw.name raw.planes pairs raw.classes raw.fets draft.capped sound sound.names (omega arith) (connect_rules raw first second sound.layers sound.rules))
+
+sound-class : (draft next : Drafted) (list : List ℕ) (value : ℕ) → IsSound draft → value ≤ LARGEST_MEASURE → new_class draft list value ≡ Ok next → IsSound next
+sound-class draft next list value sound small is =
+    let raw = draft.raw in
+    let form = rule-ok (not (is_entry_list list)) BadForm _ next is in
+    let known = and_then-ok (check_entries raw (pieces_of list)) _ next form.1 in
+    let free = and_then-ok (refuse raw rule.Classed (pieces_of list)) _ next known.1.1 in
+    let after = with_class draft (types_of_list raw list) value in
+    let room = rule-ok (nat_le MOST_CLASSES (length raw.classes)) (TooMany tables.Classes) (Ok after) next free.1.1 in
+    made after next room.1
+    (rules-sound draft raw.name raw.planes raw.pairs after.raw.classes raw.fets draft.capped sound sound.names (omega arith)
+    (class_rules raw list value sound.layers sound.rules free.1.0 (leb-false MOST_CLASSES (length raw.classes) room.0) small))
+
+sound-resist : (draft next : Drafted) (words : List (List ℕ)) → IsSound draft → resist_line draft words ≡ Ok next → IsSound next
+unfolding resist_line
+sound-resist draft next words sound is =
+    let line = and_then-ok (two_words words) (λ line. and_then (measure_in line.1) (new_class draft line.0)) next is in
+    let value = and_then-ok (measure_in line.0.1) (new_class draft line.0.0) next line.1.1 in
+    sound-class draft next line.0.0 value.0 sound (measure-small line.0.1 value.0 value.1.0) value.1.1
+
+sound-capacitance : (draft next : Drafted) (list : List ℕ) (area perimeter : ℕ) → IsSound draft → area ≤ LARGEST_MEASURE → perimeter ≤ LARGEST_MEASURE
+    → new_capacitance draft list area perimeter ≡ Ok next → IsSound next
+sound-capacitance draft next list area perimeter sound area_small perimeter_small is =
+    let raw = draft.raw in
+    let form = rule-ok (not (is_entry_list list)) BadForm _ next is in
+    let known = and_then-ok (check_entries raw (pieces_of list)) _ next form.1 in
+    let free = and_then-ok (uncapped draft list (shared_class raw (types_of_list raw list))) (λ class. Ok (with_capacitance draft area perimeter class)) next known.1.1 in
+    let after = with_capacitance draft area perimeter free.0 in
+    made after next free.1.1
+    (rules-sound draft raw.name raw.planes raw.pairs after.raw.classes raw.fets after.capped sound sound.names (omega arith)
+    (cap_rules raw area perimeter free.0 sound.rules area_small perimeter_small))
+
+sound-cap : (draft next : Drafted) (words : List (List ℕ)) → IsSound draft → cap_line draft words ≡ Ok next → IsSound next
+unfolding cap_line
+sound-cap draft next words sound is =
+    let line = and_then-ok (three_words words) (λ line. and_then (measure_in line.1) (λ area. and_then (measure_in line.2) (new_capacitance draft line.0 area))) next is in
+    let area = and_then-ok (measure_in line.0.1) (λ area. and_then (measure_in line.0.2) (new_capacitance draft line.0.0 area)) next line.1.1 in
+    let perimeter = and_then-ok (measure_in line.0.2) (new_capacitance draft line.0.0 area.0) next area.1.1 in
+    sound-capacitance draft next line.0.0 area.0 perimeter.0 sound (measure-small line.0.1 area.0 area.1.0) (measure-small line.0.2 perimeter.0 perimeter.1.0) perimeter.1.1
+
+sound-new_fet : (draft next : Drafted) (kind list name substrate : List ℕ) → IsSound draft → new_fet draft kind list name substrate ≡ Ok next → IsSound next
+sound-new_fet draft next kind list name substrate sound is =
+    let raw = draft.raw in
+    let form = rule-ok (not (is_fet_form kind list name substrate)) BadForm _ next is in
+    let known = and_then-ok (check_entries raw (kind ∷ pieces_of list)) _ next form.1 in
+    let allowed = and_then-ok (check_fet raw kind) _ next known.1.1 in
+    let single = rule-ok (nat_lt 1 (length (entry_types raw kind))) BadForm _ tt allowed.1.0 in
+    let once = rule-ok (has_fet raw (type_of_word raw kind)) (Twice (name_part kind)) _ tt single.1 in
+    let room = rule-ok (nat_le MOST_FETS (length raw.fets)) (TooMany tables.Fets) (Ok tt) tt once.1 in
+    let after = with_rule draft (fet_with raw kind list name substrate) in
+    made after next allowed.1.1
+    (rules-sound draft raw.name raw.planes raw.pairs raw.classes after.raw.fets draft.capped sound sound.names (omega arith)
+    (fet_rules raw kind list name substrate sound.layers sound.rules (not-false (is_fet_form kind list name substrate) form.0)
+    (entries_mean raw (kind ∷ pieces_of list) known.1.0 kind (inl refl)) once.0 (leb-false MOST_FETS (length raw.fets) room.0)))
+
+sound-fet : (draft next : Drafted) (words : List (List ℕ)) → IsSound draft → fet_line draft words ≡ Ok next → IsSound next
+unfolding fet_line
+sound-fet draft next words sound is =
+    let line = and_then-ok (four_words words) (λ line. new_fet draft line.0 line.1 line.2 line.3) next is in
+    sound-new_fet draft next line.0.0 line.0.1 line.0.2 line.0.3 sound line.1.1
+
+sound-extract : (draft next : Drafted) (words : List (List ℕ)) → IsSound draft → extract_line draft words ≡ Ok next → IsSound next
+unfolding extract_line
+sound-extract draft next [] sound is = made draft next is sound
+sound-extract draft next (key ∷ words) sound is = elim (cases_Bool (bytes_eq key (codes "resist"))) [
+  | inl resist ↦ sound-resist draft next words sound (rw resist at is)
+  | inr other ↦ let rest = rw other at is in elim (cases_Bool (bytes_eq key (codes "cap"))) [
+    | inl cap ↦ sound-cap draft next words sound (rw cap at rest)
+    | inr last ↦ let more = rw last at rest in elim (cases_Bool (bytes_eq key (codes "fet"))) [
+      | inl fet ↦ sound-fet draft next words sound (rw fet at more)
+      | inr none ↦ made draft next (rw none at more) sound
+    ]
+  ]
+]
+
+-- a line that is read keeps a draft sound
+pub IsSound-line : (section : Section) (draft next : Drafted) (words : List (List ℕ)) → IsSound draft → line_in section draft words ≡ Ok next → IsSound next
+unfolding line_in
+IsSound-line Tech draft next words sound is = sound-name draft next words sound is
+IsSound-line Planes draft next words sound is = sound-plane draft next words sound is
+IsSound-line Types draft next words sound is = sound-type draft next words sound is
+IsSound-line Contact draft next words sound is = sound-contact draft next words sound is
+IsSound-line Compose draft next words sound is = sound-compose draft next words sound is
+IsSound-line Connect draft next words sound is = sound-connect draft next words sound is
+IsSound-line Extract draft next words sound is = sound-extract draft next words sound is

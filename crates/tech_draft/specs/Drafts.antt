@@ -1,5 +1,6 @@
 -- A technology as far as the lines of its text were read.
 use Rattle.std.specs.Prelude.{ℕ, List, []}
+use Rattle.tech_model.specs.declared.raw.LayerId.{LayerId}
 use Rattle.tech_model.specs.declared.raw.TypeId.{TypeId}
 use Rattle.tech_model.specs.declared.raw.RawTech.{RawTech}
 
@@ -7,8 +8,8 @@ use Rattle.tech_model.specs.declared.raw.RawTech.{RawTech}
 pub record Drafted : Type 0 where
   -- the lists, where the set of a contact's image is its mark alone
   pub raw : RawTech
-  -- each image of a contact with the residue on its plane
-  pub residues : List (TypeId × TypeId)
+  -- each contact's layer with each of its residues
+  pub residues : List (LayerId × TypeId)
   -- the types that `compose` lines used as parts
   pub used : List TypeId
   -- the types that `compose` lines made

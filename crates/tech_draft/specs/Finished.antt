@@ -1,15 +1,24 @@
 -- The technology of a draft: the set of each image of a contact is its mark and the set of its residue.
-use Rattle.std.specs.Prelude.{bit_or, fold}
+use Rattle.std.specs.Prelude.{◌==◌, ◌&&◌, bit_or, ℕ, Bool, map, find, Option, Some, None}
+use Rattle.tech_model.specs.declared.raw.LayerId.{LayerId}
 use Rattle.tech_model.specs.declared.raw.TypeId.{TypeId}
+use Rattle.tech_model.specs.declared.raw.TypeRec.{TypeRec}
 use Rattle.tech_model.specs.declared.raw.RawTech.{RawTech}
-use Rattle.tech_model.specs.Types.{parts_of}
+use Rattle.tech_model.specs.Types.{plane_of, parts_of}
 use Rattle.tech_draft.specs.Drafts.{Drafted}
-use Rattle.tech_draft.specs.SetLines.{with_set}
 
--- an image gets the set of its residue too
-abbrev pub with_residue : RawTech → TypeId × TypeId → RawTech
-with_residue raw pair = record raw { types = with_set raw pair.0 (bit_or (parts_of raw pair.0.0) (parts_of raw pair.1.0)) }
+-- the residue is one of the type's layer, and stands on its plane
+abbrev pub is_residue_of : RawTech → TypeRec → LayerId × TypeId → Bool
+is_residue_of raw kind pair = pair.0.0 == kind.layer.0 && plane_of raw pair.1.0 == kind.plane
 
--- the same for each image and its residue
+abbrev pub residue_parts : RawTech → Option (LayerId × TypeId) → ℕ
+residue_parts raw None = 0
+residue_parts raw (Some pair) = parts_of raw pair.1.0
+
+-- the type with the set of its residue too, where it has one
+abbrev pub finished_type : Drafted → TypeRec → TypeRec
+finished_type draft kind =
+    record kind { parts = record { 0 = bit_or kind.parts.0 (residue_parts draft.raw (find (is_residue_of draft.raw kind) draft.residues)) } }
+
 unfoldable pub finished : Drafted → RawTech
-finished draft = fold with_residue draft.raw draft.residues
+finished draft = record draft.raw { types = map (finished_type draft) draft.raw.types }

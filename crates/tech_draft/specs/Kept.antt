@@ -1,10 +1,10 @@
 -- What every draft keeps.
-use Rattle.std.specs.Prelude.{◌≡◌, ◌≤◌, ℕ, List, length, IsTrue}
+use Rattle.std.specs.Prelude.{◌≡◌, ◌≤◌, ℕ, List, length}
 use Rattle.tech_model.specs.LayerWords.{layer_in}
 use Rattle.tech_model.specs.Types.{layer_named}
+use Rattle.tech_model.specs.declared.limits.TheConstants.{MOST_PLANES, MOST_TYPES}
 use Rattle.tech_draft.specs.declared.draft.Draft.TheInside.{Inside}
 use Rattle.tech_draft.specs.Drafts.{Drafted}
-use Rattle.tech_draft.specs.Room.{HasRoom}
 
 -- the lists of a draft's fields
 abbrev pub draft_of : Inside → Drafted
@@ -23,6 +23,12 @@ draft_of inside = record {
   results = inside.results.items;
   capped = inside.capped.items;
 }
+
+-- the tables keep their limits
+pub record HasRoom (draft : Drafted) : Type 0 where
+  pub planes_limit : length draft.raw.planes ≤ MOST_PLANES
+  pub types_limit : length draft.raw.types ≤ MOST_TYPES
+  pub layers_limit : length draft.raw.layers ≤ length draft.raw.types
 
 -- The index has the names of the layers, and the tables keep their limits.
 pub record IsKept (inside : Inside) : Type 0 where

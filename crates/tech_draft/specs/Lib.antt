@@ -1,13 +1,13 @@
-pub mod ContactPlans
 pub mod Drafts
-pub mod Entries
 pub mod Finished
 pub mod Kept
 pub mod Lines
 pub mod ListLines
+pub mod Lookups
 pub mod PairMarks
-pub mod Residues
-pub mod Room
+pub mod Parts
 pub mod SetLines
 pub mod Sound
 pub mod TypeLines
+pub mod WordRules
+pub mod Words

@@ -3,11 +3,12 @@
 --     extract    resist LIST VALUE
 --                cap LIST PER_AREA PER_PERIMETER
 --                fet TYPE LIST NAME SUBSTRATE
-use Rattle.std.specs.Prelude.{◌==◌, ◌&&◌, ◌||◌, not, nat_lt, nat_le, is_some, is_none, unwrap_or, if◌then◌else◌, ℕ, Bool, List, [], ◌∷◌, ◌++◌, length, fold}
-use Rattle.std.specs.Prelude.{position, slice_index_or, slice_set, Option, Some, None, codes}
+use Rattle.std.specs.Prelude.{◌==◌, ◌&&◌, ◌||◌, not, nat_lt, nat_le, if◌then◌else◌, ℕ, Bool, List, [], ◌∷◌, ◌++◌, length, fold}
+use Rattle.std.specs.Prelude.{slice_index_or, slice_set, Option, Some, None, Result, Ok, Err, codes}
 use Rattle.std.specs.List.{list_any, list_all}
 use Rattle.std.specs.Str.{bytes_eq}
 use Rattle.text_scan.specs.PlainNames.{is_plain_name}
+use Rattle.text_form.specs.SaidLines.{and_then}
 use Rattle.tech_model.specs.declared.raw.TypeId.{TypeId}
 use Rattle.tech_model.specs.declared.raw.ClassRec.{ClassRec}
 use Rattle.tech_model.specs.declared.raw.FetRule.{FetRule}
@@ -15,22 +16,16 @@ use Rattle.tech_model.specs.declared.raw.RawTech.{RawTech}
 use Rattle.tech_model.specs.declared.faults.TechFault.{TechFault}
 use Rattle.tech_model.specs.declared.faults.TechFault.TheVariants.{BadForm, Twice, TooMany}
 use Rattle.tech_model.specs.declared.faults.Table.TheVariants.{Classes, Fets}
-use Rattle.tech_model.specs.Forms.{is_naming_label}
-use Rattle.std.specs.Option.{option_or}
-use Rattle.tech_model.specs.Types.{type_number, plane_of}
-use Rattle.tech_draft.specs.Drafts.{Drafted}
-use Rattle.tech_draft.specs.Entries.{pieces_of, name_part, is_entry, is_entry_list, entry_types, entries_fault, types_of_list, has_type, measure_of, fault_if}
-use Rattle.tech_draft.specs.Entries.{first_where}
 use Rattle.tech_model.specs.declared.limits.TheConstants.{MOST_CLASSES, MOST_FETS}
+use Rattle.tech_model.specs.Forms.{is_naming_label}
+use Rattle.tech_model.specs.Types.{plane_of}
+use Rattle.tech_draft.specs.Drafts.{Drafted}
+use Rattle.tech_draft.specs.Words.{two_words, three_words, four_words, is_entry, is_entry_list, pieces_of, name_part, measure_in}
+use Rattle.tech_draft.specs.Lookups.{entry_types, has_type, types_of_list, type_of_word, class_of}
+use Rattle.tech_draft.specs.WordRules.{refuse, check_entries}
+use Rattle.tech_draft.specs.declared.draft.word_rules.WordRule.TheVariants.{Classed}
 
-abbrev pub pairs_fault : Drafted → List ℕ → List ℕ → Option TechFault
-pairs_fault draft first second =
-    option_or (fault_if (not (is_entry_list first) || not (is_entry_list second)) BadForm)
-    (entries_fault draft.raw (pieces_of first ++ pieces_of second))
-
-unfoldable pub connect_fault : Drafted → List (List ℕ) → Option TechFault
-connect_fault draft (first ∷ second ∷ []) = pairs_fault draft first second
-connect_fault draft _ = Some BadForm
+-- ---- pairs
 
 abbrev pub has_pair : List (TypeId × TypeId) → TypeId → TypeId → Bool
 has_pair pairs s t = list_any (λ pair. pair.0.0 == s.0 && pair.1.0 == t.0) pairs
@@ -50,39 +45,39 @@ with_pairs raw firsts seconds = fold (with_partners raw seconds) raw.pairs first
 abbrev pub with_pair_list : Drafted → List (TypeId × TypeId) → Drafted
 with_pair_list draft pairs = record draft { raw = record draft.raw { pairs = pairs } }
 
-abbrev pub with_connect : Drafted → List (List ℕ) → Drafted
-with_connect draft (first ∷ second ∷ []) =
-    with_pair_list draft (with_pairs draft.raw (types_of_list draft.raw first) (types_of_list draft.raw second))
-with_connect draft _ = draft
+abbrev pub connected : Drafted → List ℕ → List ℕ → Result Drafted TechFault
+connected draft first second =
+    if not (is_entry_list first) || not (is_entry_list second)
+    then Err BadForm
+    else and_then (check_entries draft.raw (pieces_of first ++ pieces_of second))
+    (λ _. Ok (with_pair_list draft (with_pairs draft.raw (types_of_list draft.raw first) (types_of_list draft.raw second))))
 
--- the number of the class that the type belongs to, from 0
-abbrev pub class_of : RawTech → TypeId → Option ℕ
-class_of raw t = position (λ class. has_type class.types t) raw.classes
+unfoldable pub connect_line : Drafted → List (List ℕ) → Result Drafted TechFault
+connect_line draft words = and_then (two_words words) (λ line. connected draft line.0 line.1)
 
--- a type of the entry is in a class
-unfoldable pub has_class : RawTech → List ℕ → Bool
-has_class raw entry = list_any (λ t. is_some (class_of raw t)) (entry_types raw entry)
-
-abbrev pub new_class_fault : Drafted → List ℕ → List ℕ → Option TechFault
-new_class_fault draft list value =
-    option_or (fault_if (not (is_entry_list list) || is_none (measure_of value)) BadForm)
-    (option_or (entries_fault draft.raw (pieces_of list))
-    (option_or (first_where (has_class draft.raw) (λ entry. Twice (name_part entry)) (pieces_of list))
-    (fault_if (nat_le MOST_CLASSES (length draft.raw.classes)) (TooMany Classes))))
-
-unfoldable pub resist_fault : Drafted → List (List ℕ) → Option TechFault
-resist_fault draft (list ∷ value ∷ []) = new_class_fault draft list value
-resist_fault draft _ = Some BadForm
+-- ---- classes
 
 abbrev pub class_with : List TypeId → ℕ → ClassRec
 class_with types value = record { value = value; per_area = 0; per_perimeter = 0; types = types }
 
-abbrev pub with_types_class : Drafted → List TypeId → ℕ → Drafted
-with_types_class draft types value = record draft { raw = record draft.raw { classes = draft.raw.classes ++ class_with types value ∷ [] } }
+abbrev pub with_class : Drafted → List TypeId → ℕ → Drafted
+with_class draft types value = record draft { raw = record draft.raw { classes = draft.raw.classes ++ class_with types value ∷ [] } }
 
-abbrev pub with_class : Drafted → List (List ℕ) → Drafted
-with_class draft (list ∷ value ∷ []) = with_types_class draft (types_of_list draft.raw list) (unwrap_or (measure_of value) 0)
-with_class draft _ = draft
+-- no type is in two classes
+abbrev pub new_class : Drafted → List ℕ → ℕ → Result Drafted TechFault
+new_class draft list value =
+    if not (is_entry_list list)
+    then Err BadForm
+    else and_then (check_entries draft.raw (pieces_of list)) (λ _.
+    and_then (refuse draft.raw Classed (pieces_of list)) (λ _.
+    if nat_le MOST_CLASSES (length draft.raw.classes)
+    then Err (TooMany Classes)
+    else Ok (with_class draft (types_of_list draft.raw list) value)))
+
+unfoldable pub resist_line : Drafted → List (List ℕ) → Result Drafted TechFault
+resist_line draft words = and_then (two_words words) (λ line. and_then (measure_in line.1) (new_class draft line.0))
+
+-- ---- capacitances
 
 abbrev pub no_class : ClassRec
 no_class = record { value = 0; per_area = 0; per_perimeter = 0; types = [] }
@@ -99,32 +94,20 @@ abbrev pub shared_class : RawTech → List TypeId → Option ℕ
 shared_class raw [] = None
 shared_class raw (t ∷ types) = if_holding raw types (class_of raw t)
 
-unfoldable pub class_of_list : RawTech → List ℕ → Option ℕ
-class_of_list raw list = shared_class raw (types_of_list raw list)
-
 abbrev pub first_entry : List ℕ → List ℕ
 first_entry list = slice_index_or (pieces_of list) 0 []
 
 abbrev pub is_capped : Drafted → ℕ → Bool
 is_capped draft class = list_any (λ capped. capped == class) draft.capped
 
--- no class has all types of the list, or it has a `cap` line
-abbrev pub capped_fault : Drafted → List ℕ → Option ℕ → Option TechFault
-capped_fault draft list None = Some BadForm
-capped_fault draft list (Some class) = fault_if (is_capped draft class) (Twice (name_part (first_entry list)))
-
-abbrev pub capacitance_fault : Drafted → List ℕ → List ℕ → List ℕ → Option TechFault
-capacitance_fault draft list per_area per_perimeter =
-    option_or (fault_if (not (is_entry_list list) || is_none (measure_of per_area) || is_none (measure_of per_perimeter)) BadForm)
-    (option_or (entries_fault draft.raw (pieces_of list)) (capped_fault draft list (class_of_list draft.raw list)))
-
-unfoldable pub cap_fault : Drafted → List (List ℕ) → Option TechFault
-cap_fault draft (list ∷ per_area ∷ per_perimeter ∷ []) = capacitance_fault draft list per_area per_perimeter
-cap_fault draft _ = Some BadForm
+-- a class has one `cap` line
+abbrev pub uncapped : Drafted → List ℕ → Option ℕ → Result ℕ TechFault
+uncapped draft list None = Err BadForm
+uncapped draft list (Some class) = if is_capped draft class then Err (Twice (name_part (first_entry list))) else Ok class
 
 -- the class has these numbers
 abbrev pub with_capacitance : Drafted → ℕ → ℕ → ℕ → Drafted
-with_capacitance draft class per_area per_perimeter =
+with_capacitance draft per_area per_perimeter class =
     record draft {
       raw = record draft.raw {
         classes = slice_set draft.raw.classes class
@@ -133,60 +116,58 @@ with_capacitance draft class per_area per_perimeter =
       capped = draft.capped ++ class ∷ [];
     }
 
-abbrev pub with_cap : Drafted → List (List ℕ) → Drafted
-with_cap draft (list ∷ per_area ∷ per_perimeter ∷ []) =
-    with_capacitance draft (unwrap_or (class_of_list draft.raw list) 0) (unwrap_or (measure_of per_area) 0) (unwrap_or (measure_of per_perimeter) 0)
-with_cap draft _ = draft
+abbrev pub new_capacitance : Drafted → List ℕ → ℕ → ℕ → Result Drafted TechFault
+new_capacitance draft list per_area per_perimeter =
+    if not (is_entry_list list)
+    then Err BadForm
+    else and_then (check_entries draft.raw (pieces_of list)) (λ _.
+    and_then (uncapped draft list (shared_class draft.raw (types_of_list draft.raw list)))
+    (λ class. Ok (with_capacitance draft per_area per_perimeter class)))
 
--- the type that the word means
-abbrev pub fet_type : RawTech → List ℕ → TypeId
-fet_type raw kind = slice_index_or (entry_types raw kind) 0 (type_number 0)
+unfoldable pub cap_line : Drafted → List (List ℕ) → Result Drafted TechFault
+cap_line draft words =
+    and_then (three_words words) (λ line.
+    and_then (measure_in line.1) (λ per_area. and_then (measure_in line.2) (new_capacitance draft line.0 per_area)))
+
+-- ---- transistors
 
 abbrev pub is_fet_form : List ℕ → List ℕ → List ℕ → List ℕ → Bool
 is_fet_form kind list name substrate =
     is_entry kind && is_entry_list list && is_plain_name name && is_naming_label substrate
 
--- a transistor's type is one type, and has one rule
-abbrev pub fet_type_fault : Drafted → List ℕ → Option TechFault
-fet_type_fault draft kind =
-    option_or (fault_if (nat_lt 1 (length (entry_types draft.raw kind))) BadForm)
-    (option_or (fault_if (list_any (λ fet. fet.kind.0 == (fet_type draft.raw kind).0) draft.raw.fets) (Twice (name_part kind)))
-    (fault_if (nat_le MOST_FETS (length draft.raw.fets)) (TooMany Fets)))
-
-abbrev pub new_fet_fault : Drafted → List ℕ → List ℕ → List ℕ → List ℕ → Option TechFault
-new_fet_fault draft kind list name substrate =
-    option_or (fault_if (not (is_fet_form kind list name substrate)) BadForm)
-    (option_or (entries_fault draft.raw (kind ∷ pieces_of list)) (fet_type_fault draft kind))
-
-unfoldable pub fet_fault : Drafted → List (List ℕ) → Option TechFault
-fet_fault draft (kind ∷ list ∷ name ∷ substrate ∷ []) = new_fet_fault draft kind list name substrate
-fet_fault draft _ = Some BadForm
+abbrev pub has_fet : RawTech → TypeId → Bool
+has_fet raw t = list_any (λ fet. fet.kind.0 == t.0) raw.fets
 
 abbrev pub with_rule : Drafted → FetRule → Drafted
 with_rule draft fet = record draft { raw = record draft.raw { fets = draft.raw.fets ++ fet ∷ [] } }
 
 abbrev pub fet_with : RawTech → List ℕ → List ℕ → List ℕ → List ℕ → FetRule
 fet_with raw kind list name substrate =
-    record { kind = fet_type raw kind; terminals = types_of_list raw list; name = name; substrate = substrate }
+    record { kind = type_of_word raw kind; terminals = types_of_list raw list; name = name; substrate = substrate }
 
-abbrev pub with_fet : Drafted → List (List ℕ) → Drafted
-with_fet draft (kind ∷ list ∷ name ∷ substrate ∷ []) = with_rule draft (fet_with draft.raw kind list name substrate)
-with_fet draft _ = draft
+-- a transistor's type is one type, and has one rule
+abbrev pub check_fet : RawTech → List ℕ → Result (Unit {0}) TechFault
+check_fet raw kind =
+    if nat_lt 1 (length (entry_types raw kind)) then Err BadForm
+    else if has_fet raw (type_of_word raw kind) then Err (Twice (name_part kind))
+    else if nat_le MOST_FETS (length raw.fets) then Err (TooMany Fets)
+    else Ok tt
 
--- what the first word of a line of `extract` says that the line is
-unfoldable pub extract_fault : Drafted → List (List ℕ) → Option TechFault
-extract_fault draft [] = None
-extract_fault draft (key ∷ words) =
-    if bytes_eq key (codes "resist") then resist_fault draft words
-    else if bytes_eq key (codes "cap") then cap_fault draft words
-    else if bytes_eq key (codes "fet") then fet_fault draft words
-    else None
+abbrev pub new_fet : Drafted → List ℕ → List ℕ → List ℕ → List ℕ → Result Drafted TechFault
+new_fet draft kind list name substrate =
+    if not (is_fet_form kind list name substrate)
+    then Err BadForm
+    else and_then (check_entries draft.raw (kind ∷ pieces_of list)) (λ _.
+    and_then (check_fet draft.raw kind) (λ _. Ok (with_rule draft (fet_with draft.raw kind list name substrate))))
 
--- other lines of `extract` add nothing
-unfoldable pub with_extract : Drafted → List (List ℕ) → Drafted
-with_extract draft [] = draft
-with_extract draft (key ∷ words) =
-    if bytes_eq key (codes "resist") then with_class draft words
-    else if bytes_eq key (codes "cap") then with_cap draft words
-    else if bytes_eq key (codes "fet") then with_fet draft words
-    else draft
+unfoldable pub fet_line : Drafted → List (List ℕ) → Result Drafted TechFault
+fet_line draft words = and_then (four_words words) (λ line. new_fet draft line.0 line.1 line.2 line.3)
+
+-- what the first word of a line of `extract` says that the line is: other lines add nothing
+unfoldable pub extract_line : Drafted → List (List ℕ) → Result Drafted TechFault
+extract_line draft [] = Ok draft
+extract_line draft (key ∷ words) =
+    if bytes_eq key (codes "resist") then resist_line draft words
+    else if bytes_eq key (codes "cap") then cap_line draft words
+    else if bytes_eq key (codes "fet") then fet_line draft words
+    else Ok draft

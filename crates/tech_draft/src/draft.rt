@@ -1,22 +1,23 @@
 //! A technology as far as the lines of its text were read.
-ghost use Rattle.std.specs.Prelude.{◌≡◌, ◌≢◌, ◌↔◌, ◌-◌, ◌&&◌, nat_le, if◌then◌else◌, [], length, fold, slice_set, slice_index_or, Ok, Err, OnOk, IfErr, IsTrue};
-ghost use Rattle.tech_model.specs.Types.{no_type};
+ghost use Rattle.std.specs.Prelude.{◌≡◌, ◌≢◌, ◌-◌, ◌&&◌, nat_le, if◌then◌else◌, [], length, find, map, ◌↔◌, slice_set, slice_index_or, Ok, Err, OnOk, IfOk, IfErr, IsTrue};
 ghost use Rattle.text_scan.specs.Words.{words_of};
+ghost use Rattle.text_scan.specs.PlainNames.{is_plain_name};
 ghost use Rattle.tech_model.specs.declared.faults.TechFault.TheVariants.{Memory};
+ghost use Rattle.tech_model.specs.Types.{no_type};
+ghost use Rattle.tech_model.specs.WellFormed.{IsWellFormed};
 ghost use Rattle.tech_draft.specs.Drafts.{empty_draft};
 ghost use Rattle.tech_draft.specs.Lines.{line_in};
-ghost use Rattle.text_scan.specs.PlainNames.{is_plain_name};
-ghost use Rattle.tech_model.specs.WellFormed.{IsWellFormed};
-ghost use Rattle.tech_draft.specs.Finished.{finished, with_residue};
+ghost use Rattle.tech_draft.specs.Finished.{is_residue_of, residue_parts, finished_type, finished};
 ghost use Rattle.tech_draft.specs.Sound.{IsSound};
 
 use self::pair_list::PairList;
-use crate::words::words_of;
+use crate::words::push;
 use geo_core::{List, Name};
 use std::alloc::Global;
 use std::marker::Model;
 use tech_model::{
-    ClassRec, FetRule, LayerIndex, LayerRec, PartSet, RawTech, Section, TechFault, TypeId, TypeRec,
+    ClassRec, FetRule, LayerId, LayerIndex, LayerRec, PartSet, RawTech, Section, TechFault, TypeId,
+    TypeRec,
 };
 
 mod list_lines;
@@ -24,6 +25,7 @@ mod lookups;
 mod pair_list;
 mod set_lines;
 mod type_lines;
+mod word_rules;
 
 /// A technology as far as the lines of its text were read.
 #[derive(Drop)]
@@ -37,7 +39,7 @@ pub struct Draft {
     pairs: PairList,
     classes: Vec<ClassRec>,
     fets: Vec<FetRule>,
-    residues: Vec<(TypeId, TypeId)>,
+    residues: Vec<(LayerId, TypeId)>,
     used: Vec<TypeId>,
     results: Vec<TypeId>,
     capped: Vec<usize>,
@@ -84,60 +86,74 @@ impl Draft {
         !self.name.bytes().is_empty()
     }
 
-    /// Reads a line of the section. After an `Err` the draft is not to be used again: it has all or none of
-    /// what was read, or is empty.
+    /// Reads a line of the section. Words are read where they stand, and copied only where they are kept.
+    ///
+    /// # Errors
+    ///
+    /// The first rule that the line breaks, or want of memory. The draft is not to be used again then.
     pub fn read_line(&mut self, section: Section, line: &[u8]) -> Result<(), TechFault>
         ensures read { OnOk result (line_in section self.old (words_of line.now) ≡ Ok self.new) }
         ensures refused { IfErr result (λ fault. fault ≢ Memory
             → line_in section self.old (words_of line.now) ≡ Err fault) }
-        ensures named { self.old.raw.name ≢ [] → OnOk result (self.new.raw.name ≢ []) }
         ensures sound { IsSound self.old → OnOk result (IsSound self.new) }
     {
-        let words = words_of(self.alloc, line)?;
-        self.read_words(section, &words)
+        self.read_in(section, line)
     }
 
-    fn read_words(&mut self, section: Section, words: &[Name]) -> Result<(), TechFault>
-        ensures read { OnOk result (line_in section self.old words.now ≡ Ok self.new) }
-        ensures refused { IfErr result (λ fault. fault ≢ Memory → line_in section self.old words.now ≡ Err fault) }
+    #[tactic(auto, unfolding(crate::specs::Lines::line_in))]
+    fn read_in(&mut self, section: Section, line: &[u8]) -> Result<(), TechFault>
+        ensures read { OnOk result (line_in section self.old (words_of line.now) ≡ Ok self.new) }
+        ensures refused { IfErr result (λ fault. fault ≢ Memory
+            → line_in section self.old (words_of line.now) ≡ Err fault) }
     {
         match section {
-            Section::Tech => self.read_name(words),
-            Section::Planes => self.read_plane(words),
-            Section::Types => self.read_type(words),
-            Section::Contact => self.read_contact(words),
-            Section::Compose => self.read_compose(words),
-            Section::Connect => self.read_connect(words),
-            Section::Extract => self.read_extract(words),
+            Section::Tech => self.read_name(line),
+            Section::Planes => self.read_plane(line),
+            Section::Types => self.read_type(line),
+            Section::Contact => self.read_contact(line),
+            Section::Compose => self.read_compose(line),
+            Section::Connect => self.read_connect(line),
+            Section::Extract => self.read_extract(line),
         }
     }
 
     /// The technology of the lines: each image of a contact has the set of its residue and the mark. The lists of
     /// a sound draft with a name fit together.
-    pub fn into_raw(self) -> RawTech
-        ensures value { result ≡ finished self }
-        ensures well_formed { IsSound self → IsTrue (is_plain_name self.raw.name) → IsWellFormed result }
+    ///
+    /// # Errors
+    ///
+    /// Want of memory.
+    pub fn into_raw(self) -> Result<RawTech, TechFault>
+        ensures value { IfOk result (λ raw. raw ≡ finished self) }
+        ensures well_formed { IsSound self → IsTrue (is_plain_name self.raw.name) → IfOk result IsWellFormed }
+        ensures only_memory { IfErr result (λ fault. fault ≡ Memory) }
     {
         self.finish()
     }
 
-    // Puts the sets of residues to those of the images.
     #[tactic(auto, unfolding(crate::specs::Finished::finished))]
-    fn finish(self) -> RawTech
-        ensures { result ≡ finished self }
+    fn finish(self) -> Result<RawTech, TechFault>
+        ensures value { IfOk result (λ raw. raw ≡ finished self) }
+        ensures only_memory { IfErr result (λ fault. fault ≡ Memory) }
+    {
+        let types = self.finished_types()?;
+        Ok(self.with_types(types))
+    }
+
+    // The technology of these types and of the other lists.
+    fn with_types(self, types: Vec<TypeRec>) -> RawTech
+        ensures { result ≡ record self.raw { types = types.items } }
     {
         let Draft {
             name,
             planes,
             layers,
-            types,
             pairs,
             classes,
             fets,
-            residues,
             ..
         } = self;
-        let mut raw = RawTech {
+        RawTech {
             name,
             planes: List::of(planes),
             layers: List::of(layers),
@@ -145,28 +161,41 @@ impl Draft {
             pairs: List::of(pairs.into_items()),
             classes: List::of(classes),
             fets: List::of(fets),
+        }
+    }
+
+    fn finished_types(&self) -> Result<Vec<TypeRec>, TechFault>
+        ensures ok { IfOk result (λ types. types.items ≡ map (finished_type self.now) self.now.raw.types) }
+        ensures only_memory { IfErr result (λ fault. fault ≡ Memory) }
+    {
+        let mut types = Vec::new(self.alloc);
+        for kind in &self.types {
+            push(&mut types, self.finished_type(kind))?;
+        }
+        Ok(types)
+    }
+
+    // The type with the set of its residue too, where it has one.
+    fn finished_type(&self, kind: &TypeRec) -> TypeRec
+        ensures { result ≡ finished_type self.now kind.now }
+    {
+        let residue = match self.residue_of(kind) {
+            Some(pair) => self.parts_of(pair.1),
+            None => 0,
         };
-        add_residues(&mut raw, &residues);
-        raw
+        TypeRec {
+            plane: kind.plane,
+            layer: kind.layer,
+            parts: PartSet(kind.parts.0 | residue),
+        }
     }
-}
 
-// Gives each image the set of its residue too.
-fn add_residues(raw: &mut RawTech, residues: &[(TypeId, TypeId)])
-    ensures { raw.new ≡ fold with_residue raw.old residues.now }
-{
-    for &pair in residues {
-        add_residue(raw, pair);
+    fn residue_of(&self, kind: &TypeRec) -> Option<(LayerId, TypeId)>
+        ensures { result ≡ find (is_residue_of self.now.raw kind.now) self.now.residues }
+    {
+        self.residues.iter().copied().find(|pair| pair.0.0 == kind.layer.0
+            && self.plane_of(pair.1) == kind.plane)
     }
-}
-
-fn add_residue(raw: &mut RawTech, pair: (TypeId, TypeId))
-    ensures { raw.new ≡ with_residue raw.old pair }
-{
-    let (image, residue) = pair;
-    let types = raw.types.items_mut();
-    let parts = parts_in(types, image) | parts_in(types, residue);
-    set_parts(types, image, PartSet(parts));
 }
 
 /// The set of a type of these, the empty set for space.

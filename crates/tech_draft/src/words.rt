@@ -1,18 +1,19 @@
 //! Words of a technology's lines, and their forms.
-ghost use Rattle.std.specs.Prelude.{MatchOption, ◌<◌, length, ◌≡◌, ◌++◌, [], ◌∷◌, position, IfOk, IfErr, OnOk, OnErr};
-ghost use Rattle.tech_model.specs.declared.faults.TechFault.TheVariants.{Memory};
+ghost use Rattle.std.specs.Prelude.{◌≡◌, ◌++◌, [], ◌∷◌, position, Ok, Err, IfOk, IfErr, OnOk, OnErr};
 ghost use Rattle.std.specs.List.{list_any, list_all};
-ghost use Rattle.text_scan.specs.Words.{words_of};
-ghost use Rattle.tech_model.specs.Forms.{is_label_byte, ends_in_hash, is_naming_label, is_layer_name, reserved_words};
-ghost use Rattle.tech_draft.specs.Entries.{is_comma, is_slash, is_odd_byte, has_slash, has_odd_byte, is_word_byte, is_wording, name_part, plane_part};
-ghost use Rattle.tech_draft.specs.Entries.{is_entry, pieces_of, is_entry_list, measure_of};
-ghost use Rattle.tech_draft.specs.SetLines.{is_expression, is_expression_byte, is_layer_word};
 ghost use Rattle.std.specs.Str.{bytes_eq};
+ghost use Rattle.text_scan.specs.Words.{words_of};
+ghost use Rattle.tech_model.specs.declared.faults.TechFault.TheVariants.{Memory};
+ghost use Rattle.tech_model.specs.Forms.{is_label_byte, ends_in_hash, is_naming_label, is_layer_name, reserved_words};
+ghost use Rattle.tech_draft.specs.Parts.{parts_in};
+ghost use Rattle.tech_draft.specs.Words.{one_word, two_words, three_words, four_words, has_three_words, is_slash, is_operator};
+ghost use Rattle.tech_draft.specs.Words.{has_slash, has_operator, name_part, plane_part, has_name_length, is_term_byte, is_term};
+ghost use Rattle.tech_draft.specs.Words.{is_entry, is_layer_term_byte, is_layer_term, has_form, is_entry_list, measure_in};
 
-use geo_core::Name;
-use std::alloc::{AllocError, Global};
+use crate::parts::{Parted, each_part};
+use std::alloc::AllocError;
 use tech_model::{LARGEST_MEASURE, LONGEST_LABEL, TechFault};
-use text_scan::{is_plain_byte, is_plain_name, number, words};
+use text_scan::{LONGEST_NAME, is_plain_byte, is_plain_name, number, words};
 
 /// Puts an item at the end. Where it is refused, the items are as before.
 pub(crate) fn push<T: Drop>(items: &mut Vec<T>, item: T) -> Result<(), TechFault>
@@ -26,62 +27,71 @@ pub(crate) fn push<T: Drop>(items: &mut Vec<T>, item: T) -> Result<(), TechFault
     }
 }
 
-/// The words of a line.
-pub(crate) fn words_of(alloc: Global, line: &[u8]) -> Result<Vec<Name>, TechFault>
-    ensures ok { IfOk result (λ copies. copies.items ≡ words_of line.now) }
-    ensures only_memory { IfErr result (λ fault. fault ≡ Memory) }
+/// The word of a line that has one.
+pub(crate) fn one_word(line: &[u8]) -> Result<&[u8], TechFault>
+    ensures ok { IfOk result (λ word. one_word (words_of line.now) ≡ Ok word.now) }
+    ensures err { IfErr result (λ fault. one_word (words_of line.now) ≡ Err fault) }
 {
-    let mut copies = Vec::new(alloc);
-    for word in words(line) {
-        push(&mut copies, Name::of(alloc, word)?)?;
+    let mut rest = words(line);
+    match (rest.next(), rest.next()) {
+        (Some(word), None) => Ok(word),
+        _ => Err(TechFault::BadForm),
     }
-    Ok(copies)
 }
 
-/// The pieces of a comma list.
-pub(crate) fn pieces_of(alloc: Global, list: &[u8]) -> Result<Vec<Name>, TechFault>
-    ensures ok { IfOk result (λ pieces. pieces.items ≡ pieces_of list.now) }
-    ensures only_memory { IfErr result (λ fault. fault ≡ Memory) }
+/// The words of a line that has two.
+pub(crate) fn two_words(line: &[u8]) -> Result<(&[u8], &[u8]), TechFault>
+    ensures ok { IfOk result (λ found. two_words (words_of line.now) ≡ Ok (found.0.now, found.1.now)) }
+    ensures err { IfErr result (λ fault. two_words (words_of line.now) ≡ Err fault) }
 {
-    let mut pieces = Vec::new(alloc);
-    append_pieces(alloc, &mut pieces, list)?;
-    Ok(pieces)
+    let mut rest = words(line);
+    match (rest.next(), rest.next(), rest.next()) {
+        (Some(first), Some(second), None) => Ok((first, second)),
+        _ => Err(TechFault::BadForm),
+    }
 }
 
-/// Puts the pieces of a comma list at the end.
-pub(crate) fn append_pieces(
-    alloc: Global,
-    pieces: &mut Vec<Name>,
-    list: &[u8],
-) -> Result<(), TechFault>
-    ensures ok { OnOk result (pieces.new.items ≡ pieces.old.items ++ pieces_of list.now) }
-    ensures only_memory { IfErr result (λ fault. fault ≡ Memory) }
+/// The words of a line that has three.
+pub(crate) fn three_words(line: &[u8]) -> Result<(&[u8], &[u8], &[u8]), TechFault>
+    ensures ok { IfOk result (λ found. three_words (words_of line.now) ≡ Ok (found.0.now, found.1.now, found.2.now)) }
+    ensures err { IfErr result (λ fault. three_words (words_of line.now) ≡ Err fault) }
 {
-    let mut rest = list;
-    loop {
-        let (piece, more) = split_piece(rest);
-        push(pieces, Name::of(alloc, piece)?)?;
-        match more {
-            Some(more) => rest = more,
-            None => return Ok(()),
+    let mut rest = words(line);
+    match (rest.next(), rest.next(), rest.next(), rest.next()) {
+        (Some(first), Some(second), Some(third), None) => Ok((first, second, third)),
+        _ => Err(TechFault::BadForm),
+    }
+}
+
+/// The words of a line that has four.
+pub(crate) fn four_words(line: &[u8]) -> Result<(&[u8], &[u8], &[u8], &[u8]), TechFault>
+    ensures ok { IfOk result (λ found.
+        four_words (words_of line.now) ≡ Ok (found.0.now, found.1.now, found.2.now, found.3.now)) }
+    ensures err { IfErr result (λ fault. four_words (words_of line.now) ≡ Err fault) }
+{
+    let mut rest = words(line);
+    match (
+        rest.next(),
+        rest.next(),
+        rest.next(),
+        rest.next(),
+        rest.next(),
+    ) {
+        (Some(first), Some(second), Some(third), Some(fourth), None) => {
+            Ok((first, second, third, fourth))
         }
+        _ => Err(TechFault::BadForm),
     }
 }
 
-fn comma_at(list: &[u8]) -> Option<usize>
-    ensures { result ≡ position is_comma list.now }
+/// Whether a line has three words or more.
+pub(crate) fn has_three_words(line: &[u8]) -> bool
+    ensures { result ≡ has_three_words (words_of line.now) }
 {
-    list.iter().position(|&byte| byte == b',')
-}
-
-// The first piece, and what follows its comma where it has one.
-fn split_piece(list: &[u8]) -> (&[u8], Option<&[u8]>)
-    ensures { MatchOption result.1 (pieces_of list.now ≡ result.0.now ∷ [])
-        (λ rest. (pieces_of list.now ≡ result.0.now ∷ pieces_of rest.now) × (length rest.now < length list.now)) }
-{
-    match comma_at(list) {
-        Some(end) => (&list[..end], Some(&list[end + 1..])),
-        None => (list, None),
+    let mut rest = words(line);
+    match (rest.next(), rest.next(), rest.next()) {
+        (Some(_), Some(_), Some(_)) => true,
+        _ => false,
     }
 }
 
@@ -91,69 +101,43 @@ pub(crate) fn has_slash(word: &[u8]) -> bool
     word.iter().any(|&byte| byte == b'/')
 }
 
-fn is_odd_byte(byte: u8) -> bool
-    ensures { result ≡ is_odd_byte byte }
+fn is_operator(byte: u8) -> bool
+    ensures { result ≡ is_operator byte }
 {
     byte == b'*' || byte == b'~' || byte == b'(' || byte == b')'
 }
 
-/// Whether a byte of an expression over types stands in the word.
-pub(crate) fn has_odd_byte(word: &[u8]) -> bool
-    ensures { result ≡ has_odd_byte word.now }
+/// Whether an operator of expressions over types stands in the word.
+pub(crate) fn has_operator(word: &[u8]) -> bool
+    ensures { result ≡ has_operator word.now }
 {
-    word.iter().any(|&byte| is_odd_byte(byte))
+    word.iter().any(|&byte| is_operator(byte))
 }
 
-fn is_word_byte(byte: u8) -> bool
-    ensures { result ≡ is_word_byte byte }
+fn has_name_length(word: &[u8]) -> bool
+    ensures { result ≡ has_name_length word.now }
 {
-    is_plain_byte(byte) || is_odd_byte(byte)
+    let length = word.len();
+    1 <= length && length <= LONGEST_NAME
 }
 
-fn has_word_bytes(word: &[u8]) -> bool
-    ensures { result ≡ list_all is_word_byte word.now }
+fn is_term_byte(byte: u8) -> bool
+    ensures { result ≡ is_term_byte byte }
 {
-    word.iter().all(|&byte| is_word_byte(byte))
+    is_plain_byte(byte) || is_operator(byte)
 }
 
-// Whether a word may stand in the place of a name: it is one, or an expression.
-fn is_wording(word: &[u8]) -> bool
-    ensures { result ≡ is_wording word.now }
+fn has_term_bytes(word: &[u8]) -> bool
+    ensures { result ≡ list_all is_term_byte word.now }
 {
-    if has_odd_byte(word) {
-        has_word_bytes(word)
-    } else {
-        is_plain_name(word)
-    }
+    word.iter().all(|&byte| is_term_byte(byte))
 }
 
-fn is_expression_byte(byte: u8) -> bool
-    ensures { result ≡ is_expression_byte byte }
+// Whether a word may stand in the place of a name: it is one, or an expression as long as one.
+fn is_term(word: &[u8]) -> bool
+    ensures { result ≡ is_term word.now }
 {
-    is_word_byte(byte) || byte == b'/'
-}
-
-fn has_expression_bytes(word: &[u8]) -> bool
-    ensures { result ≡ list_all is_expression_byte word.now }
-{
-    word.iter().all(|&byte| is_expression_byte(byte))
-}
-
-/// Whether a word may stand in the place of a layer's name: it is a name, or an expression.
-pub(crate) fn is_layer_word(word: &[u8]) -> bool
-    ensures { result ≡ is_layer_word word.now }
-{
-    if is_expression(word) {
-        has_expression_bytes(word)
-    } else {
-        is_plain_name(word)
-    }
-}
-
-pub(crate) fn is_expression(word: &[u8]) -> bool
-    ensures { result ≡ is_expression word.now }
-{
-    has_odd_byte(word) || has_slash(word)
+    has_name_length(word) && has_term_bytes(word)
 }
 
 fn slash_at(entry: &[u8]) -> Option<usize>
@@ -177,24 +161,26 @@ pub(crate) fn is_entry(entry: &[u8]) -> bool
     ensures { result ≡ is_entry entry.now }
 {
     let (name, plane) = parts_of_entry(entry);
-    is_wording(name) && (!has_slash(entry) || is_wording(plane))
+    is_term(name) && (!has_slash(entry) || is_term(plane))
 }
 
-/// Whether each piece is an entry.
-pub(crate) fn are_entries(pieces: &[Name]) -> bool
-    ensures { result ≡ list_all is_entry pieces.now }
+fn is_layer_term_byte(byte: u8) -> bool
+    ensures { result ≡ is_layer_term_byte byte }
 {
-    pieces.iter().all(|piece| is_entry(piece.bytes()))
+    is_term_byte(byte) || byte == b'/'
 }
 
-/// The number from 0 to `LARGEST_MEASURE` that the word writes.
-pub(crate) fn measure_of(word: &[u8]) -> Option<u64>
-    ensures { result ≡ measure_of word.now }
+fn has_layer_term_bytes(word: &[u8]) -> bool
+    ensures { result ≡ list_all is_layer_term_byte word.now }
 {
-    match number(word) {
-        Ok(value) if 0 <= value && value as u64 <= LARGEST_MEASURE => Some(value as u64),
-        _ => None,
-    }
+    word.iter().all(|&byte| is_layer_term_byte(byte))
+}
+
+// Whether a word may stand in the place of a layer's name: it is one, or an expression as long as one.
+fn is_layer_term(word: &[u8]) -> bool
+    ensures { result ≡ is_layer_term word.now }
+{
+    has_name_length(word) && has_layer_term_bytes(word)
 }
 
 fn is_reserved(word: &[u8]) -> bool
@@ -210,10 +196,61 @@ fn is_reserved(word: &[u8]) -> bool
         || word == b"properties".as_slice()
 }
 
-pub(crate) fn is_layer_name(word: &[u8]) -> bool
+fn is_layer_name(word: &[u8]) -> bool
     ensures { result ≡ is_layer_name word.now }
 {
     is_plain_name(word) && !is_reserved(word)
+}
+
+/// A form that each of several words may be asked to have.
+#[derive(Clone, Copy)]
+pub(crate) enum WordForm {
+    /// The name or alias of a new layer.
+    LayerName,
+    /// What may stand in the place of a layer's name.
+    LayerTerm,
+    /// What may stand for types, on a plane or on all.
+    Entry,
+}
+
+fn has_form(form: WordForm, word: &[u8]) -> bool
+    ensures { result ≡ has_form form word.now }
+{
+    match form {
+        WordForm::LayerName => is_layer_name(word),
+        WordForm::LayerTerm => is_layer_term(word),
+        WordForm::Entry => is_entry(word),
+    }
+}
+
+/// Whether each part of the text has the form.
+pub(crate) fn all_have(form: WordForm, text: Parted<'_>) -> bool
+    ensures { result ≡ list_all (has_form form) (parts_in text.entry) }
+{
+    for part in each_part(text) {
+        if !has_form(form, part) {
+            return false;
+        }
+    }
+    true
+}
+
+/// Whether each piece of the list is an entry.
+pub(crate) fn is_entry_list(list: &[u8]) -> bool
+    ensures { result ≡ is_entry_list list.now }
+{
+    all_have(WordForm::Entry, Parted::Listed(list))
+}
+
+/// The number from 0 to `LARGEST_MEASURE` that the word writes.
+pub(crate) fn measure_in(word: &[u8]) -> Result<u64, TechFault>
+    ensures ok { IfOk result (λ value. measure_in word.now ≡ Ok value) }
+    ensures err { IfErr result (λ fault. measure_in word.now ≡ Err fault) }
+{
+    match number(word) {
+        Ok(value) if 0 <= value && value as u64 <= LARGEST_MEASURE => Ok(value as u64),
+        _ => Err(TechFault::BadForm),
+    }
 }
 
 fn is_label_byte(byte: u8) -> bool

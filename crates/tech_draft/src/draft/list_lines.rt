@@ -1,51 +1,30 @@
 // Lines of the sections `connect` and `extract`.
-ghost use Rattle.std.specs.Prelude.{is_some, List, slice_index_or, ◌≡◌, ◌≢◌, ◌++◌, ◌==◌, ◌||◌, ◌&&◌, [], ◌∷◌, ℕ, fold, length, take, None, Some, OnOk, IfOk};
-ghost use Rattle.std.specs.Prelude.{IfErr};
+ghost use Rattle.std.specs.Prelude.{◌≡◌, ◌≢◌, ◌==◌, ◌∷◌, length, Ok, Err, OnOk, IfOk, IfErr};
 ghost use Rattle.std.specs.List.{list_any, list_all};
-ghost use Rattle.tech_model.specs.declared.faults.TechFault.TheVariants.{Memory, Twice};
-ghost use Rattle.tech_draft.specs.Entries.{has_type, pieces_of, name_part, types_of_list, first_where};
-ghost use Rattle.tech_model.specs.Types.{type_number};
-ghost use Rattle.tech_draft.specs.ListLines.{pairs_fault, connect_fault, with_pair, with_partners, with_pairs, with_pair_list, with_connect, class_of};
-ghost use Rattle.tech_draft.specs.ListLines.{has_class, new_class_fault, resist_fault, with_types_class, with_class, class_at, shared_class, if_holding};
-ghost use Rattle.tech_draft.specs.ListLines.{class_of_list, capped_fault, capacitance_fault, cap_fault, with_capacitance, with_cap, fet_type, is_fet_form};
-ghost use Rattle.tech_draft.specs.ListLines.{fet_type_fault, new_fet_fault, fet_fault, with_rule, fet_with, with_fet, extract_fault, with_extract};
+ghost use Rattle.text_scan.specs.Words.{words_of};
+ghost use Rattle.tech_model.specs.declared.faults.TechFault.TheVariants.{Memory};
+ghost use Rattle.tech_draft.specs.Lookups.{has_type, types_of_list};
+ghost use Rattle.tech_draft.specs.ListLines.{with_pair, with_partners, with_pairs, with_pair_list, connected, connect_line};
+ghost use Rattle.tech_draft.specs.ListLines.{with_class, new_class, resist_line, class_at, shared_class, is_capped, uncapped};
+ghost use Rattle.tech_draft.specs.ListLines.{with_capacitance, new_capacitance, cap_line, is_fet_form, has_fet, check_fet};
+ghost use Rattle.tech_draft.specs.ListLines.{with_rule, new_fet, fet_line, extract_line};
 
 use super::Draft;
 use super::lookups::has_type;
+use super::word_rules::WordRule;
+use crate::parts::{Parted, first_piece};
 use crate::words::{
-    append_pieces, are_entries, is_entry, is_naming_label, measure_of, parts_of_entry, pieces_of,
-    push,
+    four_words, is_entry, is_entry_list, is_naming_label, measure_in, parts_of_entry, push,
+    three_words, two_words,
 };
 use geo_core::{List, Name};
 use tech_model::{ClassRec, FetRule, MOST_CLASSES, MOST_FETS, Table, TechFault, TypeId};
-use text_scan::is_plain_name;
+use text_scan::{is_plain_name, split_word};
 
-// The first of these, and space where there is none.
-fn first_type(types: &[TypeId]) -> TypeId
-    ensures { result ≡ slice_index_or types.now 0 (type_number 0) }
+fn is_fet_form(kind: &[u8], list: &[u8], name: &[u8], substrate: &[u8]) -> bool
+    ensures { result ≡ is_fet_form kind.now list.now name.now substrate.now }
 {
-    match types.first() {
-        Some(&kind) => kind,
-        None => TypeId(0),
-    }
-}
-
-fn first_of(words: &[Name]) -> &[u8]
-    ensures { result.now ≡ slice_index_or words.now 0 [] }
-{
-    match words.first() {
-        Some(word) => word.bytes(),
-        None => &[],
-    }
-}
-
-fn is_fet_form(kind: &Name, entries: &[Name], name: &Name, substrate: &Name) -> bool
-    ensures { (list : List ℕ) → entries.now ≡ pieces_of list → result ≡ is_fet_form kind.now list name.now substrate.now }
-{
-    is_entry(kind.bytes())
-        && are_entries(entries)
-        && is_plain_name(name.bytes())
-        && is_naming_label(substrate.bytes())
+    is_entry(kind) && is_entry_list(list) && is_plain_name(name) && is_naming_label(substrate)
 }
 
 impl Draft {
@@ -85,109 +64,57 @@ impl Draft {
     }
 
     /// Reads a line of the section `connect`.
-    pub(super) fn read_connect(&mut self, words: &[Name]) -> Result<(), TechFault>
-        ensures passed { OnOk result (connect_fault self.old words.now ≡ None) }
-        ensures read { OnOk result (self.new ≡ with_connect self.old words.now) }
-        ensures refused { IfErr result (λ fault. fault ≢ Memory → connect_fault self.old words.now ≡ Some fault) }
+    #[tactic(auto, unfolding(crate::specs::ListLines::connect_line))]
+    pub(super) fn read_connect(&mut self, line: &[u8]) -> Result<(), TechFault>
+        ensures read { OnOk result (connect_line self.old (words_of line.now) ≡ Ok self.new) }
+        ensures refused { IfErr result (λ fault. fault ≢ Memory → connect_line self.old (words_of line.now) ≡ Err fault) }
     {
-        if words.len() != 2 {
-            return Err(TechFault::BadForm);
-        }
-        self.connect(&words[0], &words[1])
+        let (first, second) = two_words(line)?;
+        self.connect(first, second)
     }
 
-    fn connect(&mut self, first: &Name, second: &Name) -> Result<(), TechFault>
-        ensures passed { OnOk result (pairs_fault self.old first.now second.now ≡ None) }
-        ensures read { OnOk result (self.new ≡ with_connect self.old (first.now ∷ second.now ∷ [])) }
-        ensures refused { IfErr result (λ fault. fault ≢ Memory → pairs_fault self.old first.now second.now ≡ Some fault) }
+    fn connect(&mut self, first: &[u8], second: &[u8]) -> Result<(), TechFault>
+        ensures read { OnOk result (connected self.old first.now second.now ≡ Ok self.new) }
+        ensures refused { IfErr result (λ fault. fault ≢ Memory → connected self.old first.now second.now ≡ Err fault) }
     {
-        let firsts = pieces_of(self.alloc, first.bytes())?;
-        let seconds = pieces_of(self.alloc, second.bytes())?;
-        if !are_entries(&firsts) || !are_entries(&seconds) {
+        if !is_entry_list(first) || !is_entry_list(second) {
             return Err(TechFault::BadForm);
         }
-        let mut entries = pieces_of(self.alloc, first.bytes())?;
-        append_pieces(self.alloc, &mut entries, second.bytes())?;
-        self.check_entries(&entries)?;
-        let firsts = self.types_of_entries(&firsts)?;
-        let seconds = self.types_of_entries(&seconds)?;
+        self.check_entries(Parted::Listed(first), Parted::Listed(second))?;
+        let firsts = self.types_of_list(first)?;
+        let seconds = self.types_of_list(second)?;
         self.add_pairs(&firsts, &seconds)
     }
 
-    // The number of the class that the type belongs to.
-    fn class_of(&self, kind: TypeId) -> Option<usize>
-        ensures { result ≡ class_of self.now.raw kind }
-    {
-        self.classes
-            .iter()
-            .position(|class| has_type(class.types.items(), kind))
-    }
-
-    fn is_any_classed(&self, types: &[TypeId]) -> bool
-        ensures { result ≡ list_any (λ t. is_some (class_of self.now.raw t)) types.now }
-    {
-        types.iter().any(|&kind| self.class_of(kind).is_some())
-    }
-
-    // Whether a type of the entry is in a class.
-    #[tactic(auto, unfolding(crate::specs::ListLines::has_class))]
-    fn has_class(&self, entry: &[u8]) -> Result<bool, TechFault>
-        ensures ok { IfOk result (λ held. held ≡ has_class self.now.raw entry.now) }
-        ensures only_memory { IfErr result (λ fault. fault ≡ Memory) }
-    {
-        Ok(self.is_any_classed(&self.entry_types(entry)?))
-    }
-
-    // Refuses the first entry with a type that is in a class.
-    fn check_unclassed(&self, entries: &[Name]) -> Result<(), TechFault>
-        ensures passed { OnOk result (first_where (has_class self.now.raw) (λ entry. Twice (name_part entry)) entries.now ≡ None) }
-        ensures refused { IfErr result (λ fault. fault ≢ Memory
-            → first_where (has_class self.now.raw) (λ entry. Twice (name_part entry)) entries.now ≡ Some fault) }
-    {
-        for entry in entries {
-            if self.has_class(entry.bytes())? {
-                let (name, _) = parts_of_entry(entry.bytes());
-                return Err(TechFault::Twice(Name::of(self.alloc, name)?));
-            }
-        }
-        Ok(())
-    }
-
     // Reads the words after `resist`.
-    fn read_resist(&mut self, words: &[Name]) -> Result<(), TechFault>
-        ensures passed { OnOk result (resist_fault self.old words.now ≡ None) }
-        ensures read { OnOk result (self.new ≡ with_class self.old words.now) }
-        ensures refused { IfErr result (λ fault. fault ≢ Memory → resist_fault self.old words.now ≡ Some fault) }
+    #[tactic(auto, unfolding(crate::specs::ListLines::resist_line))]
+    fn read_resist(&mut self, line: &[u8]) -> Result<(), TechFault>
+        ensures read { OnOk result (resist_line self.old (words_of line.now) ≡ Ok self.new) }
+        ensures refused { IfErr result (λ fault. fault ≢ Memory → resist_line self.old (words_of line.now) ≡ Err fault) }
     {
-        if words.len() != 2 {
-            return Err(TechFault::BadForm);
-        }
-        self.add_list_class(&words[0], &words[1])
+        let (list, value) = two_words(line)?;
+        let value = measure_in(value)?;
+        self.add_class(list, value)
     }
 
-    fn add_list_class(&mut self, list: &Name, value: &Name) -> Result<(), TechFault>
-        ensures passed { OnOk result (new_class_fault self.old list.now value.now ≡ None) }
-        ensures read { OnOk result (self.new ≡ with_class self.old (list.now ∷ value.now ∷ [])) }
-        ensures refused { IfErr result (λ fault. fault ≢ Memory → new_class_fault self.old list.now value.now ≡ Some fault) }
+    fn add_class(&mut self, list: &[u8], value: u64) -> Result<(), TechFault>
+        ensures read { OnOk result (new_class self.old list.now value ≡ Ok self.new) }
+        ensures refused { IfErr result (λ fault. fault ≢ Memory → new_class self.old list.now value ≡ Err fault) }
     {
-        let entries = pieces_of(self.alloc, list.bytes())?;
-        let Some(value) = measure_of(value.bytes()) else {
-            return Err(TechFault::BadForm);
-        };
-        if !are_entries(&entries) {
+        if !is_entry_list(list) {
             return Err(TechFault::BadForm);
         }
-        self.check_entries(&entries)?;
-        self.check_unclassed(&entries)?;
+        self.check_entries(Parted::Nothing, Parted::Listed(list))?;
+        self.refuse(WordRule::Classed, Parted::Listed(list))?;
         if self.classes.len() >= MOST_CLASSES {
             return Err(TechFault::TooMany(Table::Classes));
         }
-        let types = self.types_of_entries(&entries)?;
-        self.add_class(types, value)
+        let types = self.types_of_list(list)?;
+        self.push_class(types, value)
     }
 
-    fn add_class(&mut self, types: Vec<TypeId>, value: u64) -> Result<(), TechFault>
-        ensures read { OnOk result (self.new ≡ with_types_class self.old types.items value) }
+    fn push_class(&mut self, types: Vec<TypeId>, value: u64) -> Result<(), TechFault>
+        ensures read { OnOk result (self.new ≡ with_class self.old types.items value) }
         ensures only_memory { IfErr result (λ fault. fault ≡ Memory) }
     {
         let class = ClassRec {
@@ -228,73 +155,55 @@ impl Draft {
     }
 
     // Reads the words after `cap`.
-    fn read_cap(&mut self, words: &[Name]) -> Result<(), TechFault>
-        ensures passed { OnOk result (cap_fault self.old words.now ≡ None) }
-        ensures read { OnOk result (self.new ≡ with_cap self.old words.now) }
-        ensures refused { IfErr result (λ fault. fault ≢ Memory → cap_fault self.old words.now ≡ Some fault) }
+    #[tactic(auto, unfolding(crate::specs::ListLines::cap_line))]
+    fn read_cap(&mut self, line: &[u8]) -> Result<(), TechFault>
+        ensures read { OnOk result (cap_line self.old (words_of line.now) ≡ Ok self.new) }
+        ensures refused { IfErr result (λ fault. fault ≢ Memory → cap_line self.old (words_of line.now) ≡ Err fault) }
     {
-        if words.len() != 3 {
-            return Err(TechFault::BadForm);
-        }
-        self.cap_list(&words[0], &words[1], &words[2])
+        let (list, per_area, per_perimeter) = three_words(line)?;
+        let per_area = measure_in(per_area)?;
+        let per_perimeter = measure_in(per_perimeter)?;
+        self.add_capacitance(list, per_area, per_perimeter)
     }
 
-    fn cap_list(
+    fn add_capacitance(
         &mut self,
-        list: &Name,
-        per_area: &Name,
-        per_perimeter: &Name,
+        list: &[u8],
+        per_area: u64,
+        per_perimeter: u64,
     ) -> Result<(), TechFault>
-        ensures passed { OnOk result (capacitance_fault self.old list.now per_area.now per_perimeter.now ≡ None) }
-        ensures read { OnOk result (self.new ≡ with_cap self.old (list.now ∷ per_area.now ∷ per_perimeter.now ∷ [])) }
+        ensures read { OnOk result (new_capacitance self.old list.now per_area per_perimeter ≡ Ok self.new) }
         ensures refused { IfErr result (λ fault. fault ≢ Memory
-            → capacitance_fault self.old list.now per_area.now per_perimeter.now ≡ Some fault) }
+            → new_capacitance self.old list.now per_area per_perimeter ≡ Err fault) }
     {
-        let entries = pieces_of(self.alloc, list.bytes())?;
-        let (Some(per_area), Some(per_perimeter)) = (
-            measure_of(per_area.bytes()),
-            measure_of(per_perimeter.bytes()),
-        ) else {
-            return Err(TechFault::BadForm);
-        };
-        if !are_entries(&entries) {
+        if !is_entry_list(list) {
             return Err(TechFault::BadForm);
         }
-        self.check_entries(&entries)?;
-        let class = self.class_to_cap(list, &entries)?;
+        self.check_entries(Parted::Nothing, Parted::Listed(list))?;
+        let class = self.uncapped(list)?;
         self.set_capacitance(class, per_area, per_perimeter)
     }
 
-    #[tactic(auto, unfolding(crate::specs::ListLines::class_of_list))]
-    fn class_of_list(&self, list: &Name, entries: &[Name]) -> Result<Option<usize>, TechFault>
-        requires { entries.now ≡ pieces_of list.now }
-        ensures ok { IfOk result (λ class. class ≡ class_of_list self.now.raw list.now) }
-        ensures only_memory { IfErr result (λ fault. fault ≡ Memory) }
-    {
-        let types = self.types_of_entries(entries)?;
-        Ok(self.shared_class(&types))
-    }
-
     // The class of all types of the list, where it has no `cap` line.
-    fn class_to_cap(&self, list: &Name, entries: &[Name]) -> Result<usize, TechFault>
-        requires { entries.now ≡ pieces_of list.now }
-        ensures passed { OnOk result (capped_fault self.now list.now (class_of_list self.now.raw list.now) ≡ None) }
-        ensures class { IfOk result (λ class. class_of_list self.now.raw list.now ≡ Some class) }
+    fn uncapped(&self, list: &[u8]) -> Result<usize, TechFault>
+        ensures ok { IfOk result (λ class.
+            uncapped self.now list.now (shared_class self.now.raw (types_of_list self.now.raw list.now)) ≡ Ok class) }
         ensures refused { IfErr result (λ fault. fault ≢ Memory
-            → capped_fault self.now list.now (class_of_list self.now.raw list.now) ≡ Some fault) }
+            → uncapped self.now list.now (shared_class self.now.raw (types_of_list self.now.raw list.now)) ≡ Err fault) }
     {
-        let Some(class) = self.class_of_list(list, entries)? else {
+        let types = self.types_of_list(list)?;
+        let Some(class) = self.shared_class(&types) else {
             return Err(TechFault::BadForm);
         };
         if self.is_capped(class) {
-            let (name, _) = parts_of_entry(first_of(entries));
+            let (name, _) = parts_of_entry(first_piece(list));
             return Err(TechFault::Twice(Name::of(self.alloc, name)?));
         }
         Ok(class)
     }
 
     fn is_capped(&self, class: usize) -> bool
-        ensures { result ≡ list_any (λ capped. capped == class) self.now.capped }
+        ensures { result ≡ is_capped self.now class }
     {
         self.capped.iter().any(|&capped| capped == class)
     }
@@ -305,7 +214,7 @@ impl Draft {
         per_area: u64,
         per_perimeter: u64,
     ) -> Result<(), TechFault>
-        ensures read { OnOk result (self.new ≡ with_capacitance self.old class per_area per_perimeter) }
+        ensures read { OnOk result (self.new ≡ with_capacitance self.old per_area per_perimeter class) }
         ensures only_memory { IfErr result (λ fault. fault ≡ Memory) }
     {
         push(&mut self.capped, class)?;
@@ -317,69 +226,60 @@ impl Draft {
     }
 
     // Reads the words after `fet`.
-    fn read_fet(&mut self, words: &[Name]) -> Result<(), TechFault>
-        ensures passed { OnOk result (fet_fault self.old words.now ≡ None) }
-        ensures read { OnOk result (self.new ≡ with_fet self.old words.now) }
-        ensures refused { IfErr result (λ fault. fault ≢ Memory → fet_fault self.old words.now ≡ Some fault) }
+    #[tactic(auto, unfolding(crate::specs::ListLines::fet_line))]
+    fn read_fet(&mut self, line: &[u8]) -> Result<(), TechFault>
+        ensures read { OnOk result (fet_line self.old (words_of line.now) ≡ Ok self.new) }
+        ensures refused { IfErr result (λ fault. fault ≢ Memory → fet_line self.old (words_of line.now) ≡ Err fault) }
     {
-        if words.len() != 4 {
-            return Err(TechFault::BadForm);
-        }
-        self.add_fet(&words[0], &words[1], &words[2], &words[3])
+        let (kind, list, name, substrate) = four_words(line)?;
+        self.add_fet(kind, list, name, substrate)
     }
 
     fn has_fet(&self, kind: TypeId) -> bool
-        ensures { result ≡ list_any (λ fet. fet.kind.0 == kind.0) self.now.raw.fets }
+        ensures { result ≡ has_fet self.now.raw kind }
     {
         self.fets.iter().any(|fet| fet.kind.0 == kind.0)
     }
 
-    // The type that the word means, where it is one type that may have a rule.
-    fn check_fet_type(&self, kind: &Name) -> Result<TypeId, TechFault>
-        ensures passed { OnOk result (fet_type_fault self.now kind.now ≡ None) }
-        ensures ok { IfOk result (λ t. t ≡ fet_type self.now.raw kind.now) }
-        ensures refused { IfErr result (λ fault. fault ≢ Memory → fet_type_fault self.now kind.now ≡ Some fault) }
+    // Refuses a word that doesn't mean one type, or a type that may have no rule.
+    fn check_fet(&self, kind: &[u8]) -> Result<(), TechFault>
+        ensures passed { OnOk result (check_fet self.now.raw kind.now ≡ Ok tt) }
+        ensures refused { IfErr result (λ fault. fault ≢ Memory → check_fet self.now.raw kind.now ≡ Err fault) }
     {
-        let kinds = self.entry_types(kind.bytes())?;
-        if kinds.len() > 1 {
+        if self.entry_types(kind).len() > 1 {
             return Err(TechFault::BadForm);
         }
-        let found = first_type(&kinds);
-        if self.has_fet(found) {
-            let (name, _) = parts_of_entry(kind.bytes());
+        if self.has_fet(self.type_of_word(kind)) {
+            let (name, _) = parts_of_entry(kind);
             return Err(TechFault::Twice(Name::of(self.alloc, name)?));
         }
         if self.fets.len() >= MOST_FETS {
             return Err(TechFault::TooMany(Table::Fets));
         }
-        Ok(found)
+        Ok(())
     }
 
     fn add_fet(
         &mut self,
-        kind: &Name,
-        list: &Name,
-        name: &Name,
-        substrate: &Name,
+        kind: &[u8],
+        list: &[u8],
+        name: &[u8],
+        substrate: &[u8],
     ) -> Result<(), TechFault>
-        ensures passed { OnOk result (new_fet_fault self.old kind.now list.now name.now substrate.now ≡ None) }
-        ensures read { OnOk result (self.new ≡ with_rule self.old (fet_with self.old.raw kind.now list.now name.now substrate.now)) }
+        ensures read { OnOk result (new_fet self.old kind.now list.now name.now substrate.now ≡ Ok self.new) }
         ensures refused { IfErr result (λ fault. fault ≢ Memory
-            → new_fet_fault self.old kind.now list.now name.now substrate.now ≡ Some fault) }
+            → new_fet self.old kind.now list.now name.now substrate.now ≡ Err fault) }
     {
-        let entries = pieces_of(self.alloc, list.bytes())?;
-        if !is_fet_form(kind, &entries, name, substrate) {
+        if !is_fet_form(kind, list, name, substrate) {
             return Err(TechFault::BadForm);
         }
-        let mut named = Vec::new(self.alloc);
-        push(&mut named, kind.copy(self.alloc)?)?;
-        append_pieces(self.alloc, &mut named, list.bytes())?;
-        self.check_entries(&named)?;
+        self.check_entries(Parted::Lone(kind), Parted::Listed(list))?;
+        self.check_fet(kind)?;
         let fet = FetRule {
-            kind: self.check_fet_type(kind)?,
-            terminals: List::of(self.types_of_entries(&entries)?),
-            name: name.copy(self.alloc)?,
-            substrate: substrate.copy(self.alloc)?,
+            kind: self.type_of_word(kind),
+            terminals: List::of(self.types_of_list(list)?),
+            name: Name::of(self.alloc, name)?,
+            substrate: Name::of(self.alloc, substrate)?,
         };
         self.push_fet(fet)
     }
@@ -392,34 +292,22 @@ impl Draft {
     }
 
     /// Reads a line of the section `extract`.
-    pub(super) fn read_extract(&mut self, words: &[Name]) -> Result<(), TechFault>
-        ensures passed { OnOk result (extract_fault self.old words.now ≡ None) }
-        ensures read { OnOk result (self.new ≡ with_extract self.old words.now) }
-        ensures refused { IfErr result (λ fault. fault ≢ Memory → extract_fault self.old words.now ≡ Some fault) }
+    #[tactic(auto, unfolding(crate::specs::ListLines::extract_line))]
+    pub(super) fn read_extract(&mut self, line: &[u8]) -> Result<(), TechFault>
+        ensures read { OnOk result (extract_line self.old (words_of line.now) ≡ Ok self.new) }
+        ensures refused { IfErr result (λ fault. fault ≢ Memory → extract_line self.old (words_of line.now) ≡ Err fault) }
     {
-        if words.is_empty() {
+        let Some((key, rest)) = split_word(line) else {
             return Ok(());
+        };
+        if key == b"resist".as_slice() {
+            self.read_resist(rest)
+        } else if key == b"cap".as_slice() {
+            self.read_cap(rest)
+        } else if key == b"fet".as_slice() {
+            self.read_fet(rest)
+        } else {
+            Ok(())
         }
-        self.read_keyed(&words[0], &words[1..])
-    }
-
-    // Reads the words after this key.
-    #[tactic(auto, unfolding(crate::specs::ListLines::extract_fault, crate::specs::ListLines::with_extract))]
-    fn read_keyed(&mut self, key: &Name, rest: &[Name]) -> Result<(), TechFault>
-        ensures passed { OnOk result (extract_fault self.old (key.now ∷ rest.now) ≡ None) }
-        ensures read { OnOk result (self.new ≡ with_extract self.old (key.now ∷ rest.now)) }
-        ensures refused { IfErr result (λ fault. fault ≢ Memory
-            → extract_fault self.old (key.now ∷ rest.now) ≡ Some fault) }
-    {
-        if key.bytes() == b"resist".as_slice() {
-            return self.read_resist(rest);
-        }
-        if key.bytes() == b"cap".as_slice() {
-            return self.read_cap(rest);
-        }
-        if key.bytes() == b"fet".as_slice() {
-            return self.read_fet(rest);
-        }
-        Ok(())
     }
 }

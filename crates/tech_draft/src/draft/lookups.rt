@@ -1,17 +1,16 @@
 // What words stand for in a draft.
-ghost use Rattle.std.specs.Prelude.{◌≡◌, ◌≢◌, ℕ, map, fold, None, Some, IfOk, OnOk, IfErr};
+ghost use Rattle.std.specs.Prelude.{◌≡◌, ◌<◌, fold, is_some, slice_index_or, Some, None, IfOk, IfErr, OnOk};
+ghost use Rattle.std.specs.List.{list_any};
 ghost use Rattle.std.specs.Option.{option_map};
-ghost use Rattle.tech_model.specs.declared.faults.TechFault.TheVariants.{Memory, TypeExpression, NoPlane, NoType};
-ghost use Rattle.tech_model.specs.Types.{plane_of, parts_of, images_of, layer_named, layer_number};
-ghost use Rattle.tech_draft.specs.Entries.{plane_named, named_types, entry_types, types_on, has_type, with_type_once, types_of_entries, first_where};
-ghost use Rattle.tech_draft.specs.Entries.{has_odd_byte, names_no_plane, means_no_type, plane_part, name_part, entries_fault};
-ghost use Rattle.tech_draft.specs.SetLines.{own_image, type_of_word, plane_of_word, is_contact, layer_of_word};
+ghost use Rattle.tech_model.specs.declared.faults.TechFault.TheVariants.{Memory};
+ghost use Rattle.tech_model.specs.Types.{plane_of, parts_of, images_of, layer_named, layer_number, type_number};
+ghost use Rattle.tech_draft.specs.Lookups.{plane_named, named_types, first_on, type_on, entry_types, has_type, with_type_once, types_of_list};
+ghost use Rattle.tech_draft.specs.Lookups.{type_of_word, plane_of_word, layer_of_word, is_contact, class_of, is_classed};
 
 use super::{Draft, parts_in};
-use crate::words::{has_odd_byte, has_slash, parts_of_entry, push};
-use geo_core::Name;
-use std::alloc::Global;
-use tech_model::{LayerId, PartSet, TechFault, TypeId};
+use crate::parts::{Parted, each_part};
+use crate::words::{has_slash, parts_of_entry, push};
+use tech_model::{LayerId, MOST_TYPES, TechFault, TypeId};
 
 /// Whether the type is one of these.
 pub(super) fn has_type(types: &[TypeId], kind: TypeId) -> bool
@@ -20,15 +19,14 @@ pub(super) fn has_type(types: &[TypeId], kind: TypeId) -> bool
     types.iter().any(|other| other.0 == kind.0)
 }
 
-/// Puts a type at the end, unless it is there.
-fn push_once(types: &mut Vec<TypeId>, kind: TypeId) -> Result<(), TechFault>
-    ensures ok { OnOk result (types.new.items ≡ with_type_once types.old.items kind) }
-    ensures only_memory { IfErr result (λ fault. fault ≡ Memory) }
+/// The first of these types, and space where there is none.
+fn first_type(types: &[TypeId]) -> TypeId
+    ensures { result ≡ slice_index_or types.now 0 (type_number 0) }
 {
-    if has_type(types, kind) {
-        return Ok(());
+    match types.first() {
+        Some(&kind) => kind,
+        None => TypeId(0),
     }
-    push(types, kind)
 }
 
 /// Puts each of these types at the end that is not there.
@@ -42,17 +40,15 @@ fn push_each_once(types: &mut Vec<TypeId>, more: &[TypeId]) -> Result<(), TechFa
     Ok(())
 }
 
-/// Refuses the first entry that is an expression over types.
-fn check_expressions(alloc: Global, entries: &[Name]) -> Result<(), TechFault>
-    ensures passed { OnOk result (first_where has_odd_byte TypeExpression entries.now ≡ None) }
-    ensures refused { IfErr result (λ fault. fault ≢ Memory → first_where has_odd_byte TypeExpression entries.now ≡ Some fault) }
+/// Puts a type at the end, unless it is there.
+fn push_once(types: &mut Vec<TypeId>, kind: TypeId) -> Result<(), TechFault>
+    ensures ok { OnOk result (types.new.items ≡ with_type_once types.old.items kind) }
+    ensures only_memory { IfErr result (λ fault. fault ≡ Memory) }
 {
-    for entry in entries {
-        if has_odd_byte(entry.bytes()) {
-            return Err(TechFault::TypeExpression(entry.copy(alloc)?));
-        }
+    if has_type(types, kind) {
+        return Ok(());
     }
-    Ok(())
+    push(types, kind)
 }
 
 impl Draft {
@@ -64,10 +60,19 @@ impl Draft {
     }
 
     /// The layer that has the word as a name.
-    pub(super) fn layer_named(&self, word: &[u8]) -> Option<LayerId>
+    fn layer_named(&self, word: &[u8]) -> Option<LayerId>
         ensures { result ≡ option_map layer_number (layer_named self.now.raw word.now) }
     {
         self.index.find(word)
+    }
+
+    /// The number of the layer that the word names, 0 where it names none.
+    pub(super) fn layer_of_word(&self, word: &[u8]) -> LayerId
+        ensures value { result.0 ≡ layer_of_word self.now.raw word.now }
+        ensures in_range { result.0 < MOST_TYPES }
+    {
+        let _ = &self.layers;
+        self.layer_named(word).unwrap_or(LayerId(0))
     }
 
     pub(super) fn plane_of(&self, kind: TypeId) -> u8
@@ -87,7 +92,7 @@ impl Draft {
         parts_in(&self.types, kind)
     }
 
-    pub(super) fn images_of(&self, layer: LayerId) -> &[TypeId]
+    fn images_of(&self, layer: LayerId) -> &[TypeId]
         ensures { result.now ≡ images_of self.now.raw layer.0 }
     {
         match self.layers.get(usize::from(layer.0)) {
@@ -106,90 +111,83 @@ impl Draft {
         }
     }
 
-    /// Those of the types that stand on this plane.
-    fn types_on(&self, plane: Option<usize>, types: &[TypeId]) -> Result<Vec<TypeId>, TechFault>
-        ensures ok { IfOk result (λ kept. kept.items ≡ types_on self.now.raw plane types.now) }
-        ensures only_memory { IfErr result (λ fault. fault ≡ Memory) }
+    /// The first of the types that stands on the plane, alone.
+    fn first_on<'a>(&self, plane: usize, types: &'a [TypeId]) -> &'a [TypeId]
+        ensures { result.now ≡ first_on self.now.raw plane types.now }
     {
-        let mut kept = Vec::new(self.alloc);
-        let Some(plane) = plane else {
-            return Ok(kept);
-        };
-        for &kind in types {
-            if usize::from(self.plane_of(kind)) == plane {
-                push(&mut kept, kind)?;
+        let mut rest = types;
+        while let [kind, others @ ..] = rest {
+            if usize::from(self.plane_of(*kind)) == plane {
+                return &rest[..1];
             }
+            rest = others;
         }
-        Ok(kept)
+        &[]
     }
 
     /// The types that an entry means: with a plane the image on that plane, and else all images.
-    pub(super) fn entry_types(&self, entry: &[u8]) -> Result<Vec<TypeId>, TechFault>
-        ensures ok { IfOk result (λ types. types.items ≡ entry_types self.now.raw entry.now) }
-        ensures only_memory { IfErr result (λ fault. fault ≡ Memory) }
+    pub(super) fn entry_types(&self, entry: &[u8]) -> &[TypeId]
+        ensures { result.now ≡ entry_types self.now.raw entry.now }
     {
-        if has_slash(entry) {
-            let (name, plane) = parts_of_entry(entry);
-            return self.types_on(self.plane_named(plane), self.named_types(name));
+        if !has_slash(entry) {
+            return self.named_types(entry);
         }
-        Ok(Vec::from_slice(self.alloc, self.named_types(entry))?)
+        let (name, plane) = parts_of_entry(entry);
+        match self.plane_named(plane) {
+            Some(plane) => self.first_on(plane, self.named_types(name)),
+            None => &[],
+        }
     }
 
-    /// The types of some entries, each once, where it is first meant.
-    pub(super) fn types_of_entries(&self, entries: &[Name]) -> Result<Vec<TypeId>, TechFault>
-        ensures ok { IfOk result (λ types. types.items ≡ types_of_entries self.now.raw entries.now) }
+    /// The types that the entries of a list mean, each once, where it is first meant.
+    pub(super) fn types_of_list(&self, list: &[u8]) -> Result<Vec<TypeId>, TechFault>
+        ensures ok { IfOk result (λ types. types.items ≡ types_of_list self.now.raw list.now) }
         ensures only_memory { IfErr result (λ fault. fault ≡ Memory) }
     {
         let mut types = Vec::new(self.alloc);
-        for entry in entries {
-            push_each_once(&mut types, &self.entry_types(entry.bytes())?)?;
+        for entry in each_part(Parted::Listed(list)) {
+            push_each_once(&mut types, self.entry_types(entry))?;
         }
         Ok(types)
     }
 
-    fn names_no_plane(&self, entry: &[u8]) -> bool
-        ensures { result ≡ names_no_plane self.now.raw entry.now }
+    /// The first type that the word means: of a layer it is the image on the layer's own plane.
+    pub(super) fn type_of_word(&self, word: &[u8]) -> TypeId
+        ensures { result ≡ type_of_word self.now.raw word.now }
     {
-        let (_, plane) = parts_of_entry(entry);
-        has_slash(entry) && self.plane_named(plane).is_none()
+        first_type(self.entry_types(word))
     }
 
-    fn check_planes(&self, entries: &[Name]) -> Result<(), TechFault>
-        ensures passed { OnOk result (first_where (names_no_plane self.now.raw) (λ entry. NoPlane (plane_part entry)) entries.now ≡ None) }
-        ensures refused { IfErr result (λ fault. fault ≢ Memory
-            → first_where (names_no_plane self.now.raw) (λ entry. NoPlane (plane_part entry)) entries.now ≡ Some fault) }
+    pub(super) fn plane_of_word(&self, word: &[u8]) -> u8
+        ensures { result ≡ plane_of_word self.now.raw word.now }
     {
-        for entry in entries {
-            if self.names_no_plane(entry.bytes()) {
-                let (_, plane) = parts_of_entry(entry.bytes());
-                return Err(TechFault::NoPlane(Name::of(self.alloc, plane)?));
-            }
-        }
-        Ok(())
+        self.plane_of(self.type_of_word(word))
     }
 
-    fn check_types(&self, entries: &[Name]) -> Result<(), TechFault>
-        ensures passed { OnOk result (first_where (means_no_type self.now.raw) (λ entry. NoType (name_part entry)) entries.now ≡ None) }
-        ensures refused { IfErr result (λ fault. fault ≢ Memory
-            → first_where (means_no_type self.now.raw) (λ entry. NoType (name_part entry)) entries.now ≡ Some fault) }
+    /// Whether the word names a layer with more than one image.
+    #[tactic(auto, unfolding(crate::specs::Lookups::is_contact))]
+    pub(super) fn is_contact(&self, word: &[u8]) -> bool
+        ensures { result ≡ is_contact self.now.raw word.now }
     {
-        for entry in entries {
-            if self.entry_types(entry.bytes())?.is_empty() {
-                let (name, _) = parts_of_entry(entry.bytes());
-                return Err(TechFault::NoType(Name::of(self.alloc, name)?));
-            }
-        }
-        Ok(())
+        self.entry_types(word).len() > 1
     }
 
-    /// Refuses the first entry that is an expression, then the first plane that there is not, then the
-    /// first name without a type.
-    pub(super) fn check_entries(&self, entries: &[Name]) -> Result<(), TechFault>
-        ensures passed { OnOk result (entries_fault self.now.raw entries.now ≡ None) }
-        ensures refused { IfErr result (λ fault. fault ≢ Memory → entries_fault self.now.raw entries.now ≡ Some fault) }
+    /// The number of the class that the type belongs to.
+    pub(super) fn class_of(&self, kind: TypeId) -> Option<usize>
+        ensures { result ≡ class_of self.now.raw kind }
     {
-        check_expressions(self.alloc, entries)?;
-        self.check_planes(entries)?;
-        self.check_types(entries)
+        self.classes
+            .iter()
+            .position(|class| has_type(class.types.items(), kind))
+    }
+
+    /// Whether a type of the entry is in a class.
+    #[tactic(auto, unfolding(crate::specs::Lookups::is_classed))]
+    pub(super) fn is_classed(&self, entry: &[u8]) -> bool
+        ensures { result ≡ is_classed self.now.raw entry.now }
+    {
+        self.entry_types(entry)
+            .iter()
+            .any(|&kind| self.class_of(kind).is_some())
     }
 }

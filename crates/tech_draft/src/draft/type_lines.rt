@@ -1,18 +1,18 @@
 // Lines of the sections `tech`, `planes` and `types`.
-ghost use Rattle.std.specs.Prelude.{◌≡◌, ◌≢◌, ◌<◌, ◌+◌, ◌^◌, ◌++◌, [], ◌∷◌, ℕ, List, length, None, Some, OnOk, IfErr, if◌then◌else◌};
-ghost use Rattle.std.specs.List.{list_all, list_any};
+ghost use Rattle.std.specs.Prelude.{◌≡◌, ◌≢◌, ◌<◌, ◌++◌, [], ◌∷◌, ℕ, List, length, Some, None, Ok, Err, IfOk, OnOk, IfErr, if◌then◌else◌};
+ghost use Rattle.std.specs.List.{list_any};
 ghost use Rattle.std.specs.Str.{bytes_eq};
+ghost use Rattle.text_scan.specs.Words.{words_of};
 ghost use Rattle.tech_model.specs.declared.faults.TechFault.TheVariants.{Memory};
 ghost use Rattle.tech_model.specs.declared.raw.RawTech.{RawTech as RawValue};
-ghost use Rattle.tech_model.specs.Forms.{is_layer_name};
 ghost use Rattle.tech_model.specs.LayerWords.{layer_in};
-ghost use Rattle.tech_model.specs.Types.{layer_named, layer_number};
-ghost use Rattle.tech_draft.specs.Entries.{pieces_of};
-ghost use Rattle.tech_draft.specs.TypeLines.{name_fault, tech_fault, with_name, new_plane_fault, plane_fault, with_plane, repeated_name, new_type_fault};
-ghost use Rattle.tech_draft.specs.TypeLines.{type_fault, with_new_type, with_type, with_atom, atom_on, atom_layer};
+ghost use Rattle.tech_model.specs.Types.{layer_named};
+ghost use Rattle.tech_draft.specs.Words.{pieces_of};
+ghost use Rattle.tech_draft.specs.TypeLines.{new_name, name_line, new_plane, plane_line, new_names, atom_on, atom_layer, new_atom, new_type, type_line};
 
 use super::Draft;
-use crate::words::{is_layer_name, pieces_of, push};
+use crate::parts::{Parted, each_part};
+use crate::words::{WordForm, all_have, one_word, push, two_words};
 use geo_core::{List, Name};
 use std::alloc::Global;
 use tech_model::{
@@ -21,34 +21,32 @@ use tech_model::{
 };
 use text_scan::is_plain_name;
 
-fn are_layer_names(names: &[Name]) -> bool
-    ensures { result ≡ list_all is_layer_name names.now }
-{
-    names.iter().all(|name| is_layer_name(name.bytes()))
-}
-
-// Lets each name name the layer. Refuses the first that names a layer already: the index may then have
-// the names before it.
+// Lets each name of the list name the layer. Refuses the first that names a layer already: the index may then have the
+// names before it.
 fn index_names(
     alloc: Global,
     index: &mut LayerIndex,
-    names: &[Name],
+    list: &[u8],
     layer: LayerId,
-) -> Result<(), TechFault>
+) -> Result<Vec<Name>, TechFault>
+    ensures names { IfOk result (λ names. names.items ≡ pieces_of list.now) }
     ensures indexed { OnOk result ((word : List ℕ) → layer_in index.new word
-        ≡ (if list_any (bytes_eq word) names.now then Some layer.0 else layer_in index.old word)) }
+        ≡ (if list_any (bytes_eq word) (pieces_of list.now) then Some layer.0 else layer_in index.old word)) }
     ensures passed { OnOk result ((raw : RawValue) → ((word : List ℕ) → layer_in index.old word ≡ layer_named raw word)
-        → repeated_name raw [] names.now ≡ None) }
+        → new_names raw [] (pieces_of list.now) ≡ Ok tt) }
     ensures refused { IfErr result (λ fault. fault ≢ Memory → (raw : RawValue)
-        → ((word : List ℕ) → layer_in index.old word ≡ layer_named raw word) → repeated_name raw [] names.now ≡ Some fault) }
+        → ((word : List ℕ) → layer_in index.old word ≡ layer_named raw word)
+        → new_names raw [] (pieces_of list.now) ≡ Err fault) }
 {
-    for name in names {
-        if index.find(name.bytes()).is_some() {
-            return Err(TechFault::Twice(name.copy(alloc)?));
+    let mut names = Vec::new(alloc);
+    for name in each_part(Parted::Listed(list)) {
+        if index.find(name).is_some() {
+            return Err(TechFault::Twice(Name::of(alloc, name)?));
         }
-        index.add(name.bytes(), layer)?;
+        index.add(name, layer)?;
+        push(&mut names, Name::of(alloc, name)?)?;
     }
-    Ok(())
+    Ok(names)
 }
 
 // Puts the next type at the end, on this plane, and its layer with these names.
@@ -89,26 +87,23 @@ fn push_atom(
 
 impl Draft {
     /// Reads a line of the section `tech`.
-    pub(super) fn read_name(&mut self, words: &[Name]) -> Result<(), TechFault>
-        ensures passed { OnOk result (tech_fault self.old words.now ≡ None) }
-        ensures read { OnOk result (self.new ≡ with_name self.old words.now) }
-        ensures refused { IfErr result (λ fault. fault ≢ Memory → tech_fault self.old words.now ≡ Some fault) }
+    #[tactic(auto, unfolding(crate::specs::TypeLines::name_line))]
+    pub(super) fn read_name(&mut self, line: &[u8]) -> Result<(), TechFault>
+        ensures read { OnOk result (name_line self.old (words_of line.now) ≡ Ok self.new) }
+        ensures refused { IfErr result (λ fault. fault ≢ Memory → name_line self.old (words_of line.now) ≡ Err fault) }
     {
-        if words.len() != 1 {
-            return Err(TechFault::BadForm);
-        }
-        self.set_name(&words[0])
+        let name = one_word(line)?;
+        self.set_name(name)
     }
 
-    fn set_name(&mut self, name: &Name) -> Result<(), TechFault>
-        ensures passed { OnOk result (name_fault self.old name.now ≡ None) }
-        ensures read { OnOk result (self.new ≡ with_name self.old (name.now ∷ [])) }
-        ensures refused { IfErr result (λ fault. fault ≢ Memory → name_fault self.old name.now ≡ Some fault) }
+    fn set_name(&mut self, name: &[u8]) -> Result<(), TechFault>
+        ensures read { OnOk result (new_name self.old name.now ≡ Ok self.new) }
+        ensures refused { IfErr result (λ fault. fault ≢ Memory → new_name self.old name.now ≡ Err fault) }
     {
-        if self.name_is_read() || !is_plain_name(name.bytes()) {
+        if self.name_is_read() || !is_plain_name(name) {
             return Err(TechFault::BadForm);
         }
-        self.name = name.copy(self.alloc)?;
+        self.name = Name::of(self.alloc, name)?;
         Ok(())
     }
 
@@ -119,86 +114,73 @@ impl Draft {
     }
 
     /// Reads a line of the section `planes`.
-    pub(super) fn read_plane(&mut self, words: &[Name]) -> Result<(), TechFault>
-        ensures passed { OnOk result (plane_fault self.old words.now ≡ None) }
-        ensures read { OnOk result (self.new ≡ with_plane self.old words.now) }
-        ensures refused { IfErr result (λ fault. fault ≢ Memory → plane_fault self.old words.now ≡ Some fault) }
+    #[tactic(auto, unfolding(crate::specs::TypeLines::plane_line))]
+    pub(super) fn read_plane(&mut self, line: &[u8]) -> Result<(), TechFault>
+        ensures read { OnOk result (plane_line self.old (words_of line.now) ≡ Ok self.new) }
+        ensures refused { IfErr result (λ fault. fault ≢ Memory → plane_line self.old (words_of line.now) ≡ Err fault) }
     {
-        if words.len() != 1 {
-            return Err(TechFault::BadForm);
-        }
-        self.add_plane(&words[0])
+        let name = one_word(line)?;
+        self.add_plane(name)
     }
 
-    fn check_plane(&self, name: &Name) -> Result<(), TechFault>
-        ensures passed { OnOk result (new_plane_fault self.now name.now ≡ None) }
-        ensures refused { IfErr result (λ fault. fault ≢ Memory → new_plane_fault self.now name.now ≡ Some fault) }
+    fn add_plane(&mut self, name: &[u8]) -> Result<(), TechFault>
+        ensures read { OnOk result (new_plane self.old name.now ≡ Ok self.new) }
+        ensures refused { IfErr result (λ fault. fault ≢ Memory → new_plane self.old name.now ≡ Err fault) }
     {
-        if !is_plain_name(name.bytes()) {
+        if !is_plain_name(name) {
             return Err(TechFault::BadForm);
         }
-        if self.has_plane(name.bytes()) {
-            return Err(TechFault::Twice(name.copy(self.alloc)?));
+        let word = Name::of(self.alloc, name)?;
+        if self.has_plane(name) {
+            return Err(TechFault::Twice(word));
         }
         if self.planes.len() >= MOST_PLANES {
             return Err(TechFault::TooMany(Table::Planes));
         }
-        Ok(())
-    }
-
-    fn add_plane(&mut self, name: &Name) -> Result<(), TechFault>
-        ensures passed { OnOk result (new_plane_fault self.old name.now ≡ None) }
-        ensures read { OnOk result (self.new ≡ with_plane self.old (name.now ∷ [])) }
-        ensures refused { IfErr result (λ fault. fault ≢ Memory → new_plane_fault self.old name.now ≡ Some fault) }
-    {
-        self.check_plane(name)?;
-        let name = name.copy(self.alloc)?;
-        push(&mut self.planes, name)
+        push(&mut self.planes, word)
     }
 
     /// Reads a line of the section `types`.
-    pub(super) fn read_type(&mut self, words: &[Name]) -> Result<(), TechFault>
-        ensures passed { OnOk result (type_fault self.old words.now ≡ None) }
-        ensures read { OnOk result (self.new ≡ with_type self.old words.now) }
-        ensures refused { IfErr result (λ fault. fault ≢ Memory → type_fault self.old words.now ≡ Some fault) }
+    #[tactic(auto, unfolding(crate::specs::TypeLines::type_line))]
+    pub(super) fn read_type(&mut self, line: &[u8]) -> Result<(), TechFault>
+        ensures read { OnOk result (type_line self.old (words_of line.now) ≡ Ok self.new) }
+        ensures refused { IfErr result (λ fault. fault ≢ Memory → type_line self.old (words_of line.now) ≡ Err fault) }
     {
-        if words.len() != 2 {
-            return Err(TechFault::BadForm);
-        }
-        self.add_list_type(&words[0], &words[1])
+        let (plane, list) = two_words(line)?;
+        self.add_type(plane, list)
     }
 
-    fn add_list_type(&mut self, plane: &Name, list: &Name) -> Result<(), TechFault>
-        ensures passed { OnOk result (new_type_fault self.old plane.now (pieces_of list.now) ≡ None) }
-        ensures read { OnOk result (self.new ≡ with_new_type self.old plane.now (pieces_of list.now)) }
+    fn add_type(&mut self, plane: &[u8], list: &[u8]) -> Result<(), TechFault>
+        ensures read { OnOk result (new_type self.old plane.now (pieces_of list.now) ≡ Ok self.new) }
         ensures refused { IfErr result (λ fault. fault ≢ Memory
-            → new_type_fault self.old plane.now (pieces_of list.now) ≡ Some fault) }
+            → new_type self.old plane.now (pieces_of list.now) ≡ Err fault) }
     {
-        let names = pieces_of(self.alloc, list.bytes())?;
-        self.add_type(plane, names)
-    }
-
-    fn add_type(&mut self, plane: &Name, names: Vec<Name>) -> Result<(), TechFault>
-        ensures passed { OnOk result (new_type_fault self.old plane.now names.items ≡ None) }
-        ensures read { OnOk result (self.new ≡ with_new_type self.old plane.now names.items) }
-        ensures refused { IfErr result (λ fault. fault ≢ Memory → new_type_fault self.old plane.now names.items ≡ Some fault) }
-    {
-        if !is_plain_name(plane.bytes()) || !are_layer_names(&names) {
+        if !is_plain_name(plane) || !all_have(WordForm::LayerName, Parted::Listed(list)) {
             return Err(TechFault::BadForm);
         }
-        let Some(plane_number) = self.plane_named(plane.bytes()) else {
-            return Err(TechFault::NoPlane(plane.copy(self.alloc)?));
-        };
-        let layer = LayerId(self.layers.len() as u8);
-        if let Err(fault) = index_names(self.alloc, &mut self.index, &names, layer) {
-            *self = Draft::new(self.alloc);
-            return Err(fault);
+        match self.plane_named(plane) {
+            Some(plane) => self.add_atom(list, plane as u8),
+            None => Err(TechFault::NoPlane(Name::of(self.alloc, plane)?)),
         }
+    }
+
+    fn add_atom(&mut self, list: &[u8], plane: u8) -> Result<(), TechFault>
+        ensures read { OnOk result (new_atom self.old (pieces_of list.now) plane ≡ Ok self.new) }
+        ensures refused { IfErr result (λ fault. fault ≢ Memory
+            → new_atom self.old (pieces_of list.now) plane ≡ Err fault) }
+    {
+        let layer = LayerId(self.layers.len() as u8);
+        let names = match index_names(self.alloc, &mut self.index, list, layer) {
+            Ok(names) => names,
+            Err(fault) => {
+                *self = Draft::new(self.alloc);
+                return Err(fault);
+            }
+        };
         if self.types.len() >= MOST_TYPES {
             *self = Draft::new(self.alloc);
             return Err(TechFault::TooMany(Table::Types));
         }
-        let plane = plane_number as u8;
         if let Err(fault) = push_atom(self.alloc, &mut self.types, &mut self.layers, plane, names) {
             *self = Draft::new(self.alloc);
             return Err(fault);

@@ -1,7 +1,7 @@
 use Rattle.std.proofs.Common.{sym, ◌∙◌, ◌<◌, ap, ℕ, arith, length, rules}
 use Rattle.std.specs.Prelude.{◌==◌}
 use borrow.Author.Tests.{ltb-true}
-use Rattle.tech_draft.proofs.Shapes.{ends_in_hash-last}
+use Rattle.tech_draft.proofs.WordLaws.{ends_in_hash-last}
 use Rattle.tech_draft.proofs.words.ends_in_hash.Goals as goal
 
 pub returns-in-Some : goal.returns-in-Some

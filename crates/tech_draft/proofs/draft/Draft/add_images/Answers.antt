@@ -1,8 +1,10 @@
--- The index keeps the names of layers, and the lists still fit together.
-use Rattle.std.proofs.Common.{refl, rules}
-use Rattle.tech_draft.proofs.ContactEffects.{contact-kept}
+-- The index keeps the names of layers, and the lists keep their limits.
+use Rattle.std.proofs.Common.{length, refl, ap, arith, rules}
+use Rattle.tech_draft.specs.Drafts.{Drafted}
+use Rattle.tech_draft.proofs.IndexLaws.{images-kept}
 use Rattle.tech_draft.proofs.draft.Draft.add_images.Goals as goal
 
 pub invariant_of-self-in_default : goal.invariant_of-self-in_default
 invariant_of-self-in_default c =
-    contact-kept c.self.inside _ c.args.layer.0 c.args.own c.args.more.items c.self.invariant (rw c.self.view_is c.requires) refl (search rules)
+    let same = ap (λ (draft : Drafted). length draft.raw.types) c.self.view_is in
+    images-kept c.self.inside _ c.args.layer.0 c.args.own c.args.others.now c.self.invariant refl (omega (arith, same, c.requires.room)) (search rules)

@@ -1,6 +1,6 @@
 use Rattle.std.proofs.Common.{◌≡◌, drop}
-use Rattle.std.specs.Prelude.{fold, map, filter, [], ◌++◌, ◌∷◌, ◌+◌, ◌==◌, length}
-use Rattle.tech_draft.specs.ListLines.{with_pair, with_partners, with_pairs, with_pair_list}
+use Rattle.std.specs.Prelude.{fold}
+use Rattle.tech_draft.specs.ListLines.{with_partners, with_pairs, with_pair_list}
 use Rattle.tech_draft.proofs.draft.Draft.add_pairs.Given as goal
 
 -- what is left gives what all give

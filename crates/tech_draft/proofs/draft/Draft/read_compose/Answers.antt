@@ -1,21 +1,8 @@
--- The words of a line of this form, one by one, and lines of any other number of words.
-use Rattle.std.proofs.Common.{◌≡◌, ℕ, List, ◌∷◌, [], arith, length}
-use Rattle.tech_draft.specs.SetLines.{compose_fault}
-use Rattle.tech_draft.proofs.Shapes.{four_items}
-use Rattle.tech_draft.proofs.OtherWords.{compose_fault-other}
+-- The words behind the first are the whole and its parts.
+use Rattle.text_scan.specs.Words.{words_of}
+use Rattle.tech_draft.proofs.WordLaws.{three_are}
 use Rattle.tech_draft.proofs.draft.Draft.read_compose.Goals as goal
 
-pub returns-then-words-ne4-clause-refused : goal.returns-then-words-ne4-clause-refused
-returns-then-words-ne4-clause-refused c = λ ne. compose_fault-other c.args.self.now c.args.words.now (λ n. omega arith)
-
-pub returns-clause-passed : goal.returns-clause-passed
-unfolding compose_fault
-returns-clause-passed c =
-    rw (four_items c.args.words.now c.index-words-0.result c.index-words-1.result c.index-words-2.result c.index-words-3.result (omega arith)
-    c.index-words-0.is c.index-words-1.is c.index-words-2.is c.index-words-3.is) c.compose_words.ensures.passed
-
-pub returns-clause-refused : goal.returns-clause-refused
-unfolding compose_fault
-returns-clause-refused c =
-    rw (four_items c.args.words.now c.index-words-0.result c.index-words-1.result c.index-words-2.result c.index-words-3.result (omega arith)
-    c.index-words-0.is c.index-words-1.is c.index-words-2.is c.index-words-3.is) c.compose_words.ensures.refused
+pub compose-requires : goal.compose-requires
+compose-requires c =
+    three_are (words_of c.in-Some.rest.now) (c.in_ok-whole.whole.now, c.in_ok-whole.first.now, c.in_ok-whole.second.now) c.in_ok-whole.ensures.ok

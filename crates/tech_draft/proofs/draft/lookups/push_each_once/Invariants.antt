@@ -1,6 +1,6 @@
 use Rattle.std.proofs.Common.{◌≡◌, drop}
-use Rattle.std.specs.Prelude.{fold, map, filter, [], ◌++◌, ◌==◌, not}
-use Rattle.tech_draft.specs.Entries.{with_type_once}
+use Rattle.std.specs.Prelude.{fold}
+use Rattle.tech_draft.specs.Lookups.{with_type_once}
 use Rattle.tech_draft.proofs.draft.lookups.push_each_once.Given as goal
 
 -- what is left gives what all give

@@ -1,0 +1,63 @@
+-- Rules that are kept, one after another.
+use Rattle.std.specs.Prelude.{◌≡◌, ℕ, Bool, true, false, cond, List, [], ◌∷◌, ◌++◌, Result, Ok, Err}
+use Rattle.std.proofs.Common.{refl, subst, inl, inr}
+use Rattle.std.proofs.lemmas.Bool.{or_parts}
+use Rattle.finite_sets.specs.Lists.{In}
+use Rattle.text_form.specs.SaidLines.{and_then}
+use Rattle.tech_model.specs.declared.raw.RawTech.{RawTech}
+use Rattle.tech_draft.specs.declared.draft.word_rules.WordRule.{WordRule}
+use Rattle.tech_draft.specs.declared.draft.word_rules.WordRule.TheVariants.{Operator, OperatorOrSlash, UnknownPlane, Meaningless}
+use Rattle.tech_draft.specs.Words.{has_operator, has_slash}
+use Rattle.tech_draft.specs.WordRules.{breaks, word_fault, refuse_word, refuse, check_entries, check_layers}
+
+-- where a row of steps ends well, each does
+pub and_then-ok : {A B F : Type 0} (first : Result A F) (next : A → Result B F) (y : B) → and_then first next ≡ Ok y
+    → (x : A) × ((first ≡ Ok x) × (next x ≡ Ok y))
+and_then-ok (Ok x) next y is = (x, (refl, is))
+and_then-ok (Err fault) next y is = absurd (cc)
+
+-- where a rule with a test is kept, the test has failed
+pub rule-ok : {A F : Type 0} (broken : Bool) (fault : F) (rest : Result A F) (y : A) → cond broken (Err fault) rest ≡ Ok y → (broken ≡ false) × (rest ≡ Ok y)
+rule-ok true fault rest y is = absurd (cc)
+rule-ok false fault rest y is = (refl, is)
+
+-- no word has what the rule forbids
+pub none_breaks : (raw : RawTech) (rule : WordRule) (words : List (List ℕ)) → refuse raw rule words ≡ Ok tt
+    → (word : List ℕ) → In word words → breaks raw rule word ≡ false
+none_breaks raw rule [] is word absent = absurd absent
+none_breaks raw rule (x ∷ xs) is word inside =
+    let steps = and_then-ok (refuse_word raw rule x) (λ _. refuse raw rule xs) tt is in
+    elim inside [
+      | inl same ↦ subst (λ (w : List ℕ). breaks raw rule w ≡ false) same (rule-ok (breaks raw rule x) (word_fault rule x) (Ok tt) steps.0 steps.1.0).0
+      | inr later ↦ none_breaks raw rule xs steps.1.1 word later
+    ]
+
+-- the words of two lists, one list behind the other
+pub refuse_append : (raw : RawTech) (rule : WordRule) (xs ys : List (List ℕ))
+    → refuse raw rule (xs ++ ys) ≡ and_then (refuse raw rule xs) (λ _. refuse raw rule ys)
+refuse_append raw rule [] ys = refl
+refuse_append raw rule (x ∷ xs) ys = elim (breaks raw rule x) as (λ b.
+    and_then (cond b (Err (word_fault rule x)) (Ok (tt {0}))) (λ _. refuse raw rule (xs ++ ys))
+    ≡ and_then (and_then (cond b (Err (word_fault rule x)) (Ok (tt {0}))) (λ _. refuse raw rule xs)) (λ _. refuse raw rule ys)) [
+      | true ↦ refl
+      | false ↦ refuse_append raw rule xs ys
+    ]
+
+-- entries that are taken mean types
+pub entries_mean : (raw : RawTech) (entries : List (List ℕ)) → check_entries raw entries ≡ Ok tt
+    → (entry : List ℕ) → In entry entries → breaks raw Meaningless entry ≡ false
+unfolding check_entries
+entries_mean raw entries is entry inside =
+    let first = and_then-ok (refuse raw Operator entries) (λ _. and_then (refuse raw UnknownPlane entries) (λ _. refuse raw Meaningless entries)) tt is in
+    let second = and_then-ok (refuse raw UnknownPlane entries) (λ _. refuse raw Meaningless entries) tt first.1.1 in
+    none_breaks raw Meaningless entries second.1.1 entry inside
+
+-- words in the place of layers' names that are taken have no slash, and mean types
+pub layers_mean : (raw : RawTech) (words : List (List ℕ)) → check_layers raw words ≡ Ok tt
+    → (word : List ℕ) → In word words → (has_slash word ≡ false) × (breaks raw Meaningless word ≡ false)
+unfolding check_layers
+layers_mean raw words is word inside =
+    let first = and_then-ok (refuse raw OperatorOrSlash words) (λ _. refuse raw Meaningless words) tt is in (
+      (or_parts (has_operator word) (has_slash word) (none_breaks raw OperatorOrSlash words first.1.0 word inside)).1,
+      none_breaks raw Meaningless words first.1.1 word inside,
+    )

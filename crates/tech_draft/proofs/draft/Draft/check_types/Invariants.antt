@@ -1,8 +1,0 @@
-use Rattle.std.proofs.Common.{◌≡◌, drop}
-use Rattle.tech_model.specs.declared.faults.TechFault.TheVariants.{NoPlane, NoType, Twice, ContactPart, TypeExpression}
-use Rattle.tech_draft.specs.Entries.{first_where, has_odd_byte, names_no_plane, plane_part, means_no_type, name_part}
-use Rattle.tech_draft.proofs.draft.Draft.check_types.Given as goal
-
--- what is left gives what all give
-abbrev pub invariant-loop-entry : goal.invariant-loop-entry
-invariant-loop-entry l = first_where (means_no_type l.self.raw) (λ entry. NoType (name_part entry)) (drop l.entry-index l.entries) ≡ first_where (means_no_type l.self.raw) (λ entry. NoType (name_part entry)) l.entries
