@@ -1,6 +1,8 @@
 -- A text whose lines are without fault gives a sound draft.
-use Rattle.std.proofs.Common.{◌≡◌, ◌+◌, ◌==◌, ◌&&◌, ℕ, Bool, cond, List, [], ◌∷◌, Result, Ok, Err, refl, sym, ap, subst, inl, inr, ◌∙◌}
+use Rattle.std.proofs.Common.{◌≡◌, ◌==◌, ◌&&◌, ℕ, Bool, List, [], ◌∷◌, Result, Ok, Err, refl, subst, inl, inr}
 use Rattle.std.proofs.lemmas.Bool.{cases_Bool}
+use Rattle.text_form.specs.Folds.{last_number}
+use Rattle.text_form.proofs.FoldLaws.{first_fault_or-keeps}
 use Rattle.tech_model.specs.declared.faults.Section.{Section}
 use Rattle.tech_model.specs.declared.faults.Section.TheVariants.{Tech, Planes, Types, Contact, Compose, Connect, Extract}
 use Rattle.tech_model.specs.declared.faults.TechFault.{TechFault}
@@ -8,24 +10,22 @@ use Rattle.tech_model.specs.declared.faults.TechFault.TheVariants.{BadForm}
 use Rattle.tech_draft.specs.Drafts.{Drafted, empty_draft}
 use Rattle.tech_draft.specs.Lines.{line_in}
 use Rattle.tech_draft.specs.Sound.{IsSound}
-use Rattle.tech_draft.proofs.SoundDrafts.{IsSound-empty, IsSound-line}
+use Rattle.tech_draft.proofs.SoundDrafts.{IsSound-empty}
+use Rattle.tech_draft.proofs.SoundLines.{IsSound-line}
+use Rattle.tech_draft.proofs.Refusals.{rule-ok}
 use Rattle.tech_file.specs.declared.places.Place.{Place}
 use Rattle.tech_file.specs.declared.places.Place.TheVariants.{Between, Skipped, Within}
 use Rattle.tech_file.specs.declared.outline.Heading.{Heading}
-use Rattle.tech_file.specs.declared.reading.TechAt.{TechAt}
+use Rattle.tech_file.specs.declared.reading.Reading.{Reading}
 use Rattle.tech_file.specs.Places.{content_of, is_end, name_alone, moved}
-use Rattle.tech_file.specs.Outlines.{headings_of, ends_open, last_number}
-use Rattle.tech_file.specs.Reading.{Reading, standing, read_between, with_draft, ended_with, in_section, read_within, read_line, read_at}
-use Rattle.tech_file.specs.Reading.{unless_faulty, read_lines, EndsWell}
+use Rattle.tech_file.specs.Outlines.{headings_of, ends_open}
+use Rattle.tech_file.specs.Reading.{standing, read_between, with_draft, ended_with, in_section, read_within, read_line, step_in, EndsWell}
 
 abbrev fine : Reading → Result Reading TechFault
 fine reading = Ok reading
 
-abbrev FineTo : Reading → Reading → Type 0
-FineTo before after = fine before ≡ fine after
-
 -- what stands at the same draft is as sound
-same_draft : (place : Place) (draft : Drafted) (reading : Reading) → IsSound draft → FineTo (standing place draft) reading → IsSound reading.draft
+same_draft : (place : Place) (draft : Drafted) (reading : Reading) → IsSound draft → fine (standing place draft) ≡ fine reading → IsSound reading.draft
 same_draft place draft reading sound e = let same : standing place draft ≡ reading = cc in subst (λ (r : Reading). IsSound r.draft) same sound
 
 with_draft-sound : (draft : Drafted) (found : Result Place TechFault) (reading : Reading) → IsSound draft → with_draft draft found ≡ Ok reading → IsSound reading.draft
@@ -50,10 +50,8 @@ in_section-sound section draft words (Err fault) reading sound read e = absurd (
 
 within-sound : (section : Section) (draft : Drafted) (words : List (List ℕ)) (reading : Reading) → IsSound draft → read_within section draft words ≡ Ok reading → IsSound reading.draft
 within-sound section draft words reading sound e = elim (cases_Bool (is_end words)) [
-  | inl holds ↦ ended-sound section draft.raw.name draft reading sound
-      (sym (ap (λ b. cond b (ended_with section draft.raw.name draft) (in_section section (line_in section draft words))) holds) ∙ e)
-  | inr fails ↦ in_section-sound section draft words (line_in section draft words) reading sound refl
-      (sym (ap (λ b. cond b (ended_with section draft.raw.name draft) (in_section section (line_in section draft words))) fails) ∙ e)
+  | inl holds ↦ ended-sound section draft.raw.name draft reading sound (rw holds at e)
+  | inr fails ↦ in_section-sound section draft words (line_in section draft words) reading sound refl (rw fails at e)
 ]
 
 line-sound : (headings : List Heading) (number : ℕ) (place : Place) (draft : Drafted) (words : List (List ℕ)) (reading : Reading) → IsSound draft
@@ -64,25 +62,12 @@ line-sound headings number Between draft (word ∷ words) reading sound e =
 line-sound headings number Skipped draft (word ∷ words) reading sound e = same_draft (moved Skipped (word ∷ words)) draft reading sound e
 line-sound headings number (Within section) draft (word ∷ words) reading sound e = within-sound section draft (word ∷ words) reading sound e
 
-at-sound : (text : List (List ℕ)) (number : ℕ) (before : Reading) (words : List (List ℕ)) (reading : Reading) → IsSound before.draft → read_at text number before words ≡ Ok reading → IsSound reading.draft
-at-sound text number before words reading sound e =
-    let go : Bool → Result Reading TechFault = λ b. cond b (Err BadForm) (read_line (headings_of text) number before.place before.draft words) in
-    elim (cases_Bool (ends_open text && number == last_number text)) [
-      | inl holds ↦ (let faulty : Err BadForm ≡ Ok reading = sym (ap go holds) ∙ e in absurd (let no : ⊥ = cc in no))
-      | inr fails ↦ line-sound (headings_of text) number before.place before.draft words reading sound (sym (ap go fails) ∙ e)
-    ]
-
-rest-sound : (number : ℕ) (found : Result Reading TechFault) (next : Reading → Result Reading TechAt) (last : Reading)
-    → ((reading : Reading) → found ≡ Ok reading → next reading ≡ Ok last → IsSound last.draft) → unless_faulty number found next ≡ Ok last → IsSound last.draft
-rest-sound number (Ok reading) next last rest e = rest reading refl e
-rest-sound number (Err fault) next last rest e = absurd (let no : ⊥ = cc in no)
-
-lines-sound : (text : List (List ℕ)) (number : ℕ) (before : Reading) (lines : List (List ℕ)) (last : Reading) → IsSound before.draft → read_lines text number before lines ≡ Ok last → IsSound last.draft
-lines-sound text number before [] last sound e = let same : before ≡ last = cc in subst (λ (r : Reading). IsSound r.draft) same sound
-lines-sound text number before (line ∷ lines) last sound e =
-    rest-sound number (read_at text number before (content_of line)) (λ next. read_lines text (number + 1) next lines) last
-    (λ next read h. lines-sound text (number + 1) next lines last (at-sound text number before (content_of line) next sound read) h) e
+step-sound : (text : List (List ℕ)) (number : ℕ) (before : Reading) (line : List ℕ) (next : Reading) → IsSound before.draft → step_in text number before line ≡ Ok next → IsSound next.draft
+step-sound text number before line next sound e =
+    let goes_on = rule-ok (ends_open text && number == last_number text) BadForm (read_line (headings_of text) number before.place before.draft (content_of line)) next e in
+    line-sound (headings_of text) number before.place before.draft (content_of line) next sound goes_on.1
 
 -- lines that end well leave a sound draft
 pub EndsWell-sound : (lines : List (List ℕ)) (draft : Drafted) → EndsWell lines draft → IsSound draft
-EndsWell-sound lines draft ends = lines-sound lines 1 (standing Between empty_draft) lines (standing ends.0 draft) IsSound-empty ends.1
+EndsWell-sound lines draft ends =
+    first_fault_or-keeps (λ (reading : Reading). IsSound reading.draft) (step_in lines) (step-sound lines) 1 (standing Between empty_draft) lines (standing ends.0 draft) IsSound-empty ends.1

@@ -1,5 +1,5 @@
 -- The outline of a technology's text: where its sections begin, and whether the last one ends.
-use Rattle.std.specs.Prelude.{◌==◌, ◌+◌, ◌&&◌, nat_lt, ℕ, Bool, true, false, max, is_none, is_some, if◌then◌else◌, List, [], ◌∷◌, ◌++◌, length, find, Option}
+use Rattle.std.specs.Prelude.{◌==◌, ◌+◌, ◌&&◌, nat_lt, ℕ, Bool, true, false, is_none, is_some, if◌then◌else◌, List, [], ◌∷◌, ◌++◌, find, Option}
 use Rattle.std.specs.Prelude.{Some, None}
 use Rattle.std.specs.List.{list_any}
 use Rattle.std.specs.Option.{option_map, option_map_or, option_and_then}
@@ -50,10 +50,6 @@ is_in_section (Within section) = true
 -- the last section has no `end`
 abbrev pub ends_open : List (List ℕ) → Bool
 ends_open lines = is_in_section (place_after Between lines)
-
--- the number of the last line, which is 1 in a text without a line
-abbrev pub last_number : List (List ℕ) → ℕ
-last_number lines = max 1 (length lines)
 
 -- A section of this line is too early where one that is to stand before it first begins at a later line.
 abbrev pub is_too_early : List Heading → ℕ → Section → Bool

@@ -1,7 +1,9 @@
 -- The technology of a text, or its first faulty line with the first fault of that line.
-use Rattle.std.specs.Prelude.{◌≡◌, ◌==◌, ◌+◌, ◌&&◌, ℕ, if◌then◌else◌, List, [], ◌∷◌, Option, Some, None, Result, Ok, Err}
+use Rattle.std.specs.Prelude.{◌≡◌, ◌==◌, ◌+◌, ◌&&◌, ℕ, Bool, if◌then◌else◌, List, [], ◌∷◌, Option, Some, None, Result, Ok, Err}
 use Rattle.std.specs.Option.{option_map, option_or}
 use Rattle.text_scan.specs.Lines.{lines_of}
+use Rattle.text_form.specs.declared.reading.At.{At}
+use Rattle.text_form.specs.Folds.{first_fault_or, last_number}
 use Rattle.tech_model.specs.declared.raw.RawTech.{RawTech}
 use Rattle.tech_model.specs.declared.faults.Section.{Section}
 use Rattle.tech_model.specs.declared.faults.Section.TheVariants.{Tech}
@@ -14,15 +16,12 @@ use Rattle.tech_draft.specs.Finished.{finished}
 use Rattle.tech_file.specs.declared.places.Place.{Place}
 use Rattle.tech_file.specs.declared.places.Place.TheVariants.{Between, Skipped, Within}
 use Rattle.tech_file.specs.declared.outline.Heading.{Heading}
+use Rattle.tech_file.specs.declared.outline.Outline.{Outline}
+use Rattle.tech_file.specs.declared.reading.Reading.{Reading}
 use Rattle.tech_file.specs.declared.reading.TechAt.{TechAt}
 use Rattle.tech_file.specs.Sections.{section_named}
 use Rattle.tech_file.specs.Places.{content_of, says_nothing, is_end, name_alone, moved}
-use Rattle.tech_file.specs.Outlines.{headings_of, is_too_early, is_second, missing, ends_open, last_number}
-
--- how the reading of a text stands: where the next line stands, and the technology as far as it was read
-pub record Reading : Type 0 where
-  pub place : Place
-  pub draft : Drafted
+use Rattle.tech_file.specs.Outlines.{headings_of, is_too_early, is_second, missing, ends_open}
 
 abbrev pub standing : Place → Drafted → Reading
 standing place draft = record { place = place; draft = draft }
@@ -71,25 +70,27 @@ read_line headings number place draft words =
     if says_nothing words then Ok (standing place draft) else read_words headings number place draft words
 
 -- The same, but for the last line of a text whose last section has no `end`: there that is the fault.
-abbrev pub read_at : List (List ℕ) → ℕ → Reading → List (List ℕ) → Result Reading TechFault
-read_at text number reading words =
-    if ends_open text && number == last_number text
+abbrev pub line_step : List Heading → ℕ → Bool → ℕ → Reading → List ℕ → Result Reading TechFault
+line_step headings last unended number reading line =
+    if unended && number == last
     then Err BadForm
-    else read_line (headings_of text) number reading.place reading.draft words
+    else read_line headings number reading.place reading.draft (content_of line)
+
+-- what a line does in a text of these lines
+abbrev pub step_in : List (List ℕ) → ℕ → Reading → List ℕ → Result Reading TechFault
+step_in lines = line_step (headings_of lines) (last_number lines) (ends_open lines)
+
+-- how the reading of a text of these lines ends
+abbrev pub text_reading : List (List ℕ) → Result Reading (At TechFault)
+text_reading lines = first_fault_or (step_in lines) 1 (standing Between empty_draft) lines
 
 abbrev pub fault_at : ℕ → TechFault → TechAt
 fault_at number fault = record { line = number; fault = fault }
 
--- what comes after a line, unless the line is faulty
-abbrev pub unless_faulty : ℕ → Result Reading TechFault → (Reading → Result Reading TechAt) → Result Reading TechAt
-unless_faulty number (Err fault) next = Err (fault_at number fault)
-unless_faulty number (Ok reading) next = next reading
-
--- how the reading of a text of these lines ends, where the lines that are left are these and the first of them has the number
-abbrev pub read_lines : List (List ℕ) → ℕ → Reading → List (List ℕ) → Result Reading TechAt
-read_lines text number reading [] = Ok reading
-read_lines text number reading (line ∷ lines) =
-    unless_faulty number (read_at text number reading (content_of line)) (λ next. read_lines text (number + 1) next lines)
+-- the same, with a fault of a technology
+abbrev pub told : Result Reading (At TechFault) → Result Reading TechAt
+told (Ok reading) = Ok reading
+told (Err at) = Err (fault_at at.line at.fault)
 
 -- what is wrong with the whole of a text whose lines are without fault: a section is missing, or a rule is broken
 abbrev pub whole_fault : List Heading → RawTech → Option TechFault
@@ -107,14 +108,16 @@ abbrev pub checked_reading : List (List ℕ) → Result Reading TechAt → Resul
 checked_reading text (Ok reading) = checked (headings_of text) (last_number text) (finished reading.draft)
 checked_reading text (Err at) = Err at
 
--- how the reading of a text ends
-abbrev pub text_reading : List (List ℕ) → Result Reading TechAt
-text_reading lines = read_lines lines 1 (standing Between empty_draft) lines
-
 -- The technology of a text, or its first faulty line, counted from 1, and that line's first fault.
 unfoldable pub technology_of : List ℕ → Result RawTech TechAt
-technology_of text = checked_reading (lines_of text) (text_reading (lines_of text))
+technology_of text = checked_reading (lines_of text) (told (text_reading (lines_of text)))
 
 -- Each line of the text is without fault, and together they give this draft.
 abbrev pub EndsWell : List (List ℕ) → Drafted → Type 0
 EndsWell lines draft = (place : Place) × (text_reading lines ≡ Ok (standing place draft))
+
+-- the outline is that of these lines
+pub record IsOutline (outline : Outline) (lines : List (List ℕ)) : Type 0 where
+  pub headings : outline.headings.items ≡ headings_of lines
+  pub last : outline.last ≡ last_number lines
+  pub unended : outline.ends_open ≡ ends_open lines

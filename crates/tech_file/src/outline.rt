@@ -2,7 +2,8 @@
 ghost use Rattle.std.specs.Prelude.{◌≡◌, ◌≢◌, [], IfOk, OnOk, IsNone};
 ghost use Rattle.text_scan.specs.Lines.{lines_of};
 ghost use Rattle.tech_file.specs.Places.{content_of};
-ghost use Rattle.tech_file.specs.Outlines.{line_of, with_heading, section_at, headings_of, is_in_section, ends_open, last_number, is_too_early, is_second};
+ghost use Rattle.text_form.specs.Folds.{last_number};
+ghost use Rattle.tech_file.specs.Outlines.{line_of, with_heading, section_at, headings_of, is_in_section, ends_open, is_too_early, is_second};
 ghost use Rattle.tech_file.specs.Outlines.{missing_section, missing};
 
 use crate::places::{Place, after, name_alone};
@@ -19,8 +20,9 @@ pub struct Heading {
 }
 
 /// The outline of a text.
-#[derive(Debug, Drop)]
+#[derive(Drop)]
 pub struct Outline {
+    pub alloc: Global,
     /// The first heading of each section.
     pub headings: Vec<Heading>,
     /// The number of the last line, and 1 where there is none.
@@ -44,6 +46,7 @@ pub fn outline_of(alloc: Global, text: &[u8]) -> Result<Outline, AllocError>
         place = after(place, line);
     }
     Ok(Outline {
+        alloc,
         headings,
         last: number.max(1),
         ends_open: is_in_section(place),

@@ -2,10 +2,8 @@
 ghost use Rattle.std.specs.Prelude.{◌≡◌, ◌≢◌, Ok, Err, IfOk, IfErr, OnOk, false};
 ghost use Rattle.text_scan.specs.Lines.{lines_of};
 ghost use Rattle.tech_model.specs.declared.faults.TechFault.TheVariants.{Memory as OutOfMemory};
-ghost use Rattle.tech_draft.specs.Drafts.{empty_draft};
-ghost use Rattle.tech_file.specs.Outlines.{headings_of, ends_open, last_number};
 ghost use Rattle.tech_file.specs.Places.{content_of, says_nothing, name_alone};
-ghost use Rattle.tech_file.specs.Reading.{standing, read_between, read_within, read_line, fault_at, text_reading, EndsWell};
+ghost use Rattle.tech_file.specs.Reading.{standing, read_between, read_within, read_line, text_reading, told, IsOutline, EndsWell};
 
 use crate::outline::{Heading, Outline, is_second, is_too_early};
 use crate::places::{Place, is_end, moved, name_alone, says_nothing};
@@ -14,7 +12,7 @@ use geo_core::Name;
 use std::alloc::Global;
 use tech_draft::Draft;
 use tech_model::{Section, TechFault};
-use text_scan::lines;
+use text_form::{At, LineReader, read_lines};
 
 /// Where in a technology's text its first fault stands, and which it is.
 #[derive(Debug, Drop)]
@@ -24,55 +22,76 @@ pub struct TechAt {
     pub fault: TechFault,
 }
 
-/// The fault of a line. A number past 32 bits cannot be told, and counts as want of memory.
-pub fn at(line: usize, fault: TechFault) -> TechAt
-    ensures told { result.fault ≢ OutOfMemory → result ≡ fault_at line fault }
-    ensures fault { result.fault ≢ OutOfMemory → fault ≢ OutOfMemory }
-{
-    match u32::try_from(line) {
-        Ok(line) => TechAt { line, fault },
-        Err(_) => TechAt {
-            line: 0,
-            fault: TechFault::Memory,
-        },
+/// How the reading of a text stands: where the next line stands, and the technology as far as it was read.
+#[derive(Drop)]
+pub struct Reading {
+    pub place: Place,
+    pub draft: Draft,
+}
+
+impl LineReader for Reading {
+    ghost use Rattle.std.specs.Prelude.{Ok};
+    ghost use Rattle.tech_model.specs.declared.faults.TechFault.TheVariants.{Memory};
+    ghost use Rattle.tech_file.specs.Reading.{line_step};
+
+    type Context = Outline;
+
+    type Fault = TechFault;
+
+    ghost memory = { Memory };
+
+    ghost step = { λ outline. line_step outline.headings.items outline.last outline.ends_open };
+
+    ghost finish = { λ _. Ok };
+
+    fn memory() -> TechFault {
+        TechFault::Memory
+    }
+
+    fn read_line(
+        &mut self,
+        outline: &Outline,
+        number: usize,
+        line: &[u8],
+    ) -> Result<(), TechFault> {
+        if outline.ends_open && number == outline.last {
+            return Err(TechFault::BadForm);
+        }
+        match read_line(
+            outline.alloc,
+            &outline.headings,
+            number,
+            self.place,
+            &mut self.draft,
+            line,
+        ) {
+            Ok(next) => {
+                self.place = next;
+                Ok(())
+            }
+            Err(fault) => Err(fault),
+        }
+    }
+
+    fn end(&mut self, _outline: &Outline) -> Result<(), TechFault> {
+        Ok(())
     }
 }
 
 /// The draft of a text's lines.
-pub fn read_lines(alloc: Global, text: &[u8], outline: &Outline) -> Result<Draft, TechAt>
-    requires headings { outline.now.headings.items ≡ headings_of (lines_of text.now) }
-    requires last { outline.now.last ≡ last_number (lines_of text.now) }
-    requires open { outline.now.ends_open ≡ ends_open (lines_of text.now) }
+pub fn read_draft(alloc: Global, text: &[u8], outline: &Outline) -> Result<Draft, TechAt>
+    requires { IsOutline outline.now (lines_of text.now) }
     ensures read { IfOk result (λ draft. EndsWell (lines_of text.now) draft) }
-    ensures refused { IfErr result (λ at. at.fault ≢ OutOfMemory → text_reading (lines_of text.now) ≡ Err at) }
+    ensures refused { IfErr result (λ at. at.fault ≢ OutOfMemory → told (text_reading (lines_of text.now)) ≡ Err at) }
 {
-    let mut draft = Draft::new(alloc);
-    read_into(alloc, text, outline, &mut draft)?;
-    Ok(draft)
-}
-
-// Reads the lines of a text into an empty draft.
-fn read_into(alloc: Global, text: &[u8], outline: &Outline, draft: &mut Draft) -> Result<(), TechAt>
-    requires headings { outline.now.headings.items ≡ headings_of (lines_of text.now) }
-    requires last { outline.now.last ≡ last_number (lines_of text.now) }
-    requires open { outline.now.ends_open ≡ ends_open (lines_of text.now) }
-    requires empty { draft.old ≡ empty_draft }
-    ensures read { OnOk result (EndsWell (lines_of text.now) draft.new) }
-    ensures refused { IfErr result (λ at. at.fault ≢ OutOfMemory → text_reading (lines_of text.now) ≡ Err at) }
-{
-    let mut place = Place::Between;
-    let mut number = 0;
-    for line in lines(text) {
-        number += 1;
-        if outline.ends_open && number == outline.last {
-            return Err(at(number, TechFault::BadForm));
-        }
-        match read_line(alloc, &outline.headings, number, place, draft, line) {
-            Ok(next) => place = next,
-            Err(fault) => return Err(at(number, fault)),
-        }
+    let mut reading = Reading {
+        place: Place::Between,
+        draft: Draft::new(alloc),
+    };
+    match read_lines(&mut reading, outline, text) {
+        Ok(_) => Ok(reading.draft),
+        Err(At { line, fault }) => Err(TechAt { line, fault }),
     }
-    Ok(())
 }
 
 // Reads a line, and says where the next one stands.

@@ -5,10 +5,10 @@ ghost use Rattle.tech_model.specs.declared.faults.TechFault.TheVariants.{Memory 
 ghost use Rattle.tech_model.specs.WellFormed.{IsWellFormed};
 ghost use Rattle.tech_draft.specs.Finished.{finished};
 ghost use Rattle.tech_draft.specs.Sound.{IsSound};
-ghost use Rattle.tech_file.specs.Reading.{checked, technology_of};
+ghost use Rattle.tech_file.specs.Reading.{fault_at, checked, technology_of};
 
 use crate::outline::{Outline, missing, outline_of};
-use crate::reading::{TechAt, at, read_lines};
+use crate::reading::{TechAt, read_draft};
 use std::alloc::Global;
 use tech_draft::Draft;
 use tech_model::{RawTech, Tech, TechFault};
@@ -25,8 +25,22 @@ pub fn read_tech(alloc: Global, bytes: &[u8]) -> Result<Tech, TechAt>
     let Ok(outline) = outline_of(alloc, bytes) else {
         return Err(at(0, TechFault::Memory));
     };
-    let draft = read_lines(alloc, bytes, &outline)?;
+    let draft = read_draft(alloc, bytes, &outline)?;
     check_whole(alloc, draft, &outline)
+}
+
+// The fault of a line. A number past 32 bits cannot be told, and counts as want of memory.
+fn at(line: usize, fault: TechFault) -> TechAt
+    ensures told { result.fault ≢ OutOfMemory → result ≡ fault_at line fault }
+    ensures fault { result.fault ≢ OutOfMemory → fault ≢ OutOfMemory }
+{
+    match u32::try_from(line) {
+        Ok(line) => TechAt { line, fault },
+        Err(_) => TechAt {
+            line: 0,
+            fault: TechFault::Memory,
+        },
+    }
 }
 
 // Checks what only the whole text shows.
@@ -36,8 +50,10 @@ fn check_whole(alloc: Global, draft: Draft, outline: &Outline) -> Result<Tech, T
     ensures refused { IfErr result (λ at. at.fault ≢ OutOfMemory →
         checked outline.now.headings.items outline.now.last (finished draft) ≡ Err at) }
 {
-    let raw = draft.into_raw();
-    check_raw(alloc, raw, outline)
+    match draft.into_raw() {
+        Ok(raw) => check_raw(alloc, raw, outline),
+        Err(fault) => Err(at(outline.last, fault)),
+    }
 }
 
 // Checks that no section is missing, and the rules.

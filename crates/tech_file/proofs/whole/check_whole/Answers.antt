@@ -5,6 +5,6 @@ use Rattle.tech_file.proofs.whole.check_whole.Goals as goal
 
 pub check_raw-requires : goal.check_raw-requires
 check_raw-requires c = λ some.
-    c.into_raw-raw.ensures.well_formed c.requires
-    (plain_if_some c.args.draft.raw.name c.requires.lists.name
-    (λ empty. some (ap (λ raw. raw.name) c.into_raw-raw.ensures.value ∙ finished_name c.args.draft ∙ empty)))
+    c.in-Ok.ensures.well_formed c.requires
+    (plain_if_some c.args.draft.raw.name c.requires.names.plain
+    (λ empty. some (ap (λ raw. raw.name) c.in-Ok.ensures.value ∙ finished_name c.args.draft ∙ empty)))
