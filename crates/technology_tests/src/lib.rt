@@ -7,3 +7,5 @@
 mod nm;
 #[cfg(test)]
 mod questions;
+#[cfg(test)]
+mod wholes;

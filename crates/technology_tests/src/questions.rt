@@ -128,7 +128,8 @@ fn is_kind(tech: &Tech, kind: u8, plane: u8, layer: u8) -> bool {
     }
 }
 
-fn are_types(kinds: &[TypeId], want: &[u8]) -> bool {
+/// Whether these are the types of these numbers.
+pub fn are_types(kinds: &[TypeId], want: &[u8]) -> bool {
     kinds.len() == want.len() && kinds.iter().zip(want).all(|(kind, want)| kind.0 == *want)
 }
 
