@@ -1,0 +1,3 @@
+pub mod Channels
+pub mod Terminals
+pub mod Laws
