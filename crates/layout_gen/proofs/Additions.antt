@@ -35,7 +35,8 @@ use Rattle.layout_gen.specs.Bodies.{AreLayers, AreMade, AreNew, IsMade, array_us
 use Rattle.layout_gen.specs.Generated.{IsGenerated, no_paint, row_grid, row_name, stack_grid, tile_labels, tile_layout, tile_name}
 use Rattle.layout_gen.proofs.MadeCells.{all_three, can_be_listed, listed, listed_generated, row_uses, stack_uses}
 use Rattle.layout_gen.proofs.Refusals.{counted}
-use Rattle.layout_gen.proofs.Sizes.{made_sizes, made_within, row_size, row_state, size_of_use, stack_state, tile_box, tile_box_is, tile_fits, tile_size, tile_size_is}
+use Rattle.layout_gen.proofs.Sizes.{made_sizes, made_within, row_size, row_state, size_of_use, stack_state, tile_box, tile_box_is, tile_fits}
+use Rattle.layout_gen.proofs.Sizes.{tile_size, tile_size_is}
 use Rattle.layout_gen.proofs.Trees.{new_size, old_size, unedited, unedited_lawful, with_cells, with_cells_lawful}
 
 -- the library as if it had never been edited

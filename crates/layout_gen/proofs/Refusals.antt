@@ -24,7 +24,8 @@ first_told first later told (inl memory) = inl memory
 first_told first later told (inr is) = inr (ap (λ (o : Option GenerateFault). option_or o later) is)
 
 -- and where the first is none
-later_told : (first later : Option GenerateFault) (told : GenerateFault) → first ≡ None → IsFaultOrMemory later told → IsFaultOrMemory (option_or first later) told
+later_told : (first later : Option GenerateFault) (told : GenerateFault) → first ≡ None → IsFaultOrMemory later told
+    → IsFaultOrMemory (option_or first later) told
 later_told first later told none (inl memory) = inl memory
 later_told first later told none (inr is) = inr (ap (λ (o : Option GenerateFault). option_or o later) none ∙ is)
 

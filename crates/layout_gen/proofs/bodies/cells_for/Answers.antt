@@ -9,7 +9,7 @@ made_cells-requires-clause-layers c = subst (λ (raw : RawTech). AreLayers raw c
 
 pub returns : goal.returns
 returns c =
-    subst (λ (raw : RawTech). IfOk c.made_cells.result (λ cells. AreMade raw c.args.layers.now (unwrap_or c.args.library.now.scale (1, 1)) c.args.n cells.items))
-    c.tech.ensures
+    let wanted = unwrap_or c.args.library.now.scale (1, 1) in
+    subst (λ (raw : RawTech). IfOk c.made_cells.result (λ cells. AreMade raw c.args.layers.now wanted c.args.n cells.items)) c.tech.ensures
     (subst (λ (scale : ℕ × ℕ). IfOk c.made_cells.result (λ cells. AreMade c.tech.result.now c.args.layers.now scale c.args.n cells.items))
     c.next_scale-scale.ensures c.made_cells.ensures)
