@@ -36,7 +36,7 @@ group_name_along raw (named_tree own elements) a b name together is =
     (λ m has. (has.0, Chain-append together has.1, has.2)) name is
 
 -- a member below begins with the name of its element
-member_begins : (raw : RawTech) (elements : NamedElements) (place : Place) (member : List ℕ) → IsMemberBelow raw elements place member
+pub member_begins : (raw : RawTech) (elements : NamedElements) (place : Place) (member : List ℕ) → IsMemberBelow raw elements place member
     → BeginsIn (ids_in elements) member
 member_begins raw no_more place member none = absurd none
 member_begins raw (element_then id placed tree rest) place member (inl here) =

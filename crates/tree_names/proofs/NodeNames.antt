@@ -118,7 +118,7 @@ module _ (raw : RawTech) (formed : IsWellFormed raw) (rules : KeepsRules raw) (t
         (subst (λ (name : List ℕ). AreOneNode elements name (full_name [] other)) (sym same) (one_place_one_node b two.0 other two.1 there))
 
     -- a place that is linked has a path
-    linked_path : (a b : Place) → AreFlatLinked raw tree a b → (path : List ℕ) × HasNodePath raw tree a path
+    pub linked_path : (a b : Place) → AreFlatLinked raw tree a b → (path : List ℕ) × HasNodePath raw tree a path
     linked_path a b (inl link) = some_path raw formed rules exts tree is has a link.here
     linked_path a b (inr share) = let found = text_has_path raw formed rules exts tree has share.text share.global a share.here in
         (found.0, found.1)
