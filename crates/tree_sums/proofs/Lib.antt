@@ -1,0 +1,15 @@
+pub mod NamedSums
+pub mod Columns
+pub mod MaterialPlaces
+pub mod Shares
+pub mod OwnMembers
+pub mod GroupShares
+pub mod AllGroups
+pub mod BelowSums
+pub mod CellSums
+pub mod ClosedSums
+pub mod ElementSums
+pub mod GroupTests
+pub mod FlatTotals
+pub mod FlatMeasures
+pub mod FlatNodes
