@@ -1,0 +1,39 @@
+//! Groups of a clean cell, and the squares at which its parts meet: the members of a group are joined there.
+//!
+//! # How the proof goes
+//!
+//! Where a member has a place its part has material (`PartMembers`, `MemberMaterial`). Along a link of its part, a node of the own layout or
+//! a group of an element a member stays the same, and a part has one member at a place (`MemberSteps`). So each step of a group keeps the
+//! member, or there are two parts, and these meet in squares that the restricted flat layout has (`RegionLaws`, `MeetingMembers`).
+#![tactic(auto)]
+
+ghost use Rattle.group_meetings.specs.Laws.{DifferentMembersMeetInRegions, MembersAreJoinedByRegions};
+ghost use Rattle.group_meetings.specs.Laws.{MembersOfLargerGroupsAreWithin, RecordedPartsHaveMembers, RegionsAreInGroups};
+
+use tech_model::Tech;
+
+/// Two different members that share a place, or have places that the flat layout links, meet in one region of the restricted flat layout. It
+/// does nothing.
+pub fn different_members_meet_in_regions(tech: &Tech)
+    ensures { DifferentMembersMeetInRegions tech.now }
+{}
+
+/// Two members of one group are joined by members each of which meets the next in a region of the restricted flat layout. It does nothing.
+pub fn members_are_joined_by_regions(tech: &Tech)
+    ensures { MembersAreJoinedByRegions tech.now }
+{}
+
+/// Where the nodes of the own layout and the cells of the elements have records, each part has members. It does nothing.
+pub fn recorded_parts_have_members(tech: &Tech)
+    ensures { RecordedPartsHaveMembers tech.now }
+{}
+
+/// What links of the restricted flat layout join is of one group. It does nothing.
+pub fn regions_are_in_groups(tech: &Tech)
+    ensures { RegionsAreInGroups tech.now }
+{}
+
+/// Each member of a group of two or more has a place of it in the squares at which parts meet. It does nothing.
+pub fn members_of_larger_groups_are_within(tech: &Tech)
+    ensures { MembersOfLargerGroupsAreWithin tech.now }
+{}

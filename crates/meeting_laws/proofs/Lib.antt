@@ -1,0 +1,6 @@
+pub mod LinkLaws
+pub mod ListSums
+pub mod ExcessLaws
+pub mod RestrictionLaws
+pub mod QuantityLaws
+pub mod PartLinks

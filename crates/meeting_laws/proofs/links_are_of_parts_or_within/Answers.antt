@@ -1,0 +1,6 @@
+use Rattle.meeting_laws.specs.PartLayouts.{Passes}
+use Rattle.meeting_laws.proofs.LinkLaws.{link_of_part}
+use Rattle.meeting_laws.proofs.links_are_of_parts_or_within.Goals as goal
+
+pub returns : goal.returns
+returns c = λ within parts holds a b link. link_of_part (Passes within) parts holds c.args.tech.now a b link
