@@ -1,0 +1,21 @@
+-- The laws of circuits of cells that use each other, as statements.
+use Rattle.std.specs.Prelude.{◌≡◌, ◌≤◌, List, Some}
+use Rattle.tech_model.specs.declared.raw.RawTech.{RawTech}
+use Rattle.tech_model.specs.Rules.{KeepsRules}
+use Rattle.tech_model.specs.WellFormed.{IsWellFormed}
+use Rattle.ext_model.specs.declared.circuits.Circuit.{Circuit}
+use Rattle.ext_model.specs.declared.records.CellExt.{CellExt}
+use Rattle.circuit_model.specs.declared.limits.TheConstants.{LONGEST_CHAIN}
+use Rattle.circuit_model.specs.Circuits.{IsMeaning}
+use Rattle.circuit_model.specs.Elements.{ext_of}
+use Rattle.named_trees.specs.NamedTrees.{NamedTree, own_body}
+use Rattle.tree_records.specs.TreeCircuits.{IsFlatCircuit}
+use Rattle.tree_records.specs.TreeRecords.{HasTreeRecords}
+use Rattle.tree_names.specs.CleanTrees.{IsCleanTree, depth_of}
+
+-- the circuit that the records of a clean cell and of all below it mean is that of its flat layout
+abbrev pub RecordsStandForTheFlatLayout : Type 0
+RecordsStandForTheFlatLayout =
+    (raw : RawTech) (exts : List CellExt) (tree : NamedTree) (root : CellExt) (circuit : Circuit) → IsWellFormed raw → KeepsRules raw
+    → IsCleanTree raw tree → HasTreeRecords raw exts tree → ext_of exts (own_body tree).name ≡ Some root → depth_of tree ≤ LONGEST_CHAIN
+    → IsMeaning exts root circuit → IsFlatCircuit raw tree circuit
