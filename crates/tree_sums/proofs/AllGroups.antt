@@ -23,8 +23,8 @@ use Rattle.named_trees.specs.FlatLayouts.{flat_layout}
 use Rattle.named_trees.specs.MemberGroups.{AreOneGroup, IsGroupName, IsMemberAt}
 use Rattle.named_trees.specs.NamedTrees.{NamedTree}
 use Rattle.tree_records.specs.Merges.{AreGroupMerges, MemberGroup, IsMemberGroup, HasGroupIn, group_name, group_merges}
-use Rattle.tree_sums.specs.TreeSums.{Column}
-use Rattle.tree_sums.proofs.Columns.{IsColumn, amount_of}
+use Rattle.tree_sums.specs.TreeSums.{RecordedQuantity}
+use Rattle.tree_sums.proofs.RecordedQuantities.{IsRecordedQuantity, amount_of}
 use Rattle.tree_sums.proofs.GroupShares.{IsShared, shares_of, first_is_name, merges_passing, merges_of_group, cond_nothing}
 use Rattle.full_names.proofs.ListOrders.{not_before_itself}
 use Rattle.tree_sums.proofs.Shares.{Shared, adds_passing}
@@ -59,14 +59,14 @@ names_differ (group ∷ groups) ordered = (
 abbrev pub shared_names : List Shared → List (List ℕ)
 shared_names groups = map (λ shared. shared.name) groups
 
-module _ (raw : RawTech) (column : Column) (columns : IsColumn raw column) (tree : NamedTree) where
+module _ (raw : RawTech) (quantity : RecordedQuantity) (quantities : IsRecordedQuantity raw quantity) (tree : NamedTree) where
   -- Groups of the list have these shares.
   record ToldShares (groups : List MemberGroup) : Type 0 where
     list : List Shared
-    sound : (shared : Shared) → In shared list → IsShared raw column.quantity tree shared
+    sound : (shared : Shared) → In shared list → IsShared raw quantity.weight tree shared
     names : shared_names list ≡ map group_name groups
     whole : (group : MemberGroup) → In group groups → (shared : Shared) × (In shared list × (names_in shared.members ≡ group.members))
-    adds : (passes : List ℕ → Bool) → merges_passing column passes (flat_map (group_merges (rules_of raw).classes) groups) ≡ adds_passing passes list
+    adds : (passes : List ℕ → Bool) → merges_passing quantity passes (flat_map (group_merges (rules_of raw).classes) groups) ≡ adds_passing passes list
 
   told_shares : (groups : List MemberGroup) → ((group : MemberGroup) → In group groups → IsMemberGroup raw tree group) → ToldShares groups
   told_shares [] sound = record {
@@ -77,12 +77,12 @@ module _ (raw : RawTech) (column : Column) (columns : IsColumn raw column) (tree
     adds = λ passes. refl;
   }
   told_shares (group ∷ groups) sound =
-      let first = shares_of raw column columns tree group (sound group (inl refl)) in
+      let first = shares_of raw quantity quantities tree group (sound group (inl refl)) in
       let rest = told_shares groups (λ other here. sound other (inr here)) in
       record {
         list = first.shared ∷ rest.list;
         sound = λ shared here. elim here [
-          | inl same ↦ subst (IsShared raw column.quantity tree) same first.is
+          | inl same ↦ subst (IsShared raw quantity.weight tree) same first.is
           | inr later ↦ rest.sound shared later
         ];
         names = λ k. first.name k ∷ rest.names k;
@@ -92,11 +92,11 @@ module _ (raw : RawTech) (column : Column) (columns : IsColumn raw column) (tree
         ];
         adds = λ passes.
             let classes = (rules_of raw).classes in
-            let w : MergeRec → ℤ = λ merge. cond (passes merge.first) (column.of_merge merge) (pos 0) in
+            let w : MergeRec → ℤ = λ merge. cond (passes merge.first) (quantity.of_merge merge) (pos 0) in
             sum_on-append w (group_merges classes group) (flat_map (group_merges classes) groups)
-            ∙ ap (λ z. z +ℤ sum_on w (flat_map (group_merges classes) groups)) (merges_of_group raw column columns passes tree group (sound group (inl refl)))
-            ∙ ap (λ z. cond (passes (group_name group)) (amount_of column group.adjustment) (pos 0) +ℤ z) (rest.adds passes)
-            ∙ ap (λ (name : List ℕ). cond (passes name) (amount_of column group.adjustment) (pos 0) +ℤ adds_passing passes rest.list) (sym first.name)
+            ∙ ap (λ z. z +ℤ sum_on w (flat_map (group_merges classes) groups)) (merges_of_group raw quantity quantities passes tree group (sound group (inl refl)))
+            ∙ ap (λ z. cond (passes (group_name group)) (amount_of quantity group.adjustment) (pos 0) +ℤ z) (rest.adds passes)
+            ∙ ap (λ (name : List ℕ). cond (passes name) (amount_of quantity group.adjustment) (pos 0) +ℤ adds_passing passes rest.list) (sym first.name)
             ∙ ap (λ z. cond (passes first.shared.name) z (pos 0) +ℤ adds_passing passes rest.list) (sym first.adds);
       }
 
@@ -116,7 +116,7 @@ module _ (raw : RawTech) (column : Column) (columns : IsColumn raw column) (tree
     -- Groups of one of the members each that add nothing, for those that merges do not tell of.
     record OtherShares (members : List (List ℕ)) : Type 0 where
       list : List Shared
-      sound_others : (shared : Shared) → In shared list → IsShared raw column.quantity tree shared
+      sound_others : (shared : Shared) → In shared list → IsShared raw quantity.weight tree shared
       names : (name : List ℕ) → In name (shared_names list) → In name members × (In name told_members → ⊥)
       differ : Distinct (shared_names list)
       whole : (member : List ℕ) → In member members → In member told_members ⊎ ((shared : Shared) × (In shared list × In member (names_in shared.members)))
@@ -124,14 +124,14 @@ module _ (raw : RawTech) (column : Column) (columns : IsColumn raw column) (tree
 
     -- a group that merges do not tell of
     untold : (place : Place) (member : List ℕ) → IsMemberAt raw tree place member → (In member told_members → ⊥) → (told : HasGroupIn raw tree groups place)
-        → (group_name told.group ≡ member) × (amount_of column told.group.adjustment ≡ pos 0)
+        → (group_name told.group ≡ member) × (amount_of quantity told.group.adjustment ≡ pos 0)
     untold place member at new told = elim told.listed [
       | inl listed ↦ absurd (new (In-flat_map (λ (group : MemberGroup). group.members) told.group member groups listed
           (named_member place member told.group told.is told.named at)))
       | inr alone ↦
           let P : List (List ℕ) → Type 0 = λ members. In member members in
           let here = subst P alone.0 (named_member place member told.group told.is told.named at) in
-          (elim here [ inl same ↦ same | inr none ↦ absurd none ], columns.none told.group.adjustment alone.1)
+          (elim here [ inl same ↦ same | inr none ↦ absurd none ], quantities.none told.group.adjustment alone.1)
     ]
 
     other_shares : (members : List (List ℕ)) → Distinct members
@@ -163,12 +163,12 @@ module _ (raw : RawTech) (column : Column) (columns : IsColumn raw column) (tree
               let here = at member (inl refl) in
               let told = here.1.1 in
               let alone = untold here.0 member here.1.0 new told in
-              let first = shares_of raw column columns tree told.group told.is in
+              let first = shares_of raw quantity quantities tree told.group told.is in
               let name : first.shared.name ≡ member = first.name ∙ alone.0 in
               record {
                 list = first.shared ∷ rest.list;
                 sound_others = λ shared among. elim among [
-                  | inl same ↦ subst (IsShared raw column.quantity tree) same first.is
+                  | inl same ↦ subst (IsShared raw quantity.weight tree) same first.is
                   | inr later ↦ rest.sound_others shared later
                 ];
                 names = λ other among. elim among [
@@ -209,11 +209,11 @@ module _ (raw : RawTech) (column : Column) (columns : IsColumn raw column) (tree
   -- All groups of a cell with these members: each has a place in the list, and the merges have what they add.
   pub record AllShares (merges : List MergeRec) : Type 0 where
     pub list : List Shared
-    pub sound : (shared : Shared) → In shared list → IsShared raw column.quantity tree shared
+    pub sound : (shared : Shared) → In shared list → IsShared raw quantity.weight tree shared
     pub differ : Distinct (shared_names list)
     pub whole : (place : Place) (member : List ℕ) → IsMemberAt raw tree place member
         → (shared : Shared) × (In shared list × In member (names_in shared.members))
-    pub adds : (passes : List ℕ → Bool) → merges_passing column passes merges ≡ adds_passing passes list
+    pub adds : (passes : List ℕ → Bool) → merges_passing quantity passes merges ≡ adds_passing passes list
 
   -- the groups of a cell whose members are known
   pub all_shares : ((a b : Place) (name : List ℕ) → IsGroupName raw tree a name → IsGroupName raw tree b name → AreOneGroup raw tree a b)
@@ -255,5 +255,5 @@ module _ (raw : RawTech) (column : Column) (columns : IsColumn raw column) (tree
             let w : Shared → ℤ = λ shared. cond (passes shared.name) shared.adds (pos 0) in
             let none : adds_passing passes others.list ≡ pos 0 =
             sum_on-nothing w others.list (λ shared here. cond_nothing (passes shared.name) shared.adds (others.nothing shared here)) in
-            ap (merges_passing column passes) are.are ∙ told.adds passes ∙ omega (arith, ints, none) ∙ sym (sum_on-append w told.list others.list);
+            ap (merges_passing quantity passes) are.are ∙ told.adds passes ∙ omega (arith, ints, none) ∙ sym (sum_on-append w told.list others.list);
       }

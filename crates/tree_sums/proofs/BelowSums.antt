@@ -22,23 +22,23 @@ use Rattle.tree_records.specs.PlaceWeights.{PlaceWeight, IsGroupTotal, IsTotalBe
 use Rattle.tree_names.specs.CleanTrees.{ids_in, HaveElementNames}
 use Rattle.tree_names.proofs.GroupNames.{member_begins}
 use Rattle.tree_names.proofs.Paths.{begins_once, one_split}
-use Rattle.tree_sums.specs.TreeSums.{Column, tree_sum, tree_sum_below, IsOfGroups, AreOfGroups, AreGroupTotals, sum_passing}
+use Rattle.tree_sums.specs.TreeSums.{RecordedQuantity, tree_sum, tree_sum_below, IsOfGroups, AreOfGroups, AreGroupTotals, sum_passing}
 use Rattle.tree_sums.proofs.NamedSums.{names_in}
 
 -- The groups of a cell with what they have, which is what the records at and below it have.
-pub record Closed (raw : RawTech) (column : Column) (exts : List CellExt) (tree : NamedTree) : Type 0 where
+pub record Closed (raw : RawTech) (quantity : RecordedQuantity) (exts : List CellExt) (tree : NamedTree) : Type 0 where
   pub groups : List (List ℕ × ℤ)
-  pub are : AreGroupTotals raw column.quantity tree groups
-  pub closes : (passes : List ℕ → Bool) → IsOfGroups raw tree passes → tree_sum column exts tree passes ≡ sum_passing passes groups
+  pub are : AreGroupTotals raw quantity.weight tree groups
+  pub closes : (passes : List ℕ → Bool) → IsOfGroups raw tree passes → tree_sum quantity exts tree passes ≡ sum_passing passes groups
 
 -- The same of the members of a cell that are groups of its elements' cells.
-pub record ClosedBelow (raw : RawTech) (column : Column) (exts : List CellExt) (elements : NamedElements) : Type 0 where
+pub record ClosedBelow (raw : RawTech) (quantity : RecordedQuantity) (exts : List CellExt) (elements : NamedElements) : Type 0 where
   pub members : List (List ℕ × ℤ)
   pub differ : Distinct (names_in members)
   pub placed : (member : List ℕ) → In member (names_in members) → (place : Place) × IsMemberBelow raw elements place member
   pub known : (place : Place) (member : List ℕ) → IsMemberBelow raw elements place member → In member (names_in members)
-  pub totals : (one : List ℕ × ℤ) → In one members → (total : ℤ) → IsTotalBelow raw column.quantity elements one.0 total → total ≡ one.1
-  pub closes : (passes : List ℕ → Bool) → AreOfGroups raw elements passes → tree_sum_below column exts elements passes ≡ sum_passing passes members
+  pub totals : (one : List ℕ × ℤ) → In one members → (total : ℤ) → IsTotalBelow raw quantity.weight elements one.0 total → total ≡ one.1
+  pub closes : (passes : List ℕ → Bool) → AreOfGroups raw elements passes → tree_sum_below quantity exts elements passes ≡ sum_passing passes members
 
 -- a group seen from the cell above
 abbrev total_above : List ℕ → List ℕ × ℤ → List ℕ × ℤ
@@ -50,13 +50,13 @@ name_above : (raw : RawTech) (placed : Transform) (tree : NamedTree) (place : Pl
 name_above raw placed tree place name is = subst (λ (p : Place). IsGroupName raw tree p name) (sym (back_from_above placed place)) is
 
 -- what is counted below is a member below
-pub total_has_place : (raw : RawTech) (quantity : PlaceWeight) (elements : NamedElements) (member : List ℕ) (total : ℤ)
-    → IsTotalBelow raw quantity elements member total → (place : Place) × IsMemberBelow raw elements place member
-total_has_place raw quantity no_more member total none = absurd none
-total_has_place raw quantity (element_then id placed tree rest) member total (inl here) =
+pub total_has_place : (raw : RawTech) (weight : PlaceWeight) (elements : NamedElements) (member : List ℕ) (total : ℤ)
+    → IsTotalBelow raw weight elements member total → (place : Place) × IsMemberBelow raw elements place member
+total_has_place raw weight no_more member total none = absurd none
+total_has_place raw weight (element_then id placed tree rest) member total (inl here) =
     (place_forth placed here.1, inl (here.0, name_above raw placed tree here.1 here.0 here.2, here.3))
-total_has_place raw quantity (element_then id placed tree rest) member total (inr later) =
-    let found = total_has_place raw quantity rest member total later in
+total_has_place raw weight (element_then id placed tree rest) member total (inr later) =
+    let found = total_has_place raw weight rest member total later in
     (found.0, inr found.1)
 
 -- groups seen from above have the names that they are seen by
@@ -82,9 +82,9 @@ seen_differ id whole (group ∷ groups) differ = (
   seen_differ id whole groups differ.1,
 )
 
-module _ (raw : RawTech) (column : Column) (exts : List CellExt) where
+module _ (raw : RawTech) (quantity : RecordedQuantity) (exts : List CellExt) where
   -- no elements have nothing
-  pub none_below : ClosedBelow raw column exts no_more
+  pub none_below : ClosedBelow raw quantity exts no_more
   none_below = record {
     members = [];
     differ = tt;
@@ -95,7 +95,7 @@ module _ (raw : RawTech) (column : Column) (exts : List CellExt) where
   }
 
   module _ (id : List ℕ) (placed : Transform) (tree : NamedTree) (rest : NamedElements) (whole : slashes_in id ≡ 0) (new : In id (ids_in rest) → ⊥)
-      (plain : HaveElementNames rest) (first : Closed raw column exts tree) (later : ClosedBelow raw column exts rest) where
+      (plain : HaveElementNames rest) (first : Closed raw quantity exts tree) (later : ClosedBelow raw quantity exts rest) where
     abbrev seen : List (List ℕ × ℤ)
     seen = map (total_above id) first.groups
 
@@ -140,7 +140,7 @@ module _ (raw : RawTech) (column : Column) (exts : List CellExt) where
         (In-append_right member (names_in seen) (names_in later.members) (later.known place member below))
 
     member_total : (one : List ℕ × ℤ) → In one (seen ++ later.members) → (total : ℤ)
-        → IsTotalBelow raw column.quantity (element_then id placed tree rest) one.0 total → total ≡ one.1
+        → IsTotalBelow raw quantity.weight (element_then id placed tree rest) one.0 total → total ≡ one.1
     member_total one here total is =
         let name : List ℕ × ℤ → List ℕ = λ pair. pair.0 in
         elim (In-append_cases one seen later.members here) [
@@ -151,11 +151,11 @@ module _ (raw : RawTech) (column : Column) (exts : List CellExt) where
               elim is [
                 | inl below ↦
                     let same = (one_split id id below.0 group.0.0 whole whole (sym below.3 ∙ sym named)).1 in
-                    let P : List ℕ → Type 0 = λ n. IsGroupTotal raw column.quantity tree n total in
-                    Total-unique (λ place. IsGroupName raw tree place group.0.0) (column.quantity (flat_layout raw tree)) total group.0.1
+                    let P : List ℕ → Type 0 = λ n. IsGroupTotal raw quantity.weight tree n total in
+                    Total-unique (λ place. IsGroupName raw tree place group.0.0) (quantity.weight (flat_layout raw tree)) total group.0.1
                     (subst P same below.4) (first.are.totals group.0 group.1.0) ∙ number
                 | inr below ↦
-                    let other = total_has_place raw column.quantity rest one.0 total below in
+                    let other = total_has_place raw quantity.weight rest one.0 total below in
                     absurd (other_element group.0 one.0 named other.0 other.1)
               ]
           | inr others ↦ elim is [
@@ -167,7 +167,7 @@ module _ (raw : RawTech) (column : Column) (exts : List CellExt) where
         ]
 
     -- one element more
-    pub element_below : ClosedBelow raw column exts (element_then id placed tree rest)
+    pub element_below : ClosedBelow raw quantity exts (element_then id placed tree rest)
     element_below = record {
       members = seen ++ later.members;
       differ = members_differ;
@@ -176,7 +176,7 @@ module _ (raw : RawTech) (column : Column) (exts : List CellExt) where
       totals = member_total;
       closes = λ passes of.
           let w : List ℕ × ℤ → ℤ = λ one. cond (passes one.0) one.1 (pos 0) in
-          ap (λ z. z +ℤ tree_sum_below column exts rest passes)
+          ap (λ z. z +ℤ tree_sum_below quantity exts rest passes)
           (first.closes (λ path. passes (path_text (id ∷ []) path)) of.0 ∙ sym (sum_on-map (total_above id) w first.groups))
           ∙ ap (λ z. sum_passing passes seen +ℤ z) (later.closes passes of.1)
           ∙ sym (sum_on-append w seen later.members);

@@ -26,10 +26,10 @@ use Rattle.tree_names.proofs.GroupNames.{group_name_along, member_begins, member
 use Rattle.tree_names.proofs.GroupNodes.{group_back}
 use Rattle.tree_names.proofs.OwnNames.{goes_by_own, own_name_whole}
 use Rattle.tree_names.proofs.Paths.{begins_with_slash}
-use Rattle.tree_sums.specs.TreeSums.{Column, tree_sum, tree_sum_below, found_sum, IsOfGroups, NamesGroup, AreGroupTotals, sum_passing}
+use Rattle.tree_sums.specs.TreeSums.{RecordedQuantity, tree_sum, tree_sum_below, found_sum, IsOfGroups, NamesGroup, AreGroupTotals, sum_passing}
 use Rattle.tree_sums.proofs.AllGroups.{AllShares, all_shares, shared_names}
 use Rattle.tree_sums.proofs.BelowSums.{Closed, ClosedBelow, total_has_place}
-use Rattle.tree_sums.proofs.Columns.{IsColumn}
+use Rattle.tree_sums.proofs.RecordedQuantities.{IsRecordedQuantity}
 use Rattle.tree_sums.proofs.GroupShares.{IsShared, merges_passing}
 use Rattle.tree_sums.proofs.MaterialPlaces.{member_place}
 use Rattle.tree_sums.proofs.OwnMembers.{own_members, own_differ, own_placed, own_known, own_total}
@@ -41,9 +41,9 @@ wholes_names : (groups : List Shared) → names_in (wholes_of groups) ≡ shared
 wholes_names [] = refl
 wholes_names (shared ∷ groups) = ap (λ (names : List (List ℕ)). shared.name ∷ names) (wholes_names groups)
 
-module _ (raw : RawTech) (well : IsWellFormed raw) (rules : KeepsRules raw) (column : Column) (columns : IsColumn raw column) (exts : List CellExt)
+module _ (raw : RawTech) (well : IsWellFormed raw) (rules : KeepsRules raw) (quantity : RecordedQuantity) (quantities : IsRecordedQuantity raw quantity) (exts : List CellExt)
     (own : OwnBody) (elements : NamedElements) (is : IsCleanTree raw (named_tree own elements))
-    (has : HasTreeRecord raw exts (named_tree own elements)) (below : ClosedBelow raw column exts elements) where
+    (has : HasTreeRecord raw exts (named_tree own elements)) (below : ClosedBelow raw quantity exts elements) where
   abbrev tree : NamedTree
   tree = named_tree own elements
 
@@ -52,7 +52,7 @@ module _ (raw : RawTech) (well : IsWellFormed raw) (rules : KeepsRules raw) (col
 
   -- the nodes of the record
   abbrev nodes : List (List ℕ × ℤ)
-  nodes = own_members column has.ext.nodes
+  nodes = own_members quantity has.ext.nodes
 
   -- all members, each with what it has
   abbrev members : List (List ℕ × ℤ)
@@ -60,7 +60,7 @@ module _ (raw : RawTech) (well : IsWellFormed raw) (rules : KeepsRules raw) (col
 
   -- each node has a place
   node_placed : (member : List ℕ) → In member (names_in nodes) → (place : Place) × IsOfNode raw own.layout own.labels member place
-  node_placed = own_placed raw own column has.ext.nodes well is.typed.0 has.is.nodes
+  node_placed = own_placed raw own quantity has.ext.nodes well is.typed.0 has.is.nodes
 
   -- a node of the own layout is no group of an element
   node_apart : (place other : Place) (member : List ℕ) → IsOfNode raw own.layout own.labels member place → IsMemberBelow raw elements other member → ⊥
@@ -71,7 +71,7 @@ module _ (raw : RawTech) (well : IsWellFormed raw) (rules : KeepsRules raw) (col
   members_differ : Distinct (names_in members)
   members_differ =
       subst Distinct (sym (map-append name_of nodes below.members))
-      (Distinct-append (names_in nodes) (names_in below.members) (own_differ raw own column has.ext.nodes well is.typed.0 has.is.nodes) below.differ
+      (Distinct-append (names_in nodes) (names_in below.members) (own_differ raw own quantity has.ext.nodes well is.typed.0 has.is.nodes) below.differ
       (λ member here there.
       let node = node_placed member here in
       let group = below.placed member there in
@@ -89,15 +89,15 @@ module _ (raw : RawTech) (well : IsWellFormed raw) (rules : KeepsRules raw) (col
   known : (place : Place) (member : List ℕ) → IsMemberAt raw tree place member → In member (names_in members)
   known place member (inl node) =
       subst (In member) (sym (map-append name_of nodes below.members))
-      (In-append_left member (names_in nodes) (names_in below.members) (own_known raw own column has.ext.nodes well is.typed.0 has.is.nodes place member node))
+      (In-append_left member (names_in nodes) (names_in below.members) (own_known raw own quantity has.ext.nodes well is.typed.0 has.is.nodes place member node))
   known place member (inr group) =
       subst (In member) (sym (map-append name_of nodes below.members))
       (In-append_right member (names_in nodes) (names_in below.members) (below.known place member group))
 
   -- what is counted of a member is what it has
-  member_total : (one : List ℕ × ℤ) → In one members → (total : ℤ) → IsMemberTotal raw column.quantity tree one.0 total → total ≡ one.1
+  member_total : (one : List ℕ × ℤ) → In one members → (total : ℤ) → IsMemberTotal raw quantity.weight tree one.0 total → total ≡ one.1
   member_total one here total (inl node) = elim (In-append_cases one nodes below.members here) [
-    | inl mine ↦ own_total raw own column has.ext.nodes well is.typed.0 has.is.nodes columns one mine total node.sum
+    | inl mine ↦ own_total raw own quantity has.ext.nodes well is.typed.0 has.is.nodes quantities one mine total node.sum
     | inr group ↦
         let found = below.placed one.0 (In-map name_of one below.members group) in
         absurd (node_apart node.place found.0 one.0 node.of_node found.1)
@@ -105,21 +105,21 @@ module _ (raw : RawTech) (well : IsWellFormed raw) (rules : KeepsRules raw) (col
   member_total one here total (inr group) = elim (In-append_cases one nodes below.members here) [
     | inl mine ↦
         let node = node_placed one.0 (In-map name_of one nodes mine) in
-        let found = total_has_place raw column.quantity elements one.0 total group in
+        let found = total_has_place raw quantity.weight elements one.0 total group in
         absurd (node_apart node.0 found.0 one.0 node.1 found.1)
     | inr others ↦ below.totals one others total group
   ]
 
   -- all groups of the cell
-  all : AllShares raw column columns tree has.ext.merges
-  all = all_shares raw column columns tree (one_group raw well tree is) has.ext.merges has.is.merges (names_in members) members_differ
+  all : AllShares raw quantity quantities tree has.ext.merges
+  all = all_shares raw quantity quantities tree (one_group raw well tree is) has.ext.merges has.is.merges (names_in members) members_differ
       (λ member here. let at = placed member here in (at.0, (at.1, member_place raw well rules tree is at.0 member at.1))) known
 
   abbrev parts : List (List ℕ × ℤ)
   parts = flat_map (λ (shared : Shared). shared.members) all.list
 
   -- groups that share a member go by one name
-  one_owner : (one other : Shared) → IsShared raw column.quantity tree one → IsShared raw column.quantity tree other → (member : List ℕ)
+  one_owner : (one other : Shared) → IsShared raw quantity.weight tree one → IsShared raw quantity.weight tree other → (member : List ℕ)
       → In member (names_in one.members) → In member (names_in other.members) → one.name ≡ other.name
   one_owner one other sound sound_other member here there =
       let first = (sound.members member).0 here in
@@ -130,7 +130,7 @@ module _ (raw : RawTech) (well : IsWellFormed raw) (rules : KeepsRules raw) (col
       one_group_name raw tree sound_other.place one.name other.name
       (group_name_along raw tree sound.place sound_other.place one.name joined sound.named) sound_other.named
 
-  parts_differ : (groups : List Shared) → ((shared : Shared) → In shared groups → IsShared raw column.quantity tree shared)
+  parts_differ : (groups : List Shared) → ((shared : Shared) → In shared groups → IsShared raw quantity.weight tree shared)
       → Distinct (shared_names groups) → Distinct (names_in (flat_map (λ shared. shared.members) groups))
   parts_differ [] sound differ = tt
   parts_differ (shared ∷ groups) sound differ =
@@ -168,7 +168,7 @@ module _ (raw : RawTech) (well : IsWellFormed raw) (rules : KeepsRules raw) (col
       (λ one other here there same.
       let owner = In-flat_map_source members_of other all.list there in
       let total = (all.sound owner.0 owner.1.0).totals other owner.1.1 in
-      let P : List ℕ → Type 0 = λ n. IsMemberTotal raw column.quantity tree n other.1 in
+      let P : List ℕ → Type 0 = λ n. IsMemberTotal raw quantity.weight tree n other.1 in
       sym (member_total one here other.1 (subst P (sym same) total)))
 
   -- a group of the cell is listed
@@ -191,7 +191,7 @@ module _ (raw : RawTech) (well : IsWellFormed raw) (rules : KeepsRules raw) (col
       let sound = all.sound found.0 found.1.0 in
       (sound.place, subst (IsGroupName raw tree sound.place) found.1.1 sound.named)
 
-  are_totals : AreGroupTotals raw column.quantity tree (wholes_of all.list)
+  are_totals : AreGroupTotals raw quantity.weight tree (wholes_of all.list)
   are_totals = record {
     named = (
       subst Distinct (sym (wholes_names all.list)) all.differ,
@@ -201,7 +201,7 @@ module _ (raw : RawTech) (well : IsWellFormed raw) (rules : KeepsRules raw) (col
     totals = λ group here.
         let whole_of : Shared → List ℕ × ℤ = λ shared. (shared.name, shared.whole) in
         let found = In-map_source whole_of group all.list here in
-        let P : List ℕ × ℤ → Type 0 = λ pair. IsGroupTotal raw column.quantity tree pair.0 pair.1 in
+        let P : List ℕ × ℤ → Type 0 = λ pair. IsGroupTotal raw quantity.weight tree pair.0 pair.1 in
         subst P found.1.1 (all.sound found.0 found.1.0).has_whole;
   }
 
@@ -209,13 +209,13 @@ module _ (raw : RawTech) (well : IsWellFormed raw) (rules : KeepsRules raw) (col
   regroup a b c = omega (arith, ints)
 
   -- and what its groups have is what its records have
-  closes : (passes : List ℕ → Bool) → IsOfGroups raw tree passes → tree_sum column exts tree passes ≡ sum_passing passes (wholes_of all.list)
+  closes : (passes : List ℕ → Bool) → IsOfGroups raw tree passes → tree_sum quantity exts tree passes ≡ sum_passing passes (wholes_of all.list)
   closes passes of =
-      let node_of : NodeRec → List ℕ × ℤ = λ node. (node.name, column.of_node node) in
+      let node_of : NodeRec → List ℕ × ℤ = λ node. (node.name, quantity.of_node node) in
       let w : List ℕ × ℤ → ℤ = λ one. cond (passes one.0) one.1 (pos 0) in
-      let merged = merges_passing column passes has.ext.merges in
-      let lower = tree_sum_below column exts elements passes in
-      ap (λ z. z +ℤ lower) (ap (found_sum column passes) has.found)
+      let merged = merges_passing quantity passes has.ext.merges in
+      let lower = tree_sum_below quantity exts elements passes in
+      ap (λ z. z +ℤ lower) (ap (found_sum quantity passes) has.found)
       ∙ ap (λ z. (z +ℤ merged) +ℤ lower) (sym (sum_on-map node_of w has.ext.nodes))
       ∙ ap (λ z. (sum_passing passes nodes +ℤ merged) +ℤ z) (below.closes passes of.1)
       ∙ regroup (sum_passing passes nodes) merged (sum_passing passes below.members)
@@ -229,5 +229,5 @@ module _ (raw : RawTech) (well : IsWellFormed raw) (rules : KeepsRules raw) (col
       (λ shared here. (all.sound shared here).rest)
 
   -- the sums of the cell close
-  pub cell_closes : Closed raw column exts tree
+  pub cell_closes : Closed raw quantity exts tree
   cell_closes = record { groups = wholes_of all.list; are = are_totals; closes = closes }

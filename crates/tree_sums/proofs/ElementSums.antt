@@ -19,7 +19,7 @@ use Rattle.tree_names.specs.TreeElements.{AreOneForOne, IsElementFor}
 use Rattle.tree_names.proofs.ElementLinks.{full_name-path}
 use Rattle.tree_names.proofs.TreeElements.{elements_for}
 use Rattle.tree_sums.specs.Laws.{is_named}
-use Rattle.tree_sums.specs.TreeSums.{Column, record_sum, found_sum, tree_sum, tree_sum_below}
+use Rattle.tree_sums.specs.TreeSums.{RecordedQuantity, record_sum, found_sum, tree_sum, tree_sum_below}
 
 -- sums over lists that go along with each other
 sum_on-along : {X Y : Type 0} (R : X → Y → Type 0) (v : X → ℤ) (w : Y → ℤ) → ((x : X) (y : Y) → R x y → v x ≡ w y) → (xs : List X) (ys : List Y)
@@ -31,51 +31,51 @@ sum_on-along R v w agree (x ∷ xs) (y ∷ ys) are =
     ap (λ z. z +ℤ sum_on v xs) (agree x y are.0) ∙ ap (λ z. w y +ℤ z) (sum_on-along R v w agree xs ys are.1)
 
 -- tests that say the same have the same sums
-record_sum-same : (column : Column) (passes takes : List ℕ → Bool) (ext : CellExt) → ((path : List ℕ) → passes path ≡ takes path)
-    → record_sum column passes ext ≡ record_sum column takes ext
-record_sum-same column passes takes ext same =
-    let merged : (List ℕ → Bool) → ℤ = λ test. sum_on (λ (merge : MergeRec). cond (test merge.first) (column.of_merge merge) (pos 0)) ext.merges in
-    let node_sum : (List ℕ → Bool) → ℤ = λ test. sum_on (λ (node : NodeRec). cond (test node.name) (column.of_node node) (pos 0)) ext.nodes in
+record_sum-same : (quantity : RecordedQuantity) (passes takes : List ℕ → Bool) (ext : CellExt) → ((path : List ℕ) → passes path ≡ takes path)
+    → record_sum quantity passes ext ≡ record_sum quantity takes ext
+record_sum-same quantity passes takes ext same =
+    let merged : (List ℕ → Bool) → ℤ = λ test. sum_on (λ (merge : MergeRec). cond (test merge.first) (quantity.of_merge merge) (pos 0)) ext.merges in
+    let node_sum : (List ℕ → Bool) → ℤ = λ test. sum_on (λ (node : NodeRec). cond (test node.name) (quantity.of_node node) (pos 0)) ext.nodes in
     ap (λ z. z +ℤ merged passes)
-    (sum_on-same (λ (node : NodeRec). cond (passes node.name) (column.of_node node) (pos 0)) (λ node. cond (takes node.name) (column.of_node node) (pos 0))
-    ext.nodes (λ node here. ap (λ (b : Bool). cond b (column.of_node node) (pos 0)) (same node.name)))
+    (sum_on-same (λ (node : NodeRec). cond (passes node.name) (quantity.of_node node) (pos 0)) (λ node. cond (takes node.name) (quantity.of_node node) (pos 0))
+    ext.nodes (λ node here. ap (λ (b : Bool). cond b (quantity.of_node node) (pos 0)) (same node.name)))
     ∙ ap (λ z. node_sum takes +ℤ z)
-    (sum_on-same (λ (merge : MergeRec). cond (passes merge.first) (column.of_merge merge) (pos 0))
-    (λ merge. cond (takes merge.first) (column.of_merge merge) (pos 0))
-    ext.merges (λ merge here. ap (λ (b : Bool). cond b (column.of_merge merge) (pos 0)) (same merge.first)))
+    (sum_on-same (λ (merge : MergeRec). cond (passes merge.first) (quantity.of_merge merge) (pos 0))
+    (λ merge. cond (takes merge.first) (quantity.of_merge merge) (pos 0))
+    ext.merges (λ merge here. ap (λ (b : Bool). cond b (quantity.of_merge merge) (pos 0)) (same merge.first)))
 
 -- what the record of a cell as it stands has, by paths from the top
-abbrev standing_sum : Column → List CellExt → (List ℕ → Bool) → NamedStanding → ℤ
-standing_sum column exts passes occurrence = found_sum column (λ path. passes (path_text occurrence.ids path)) (ext_of exts occurrence.own.name)
+abbrev standing_sum : RecordedQuantity → List CellExt → (List ℕ → Bool) → NamedStanding → ℤ
+standing_sum quantity exts passes occurrence = found_sum quantity (λ path. passes (path_text occurrence.ids path)) (ext_of exts occurrence.own.name)
 
 mutual
   -- all cells as they stand have what the tree's records have
-  standing_sums : (column : Column) (exts : List CellExt) (tree : NamedTree) (passes : List ℕ → Bool)
-      → sum_on (standing_sum column exts passes) (named_standings tree) ≡ tree_sum column exts tree passes
-  standing_sums column exts (named_tree own elements) passes =
-      ap (λ z. found_sum column passes (ext_of exts own.name) +ℤ z) (standing_sums_below column exts elements passes)
+  standing_sums : (quantity : RecordedQuantity) (exts : List CellExt) (tree : NamedTree) (passes : List ℕ → Bool)
+      → sum_on (standing_sum quantity exts passes) (named_standings tree) ≡ tree_sum quantity exts tree passes
+  standing_sums quantity exts (named_tree own elements) passes =
+      ap (λ z. found_sum quantity passes (ext_of exts own.name) +ℤ z) (standing_sums_below quantity exts elements passes)
 
-  standing_sums_below : (column : Column) (exts : List CellExt) (elements : NamedElements) (passes : List ℕ → Bool)
-      → sum_on (standing_sum column exts passes) (named_standings_below elements) ≡ tree_sum_below column exts elements passes
-  standing_sums_below column exts no_more passes = refl
-  standing_sums_below column exts (element_then id placed tree rest) passes =
+  standing_sums_below : (quantity : RecordedQuantity) (exts : List CellExt) (elements : NamedElements) (passes : List ℕ → Bool)
+      → sum_on (standing_sum quantity exts passes) (named_standings_below elements) ≡ tree_sum_below quantity exts elements passes
+  standing_sums_below quantity exts no_more passes = refl
+  standing_sums_below quantity exts (element_then id placed tree rest) passes =
       let below : List ℕ → Bool = λ path. passes (path_text (id ∷ []) path) in
-      let share = standing_sum column exts passes in
+      let share = standing_sum quantity exts passes in
       sum_on-append share (map (named_above id placed) (named_standings tree)) (named_standings_below rest)
       ∙ ap (λ z. z +ℤ sum_on share (named_standings_below rest))
-      (sum_on-map (named_above id placed) share (named_standings tree) ∙ standing_sums column exts tree below)
-      ∙ ap (λ z. tree_sum column exts tree below +ℤ z) (standing_sums_below column exts rest passes)
+      (sum_on-map (named_above id placed) share (named_standings tree) ∙ standing_sums quantity exts tree below)
+      ∙ ap (λ z. tree_sum quantity exts tree below +ℤ z) (standing_sums_below quantity exts rest passes)
 
 -- what the elements of the records have of a flat node
-pub elements_have : (raw : RawTech) (exts : List CellExt) (tree : NamedTree) (root : CellExt) (column : Column) (node : NodeRec)
+pub elements_have : (raw : RawTech) (exts : List CellExt) (tree : NamedTree) (root : CellExt) (quantity : RecordedQuantity) (node : NodeRec)
     → HasTreeRecords raw exts tree → ext_of exts (own_body tree).name ≡ Some root → depth_of tree ≤ LONGEST_CHAIN
-    → sum_of node column.of_node column.of_merge (elements_of exts root) ≡ tree_sum column exts tree (is_named node)
-elements_have raw exts tree root column node has found deep =
-    let share : Element → ℤ = share_of node column.of_node column.of_merge in
-    let standing = standing_sum column exts (is_named node) in
+    → sum_of node quantity.of_node quantity.of_merge (elements_of exts root) ≡ tree_sum quantity exts tree (is_named node)
+elements_have raw exts tree root quantity node has found deep =
+    let share : Element → ℤ = share_of node quantity.of_node quantity.of_merge in
+    let standing = standing_sum quantity exts (is_named node) in
     sym (sum_on-along (IsElementFor raw exts) standing share (λ occurrence element is.
-    ap (found_sum column (λ path. is_named node (path_text occurrence.ids path))) is.found
-    ∙ record_sum-same column (λ path. is_named node (path_text occurrence.ids path)) (λ path. has_name node (full_name (ids_of element) path)) element.ext
+    ap (found_sum quantity (λ path. is_named node (path_text occurrence.ids path))) is.found
+    ∙ record_sum-same quantity (λ path. is_named node (path_text occurrence.ids path)) (λ path. has_name node (full_name (ids_of element) path)) element.ext
     (λ path. ap (has_name node) (sym (full_name-path occurrence.ids path) ∙ ap (λ (ids : List (List ℕ)). full_name ids path) (sym is.ids))))
     (named_standings tree) (elements_of exts root) (elements_for raw exts tree root has found deep))
-    ∙ standing_sums column exts tree (is_named node)
+    ∙ standing_sums quantity exts tree (is_named node)

@@ -26,9 +26,9 @@ use Rattle.tree_records.specs.TreeRecords.{HasTreeRecords}
 use Rattle.tree_names.specs.CleanTrees.{IsCleanTree, depth_of}
 use Rattle.tree_names.proofs.TreeElements.{elements_for, record_is, top_record}
 use Rattle.tree_sums.specs.Laws.{HoldsOfEach, HasSumOfPlaces, IsMeasured, is_named}
-use Rattle.tree_sums.specs.TreeSums.{Column, IsOfGroups}
+use Rattle.tree_sums.specs.TreeSums.{RecordedQuantity, IsOfGroups}
 use Rattle.tree_sums.proofs.ClosedSums.{clean_tree_closes, of_each}
-use Rattle.tree_sums.proofs.Columns.{IsColumn, capacitance_on}
+use Rattle.tree_sums.proofs.RecordedQuantities.{IsRecordedQuantity, capacitance_on}
 use Rattle.tree_sums.proofs.ElementSums.{elements_have}
 use Rattle.tree_sums.proofs.FlatTotals.{flat_total}
 use Rattle.tree_sums.proofs.GroupTests.{names_of_groups}
@@ -58,14 +58,14 @@ module _ (raw : RawTech) (exts : List CellExt) (tree : NamedTree) (root : CellEx
 
   -- what the elements have is what its places have
   pub sum_of_places : (classes : ℕ) → IsFlatNode (elements_of exts root) classes node → (place : Place) (path : List ℕ)
-      → HasNodePath raw tree place path → In (full_name [] path) (names_of node) → (column : Column) → IsColumn raw column
-      → HasSumOfPlaces raw exts tree root node place column
-  sum_of_places classes flat place path here named column columns =
-      let closed = clean_tree_closes raw well rules column columns exts tree is has in
-      Total-at (AreOneFlatNode raw tree place) (column.quantity (flat_layout raw tree)) _ _
-      (sym (elements_have raw exts tree root column node has found deep ∙ closed.closes (is_named node) (are_of_groups classes flat)))
+      → HasNodePath raw tree place path → In (full_name [] path) (names_of node) → (quantity : RecordedQuantity) → IsRecordedQuantity raw quantity
+      → HasSumOfPlaces raw exts tree root node place quantity
+  sum_of_places classes flat place path here named quantity quantities =
+      let closed = clean_tree_closes raw well rules quantity quantities exts tree is has in
+      Total-at (AreOneFlatNode raw tree place) (quantity.weight (flat_layout raw tree)) _ _
+      (sym (elements_have raw exts tree root quantity node has found deep ∙ closed.closes (is_named node) (are_of_groups classes flat)))
       (flat_total raw well rules exts tree is has (elements_of exts root) (elements_for raw exts tree root has found deep) classes node flat place path here
-      named column.quantity closed.groups closed.are)
+      named quantity.weight closed.groups closed.are)
 
   -- the record of the top has the classes of the technology
   classes_are : length root.classes ≡ length (rules_of raw).classes

@@ -1,4 +1,4 @@
--- What the groups whose names a flat node has have together is what the quantity is on the flat node's places.
+-- What the groups whose names a flat node has have together is what the weight is on the flat node's places.
 use Rattle.std.proofs.Common.{◌≡◌, ◌⊎◌, ℕ, ℤ, pos, ◌+ℤ◌, Bool, true, cond, List, [], ◌∷◌, inl, inr, refl, sym, ◌∙◌, ap, subst, arith}
 use Rattle.std.proofs.lemmas.Bool.{cases_Bool, false≢true}
 use Rattle.std.proofs.lemmas.Int.{ints}
@@ -54,18 +54,18 @@ later_passing raw tree passes first groups place of =
     record { group = of.group; listed = inr of.listed; passing = of.passing; named = of.named }
 
 -- different groups have different places, and so their totals add up
-passing_total : (raw : RawTech) (tree : NamedTree) (quantity : PlaceWeight) (passes : List ℕ → Bool) (groups : List (List ℕ × ℤ))
-    → Distinct (names_in groups) → ((group : List ℕ × ℤ) → In group groups → IsGroupTotal raw quantity tree group.0 group.1)
-    → Total (IsOfPassing raw tree passes groups) (quantity (flat_layout raw tree)) (sum_passing passes groups)
-passing_total raw tree quantity passes [] differ totals =
-    Total-none (IsOfPassing raw tree passes []) (quantity (flat_layout raw tree)) (λ place of. of.listed)
-passing_total raw tree quantity passes (group ∷ groups) differ totals =
-    let w : Place → ℤ = quantity (flat_layout raw tree) in
+passing_total : (raw : RawTech) (tree : NamedTree) (weight : PlaceWeight) (passes : List ℕ → Bool) (groups : List (List ℕ × ℤ))
+    → Distinct (names_in groups) → ((group : List ℕ × ℤ) → In group groups → IsGroupTotal raw weight tree group.0 group.1)
+    → Total (IsOfPassing raw tree passes groups) (weight (flat_layout raw tree)) (sum_passing passes groups)
+passing_total raw tree weight passes [] differ totals =
+    Total-none (IsOfPassing raw tree passes []) (weight (flat_layout raw tree)) (λ place of. of.listed)
+passing_total raw tree weight passes (group ∷ groups) differ totals =
+    let w : Place → ℤ = weight (flat_layout raw tree) in
     let Mine : Place → Type 0 = λ place. IsGroupName raw tree place group.0 in
     let Rest : Place → Type 0 = IsOfPassing raw tree passes groups in
     let All : Place → Type 0 = IsOfPassing raw tree passes (group ∷ groups) in
     let rest = sum_passing passes groups in
-    let total = passing_total raw tree quantity passes groups differ.1 (λ one here. totals one (inr here)) in
+    let total = passing_total raw tree weight passes groups differ.1 (λ one here. totals one (inr here)) in
     elim (cases_Bool (passes group.0)) [
       | inl passed ↦ Total-at All w (group.1 +ℤ rest) (cond (passes group.0) group.1 (pos 0) +ℤ rest)
           (sym (ap (λ (b : Bool). cond b group.1 (pos 0) +ℤ rest) passed))
@@ -119,7 +119,7 @@ module _ (raw : RawTech) (well : IsWellFormed raw) (rules : KeepsRules raw) (ext
           (flat_node_names raw well rules tree is exts has elements are place other path reached here there together),
     )
 
-    module _ (quantity : PlaceWeight) (groups : List (List ℕ × ℤ)) (totals : AreGroupTotals raw quantity tree groups) where
+    module _ (weight : PlaceWeight) (groups : List (List ℕ × ℤ)) (totals : AreGroupTotals raw weight tree groups) where
       -- a place of a group that passes is of the flat node
       passing_is_flat : (other : Place) → IsOfPassing raw tree (is_named node) groups other → AreOneFlatNode raw tree place other
       passing_is_flat other of =
@@ -146,8 +146,8 @@ module _ (raw : RawTech) (well : IsWellFormed raw) (rules : KeepsRules raw) (ext
           }
 
       -- so the flat node has what its groups have
-      pub flat_total : Total (AreOneFlatNode raw tree place) (quantity (flat_layout raw tree)) (sum_passing (is_named node) groups)
+      pub flat_total : Total (AreOneFlatNode raw tree place) (weight (flat_layout raw tree)) (sum_passing (is_named node) groups)
       flat_total =
-          Total-iff (IsOfPassing raw tree (is_named node) groups) (AreOneFlatNode raw tree place) (quantity (flat_layout raw tree))
+          Total-iff (IsOfPassing raw tree (is_named node) groups) (AreOneFlatNode raw tree place) (weight (flat_layout raw tree))
           (sum_passing (is_named node) groups) passing_is_flat flat_is_passing
-          (passing_total raw tree quantity (is_named node) groups totals.named.0 totals.totals)
+          (passing_total raw tree weight (is_named node) groups totals.named.0 totals.totals)

@@ -1,5 +1,5 @@
 pub mod NamedSums
-pub mod Columns
+pub mod RecordedQuantities
 pub mod MaterialPlaces
 pub mod Shares
 pub mod OwnMembers

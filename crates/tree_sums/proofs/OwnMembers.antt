@@ -23,25 +23,25 @@ use Rattle.own_record_laws.proofs.NamesDiffer.{names_differ}
 use Rattle.own_record_laws.proofs.PreferredNames.{goes_by, in_some, preferred_is_first, recorded}
 use Rattle.named_trees.specs.NamedTrees.{OwnBody}
 use Rattle.tree_names.proofs.OwnNames.{goes_by_own, one_own_node}
-use Rattle.tree_sums.specs.TreeSums.{Column}
-use Rattle.tree_sums.proofs.Columns.{IsColumn}
+use Rattle.tree_sums.specs.TreeSums.{RecordedQuantity}
+use Rattle.tree_sums.proofs.RecordedQuantities.{IsRecordedQuantity}
 use Rattle.tree_sums.proofs.NamedSums.{names_in}
 
--- nodes by their preferred names, with what the records have of a quantity
-abbrev pub own_members : Column → List NodeRec → List (List ℕ × ℤ)
-own_members column nodes = map (λ node. (node.name, column.of_node node)) nodes
+-- nodes by their preferred names, with what the records have of a weight
+abbrev pub own_members : RecordedQuantity → List NodeRec → List (List ℕ × ℤ)
+own_members quantity nodes = map (λ node. (node.name, quantity.of_node node)) nodes
 
 -- a member with its record
-pub record IsRecorded (column : Column) (nodes : List NodeRec) (one : List ℕ × ℤ) : Type 0 where
+pub record IsRecorded (quantity : RecordedQuantity) (nodes : List NodeRec) (one : List ℕ × ℤ) : Type 0 where
   pub node : NodeRec
   pub listed : In node nodes
   pub name : node.name ≡ one.0
-  pub has : column.of_node node ≡ one.1
+  pub has : quantity.of_node node ≡ one.1
 
 -- each member is a node
-member_record : (column : Column) (nodes : List NodeRec) (one : List ℕ × ℤ) → In one (own_members column nodes) → IsRecorded column nodes one
-member_record column nodes one here =
-    let found = In-map_source (λ (node : NodeRec). (node.name, column.of_node node)) one nodes here in
+member_record : (quantity : RecordedQuantity) (nodes : List NodeRec) (one : List ℕ × ℤ) → In one (own_members quantity nodes) → IsRecorded quantity nodes one
+member_record quantity nodes one here =
+    let found = In-map_source (λ (node : NodeRec). (node.name, quantity.of_node node)) one nodes here in
     record {
       node = found.0;
       listed = found.1.0;
@@ -50,15 +50,15 @@ member_record column nodes one here =
     }
 
 -- nodes whose names all differ have different preferred names
-preferred_differ : (column : Column) (nodes : List NodeRec) → Distinct (flat_map names_of nodes) → Distinct (names_in (own_members column nodes))
-preferred_differ column [] differ = tt
-preferred_differ column (node ∷ nodes) differ = (
+preferred_differ : (quantity : RecordedQuantity) (nodes : List NodeRec) → Distinct (flat_map names_of nodes) → Distinct (names_in (own_members quantity nodes))
+preferred_differ quantity [] differ = tt
+preferred_differ quantity (node ∷ nodes) differ = (
   (λ here.
-      let pair = In-map_source (λ (one : List ℕ × ℤ). one.0) node.name (own_members column nodes) here in
-      let found = member_record column nodes pair.0 pair.1.0 in
+      let pair = In-map_source (λ (one : List ℕ × ℤ). one.0) node.name (own_members quantity nodes) here in
+      let found = member_record quantity nodes pair.0 pair.1.0 in
       Distinct-append_apart (names_of node) (flat_map names_of nodes) differ node.name (inl refl)
       (In-flat_map names_of found.node node.name nodes found.listed (inl (found.name ∙ pair.1.1)))),
-  preferred_differ column nodes (Distinct-append_right (names_of node) (flat_map names_of nodes) differ),
+  preferred_differ quantity nodes (Distinct-append_right (names_of node) (flat_map names_of nodes) differ),
 )
 
 -- a place of a node goes by its name
@@ -74,11 +74,11 @@ goes_along raw own well a b name joined is =
       first = is.first;
     }
 
-module _ (raw : RawTech) (own : OwnBody) (column : Column) (nodes : List NodeRec) (well : IsWellFormed raw)
+module _ (raw : RawTech) (own : OwnBody) (quantity : RecordedQuantity) (nodes : List NodeRec) (well : IsWellFormed raw)
     (typed : HasTypesOf raw own.layout) (are : AreNodeRecords raw own.layout own.labels nodes) where
   -- no two nodes have one preferred name
-  pub own_differ : Distinct (names_in (own_members column nodes))
-  own_differ = preferred_differ column nodes (names_differ raw own.layout own.labels well typed nodes are)
+  pub own_differ : Distinct (names_in (own_members quantity nodes))
+  own_differ = preferred_differ quantity nodes (names_differ raw own.layout own.labels well typed nodes are)
 
   -- the least place of a node goes by its preferred name
   least_goes_by : (least : Place) (node : NodeRec) → IsNodeRecord raw own.layout own.labels least node → IsOfNode raw own.layout own.labels node.name least
@@ -86,31 +86,31 @@ module _ (raw : RawTech) (own : OwnBody) (column : Column) (nodes : List NodeRec
       record { material = is.material; least = least; is_least = is.is_least; first = preferred_is_first raw own.layout own.labels least node is }
 
   -- each has a place
-  pub own_placed : (member : List ℕ) → In member (names_in (own_members column nodes)) → (place : Place) × IsOfNode raw own.layout own.labels member place
+  pub own_placed : (member : List ℕ) → In member (names_in (own_members quantity nodes)) → (place : Place) × IsOfNode raw own.layout own.labels member place
   own_placed member here =
-      let pair = In-map_source (λ (one : List ℕ × ℤ). one.0) member (own_members column nodes) here in
-      let found = member_record column nodes pair.0 pair.1.0 in
+      let pair = In-map_source (λ (one : List ℕ × ℤ). one.0) member (own_members quantity nodes) here in
+      let found = member_record quantity nodes pair.0 pair.1.0 in
       let at = recorded raw own.layout own.labels nodes are found.node found.listed in
       (at.least, subst (λ (name : List ℕ). IsOfNode raw own.layout own.labels name at.least) (found.name ∙ pair.1.1) (least_goes_by at.least found.node at.is))
 
   -- and each node is listed
-  pub own_known : (place : Place) (member : List ℕ) → IsOfNode raw own.layout own.labels member place → In member (names_in (own_members column nodes))
+  pub own_known : (place : Place) (member : List ℕ) → IsOfNode raw own.layout own.labels member place → In member (names_in (own_members quantity nodes))
   own_known place member is =
       let some = in_some raw own.layout own.labels nodes are place is.material in
-      let member_of : NodeRec → List ℕ × ℤ = λ node. (node.name, column.of_node node) in
-      let P : List ℕ → Type 0 = λ name. In name (names_in (own_members column nodes)) in
+      let member_of : NodeRec → List ℕ × ℤ = λ node. (node.name, quantity.of_node node) in
+      let P : List ℕ → Type 0 = λ name. In name (names_in (own_members quantity nodes)) in
       subst P (goes_by raw own.layout own.labels nodes are member place is some)
-      (In-map (λ (one : List ℕ × ℤ). one.0) (member_of some.node) (own_members column nodes) (In-map member_of some.node nodes some.listed))
+      (In-map (λ (one : List ℕ × ℤ). one.0) (member_of some.node) (own_members quantity nodes) (In-map member_of some.node nodes some.listed))
 
   -- what is counted of one is what its record has
-  pub own_total : IsColumn raw column → (one : List ℕ × ℤ) → In one (own_members column nodes) → (total : ℤ)
-      → Total (IsOfNode raw own.layout own.labels one.0) (column.quantity own.layout) total → total ≡ one.1
-  own_total columns one here total sum =
-      let found = member_record column nodes one here in
+  pub own_total : IsRecordedQuantity raw quantity → (one : List ℕ × ℤ) → In one (own_members quantity nodes) → (total : ℤ)
+      → Total (IsOfNode raw own.layout own.labels one.0) (quantity.weight own.layout) total → total ≡ one.1
+  own_total quantities one here total sum =
+      let found = member_record quantity nodes one here in
       let at = recorded raw own.layout own.labels nodes are found.node found.listed in
       let first = subst (λ (name : List ℕ). IsOfNode raw own.layout own.labels name at.least) found.name (least_goes_by at.least found.node at.is) in
-      columns.nodes own.layout own.labels at.least found.node total at.is
-      (Total-iff (IsOfNode raw own.layout own.labels one.0) (AreOneNamedNode raw own.layout own.labels at.least) (column.quantity own.layout) total
+      quantities.nodes own.layout own.labels at.least found.node total at.is
+      (Total-iff (IsOfNode raw own.layout own.labels one.0) (AreOneNamedNode raw own.layout own.labels at.least) (quantity.weight own.layout) total
       (λ place is. one_own_node raw well own typed at.least place one.0
       (goes_by_own raw own at.least one.0 first) (goes_by_own raw own place one.0 is))
       (λ place joined. goes_along raw own well at.least place one.0 joined first) sum)

@@ -8,7 +8,7 @@ use Rattle.finite_sets.proofs.Sums.{sum_on-append, sum_on-same}
 use Rattle.tree_sums.specs.TreeSums.{sum_passing}
 use Rattle.tree_sums.proofs.NamedSums.{passing_sum, passing_more}
 
--- a group by its name, with what each member has of a quantity, what is to be added to these, and what the group has
+-- a group by its name, with what each member has of a weight, what is to be added to these, and what the group has
 pub record Shared : Type 0 where
   pub name : List ℕ
   pub members : List (List ℕ × ℤ)

@@ -22,20 +22,20 @@ use Rattle.named_trees.specs.NamedTrees.{NamedTree, own_body}
 use Rattle.tree_records.specs.TreeCircuits.{HasNodeRecord, IsFlatNodeRecord}
 use Rattle.tree_records.specs.TreeRecords.{HasTreeRecords}
 use Rattle.tree_names.specs.CleanTrees.{IsCleanTree, depth_of}
-use Rattle.tree_sums.specs.TreeSums.{Column, cap_column, area_column, perimeter_column, tree_sum, IsOfGroups, AreGroupTotals, sum_passing}
+use Rattle.tree_sums.specs.TreeSums.{RecordedQuantity, recorded_cap, recorded_area, recorded_perimeter, tree_sum, IsOfGroups, AreGroupTotals, sum_passing}
 
 -- The fact holds of capacitances, and of areas and perimeters in each class.
-pub record HoldsOfEach (raw : RawTech) (Fact : Column → Type 0) : Type 0 where
-  pub cap : Fact (cap_column raw)
-  pub areas : (position : ℕ) (class : Class) → slice_get (rules_of raw).classes position ≡ Some class → Fact (area_column position class)
-  pub perimeters : (position : ℕ) (class : Class) → slice_get (rules_of raw).classes position ≡ Some class → Fact (perimeter_column position class)
+pub record HoldsOfEach (raw : RawTech) (Fact : RecordedQuantity → Type 0) : Type 0 where
+  pub cap : Fact (recorded_cap raw)
+  pub areas : (position : ℕ) (class : Class) → slice_get (rules_of raw).classes position ≡ Some class → Fact (recorded_area position class)
+  pub perimeters : (position : ℕ) (class : Class) → slice_get (rules_of raw).classes position ≡ Some class → Fact (recorded_perimeter position class)
 
 -- Each group of the cell has a total. What the records of the cell and of all cells below it have together that passes a test of groups is
 -- the total of the groups that pass.
-pub record HasClosedSums (raw : RawTech) (exts : List CellExt) (tree : NamedTree) (column : Column) : Type 0 where
+pub record HasClosedSums (raw : RawTech) (exts : List CellExt) (tree : NamedTree) (quantity : RecordedQuantity) : Type 0 where
   pub groups : List (List ℕ × ℤ)
-  pub are : AreGroupTotals raw column.quantity tree groups
-  pub closes : (passes : List ℕ → Bool) → IsOfGroups raw tree passes → tree_sum column exts tree passes ≡ sum_passing passes groups
+  pub are : AreGroupTotals raw quantity.weight tree groups
+  pub closes : (passes : List ℕ → Bool) → IsOfGroups raw tree passes → tree_sum quantity exts tree passes ≡ sum_passing passes groups
 
 -- the sums over the records of a clean cell and of all cells below it are closed
 abbrev pub SumsOfRecordsClose : Type 0
@@ -46,8 +46,8 @@ SumsOfRecordsClose =
 -- the totals of the groups of a cell are its alone: all lists of them have the same sums
 abbrev pub GroupTotalsAreUnique : Type 0
 GroupTotalsAreUnique =
-    (raw : RawTech) (tree : NamedTree) (column : Column) (groups others : List (List ℕ × ℤ)) → AreGroupTotals raw column.quantity tree groups
-    → AreGroupTotals raw column.quantity tree others → (passes : List ℕ → Bool) → sum_passing passes groups ≡ sum_passing passes others
+    (raw : RawTech) (tree : NamedTree) (quantity : RecordedQuantity) (groups others : List (List ℕ × ℤ)) → AreGroupTotals raw quantity.weight tree groups
+    → AreGroupTotals raw quantity.weight tree others → (passes : List ℕ → Bool) → sum_passing passes groups ≡ sum_passing passes others
 
 -- the test of a path whose full name is the flat node's
 abbrev pub is_named : NodeRec → List ℕ → Bool
@@ -56,15 +56,15 @@ is_named node path = has_name node (full_name [] path)
 -- what the elements of the records have of a flat node is what the tree's records have whose paths' full names are the node's
 abbrev pub ElementsHaveTheSums : Type 0
 ElementsHaveTheSums =
-    (raw : RawTech) (exts : List CellExt) (tree : NamedTree) (root : CellExt) (column : Column) (node : NodeRec) → HasTreeRecords raw exts tree
+    (raw : RawTech) (exts : List CellExt) (tree : NamedTree) (root : CellExt) (quantity : RecordedQuantity) (node : NodeRec) → HasTreeRecords raw exts tree
     → ext_of exts (own_body tree).name ≡ Some root → depth_of tree ≤ LONGEST_CHAIN
-    → sum_of node column.of_node column.of_merge (elements_of exts root) ≡ tree_sum column exts tree (is_named node)
+    → sum_of node quantity.of_node quantity.of_merge (elements_of exts root) ≡ tree_sum quantity exts tree (is_named node)
 
 -- What the elements of the records have of the flat node is the total of the groups whose names are the node's.
-abbrev pub HasSumsOfGroups : RawTech → List CellExt → NamedTree → CellExt → NodeRec → Column → Type 0
-HasSumsOfGroups raw exts tree root node column =
-    (groups : List (List ℕ × ℤ)) → AreGroupTotals raw column.quantity tree groups
-    → sum_of node column.of_node column.of_merge (elements_of exts root) ≡ sum_passing (is_named node) groups
+abbrev pub HasSumsOfGroups : RawTech → List CellExt → NamedTree → CellExt → NodeRec → RecordedQuantity → Type 0
+HasSumsOfGroups raw exts tree root node quantity =
+    (groups : List (List ℕ × ℤ)) → AreGroupTotals raw quantity.weight tree groups
+    → sum_of node quantity.of_node quantity.of_merge (elements_of exts root) ≡ sum_passing (is_named node) groups
 
 -- the sums of a flat node, where its names are those of whole groups, are the totals of these groups
 abbrev pub FlatNodesHaveTheSumsOfTheirGroups : Type 0
@@ -80,11 +80,11 @@ NamesAreThoseOfGroups =
     → IsCleanTree raw tree → HasTreeRecords raw exts tree → ext_of exts (own_body tree).name ≡ Some root → depth_of tree ≤ LONGEST_CHAIN
     → IsFlatNode (elements_of exts root) classes node → IsOfGroups raw tree (is_named node)
 
--- What the elements of the records have of the flat node is what the quantity is on the places of the flat layout's node at this place.
-abbrev pub HasSumOfPlaces : RawTech → List CellExt → NamedTree → CellExt → NodeRec → Place → Column → Type 0
-HasSumOfPlaces raw exts tree root node place column =
-    Total (AreOneFlatNode raw tree place) (column.quantity (flat_layout raw tree))
-    (sum_of node column.of_node column.of_merge (elements_of exts root))
+-- What the elements of the records have of the flat node is what the places of the flat layout's node at this place weigh.
+abbrev pub HasSumOfPlaces : RawTech → List CellExt → NamedTree → CellExt → NodeRec → Place → RecordedQuantity → Type 0
+HasSumOfPlaces raw exts tree root node place quantity =
+    Total (AreOneFlatNode raw tree place) (quantity.weight (flat_layout raw tree))
+    (sum_of node quantity.of_node quantity.of_merge (elements_of exts root))
 
 -- the sums of a flat node that the records mean are sums over the places of the flat layout's node that has a place of one of its names
 abbrev pub FlatNodesHaveTheSumsOfTheirPlaces : Type 0

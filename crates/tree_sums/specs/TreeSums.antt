@@ -17,56 +17,56 @@ use Rattle.named_trees.specs.NamedTrees.NamedElements.{no_more, element_then}
 use Rattle.named_trees.specs.MemberGroups.{IsGroupName, IsMemberAt}
 use Rattle.tree_records.specs.PlaceWeights.{PlaceWeight, area_weight, perimeter_weight, capacitance_weight, IsGroupTotal}
 
--- a quantity, with what a node's record and a merge's have of it
-pub record Column : Type 0 where
-  pub quantity : PlaceWeight
+-- a quantity, by the weight of places whose sum it is, with what a node's record and a merge's have of it
+pub record RecordedQuantity : Type 0 where
+  pub weight : PlaceWeight
   pub of_node : NodeRec → ℤ
   pub of_merge : MergeRec → ℤ
 
 -- the capacitance
-abbrev pub cap_column : RawTech → Column
-cap_column raw = record {
-  quantity = capacitance_weight (rules_of raw).classes;
+abbrev pub recorded_cap : RawTech → RecordedQuantity
+recorded_cap raw = record {
+  weight = capacitance_weight (rules_of raw).classes;
   of_node = λ node. node.cap;
   of_merge = λ merge. merge.cap;
 }
 
 -- the area in the class at this position
-abbrev pub area_column : ℕ → Class → Column
-area_column position class = record {
-  quantity = area_weight class;
+abbrev pub recorded_area : ℕ → Class → RecordedQuantity
+recorded_area position class = record {
+  weight = area_weight class;
   of_node = λ node. (measure_of position node.measures).0;
   of_merge = λ merge. (measure_of position merge.measures).0;
 }
 
 -- the perimeter in the class at this position
-abbrev pub perimeter_column : ℕ → Class → Column
-perimeter_column position class = record {
-  quantity = perimeter_weight class;
+abbrev pub recorded_perimeter : ℕ → Class → RecordedQuantity
+recorded_perimeter position class = record {
+  weight = perimeter_weight class;
   of_node = λ node. (measure_of position node.measures).1;
   of_merge = λ merge. (measure_of position merge.measures).1;
 }
 
 -- what a record has of it: of the nodes whose preferred names pass the test, and of the merges whose first paths do
-abbrev pub record_sum : Column → (List ℕ → Bool) → CellExt → ℤ
-record_sum column passes ext =
-    sum_on (λ node. if passes node.name then column.of_node node else pos 0) ext.nodes
-    +ℤ sum_on (λ merge. if passes merge.first then column.of_merge merge else pos 0) ext.merges
+abbrev pub record_sum : RecordedQuantity → (List ℕ → Bool) → CellExt → ℤ
+record_sum quantity passes ext =
+    sum_on (λ node. if passes node.name then quantity.of_node node else pos 0) ext.nodes
+    +ℤ sum_on (λ merge. if passes merge.first then quantity.of_merge merge else pos 0) ext.merges
 
 -- the same of the record that is found, if one is
-abbrev pub found_sum : Column → (List ℕ → Bool) → Option CellExt → ℤ
-found_sum column passes None = pos 0
-found_sum column passes (Some ext) = record_sum column passes ext
+abbrev pub found_sum : RecordedQuantity → (List ℕ → Bool) → Option CellExt → ℤ
+found_sum quantity passes None = pos 0
+found_sum quantity passes (Some ext) = record_sum quantity passes ext
 
 -- What the records of a cell and of all cells below it have together. The test is one of paths from the cell at the top.
 abbrev mutual
-  pub tree_sum : Column → List CellExt → NamedTree → (List ℕ → Bool) → ℤ
-  tree_sum column exts (named_tree own elements) passes = found_sum column passes (ext_of exts own.name) +ℤ tree_sum_below column exts elements passes
+  pub tree_sum : RecordedQuantity → List CellExt → NamedTree → (List ℕ → Bool) → ℤ
+  tree_sum quantity exts (named_tree own elements) passes = found_sum quantity passes (ext_of exts own.name) +ℤ tree_sum_below quantity exts elements passes
 
-  pub tree_sum_below : Column → List CellExt → NamedElements → (List ℕ → Bool) → ℤ
-  tree_sum_below column exts no_more passes = pos 0
-  tree_sum_below column exts (element_then id placed tree rest) passes =
-      tree_sum column exts tree (λ path. passes (path_text (id ∷ []) path)) +ℤ tree_sum_below column exts rest passes
+  pub tree_sum_below : RecordedQuantity → List CellExt → NamedElements → (List ℕ → Bool) → ℤ
+  tree_sum_below quantity exts no_more passes = pos 0
+  tree_sum_below quantity exts (element_then id placed tree rest) passes =
+      tree_sum quantity exts tree (λ path. passes (path_text (id ∷ []) path)) +ℤ tree_sum_below quantity exts rest passes
 
 -- The test says the same of a member and of the group that has a place of it, in the cell and in all cells below it.
 abbrev mutual
@@ -85,10 +85,10 @@ abbrev mutual
 abbrev pub NamesGroup : RawTech → NamedTree → List ℕ → Type 0
 NamesGroup raw tree name = (place : Place) × IsGroupName raw tree place name
 
--- These are the names of all groups of the cell, each once, each with what the group has of the quantity in the flat layout.
-pub record AreGroupTotals (raw : RawTech) (quantity : PlaceWeight) (tree : NamedTree) (groups : List (List ℕ × ℤ)) : Type 0 where
+-- These are the names of all groups of the cell, each once, each with what its places weigh in the flat layout.
+pub record AreGroupTotals (raw : RawTech) (weight : PlaceWeight) (tree : NamedTree) (groups : List (List ℕ × ℤ)) : Type 0 where
   pub named : Lists (NamesGroup raw tree) (map (λ group. group.0) groups)
-  pub totals : (group : List ℕ × ℤ) → In group groups → IsGroupTotal raw quantity tree group.0 group.1
+  pub totals : (group : List ℕ × ℤ) → In group groups → IsGroupTotal raw weight tree group.0 group.1
 
 -- what is counted of those whose names pass the test
 abbrev pub sum_passing : (List ℕ → Bool) → List (List ℕ × ℤ) → ℤ

@@ -1,6 +1,6 @@
 //! The laws of sums over the records of a cell and of all cells below it. The functions here do nothing; their contracts are the laws.
 //!
-//! `specs/Laws.antt` has them: what all records together have of a quantity is what the cell's groups have of it in the flat layout, since
+//! `specs/Laws.antt` has them: what all records together have of a weight is what the cell's groups have of it in the flat layout, since
 //! each record's merges say what its groups have more or less than their members.
 //!
 //! # How the proof goes
@@ -8,7 +8,7 @@
 //! A member has a place, which has material in the flat layout (`MaterialPlaces`), and so the merges tell of its group, or it is alone in
 //! its group, which adds nothing (`AllGroups`). No two groups share a member (`GroupNames`), so the members of all groups are those of
 //! the cell, each once: the nodes of its own layout (`OwnMembers`), and the groups of its elements' cells (`BelowSums`). What the members
-//! of a group have and what the group adds is what it has (`Shares`, `GroupShares`), for each number of a record (`Columns`). So the sums
+//! of a group have and what the group adds is what it has (`Shares`, `GroupShares`), for each number of a record (`RecordedQuantities`). So the sums
 //! of a cell close where those of the cells below it do (`CellSums`), and by recursion they do (`ClosedSums`). The elements of the records
 //! are the cells as they stand, so that sums over elements are sums over the tree (`ElementSums`). The names of a flat node are those of
 //! whole groups, since records join members with their groups (`GroupTests`), and the places of these groups are its places (`FlatTotals`):

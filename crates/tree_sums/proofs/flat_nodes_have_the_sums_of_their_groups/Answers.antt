@@ -6,8 +6,8 @@ use Rattle.tree_sums.proofs.flat_nodes_have_the_sums_of_their_groups.Goals as go
 
 pub returns : goal.returns
 returns c = λ raw exts tree root node well rules is has found deep of.
-    of_each raw (HasSumsOfGroups raw exts tree root node) (λ column columns groups are.
-    let closed = clean_tree_closes raw well rules column columns exts tree is has in
-    elements_have raw exts tree root column node has found deep
+    of_each raw (HasSumsOfGroups raw exts tree root node) (λ quantity quantities groups are.
+    let closed = clean_tree_closes raw well rules quantity quantities exts tree is has in
+    elements_have raw exts tree root quantity node has found deep
     ∙ closed.closes (is_named node) of
-    ∙ one_total_each raw tree column closed.groups groups closed.are are (is_named node))
+    ∙ one_total_each raw tree quantity closed.groups groups closed.are are (is_named node))

@@ -1,4 +1,4 @@
--- What records have of a quantity: nodes what the quantity is on their places, and merges what groups add.
+-- What records have of a weight: nodes what the weight is on their places, and merges what groups add.
 use Rattle.std.proofs.Common.{◌≡◌, ℕ, zero, suc, ℤ, pos, ◌+ℤ◌, ◌*ℤ◌, Bool, true, List, [], ◌∷◌, map, refl, sym, ◌∙◌, ap, subst}
 use Rattle.std.specs.Prelude.{Some, slice_get, ◌&&◌}
 use Rattle.std.specs.List.{list_all}
@@ -24,22 +24,22 @@ use Rattle.circuit_model.specs.FlatNodes.{measure_of}
 use Rattle.named_trees.specs.NamedTrees.{NamedTree}
 use Rattle.tree_records.specs.Merges.{Adjustment, MemberGroup, IsMemberGroup, AreAdjustments, merge_of, zero_adjustment, is_zero_adjustment}
 use Rattle.tree_records.specs.PlaceWeights.{area_weight, perimeter_weight, capacitance_weight, IsAdjustment}
-use Rattle.tree_sums.specs.TreeSums.{Column, cap_column, area_column, perimeter_column}
+use Rattle.tree_sums.specs.TreeSums.{RecordedQuantity, recorded_cap, recorded_area, recorded_perimeter}
 
 -- what a merge with these amounts has
-abbrev pub amount_of : Column → Adjustment → ℤ
-amount_of column amounts = column.of_merge (merge_of [] [] amounts)
+abbrev pub amount_of : RecordedQuantity → Adjustment → ℤ
+amount_of quantity amounts = quantity.of_merge (merge_of [] [] amounts)
 
--- A column of records: what it has of a node is what the quantity is on the node's places, and what it has of a merge is what the merge's
+-- A quantity of records: what it has of a node is what the weight is on the node's places, and what it has of a merge is what the merge's
 -- group adds, whatever its paths are.
-pub record IsColumn (raw : RawTech) (column : Column) : Type 0 where
+pub record IsRecordedQuantity (raw : RawTech) (quantity : RecordedQuantity) : Type 0 where
   pub nodes : (layout : Layout) (labels : List Label) (least : Place) (node : NodeRec) (total : ℤ) → IsNodeRecord raw layout labels least node
-      → Total (AreOneNamedNode raw layout labels least) (column.quantity layout) total → total ≡ column.of_node node
-  pub merges : (first second : List ℕ) (amounts : Adjustment) → column.of_merge (merge_of first second amounts) ≡ amount_of column amounts
-  pub nothing : amount_of column (zero_adjustment (rules_of raw).classes) ≡ pos 0
-  pub none : (amounts : Adjustment) → is_zero_adjustment amounts ≡ true → amount_of column amounts ≡ pos 0
+      → Total (AreOneNamedNode raw layout labels least) (quantity.weight layout) total → total ≡ quantity.of_node node
+  pub merges : (first second : List ℕ) (amounts : Adjustment) → quantity.of_merge (merge_of first second amounts) ≡ amount_of quantity amounts
+  pub nothing : amount_of quantity (zero_adjustment (rules_of raw).classes) ≡ pos 0
+  pub none : (amounts : Adjustment) → is_zero_adjustment amounts ≡ true → amount_of quantity amounts ≡ pos 0
   pub adjusts : (tree : NamedTree) (group : MemberGroup) (is : IsMemberGroup raw tree group)
-      → IsAdjustment raw column.quantity tree is.name group.members (amount_of column group.adjustment)
+      → IsAdjustment raw quantity.weight tree is.name group.members (amount_of quantity group.adjustment)
 
 -- ---- measures in one class
 
@@ -117,12 +117,12 @@ capacitance_on (class ∷ classes) layout Within (measure ∷ measures) places l
     (scaled perimeter class.per_perimeter places ∙ ap (λ z. z *ℤ class.per_perimeter) (Total-of_list Within perimeter measure.1 places are.1 lists))
     ∙ ap (λ z. ((measure.0 *ℤ class.per_area) +ℤ (measure.1 *ℤ class.per_perimeter)) +ℤ z) (capacitance_on classes layout Within measures places lists are.2)
 
--- ---- the columns
+-- ---- the quantities
 
 module _ (raw : RawTech) where
   -- that of capacitances
-  pub cap_is_column : IsColumn raw (cap_column raw)
-  cap_is_column = record {
+  pub cap_is_recorded : IsRecordedQuantity raw (recorded_cap raw)
+  cap_is_recorded = record {
     nodes = λ layout labels least node total is sum.
         sym sum.1.1 ∙ capacitance_on (rules_of raw).classes layout (AreOneNamedNode raw layout labels least) node.measures sum.0 sum.1.0 is.measures
         ∙ sym is.cap;
@@ -134,8 +134,8 @@ module _ (raw : RawTech) where
 
   module _ (position : ℕ) (class : Class) (there : slice_get (rules_of raw).classes position ≡ Some class) where
     -- that of areas in a class
-    pub area_is_column : IsColumn raw (area_column position class)
-    area_is_column = record {
+    pub area_is_recorded : IsRecordedQuantity raw (recorded_area position class)
+    area_is_recorded = record {
       nodes = λ layout labels least node total is sum.
           let Within = AreOneNamedNode raw layout labels least in
           Total-unique Within (area_weight class layout) total (measure_of position node.measures).0 sum
@@ -149,8 +149,8 @@ module _ (raw : RawTech) where
     }
 
     -- that of perimeters in a class
-    pub perimeter_is_column : IsColumn raw (perimeter_column position class)
-    perimeter_is_column = record {
+    pub perimeter_is_recorded : IsRecordedQuantity raw (recorded_perimeter position class)
+    perimeter_is_recorded = record {
       nodes = λ layout labels least node total is sum.
           let Within = AreOneNamedNode raw layout labels least in
           Total-unique Within (perimeter_weight class layout) total (measure_of position node.measures).1 sum
