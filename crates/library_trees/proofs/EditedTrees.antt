@@ -1,0 +1,75 @@
+-- Named trees that an edit keeps.
+use Rattle.std.proofs.Common.{◌≡◌, ◌<◌, ℕ, zero, suc, List, [], ◌∷◌, ◌++◌, length, refl, sym, ap, subst, arith}
+use Rattle.std.specs.Prelude.{Option, Some, None, slice_index_or}
+use Rattle.std.specs.Option.{option_map_or}
+use Rattle.std.proofs.lemmas.List.{get_or_append_left}
+use Rattle.finite_sets.proofs.Chains.{Chain-carries}
+use Rattle.geo_core.specs.declared.transforms.Transform.{Transform}
+use Rattle.cell_tree.specs.Uses.{HasChild}
+use Rattle.cell_library.specs.Edits.{empty_cell, single_use, transform_of, with_new_cell}
+use Rattle.cell_library.specs.Libraries.{LibraryParts, IsLawfulLibrary, cells_seen, seen, uses_in}
+use Rattle.cell_library.specs.Views.{CellView, LibraryView, changed_at, no_cell, view_at, with_cell_changed}
+use Rattle.cell_library.proofs.LayoutTreeLaws.{children_are_cells}
+use Rattle.cell_library.proofs.ViewLaws.{length-cell_views}
+use Rattle.library_trees.specs.Laws.{EditsKeepOtherTrees, HaveOneTree, NewCellsKeepTrees}
+use Rattle.library_trees.specs.NamedCells.{IsAtOrBelow}
+use Rattle.library_trees.proofs.AgreeingViews.{agreeing_views}
+
+-- ---- a change of one cell
+
+-- a change at one place keeps the other places
+changed_elsewhere : (cells : List CellView) (k place : ℕ) (change : CellView → CellView) → (place ≡ k → ⊥)
+    → slice_index_or cells place no_cell ≡ slice_index_or (changed_at cells k change) place no_cell
+changed_elsewhere [] k place change apart = refl
+changed_elsewhere (cell ∷ cells) zero zero change apart = absurd (apart refl)
+changed_elsewhere (cell ∷ cells) zero (suc place) change apart = refl
+changed_elsewhere (cell ∷ cells) (suc k) zero change apart = refl
+changed_elsewhere (cell ∷ cells) (suc k) (suc place) change apart = changed_elsewhere cells k place change (λ same. apart (ap suc same))
+
+-- a change of a cell keeps the tree of another that it does not stand below
+pub change_keeps : (view : LibraryView) (cell other : ℕ) → (IsAtOrBelow view other cell → ⊥) → (change : CellView → CellView)
+    → HaveOneTree (with_cell_changed view cell change) view other
+change_keeps view cell other apart change =
+    sym (agreeing_views view (with_cell_changed view cell change) other (λ below chain.
+    changed_elsewhere view.cells cell below change (λ same. apart (subst (IsAtOrBelow view other) same chain))))
+
+-- a change that may be none
+change_may_keep : (view : LibraryView) (other : ℕ) (change : Transform → LibraryView)
+    → ((transform : Transform) → HaveOneTree (change transform) view other) → (given : Option Transform)
+    → HaveOneTree (option_map_or change given view) view other
+change_may_keep view other change keeps None = refl
+change_may_keep view other change keeps (Some transform) = keeps transform
+
+-- each edit of a cell keeps the tree of another that it does not stand below
+pub edits_keep : EditsKeepOtherTrees
+edits_keep view cell other apart = record {
+  paint = λ layer area. change_keeps view cell other apart _;
+  erase = λ layer area. change_keeps view cell other apart _;
+  label = λ added. change_keeps view cell other apart _;
+  unlabel = λ text. change_keeps view cell other apart _;
+  place = λ child id six. change_may_keep view other
+      (λ transform. with_cell_changed view cell (λ body. record body { uses = body.uses ++ (id, single_use child transform) ∷ [] }))
+      (λ transform. change_keeps view cell other apart _) (transform_of six);
+  array = λ id grid. change_keeps view cell other apart _;
+  move = λ id dx dy. change_keeps view cell other apart _;
+  delete = λ id. change_keeps view cell other apart _;
+}
+
+-- ---- a new cell
+
+-- what stands at or below a cell of a lawful library is a cell of it
+below_is_cell : (library : LibraryParts) → IsLawfulLibrary library → (cell below : ℕ) → cell < length library.contents
+    → IsAtOrBelow (seen library) cell below → below < length library.contents
+below_is_cell library lawful cell below there chain =
+    Chain-carries (λ c. c < length library.contents) (λ upper lower (child : HasChild (view_at (seen library) upper).uses lower) known.
+    subst (λ c. c < length library.contents) child.same
+    (children_are_cells library lawful upper known child.k child.entry child.stands)) chain there
+
+-- a new cell keeps the trees of the cells of the library
+pub new_cells_keep : (library : LibraryParts) → IsLawfulLibrary library → NewCellsKeepTrees library
+new_cells_keep library lawful name cell there =
+    let cells : List CellView = cells_seen library.contents library.tree in
+    let many : length cells ≡ length library.contents = length-cell_views library.contents (uses_in library.tree.cells) in
+    sym (agreeing_views (seen library) (with_new_cell (seen library) name) cell (λ below chain.
+    let known = below_is_cell library lawful cell below there chain in
+    sym (get_or_append_left cells (empty_cell name ∷ []) no_cell below (omega (arith, known, many)))))

@@ -1,0 +1,10 @@
+pub mod LayoutLaws
+pub mod WholeTrees
+pub mod TextCuts
+pub mod ElementNameLaws
+pub mod TreeNameLaws
+pub mod TreeDepths
+pub mod AgreeingViews
+pub mod EditedTrees
+pub mod StampedTrees
+pub mod CleanTrees

@@ -1,0 +1,51 @@
+-- Named trees and the stamps of their cells: an edit raises the stamp of each cell whose tree it changes.
+use Rattle.std.proofs.Common.{◌≡◌, ℕ, List, [], length, inl, inr, sym, ap, subst, ◌∙◌, arith}
+use Rattle.std.specs.Prelude.{slice_get}
+use Rattle.std.proofs.lemmas.Bool.{cases_lt}
+use Rattle.finite_sets.specs.Chain.Chain.{stay, go}
+use Rattle.finite_sets.proofs.Chains.{Chain-push}
+use Rattle.cell_tree.specs.declared.use_tables.UseBody.{UseBody}
+use Rattle.cell_tree.specs.Cells.{IsAbove, Uses}
+use Rattle.cell_tree.specs.Trees.{cell_at, stamp_at}
+use Rattle.cell_tree.specs.Uses.{HasChild}
+use Rattle.cell_library.specs.Libraries.{LibraryParts, IsLawfulLibrary, edits_of, seen}
+use Rattle.cell_library.specs.Views.{CellView, LibraryView, view_at}
+use Rattle.cell_library.proofs.LayoutTreeLaws.{uses_seen}
+use Rattle.library_trees.specs.Laws.{StampsTellChangedTrees}
+use Rattle.library_trees.specs.NamedCells.{IsAtOrBelow, named_tree_at}
+use Rattle.library_trees.proofs.EditedTrees.{change_keeps}
+use Rattle.library_trees.proofs.WholeTrees.{no_cell_seen, state_is}
+
+-- where a child is seen, the cell uses it
+child_is_used : (library : LibraryParts) → IsLawfulLibrary library → (upper lower : ℕ) → HasChild (view_at (seen library) upper).uses lower
+    → Uses library.tree.cells upper lower
+child_is_used library lawful upper lower has =
+    elim (cases_lt upper (length library.contents)) [
+      | inl below ↦ record {
+        cell = cell_at library.tree.cells upper;
+        is = state_is library lawful upper below;
+        k = has.k;
+        entry = has.entry;
+        stands = sym (ap (λ (uses : List (List ℕ × UseBody)). slice_get uses has.k) (uses_seen library lawful upper below)) ∙ has.stands;
+        child = has.same;
+      }
+      | inr past ↦
+          let none : HasChild [] lower = subst (λ (c : CellView). HasChild c.uses lower) (no_cell_seen library upper past) has in
+          absurd (no_child lower none)
+    ] where
+      no_child : (child : ℕ) → HasChild [] child → ⊥
+      no_child child none = let is = none.stands in cc
+
+-- a cell stands above those that stand below it
+is_above : (library : LibraryParts) → IsLawfulLibrary library → {upper lower : ℕ} → IsAtOrBelow (seen library) upper lower
+    → IsAbove library.tree.cells lower upper
+is_above library lawful stay = stay
+is_above library lawful (go has chain) = Chain-push (is_above library lawful chain) (child_is_used library lawful _ _ has)
+
+-- an edit keeps the tree of each cell whose stamp it keeps
+pub stamps_tell : (library : LibraryParts) → IsLawfulLibrary library → StampsTellChangedTrees library
+stamps_tell library lawful new cell change next is other kept =
+    ap (λ (view : LibraryView). named_tree_at view other) is
+    ∙ change_keeps (seen library) cell other (λ chain.
+    let raised : stamp_at new.tree.stamps other ≡ edits_of new = next.stamps.raised other (is_above library lawful chain) in
+    omega (arith, raised, kept, lawful.tree.past other, next.edits)) change

@@ -1,0 +1,3 @@
+pub mod ElementNames
+pub mod NamedCells
+pub mod Laws
