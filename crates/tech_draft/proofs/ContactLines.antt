@@ -1,5 +1,6 @@
 -- What is known of a line of the section `contact` that breaks no rule.
-use Rattle.std.proofs.Common.{◌≡◌, ◌≢◌, ◌+◌, ◌<◌, ◌≤◌, ◌==◌, ◌||◌, ℕ, Bool, true, false, List, [], ◌∷◌, ◌++◌, length, map, filter, refl, sym, ap, subst, ◌∙◌, arith, inl, inr}
+use Rattle.std.proofs.Common.{◌≡◌, ◌≢◌, ◌+◌, ◌<◌, ◌≤◌, ◌==◌, ◌||◌, ℕ, Bool, true, false, List, [], ◌∷◌, ◌++◌, length, map, filter, refl}
+use Rattle.std.proofs.Common.{sym, ap, subst, ◌∙◌, arith, inl, inr}
 use Rattle.std.specs.Prelude.{IsTrue, not}
 use Rattle.std.specs.List.{list_any}
 use Rattle.std.proofs.lemmas.Bool.{cases_Bool, cases_eq, or_parts, not-false, not-true, eqb-true, eqb-false, ne_eqb, true≢false}
@@ -17,7 +18,8 @@ use Rattle.tech_draft.specs.Lookups.{has_type, type_of_word, plane_of_word, laye
 use Rattle.tech_draft.specs.SetLines.{has_number, has_repeat, are_misplaced, is_part, other_residues, residues_of_layer}
 use Rattle.tech_draft.specs.Sound.{IsPart}
 use Rattle.tech_draft.proofs.LookupLaws.{IsNamed, part_word, single_word}
-use Rattle.tech_draft.proofs.ContactSteps.{IsContactPlan, IsContactLine}
+use Rattle.tech_draft.proofs.ContactLayers.{IsContactPlan}
+use Rattle.tech_draft.proofs.ContactSteps.{IsContactLine}
 
 -- The words name layers, the residues stand on planes of their own, one of them the base's, and none is a contact or the base.
 pub record KeepsContactRules (draft : Drafted) (base : List ℕ) (residues : List (List ℕ)) : Type 0 where
@@ -26,7 +28,8 @@ pub record KeepsContactRules (draft : Drafted) (base : List ℕ) (residues : Lis
   pub placed : are_misplaced draft.raw base residues ≡ false
   pub simple : is_contact draft.raw base ≡ false
   pub free : is_part draft (type_of_word draft.raw base) ≡ false
-  pub atoms : (word : List ℕ) → In word residues → (is_contact draft.raw word || (type_of_word draft.raw word).0 == (type_of_word draft.raw base).0) ≡ false
+  pub atoms : (word : List ℕ) → In word residues
+      → (is_contact draft.raw word || (type_of_word draft.raw word).0 == (type_of_word draft.raw base).0) ≡ false
   pub room : length draft.raw.types + length (other_residues draft.raw base residues) ≤ MOST_TYPES
 
 -- ---- planes
@@ -48,8 +51,12 @@ placed : (raw : RawTech) (base : List ℕ) (residues : List (List ℕ)) → are_
     → Distinct (map (plane_of_word raw) residues) × (has_number (map (plane_of_word raw) residues) (plane_of_word raw base) ≡ true)
 unfolding are_misplaced
 placed raw base residues well =
-    let parts = or_parts (has_repeat [] (map (plane_of_word raw) residues)) (not (has_number (map (plane_of_word raw) residues) (plane_of_word raw base))) well in
-    ((repeat_none [] (map (plane_of_word raw) residues) parts.0).0, not-false (has_number (map (plane_of_word raw) residues) (plane_of_word raw base)) parts.1)
+    let parts = or_parts (has_repeat [] (map (plane_of_word raw) residues))
+    (not (has_number (map (plane_of_word raw) residues) (plane_of_word raw base))) well in (
+      (repeat_none [] (map (plane_of_word raw) residues) parts.0).0,
+      not-false
+          (has_number (map (plane_of_word raw) residues) (plane_of_word raw base)) parts.1,
+    )
 
 -- what differs in f does so after a filter
 distinct_filter : {X Y : Type 0} (f : X → Y) (test : X → Bool) (xs : List X) → Distinct (map f xs) → Distinct (map f (filter test xs))
@@ -84,10 +91,12 @@ other_planes : (raw : RawTech) (base : List ℕ) (residues : List (List ℕ)) �
     → Distinct (plane_of_word raw base ∷ map (λ t. plane_of raw t.0) (other_residues raw base residues))
 other_planes raw base residues well =
     let others = filter (is_elsewhere raw base) residues in
-    subst (λ (ps : List ℕ). Distinct (plane_of_word raw base ∷ ps)) (sym (map_map (λ (t : TypeId). plane_of raw t.0) (type_of_word raw) others)) (
+    subst (λ (ps : List ℕ). Distinct (plane_of_word raw base ∷ ps))
+    (sym (map_map (λ (t : TypeId). plane_of raw t.0) (type_of_word raw) others)) (
       (λ is.
           let source = In-map_source (plane_of_word raw) (plane_of_word raw base) others is in
-          let apart = not-true (plane_of_word raw source.0 == plane_of_word raw base) (In-filter_passes (is_elsewhere raw base) source.0 residues source.1.0) in
+          let apart = not-true (plane_of_word raw source.0 == plane_of_word raw base)
+          (In-filter_passes (is_elsewhere raw base) source.0 residues source.1.0) in
           eqb-false (plane_of_word raw source.0) (plane_of_word raw base) apart source.1.1),
       distinct_filter (plane_of_word raw) (is_elsewhere raw base) residues (placed raw base residues well).0,
     )
@@ -106,20 +115,24 @@ others_some raw base (a ∷ b ∷ words) many apart =
       | inl same ↦
           let other = λ (too : plane_of_word raw b ≡ plane_of_word raw base). apart.0 (inl (too ∙ sym same)) in
           holds_something b (filter (is_elsewhere raw base) (a ∷ b ∷ words))
-          (In-filter (is_elsewhere raw base) b (a ∷ b ∷ words) (inr (inl refl)) (ap not (ne_eqb (plane_of_word raw b) (plane_of_word raw base) other)))
+          (In-filter (is_elsewhere raw base) b (a ∷ b ∷ words) (inr (inl refl))
+          (ap not (ne_eqb (plane_of_word raw b) (plane_of_word raw base) other)))
       | inr other ↦
           holds_something a (filter (is_elsewhere raw base) (a ∷ b ∷ words))
-          (In-filter (is_elsewhere raw base) a (a ∷ b ∷ words) (inl refl) (ap not (ne_eqb (plane_of_word raw a) (plane_of_word raw base) other)))
+          (In-filter (is_elsewhere raw base) a (a ∷ b ∷ words) (inl refl)
+          (ap not (ne_eqb (plane_of_word raw a) (plane_of_word raw base) other)))
     ]
 
 -- ---- the line
 
-part_free : (draft : Drafted) (t : TypeId) → is_part draft t ≡ false → (list_any (λ pair. pair.1.0 == t.0) draft.residues ≡ false) × (has_type draft.used t ≡ false)
+part_free : (draft : Drafted) (t : TypeId) → is_part draft t ≡ false
+    → (list_any (λ pair. pair.1.0 == t.0) draft.residues ≡ false) × (has_type draft.used t ≡ false)
 unfolding is_part
 part_free draft t none = or_parts (list_any (λ pair. pair.1.0 == t.0) draft.residues) (has_type draft.used t) none
 
 -- the word of one of the other residues
-other_word : (raw : RawTech) (base : List ℕ) (residues : List (List ℕ)) (t : TypeId) → In t (other_residues raw base residues) → (word : List ℕ) × (In word residues × (type_of_word raw word ≡ t))
+other_word : (raw : RawTech) (base : List ℕ) (residues : List (List ℕ)) (t : TypeId) → In t (other_residues raw base residues)
+    → (word : List ℕ) × (In word residues × (type_of_word raw word ≡ t))
 other_word raw base residues t inside =
     let source = In-map_source (type_of_word raw) t (filter (is_elsewhere raw base) residues) inside in
     (source.0, (In-filter_source (is_elsewhere raw base) source.0 residues source.1.0, source.1.1))
@@ -155,9 +168,15 @@ contact_line-keeps draft base residues rules =
     let home = number_source (plane_of_word raw) (plane_of_word raw base) residues planes.1 in
     let free = part_free draft own rules.free in
     record {
-      some = omega (arith, others_some raw base residues rules.some planes.0, length-map (filter (is_elsewhere raw base) residues) (type_of_word raw));
+      some = omega (
+        arith,
+        others_some raw base residues rules.some planes.0,
+        length-map (filter (is_elsewhere raw base) residues)
+            (type_of_word raw),
+      );
       unused = λ t inside. eqb-false t own.0 (list_any-In (λ (u : TypeId). u.0 == own.0) draft.used (type_number t) free.1 inside);
-      no_residue = λ pair inside. eqb-false pair.1.0 own.0 (list_any-In (λ (pair : LayerId × TypeId). pair.1.0 == own.0) draft.residues pair free.0 inside);
+      no_residue = λ pair inside. eqb-false pair.1.0 own.0
+          (list_any-In (λ (pair : LayerId × TypeId). pair.1.0 == own.0) draft.residues pair free.0 inside);
       residues = λ pair inside.
           let word = In-map_source noted pair residues inside in
           let rule = or_parts (is_contact raw word.0) ((type_of_word raw word.0).0 == own.0) (rules.atoms word.0 word.1.0) in
@@ -168,5 +187,6 @@ contact_line-keeps draft base residues rules =
       home_plane = home.1.1;
       others_noted = λ t inside.
           let word = other_word raw base residues t inside in
-          subst (λ (u : TypeId). In (layer_number layer, u) (residues_of_layer raw layer residues)) word.1.1 (In-map noted word.0 residues word.1.0);
+          subst (λ (u : TypeId). In (layer_number layer, u) (residues_of_layer raw layer residues)) word.1.1
+          (In-map noted word.0 residues word.1.0);
     }

@@ -1,5 +1,6 @@
 -- The technology of a sound draft is well formed once it has a name.
-use Rattle.std.proofs.Common.{◌≡◌, ◌≢◌, ◌<◌, ◌≤◌, ◌-◌, ◌*◌, ◌^◌, ◌+◌, ◌==◌, ◌&&◌, ℕ, zero, suc, Bool, true, List, [], ◌∷◌, length, map, get_or, bit_or, refl, sym, ap, subst, ◌∙◌, arith, inl, inr}
+use Rattle.std.proofs.Common.{◌≡◌, ◌≢◌, ◌<◌, ◌≤◌, ◌-◌, ◌*◌, ◌^◌, ◌+◌, ◌==◌, ◌&&◌, ℕ, zero, suc, Bool, true, List, [], ◌∷◌, length, map}
+use Rattle.std.proofs.Common.{get_or, bit_or, refl, sym, ap, subst, ◌∙◌, arith, inl, inr}
 use Rattle.std.specs.Prelude.{IsTrue, Option, Some, None, find}
 use Rattle.std.specs.Int.{bit_at}
 use Rattle.std.specs.Int.Bits.{or_zero_r}
@@ -18,13 +19,14 @@ use Rattle.tech_model.specs.declared.limits.TheConstants.{MOST_TYPES, FIRST_MARK
 use Rattle.tech_model.specs.Types.{is_type, type_at, no_type, no_layer, plane_of, layer_of, parts_of, images_of, layer_number}
 use Rattle.tech_model.specs.WellFormed.{IsSimple, IsMarked, IsContact, HasSet, HasSets, IsWellFormed}
 use Rattle.tech_model.specs.WellFormed as well
+use Rattle.tech_model.proofs.JoinedLaws.{parts_at}
 use Rattle.tech_model.proofs.WellFormedLaws.{type_bounds}
 use Rattle.tech_model.proofs.SetLaws.{or_bit_cases, bit_cases}
 use Rattle.tech_draft.specs.Drafts.{Drafted}
 use Rattle.tech_draft.specs.SetLines.{mark_bit}
 use Rattle.tech_draft.specs.Finished.{is_residue_of, residue_parts, finished_type, finished}
 use Rattle.tech_draft.specs.Sound.{IsMadeOf, atom, composed, HasImages, IsPart, IsImage, HasSoundLayers, HasSoundSets, IsSound}
-use Rattle.tech_draft.proofs.Keeps.{Keeps, parts_at, kept_type, kept_rules, HasSamePlaces, places-keep, same_type, places-layers}
+use Rattle.tech_draft.proofs.Keeps.{Keeps, kept_type, kept_rules, HasSamePlaces, places-keep, same_type, places-layers}
 use Rattle.tech_draft.proofs.Steps.{IsSame, same_part, union_same}
 
 -- the technology of the draft, in the open
@@ -33,12 +35,14 @@ whole draft = record draft.raw { types = map (finished_type draft) draft.raw.typ
 
 -- ---- its types
 
-finished_plane : (draft : Drafted) (kinds : List TypeRec) (k : ℕ) → (get_or (map (finished_type draft) kinds) k no_type).plane ≡ (get_or kinds k no_type).plane
+finished_plane : (draft : Drafted) (kinds : List TypeRec) (k : ℕ)
+    → (get_or (map (finished_type draft) kinds) k no_type).plane ≡ (get_or kinds k no_type).plane
 finished_plane draft [] k = refl
 finished_plane draft (kind ∷ kinds) zero = refl
 finished_plane draft (kind ∷ kinds) (suc k) = finished_plane draft kinds k
 
-finished_layer : (draft : Drafted) (kinds : List TypeRec) (k : ℕ) → (get_or (map (finished_type draft) kinds) k no_type).layer.0 ≡ (get_or kinds k no_type).layer.0
+finished_layer : (draft : Drafted) (kinds : List TypeRec) (k : ℕ)
+    → (get_or (map (finished_type draft) kinds) k no_type).layer.0 ≡ (get_or kinds k no_type).layer.0
 finished_layer draft [] k = refl
 finished_layer draft (kind ∷ kinds) zero = refl
 finished_layer draft (kind ∷ kinds) (suc k) = finished_layer draft kinds k
@@ -65,7 +69,8 @@ whole_parts : (draft : Drafted) (t : ℕ) → IsTrue (is_type draft.raw t)
 whole_parts draft t is =
     let bounds = type_bounds draft.raw t is in
     parts_at (whole draft) t (kept_type draft.raw (whole draft) (whole-keeps draft) t is)
-    ∙ ap (λ (kind : TypeRec). kind.parts.0) (get_or-map (finished_type draft) draft.raw.types (t - 1) no_type no_type (omega (arith, bounds.0, bounds.1)))
+    ∙ ap (λ (kind : TypeRec). kind.parts.0)
+    (get_or-map (finished_type draft) draft.raw.types (t - 1) no_type no_type (omega (arith, bounds.0, bounds.1)))
     ∙ ap (λ (n : ℕ). bit_or n (residue_parts draft.raw (residue_of draft t))) (sym (parts_at draft.raw t is))
 
 -- ---- types that are no contacts
@@ -77,14 +82,17 @@ no_residue draft t sets simple =
     (λ pair inside. ap (λ (b : Bool). b && plane_of draft.raw pair.1.0 == plane_of draft.raw t)
     (ne_eqb pair.0.0 (layer_of draft.raw t) (λ (same : pair.0.0 ≡ layer_of draft.raw t).
     let many = (sets.residues pair inside).0 in
-    let equal : length (images_of draft.raw pair.0.0) ≡ length (images_of draft.raw (layer_of draft.raw t)) = ap (λ (l : ℕ). length (images_of draft.raw l)) same in
+    let equal : length (images_of draft.raw pair.0.0)
+    ≡ length (images_of draft.raw (layer_of draft.raw t)) = ap (λ (l : ℕ). length (images_of draft.raw l)) same in
     omega (arith, many, simple, equal))))
 
 simple_same : (draft : Drafted) (t : ℕ) → HasSoundSets draft → IsPart draft.raw t → IsSame draft.raw (whole draft) t
 simple_same draft t sets part = record {
   was = part.is;
   images = refl;
-  set = whole_parts draft t part.is ∙ ap (λ o. bit_or (parts_of draft.raw t) (residue_parts draft.raw o)) (no_residue draft t sets part.simple) ∙ or_zero_r (parts_of draft.raw t);
+  set = whole_parts draft t part.is
+      ∙ ap (λ o. bit_or (parts_of draft.raw t) (residue_parts draft.raw o)) (no_residue draft t sets part.simple)
+      ∙ or_zero_r (parts_of draft.raw t);
 }
 
 simple_set : (draft : Drafted) (t : ℕ) → HasSoundSets draft → IsMadeOf draft.raw draft.used t → IsPart draft.raw t → HasSet (whole draft) t
@@ -93,11 +101,13 @@ simple_set draft t sets (composed _ first second union _ _ of_first of_second) p
     let first_part : IsPart draft.raw first = record { is = union.first_type; simple = union.first_simple } in
     let second_part : IsPart draft.raw second = record { is = union.second_type; simple = union.second_simple } in
     well.composed t first second
-    (union_same draft.raw (whole draft) t first second (whole-keeps draft) (simple_same draft t sets part) (simple_same draft first sets first_part) (simple_same draft second sets second_part) union)
+    (union_same draft.raw (whole draft) t first second (whole-keeps draft) (simple_same draft t sets part)
+    (simple_same draft first sets first_part) (simple_same draft second sets second_part) union)
     (simple_set draft first sets of_first first_part) (simple_set draft second sets of_second second_part)
 
 -- they have no bit from that of the first mark on
-simple_bits : (draft : Drafted) (t k : ℕ) → length draft.raw.types ≤ MOST_TYPES → IsMadeOf draft.raw draft.used t → IsTrue (is_type draft.raw t)
+simple_bits : (draft : Drafted) (t k : ℕ) → length draft.raw.types ≤ MOST_TYPES → IsMadeOf draft.raw draft.used t
+    → IsTrue (is_type draft.raw t)
     → bit_at (parts_of draft.raw t) k ≡ 1 → k < MOST_TYPES
 simple_bits draft t k limit (atom _ set) is bit =
     let bounds = type_bounds draft.raw t is in
@@ -113,7 +123,8 @@ simple_bits draft t k limit (composed _ first second union _ _ of_first of_secon
       | inr there ↦ simple_bits draft second k limit of_second union.second_type there
     ]
 
-no_high_bit : (draft : Drafted) (t bit : ℕ) → HasSoundLayers draft.raw → HasSoundSets draft → IsPart draft.raw t → FIRST_MARK ≤ bit → bit_at (parts_of draft.raw t) bit ≡ 1 → ⊥
+no_high_bit : (draft : Drafted) (t bit : ℕ) → HasSoundLayers draft.raw → HasSoundSets draft → IsPart draft.raw t → FIRST_MARK ≤ bit
+    → bit_at (parts_of draft.raw t) bit ≡ 1 → ⊥
 no_high_bit draft t bit layers sets part high one =
     let low = simple_bits draft t bit layers.types_limit (sets.simple t part.is part.simple) part.is one in omega (arith, low, high)
 
@@ -126,16 +137,22 @@ record HasResidue (draft : Drafted) (t : ℕ) : Type 0 where
   plane : plane_of draft.raw residue.0 ≡ plane_of draft.raw t
   set : parts_of (whole draft) t ≡ bit_or (mark_bit (layer_of draft.raw t)) (parts_of draft.raw residue.0)
 
-found_residue : (draft : Drafted) (t : ℕ) (found : Option (LayerId × TypeId)) → HasSoundSets draft → IsTrue (is_type draft.raw t) → IsImage draft t
+found_residue : (draft : Drafted) (t : ℕ) (found : Option (LayerId × TypeId)) → HasSoundSets draft → IsTrue (is_type draft.raw t)
+    → IsImage draft t
     → residue_of draft t ≡ found → HasResidue draft t
 found_residue draft t None sets is image none =
     let pair : LayerId × TypeId = (layer_number (layer_of draft.raw t), image.residue) in
     let passes : is_residue_of draft.raw (type_at draft.raw t) pair ≡ true =
-    rw (eq-eqb (layer_of draft.raw t) (layer_of draft.raw t) refl, eq-eqb (plane_of draft.raw image.residue.0) (plane_of draft.raw t) image.plane) refl in
+    rw (
+      eq-eqb (layer_of draft.raw t) (layer_of draft.raw t) refl,
+      eq-eqb (plane_of draft.raw image.residue.0)
+          (plane_of draft.raw t) image.plane,
+    ) refl in
     absurd (true≢false (sym passes ∙ find-none (is_residue_of draft.raw (type_at draft.raw t)) draft.residues pair none image.noted))
 found_residue draft t (Some pair) sets is image some =
     let test = is_residue_of draft.raw (type_at draft.raw t) in
-    let both = and_parts (pair.0.0 == layer_of draft.raw t) (plane_of draft.raw pair.1.0 == plane_of draft.raw t) (find-passes test draft.residues pair some) in
+    let both = and_parts (pair.0.0 == layer_of draft.raw t) (plane_of draft.raw pair.1.0 == plane_of draft.raw t)
+    (find-passes test draft.residues pair some) in
     record {
       residue = pair.1;
       part = (sets.residues pair (find-In test draft.residues pair some)).1;
@@ -144,7 +161,8 @@ found_residue draft t (Some pair) sets is image some =
           ∙ ap (λ (n : ℕ). bit_or n (parts_of draft.raw pair.1.0)) image.mark;
     }
 
-has_residue : (draft : Drafted) (t : ℕ) → HasSoundSets draft → IsTrue (is_type draft.raw t) → HasImages draft.raw (layer_of draft.raw t) → HasResidue draft t
+has_residue : (draft : Drafted) (t : ℕ) → HasSoundSets draft → IsTrue (is_type draft.raw t) → HasImages draft.raw (layer_of draft.raw t)
+    → HasResidue draft t
 has_residue draft t sets is many = found_residue draft t (residue_of draft t) sets is (sets.images t is many) refl
 
 image_marked : (draft : Drafted) (layer t : ℕ) → HasSoundSets draft → IsTrue (is_type draft.raw t) → layer_of draft.raw t ≡ layer
@@ -165,25 +183,31 @@ image_marked draft layer t sets is here many =
     }
 
 -- no type of another layer has the mark
-mark_absent : (draft : Drafted) (layer t : ℕ) → HasSoundLayers draft.raw → HasSoundSets draft → IsTrue (is_type draft.raw t) → layer_of draft.raw t ≢ layer
+mark_absent : (draft : Drafted) (layer t : ℕ) → HasSoundLayers draft.raw → HasSoundSets draft → IsTrue (is_type draft.raw t)
+    → layer_of draft.raw t ≢ layer
     → bit_at (parts_of (whole draft) t) (FIRST_MARK + layer) ≡ 1 → ⊥
 mark_absent draft layer t layers sets is other bit =
     let placed = (layers.layers (layer_of draft.raw t) no_layer (layers.type_layers t is)).placed in
     elim (cases_eq (length (images_of draft.raw (layer_of draft.raw t))) 1) [
       | inl simple ↦
           let part : IsPart draft.raw t = record { is = is; simple = simple } in
-          no_high_bit draft t (FIRST_MARK + layer) layers sets part (omega arith) (sym (ap (λ (n : ℕ). bit_at n (FIRST_MARK + layer)) (simple_same draft t sets part).set) ∙ bit)
+          no_high_bit draft t (FIRST_MARK + layer) layers sets part (omega arith)
+          (sym (ap (λ (n : ℕ). bit_at n (FIRST_MARK + layer)) (simple_same draft t sets part).set) ∙ bit)
       | inr several ↦
           let of = has_residue draft t sets is (omega (arith, placed, several)) in
-          elim (or_bit_cases (mark_bit (layer_of draft.raw t)) (parts_of draft.raw of.residue.0) (FIRST_MARK + layer) (sym (ap (λ (n : ℕ). bit_at n (FIRST_MARK + layer)) of.set) ∙ bit)) [
+          elim (or_bit_cases (mark_bit (layer_of draft.raw t)) (parts_of draft.raw of.residue.0) (FIRST_MARK + layer)
+          (sym (ap (λ (n : ℕ). bit_at n (FIRST_MARK + layer)) of.set) ∙ bit)) [
             | inl of_mark ↦
-                let apart : ◌≡◌ {A = ℕ} 1 0 = sym of_mark ∙ bit_at-pow_other (FIRST_MARK + layer_of draft.raw t) (FIRST_MARK + layer) (λ (same : FIRST_MARK + layer ≡ FIRST_MARK + layer_of draft.raw t). other (omega (arith, same))) in
+                let apart : ◌≡◌ {A = ℕ} 1 0 = sym of_mark
+                ∙ bit_at-pow_other (FIRST_MARK + layer_of draft.raw t) (FIRST_MARK + layer)
+                (λ (same : FIRST_MARK + layer ≡ FIRST_MARK + layer_of draft.raw t). other (omega (arith, same))) in
                 omega (arith, apart)
             | inr of_residue ↦ no_high_bit draft of.residue.0 (FIRST_MARK + layer) layers sets of.part (omega arith) of_residue
           ]
     ]
 
-whole_contact : (draft : Drafted) (layer : ℕ) → HasSoundLayers draft.raw → HasSoundSets draft → layer < length draft.raw.layers → HasImages draft.raw layer → IsContact (whole draft) layer
+whole_contact : (draft : Drafted) (layer : ℕ) → HasSoundLayers draft.raw → HasSoundSets draft → layer < length draft.raw.layers
+    → HasImages draft.raw layer → IsContact (whole draft) layer
 whole_contact draft layer layers sets below many =
     let new = whole draft in
     record {
@@ -193,7 +217,8 @@ whole_contact draft layer layers sets below many =
       images = λ k d inside.
           let t = get_or (images_of draft.raw layer) k d in
           let is = (layers.layers layer no_layer below).images k d inside in
-          image_marked draft layer t.0 sets is (layers.of_one_layer layer t.0 below (In-get_or (images_of draft.raw layer) k d inside)) many;
+          image_marked draft layer t.0 sets is
+          (layers.of_one_layer layer t.0 below (In-get_or (images_of draft.raw layer) k d inside)) many;
       own = λ t is other.
           let was = was_type draft t is in
           let elsewhere : layer_of draft.raw t ≢ layer = λ same. other ((whole-keeps draft).layers t was ∙ same) in

@@ -1,5 +1,6 @@
 -- What a line leaves: the index has the names of the layers, and the tables keep their limits.
-use Rattle.std.specs.Prelude.{◌≡◌, ◌+◌, ◌<◌, ◌≤◌, ◌||◌, ℕ, Bool, true, false, cond, zero, suc, is_some, if◌then◌else◌, List, [], ◌∷◌, ◌++◌, length, slice_set, slice_index_or, unwrap_or, Option, Some, None, Ok}
+use Rattle.std.specs.Prelude.{◌≡◌, ◌+◌, ◌<◌, ◌≤◌, ◌||◌, ℕ, Bool, true, false, cond, zero, suc, is_some, if◌then◌else◌, List, [], ◌∷◌, ◌++◌}
+use Rattle.std.specs.Prelude.{length, slice_set, slice_index_or, unwrap_or, Option, Some, None, Ok}
 use Rattle.std.specs.List.{position_from, list_any}
 use Rattle.std.specs.Str.{bytes_eq}
 use Rattle.std.proofs.Common.{refl, ap, ◌∙◌, sym, arith, length-append, inl, inr}
@@ -28,7 +29,8 @@ below_or_zero (Some k) n some below = below k refl
 -- the number of a layer that a word names is below the number of layers, which are no more than types
 pub layer_of_word-bound : (raw : RawTech) (word : List ℕ) → length raw.layers ≤ MOST_TYPES → layer_of_word raw word < MOST_TYPES
 layer_of_word-bound raw word limit =
-    below_or_zero (layer_named raw word) MOST_TYPES (omega arith) (λ k at. let b = position_from-below (has_name word) 0 raw.layers k at in omega arith)
+    below_or_zero (layer_named raw word) MOST_TYPES (omega arith)
+    (λ k at. let b = position_from-below (has_name word) 0 raw.layers k at in omega arith)
 
 -- ---- a new layer
 
@@ -41,35 +43,43 @@ pub new_names-free : (raw : RawTech) (before names : List (List ℕ)) (word : Li
     → list_any (bytes_eq word) names ≡ true → layer_named raw word ≡ None
 new_names-free raw before [] word new found = absurd (cc)
 new_names-free raw before (name ∷ names) word new found =
-    let steps = rule-ok (is_some (layer_named raw name) || list_any (bytes_eq name) before) (Twice name) (new_names raw (before ++ name ∷ []) names) tt new in
+    let steps = rule-ok (is_some (layer_named raw name) || list_any (bytes_eq name) before) (Twice name)
+    (new_names raw (before ++ name ∷ []) names) tt new in
     elim (or_cases (bytes_eq word name) (list_any (bytes_eq word) names) found) [
-      | inl here ↦ ap (layer_named raw) ((bytes_eq-Decides word name).0 here) ∙ not_some (layer_named raw name) (list_any (bytes_eq name) before) steps.0
+      | inl here ↦ ap (layer_named raw) ((bytes_eq-Decides word name).0 here)
+          ∙ not_some (layer_named raw name) (list_any (bytes_eq name) before) steps.0
       | inr there ↦ new_names-free raw (before ++ name ∷ []) names word steps.1 there
     ]
 
 named_after : (raw : RawTech) (plane : ℕ) (names : List (List ℕ)) (word : List ℕ) → new_names raw [] names ≡ Ok tt
-    → (if list_any (bytes_eq word) names then Some (length raw.layers) else layer_named raw word) ≡ layer_named (with_atom raw plane names) word
+    → (if list_any (bytes_eq word) names then Some (length raw.layers) else layer_named raw word)
+    ≡ layer_named (with_atom raw plane names) word
 named_after raw plane names word new = elim (cases_Bool (list_any (bytes_eq word) names)) [
   | inl found ↦
       let none : 0 + length raw.layers ≡ length raw.layers = omega arith in
-      rw found (sym (position_from-push_passes (has_name word) 0 raw.layers (atom_layer raw names) found (new_names-free raw [] names word new found) ∙ ap (λ (n : ℕ). Some n) none))
+      rw found (sym (position_from-push_passes (has_name word) 0 raw.layers (atom_layer raw names) found
+      (new_names-free raw [] names word new found) ∙ ap (λ (n : ℕ). Some n) none))
   | inr missing ↦ rw missing (sym (position_from-push_fails (has_name word) 0 raw.layers (atom_layer raw names) missing))
 ]
 
 -- one more atom keeps what every draft keeps
 pub atom-kept : (before after : Inside) (plane : ℕ) (names : List (List ℕ)) → IsKept before → length before.types.items < MOST_TYPES
     → new_names (draft_of before).raw [] names ≡ Ok tt
-    → ((word : List ℕ) → layer_in after.index word ≡ (if list_any (bytes_eq word) names then Some (length before.layers.items) else layer_in before.index word))
+    → ((word : List ℕ) → layer_in after.index word
+    ≡ (if list_any (bytes_eq word) names then Some (length before.layers.items) else layer_in before.index word))
     → (draft_of after).raw ≡ with_atom (draft_of before).raw plane names → IsKept after
 atom-kept before after plane names kept room new indexed is =
     let raw = (draft_of before).raw in
-    let types : length (draft_of after).raw.types ≡ length raw.types + 1 = ap (λ (r : RawTech). length r.types) is ∙ simp length-append refl in
-    let layers : length (draft_of after).raw.layers ≡ length raw.layers + 1 = ap (λ (r : RawTech). length r.layers) is ∙ simp length-append refl in
+    let types : length (draft_of after).raw.types ≡ length raw.types + 1 = ap (λ (r : RawTech). length r.types) is
+    ∙ simp length-append refl in
+    let layers : length (draft_of after).raw.layers ≡ length raw.layers + 1 = ap (λ (r : RawTech). length r.layers) is
+    ∙ simp length-append refl in
     let planes : length (draft_of after).raw.planes ≡ length raw.planes = ap (λ (r : RawTech). length r.planes) is in
     let had = kept.room in
     record {
       indexed = λ word.
-          indexed word ∙ ap (λ (o : Option ℕ). cond (list_any (bytes_eq word) names) (Some (length before.layers.items)) o) (kept.indexed word)
+          indexed word ∙ ap (λ (o : Option ℕ). cond (list_any (bytes_eq word) names) (Some (length before.layers.items)) o)
+          (kept.indexed word)
           ∙ named_after raw plane names word new ∙ ap (λ (r : RawTech). layer_named r word) (sym is);
       room = record {
         planes_limit = omega (arith, planes, had.planes_limit);
@@ -81,24 +91,29 @@ atom-kept before after plane names kept room new indexed is =
 -- ---- images of a contact
 
 names_stay : (word : List ℕ) (images : List TypeId) (layers : List LayerRec) (i n : ℕ)
-    → position_from (has_name word) i (slice_set layers n (record (slice_index_or layers n no_layer) { images = images })) ≡ position_from (has_name word) i layers
+    → position_from (has_name word) i (slice_set layers n (record (slice_index_or layers n no_layer) { images = images }))
+    ≡ position_from (has_name word) i layers
 names_stay word images [] i n = refl
 names_stay word images (layer ∷ layers) i zero = refl
-names_stay word images (layer ∷ layers) i (suc n) = ap (λ (rest : Option ℕ). cond (has_name word layer) (Some i) rest) (names_stay word images layers (i + 1) n)
+names_stay word images (layer ∷ layers) i (suc n) = ap (λ (rest : Option ℕ). cond (has_name word layer) (Some i) rest)
+    (names_stay word images layers (i + 1) n)
 
 -- the images of a contact keep what every draft keeps
 pub images-kept : (before after : Inside) (layer : ℕ) (own : TypeId) (others : List TypeId) → IsKept before → after.index ≡ before.index
-    → length (draft_of before).raw.types + length others ≤ MOST_TYPES → (draft_of after).raw ≡ with_images (draft_of before).raw layer own others → IsKept after
+    → length (draft_of before).raw.types + length others ≤ MOST_TYPES
+    → (draft_of after).raw ≡ with_images (draft_of before).raw layer own others → IsKept after
 images-kept before after layer own others kept index room is =
     let raw = (draft_of before).raw in
-    let types : length (draft_of after).raw.types ≡ length raw.types + length others = ap (λ (r : RawTech). length r.types) is ∙ simp (length-set, length-append, length-map) refl in
+    let types : length (draft_of after).raw.types ≡ length raw.types + length others = ap (λ (r : RawTech). length r.types) is
+    ∙ simp (length-set, length-append, length-map) refl in
     let layers : length (draft_of after).raw.layers ≡ length raw.layers = ap (λ (r : RawTech). length r.layers) is ∙ simp length-set refl in
     let planes : length (draft_of after).raw.planes ≡ length raw.planes = ap (λ (r : RawTech). length r.planes) is in
     let had = kept.room in
     record {
       indexed = λ word.
           ap (λ entries. layer_in entries word) index ∙ kept.indexed word
-          ∙ sym (names_stay word (own ∷ next_types raw (length others)) raw.layers 0 layer) ∙ ap (λ (r : RawTech). layer_named r word) (sym is);
+          ∙ sym (names_stay word (own ∷ next_types raw (length others)) raw.layers 0 layer)
+          ∙ ap (λ (r : RawTech). layer_named r word) (sym is);
       room = record {
         planes_limit = omega (arith, planes, had.planes_limit);
         types_limit = omega (arith, types, room);

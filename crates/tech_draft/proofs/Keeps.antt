@@ -1,7 +1,7 @@
 -- Technologies that keep the types of another: what holds of the other's lists still holds.
 use Rattle.std.proofs.Common.{◌≡◌, ◌-◌, ◌<◌, ◌≤◌, ℕ, List, [], ◌∷◌, length, map, get_or, set, refl, sym, ap, subst, ◌∙◌, arith, inl, inr}
 use Rattle.std.specs.Prelude.{All, IsTrue}
-use Rattle.std.proofs.lemmas.Bool.{cases_eq, cases_lt, cond-true}
+use Rattle.std.proofs.lemmas.Bool.{cases_eq, cases_lt}
 use Rattle.std.proofs.lemmas.List.{length-set, get_or-set_same, get_or-set_other, set_past, get_or_past}
 use Rattle.std.proofs.lemmas.List.Elements.{All-weaker, All-head, All-tail}
 use Rattle.finite_sets.specs.Lists.{Distinct}
@@ -11,7 +11,7 @@ use Rattle.tech_model.specs.declared.raw.LayerRec.{LayerRec}
 use Rattle.tech_model.specs.declared.raw.ClassRec.{ClassRec}
 use Rattle.tech_model.specs.declared.raw.FetRule.{FetRule}
 use Rattle.tech_model.specs.declared.raw.RawTech.{RawTech}
-use Rattle.tech_model.specs.Types.{is_type, type_at, plane_of, layer_of, parts_of, images_of, no_type, no_layer}
+use Rattle.tech_model.specs.Types.{is_type, type_at, plane_of, layer_of, images_of, no_type, no_layer}
 use Rattle.tech_model.specs.WellFormed.{IsLayer, IsClass, IsFet, IsPair}
 use Rattle.tech_model.proofs.WellFormedLaws.{type_bounds, type_from_bounds}
 use Rattle.tech_draft.specs.SetLines.{with_set}
@@ -22,10 +22,6 @@ pub record Keeps (raw next : RawTech) : Type 0 where
   pub more : length raw.types ≤ length next.types
   pub planes : (t : ℕ) → IsTrue (is_type raw t) → plane_of next t ≡ plane_of raw t
   pub layers : (t : ℕ) → IsTrue (is_type raw t) → layer_of next t ≡ layer_of raw t
-
--- a type's parts are those of its record
-pub parts_at : (raw : RawTech) (t : ℕ) → IsTrue (is_type raw t) → parts_of raw t ≡ (type_at raw t).parts.0
-parts_at raw t is = cond-true (is_type raw t) (type_at raw t).parts.0 0 is
 
 -- a layer with images is one of the list
 pub has_images-below : (raw : RawTech) (layer : ℕ) → HasImages raw layer → layer < length raw.layers
@@ -42,8 +38,10 @@ has_images-below raw layer many = elim (cases_lt layer (length raw.layers)) [
 pub kept_type : (raw next : RawTech) → Keeps raw next → (t : ℕ) → IsTrue (is_type raw t) → IsTrue (is_type next t)
 kept_type raw next keeps t is = let bounds = type_bounds raw t is in type_from_bounds next t bounds.0 (omega (arith, bounds.1, keeps.more))
 
-kept_types : (raw next : RawTech) → Keeps raw next → (types : List TypeId) → All (λ t. IsTrue (is_type raw t.0)) types → All (λ t. IsTrue (is_type next t.0)) types
-kept_types raw next keeps types all = All-weaker (λ (t : TypeId). IsTrue (is_type raw t.0)) (λ (t : TypeId). IsTrue (is_type next t.0)) (λ t. kept_type raw next keeps t.0) types all
+kept_types : (raw next : RawTech) → Keeps raw next → (types : List TypeId) → All (λ t. IsTrue (is_type raw t.0)) types
+    → All (λ t. IsTrue (is_type next t.0)) types
+kept_types raw next keeps types all = All-weaker (λ (t : TypeId). IsTrue (is_type raw t.0)) (λ (t : TypeId). IsTrue (is_type next t.0))
+    (λ t. kept_type raw next keeps t.0) types all
 
 kept_planes : (raw next : RawTech) → Keeps raw next → (types : List TypeId) → All (λ t. IsTrue (is_type raw t.0)) types
     → map (λ t. plane_of next t.0) types ≡ map (λ t. plane_of raw t.0) types
@@ -75,7 +73,8 @@ kept_class raw next keeps class is = record {
 }
 
 -- classes that fitted the lists fit them still
-pub kept_classes : (raw next : RawTech) → Keeps raw next → (classes : List ClassRec) → All (IsClass raw) classes → All (IsClass next) classes
+pub kept_classes : (raw next : RawTech) → Keeps raw next → (classes : List ClassRec) → All (IsClass raw) classes
+    → All (IsClass next) classes
 kept_classes raw next keeps classes all = All-weaker (IsClass raw) (IsClass next) (kept_class raw next keeps) classes all
 
 kept_fet : (raw next : RawTech) → Keeps raw next → (fet : FetRule) → IsFet raw fet → IsFet next fet
@@ -133,10 +132,12 @@ pub same_places : (types : List TypeRec) → HasSamePlaces types types
 same_places types = record { many = refl; planes = λ k. refl; layers = λ k. refl }
 
 -- a write of something with the same f changes no f
-pub set_same : {X Y : Type 0} (f : X → Y) (xs : List X) (i : ℕ) (v d : X) → f v ≡ f (get_or xs i d) → (k : ℕ) → f (get_or (set xs i v) k d) ≡ f (get_or xs k d)
+pub set_same : {X Y : Type 0} (f : X → Y) (xs : List X) (i : ℕ) (v d : X) → f v ≡ f (get_or xs i d) → (k : ℕ)
+    → f (get_or (set xs i v) k d) ≡ f (get_or xs k d)
 set_same f xs i v d same k = elim (cases_eq k i) [
   | inl here ↦ elim (cases_lt i (length xs)) [
-    | inl below ↦ ap (λ (n : ℕ). f (get_or (set xs i v) n d)) here ∙ ap f (get_or-set_same xs i v d below) ∙ same ∙ ap (λ (n : ℕ). f (get_or xs n d)) (sym here)
+    | inl below ↦ ap (λ (n : ℕ). f (get_or (set xs i v) n d)) here ∙ ap f (get_or-set_same xs i v d below) ∙ same
+        ∙ ap (λ (n : ℕ). f (get_or xs n d)) (sym here)
     | inr past ↦ ap (λ zs. f (get_or zs k d)) (set_past xs i v past)
   ]
   | inr other ↦ ap f (get_or-set_other xs i k v d other)
@@ -154,14 +155,20 @@ with_set-places raw t parts =
 
 -- types that stay where they are are kept
 pub places-keep : (raw next : RawTech) → HasSamePlaces raw.types next.types → Keeps raw next
-places-keep raw next same = record { more = omega (arith, same.many); planes = λ t is. same.planes (t - 1); layers = λ t is. same.layers (t - 1) }
+places-keep raw next same = record {
+  more = omega (arith, same.many);
+  planes = λ t is. same.planes (t - 1);
+  layers = λ t is. same.layers
+      (t - 1);
+}
 
 -- a type was one before
 pub same_type : (raw next : RawTech) → HasSamePlaces raw.types next.types → (t : ℕ) → IsTrue (is_type next t) → IsTrue (is_type raw t)
 same_type raw next same t is = let bounds = type_bounds next t is in type_from_bounds raw t bounds.0 (omega (arith, bounds.1, same.many))
 
 -- layers stay sound
-pub places-layers : (raw next : RawTech) → HasSamePlaces raw.types next.types → next.layers ≡ raw.layers → length raw.planes ≤ length next.planes
+pub places-layers : (raw next : RawTech) → HasSamePlaces raw.types next.types → next.layers ≡ raw.layers
+    → length raw.planes ≤ length next.planes
     → HasSoundLayers raw → HasSoundLayers next
 places-layers raw next same layers planes sound =
     let keeps = places-keep raw next same in

@@ -1,4 +1,5 @@
 pub mod AtomSteps
+pub mod ContactLayers
 pub mod ContactLines
 pub mod ContactSteps
 pub mod FinishedDrafts

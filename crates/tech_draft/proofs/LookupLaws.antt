@@ -1,5 +1,6 @@
 -- What words mean in a sound technology.
-use Rattle.std.proofs.Common.{◌≡◌, ◌≢◌, ◌⊎◌, ◌<◌, ◌==◌, ℕ, Bool, false, cond, List, [], ◌∷◌, length, refl, sym, ap, subst, ◌∙◌, arith, inl, inr}
+use Rattle.std.proofs.Common.{◌≡◌, ◌≢◌, ◌⊎◌, ◌<◌, ◌==◌, ℕ, Bool, false, cond, List, [], ◌∷◌, length, refl, sym, ap, subst, ◌∙◌, arith, inl}
+use Rattle.std.proofs.Common.{inr}
 use Rattle.std.specs.Prelude.{All, IsTrue, Option, Some, None, fold, unwrap_or}
 use Rattle.std.specs.Option.{option_map_or}
 use Rattle.std.proofs.lemmas.Bool.{cases_Bool, eqb-false, ltb-false}
@@ -11,7 +12,8 @@ use Rattle.tech_model.specs.declared.raw.RawTech.{RawTech}
 use Rattle.tech_model.specs.Types.{type_number, is_type, plane_of, layer_of, images_of, layer_named, no_layer, has_name}
 use Rattle.tech_model.proofs.WellFormedLaws.{All_In}
 use Rattle.tech_draft.specs.Words.{has_slash, name_part, plane_part, pieces_of}
-use Rattle.tech_draft.specs.Lookups.{plane_named, named_types, first_on, type_on, entry_types, has_type, with_type_once, types_of_list, type_of_word, layer_of_word, is_contact}
+use Rattle.tech_draft.specs.Lookups.{plane_named, named_types, first_on, type_on, entry_types, has_type, with_type_once, types_of_list}
+use Rattle.tech_draft.specs.Lookups.{type_of_word, layer_of_word, is_contact}
 use Rattle.tech_draft.specs.Sound.{HasSoundLayers, IsPart}
 
 -- a layer that a word names is one of the list
@@ -19,8 +21,10 @@ pub layer_named-below : (raw : RawTech) (word : List ℕ) (layer : ℕ) → laye
 layer_named-below raw word layer found = let below = position_from-below (has_name word) 0 raw.layers layer found in omega (arith, below)
 
 -- the images of a layer are types
-pub image_type : (raw : RawTech) (layer : ℕ) (t : TypeId) → HasSoundLayers raw → layer < length raw.layers → In t (images_of raw layer) → IsTrue (is_type raw t.0)
-image_type raw layer t sound below is = All_In (λ (t : TypeId). IsTrue (is_type raw t.0)) (images_of raw layer) t (sound.layers layer no_layer below).images is
+pub image_type : (raw : RawTech) (layer : ℕ) (t : TypeId) → HasSoundLayers raw → layer < length raw.layers → In t (images_of raw layer)
+    → IsTrue (is_type raw t.0)
+image_type raw layer t sound below is = All_In (λ (t : TypeId). IsTrue (is_type raw t.0)) (images_of raw layer) t
+    (sound.layers layer no_layer below).images is
 
 -- ---- entries
 
@@ -44,14 +48,17 @@ type_on-source raw None types t absent = absurd absent
 type_on-source raw (Some plane) types t is = first_on-source raw plane types t is
 
 -- what an entry means is a type
-pub entry_type : (raw : RawTech) (entry : List ℕ) (t : TypeId) → HasSoundLayers raw → In t (entry_types raw entry) → IsTrue (is_type raw t.0)
+pub entry_type : (raw : RawTech) (entry : List ℕ) (t : TypeId) → HasSoundLayers raw → In t (entry_types raw entry)
+    → IsTrue (is_type raw t.0)
 entry_type raw entry t sound is = elim (cases_Bool (has_slash entry)) [
-  | inl slash ↦ named_type raw (name_part entry) t sound (type_on-source raw (plane_named raw (plane_part entry)) (named_types raw (name_part entry)) t (rw slash at is))
+  | inl slash ↦ named_type raw (name_part entry) t sound
+      (type_on-source raw (plane_named raw (plane_part entry)) (named_types raw (name_part entry)) t (rw slash at is))
   | inr plain ↦ named_type raw entry t sound (rw plain at is)
 ]
 
 -- a word that means something means a type
-pub word_type : (raw : RawTech) (word : List ℕ) → HasSoundLayers raw → (length (entry_types raw word) == 0) ≡ false → IsTrue (is_type raw (type_of_word raw word).0)
+pub word_type : (raw : RawTech) (word : List ℕ) → HasSoundLayers raw → (length (entry_types raw word) == 0) ≡ false
+    → IsTrue (is_type raw (type_of_word raw word).0)
 word_type raw word sound some =
     let apart = eqb-false (length (entry_types raw word)) 0 some in
     entry_type raw word (type_of_word raw word) sound (In-get_or (entry_types raw word) 0 (type_number 0) (omega (arith, apart)))
@@ -70,15 +77,22 @@ noted_cases (t ∷ more) types u is = elim (noted_cases more (with_type_once typ
 ]
 
 entries_source : (raw : RawTech) (entries : List (List ℕ)) (types : List TypeId) (u : TypeId)
-    → In u (fold (λ types entry. fold with_type_once types (entry_types raw entry)) types entries) → In u types ⊎ ((entry : List ℕ) × (In entry entries) × (In u (entry_types raw entry)))
+    → In u (fold (λ types entry. fold with_type_once types (entry_types raw entry)) types entries)
+    → In u types ⊎ ((entry : List ℕ) × (In entry entries) × (In u (entry_types raw entry)))
 entries_source raw [] types u is = inl is
-entries_source raw (entry ∷ entries) types u is = elim (entries_source raw entries (fold with_type_once types (entry_types raw entry)) u is) [
-  | inl before ↦ elim (noted_cases (entry_types raw entry) types u before) [ inl was ↦ inl was | inr here ↦ inr (entry, inl refl, here) ]
-  | inr later ↦ inr (later.0, inr later.1, later.2)
-]
+entries_source raw (entry ∷ entries) types u is = elim
+    (entries_source raw entries (fold with_type_once types (entry_types raw entry)) u is) [
+      | inl before ↦ elim (noted_cases (entry_types raw entry) types u before) [
+        | inl was ↦ inl was
+        | inr here ↦ inr
+            (entry, inl refl, here)
+      ]
+      | inr later ↦ inr (later.0, inr later.1, later.2)
+    ]
 
 -- a type of a list is one that an entry of it means
-pub list_source : (raw : RawTech) (list : List ℕ) (u : TypeId) → In u (types_of_list raw list) → (entry : List ℕ) × (In entry (pieces_of list)) × (In u (entry_types raw entry))
+pub list_source : (raw : RawTech) (list : List ℕ) (u : TypeId) → In u (types_of_list raw list)
+    → (entry : List ℕ) × (In entry (pieces_of list)) × (In u (entry_types raw entry))
 list_source raw list u is = elim (entries_source raw (pieces_of list) [] u is) [ inl none ↦ absurd none | inr found ↦ found ]
 
 -- the types of a list are types
@@ -87,7 +101,8 @@ list_type raw list t sound is = let source = list_source raw list t is in entry_
 
 -- the types of a list are types
 pub list_types : (raw : RawTech) (list : List ℕ) → HasSoundLayers raw → All (λ t. IsTrue (is_type raw t.0)) (types_of_list raw list)
-list_types raw list sound = All-from_In (λ (t : TypeId). IsTrue (is_type raw t.0)) (types_of_list raw list) (λ t is. list_type raw list t sound is)
+list_types raw list sound = All-from_In (λ (t : TypeId). IsTrue (is_type raw t.0)) (types_of_list raw list)
+    (λ t is. list_type raw list t sound is)
 
 -- ---- words that name layers
 
@@ -105,10 +120,12 @@ some_named raw None some = absurd (some refl)
 some_named raw (Some layer) some = (layer, (refl, refl))
 
 -- a word without a slash that means something names a layer
-pub word_named : (raw : RawTech) (word : List ℕ) → HasSoundLayers raw → has_slash word ≡ false → (length (entry_types raw word) == 0) ≡ false → IsNamed raw word
+pub word_named : (raw : RawTech) (word : List ℕ) → HasSoundLayers raw → has_slash word ≡ false
+    → (length (entry_types raw word) == 0) ≡ false → IsNamed raw word
 word_named raw word sound plain some =
     let types : entry_types raw word ≡ named_types raw word =
-    ap (λ (b : Bool). cond b (type_on raw (plane_named raw (plane_part word)) (named_types raw (name_part word))) (named_types raw word)) plain in
+    ap (λ (b : Bool). cond b (type_on raw (plane_named raw (plane_part word)) (named_types raw (name_part word)))
+    (named_types raw word)) plain in
     let apart = eqb-false (length (entry_types raw word)) 0 some in
     let found = some_named raw (layer_named raw word) (λ (none : length (named_types raw word) ≡ 0). apart (ap length types ∙ none)) in
     let number : layer_of_word raw word ≡ found.0 = ap (λ (o : Option ℕ). unwrap_or o 0) found.1.0 in
@@ -137,5 +154,6 @@ part_word raw word named is = record {
 }
 
 -- which is the one image of its layer
-pub single_word : (raw : RawTech) (word : List ℕ) → IsNamed raw word → is_contact raw word ≡ false → images_of raw (layer_of_word raw word) ≡ type_of_word raw word ∷ []
+pub single_word : (raw : RawTech) (word : List ℕ) → IsNamed raw word → is_contact raw word ≡ false
+    → images_of raw (layer_of_word raw word) ≡ type_of_word raw word ∷ []
 single_word raw word named is = sym named.all ∙ one_thing (entry_types raw word) (type_number 0) (one_image raw word named is)

@@ -17,7 +17,8 @@ and_then-ok (Ok x) next y is = (x, (refl, is))
 and_then-ok (Err fault) next y is = absurd (cc)
 
 -- where a rule with a test is kept, the test has failed
-pub rule-ok : {A F : Type 0} (broken : Bool) (fault : F) (rest : Result A F) (y : A) → cond broken (Err fault) rest ≡ Ok y → (broken ≡ false) × (rest ≡ Ok y)
+pub rule-ok : {A F : Type 0} (broken : Bool) (fault : F) (rest : Result A F) (y : A) → cond broken (Err fault) rest ≡ Ok y
+    → (broken ≡ false) × (rest ≡ Ok y)
 rule-ok true fault rest y is = absurd (cc)
 rule-ok false fault rest y is = (refl, is)
 
@@ -28,7 +29,8 @@ none_breaks raw rule [] is word absent = absurd absent
 none_breaks raw rule (x ∷ xs) is word inside =
     let steps = and_then-ok (refuse_word raw rule x) (λ _. refuse raw rule xs) tt is in
     elim inside [
-      | inl same ↦ subst (λ (w : List ℕ). breaks raw rule w ≡ false) same (rule-ok (breaks raw rule x) (word_fault rule x) (Ok tt) steps.0 steps.1.0).0
+      | inl same ↦ subst (λ (w : List ℕ). breaks raw rule w ≡ false) same
+          (rule-ok (breaks raw rule x) (word_fault rule x) (Ok tt) steps.0 steps.1.0).0
       | inr later ↦ none_breaks raw rule xs steps.1.1 word later
     ]
 
@@ -48,7 +50,8 @@ pub entries_mean : (raw : RawTech) (entries : List (List ℕ)) → check_entries
     → (entry : List ℕ) → In entry entries → breaks raw Meaningless entry ≡ false
 unfolding check_entries
 entries_mean raw entries is entry inside =
-    let first = and_then-ok (refuse raw Operator entries) (λ _. and_then (refuse raw UnknownPlane entries) (λ _. refuse raw Meaningless entries)) tt is in
+    let first = and_then-ok (refuse raw Operator entries)
+    (λ _. and_then (refuse raw UnknownPlane entries) (λ _. refuse raw Meaningless entries)) tt is in
     let second = and_then-ok (refuse raw UnknownPlane entries) (λ _. refuse raw Meaningless entries) tt first.1.1 in
     none_breaks raw Meaningless entries second.1.1 entry inside
 

@@ -16,7 +16,13 @@ no_type_yet t is = let bounds = type_bounds empty_raw t is in let high : t ≤ 0
 -- a draft of which no line was read is sound
 pub IsSound-empty : IsSound empty_draft
 IsSound-empty = record {
-  names = record { plain = inl refl; limit = omega arith; plane_names = All-nil (λ (name : List ℕ). IsTrue (is_plain_name name)); differ = tt };
+  names = record {
+    plain = inl refl;
+    limit = omega arith;
+    plane_names = All-nil
+        (λ (name : List ℕ). IsTrue (is_plain_name name));
+    differ = tt;
+  };
   layers = record {
     types_limit = omega arith;
     limit = omega arith;

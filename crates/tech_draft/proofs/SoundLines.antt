@@ -1,10 +1,12 @@
 -- Each line that is taken keeps a draft sound.
-use Rattle.std.proofs.Common.{◌≡◌, ◌<◌, ◌≤◌, ◌+◌, ◌==◌, ◌||◌, ℕ, true, false, List, [], ◌∷◌, ◌++◌, length, refl, sym, ap, subst, ◌∙◌, arith, inl, inr}
+use Rattle.std.proofs.Common.{◌≡◌, ◌<◌, ◌≤◌, ◌+◌, ◌==◌, ◌||◌, ℕ, true, false, List, [], ◌∷◌, ◌++◌, length, refl, sym, ap, subst, ◌∙◌, arith}
+use Rattle.std.proofs.Common.{inl, inr}
 use Rattle.std.specs.Prelude.{IsTrue, Option, Some, None, Result, Ok, not, nat_lt, nat_le, codes}
 use Rattle.std.specs.List.{list_any, list_all}
 use Rattle.std.specs.Option.{ok_or}
 use Rattle.std.specs.Str.{bytes_eq}
-use Rattle.std.proofs.lemmas.Bool.{cases_Bool, or_parts, and_parts, not-false, not-true, ltb-false, leb-false, eqb-true, eqb-false, true≢false}
+use Rattle.std.proofs.lemmas.Bool.{cases_Bool, or_parts, and_parts, not-false, not-true, ltb-false, leb-false, eqb-true, eqb-false}
+use Rattle.std.proofs.lemmas.Bool.{true≢false}
 use Rattle.std.proofs.lemmas.List.{length_push}
 use Rattle.std.proofs.lemmas.List.Elements.{All-push}
 use Rattle.std.proofs.lemmas.List.Splits.{length-slice_split}
@@ -27,21 +29,27 @@ use Rattle.tech_model.specs.declared.limits.TheConstants.{MOST_PLANES, MOST_TYPE
 use Rattle.tech_model.specs.Forms.{is_layer_name}
 use Rattle.tech_model.specs.Types.{plane_of, has_name}
 use Rattle.tech_draft.specs.Drafts.{Drafted}
-use Rattle.tech_draft.specs.Words.{one_word, two_words, three_words, four_words, has_three_words, has_form, is_comma, pieces_of, is_entry_list, measure_in, name_part}
+use Rattle.tech_draft.specs.Words.{one_word, two_words, three_words, four_words, has_three_words, has_form, is_comma, pieces_of}
+use Rattle.tech_draft.specs.Words.{is_entry_list, measure_in, name_part}
 use Rattle.tech_draft.specs.declared.words.WordForm.TheVariants.{LayerName, LayerTerm}
 use Rattle.tech_draft.specs.declared.draft.word_rules.WordRule.TheVariants as rule
 use Rattle.tech_draft.specs.WordRules.{refuse, check_entries, check_layers}
 use Rattle.tech_draft.specs.Lookups.{plane_named, entry_types, has_type, types_of_list, type_of_word, layer_of_word, is_contact}
-use Rattle.tech_draft.specs.TypeLines.{with_name, new_name, name_line, with_plane, new_plane, plane_line, new_names, with_atom, new_atom, new_type, type_line}
-use Rattle.tech_draft.specs.SetLines.{are_misplaced, is_part, other_residues, residues_of_layer, with_contact, new_contact, is_contact_form, contact_line}
+use Rattle.tech_draft.specs.TypeLines.{with_name, new_name, name_line, with_plane, new_plane, plane_line, new_names, with_atom, new_atom}
+use Rattle.tech_draft.specs.TypeLines.{new_type, type_line}
+use Rattle.tech_draft.specs.SetLines.{are_misplaced, is_part, other_residues, residues_of_layer, with_contact, new_contact, is_contact_form}
+use Rattle.tech_draft.specs.SetLines.{contact_line}
 use Rattle.tech_draft.specs.SetLines.{are_composable, is_settled, with_union, new_union, composed, compose_line}
-use Rattle.tech_draft.specs.ListLines.{with_pairs, with_pair_list, connected, connect_line, with_class, new_class, resist_line, shared_class, uncapped}
-use Rattle.tech_draft.specs.ListLines.{with_capacitance, new_capacitance, cap_line, is_fet_form, has_fet, with_rule, fet_with, check_fet, new_fet, fet_line, extract_line}
+use Rattle.tech_draft.specs.ListLines.{with_pairs, with_pair_list, connected, connect_line, with_class, new_class, resist_line}
+use Rattle.tech_draft.specs.ListLines.{shared_class, uncapped}
+use Rattle.tech_draft.specs.ListLines.{with_capacitance, new_capacitance, cap_line, is_fet_form, has_fet, with_rule, fet_with, check_fet}
+use Rattle.tech_draft.specs.ListLines.{new_fet, fet_line, extract_line}
 use Rattle.tech_draft.specs.Lines.{line_in}
 use Rattle.tech_draft.specs.Sound.{HasSoundNames, HasSoundRules, IsPart, IsSound}
 use Rattle.tech_draft.proofs.AtomSteps.{IsNewLayer, atom-keeps, atom_layers, atom_step}
 use Rattle.tech_draft.proofs.ContactLines.{KeepsContactRules, contact_plan, contact_line-keeps}
-use Rattle.tech_draft.proofs.ContactSteps.{images-keeps, images_layers, contact_step}
+use Rattle.tech_draft.proofs.ContactLayers.{images-keeps, images_layers}
+use Rattle.tech_draft.proofs.ContactSteps.{contact_step}
 use Rattle.tech_draft.proofs.IndexLaws.{new_names-free}
 use Rattle.tech_draft.proofs.Keeps.{kept_rules, places-keep, places-layers, same_places, with_set-places}
 use Rattle.tech_draft.proofs.LookupLaws.{IsNamed, word_named, part_word}
@@ -58,8 +66,10 @@ made : (after next : Drafted) → right after ≡ right next → IsSound after �
 made after next is sound = let same : after ≡ next = cc in subst IsSound same sound
 
 -- names, planes and rules that fit the lists
-rules-sound : (draft : Drafted) (name : List ℕ) (planes : List (List ℕ)) (pairs : List (TypeId × TypeId)) (classes : List ClassRec) (fets : List FetRule) (capped : List ℕ)
-    → IsSound draft → HasSoundNames name planes → length draft.raw.planes ≤ length planes → HasSoundRules (with_lists draft.raw pairs classes fets)
+rules-sound : (draft : Drafted) (name : List ℕ) (planes : List (List ℕ)) (pairs : List (TypeId × TypeId)) (classes : List ClassRec)
+    (fets : List FetRule) (capped : List ℕ)
+    → IsSound draft → HasSoundNames name planes → length draft.raw.planes ≤ length planes
+    → HasSoundRules (with_lists draft.raw pairs classes fets)
     → IsSound (with_rules draft name planes pairs classes fets capped)
 rules-sound draft name planes pairs classes fets capped sound names more rules =
     let new = with_rules draft name planes pairs classes fets capped in
@@ -104,11 +114,13 @@ sound-plane draft next words sound is =
     let names : HasSoundNames raw.name (raw.planes ++ name ∷ []) = record {
       plain = sound.names.plain;
       limit = omega (arith, long, few);
-      plane_names = All-push (λ (n : List ℕ). IsTrue (is_plain_name n)) raw.planes name sound.names.plane_names (not-false (is_plain_name name) form.0);
+      plane_names = All-push (λ (n : List ℕ). IsTrue (is_plain_name n)) raw.planes name sound.names.plane_names
+          (not-false (is_plain_name name) form.0);
       differ = Distinct-push raw.planes name sound.names.differ (absent_word name raw.planes once.0);
     } in
     made (with_plane draft name) next room.1
-    (rules-sound draft raw.name (raw.planes ++ name ∷ []) raw.pairs raw.classes raw.fets draft.capped sound names (omega (arith, long)) sound.rules)
+    (rules-sound draft raw.name (raw.planes ++ name ∷ []) raw.pairs raw.classes raw.fets draft.capped sound names
+    (omega (arith, long)) sound.rules)
 
 -- ---- types
 
@@ -116,16 +128,20 @@ found_some : {X : Type 0} (o : Option X) (fault : TechFault) (x : X) → ok_or o
 found_some None fault x is = absurd (cc)
 found_some (Some y) fault x is = let same : y ≡ x = cc in ap (λ z. Some z) same
 
-new_layer-line : (draft : Drafted) (word : List ℕ) (names : List (List ℕ)) (plane : ℕ) → 0 < length names → list_all (has_form LayerName) names ≡ true
-    → plane_named draft.raw word ≡ Some plane → new_names draft.raw [] names ≡ Ok tt → length draft.raw.types < MOST_TYPES → IsNewLayer draft.raw plane names
+new_layer-line : (draft : Drafted) (word : List ℕ) (names : List (List ℕ)) (plane : ℕ) → 0 < length names
+    → list_all (has_form LayerName) names ≡ true
+    → plane_named draft.raw word ≡ Some plane → new_names draft.raw [] names ≡ Ok tt → length draft.raw.types < MOST_TYPES
+    → IsNewLayer draft.raw plane names
 new_layer-line draft word names plane some good placed new room =
     let raw = draft.raw in
     record {
       plane_below = (position-Some (bytes_eq word) raw.planes plane [] placed).0;
       named = some;
-      forms = All-from_In (λ (name : List ℕ). IsTrue (is_layer_name name)) names (λ name is. list_all-In (has_form LayerName) names name good is);
+      forms = All-from_In (λ (name : List ℕ). IsTrue (is_layer_name name)) names
+          (λ name is. list_all-In (has_form LayerName) names name good is);
       new = λ layer name layer_in had is. elim (cases_Bool (list_any (bytes_eq name) names)) [
-        | inl listed ↦ absent_word name layer.names (position_from-none (has_name name) 0 raw.layers layer (new_names-free raw [] names name new listed) layer_in) had
+        | inl listed ↦ absent_word name layer.names
+            (position_from-none (has_name name) 0 raw.layers layer (new_names-free raw [] names name new listed) layer_in) had
         | inr missing ↦ absent_word name names missing is
       ];
       limit = room;
@@ -139,7 +155,8 @@ sound-type draft next words sound is =
     let word = line.0.0 in
     let names = pieces_of line.0.1 in
     let form = rule-ok (not (is_plain_name word) || not (list_all (has_form LayerName) names)) BadForm _ next line.1.1 in
-    let good = not-false (list_all (has_form LayerName) names) (or_parts (not (is_plain_name word)) (not (list_all (has_form LayerName) names)) form.0).1 in
+    let good = not-false (list_all (has_form LayerName) names)
+    (or_parts (not (is_plain_name word)) (not (list_all (has_form LayerName) names)) form.0).1 in
     let placed = and_then-ok (ok_or (plane_named raw word) (NoPlane word)) (new_atom draft names) next form.1 in
     let plane = placed.0 in
     let after : Drafted = record draft { raw = with_atom raw plane names } in
@@ -162,7 +179,8 @@ three_long (a ∷ []) is = absurd (cc)
 three_long (a ∷ b ∷ []) is = absurd (cc)
 three_long (a ∷ b ∷ c ∷ rest) is = omega arith
 
-layers_named : (draft : Drafted) (words : List (List ℕ)) → IsSound draft → check_layers draft.raw words ≡ Ok tt → (word : List ℕ) → In word words → IsNamed draft.raw word
+layers_named : (draft : Drafted) (words : List (List ℕ)) → IsSound draft → check_layers draft.raw words ≡ Ok tt → (word : List ℕ)
+    → In word words → IsNamed draft.raw word
 layers_named draft words sound is word inside =
     let mean = layers_mean draft.raw words is word inside in
     word_named draft.raw word sound.layers mean.0 mean.1
@@ -196,7 +214,9 @@ sound-contact draft next [] sound is = absurd (cc)
 sound-contact draft next (base ∷ residues) sound is =
     let raw = draft.raw in
     let form = rule-ok (not (is_contact_form (base ∷ residues))) BadForm _ next is in
-    let long = three_long (base ∷ residues) (and_parts (has_three_words (base ∷ residues)) (list_all (has_form LayerTerm) (base ∷ residues)) (not-false (is_contact_form (base ∷ residues)) form.0)).0 in
+    let long = three_long (base ∷ residues)
+    (and_parts (has_three_words (base ∷ residues)) (list_all (has_form LayerTerm) (base ∷ residues))
+    (not-false (is_contact_form (base ∷ residues)) form.0)).0 in
     let known = and_then-ok (check_layers raw (base ∷ residues)) _ next form.1 in
     let rules = new_contact-rules draft next base residues long (layers_named draft (base ∷ residues) sound known.1.0) known.1.1 in
     let layer = layer_of_word raw base in
@@ -207,14 +227,17 @@ sound-contact draft next (base ∷ residues) sound is =
     made after next rules.1 (record {
       names = sound.names;
       layers = images_layers raw layer own others sound.layers plan;
-      rules = kept_rules raw raw.name raw.planes after.raw.types after.raw.layers (images-keeps raw layer own others plan.is_own) sound.rules;
+      rules = kept_rules raw raw.name raw.planes after.raw.types after.raw.layers
+          (images-keeps raw layer own others plan.is_own) sound.rules;
       sets = sets_after draft after
-          (contact_step draft layer own others (residues_of_layer raw layer residues) sound.layers sound.sets plan (contact_line-keeps draft base residues rules.0)) sound.sets;
+          (contact_step draft layer own others (residues_of_layer raw layer residues) sound.layers sound.sets plan
+          (contact_line-keeps draft base residues rules.0)) sound.sets;
     })
 
 -- ---- composed types
 
-union_line : (draft : Drafted) (whole first second : TypeId) → are_composable draft.raw whole first second ≡ true → is_settled draft whole ≡ false
+union_line : (draft : Drafted) (whole first second : TypeId) → are_composable draft.raw whole first second ≡ true
+    → is_settled draft whole ≡ false
     → IsPart draft.raw whole.0 → IsPart draft.raw first.0 → IsPart draft.raw second.0 → IsUnionLine draft whole first second
 unfolding are_composable is_settled
 union_line draft whole first second good free is_whole is_first is_second =
@@ -236,7 +259,8 @@ union_line draft whole first second good free is_whole is_first is_second =
       unused = λ t inside. eqb-false t.0 whole.0 (list_any-In (λ (u : TypeId). u.0 == whole.0) draft.used t unused inside);
     }
 
-sound-union : (draft next : Drafted) (whole first second : List ℕ) → IsSound draft → ((word : List ℕ) → In word (whole ∷ first ∷ second ∷ []) → IsNamed draft.raw word)
+sound-union : (draft next : Drafted) (whole first second : List ℕ) → IsSound draft
+    → ((word : List ℕ) → In word (whole ∷ first ∷ second ∷ []) → IsNamed draft.raw word)
     → new_union draft whole first second ≡ Ok next → IsSound next
 sound-union draft next whole first second sound named is =
     let raw = draft.raw in
@@ -249,7 +273,8 @@ sound-union draft next whole first second sound named is =
     let parts = and_then-ok (refuse raw rule.Contact words) _ next once.1 in
     let part : (word : List ℕ) → In word words → IsPart raw (type_of_word raw word).0 =
     λ word inside. part_word raw word (named word inside) (none_breaks raw rule.Contact words parts.1.0 word inside) in
-    let line = union_line draft w f s (not-false (are_composable raw w f s) form.0) once.0 (part whole (inl refl)) (part first (inr (inl refl))) (part second (inr (inr (inl refl)))) in
+    let line = union_line draft w f s (not-false (are_composable raw w f s) form.0) once.0 (part whole (inl refl))
+    (part first (inr (inl refl))) (part second (inr (inr (inl refl)))) in
     let after = with_union draft w f s in
     made after next parts.1.1 (record {
       names = sound.names;
@@ -284,9 +309,11 @@ sound-connect draft next words sound is =
     let known = and_then-ok (check_entries raw (pieces_of first ++ pieces_of second)) _ next form.1 in
     let pairs = with_pairs raw (types_of_list raw first) (types_of_list raw second) in
     made (with_pair_list draft pairs) next known.1.1
-    (rules-sound draft raw.name raw.planes pairs raw.classes raw.fets draft.capped sound sound.names (omega arith) (connect_rules raw first second sound.layers sound.rules))
+    (rules-sound draft raw.name raw.planes pairs raw.classes raw.fets draft.capped sound sound.names (omega arith)
+    (connect_rules raw first second sound.layers sound.rules))
 
-sound-class : (draft next : Drafted) (list : List ℕ) (value : ℕ) → IsSound draft → value ≤ LARGEST_MEASURE → new_class draft list value ≡ Ok next → IsSound next
+sound-class : (draft next : Drafted) (list : List ℕ) (value : ℕ) → IsSound draft → value ≤ LARGEST_MEASURE
+    → new_class draft list value ≡ Ok next → IsSound next
 sound-class draft next list value sound small is =
     let raw = draft.raw in
     let form = rule-ok (not (is_entry_list list)) BadForm _ next is in
@@ -305,13 +332,15 @@ sound-resist draft next words sound is =
     let value = and_then-ok (measure_in line.0.1) (new_class draft line.0.0) next line.1.1 in
     sound-class draft next line.0.0 value.0 sound (measure-small line.0.1 value.0 value.1.0) value.1.1
 
-sound-capacitance : (draft next : Drafted) (list : List ℕ) (area perimeter : ℕ) → IsSound draft → area ≤ LARGEST_MEASURE → perimeter ≤ LARGEST_MEASURE
+sound-capacitance : (draft next : Drafted) (list : List ℕ) (area perimeter : ℕ) → IsSound draft → area ≤ LARGEST_MEASURE
+    → perimeter ≤ LARGEST_MEASURE
     → new_capacitance draft list area perimeter ≡ Ok next → IsSound next
 sound-capacitance draft next list area perimeter sound area_small perimeter_small is =
     let raw = draft.raw in
     let form = rule-ok (not (is_entry_list list)) BadForm _ next is in
     let known = and_then-ok (check_entries raw (pieces_of list)) _ next form.1 in
-    let free = and_then-ok (uncapped draft list (shared_class raw (types_of_list raw list))) (λ class. Ok (with_capacitance draft area perimeter class)) next known.1.1 in
+    let free = and_then-ok (uncapped draft list (shared_class raw (types_of_list raw list)))
+    (λ class. Ok (with_capacitance draft area perimeter class)) next known.1.1 in
     let after = with_capacitance draft area perimeter free.0 in
     made after next free.1.1
     (rules-sound draft raw.name raw.planes raw.pairs after.raw.classes raw.fets after.capped sound sound.names (omega arith)
@@ -320,12 +349,16 @@ sound-capacitance draft next list area perimeter sound area_small perimeter_smal
 sound-cap : (draft next : Drafted) (words : List (List ℕ)) → IsSound draft → cap_line draft words ≡ Ok next → IsSound next
 unfolding cap_line
 sound-cap draft next words sound is =
-    let line = and_then-ok (three_words words) (λ line. and_then (measure_in line.1) (λ area. and_then (measure_in line.2) (new_capacitance draft line.0 area))) next is in
-    let area = and_then-ok (measure_in line.0.1) (λ area. and_then (measure_in line.0.2) (new_capacitance draft line.0.0 area)) next line.1.1 in
+    let line = and_then-ok (three_words words)
+    (λ line. and_then (measure_in line.1) (λ area. and_then (measure_in line.2) (new_capacitance draft line.0 area))) next is in
+    let area = and_then-ok (measure_in line.0.1)
+    (λ area. and_then (measure_in line.0.2) (new_capacitance draft line.0.0 area)) next line.1.1 in
     let perimeter = and_then-ok (measure_in line.0.2) (new_capacitance draft line.0.0 area.0) next area.1.1 in
-    sound-capacitance draft next line.0.0 area.0 perimeter.0 sound (measure-small line.0.1 area.0 area.1.0) (measure-small line.0.2 perimeter.0 perimeter.1.0) perimeter.1.1
+    sound-capacitance draft next line.0.0 area.0 perimeter.0 sound (measure-small line.0.1 area.0 area.1.0)
+    (measure-small line.0.2 perimeter.0 perimeter.1.0) perimeter.1.1
 
-sound-new_fet : (draft next : Drafted) (kind list name substrate : List ℕ) → IsSound draft → new_fet draft kind list name substrate ≡ Ok next → IsSound next
+sound-new_fet : (draft next : Drafted) (kind list name substrate : List ℕ) → IsSound draft
+    → new_fet draft kind list name substrate ≡ Ok next → IsSound next
 sound-new_fet draft next kind list name substrate sound is =
     let raw = draft.raw in
     let form = rule-ok (not (is_fet_form kind list name substrate)) BadForm _ next is in
@@ -361,7 +394,8 @@ sound-extract draft next (key ∷ words) sound is = elim (cases_Bool (bytes_eq k
 ]
 
 -- a line that is read keeps a draft sound
-pub IsSound-line : (section : Section) (draft next : Drafted) (words : List (List ℕ)) → IsSound draft → line_in section draft words ≡ Ok next → IsSound next
+pub IsSound-line : (section : Section) (draft next : Drafted) (words : List (List ℕ)) → IsSound draft
+    → line_in section draft words ≡ Ok next → IsSound next
 unfolding line_in
 IsSound-line Tech draft next words sound is = sound-name draft next words sound is
 IsSound-line Planes draft next words sound is = sound-plane draft next words sound is

@@ -43,12 +43,17 @@ pub record IsStep (old new : Drafted) : Type 0 where
   pub new_residues : (pair : LayerId × TypeId) → In pair more_residues → HasImages new.raw pair.0.0 × IsPart new.raw pair.1.0
 
 -- a type that is as it was has as many images beside it
-pub same_images : (old new : RawTech) (t : ℕ) → Keeps old new → IsSame old new t → length (images_of new (layer_of new t)) ≡ length (images_of old (layer_of old t))
+pub same_images : (old new : RawTech) (t : ℕ) → Keeps old new → IsSame old new t
+    → length (images_of new (layer_of new t)) ≡ length (images_of old (layer_of old t))
 same_images old new t keeps same = ap (λ (l : ℕ). length (images_of new l)) (keeps.layers t same.was) ∙ same.images
 
 -- a type that is as it was is no contact if it was none
 pub same_part : (old new : RawTech) (t : ℕ) → Keeps old new → IsSame old new t → IsSimple old t → IsPart new t
-same_part old new t keeps same simple = record { is = kept_type old new keeps t same.was; simple = same_images old new t keeps same ∙ simple }
+same_part old new t keeps same simple = record {
+  is = kept_type old new keeps t same.was;
+  simple = same_images old new t keeps same
+      ∙ simple;
+}
 
 -- a union stays the union of its parts
 pub union_same : (old new : RawTech) (t first second : ℕ) → Keeps old new → IsSame old new t → IsSame old new first → IsSame old new second
@@ -61,11 +66,13 @@ union_same old new t first second keeps same of_first of_second union = record {
   second_simple = same_images old new second keeps of_second ∙ union.second_simple;
   first_plane = keeps.planes first of_first.was ∙ union.first_plane ∙ sym (keeps.planes t same.was);
   second_plane = keeps.planes second of_second.was ∙ union.second_plane ∙ sym (keeps.planes t same.was);
-  set = same.set ∙ union.set ∙ ap (λ (x : ℕ). bit_or x (parts_of old second)) (sym of_first.set) ∙ ap (bit_or (parts_of new first)) (sym of_second.set);
+  set = same.set ∙ union.set ∙ ap (λ (x : ℕ). bit_or x (parts_of old second)) (sym of_first.set)
+      ∙ ap (bit_or (parts_of new first)) (sym of_second.set);
 }
 
 -- what a set is made of stays
-pub made_same : (old new : RawTech) (used more : List TypeId) (t : ℕ) → Keeps old new → ((s : ℕ) → In (type_number s) used → IsSame old new s)
+pub made_same : (old new : RawTech) (used more : List TypeId) (t : ℕ) → Keeps old new
+    → ((s : ℕ) → In (type_number s) used → IsSame old new s)
     → IsSame old new t → IsMadeOf old used t → IsMadeOf new (used ++ more) t
 made_same old new used more t keeps all same (atom _ set) = atom t (same.set ∙ set)
 made_same old new used more t keeps all same (composed _ first second union first_used second_used of_first of_second) =
@@ -83,7 +90,8 @@ image_kept old new t step sets same image =
       mark = same.set ∙ image.mark ∙ ap mark_bit (sym layer);
       residue = image.residue;
       noted = subst (λ (l : ℕ). In (layer_number l, image.residue) new.residues) (sym layer) noted;
-      plane = step.keeps.planes image.residue.0 (sets.residues (layer_number (layer_of old.raw t), image.residue) image.noted).1.is ∙ image.plane ∙ sym (step.keeps.planes t same.was);
+      plane = step.keeps.planes image.residue.0 (sets.residues (layer_number (layer_of old.raw t), image.residue) image.noted).1.is
+          ∙ image.plane ∙ sym (step.keeps.planes t same.was);
     }
 
 -- Sets stay sound.
@@ -97,7 +105,8 @@ sets_after old new step sets = record {
     | inr sound ↦ elim sound [ inl made ↦ made.1 | inr image ↦ (let many = image.0 in absurd (omega (arith, many, simple))) ]
   ];
   images = λ t is many. elim (step.types t is) [
-    | inl same ↦ image_kept old new t step sets same (sets.images t same.was (omega (arith, many, same_images old.raw new.raw t step.keeps same)))
+    | inl same ↦ image_kept old new t step sets same
+        (sets.images t same.was (omega (arith, many, same_images old.raw new.raw t step.keeps same)))
     | inr sound ↦ elim sound [ inl made ↦ (let one = made.0 in absurd (omega (arith, many, one))) | inr image ↦ image.1 ]
   ];
   used = λ t inside. elim (In-append_cases (type_number t) old.used step.more_used (rw step.used at inside)) [
@@ -118,11 +127,13 @@ with_rules draft name planes pairs classes fets capped =
     record draft { raw = record draft.raw { name = name; planes = planes; pairs = pairs; classes = classes; fets = fets }; capped = capped }
 
 -- a line that adds no type and changes no set
-pub rules_step : (draft : Drafted) (name : List ℕ) (planes : List (List ℕ)) (pairs : List (TypeId × TypeId)) (classes : List ClassRec) (fets : List FetRule) (capped : List ℕ)
+pub rules_step : (draft : Drafted) (name : List ℕ) (planes : List (List ℕ)) (pairs : List (TypeId × TypeId)) (classes : List ClassRec)
+    (fets : List FetRule) (capped : List ℕ)
     → HasSoundSets draft → IsStep draft (with_rules draft name planes pairs classes fets capped)
 rules_step draft name planes pairs classes fets capped sets =
     let new = with_rules draft name planes pairs classes fets capped in
-    let same : (t : ℕ) → IsTrue (is_type draft.raw t) → IsSame draft.raw new.raw t = λ t is. record { was = is; images = refl; set = refl } in
+    let same : (t : ℕ) → IsTrue (is_type draft.raw t)
+    → IsSame draft.raw new.raw t = λ t is. record { was = is; images = refl; set = refl } in
     record {
       more_used = [];
       more_residues = [];

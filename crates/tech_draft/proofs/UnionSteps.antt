@@ -10,11 +10,12 @@ use Rattle.tech_model.specs.declared.raw.TypeRec.{TypeRec}
 use Rattle.tech_model.specs.declared.raw.RawTech.{RawTech}
 use Rattle.tech_model.specs.Types.{type_number, is_type, type_at, plane_of, parts_of, images_of, no_type}
 use Rattle.tech_model.specs.WellFormed.{IsUnion, IsSimple}
+use Rattle.tech_model.proofs.JoinedLaws.{parts_at}
 use Rattle.tech_model.proofs.WellFormedLaws.{type_bounds}
 use Rattle.tech_draft.specs.Drafts.{Drafted}
 use Rattle.tech_draft.specs.SetLines.{with_set, with_union}
 use Rattle.tech_draft.specs.Sound.{IsMadeOf, composed, IsPart, HasSoundSets}
-use Rattle.tech_draft.proofs.Keeps.{Keeps, parts_at, kept_type, with_set-places, places-keep, same_type}
+use Rattle.tech_draft.proofs.Keeps.{Keeps, kept_type, with_set-places, places-keep, same_type}
 use Rattle.tech_draft.proofs.Steps.{IsSame, IsStep, made_same}
 
 -- Three types of one plane that are no contacts and differ, where the first is no part so far.
@@ -29,6 +30,7 @@ pub record IsUnionLine (draft : Drafted) (whole first second : TypeId) : Type 0 
   pub differ : first.0 ≢ second.0
   pub unused : (t : TypeId) → In t draft.used → t.0 ≢ whole.0
 
+-- the set of both parts
 abbrev pub union_of : RawTech → TypeId → TypeId → ℕ
 union_of raw first second = bit_or (parts_of raw first.0) (parts_of raw second.0)
 
@@ -40,17 +42,20 @@ united raw whole first second = record raw { types = with_set raw whole (union_o
 pub union-keeps : (raw : RawTech) (whole first second : TypeId) → Keeps raw (united raw whole first second)
 union-keeps raw whole first second = places-keep raw (united raw whole first second) (with_set-places raw whole (union_of raw first second))
 
-union_same_other : (raw : RawTech) (whole first second : TypeId) (t : ℕ) → IsTrue (is_type raw whole.0) → IsTrue (is_type raw t) → t ≢ whole.0 → IsSame raw (united raw whole first second) t
+union_same_other : (raw : RawTech) (whole first second : TypeId) (t : ℕ) → IsTrue (is_type raw whole.0) → IsTrue (is_type raw t)
+    → t ≢ whole.0 → IsSame raw (united raw whole first second) t
 union_same_other raw whole first second t base is other =
     let new = united raw whole first second in
     let bounds = type_bounds raw t is in
     let whole_bounds = type_bounds raw whole.0 base in
-    let at : type_at new t ≡ type_at raw t = get_or-set_other raw.types (whole.0 - 1) (t - 1) (record (type_at raw whole.0) { parts = record { 0 = union_of raw first second } }) no_type
+    let at : type_at new t ≡ type_at raw t = get_or-set_other raw.types (whole.0 - 1) (t - 1)
+    (record (type_at raw whole.0) { parts = record { 0 = union_of raw first second } }) no_type
     (λ (same : t - 1 ≡ whole.0 - 1). other (omega (arith, same, bounds.0, whole_bounds.0))) in
     record {
       was = is;
       images = refl;
-      set = parts_at new t (kept_type raw new (union-keeps raw whole first second) t is) ∙ ap (λ (kind : TypeRec). kind.parts.0) at ∙ sym (parts_at raw t is);
+      set = parts_at new t (kept_type raw new (union-keeps raw whole first second) t is) ∙ ap (λ (kind : TypeRec). kind.parts.0) at
+          ∙ sym (parts_at raw t is);
     }
 
 -- a type is no contact after the line where it was none before
@@ -62,13 +67,15 @@ union_simple raw whole first second t part =
       simple = ap (λ (l : ℕ). length (images_of raw l)) (keeps.layers t part.is) ∙ part.simple;
     }
 
-union_whole : (draft : Drafted) (whole first second : TypeId) → IsUnionLine draft whole first second → IsUnion (united draft.raw whole first second) whole.0 first.0 second.0
+union_whole : (draft : Drafted) (whole first second : TypeId) → IsUnionLine draft whole first second
+    → IsUnion (united draft.raw whole first second) whole.0 first.0 second.0
 union_whole draft whole first second line =
     let raw = draft.raw in
     let new = united raw whole first second in
     let keeps = union-keeps raw whole first second in
     let bounds = type_bounds raw whole.0 line.is_whole.is in
-    let at = get_or-set_same raw.types (whole.0 - 1) (record (type_at raw whole.0) { parts = record { 0 = union_of raw first second } }) no_type (omega (arith, bounds.0, bounds.1)) in
+    let at = get_or-set_same raw.types (whole.0 - 1)
+    (record (type_at raw whole.0) { parts = record { 0 = union_of raw first second } }) no_type (omega (arith, bounds.0, bounds.1)) in
     let of_first = union_simple raw whole first second first.0 line.is_first in
     let of_second = union_simple raw whole first second second.0 line.is_second in
     let same_first = union_same_other raw whole first second first.0 line.is_whole.is line.is_first.is line.first_other in
@@ -82,7 +89,8 @@ union_whole draft whole first second line =
       first_plane = keeps.planes first.0 line.is_first.is ∙ line.first_plane ∙ sym (keeps.planes whole.0 line.is_whole.is);
       second_plane = keeps.planes second.0 line.is_second.is ∙ line.second_plane ∙ sym (keeps.planes whole.0 line.is_whole.is);
       set = parts_at new whole.0 (kept_type raw new keeps whole.0 line.is_whole.is) ∙ ap (λ (kind : TypeRec). kind.parts.0) at
-          ∙ ap (λ (x : ℕ). bit_or x (parts_of raw second.0)) (sym same_first.set) ∙ ap (bit_or (parts_of new first.0)) (sym same_second.set);
+          ∙ ap (λ (x : ℕ). bit_or x (parts_of raw second.0)) (sym same_first.set)
+          ∙ ap (bit_or (parts_of new first.0)) (sym same_second.set);
     }
 
 union_made : (draft : Drafted) (whole first second : TypeId) → HasSoundSets draft → IsUnionLine draft whole first second
@@ -102,7 +110,8 @@ union_made draft whole first second sets line =
     (made_same raw new draft.used parts second.0 keeps used_same same_second (sets.simple second.0 line.is_second.is line.is_second.simple))
 
 -- a line of three types that may be composed
-pub union_step : (draft : Drafted) (whole first second : TypeId) → HasSoundSets draft → IsUnionLine draft whole first second → IsStep draft (with_union draft whole first second)
+pub union_step : (draft : Drafted) (whole first second : TypeId) → HasSoundSets draft → IsUnionLine draft whole first second
+    → IsStep draft (with_union draft whole first second)
 union_step draft whole first second sets line =
     let raw = draft.raw in
     let new = united raw whole first second in

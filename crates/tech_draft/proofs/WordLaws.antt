@@ -43,7 +43,8 @@ pieces-one list none =
     ]
 
 -- the words of a line that has three
-pub three_are : (words : List (List ℕ)) (line : List ℕ × List ℕ × List ℕ) → three_words words ≡ Ok line → words ≡ line.0 ∷ line.1 ∷ line.2 ∷ []
+pub three_are : (words : List (List ℕ)) (line : List ℕ × List ℕ × List ℕ) → three_words words ≡ Ok line
+    → words ≡ line.0 ∷ line.1 ∷ line.2 ∷ []
 three_are [] line is = absurd (cc)
 three_are (a ∷ []) line is = absurd (cc)
 three_are (a ∷ b ∷ []) line is = absurd (cc)

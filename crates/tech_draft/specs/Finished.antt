@@ -18,7 +18,12 @@ residue_parts raw (Some pair) = parts_of raw pair.1.0
 -- the type with the set of its residue too, where it has one
 abbrev pub finished_type : Drafted → TypeRec → TypeRec
 finished_type draft kind =
-    record kind { parts = record { 0 = bit_or kind.parts.0 (residue_parts draft.raw (find (is_residue_of draft.raw kind) draft.residues)) } }
+    record kind {
+      parts = record {
+        0 = bit_or kind.parts.0
+            (residue_parts draft.raw (find (is_residue_of draft.raw kind) draft.residues));
+      };
+    }
 
 unfoldable pub finished : Drafted → RawTech
 finished draft = record draft.raw { types = map (finished_type draft) draft.raw.types }

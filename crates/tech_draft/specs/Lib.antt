@@ -4,7 +4,7 @@ pub mod Kept
 pub mod Lines
 pub mod ListLines
 pub mod Lookups
-pub mod PairMarks
+pub mod PairFlags
 pub mod Parts
 pub mod SetLines
 pub mod Sound

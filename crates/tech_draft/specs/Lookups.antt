@@ -1,5 +1,6 @@
 -- What the words of a line stand for: planes, layers and types of a technology.
-use Rattle.std.specs.Prelude.{◌==◌, nat_lt, is_some, if◌then◌else◌, ℕ, Bool, unwrap_or, List, [], ◌∷◌, ◌++◌, length, fold, position, slice_index_or}
+use Rattle.std.specs.Prelude.{◌==◌, nat_lt, is_some, if◌then◌else◌, ℕ, Bool, unwrap_or, List, [], ◌∷◌, ◌++◌, length, fold, position}
+use Rattle.std.specs.Prelude.{slice_index_or}
 use Rattle.std.specs.Prelude.{Option, Some, None}
 use Rattle.std.specs.List.{list_any}
 use Rattle.std.specs.Option.{option_map_or}

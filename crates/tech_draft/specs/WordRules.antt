@@ -5,7 +5,8 @@ use Rattle.tech_model.specs.declared.raw.RawTech.{RawTech}
 use Rattle.tech_model.specs.declared.faults.TechFault.{TechFault}
 use Rattle.tech_model.specs.declared.faults.TechFault.TheVariants.{NoPlane, NoType, Twice, ContactPart, TypeExpression}
 use Rattle.tech_draft.specs.declared.draft.word_rules.WordRule.{WordRule}
-use Rattle.tech_draft.specs.declared.draft.word_rules.WordRule.TheVariants.{Operator, OperatorOrSlash, UnknownPlane, Meaningless, Classed, Contact, ContactOr}
+use Rattle.tech_draft.specs.declared.draft.word_rules.WordRule.TheVariants.{Operator, OperatorOrSlash, UnknownPlane, Meaningless, Classed}
+use Rattle.tech_draft.specs.declared.draft.word_rules.WordRule.TheVariants.{Contact, ContactOr}
 use Rattle.tech_draft.specs.Words.{has_slash, has_operator, name_part, plane_part}
 use Rattle.tech_draft.specs.Lookups.{plane_named, entry_types, type_of_word, is_contact, is_classed}
 

@@ -1,5 +1,6 @@
 //! A technology as far as the lines of its text were read.
-ghost use Rattle.std.specs.Prelude.{◌≡◌, ◌≢◌, ◌-◌, ◌&&◌, nat_le, if◌then◌else◌, [], length, find, map, ◌↔◌, slice_set, slice_index_or, Ok, Err, OnOk, IfOk, IfErr, IsTrue};
+ghost use Rattle.std.specs.Prelude.{◌≡◌, ◌≢◌, ◌-◌, ◌&&◌, nat_le, if◌then◌else◌, [], length, find, map, ◌↔◌, slice_set, slice_index_or};
+ghost use Rattle.std.specs.Prelude.{Ok, Err, OnOk, IfOk, IfErr, IsTrue};
 ghost use Rattle.text_scan.specs.Words.{words_of};
 ghost use Rattle.text_scan.specs.PlainNames.{is_plain_name};
 ghost use Rattle.tech_model.specs.declared.faults.TechFault.TheVariants.{Memory};

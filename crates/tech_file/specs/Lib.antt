@@ -2,3 +2,4 @@ pub mod Outlines
 pub mod Places
 pub mod Reading
 pub mod Sections
+pub mod Texts

@@ -4,7 +4,8 @@ ghost use Rattle.std.specs.List.{list_any};
 ghost use Rattle.std.specs.Option.{option_map};
 ghost use Rattle.tech_model.specs.declared.faults.TechFault.TheVariants.{Memory};
 ghost use Rattle.tech_model.specs.Types.{plane_of, parts_of, images_of, layer_named, layer_number, type_number};
-ghost use Rattle.tech_draft.specs.Lookups.{plane_named, named_types, first_on, type_on, entry_types, has_type, with_type_once, types_of_list};
+ghost use Rattle.tech_draft.specs.Lookups.{plane_named, named_types, first_on, type_on, entry_types, has_type, with_type_once};
+ghost use Rattle.tech_draft.specs.Lookups.{types_of_list};
 ghost use Rattle.tech_draft.specs.Lookups.{type_of_word, plane_of_word, layer_of_word, is_contact, class_of, is_classed};
 
 use super::{Draft, parts_in};

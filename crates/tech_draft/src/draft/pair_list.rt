@@ -2,34 +2,34 @@
 ghost use Rattle.std.specs.Prelude.{◌≡◌, ◌++◌, ◌+◌, ◌*◌, ◌<◌, ◌∷◌, [], ℕ, false, length, slice_index_or, OnOk, IfErr};
 ghost use Rattle.tech_model.specs.declared.faults.TechFault.TheVariants.{Memory};
 ghost use Rattle.tech_draft.specs.ListLines.{has_pair};
-ghost use Rattle.tech_draft.specs.PairMarks.{mark_place, HasMarks};
+ghost use Rattle.tech_draft.specs.PairFlags.{flag_place, HasFlags};
 
 use crate::words::push;
 use std::alloc::Global;
 use std::marker::Model;
 use tech_model::{TechFault, TypeId};
 
-/// The marks of one first type: one for each number that a second may have.
-const MARKS_OF_ONE: usize = 256;
+/// The flags of one first type: one for each number that a second may have.
+const FLAGS_OF_ONE: usize = 256;
 
 /// Pairs of types, in the order in which they came.
 #[derive(Drop)]
 pub(crate) struct PairList {
     pairs: Vec<(TypeId, TypeId)>,
-    // A mark for each two types, up to the last that make a pair.
-    marks: Vec<bool>,
+    // A flag for each two types, up to the last that make a pair.
+    flags: Vec<bool>,
 }
 
 impl Model for PairList {
     ghost use Rattle.std.specs.Prelude.{List};
     ghost use Rattle.tech_model.specs.declared.raw.TypeId.{TypeId};
-    ghost use Rattle.tech_draft.specs.PairMarks.{HasMarks};
+    ghost use Rattle.tech_draft.specs.PairFlags.{HasFlags};
 
     ghost Value = { List (TypeId × TypeId) };
 
     ghost view = { λ list. list.pairs.items };
 
-    ghost invariant = { λ list. HasMarks list.marks.items list.pairs.items };
+    ghost invariant = { λ list. HasFlags list.flags.items list.pairs.items };
 }
 
 impl PairList {
@@ -39,7 +39,7 @@ impl PairList {
     {
         PairList {
             pairs: Vec::new(alloc),
-            marks: Vec::new(alloc),
+            flags: Vec::new(alloc),
         }
     }
 
@@ -47,8 +47,8 @@ impl PairList {
     pub(crate) fn has(&self, first: TypeId, second: TypeId) -> bool
         ensures { result ≡ has_pair self.now first second }
     {
-        match self.marks.get(place_of(first, second)) {
-            Some(&mark) => mark,
+        match self.flags.get(place_of(first, second)) {
+            Some(&flag) => flag,
             None => false,
         }
     }
@@ -59,9 +59,9 @@ impl PairList {
         ensures only_memory { IfErr result (λ fault. fault ≡ Memory) }
     {
         let place = place_of(first, second);
-        make_room(&mut self.marks, place)?;
+        make_room(&mut self.flags, place)?;
         push(&mut self.pairs, (first, second))?;
-        self.marks[place] = true;
+        self.flags[place] = true;
         Ok(())
     }
 
@@ -73,21 +73,21 @@ impl PairList {
     }
 }
 
-// The place of the mark of two types.
+// The place of the flag of two types.
 fn place_of(first: TypeId, second: TypeId) -> usize
-    ensures { result ≡ mark_place first second }
+    ensures { result ≡ flag_place first second }
 {
-    usize::from(first.0) * MARKS_OF_ONE + usize::from(second.0)
+    usize::from(first.0) * FLAGS_OF_ONE + usize::from(second.0)
 }
 
-// Sees to it that the marks reach this place.
-fn make_room(marks: &mut Vec<bool>, place: usize) -> Result<(), TechFault>
-    ensures same { (k : ℕ) → slice_index_or marks.new.items k false ≡ slice_index_or marks.old.items k false }
-    ensures room { OnOk result (place < length marks.new.items) }
+// Sees to it that the flags reach this place.
+fn make_room(flags: &mut Vec<bool>, place: usize) -> Result<(), TechFault>
+    ensures same { (k : ℕ) → slice_index_or flags.new.items k false ≡ slice_index_or flags.old.items k false }
+    ensures room { OnOk result (place < length flags.new.items) }
     ensures only_memory { IfErr result (λ fault. fault ≡ Memory) }
 {
-    while marks.len() <= place {
-        push(marks, false)?;
+    while flags.len() <= place {
+        push(flags, false)?;
     }
     Ok(())
 }

@@ -1,10 +1,12 @@
 // Lines of the sections `contact` and `compose`.
-ghost use Rattle.std.specs.Prelude.{◌≡◌, ◌≢◌, ◌==◌, ◌<◌, ◌≤◌, ◌+◌, ◌-◌, ◌++◌, ◌∷◌, [], length, map, slice_set, slice_index_or, Ok, Err, OnOk, IfOk, IfErr};
+ghost use Rattle.std.specs.Prelude.{◌≡◌, ◌≢◌, ◌==◌, ◌<◌, ◌≤◌, ◌+◌, ◌-◌, ◌++◌, ◌∷◌, [], length, map, slice_set, slice_index_or, Ok, Err};
+ghost use Rattle.std.specs.Prelude.{OnOk, IfOk, IfErr};
 ghost use Rattle.std.specs.List.{list_any, range_with_len};
 ghost use Rattle.text_scan.specs.Words.{words_of};
 ghost use Rattle.tech_model.specs.declared.faults.TechFault.TheVariants.{Memory};
 ghost use Rattle.tech_model.specs.Types.{no_type, no_layer, type_number};
-ghost use Rattle.tech_draft.specs.SetLines.{has_number, are_misplaced, is_part, other_residues, mark_bit, image_record, next_types, with_images};
+ghost use Rattle.tech_draft.specs.SetLines.{has_number, are_misplaced, is_part, other_residues, mark_bit, image_record, next_types};
+ghost use Rattle.tech_draft.specs.SetLines.{with_images};
 ghost use Rattle.tech_draft.specs.SetLines.{residues_of_layer, with_contact, new_contact, is_contact_form, contact_line};
 ghost use Rattle.tech_draft.specs.SetLines.{are_composable, is_settled, with_union, new_union, composed, compose_line};
 
@@ -216,7 +218,8 @@ impl Draft {
 
     // The residues on other planes than the base's, where the base may become a contact with all of them.
     fn check_contact(&self, base: &[u8], residues: &[u8]) -> Result<Vec<TypeId>, TechFault>
-        ensures passed { OnOk result (new_contact self.now base.now (words_of residues.now) ≡ Ok (with_contact self.now base.now (words_of residues.now))) }
+        ensures passed { OnOk result (new_contact self.now base.now (words_of residues.now)
+            ≡ Ok (with_contact self.now base.now (words_of residues.now))) }
         ensures others { IfOk result (λ others. others.items ≡ other_residues self.now.raw base.now (words_of residues.now)) }
         ensures room { IfOk result (λ others. length self.now.raw.types + length others.items ≤ MOST_TYPES) }
         ensures refused { IfErr result (λ fault. fault ≢ Memory

@@ -8,7 +8,8 @@ ghost use Rattle.tech_model.specs.declared.raw.RawTech.{RawTech as RawValue};
 ghost use Rattle.tech_model.specs.LayerWords.{layer_in};
 ghost use Rattle.tech_model.specs.Types.{layer_named};
 ghost use Rattle.tech_draft.specs.Words.{pieces_of};
-ghost use Rattle.tech_draft.specs.TypeLines.{new_name, name_line, new_plane, plane_line, new_names, atom_on, atom_layer, new_atom, new_type, type_line};
+ghost use Rattle.tech_draft.specs.TypeLines.{new_name, name_line, new_plane, plane_line, new_names, atom_on, atom_layer, new_atom};
+ghost use Rattle.tech_draft.specs.TypeLines.{new_type, type_line};
 
 use super::Draft;
 use crate::parts::{Parted, each_part};

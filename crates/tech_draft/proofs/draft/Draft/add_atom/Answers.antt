@@ -18,7 +18,8 @@ invariant_of-self-in_default c =
     let names = c.in-Ok.ensures.names in
     let room : length c.self.inside.types.items < MOST_TYPES = omega (arith, c.len-2.ensures, c.self.inside.types.ok.0) in
     let count : c.len.result ≡ length c.self.inside.layers.items = omega (arith, c.len.ensures, c.self.inside.layers.ok.0) in
-    atom-kept c.self.inside _ c.args.plane (pieces_of c.args.list.now) c.self.invariant room (c.in-Ok.ensures.passed raw c.self.invariant.indexed)
+    atom-kept c.self.inside _ c.args.plane (pieces_of c.args.list.now) c.self.invariant room
+    (c.in-Ok.ensures.passed raw c.self.invariant.indexed)
     (λ word. c.in-Ok.ensures.indexed word
     ∙ ap (λ (n : ℕ). if list_any (bytes_eq word) (pieces_of c.args.list.now) then Some n else layer_in c.self.inside.index word) count)
     (rw (types, layers, names) refl)

@@ -5,4 +5,5 @@ use Rattle.tech_draft.proofs.draft.Draft.add_pairs.Given as goal
 
 -- what is left gives what all give
 abbrev pub invariant-loop-first : goal.invariant-loop-first
-invariant-loop-first l = with_pair_list l.self (fold (with_partners l.self.raw l.seconds) l.self.raw.pairs (drop l.first-index l.firsts)) ≡ with_pair_list l.initial.self (with_pairs l.initial.self.raw l.firsts l.seconds)
+invariant-loop-first l = with_pair_list l.self (fold (with_partners l.self.raw l.seconds) l.self.raw.pairs (drop l.first-index l.firsts))
+    ≡ with_pair_list l.initial.self (with_pairs l.initial.self.raw l.firsts l.seconds)

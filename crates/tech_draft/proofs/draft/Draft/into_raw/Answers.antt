@@ -7,4 +7,5 @@ use Rattle.tech_draft.proofs.draft.Draft.into_raw.Goals as goal
 
 pub returns-clause-well_formed : goal.returns-clause-well_formed
 returns-clause-well_formed c =
-    λ sound plain. IfOk-weaker c.finish.result _ _ (λ raw is. subst IsWellFormed (sym is) (finished-well_formed c.args.self sound plain)) c.finish.ensures.value
+    λ sound plain. IfOk-weaker c.finish.result _ _
+    (λ raw is. subst IsWellFormed (sym is) (finished-well_formed c.args.self sound plain)) c.finish.ensures.value

@@ -5,4 +5,5 @@ use Rattle.tech_draft.proofs.draft.Draft.read_compose.Goals as goal
 
 pub compose-requires : goal.compose-requires
 compose-requires c =
-    three_are (words_of c.in-Some.rest.now) (c.in_ok-whole.whole.now, c.in_ok-whole.first.now, c.in_ok-whole.second.now) c.in_ok-whole.ensures.ok
+    three_are (words_of c.in-Some.rest.now)
+    (c.in_ok-whole.whole.now, c.in_ok-whole.first.now, c.in_ok-whole.second.now) c.in_ok-whole.ensures.ok

@@ -6,4 +6,5 @@ use Rattle.tech_draft.proofs.draft.Draft.types_of_list.Given as goal
 -- what is left gives what all give
 abbrev pub invariant-loop-entry : goal.invariant-loop-entry
 invariant-loop-entry l =
-    fold (λ types entry. fold with_type_once types (entry_types l.self.raw entry)) l.types.items l.entry-iterator ≡ types_of_list l.self.raw l.list
+    fold (λ types entry. fold with_type_once types (entry_types l.self.raw entry)) l.types.items l.entry-iterator
+    ≡ types_of_list l.self.raw l.list
