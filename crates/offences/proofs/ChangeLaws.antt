@@ -16,8 +16,8 @@ use Rattle.tech_model.specs.declared.raw.RawTech.{RawTech}
 use Rattle.tech_model.specs.WellFormed.{IsWellFormed}
 use Rattle.tech_model.specs.ChannelRoles.{is_channel}
 use Rattle.layout_model.specs.Places.{Place}
-use Rattle.offences.specs.declared.typed_stacks.PartKind.{PartKind}
-use Rattle.offences.specs.declared.typed_stacks.TypedStack.{TypedStack}
+use Rattle.offences.specs.declared.stacks.PartKind.{PartKind}
+use Rattle.offences.specs.declared.stacks.TypedStack.{TypedStack}
 use Rattle.offences.specs.Changes.{number_of, same_role}
 use Rattle.offences.specs.Offences.{SetLayout, joined_at, flat_type, union_of, HasKind, ChangesRole}
 use Rattle.offences.specs.Pieces.{is_hidden, is_shared, is_lost, spoils, is_spoiled, changes_role, sides_of, changed, changed_by}

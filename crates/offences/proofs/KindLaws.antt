@@ -20,7 +20,7 @@ use Rattle.tech_model.specs.declared.raw.RawTech.{RawTech}
 use Rattle.tech_model.specs.Types.{type_number, joined}
 use Rattle.layout_model.specs.Places.{Place}
 use Rattle.offences.specs.declared.part_sets.PartSum.{PartSum}
-use Rattle.offences.specs.declared.typed_stacks.PartKind.{PartKind}
+use Rattle.offences.specs.declared.stacks.PartKind.{PartKind}
 use Rattle.offences.specs.Offences.{SetLayout, joined_at, parts_with, is_exactly}
 use Rattle.offences.specs.PartSets.{listed_set}
 use Rattle.offences.specs.TypedStacks.{kind_of, kind_in, has_kind, AreByPart}

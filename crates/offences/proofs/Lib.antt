@@ -5,6 +5,7 @@ pub mod OrderLaws
 pub mod StackLaws
 pub mod TileLaws
 pub mod TypedStackLaws
+pub mod MemberLaws
 pub mod SideLaws
 pub mod SpoiledLaws
 pub mod ChangeLaws

@@ -25,7 +25,7 @@ use Rattle.tech_model.specs.Types.{joined}
 use Rattle.tech_model.specs.WellFormed.{IsWellFormed}
 use Rattle.tech_model.proofs.WellFormedLaws.{All_In}
 use Rattle.tech_model.proofs.RuleLaws.{In-flat_map, In-flat_map_source}
-use Rattle.offences.specs.declared.typed_stacks.TypedStack.{TypedStack}
+use Rattle.offences.specs.declared.stacks.TypedStack.{TypedStack}
 use Rattle.offences.specs.Offences.{SetLayout, joined_at, flat_type, OffendsOn, ChangesRole}
 use Rattle.offences.specs.Pieces.{is_spoiled, has_owner, changed, changed_across, changed_pieces, spoiled_areas, CoverExactly, AreFoundChanges}
 use Rattle.offences.specs.Pieces.{no_channel, of_contacts}

@@ -18,8 +18,8 @@ use Rattle.tech_model.specs.Types.{is_within}
 use Rattle.tech_model.specs.WellFormed.{IsWellFormed, IsFet}
 use Rattle.tech_model.proofs.WellFormedLaws.{All_In, type_bounds}
 use Rattle.tech_model.specs.ChannelRoles.{is_channel}
-use Rattle.offences.specs.declared.typed_stacks.PartKind.{PartKind}
-use Rattle.offences.specs.declared.typed_stacks.TypedStack.{TypedStack}
+use Rattle.offences.specs.declared.stacks.PartKind.{PartKind}
+use Rattle.offences.specs.declared.stacks.TypedStack.{TypedStack}
 use Rattle.offences.specs.Changes.{number_of}
 use Rattle.offences.specs.Offences.{SetLayout, flat_type, parts_with, HasKind, HasNoType, HidesPart, SharesChannel, LosesChannel}
 use Rattle.offences.specs.Pieces.{is_hidden, is_shared, is_lost, spoils, is_spoiled}

@@ -1,9 +1,9 @@
 -- Stacks of tiles, and what their members make.
-use Rattle.std.proofs.Common.{◌≡◌, ◌≢◌, inl, inr, ◌+◌, ◌<◌, ℕ, List, [], ◌∷◌, ◌++◌, length, map, take}
-use Rattle.std.proofs.Common.{get_or, refl, sym, ap, subst, ◌∙◌, arith}
+use Rattle.std.proofs.Common.{◌≡◌, ◌≢◌, inl, inr, ◌<◌, ℕ, List, [], ◌∷◌, ◌++◌, length, map}
+use Rattle.std.proofs.Common.{refl, sym, ap, subst, ◌∙◌, arith}
 use Rattle.std.specs.Prelude.{All, AllPairs, None, Some}
 use Rattle.std.specs.Option.{option_map}
-use Rattle.std.proofs.lemmas.List.{take_more, length-map, map-append}
+use Rattle.std.proofs.lemmas.List.{length-map, map-append}
 use Rattle.std.proofs.lemmas.Option.{slice_get-map, slice_get_within, slice_get-get_or}
 use Rattle.finite_sets.specs.Lists.{In}
 use Rattle.finite_sets.proofs.Members.{In-get_or, In-index, In-push_cases, In-append_left, In-push}
@@ -18,7 +18,7 @@ use Rattle.rect_overlays.specs.declared.stacks.Stack.{Stack}
 use Rattle.rect_overlays.specs.Stacks.{CoversAt, IsStack}
 use Rattle.tech_model.specs.declared.raw.RawTech.{RawTech}
 use Rattle.offences.specs.declared.set_tiles.SetTile.{SetTile}
-use Rattle.offences.specs.declared.typed_stacks.TypedStack.{TypedStack}
+use Rattle.offences.specs.declared.stacks.TypedStack.{TypedStack}
 use Rattle.offences.specs.PartSets.{tile_at, no_tile}
 use Rattle.offences.specs.TypedStacks.{StandsFor, IsOfStack, StandForAll}
 
@@ -64,6 +64,15 @@ tile_covers tiles tile square h covers =
       ),
     )
 
+-- where a tile covers a square the rectangle at its place does
+pub covers_at : (tiles : List SetTile) (place : ℕ) (square : Square) → place < length tiles → Covers (tile_at tiles place).area square
+    → CoversAt (tile_areas tiles) place square
+covers_at tiles place square below covers = record {
+  area = (tile_at tiles place).area;
+  there = slice_get-map (λ (t : SetTile). t.area) tiles place ∙ ap (option_map (λ (t : SetTile). t.area)) (slice_get-get_or tiles place no_tile below);
+  covers = covers;
+}
+
 -- the members of a stack are places of tiles
 pub members_within : (tiles : List SetTile) (stack : Stack) → IsStack (tile_areas tiles) None stack
     → All (λ member. member < length tiles) stack.members.items
@@ -79,41 +88,37 @@ some_member tiles stack is = go stack.members.items is.some
     go [] some = absurd (some refl)
     go (member ∷ members) some = (member, inl refl)
 
-module _ (raw : RawTech) (plane : ℕ) (tiles : List SetTile) (stacks : List Stack) where
+module _ (raw : RawTech) (plane : ℕ) (tiles : List SetTile) where
   -- before the first stack
-  pub no_typed_stacks : (typed_stacks : List TypedStack) → typed_stacks ≡ [] → StandForAll raw plane tiles (take 0 stacks) typed_stacks
+  pub no_typed_stacks : (typed_stacks : List TypedStack) → typed_stacks ≡ [] → StandForAll raw plane tiles [] typed_stacks
   no_typed_stacks typed_stacks none = subst (StandForAll raw plane tiles []) (sym none) (record { each = λ typed_stack h. absurd h; areas = refl })
 
-  module _ (i : ℕ) (stack : Stack) (typed_stacks : List TypedStack) (less : i < length stacks) (is : stack ≡ get_or stacks i stack)
-      (so_far : StandForAll raw plane tiles (take i stacks) typed_stacks) where
-    more : take (i + 1) stacks ≡ take i stacks ++ stack ∷ []
-    more = take_more stacks i stack less ∙ ap (λ (s : Stack). take i stacks ++ s ∷ []) (sym is)
-
-    wider : (typed_stack : TypedStack) → IsOfStack raw plane tiles (take i stacks) typed_stack → IsOfStack raw plane tiles (take (i + 1) stacks) typed_stack
+  module _ (stacks : List Stack) (stack : Stack) (typed_stacks : List TypedStack) (so_far : StandForAll raw plane tiles stacks typed_stacks) where
+    wider : (typed_stack : TypedStack) → IsOfStack raw plane tiles stacks typed_stack → IsOfStack raw plane tiles (stacks ++ stack ∷ []) typed_stack
     wider typed_stack of = record {
       stack = of.stack;
-      listed = subst (In of.stack) (sym more) (In-append_left of.stack (take i stacks) (stack ∷ []) of.listed);
+      listed = In-append_left of.stack stacks (stack ∷ []) of.listed;
       stands = of.stands;
     }
 
     -- one more stack
     pub with_typed_stack : (typed_stack : TypedStack) → StandsFor raw plane tiles stack typed_stack
-        → StandForAll raw plane tiles (take (i + 1) stacks) (typed_stacks ++ typed_stack ∷ [])
+        → StandForAll raw plane tiles (stacks ++ stack ∷ []) (typed_stacks ++ typed_stack ∷ [])
     with_typed_stack typed_stack stands =
-        let of : IsOfStack raw plane tiles (take (i + 1) stacks) typed_stack = record {
+        let of : IsOfStack raw plane tiles (stacks ++ stack ∷ []) typed_stack = record {
           stack = stack;
-          listed = subst (In stack) (sym more) (In-push (take i stacks) stack);
+          listed = In-push stacks stack;
           stands = stands;
         } in
         record {
           each = λ other h. elim (In-push_cases other typed_stacks typed_stack h) [
             | inl k ↦ wider other (so_far.each other k)
-            | inr e ↦ subst (IsOfStack raw plane tiles (take (i + 1) stacks)) e of
+            | inr e ↦ subst (IsOfStack raw plane tiles (stacks ++ stack ∷ [])) e of
           ];
           areas = map-append (λ (s : TypedStack). s.area) typed_stacks (typed_stack ∷ [])
               ∙ ap (λ (areas : List Rect). areas ++ typed_stack.area ∷ []) so_far.areas
-              ∙ ap (λ (area : Rect). map (λ (s : Stack). s.area) (take i stacks) ++ area ∷ []) stands.area
-              ∙ sym (ap (map (λ (s : Stack). s.area)) more ∙ map-append (λ (s : Stack). s.area) (take i stacks) (stack ∷ []));
+              ∙ ap (λ (area : Rect). map (λ (s : Stack). s.area) stacks ++ area ∷ []) stands.area
+              ∙ sym (map-append (λ (s : Stack). s.area) stacks (stack ∷ []));
         }
 
 -- the areas of the stacks lie apart

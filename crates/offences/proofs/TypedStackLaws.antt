@@ -1,12 +1,11 @@
 -- What the members of stacks make is what the parts have there.
 use Rattle.std.proofs.Common.{◌≡◌, ◌≢◌, inl, inr, ◌<◌, ◌<ℤ◌, ◌≤ℤ◌, ◌-ℤ◌, pos, ℕ, List, map, refl, sym, ap, subst, ◌∙◌, arith}
-use Rattle.std.specs.Prelude.{AllPairs, Some, None, Option, IsPermutation}
+use Rattle.std.specs.Prelude.{AllPairs, Some, None, Option}
 use Rattle.std.specs.Int.{bit_at}
 use Rattle.std.specs.Option.{option_map}
 use Rattle.std.proofs.lemmas.Int.{ints}
-use Rattle.std.proofs.lemmas.List.Sorted.{IsPermutation-sym}
 use Rattle.finite_sets.specs.Lists.{In}
-use Rattle.finite_sets.proofs.Members.{In-map, In-map_source, In-permutation}
+use Rattle.finite_sets.proofs.Members.{In-map, In-map_source}
 use Rattle.finite_sets.proofs.Pairs.{Pairwise-from_AllPairs, AllPairs-from_Pairwise, Pairwise-map}
 use Rattle.geo_core.specs.declared.squares.Square.{Square}
 use Rattle.geo_core.specs.declared.squares.Rect.{Rect}
@@ -21,8 +20,8 @@ use Rattle.tech_model.proofs.JoinedLaws.{joined-found}
 use Rattle.tech_model.proofs.WellFormedLaws.{All_In}
 use Rattle.offences.specs.declared.set_tiles.SetTile.{SetTile}
 use Rattle.offences.specs.declared.part_sets.PartSum.{PartSum}
-use Rattle.offences.specs.declared.typed_stacks.PartKind.{PartKind}
-use Rattle.offences.specs.declared.typed_stacks.TypedStack.{TypedStack}
+use Rattle.offences.specs.declared.stacks.PartKind.{PartKind}
+use Rattle.offences.specs.declared.stacks.TypedStack.{TypedStack}
 use Rattle.offences.specs.Changes.{number_of}
 use Rattle.offences.specs.Offences.{SetLayout, union_of, HaveTypes}
 use Rattle.offences.specs.PartSets.{tile_at, member_set, listed_set, all_sets, HaveSetsOf}
@@ -72,19 +71,13 @@ numbers_back (Some kind) = refl
 joined-space : (raw : RawTech) (plane set : ℕ) → joined raw plane set ≡ Some 0 → set ≡ 0
 joined-space raw plane set e = sym (joined-found raw plane set 0 e).0
 
-module _ (raw : RawTech) (plane : ℕ) (tiles sorted : List SetTile) (moved : IsPermutation tiles sorted) where
-  here : (tile : SetTile) → In tile tiles → In tile sorted
-  here tile = In-permutation tile tiles sorted moved
-
-  back : (tile : SetTile) → In tile sorted → In tile tiles
-  back tile = In-permutation tile sorted tiles (IsPermutation-sym tiles sorted moved)
-
-  module _ (stack : Stack) (is : IsStack (tile_areas sorted) None stack) where
+module _ (raw : RawTech) (plane : ℕ) (tiles : List SetTile) where
+  module _ (stack : Stack) (is : IsStack (tile_areas tiles) None stack) where
     -- a tile that covers a square of the stack is a member
     tile_is_member : (tile : SetTile) (square : Square) → Covers stack.area square → In tile tiles → Covers tile.area square
-        → (member : ℕ) × (In member stack.members.items × (tile_at sorted member ≡ tile))
+        → (member : ℕ) × (In member stack.members.items × (tile_at tiles member ≡ tile))
     tile_is_member tile square covers h inside =
-        let at = tile_covers sorted tile square (here tile h) inside in
+        let at = tile_covers tiles tile square h inside in
         elim is.others [
           | inl enough ↦ absurd enough
           | inr others ↦ (at.0, (others at.0 square covers at.1.1, at.1.0))
@@ -92,29 +85,29 @@ module _ (raw : RawTech) (plane : ℕ) (tiles sorted : List SetTile) (moved : Is
 
     -- the tile of a member covers each square of the stack
     member_covers : (member : ℕ) → In member stack.members.items → (square : Square) → Covers stack.area square
-        → In (tile_at sorted member) tiles × Covers (tile_at sorted member).area square
+        → In (tile_at tiles member) tiles × Covers (tile_at tiles member).area square
     member_covers member h square covers =
-        let at = covers_tile sorted member square (is.members member h square covers) in
-        (back (tile_at sorted member) (In-tile_at sorted member at.0), at.1)
+        let at = covers_tile tiles member square (is.members member h square covers) in
+        (In-tile_at tiles member at.0, at.1)
 
     -- a part has there what its members make
     part_is : (part : ℕ) (square : Square) → Covers stack.area square
-        → tile_part tiles plane part (on_plane plane square) ≡ member_set sorted part stack.members.items
-    part_is part square covers = same_sets (tile_part tiles plane part (on_plane plane square)) (member_set sorted part stack.members.items)
+        → tile_part tiles plane part (on_plane plane square) ≡ member_set tiles part stack.members.items
+    part_is part square covers = same_sets (tile_part tiles plane part (on_plane plane square)) (member_set tiles part stack.members.items)
         (λ i bit.
         let has = part_bit tiles plane part (on_plane plane square) i bit in
         let member = tile_is_member has.tile square covers has.listed has.covers in
-        member_kept sorted part stack.members.items i (record {
+        member_kept tiles part stack.members.items i (record {
           member = member.0;
           listed = member.1.0;
           of_part = ap (λ (t : SetTile). t.part) member.1.1 ∙ has.of_part;
           bit = subst (λ (t : SetTile). bit_at t.set.0 i ≡ 1) (sym member.1.1) has.bit;
         }))
         (λ i bit.
-        let has = member_bit sorted part stack.members.items i bit in
+        let has = member_bit tiles part stack.members.items i bit in
         let at = member_covers has.member has.listed square covers in
         part_kept tiles plane part (on_plane plane square) i (record {
-          tile = tile_at sorted has.member;
+          tile = tile_at tiles has.member;
           listed = at.0;
           of_part = has.of_part;
           same_plane = refl;
@@ -122,13 +115,13 @@ module _ (raw : RawTech) (plane : ℕ) (tiles sorted : List SetTile) (moved : Is
           bit = has.bit;
         }))
 
-    module _ (count : ℕ) (of_parts : AreTilesOfParts count tiles) (sums : List PartSum) (are : HaveSetsOf sorted stack.members.items sums) where
+    module _ (count : ℕ) (of_parts : AreTilesOfParts count tiles) (sums : List PartSum) (are : HaveSetsOf tiles stack.members.items sums) where
       sum_below : (sum : PartSum) → In sum sums → sum.part < count
       sum_below sum h =
           let has = are.parts sum h in
           let at = member_covers has.member has.listed (corner_of stack.area) (corner_covers stack.area (corner_of stack.area) is.proper refl refl) in
           subst (λ (p : ℕ). p < count) has.is (All_In (λ (tile : SetTile). (tile.part < count) × IsNear tile.area) tiles
-          (tile_at sorted has.member) of_parts at.0).0
+          (tile_at tiles has.member) of_parts at.0).0
 
       part_sum : (part : ℕ) (square : Square) → Covers stack.area square → tile_part tiles plane part (on_plane plane square) ≡ listed_set part sums
       part_sum part square covers = part_is part square covers ∙ sym (are.sets part)
@@ -173,12 +166,12 @@ module _ (raw : RawTech) (plane : ℕ) (tiles sorted : List SetTile) (moved : Is
             (λ i bit. absurd (no_part i bit)))
 
         -- what is made of the sums stands there
-        pub is_typed_stack : (typed_stack : TypedStack) → (stands : StandsFor raw plane sorted stack typed_stack) → stands.sums ≡ sums
+        pub is_typed_stack : (typed_stack : TypedStack) → (stands : StandsFor raw plane tiles stack typed_stack) → stands.sums ≡ sums
             → IsTypedStack raw (tile_parts tiles plane count) plane typed_stack
         is_typed_stack typed_stack stands same =
-            let member = some_member sorted stack is in
+            let member = some_member tiles stack is in
             let corner = member_covers member.0 member.1 (corner_of stack.area) (corner_covers stack.area (corner_of stack.area) is.proper refl refl) in
-            let near = (All_In (λ (tile : SetTile). (tile.part < count) × IsNear tile.area) tiles (tile_at sorted member.0) of_parts corner.0).1 in
+            let near = (All_In (λ (tile : SetTile). (tile.part < count) × IsNear tile.area) tiles (tile_at tiles member.0) of_parts corner.0).1 in
             let kinds : typed_stack.kinds ≡ map (kind_of raw plane) sums = stands.kinds ∙ ap (map (kind_of raw plane)) same in
             let flat : typed_stack.flat ≡ option_map type_number (joined raw plane (all_sets sums)) =
             stands.flat ∙ ap (λ (s : List PartSum). option_map type_number (joined raw plane (all_sets s))) same in
@@ -187,7 +180,7 @@ module _ (raw : RawTech) (plane : ℕ) (tiles sorted : List SetTile) (moved : Is
             record {
               proper = subst IsProper (sym stands.area) is.proper;
               near = subst IsNear (sym stands.area)
-                  (near_inside stack.area (tile_at sorted member.0).area is.proper near (λ square c. (member_covers member.0 member.1 square c).1));
+                  (near_inside stack.area (tile_at tiles member.0).area is.proper near (λ square c. (member_covers member.0 member.1 square c).1));
               ordered = subst AreByPart (sym kinds) kinds_by_part;
               within = λ entry h.
                   let source = In-map_source (kind_of raw plane) entry sums (subst (In entry) kinds h) in
@@ -207,8 +200,8 @@ module _ (raw : RawTech) (plane : ℕ) (tiles sorted : List SetTile) (moved : Is
               owner = stands.owner;
             }
 
-  module _ (stacks : List Stack) (are : AreStacks (tile_areas sorted) None stacks) (typed_stacks : List TypedStack)
-      (stand : StandForAll raw plane sorted stacks typed_stacks)
+  module _ (stacks : List Stack) (are : AreStacks (tile_areas tiles) None stacks) (typed_stacks : List TypedStack)
+      (stand : StandForAll raw plane tiles stacks typed_stacks)
       (count : ℕ) (of_parts : AreTilesOfParts count tiles) (types : HaveTypes raw (tile_parts tiles plane count)) where
     -- outside of the pieces no part has anything
     nothing_outside : (square : Square) → ((typed_stack : TypedStack) → In typed_stack typed_stacks → Covers typed_stack.area square → ⊥)
@@ -216,7 +209,7 @@ module _ (raw : RawTech) (plane : ℕ) (tiles sorted : List SetTile) (moved : Is
     nothing_outside square out part = same_sets (tile_part tiles plane part (on_plane plane square)) 0
         (λ i bit.
         let has = part_bit tiles plane part (on_plane plane square) i bit in
-        let at = tile_covers sorted has.tile square (here has.tile has.listed) has.covers in
+        let at = tile_covers tiles has.tile square has.listed has.covers in
         let found = are.every at.0 square at.1.1 in
         let stack = found.0 in
         let listed : In stack.area (typed_stack_areas typed_stacks) = subst (In stack.area) (sym stand.areas)

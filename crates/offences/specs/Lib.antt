@@ -4,5 +4,6 @@ pub mod SetTiles
 pub mod PartSets
 pub mod Changes
 pub mod TypedStacks
+pub mod PlaneStacks
 pub mod Pieces
 pub mod LayerParts

@@ -14,8 +14,8 @@ use Rattle.tech_model.specs.declared.raw.TypeId.{TypeId}
 use Rattle.tech_model.specs.declared.raw.RawTech.{RawTech}
 use Rattle.tech_model.specs.Types.{is_within}
 use Rattle.tech_model.specs.ChannelRoles.{is_channel}
-use Rattle.offences.specs.declared.typed_stacks.PartKind.{PartKind}
-use Rattle.offences.specs.declared.typed_stacks.TypedStack.{TypedStack}
+use Rattle.offences.specs.declared.stacks.PartKind.{PartKind}
+use Rattle.offences.specs.declared.stacks.TypedStack.{TypedStack}
 use Rattle.offences.specs.Changes.{number_of, same_role}
 use Rattle.offences.specs.Roles.{role_of}
 use Rattle.offences.specs.TypedStacks.{has_kind, kind_in, typed_stack_at, typed_stack_areas}

@@ -17,11 +17,11 @@ use Rattle.tech_model.specs.ChannelRoles.{is_channel}
 use Rattle.layout_model.specs.Places.{Place}
 use Rattle.offences.specs.declared.set_tiles.SetTile.{SetTile}
 use Rattle.offences.specs.declared.part_sets.PartSum.{PartSum}
-use Rattle.offences.specs.declared.typed_stacks.PartKind.{PartKind}
-use Rattle.offences.specs.declared.typed_stacks.TypedStack.{TypedStack}
+use Rattle.offences.specs.declared.stacks.PartKind.{PartKind}
+use Rattle.offences.specs.declared.stacks.TypedStack.{TypedStack}
 use Rattle.offences.specs.Changes.{number_of}
 use Rattle.offences.specs.Offences.{SetLayout, joined_at, flat_type, HaveTypes}
-use Rattle.offences.specs.PartSets.{HaveSetsOf, all_sets}
+use Rattle.offences.specs.PartSets.{HaveSetsOf, all_sets, tile_at}
 use Rattle.offences.specs.SetTiles.{AreTilesOfParts, tile_parts}
 
 -- the type of a part that has this set
@@ -45,6 +45,7 @@ pub record StandsFor (raw : RawTech) (plane : ℕ) (tiles : List SetTile) (stack
   pub flat : typed_stack.flat ≡ option_map type_number (joined raw plane (all_sets sums))
   pub kinds : typed_stack.kinds ≡ map (kind_of raw plane) sums
   pub owner : typed_stack.owner ≡ owner_of raw typed_stack.flat typed_stack.kinds
+  pub members : typed_stack.members ≡ stack.members.items
 
 -- the areas of pieces
 abbrev pub typed_stack_areas : List TypedStack → List Rect
@@ -99,9 +100,19 @@ StandForTiles raw plane tiles typed_stacks =
     (count : ℕ) → AreTilesOfParts count tiles → HaveTypes raw (tile_parts tiles plane count)
     → AreTypedStacks raw (tile_parts tiles plane count) plane typed_stacks
 
+-- The members are the numbers of the tiles that cover the piece: each covers each of its squares, and each tile that covers a square of it
+-- is one.
+pub record HasMembers (tiles : List SetTile) (typed_stack : TypedStack) : Type 0 where
+  pub rising : AllPairs ◌<◌ typed_stack.members
+  pub some : typed_stack.members ≢ []
+  pub within : (member : ℕ) → In member typed_stack.members → member < length tiles
+  pub cover : (member : ℕ) → In member typed_stack.members → (square : Square) → Covers typed_stack.area square → Covers (tile_at tiles member).area square
+  pub all : (member : ℕ) (square : Square) → member < length tiles → Covers typed_stack.area square → Covers (tile_at tiles member).area square
+      → In member typed_stack.members
+
 -- a piece without a square
 abbrev pub no_typed_stack : TypedStack
-no_typed_stack = record { area = no_rect; flat = None; kinds = []; owner = None }
+no_typed_stack = record { area = no_rect; flat = None; kinds = []; owner = None; members = [] }
 
 -- the piece at a place of a list, and one without a square past its end
 abbrev pub typed_stack_at : List TypedStack → ℕ → TypedStack

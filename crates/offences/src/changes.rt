@@ -5,7 +5,7 @@ ghost use Rattle.offences.specs.Pieces.{changes_role, moved_rect, sides_of, chan
 ghost use Rattle.offences.specs.TypedStacks.{AreByPart, kind_in};
 
 use crate::roles::role_of;
-use crate::typed_stacks::{PartKind, TypedStack};
+use crate::stacks::{PartKind, TypedStack};
 use geo_core::Rect;
 use rect_contacts::Contact;
 use std::alloc::{AllocError, Global};

@@ -1,13 +1,14 @@
 //! Offences of parts that are given as rectangles with sets.
-ghost use Rattle.std.specs.Prelude.{IfOk};
+ghost use Rattle.std.specs.Prelude.{IfOk, IsPermutation};
 ghost use Rattle.geo_core.specs.Strips.{IsStrips};
 ghost use Rattle.offences.specs.Offences.{OffendsOn, HaveTypes};
+ghost use Rattle.offences.specs.PartSets.{AreInPartOrder};
 ghost use Rattle.offences.specs.SetTiles.{AreTilesOfParts, tile_parts};
 
 use crate::faults::OffenceFault;
 use crate::pieces::bad_pieces;
 use geo_core::{Rect, strips};
-use std::alloc::Global;
+use std::alloc::{AllocError, Global};
 use tech_model::{PartSet, Tech};
 
 /// A rectangle of a part, each of whose squares has this set there, and what other rectangles of the part add.
@@ -17,6 +18,16 @@ pub struct SetTile {
     pub part: usize,
     pub area: Rect,
     pub set: PartSet,
+}
+
+/// The tiles in the order of their parts.
+pub fn by_part(alloc: Global, tiles: &[SetTile]) -> Result<Vec<SetTile>, AllocError>
+    ensures moved { IfOk result (λ sorted. IsPermutation tiles.now sorted.items) }
+    ensures ordered { IfOk result (λ sorted. AreInPartOrder sorted.items) }
+{
+    let mut sorted = Vec::from_slice(alloc, tiles)?;
+    sorted.sort_unstable_by_key(|tile| tile.part);
+    Ok(sorted)
 }
 
 /// The strips of the squares of the plane that offend, where the parts are what the tiles make of them, `count` in number.

@@ -3,7 +3,7 @@ ghost use Rattle.std.specs.Prelude.{◌≡◌, IfOk};
 ghost use Rattle.std.specs.List.{list_any};
 ghost use Rattle.offences.specs.Pieces.{is_hidden, is_shared, is_lost, is_spoiled, spoiled_areas};
 
-use crate::typed_stacks::{PartKind, TypedStack};
+use crate::stacks::{PartKind, TypedStack};
 use geo_core::Rect;
 use std::alloc::{AllocError, Global};
 use tech_model::{RawTech, Tech, TypeId};

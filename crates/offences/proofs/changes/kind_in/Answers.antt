@@ -4,7 +4,7 @@ use Rattle.std.specs.List.Sorted.{IsPartitionedBy, IsPartitionPoint}
 use Rattle.std.proofs.lemmas.Bool.{ltb-true, ltb-false, lt-ltb}
 use Rattle.std.proofs.lemmas.List.Sorted.{IsPartitionPoint-from_clause}
 use Rattle.tech_model.specs.Types.{type_number}
-use Rattle.offences.specs.declared.typed_stacks.PartKind.{PartKind}
+use Rattle.offences.specs.declared.stacks.PartKind.{PartKind}
 use Rattle.offences.specs.TypedStacks.{AreByPart}
 use Rattle.offences.proofs.KindLaws.{IsSplitAt, found_nowhere, found_at, found_later, rises}
 use Rattle.offences.proofs.changes.kind_in.Goals as goal

@@ -1,42 +1,43 @@
-use Rattle.std.proofs.Common.{◌≡◌, List, sym, subst, ap, ◌∙◌, ◌++◌}
+use Rattle.std.proofs.Common.{ℕ, ◌<◌, List, sym, subst, Vec, Global}
 use Rattle.std.specs.Prelude.{All, AllPairs}
+use Rattle.std.proofs.lemmas.List.Elements.{All-weaker}
+use Rattle.std.proofs.lemmas.List.Sorted.{All-permutation}
+use Rattle.std.proofs.lemmas.Result.{IfOk-weaker}
 use Rattle.finite_sets.proofs.Searches.{All-from_In}
 use Rattle.geo_core.specs.declared.squares.Rect.{Rect}
 use Rattle.geo_core.specs.Areas.{IsNear, AreDisjoint}
 use Rattle.geo_core.specs.Covering.{IsProper}
-use Rattle.offences.specs.declared.typed_stacks.TypedStack.{TypedStack}
-use Rattle.offences.specs.Offences.{OffendsOn}
-use Rattle.offences.specs.Pieces.{CoverExactly, AreFoundChanges, spoiled_areas}
+use Rattle.offences.specs.declared.set_tiles.SetTile.{SetTile}
+use Rattle.offences.specs.declared.stacks.TypedStack.{TypedStack}
+use Rattle.offences.specs.Offences.{SetLayout, OffendsOn}
+use Rattle.offences.specs.Pieces.{CoverExactly}
 use Rattle.offences.specs.SetTiles.{tile_parts}
-use Rattle.offences.specs.TypedStacks.{AreByPart, typed_stack_areas}
-use Rattle.offences.proofs.PieceLaws.{pieces_cover, found_changes}
+use Rattle.offences.specs.TypedStacks.{AreByPart, AreTypedStacks, typed_stack_areas}
+use Rattle.offences.proofs.MemberLaws.{of_moved}
 use Rattle.offences.proofs.pieces.bad_pieces.Goals as goal
 
-pub changes-requires-clause-ordered : goal.changes-requires-clause-ordered
-changes-requires-clause-ordered c =
-    let typed_stacks = c.in_ok-typed_stacks.typed_stacks.items in
-    let are = c.in_ok-typed_stacks.ensures c.args.count c.requires.parts c.requires.types in
-    subst (All (λ (typed_stack : TypedStack). AreByPart typed_stack.kinds)) (sym c.as_slice-2.ensures.value)
-    (All-from_In (λ (typed_stack : TypedStack). AreByPart typed_stack.kinds) typed_stacks (λ typed_stack h. (are.each typed_stack h).ordered))
+pub typed_stacks-requires-clause-near : goal.typed_stacks-requires-clause-near
+typed_stacks-requires-clause-near c =
+    let near = All-weaker (λ (tile : SetTile). (tile.part < c.args.count) × IsNear tile.area) (λ (tile : SetTile). IsNear tile.area) (λ tile of. of.1)
+    c.args.tiles.now c.requires.parts in
+    subst (All (λ (tile : SetTile). IsNear tile.area)) (sym c.as_slice.ensures.value)
+    (All-permutation (λ (tile : SetTile). IsNear tile.area) c.args.tiles.now c.in_ok-sorted.sorted.items c.in_ok-sorted.ensures.moved near)
 
-pub changes-requires-clause-near : goal.changes-requires-clause-near
-changes-requires-clause-near c =
+pub bad_stacks-requires-clause-sound : goal.bad_stacks-requires-clause-sound
+bad_stacks-requires-clause-sound c =
     let typed_stacks = c.in_ok-typed_stacks.typed_stacks.items in
-    let are = c.in_ok-typed_stacks.ensures c.args.count c.requires.parts c.requires.types in
-    subst (All (λ (typed_stack : TypedStack). IsNear typed_stack.area)) (sym c.as_slice-2.ensures.value)
-    (All-from_In (λ (typed_stack : TypedStack). IsNear typed_stack.area) typed_stacks (λ typed_stack h. (are.each typed_stack h).near))
+    let are = of_moved c.args.tech.now c.args.plane c.args.tiles.now c.in_ok-sorted.sorted.items c.in_ok-sorted.ensures.moved c.as_slice.result.now
+    c.as_slice.ensures.value typed_stacks c.in_ok-typed_stacks.ensures.stand c.args.count c.requires.parts c.requires.types in
+    subst (All (λ (s : TypedStack). IsProper s.area × IsNear s.area × AreByPart s.kinds)) (sym c.as_slice-2.ensures.value)
+    (All-from_In (λ (s : TypedStack). IsProper s.area × IsNear s.area × AreByPart s.kinds) typed_stacks
+    (λ s h. let is = are.each s h in (is.proper, is.near, is.ordered)))
 
-pub changes-requires-clause-proper : goal.changes-requires-clause-proper
-changes-requires-clause-proper c =
+pub bad_stacks-requires-clause-apart : goal.bad_stacks-requires-clause-apart
+bad_stacks-requires-clause-apart c =
     let typed_stacks = c.in_ok-typed_stacks.typed_stacks.items in
-    let are = c.in_ok-typed_stacks.ensures c.args.count c.requires.parts c.requires.types in
-    subst (All (λ (typed_stack : TypedStack). IsProper typed_stack.area)) (sym c.as_slice-2.ensures.value)
-    (All-from_In (λ (typed_stack : TypedStack). IsProper typed_stack.area) typed_stacks (λ typed_stack h. (are.each typed_stack h).proper))
-
-pub changes-requires-clause-apart : goal.changes-requires-clause-apart
-changes-requires-clause-apart c =
-    let are = c.in_ok-typed_stacks.ensures c.args.count c.requires.parts c.requires.types in
-    subst (λ (typed_stacks : List TypedStack). AllPairs AreDisjoint (typed_stack_areas typed_stacks)) (sym c.as_slice-2.ensures.value) are.apart
+    let are = of_moved c.args.tech.now c.args.plane c.args.tiles.now c.in_ok-sorted.sorted.items c.in_ok-sorted.ensures.moved c.as_slice.result.now
+    c.as_slice.ensures.value typed_stacks c.in_ok-typed_stacks.ensures.stand c.args.count c.requires.parts c.requires.types in
+    subst (λ (s : List TypedStack). AllPairs AreDisjoint (typed_stack_areas s)) (sym c.as_slice-2.ensures.value) are.apart
 
 pub returns : goal.returns
 returns c =
@@ -44,16 +45,12 @@ returns c =
     let plane = c.args.plane in
     let parts = tile_parts c.args.tiles.now plane c.args.count in
     let typed_stacks = c.in_ok-typed_stacks.typed_stacks.items in
-    let are = c.in_ok-typed_stacks.ensures c.args.count c.requires.parts c.requires.types in
-    let changes : AreFoundChanges raw typed_stacks c.in_ok-changes.changes.items =
-    subst (λ (s : List TypedStack). AreFoundChanges raw s c.in_ok-changes.changes.items) c.as_slice-2.ensures.value
-    (subst (λ r. AreFoundChanges r c.as_slice-2.result.now c.in_ok-changes.changes.items) c.raw.ensures.value c.in_ok-changes.ensures) in
-    let spoiled : c.in_ok-pieces.pieces.items ≡ spoiled_areas raw typed_stacks = c.in_ok-pieces.ensures
-    ∙ ap (spoiled_areas raw) c.as_slice.ensures.value in
-    let all : c.extend_from_slice.new.self.items ≡ spoiled_areas raw typed_stacks ++ c.in_ok-changes.changes.items =
-    c.in_ok-extend_from_slice.ensures.items ∙ ap (λ (l : List Rect). l ++ c.as_slice-3.result.now) spoiled
-    ∙ ap (λ (l : List Rect). spoiled_areas raw typed_stacks ++ l) c.as_slice-3.ensures.value in
-    let formed = c.raw.ensures.well_formed in
-    subst (CoverExactly (OffendsOn raw parts plane)) (sym all)
-    (pieces_cover raw formed parts plane typed_stacks are c.in_ok-changes.changes.items
-    (found_changes raw formed parts plane typed_stacks are c.in_ok-changes.changes.items changes))
+    let are = of_moved raw plane c.args.tiles.now c.in_ok-sorted.sorted.items c.in_ok-sorted.ensures.moved c.as_slice.result.now
+    c.as_slice.ensures.value typed_stacks c.in_ok-typed_stacks.ensures.stand c.args.count c.requires.parts c.requires.types in
+    IfOk-weaker c.bad_stacks.result
+    (λ pieces. (parts : List SetLayout) (plane : ℕ) → AreTypedStacks raw parts plane c.as_slice-2.result.now
+    → CoverExactly (OffendsOn raw parts plane) pieces.items)
+    (λ pieces. CoverExactly (OffendsOn raw parts plane) pieces.items)
+    (λ (pieces : Vec Rect Global) cover. cover parts plane
+    (subst (λ (s : List TypedStack). AreTypedStacks raw parts plane s) (sym c.as_slice-2.ensures.value) are))
+    c.bad_stacks.ensures

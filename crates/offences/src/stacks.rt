@@ -1,9 +1,9 @@
 //! Pieces of a plane on whose squares each part has one type.
-ghost use Rattle.std.specs.Prelude.{◌≡◌, ◌<◌, ◌==◌, All, AllPairs, None, find, length, map, IfOk, IsPermutation};
+ghost use Rattle.std.specs.Prelude.{◌≡◌, ◌<◌, ◌==◌, All, AllPairs, None, find, length, map, IfOk};
 ghost use Rattle.geo_core.specs.Areas.{IsNear};
 ghost use Rattle.rect_overlays.specs.Stacks.{AreStacks};
 ghost use Rattle.offences.specs.PartSets.{AreInPartOrder};
-ghost use Rattle.offences.specs.TypedStacks.{kind_of, has_kind, owner_of, StandsFor, StandForAll, StandForTiles};
+ghost use Rattle.offences.specs.TypedStacks.{kind_of, has_kind, owner_of, StandsFor, StandForAll, StandForTiles, HasMembers};
 
 use crate::part_sets::{PartSum, all_sets, part_sets};
 use crate::set_tiles::SetTile;
@@ -29,6 +29,8 @@ pub struct TypedStack {
     pub kinds: List<PartKind>,
     /// The first part that has the flat type, where that is a channel's.
     pub owner: Option<PartKind>,
+    /// The numbers of the tiles that cover the piece, rising.
+    pub members: List<usize>,
 }
 
 /// The types of parts with these sets. Each set has one: none is taken for space.
@@ -76,34 +78,26 @@ fn typed_stack_of(
     alloc: Global,
     tech: &Tech,
     tiles: &[SetTile],
-    stack: &Stack,
+    stack: Stack,
     plane: u8,
 ) -> Result<TypedStack, AllocError>
-    requires within { All (λ member. member < length tiles.now) stack.now.members.items }
+    requires within { All (λ member. member < length tiles.now) stack.members.items }
     requires ordered { AreInPartOrder tiles.now }
-    requires ascending { AllPairs ◌<◌ stack.now.members.items }
-    ensures { IfOk result (StandsFor tech.now plane tiles.now stack.now) }
+    requires ascending { AllPairs ◌<◌ stack.members.items }
+    ensures { IfOk result (StandsFor tech.now plane tiles.now stack) }
 {
-    let sums = part_sets(alloc, tiles, stack.members.as_slice())?;
+    let Stack { area, members } = stack;
+    let sums = part_sets(alloc, tiles, members.as_slice())?;
     let flat = tech.joined(plane, all_sets(sums.as_slice()));
     let kinds = kinds_of(alloc, tech, sums.as_slice(), plane)?;
     let owner = owner_of(tech.raw(), flat, kinds.as_slice());
     Ok(TypedStack {
-        area: stack.area,
+        area,
         flat,
         kinds: List::of(kinds),
         owner,
+        members: List::of(members),
     })
-}
-
-/// The tiles in the order of their parts.
-fn by_part(alloc: Global, tiles: &[SetTile]) -> Result<Vec<SetTile>, AllocError>
-    ensures moved { IfOk result (λ sorted. IsPermutation tiles.now sorted.items) }
-    ensures ordered { IfOk result (λ sorted. AreInPartOrder sorted.items) }
-{
-    let mut sorted = Vec::from_slice(alloc, tiles)?;
-    sorted.sort_unstable_by_key(|tile| tile.part);
-    Ok(sorted)
 }
 
 /// The areas of tiles.
@@ -113,17 +107,17 @@ fn tile_areas(alloc: Global, tiles: &[SetTile]) -> Result<Vec<Rect>, AllocError>
     tiles.iter().map(|tile| tile.area).collect(alloc)
 }
 
-/// What the members of each stack make.
+/// What the members of each stack make. The stacks give their members away.
 fn typed_stacks_of(
     alloc: Global,
     tech: &Tech,
     tiles: &[SetTile],
-    stacks: &[Stack],
+    stacks: Vec<Stack>,
     plane: u8,
 ) -> Result<Vec<TypedStack>, AllocError>
     requires ordered { AreInPartOrder tiles.now }
-    requires stacks { AreStacks (map (λ tile. tile.area) tiles.now) None stacks.now }
-    ensures { IfOk result (λ typed_stacks. StandForAll tech.now plane tiles.now stacks.now typed_stacks.items) }
+    requires stacks { AreStacks (map (λ tile. tile.area) tiles.now) None stacks.items }
+    ensures { IfOk result (λ typed_stacks. StandForAll tech.now plane tiles.now stacks.items typed_stacks.items) }
 {
     let mut typed_stacks = Vec::with_capacity(alloc, stacks.len())?;
     for stack in stacks {
@@ -133,7 +127,10 @@ fn typed_stacks_of(
     Ok(typed_stacks)
 }
 
-/// The pieces that the tiles of a plane make, each with what the parts have there. Its parts have types wherever they stand.
+/// The pieces that the tiles of a plane make, each with what the parts have there and the numbers of the tiles that cover it.
+///
+/// The pieces lie apart. The tiles stand in the order of their parts, which have types wherever they stand, and the bounds of areas are
+/// below 2^28 in absolute value. Tiles of one part may overlap. Want of memory alone refuses.
 pub fn typed_stacks(
     alloc: Global,
     tech: &Tech,
@@ -141,10 +138,11 @@ pub fn typed_stacks(
     plane: u8,
 ) -> Result<Vec<TypedStack>, AllocError>
     requires near { All (λ tile. IsNear tile.area) tiles.now }
-    ensures { IfOk result (λ typed_stacks. StandForTiles tech.now plane tiles.now typed_stacks.items) }
+    requires ordered { AreInPartOrder tiles.now }
+    ensures stand { IfOk result (λ typed_stacks. StandForTiles tech.now plane tiles.now typed_stacks.items) }
+    ensures members { IfOk result (λ typed_stacks. All (HasMembers tiles.now) typed_stacks.items) }
 {
-    let sorted = by_part(alloc, tiles)?;
-    let areas = tile_areas(alloc, sorted.as_slice())?;
+    let areas = tile_areas(alloc, tiles)?;
     let stacks = overlay(alloc, areas.as_slice(), None)?;
-    typed_stacks_of(alloc, tech, sorted.as_slice(), stacks.as_slice(), plane)
+    typed_stacks_of(alloc, tech, tiles, stacks, plane)
 }

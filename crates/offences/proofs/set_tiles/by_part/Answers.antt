@@ -2,7 +2,7 @@ use Rattle.std.proofs.Common.{ℕ, rules}
 use Rattle.std.proofs.lemmas.List.Sorted.{answers_always}
 use Rattle.offences.specs.declared.set_tiles.SetTile.{SetTile}
 use Rattle.offences.proofs.OrderLaws.{sorted_by_part}
-use Rattle.offences.proofs.typed_stacks.by_part.Goals as goal
+use Rattle.offences.proofs.set_tiles.by_part.Goals as goal
 
 abbrev part_key : SetTile → ℕ
 part_key tile = tile.part

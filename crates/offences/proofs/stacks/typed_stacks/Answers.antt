@@ -1,0 +1,44 @@
+use Rattle.std.proofs.Common.{List, subst, ◌∙◌, Vec, Global, ◌≡◌}
+use Rattle.std.specs.Prelude.{All, None}
+use Rattle.std.proofs.lemmas.Result.{IfOk-weaker}
+use Rattle.geo_core.specs.declared.squares.Rect.{Rect}
+use Rattle.rect_overlays.specs.Stacks.{AreStacks}
+use Rattle.offences.specs.declared.stacks.TypedStack.{TypedStack}
+use Rattle.offences.specs.TypedStacks.{StandForAll, StandForTiles, HasMembers}
+use Rattle.offences.proofs.MemberLaws.{have_members}
+use Rattle.offences.proofs.StackLaws.{tile_areas}
+use Rattle.offences.proofs.TypedStackLaws.{are_typed_stacks}
+use Rattle.offences.proofs.stacks.typed_stacks.Goals as goal
+
+pub typed_stacks_of-requires-clause-stacks : goal.typed_stacks_of-requires-clause-stacks
+typed_stacks_of-requires-clause-stacks c =
+    let tiles = c.args.tiles.now in
+    let areas : c.as_slice.result.now ≡ tile_areas tiles = c.as_slice.ensures.value ∙ c.in_ok-areas.ensures in
+    subst (λ (r : List Rect). AreStacks r None c.in_ok-stacks.stacks.items) areas c.in_ok-stacks.ensures
+
+pub returns-clause-stand : goal.returns-clause-stand
+returns-clause-stand c =
+    let raw = c.args.tech.now in
+    let plane = c.args.plane in
+    let tiles = c.args.tiles.now in
+    let stacks = c.in_ok-stacks.stacks.items in
+    let areas : c.as_slice.result.now ≡ tile_areas tiles = c.as_slice.ensures.value ∙ c.in_ok-areas.ensures in
+    let are : AreStacks (tile_areas tiles) None stacks = subst (λ (r : List Rect). AreStacks r None stacks) areas c.in_ok-stacks.ensures in
+    IfOk-weaker c.typed_stacks_of.result (λ typed_stacks. StandForAll raw plane tiles stacks typed_stacks.items)
+    (λ typed_stacks. StandForTiles raw plane tiles typed_stacks.items)
+    (λ (typed_stacks : Vec TypedStack Global) stand count of_parts types.
+    are_typed_stacks raw plane tiles stacks are typed_stacks.items stand count of_parts types)
+    c.typed_stacks_of.ensures
+
+pub returns-clause-members : goal.returns-clause-members
+returns-clause-members c =
+    let raw = c.args.tech.now in
+    let plane = c.args.plane in
+    let tiles = c.args.tiles.now in
+    let stacks = c.in_ok-stacks.stacks.items in
+    let areas : c.as_slice.result.now ≡ tile_areas tiles = c.as_slice.ensures.value ∙ c.in_ok-areas.ensures in
+    let are : AreStacks (tile_areas tiles) None stacks = subst (λ (r : List Rect). AreStacks r None stacks) areas c.in_ok-stacks.ensures in
+    IfOk-weaker c.typed_stacks_of.result (λ typed_stacks. StandForAll raw plane tiles stacks typed_stacks.items)
+    (λ typed_stacks. All (HasMembers tiles) typed_stacks.items)
+    (λ (typed_stacks : Vec TypedStack Global) stand. have_members raw plane tiles stacks are typed_stacks.items stand)
+    c.typed_stacks_of.ensures
