@@ -1,5 +1,5 @@
 -- Tiles gathered plane by plane are the tiles of the layout, and their contacts those of all tiles.
-use Rattle.std.proofs.Common.{◌≡◌, ◌≢◌, ◌⊎◌, inl, inr, ℕ, ◌+◌, ◌-◌, ◌<◌, ◌≤◌, pos, Bool, true, false, cond, List, [], ◌++◌, map, length, get_or, Option, Some}
+use Rattle.std.proofs.Common.{◌≡◌, ◌≢◌, inl, inr, ℕ, ◌+◌, ◌-◌, ◌<◌, ◌≤◌, Bool, true, false, cond, List, [], ◌++◌, map, length, get_or, Option, Some}
 use Rattle.std.proofs.Common.{None, IsTrue, refl, sym, ◌∙◌, ap, subst, arith}
 use Rattle.std.specs.Prelude.{slice_get, nat_lt, All, AllPairs}
 use Rattle.std.proofs.lemmas.Bool.{cases_eq, cases_lt}
@@ -8,13 +8,11 @@ use Rattle.std.proofs.lemmas.Int.{ints}
 use Rattle.std.proofs.lemmas.List.{length-append, length-map, get_or-map, get_or_append_left, get_or-append-add}
 use Rattle.std.proofs.lemmas.List.Elements.{All-append, All-nil}
 use Rattle.std.proofs.lemmas.Option.{slice_get_within, slice_get-get_or, get_or_from_slice_get}
-use Rattle.geo_core.specs.declared.squares.Square.{Square}
 use Rattle.geo_core.specs.declared.squares.Rect.{Rect}
-use Rattle.geo_core.specs.Areas.{IsNear, LiesWithin, corner_of}
+use Rattle.geo_core.specs.Areas.{IsNear, corner_of}
 use Rattle.geo_core.specs.Covering.{Covers, IsProper, is_covered}
 use Rattle.geo_core.proofs.CoveringLaws.{Covers-is_covered, is_covered-Covers}
-use Rattle.finite_sets.specs.Lists.{In, Lists}
-use Rattle.finite_sets.proofs.Listings.{Lists-append, Lists-iff, Lists-map, Lists-none}
+use Rattle.finite_sets.specs.Lists.{In}
 use Rattle.finite_sets.proofs.Members.{In-get_or, In-index, In-map_source}
 use Rattle.finite_sets.proofs.Searches.{All-from_In}
 use Rattle.tech_model.specs.declared.raw.RawTech.{RawTech}
@@ -22,19 +20,13 @@ use Rattle.tech_model.specs.declared.raw.TypeId.{TypeId}
 use Rattle.tech_model.specs.WellFormed.{IsWellFormed}
 use Rattle.tech_model.specs.Types.{is_type, plane_of}
 use Rattle.tech_model.specs.LayerTiles.{IsTileOf, AreTilesOf}
-use Rattle.rect_contacts.specs.declared.contacts.Contact.{Contact}
-use Rattle.rect_contacts.specs.Contacts.{shared_length, IsSharedEdge}
-use Rattle.rect_contacts.specs.Rects.{rect_at, no_rect}
 use Rattle.layout_model.specs.Places.{Place}
 use Rattle.layout_model.specs.Layouts.{Layout, IsMaterial}
 use Rattle.layout_model.specs.LayerTypes.{Kinds, AreTypesOf, or_space, seen_in}
 use Rattle.layout_model.specs.RegionTiles.{LiesIn, LieApart, AreLayoutTiles}
 use Rattle.layout_model.specs.declared.region_tiles.RegionTile.{RegionTile}
-use Rattle.flood_nodes.specs.declared.gathering.Gathered.{Gathered}
-use Rattle.flood_nodes.specs.Gathered.{tile_on, shifted, areas_of, before_plane, Gathers}
+use Rattle.flood_nodes.specs.Gathered.{tile_on, before_plane}
 use Rattle.flood_nodes.specs.Stacking.{AreTyped}
-use Rattle.flood_nodes.specs.TileShares.{no_tile, tile_at, shared_by, IsTileContact}
-use Rattle.flood_nodes.proofs.ShareLaws.{one_plane, two_planes}
 
 -- a list and then another, by places
 module _ {X : Type 0} (xs ys : List X) where
@@ -88,11 +80,11 @@ module _ {X : Type 0} (xs ys : List X) where
             ])
       ]
 
--- What is gathered of the planes before this one: their tiles, and the contacts of these.
-pub record HasGathered (plane : ℕ) (layout : Layout) (gathered : Gathered) : Type 0 where
-  pub are : AreLayoutTiles (before_plane plane layout) gathered.tiles.items
-  pub planes : All (λ tile. tile.plane < plane) gathered.tiles.items
-  pub contacts : Lists (IsTileContact gathered.tiles.items) gathered.contacts.items
+-- What is gathered of the planes before this one: their tiles, plane by plane.
+pub record HasGathered (plane : ℕ) (layout : Layout) (tiles : List RegionTile) : Type 0 where
+  pub are : AreLayoutTiles (before_plane plane layout) tiles
+  pub planes : All (λ tile. tile.plane < plane) tiles
+  pub by_plane : AllPairs (λ a b. a.plane ≤ b.plane) tiles
 
 below_test : (m n : ℕ) → m < n → nat_lt m n ≡ true
 below_test m n h = grind (arith, nat_tests)
@@ -132,11 +124,8 @@ seen_material area kinds place material = at (is_covered area place.square) refl
     at true e = defined (Covers-is_covered area place.square e) (kinds place.plane place.square) refl
     at false e = absurd (material (ap (λ (t : Bool). cond t (or_space (kinds place.plane place.square)) 0) e))
 
-module _ (area : Rect) (kinds : Kinds) (plane : ℕ) (found : List (Rect × TypeId)) (old new : Gathered) (near : IsNear area)
-    (had : HasGathered plane (seen_in area kinds) old) (are : AreTilesOf (kinds plane) area found) (gathers : Gathers plane found old new) where
-  abbrev xs : List RegionTile
-  xs = old.tiles.items
-
+module _ (area : Rect) (kinds : Kinds) (plane : ℕ) (found : List (Rect × TypeId)) (xs : List RegionTile) (near : IsNear area)
+    (had : HasGathered plane (seen_in area kinds) xs) (are : AreTilesOf (kinds plane) area found) where
   abbrev ys : List RegionTile
   ys = map (tile_on plane) found
 
@@ -249,182 +238,32 @@ module _ (area : Rect) (kinds : Kinds) (plane : ℕ) (found : List (Rect × Type
       (All-from_In (λ (t : RegionTile). t.plane < plane + 1) ys (λ t i. let on : plane ≡ t.plane = ap (λ (v : RegionTile). v.plane) (is_found t i).1.1 in
       omega (arith, on)))
 
-  -- tiles before the plane, and tiles of the plane
-  at_left : (i : ℕ) → i < length xs → tile_at (xs ++ ys) i ≡ tile_at xs i
-  at_left i below = get_or_append_left xs ys no_tile i below
-
-  at_right : (k : ℕ) → tile_at (xs ++ ys) (k + length xs) ≡ tile_at ys k
-  at_right k = let e : k + length xs ≡ length xs + k = omega arith in ap (λ (m : ℕ). tile_at (xs ++ ys) m) e ∙ get_or-append-add xs ys k no_tile
-
-  found_area : (k : ℕ) → k < length found → (tile_at ys k).area ≡ rect_at (areas_of found) k
-  found_area k below =
-      ap (λ (t : RegionTile). t.area) (get_or-map (tile_on plane) found k (no_rect, record { 0 = 0 }) no_tile below)
-      ∙ sym (get_or-map (λ (t : Rect × TypeId). t.0) found k (no_rect, record { 0 = 0 }) no_rect below)
-
-  found_plane : (k : ℕ) → k < length found → (tile_at ys k).plane ≡ plane
-  found_plane k below = ap (λ (t : RegionTile). t.plane) (get_or-map (tile_on plane) found k (no_rect, record { 0 = 0 }) no_tile below)
-
-  -- what tiles of the plane share is what their rectangles share
-  found_shares : (i j : ℕ) → i < length found → j < length found
-      → shared_by (tile_at (xs ++ ys) (i + length xs)) (tile_at (xs ++ ys) (j + length xs)) ≡ shared_length (rect_at (areas_of found) i) (rect_at (areas_of
-      found) j)
-  found_shares i j p q =
-      ap (λ (a : RegionTile). shared_by a (tile_at (xs ++ ys) (j + length xs))) (at_right i)
-      ∙ ap (λ (b : RegionTile). shared_by (tile_at ys i) b) (at_right j)
-      ∙ ap (λ (t : Bool). cond t (shared_length (tile_at ys i).area (tile_at ys j).area) (pos 0))
-      (one_plane (tile_at ys i).plane (tile_at ys j).plane (found_plane i p ∙ sym (found_plane j q)))
-      ∙ ap (λ (a : Rect). shared_length a (tile_at ys j).area) (found_area i p) ∙ ap (λ (b : Rect). shared_length (rect_at (areas_of found) i) b) (found_area
-      j q)
-
-  -- tiles of two planes share nothing
-  old_shares_none : (i j : ℕ) → i < length xs → length xs ≤ j → j < length (xs ++ ys) → shared_by (tile_at (xs ++ ys) i) (tile_at (xs ++ ys) j) ≡ pos 0
-  old_shares_none i j below past within =
-      let k = j - length xs in
-      let long = length-append xs ys in
-      let so_many = length-map found (tile_on plane) in
-      let at : k + length xs ≡ j = omega arith in
-      let low = old_plane (tile_at xs i) (In-get_or xs i no_tile below) in
-      let high = found_plane k (omega (arith, long, so_many, within)) in
-      ap (λ (t : Bool). cond t (shared_length (tile_at (xs ++ ys) i).area (tile_at (xs ++ ys) j).area) (pos 0))
-      (two_planes (tile_at (xs ++ ys) i).plane (tile_at (xs ++ ys) j).plane (λ same.
-      let first : (tile_at (xs ++ ys) i).plane ≡ (tile_at xs i).plane = ap (λ (t : RegionTile). t.plane) (at_left i below) in
-      let second : (tile_at (xs ++ ys) j).plane ≡ (tile_at ys k).plane = ap (λ (m : ℕ). (tile_at (xs ++ ys) m).plane) (sym at)
-      ∙ ap (λ (t : RegionTile). t.plane) (at_right k) in
-      omega (arith, low, high, first, second, same)))
-
-  -- a contact is one of old tiles, or one of tiles of the plane
-  abbrev IsNewContact : Contact → Type 0
-  IsNewContact contact = (c : Contact) × (IsSharedEdge (areas_of found) c × (shifted (length xs) c ≡ contact))
-
-  old_contact : (c : Contact) → IsTileContact xs c → IsTileContact (xs ++ ys) c
-  old_contact c is =
-      let order = is.in_order in let last = is.in_list in let long = length-append xs ys in
-      record {
-        in_order = order;
-        in_list = omega (arith, last, long);
-        length_is = is.length_is ∙ ap (λ (a : RegionTile). shared_by a (tile_at xs c.second)) (sym (at_left c.first (omega (arith, order, last))))
-            ∙ ap (λ (b : RegionTile). shared_by (tile_at (xs ++ ys) c.first) b) (sym (at_left c.second last));
-        not_none = is.not_none;
-      }
-
-  contact_old : (c : Contact) → IsTileContact (xs ++ ys) c → c.second < length xs → IsTileContact xs c
-  contact_old c is last =
-      let order = is.in_order in
-      record {
-        in_order = order;
-        in_list = last;
-        length_is = is.length_is ∙ ap (λ (a : RegionTile). shared_by a (tile_at (xs ++ ys) c.second)) (at_left c.first (omega (arith, order, last)))
-            ∙ ap (λ (b : RegionTile). shared_by (tile_at xs c.first) b) (at_left c.second last);
-        not_none = is.not_none;
-      }
-
-  new_contact : (c : Contact) → IsSharedEdge (areas_of found) c → IsTileContact (xs ++ ys) (shifted (length xs) c)
-  new_contact c is =
-      let order = is.in_order in let last = is.in_list in
-      let so_many = length-map found (λ (t : Rect × TypeId). t.0) in
-      let tiles = length-map found (tile_on plane) in
-      let long = length-append xs ys in
-      record {
-        in_order = omega (arith, order);
-        in_list = omega (arith, last, so_many, tiles, long);
-        length_is = is.length_is ∙ sym (found_shares c.first c.second (omega (arith, order, last, so_many)) (omega (arith, last, so_many)));
-        not_none = is.not_none;
-      }
-
-  contact_new : (c : Contact) → IsTileContact (xs ++ ys) c → length xs ≤ c.first → IsNewContact c
-  contact_new c is past =
-      let order = is.in_order in let last = is.in_list in
-      let so_many = length-map found (λ (t : Rect × TypeId). t.0) in
-      let tiles = length-map found (tile_on plane) in
-      let long = length-append xs ys in
-      let i = c.first - length xs in
-      let j = c.second - length xs in
-      let first : i + length xs ≡ c.first = omega arith in
-      let second : j + length xs ≡ c.second = omega (arith, order) in
-      let j_in : j < length found = omega (arith, last, tiles, long, order) in
-      let i_in : i < length found = omega (arith, order, j_in) in
-      let shares = found_shares i j i_in j_in in
-      let length_is : c.length ≡ shared_length (rect_at (areas_of found) i) (rect_at (areas_of found) j) =
-      is.length_is ∙ ap (λ (m : ℕ). shared_by (tile_at (xs ++ ys) m) (tile_at (xs ++ ys) c.second)) (sym first)
-      ∙ ap (λ (m : ℕ). shared_by (tile_at (xs ++ ys) (i + length xs)) (tile_at (xs ++ ys) m)) (sym second) ∙ shares in (
-        record { first = i; second = j; length = c.length },
-        (
-          record { in_order = omega (arith, order); in_list = omega (arith, j_in, so_many); length_is = length_is; not_none = is.not_none },
-          (λ k. record { first = first k; second = second k; length = c.length }),
-        ),
-      )
-
-  split_contact : (c : Contact) → IsTileContact (xs ++ ys) c → IsTileContact xs c ⊎ IsNewContact c
-  split_contact c is = elim (cases_lt c.second (length xs)) [
-    | inl low ↦ inl (contact_old c is low)
-    | inr high ↦ (elim (cases_lt c.first (length xs)) [
-      | inl below ↦ absurd (let none = old_shares_none c.first c.second below high is.in_list in let some = is.not_none in let e = is.length_is in
-          omega (arith, ints, none, some, e))
-      | inr past ↦ inr (contact_new c is past)
-    ])
-  ]
-
-  same_shift : (a b : Contact) → shifted (length xs) a ≡ shifted (length xs) b → a ≡ b
-  same_shift a b e =
-      let f : a.first + length xs ≡ b.first + length xs = ap (λ (c : Contact). c.first) e in
-      let g : a.second + length xs ≡ b.second + length xs = ap (λ (c : Contact). c.second) e in
-      let first : a.first ≡ b.first = omega (arith, f) in
-      let second : a.second ≡ b.second = omega (arith, g) in
-      λ k. record { first = first k; second = second k; length = (e k).length }
-
-  more_contacts : Lists (IsTileContact (xs ++ ys)) new.contacts.items
-  more_contacts =
-      subst (Lists (IsTileContact (xs ++ ys))) (sym gathers.shared)
-      (Lists-iff (λ (c : Contact). IsTileContact xs c ⊎ IsNewContact c) (IsTileContact (xs ++ ys)) (old.contacts.items ++ map (shifted (length xs))
-      gathers.contacts)
-      (λ c h. elim h [ inl o ↦ old_contact c o | inr n ↦ subst (IsTileContact (xs ++ ys)) n.1.1 (new_contact n.0 n.1.0) ]) split_contact
-      (Lists-append (IsTileContact xs) IsNewContact old.contacts.items (map (shifted (length xs)) gathers.contacts)
-      (λ c o n. let last = o.in_list in let is : n.0.second + length xs ≡ c.second = ap (λ (v : Contact). v.second) n.1.1 in omega (arith, last, is))
-      had.contacts (Lists-map (IsSharedEdge (areas_of found)) (shifted (length xs)) gathers.contacts (λ a b p q e. same_shift a b e) gathers.touching)))
+  more_by_plane : AllPairs (λ (a b : RegionTile). a.plane ≤ b.plane) (xs ++ ys)
+  more_by_plane = AllPairs-append xs ys (λ (a b : RegionTile). a.plane ≤ b.plane) had.by_plane
+      (λ i j d less within. let first = on_plane i d (omega (arith, less, within)) in let second = on_plane j d within in omega (arith, first, second))
+      (λ a b i j. let low = old_plane a i in let on : plane ≡ b.plane = ap (λ (t : RegionTile). t.plane) (is_found b j).1.1 in omega (arith, low, on))
+    where
+      on_plane : (k : ℕ) (d : RegionTile) → k < length ys → plane ≡ (get_or ys k d).plane
+      on_plane k d below = ap (λ (t : RegionTile). t.plane) (is_found (get_or ys k d) (In-get_or ys k d below)).1.1
 
   -- one plane more is gathered
-  pub gathered_more : HasGathered (plane + 1) (seen_in area kinds) new
-  gathered_more = record {
-    are = subst (AreLayoutTiles (before_plane (plane + 1) (seen_in area kinds))) (sym gathers.tiles) more_tiles;
-    planes = subst (All (λ (t : RegionTile). t.plane < plane + 1)) (sym gathers.tiles) more_planes;
-    contacts = subst (λ (v : List RegionTile). Lists (IsTileContact v) new.contacts.items) (sym gathers.tiles) more_contacts;
-  }
-
--- rectangles of tiles that lie within a near area
-pub found_proper : (area : Rect) (kinds : Square → Option ℕ) (found : List (Rect × TypeId)) → AreTilesOf kinds area found → All (λ tile. IsProper tile.0) found
-found_proper area kinds found are = All-from_In (λ (t : Rect × TypeId). IsProper t.0) found (λ t i. (are.each t i).proper)
-
-pub found_near : (area : Rect) (kinds : Square → Option ℕ) (found : List (Rect × TypeId)) → IsNear area → AreTilesOf kinds area found
-    → All (λ tile. IsNear tile.0) found
-found_near area kinds found near are = All-from_In (λ (t : Rect × TypeId). IsNear t.0) found (λ t i. within_near t (are.each t i).inside (are.each t i).proper)
-  where
-    within_near : (item : Rect × TypeId) → LiesWithin item.0 area → IsProper item.0 → IsNear item.0
-    within_near item inside proper =
-        let a = inside.right_of_xlo in let b = inside.above_ylo in let c = inside.left_of_xhi in let d = inside.below_yhi in
-        let w = proper.wide in let h = proper.high in
-        let xl = near.xlo in let yl = near.ylo in let xh = near.xhi in let yh = near.yhi in
-        record {
-          xlo = (omega (arith, ints, a, xl.0), omega (arith, ints, c, w, xh.1));
-          ylo = (omega (arith, ints, b, yl.0), omega (arith, ints, d, h, yh.1));
-          xhi = (omega (arith, ints, a, w, xl.0), omega (arith, ints, c, xh.1));
-          yhi = (omega (arith, ints, b, h, yl.0), omega (arith, ints, d, yh.1));
-        }
+  pub gathered_more : HasGathered (plane + 1) (seen_in area kinds) (xs ++ ys)
+  gathered_more = record { are = more_tiles; planes = more_planes; by_plane = more_by_plane }
 
 -- nothing is gathered at first
-pub gathered_none : (layout : Layout) (gathered : Gathered) → gathered.tiles.items ≡ [] → gathered.contacts.items ≡ [] → HasGathered 0 layout gathered
-gathered_none layout gathered no_tiles no_contacts = record {
-  are = subst (AreLayoutTiles (before_plane 0 layout)) (sym no_tiles) (record {
+pub gathered_none : (layout : Layout) (tiles : List RegionTile) → tiles ≡ [] → HasGathered 0 layout tiles
+gathered_none layout tiles none = subst (HasGathered 0 layout) (sym none) (record {
+  are = record {
     proper = All-nil (λ (t : RegionTile). IsProper t.area);
     near = All-nil (λ (t : RegionTile). IsNear t.area);
     material = All-nil (λ (t : RegionTile). t.kind.0 ≢ 0);
     apart = λ i j d less within. absurd (omega arith);
     kinds = λ i place lies. absurd (let within = slice_get_within [] i lies.tile lies.there in omega (arith, within));
     every = λ place material. absurd (material (before_none 0 layout place (omega arith)));
-  });
-  planes = subst (All (λ (t : RegionTile). t.plane < 0)) (sym no_tiles) (All-nil (λ (t : RegionTile). t.plane < 0));
-  contacts = subst (λ (v : List RegionTile). Lists (IsTileContact v) gathered.contacts.items) (sym no_tiles)
-      (subst (Lists (IsTileContact [])) (sym no_contacts) (Lists-none (IsTileContact []) (λ c is. let last = is.in_list in omega (arith, last))));
-}
+  };
+  planes = All-nil (λ (t : RegionTile). t.plane < 0);
+  by_plane = λ i j d less within. absurd (omega arith);
+})
 
 -- the same places have the same types
 AreLayoutTiles-same : (layout other : Layout) (tiles : List RegionTile) → ((place : Place) → layout place ≡ other place) → AreLayoutTiles layout tiles
@@ -439,10 +278,10 @@ AreLayoutTiles-same layout other tiles same are = record {
 }
 
 -- all planes that have types are gathered
-pub gathered_all : (raw : RawTech) (area : Rect) (kinds : Kinds) (plane : ℕ) (gathered : Gathered) → IsWellFormed raw → AreTypesOf raw kinds
-    → length raw.planes ≤ plane → HasGathered plane (seen_in area kinds) gathered → AreLayoutTiles (seen_in area kinds) gathered.tiles.items
-gathered_all raw area kinds plane gathered well types past had =
-    AreLayoutTiles-same (before_plane plane (seen_in area kinds)) (seen_in area kinds) gathered.tiles.items same had.are
+pub gathered_all : (raw : RawTech) (area : Rect) (kinds : Kinds) (plane : ℕ) (tiles : List RegionTile) → IsWellFormed raw → AreTypesOf raw kinds
+    → length raw.planes ≤ plane → HasGathered plane (seen_in area kinds) tiles → AreLayoutTiles (seen_in area kinds) tiles
+gathered_all raw area kinds plane tiles well types past had =
+    AreLayoutTiles-same (before_plane plane (seen_in area kinds)) (seen_in area kinds) tiles same had.are
   where
     beyond : (place : Place) → plane ≤ place.plane → seen_in area kinds place ≢ 0 → ⊥
     beyond place far material =

@@ -141,9 +141,18 @@ regions_from_classes raw layout tiles numbered labels count links are typed join
     (IsPair links) join labels long divides)
     counted
 
--- tiles of a layout lie apart
-pub layout_spread : (layout : Layout) (tiles : List RegionTile) → AreLayoutTiles layout tiles → AreSpread tiles
-layout_spread layout tiles are = record { proper = are.proper; near = are.near; apart = are.apart }
+-- tiles that got numbers of classes are sound
+pub renumbered_sound : (tiles numbered : List RegionTile) (labels : List ℕ) (count : ℕ) → AreSpread tiles → length labels ≡ length tiles
+    → IsNumbered labels count → AreRenumbered tiles labels numbered → All (IsSoundTile count) numbered
+renumbered_sound tiles numbered labels count spread long counted are = λ k d below.
+    let many = are.so_many in
+    let inside : k < length tiles = omega (arith, below, many) in
+    let is = get_or_default numbered k d no_tile below ∙ are.each k inside in
+    subst (IsSoundTile count) (sym is) (record {
+      proper = spread.proper k no_tile inside;
+      near = spread.near k no_tile inside;
+      numbered = counted.below k 0 (omega (arith, inside, long));
+    })
 
 -- links are of tiles of the list
 pub join_within : (connects : ℕ → ℕ → Bool) (tiles : List RegionTile) (links : List (ℕ × ℕ)) → JoinTiles connects tiles (IsPair links)
@@ -195,16 +204,3 @@ contacts_told tiles contacts listed = record {
   once = λ i j d less below. Distinct-places contacts i j d listed.0 less below;
   whole = λ c is. finds (is_contact c) contacts c (listed.1 c is) (λ k. one_plane c.first c.first refl k && one_plane c.second c.second refl k);
 }
-
--- each tile of regions is sound
-pub regions_sound : (connects : ℕ → ℕ → Bool) (layout : Layout) (tiles : List RegionTile) (count : ℕ) → AreRegions connects layout tiles count
-    → All (IsSoundTile count) tiles
-regions_sound connects layout tiles count are = λ k d below.
-    let so_many = length-map tiles (λ (t : RegionTile). t.region) in
-    let numbered = are.numbered.below k 0 (omega (arith, below, so_many)) in
-    let is = get_or-map (λ (t : RegionTile). t.region) tiles k d 0 below in
-    record {
-      proper = are.are_tiles.proper k d below;
-      near = are.are_tiles.near k d below;
-      numbered = omega (arith, numbered, is);
-    }

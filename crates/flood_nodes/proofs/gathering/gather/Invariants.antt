@@ -3,4 +3,4 @@ use Rattle.flood_nodes.proofs.GatherLaws.{HasGathered}
 use Rattle.flood_nodes.proofs.gathering.gather.Given as goal
 
 abbrev pub invariant-loop-plane : goal.invariant-loop-plane
-invariant-loop-plane g l = HasGathered l.plane (seen_in l.area (g.Y.Layers.kind l.layers)) l.gathered
+invariant-loop-plane g l = HasGathered l.plane (seen_in l.area (g.Y.Layers.kind l.layers)) l.tiles.items

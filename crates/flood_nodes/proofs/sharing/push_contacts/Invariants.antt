@@ -1,6 +1,6 @@
 use Rattle.std.proofs.Common.{◌≡◌, ◌++◌, map, take}
-use Rattle.flood_nodes.specs.Gathered.{shifted}
-use Rattle.flood_nodes.proofs.gathering.push_contacts.Given as goal
+use Rattle.flood_nodes.specs.Runs.{shifted}
+use Rattle.flood_nodes.proofs.sharing.push_contacts.Given as goal
 
 abbrev pub invariant-loop-contact : goal.invariant-loop-contact
 invariant-loop-contact l = l.contacts.items ≡ l.initial.contacts.items ++ map (shifted l.start) (take l.contact-index l.found)
