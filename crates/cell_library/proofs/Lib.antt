@@ -29,6 +29,7 @@ pub mod RowSpots
 pub mod SeenAreas
 pub mod SizeLaws
 pub mod SpotLaws
+pub mod StandingCounts
 pub mod ToldTiles
 pub mod TreeTypes
 pub mod UseEdits

@@ -21,10 +21,10 @@
 //! cell and of what stands above it alone (`SizeLaws`), so the tree's refusals are the library's (`LimitLaws`). That a lawful library goes
 //! past no limit excludes each later refusal of an accepted edit.
 //!
-//! A reader tells of a cell's elements what the tree knows: how many there are (`ElementCounts`), and the hull of the child in each of
-//! them (`GridSteps`, `BoxesBelow`). Those boxes are lawful, since the cell's own hull goes round them, and hold the cell's parts, since
-//! hulls hold material (`HullsHoldMaterial`, `HeldParts`). What crates above take from that stands in `PartLaws`. All paint is sound
-//! (`KeptContents`), so the tree of a cell has types of the technology alone (`TreeTypes`).
+//! A reader tells of a cell's elements what the tree knows: how many there are (`ElementCounts`), how many cells stand at and below them
+//! (`StandingCounts`), and the hull of the child in each of them (`GridSteps`, `BoxesBelow`). Those boxes are lawful, since the cell's own
+//! hull goes round them, and hold the cell's parts, since hulls hold material (`HullsHoldMaterial`, `HeldParts`). What crates above take from
+//! that stands in `PartLaws`. All paint is sound (`KeptContents`), so the tree of a cell has types of the technology alone (`TreeTypes`).
 //!
 //! A visit tells the tiles of each standing cell, and goes on at the spots of those of its elements that the area may meet (`OwnTiles`,
 //! `SpotLaws`). Uses are found by the boxes round their elements (`UseTreeLaws`, `UseSearches`), and the elements of a grid by their indices

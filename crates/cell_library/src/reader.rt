@@ -5,6 +5,7 @@ ghost use Rattle.finite_sets.specs.Lists.{Lists};
 ghost use Rattle.geo_core.specs.Areas.{IsNear};
 ghost use Rattle.geo_core.specs.Covering.{Covers};
 ghost use Rattle.layout_model.specs.Places.{Place};
+ghost use Rattle.layout_trees.specs.CellTrees.{standings};
 ghost use Rattle.layout_trees.specs.CellTrees.CellTree.{cell_tree};
 ghost use Rattle.layout_trees.specs.FlatSets.{element_parts, elements_in, parts_in, IsTyped};
 ghost use Rattle.cell_paint.specs.Paints.{layout_of};
@@ -186,6 +187,16 @@ impl<'a> Reader<'a> {
     {
         let library = self.library;
         1 + element_count(library, cell)
+    }
+
+    /// How many cells stand at and below the cell, the cell itself among them.
+    pub fn standing_count(&self, cell: CellKey) -> usize
+        requires { cell.0 < length self.now.contents }
+        ensures { result ≡ length (standings (tree_at (seen self.now) cell.0)) }
+    {
+        let library = self.library;
+        library.lawful();
+        library.tree().elements(cell.0) as usize
     }
 
     /// What holds of each tree of cells: its types are the technology's. It does nothing.
