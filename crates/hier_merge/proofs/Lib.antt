@@ -1,10 +1,16 @@
+pub mod CoveringTileLaws
+pub mod FoundPieces
 pub mod MeetingBoxes
 pub mod MeetingOffences
+pub mod MeetingPieceLaws
+pub mod MeetingSquares
 pub mod NearAreas
 pub mod NumberedParts
 pub mod PartBoxLaws
 pub mod PartTypes
+pub mod PlanePieceLaws
 pub mod PlaneStrips
 pub mod PlaneTiles
+pub mod SortedTiles
 pub mod VisitLaws
 pub mod WorkLaws

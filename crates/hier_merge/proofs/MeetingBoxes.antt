@@ -30,7 +30,7 @@ use Rattle.hier_merge.proofs.VisitLaws.{in_union_or_not, visits_inside, visits_o
 -- ---- boxes, grown by one
 
 -- a square of a box is one of the box grown by one
-covers_grown : (box : Rect) (square : Square) → Covers box square → Covers (widened box) square
+pub covers_grown : (box : Rect) (square : Square) → Covers box square → Covers (widened box) square
 covers_grown box square covers =
     let left : box.xlo ≤ℤ square.x = covers.right_of_xlo in
     let right : square.x <ℤ box.xhi = covers.left_of_xhi in
@@ -58,7 +58,7 @@ covers_beside box square beside neighbours covers =
     }
 
 -- a square of both boxes, each grown by one, is shared
-both_share : (boxes : List Rect) (one other : Place) (two : HaveTwoBoxes boxes one other) (square : Square)
+pub both_share : (boxes : List Rect) (one other : Place) (two : HaveTwoBoxes boxes one other) (square : Square)
     → Covers (widened two.covers_first.box) square → Covers (widened two.covers_second.box) square → IsShared boxes square
 both_share boxes one other two square in_one in_other = record {
   first = two.j;
@@ -77,7 +77,7 @@ both_share boxes one other two square in_one in_other = record {
 }
 
 -- a part that stands at a place has something there
-has_part : (parts : List SetLayout) (position : ℕ) (place : Place) → PartStands parts position place → HasPartAt parts position place
+pub has_part : (parts : List SetLayout) (position : ℕ) (place : Place) → PartStands parts position place → HasPartAt parts position place
 has_part parts position place stands = record { part = stands.part; there = stands.there; some = stands.material }
 
 -- boxes that hold parts are near each other where the parts meet

@@ -51,7 +51,7 @@ alike_on_plane raw tiles count plane place on = record {
 }
 
 -- where what all tiles make has types, what those of a plane make has
-plane_has_types : (raw : RawTech) (tiles : List PartTile) (count plane : ℕ) → HaveTypes raw (parts_of_tiles raw tiles count)
+pub plane_has_types : (raw : RawTech) (tiles : List PartTile) (count plane : ℕ) → HaveTypes raw (parts_of_tiles raw tiles count)
     → HaveTypes raw (parts_of_plane raw tiles count plane)
 plane_has_types raw tiles count plane types position part there place none =
     let make = tile_part (tiles_on raw plane tiles) plane in

@@ -78,7 +78,7 @@ areas_are_near boxes areas lawful proper within = All-from_In IsNear areas (λ a
 -- ---- tiles
 
 -- a tile of several visits is one of some area's
-in_some_area : (raw : RawTech) (tree : CellTree) (areas : List Rect) (tiles : List PartTile) → AreVisits raw tree areas tiles → (tile : PartTile)
+pub in_some_area : (raw : RawTech) (tree : CellTree) (areas : List Rect) (tiles : List PartTile) → AreVisits raw tree areas tiles → (tile : PartTile)
     → In tile tiles → (area : Rect) × (In area areas × IsPartTileIn tree area tile)
 in_some_area raw tree [] tiles visits tile among = absurd (subst (In tile) visits among)
 in_some_area raw tree (area ∷ areas) tiles (first, rest, are, visit, visits) tile among =

@@ -98,7 +98,7 @@ elements_past raw formed (element_and placed tree rest) typed place past zero pa
 elements_past raw formed (element_and placed tree rest) typed place past (suc position) part there =
     elements_past raw formed rest typed.1 place past position part there
 
-part_past : (raw : RawTech) → IsWellFormed raw → (tree : CellTree) → IsTyped raw tree → (place : Place) → length raw.planes ≤ place.plane
+pub part_past : (raw : RawTech) → IsWellFormed raw → (tree : CellTree) → IsTyped raw tree → (place : Place) → length raw.planes ≤ place.plane
     → (position : ℕ) (part : SetLayout) → slice_get (parts_in raw tree) position ≡ Some part → part place ≡ 0
 part_past raw formed (cell_tree own _) typed place past zero part there =
     let same : sets_in raw own.layout ≡ part = cc in

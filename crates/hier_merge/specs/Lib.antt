@@ -2,3 +2,6 @@ pub mod Interactions
 pub mod Visits
 pub mod StripLists
 pub mod MeetingTiles
+pub mod UncleanCells
+pub mod MeetingPieces
+pub mod PlanePieces

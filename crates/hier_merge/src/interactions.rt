@@ -7,12 +7,14 @@ ghost use Rattle.cell_tree.specs.Hulls.{IsLawfulBox};
 ghost use Rattle.cell_library.specs.Libraries.{seen};
 ghost use Rattle.cell_library.specs.LayoutTrees.{tree_at};
 ghost use Rattle.cell_library.specs.ElementBoxes.{HoldParts};
-ghost use Rattle.hier_merge.specs.Interactions.{ArePartBoxes, IsWorkOver};
+ghost use Rattle.hier_merge.specs.Interactions.{ArePartBoxes, IsWork, IsWorkOver};
+ghost use Rattle.hier_merge.specs.MeetingTiles.{AreMeetingTiles};
 ghost use Rattle.hier_merge.specs.Visits.{AreVisits};
 
 use cell_library::{PartTile, Reader};
 use ext_model::CellKey;
 use geo_core::Rect;
+use interact::areas;
 use std::alloc::{AllocError, Global};
 use std::sync::ledger::Ledger;
 use step_count::Steps;
@@ -69,5 +71,25 @@ pub fn visit_all<L: Ledger>(
         let found = visitor.visit(cell, *area, steps)?;
         tiles.extend_from_slice(found.as_slice())?;
     }
+    Ok(tiles)
+}
+
+/// The tiles of the parts of the cell where the parts interact, for a step each, and a step for its paint. Want of memory alone refuses.
+pub fn meeting_tiles<L: Ledger>(
+    alloc: Global,
+    library: &Reader<'_>,
+    cell: CellKey,
+    steps: &mut Steps<L>,
+) -> Result<Vec<PartTile>, AllocError>
+    requires { cell.0 < length library.now.contents }
+    ensures tiles { IfOk result (λ tiles. AreMeetingTiles library.now.tech (tree_at (seen library.now) cell.0) tiles.items) }
+    ensures counted { IfOk result (λ tiles. steps.new ≡ steps.old + (length tiles.items + 1)) }
+    ensures work { IfOk result (λ tiles. IsWork (seen library.now) cell.0 (length tiles.items)) }
+    ensures steps { (work : ℕ) → IsWork (seen library.now) cell.0 work → steps.new ≤ steps.old + (work + 1) }
+{
+    library.lawful();
+    let boxes = part_boxes(alloc, library, cell, steps)?;
+    let areas = areas(alloc, boxes.as_slice())?;
+    let tiles = visit_all(alloc, library, cell, areas.as_slice(), steps)?;
     Ok(tiles)
 }

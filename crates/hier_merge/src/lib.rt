@@ -3,15 +3,21 @@
 //! # How the proof goes
 //!
 //! Parts meet only where the boxes that hold them, each grown by one, overlap (`MeetingBoxes`), and those areas lie near
-//! (`NearAreas`). Visits of them hand out tiles that make the parts there and nothing elsewhere (`VisitLaws`), and where parts
-//! meet decides which places offend. On each plane its own tiles make the same parts (`PlaneTiles`), which have types
-//! (`PartTypes`), so the strips that are found plane by plane are those of the offending squares (`PlaneStrips`,
-//! `MeetingOffences`). A cell has one list of boxes, and so one list of areas, over which the work is counted (`WorkLaws`).
+//! (`NearAreas`). Visits of them hand out tiles that make the parts there and nothing elsewhere (`VisitLaws`), in whichever order they
+//! are taken, and where parts meet decides which places offend (`MeetingSquares`). The tiles are put in the order of planes and parts, so
+//! that those of a plane stand in a row (`SortedTiles`). On each plane its own tiles make the same parts (`PlaneTiles`), which have types
+//! (`PartTypes`). So the pieces that are found plane by plane are pieces of all parts (`PlanePieceLaws`, `MeetingPieceLaws`), and the
+//! strips those of the offending squares (`PlaneStrips`, `MeetingOffences`). A tile has a type of its plane, so where it covers a piece its
+//! part has material there, and where a part has material a tile of it covers the piece (`CoveringTileLaws`, `FoundPieces`). A cell has one
+//! list of boxes, and so one list of areas, over which the work is counted (`WorkLaws`).
 #![tactic(auto)]
 
 mod faults;
 mod interactions;
+mod meetings;
 mod offending_squares;
+mod plane_tiles;
 
 pub use faults::HierFault;
+pub use meetings::{Meeting, meeting_of};
 pub use offending_squares::offending_of;

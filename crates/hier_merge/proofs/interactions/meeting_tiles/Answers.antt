@@ -1,4 +1,4 @@
-use Rattle.std.proofs.Common.{List, length, sym, subst, arith}
+use Rattle.std.proofs.Common.{List, sym, subst, arith}
 use Rattle.std.specs.Prelude.{All}
 use Rattle.geo_core.specs.declared.squares.Rect.{Rect}
 use Rattle.geo_core.specs.Areas.{IsNear}
@@ -10,7 +10,7 @@ use Rattle.cell_library.specs.Libraries.{seen}
 use Rattle.hier_merge.specs.Visits.{AreVisits}
 use Rattle.hier_merge.proofs.NearAreas.{areas_are_near, strips_are_proper}
 use Rattle.hier_merge.proofs.WorkLaws.{visited_work, within_work}
-use Rattle.hier_merge.proofs.offending_squares.meeting_tiles.Goals as goal
+use Rattle.hier_merge.proofs.interactions.meeting_tiles.Goals as goal
 
 pub visit_all-requires-clause-near : goal.visit_all-requires-clause-near
 visit_all-requires-clause-near g c =
@@ -54,13 +54,13 @@ returns-clause-steps g c work is =
     c.in_ok-areas.ensures.strips c.as_slice-2.ensures.value c.visit_all.ensures.steps work is in
     omega (arith, bound, c.part_boxes.ensures.step)
 
+pub returns-clause-counted : goal.returns-clause-counted
+returns-clause-counted g c =
+    let counted = c.in_ok-tiles.ensures.counted in
+    omega (arith, counted, c.part_boxes.ensures.step)
+
 pub returns-clause-work : goal.returns-clause-work
 returns-clause-work g c =
-    let work = length c.in_ok-tiles.tiles.items in
-    let counted = c.in_ok-tiles.ensures.counted in (
-      work,
-      visited_work c.args.library.now c.lawful.ensures c.args.cell.0 c.in_ok-boxes.boxes.items c.as_slice.result.now c.in_ok-areas.areas.items
-          c.as_slice-2.result.now c.in_ok-tiles.tiles.items c.in_ok-boxes.ensures.boxes c.as_slice.ensures.value c.in_ok-areas.ensures.strips
-          c.as_slice-2.ensures.value c.in_ok-tiles.ensures.tiles,
-      omega (arith, counted, c.part_boxes.ensures.step),
-    )
+    visited_work c.args.library.now c.lawful.ensures c.args.cell.0 c.in_ok-boxes.boxes.items c.as_slice.result.now c.in_ok-areas.areas.items
+    c.as_slice-2.result.now c.in_ok-tiles.tiles.items c.in_ok-boxes.ensures.boxes c.as_slice.ensures.value c.in_ok-areas.ensures.strips
+    c.as_slice-2.ensures.value c.in_ok-tiles.ensures.tiles

@@ -1,0 +1,246 @@
+-- The tiles that cover the pieces at which the parts of a cell meet.
+use Rattle.std.proofs.Common.{◌≡◌, ◌≢◌, ◌⊎◌, ◌<◌, ◌+◌, ℕ, suc, List, [], ◌∷◌, length, map, inl, inr, refl, sym, ap, subst, ◌∙◌, arith}
+use Rattle.std.specs.Prelude.{Some, slice_get, slice_index, All}
+use Rattle.std.specs.Int.{bit_at}
+use Rattle.std.proofs.lemmas.Bool.{cases_Bool, cases_eq, false≢true}
+use Rattle.std.proofs.lemmas.List.FromFn.{length-map-range_with_len}
+use Rattle.finite_sets.specs.Lists.{In}
+use Rattle.finite_sets.proofs.Members.{In-append_cases, In-index, In-map_source}
+use Rattle.geo_core.specs.declared.squares.Square.{Square}
+use Rattle.geo_core.specs.Areas.{corner_of, IsNear}
+use Rattle.geo_core.specs.Covering.{Covers, is_covered}
+use Rattle.geo_core.proofs.CornerLaws.{corner_covers}
+use Rattle.geo_core.proofs.CoveringLaws.{Covers-is_covered, is_covered-Covers}
+use Rattle.geo_core.proofs.StripSets.{strip_is_proper, strip_within}
+use Rattle.tech_model.specs.declared.raw.RawTech.{RawTech}
+use Rattle.tech_model.specs.Types.{is_type, joined, parts_of, plane_of}
+use Rattle.tech_model.specs.WellFormed.{IsWellFormed}
+use Rattle.tech_model.proofs.JoinedLaws.{joined-found}
+use Rattle.tech_model.proofs.SetLaws.{set_not_empty}
+use Rattle.tech_model.proofs.WellFormedLaws.{All_In}
+use Rattle.layout_model.specs.LayerTypes.{HasTypesOf}
+use Rattle.layout_model.specs.Places.{Place}
+use Rattle.layout_trees.specs.CellTrees.{CellTree, Elements, Standing, standings, standings_from, under}
+use Rattle.layout_trees.specs.CellTrees.CellTree.{cell_tree}
+use Rattle.layout_trees.specs.CellTrees.Elements.{no_elements, element_and}
+use Rattle.layout_trees.specs.FlatSets.{AreTyped, IsTyped}
+use Rattle.offences.specs.declared.set_tiles.SetTile.{SetTile}
+use Rattle.offences.specs.declared.stacks.TypedStack.{TypedStack}
+use Rattle.offences.specs.PartSets.{no_tile, tile_at}
+use Rattle.offences.specs.SetTiles.{tile_part}
+use Rattle.offences.specs.TypedStacks.{AreTypedStacks, HasMembers, IsTypedStack, kind_in, on_plane}
+use Rattle.offences.proofs.KindLaws.{kind_in-listed, kind_is_listed}
+use Rattle.offences.proofs.StackLaws.{In-tile_at}
+use Rattle.offences.proofs.TileLaws.{part_bit, part_kept}
+use Rattle.offences.proofs.UnionLaws.{no_part, same_sets}
+use Rattle.hierarchy_model.proofs.KindLaws.{material_set}
+use Rattle.cell_library.specs.declared.part_tiles.PartTile.{PartTile}
+use Rattle.cell_library.specs.PartTiles.{set_of_tiles}
+use Rattle.hier_merge.specs.MeetingPieces.{CoversPiece, HasCoveringTiles, IsPartTile}
+use Rattle.hier_merge.specs.PlanePieces.{AreByPlane, tiles_before}
+use Rattle.hier_merge.specs.Visits.{AreOfParts, tiles_on}
+use Rattle.hier_merge.proofs.MeetingBoxes.{parts_of_tiles}
+use Rattle.hier_merge.proofs.NumberedParts.{stands_made}
+use Rattle.hier_merge.proofs.PlaneTiles.{set_on_plane}
+use Rattle.hier_merge.proofs.SortedTiles.{In-slice_get, tile_on_plane}
+
+-- ---- types of tiles
+
+mutual
+  -- each own layout of a typed tree has types of the technology
+  standing_typed : (raw : RawTech) (tree : CellTree) → IsTyped raw tree → (standing : Standing) → In standing (standings tree)
+      → HasTypesOf raw standing.own.layout
+  standing_typed raw (cell_tree own uses) typed standing (inl same) =
+      subst (λ (s : Standing). HasTypesOf raw s.own.layout) same typed.0
+  standing_typed raw (cell_tree own uses) typed standing (inr below) = standings_typed raw uses typed.1 1 standing below
+
+  standings_typed : (raw : RawTech) (elements : Elements) → AreTyped raw elements → (part : ℕ) (standing : Standing)
+      → In standing (standings_from part elements) → HasTypesOf raw standing.own.layout
+  standings_typed raw no_elements typed part standing among = absurd among
+  standings_typed raw (element_and placed tree rest) typed part standing among =
+      elim (In-append_cases standing (map (under part placed) (standings tree)) (standings_from (suc part) rest) among) [
+        | inl first ↦
+            let source = In-map_source (under part placed) standing (standings tree) first in
+            subst (λ (s : Standing). HasTypesOf raw s.own.layout) source.1.1 (standing_typed raw tree typed.0 source.0 source.1.0)
+        | inr later ↦ standings_typed raw rest typed.1 (suc part) standing later
+      ]
+
+-- The type of a part tile is the technology's and of its plane, so its set is not empty.
+pub record HasTileType (raw : RawTech) (tile : PartTile) : Type 0 where
+  pub is : plane_of raw tile.kind.0 ≡ tile.plane
+  pub plane : tile.plane < length raw.planes
+  pub some : parts_of raw tile.kind.0 ≢ 0
+
+pub tile_type : (raw : RawTech) (tree : CellTree) → IsWellFormed raw → IsTyped raw tree → (tile : PartTile) → IsPartTile tree tile → HasTileType raw tile
+tile_type raw tree formed typed tile part =
+    let is = part.1 in
+    let own = is.standing.own.layout in
+    let Kind : Square → Type 0 = λ square. own (record { plane = tile.plane; square = square }) ≡ tile.kind.0 in
+    let corner = corner_of is.strip in
+    let covers = corner_covers is.strip corner (strip_is_proper Kind is.strip is.is_strip) refl refl in
+    let here : Kind corner = strip_within Kind is.strip is.is_strip corner.x corner.y covers in
+    let place : Place = record { plane = tile.plane; square = corner } in
+    let type = standing_typed raw tree typed is.standing (In-slice_get (standings tree) tile.element is.standing is.there) place
+    (λ space. is.material (sym here ∙ space)) in
+    let known : is_type raw tile.kind.0 ≡ is_type raw (own place) = ap (is_type raw) (sym here) in
+    let same : plane_of raw tile.kind.0 ≡ tile.plane = ap (plane_of raw) (sym here) ∙ type.1 in
+    record {
+      is = same;
+      plane = subst (λ (p : ℕ). p < length raw.planes) same (formed.type_planes tile.kind.0 (known ∙ type.0));
+      some = set_not_empty raw tile.kind.0 formed (known ∙ type.0);
+    }
+
+-- ---- what a tile makes of its part
+
+module _ (raw : RawTech) (tiles : List PartTile) (plane : ℕ) where
+  abbrev here : List SetTile
+  here = tiles_on raw plane tiles
+
+  -- where a tile with a set covers a place its part has something
+  tile_makes : (place : ℕ) (square : Square) → place < length here → Covers (tile_at here place).area square → (tile_at here place).set.0 ≢ 0
+      → tile_part here plane (tile_at here place).part (on_plane plane square) ≢ 0
+  tile_makes place square below covers some empty =
+      let tile = tile_at here place in
+      some (same_sets tile.set.0 0
+      (λ i bit. subst (λ (s : ℕ). bit_at s i ≡ 1) empty (part_kept here plane tile.part (on_plane plane square) i (record {
+        tile = tile;
+        listed = In-tile_at here place below;
+        of_part = refl;
+        same_plane = refl;
+        covers = covers;
+        bit = bit;
+      })))
+      (λ i bit. absurd (no_part i bit)))
+
+  -- where a part has something one of some tiles covers the place, if all that cover it are among these
+  tile_there : (members : List ℕ) (part : ℕ) (square : Square)
+      → ((place : ℕ) → place < length here → Covers (tile_at here place).area square → In place members)
+      → tile_part here plane part (on_plane plane square) ≢ 0 → (member : ℕ) × In member members × ((tile_at here member).part ≡ part)
+  tile_there members part square all some = elim (search members) [
+    | inl found ↦ found
+    | inr none ↦ absurd (some (same_sets (tile_part here plane part (on_plane plane square)) 0
+        (λ i bit.
+        let has = part_bit here plane part (on_plane plane square) i bit in
+        let at = In-index has.tile here has.listed in
+        let is : tile_at here at.0 ≡ has.tile = at.1.1 no_tile in
+        absurd (none at.0 (all at.0 at.1.0 (subst (λ (t : SetTile). Covers t.area square) (sym is) has.covers))
+        (ap (λ (t : SetTile). t.part) is ∙ has.of_part)))
+        (λ i bit. absurd (no_part i bit))))
+  ]
+    where
+      search : (list : List ℕ) → ((member : ℕ) × In member list × ((tile_at here member).part ≡ part))
+          ⊎ ((member : ℕ) → In member list → (tile_at here member).part ≡ part → ⊥)
+      search [] = inr (λ member among is. among)
+      search (member ∷ list) = elim (cases_eq (tile_at here member).part part) [
+        | inl same ↦ inl (member, inl refl, same)
+        | inr differ ↦ elim (search list) [
+          | inl found ↦ inl (found.0, inr found.1, found.2)
+          | inr none ↦ inr (λ other among is. elim among [
+            | inl first ↦ differ (ap (λ (m : ℕ). (tile_at here m).part) first ∙ is)
+            | inr later ↦ none other later is
+          ])
+        ]
+      ]
+
+-- ---- pieces and the tiles that cover them
+
+module _ (raw : RawTech) (tree : CellTree) (formed : IsWellFormed raw) (typed : IsTyped raw tree) (tiles : List PartTile) (sorted : AreByPlane tiles)
+    (are : All (IsPartTile tree) tiles) (count : ℕ) (of_parts : AreOfParts count tiles) (plane : ℕ) where
+  module _ (piece : TypedStack) (is : IsTypedStack raw (parts_of_tiles raw tiles count) plane piece) (members : HasMembers (tiles_on raw plane tiles) piece)
+      (starts : List ℕ) (start : slice_index starts plane ≡ tiles_before tiles plane) where
+    abbrev corner : Square
+    corner = corner_of piece.area
+
+    corner_in : Covers piece.area corner
+    corner_in = corner_covers piece.area corner is.proper refl refl
+
+    kind_there : (part : ℕ) → part < count → joined raw plane (set_of_tiles raw tiles part (on_plane plane corner)) ≡ Some (kind_in piece.kinds part)
+    kind_there part below = is.kinds corner corner_in part (set_of_tiles raw tiles part) (stands_made (set_of_tiles raw tiles) count part below)
+
+    -- a member covers the piece, and its part has material there
+    covering : (member : ℕ) → In member piece.members → CoversPiece tiles starts (record { plane = plane; stack = piece }) member
+    covering member among =
+        let below = members.within member among in
+        let on = tile_on_plane raw tiles plane member sorted below in
+        let tile = on.tile in
+        let number = tiles_before tiles plane + member in
+        let listed : In tile tiles = In-slice_get tiles number tile on.there in
+        let type = tile_type raw tree formed typed tile (All_In (IsPartTile tree) tiles tile are listed) in
+        let part_below : tile.part < count = (All_In (λ (t : PartTile). (t.part < count) × IsNear t.area) tiles tile of_parts listed).0 in
+        let some : tile_part (tiles_on raw plane tiles) plane tile.part (on_plane plane corner) ≢ 0 =
+        λ empty. tile_makes raw tiles plane member corner below (members.cover member among corner corner_in)
+        (λ none. type.some (sym (ap (λ (t : SetTile). t.set.0) on.is) ∙ none))
+        (ap (λ (t : SetTile). tile_part (tiles_on raw plane tiles) plane t.part (on_plane plane corner)) on.is ∙ empty) in
+        let kind : kind_in piece.kinds tile.part ≢ 0 =
+        λ space. some (set_on_plane raw plane tiles tile.part (on_plane plane corner) refl
+        ∙ sym (joined-found raw plane (set_of_tiles raw tiles tile.part (on_plane plane corner)) 0 (kind_there tile.part part_below ∙ ap Some space)).0) in
+        let entry = kind_is_listed piece.kinds tile.part kind in
+        record {
+          tile = tile;
+          there = ap (λ (s : ℕ). slice_get tiles (s + member)) start ∙ on.there;
+          plane = on.on;
+          covers = λ square inside. subst (λ (t : SetTile). Covers t.area square) on.is (members.cover member among square inside);
+          entry = entry.entry;
+          listed = entry.listed;
+          part = entry.is;
+        }
+
+    pub covering_tiles : HasCoveringTiles tiles starts (record { plane = plane; stack = piece })
+    unfolding covering
+    covering_tiles = record {
+      some = members.some;
+      each = covering;
+      every = λ entry listed.
+          let part_below : entry.part < count = omega (arith, is.within entry listed, length-map-range_with_len (set_of_tiles raw tiles) 0 count) in
+          let kind : kind_in piece.kinds entry.part ≡ entry.kind.0 = kind_in-listed piece.kinds is.ordered entry listed in
+          let some : tile_part (tiles_on raw plane tiles) plane entry.part (on_plane plane corner) ≢ 0 =
+          λ empty. material_set raw plane (set_of_tiles raw tiles entry.part (on_plane plane corner)) (kind_in piece.kinds entry.part)
+          (kind_there entry.part part_below) (λ space. is.material entry listed (sym kind ∙ space))
+          (sym (set_on_plane raw plane tiles entry.part (on_plane plane corner) refl) ∙ empty) in
+          let found = tile_there raw tiles plane piece.members entry.part corner
+          (λ place below covers. members.all place corner below corner_in covers) some in
+          let covers = covering found.0 found.1 in
+          let on = tile_on_plane raw tiles plane found.0 sorted (members.within found.0 found.1) in
+          (found.0, found.1, covers, ap (λ (t : SetTile). t.part) (sym on.is) ∙ found.2);
+    }
+
+  -- a tile of the plane is a member of some piece of it
+  pub tile_is_member : (found : List TypedStack) → AreTypedStacks raw (parts_of_tiles raw tiles count) plane found
+      → All (HasMembers (tiles_on raw plane tiles)) found → (place : ℕ) → place < length (tiles_on raw plane tiles)
+      → (piece : TypedStack) × In piece found × In place piece.members
+  tile_is_member found pieces members place below =
+      let on = tile_on_plane raw tiles plane place sorted below in
+      let tile = on.tile in
+      let number = tiles_before tiles plane + place in
+      let listed : In tile tiles = In-slice_get tiles number tile on.there in
+      let part = All_In (IsPartTile tree) tiles tile are listed in
+      let type = tile_type raw tree formed typed tile part in
+      let part_below : tile.part < count = (All_In (λ (t : PartTile). (t.part < count) × IsNear t.area) tiles tile of_parts listed).0 in
+      let square = corner_of tile.area in
+      let covers : Covers (tile_at (tiles_on raw plane tiles) place).area square =
+      subst (λ (t : SetTile). Covers t.area square) (sym on.is) (corner_covers tile.area square part.1.meets refl refl) in
+      let some : tile_part (tiles_on raw plane tiles) plane tile.part (on_plane plane square) ≢ 0 =
+      λ empty. tile_makes raw tiles plane place square below covers (λ none. type.some (sym (ap (λ (t : SetTile). t.set.0) on.is) ∙ none))
+      (ap (λ (t : SetTile). tile_part (tiles_on raw plane tiles) plane t.part (on_plane plane square)) on.is ∙ empty) in
+      elim (piece_or_none found square) [
+        | inl there ↦
+            let has = All_In (HasMembers (tiles_on raw plane tiles)) found there.0 members there.1 in
+            (there.0, there.1, has.all place square below there.2 covers)
+        | inr none ↦
+            absurd (some (set_on_plane raw plane tiles tile.part (on_plane plane square) refl
+            ∙ pieces.outside square none tile.part (set_of_tiles raw tiles tile.part) (stands_made (set_of_tiles raw tiles) count tile.part part_below)))
+      ]
+    where
+      piece_or_none : (list : List TypedStack) (square : Square) → ((piece : TypedStack) × In piece list × Covers piece.area square)
+          ⊎ ((piece : TypedStack) → In piece list → Covers piece.area square → ⊥)
+      piece_or_none [] square = inr (λ piece among covers. among)
+      piece_or_none (piece ∷ list) square = elim (cases_Bool (is_covered piece.area square)) [
+        | inl covered ↦ inl (piece, inl refl, Covers-is_covered piece.area square covered)
+        | inr not_covered ↦ elim (piece_or_none list square) [
+          | inl later ↦ inl (later.0, inr later.1, later.2)
+          | inr none ↦ inr (λ other among covers. elim among [
+            | inl same ↦ false≢true (sym not_covered ∙ ap (λ (p : TypedStack). is_covered p.area square) same ∙ is_covered-Covers other.area square covers)
+            | inr further ↦ none other further covers
+          ])
+        ]
+      ]

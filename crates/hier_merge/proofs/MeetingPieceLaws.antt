@@ -1,0 +1,193 @@
+-- The pieces of all planes are those at which the parts of the cell meet, and tiles cover them.
+use Rattle.std.proofs.Common.{◌≡◌, ◌≤◌, ◌<◌, ◌+◌, ℕ, zero, suc, List, [], ◌∷◌, map, inl, inr, refl, sym, ap, subst, ◌∙◌, arith}
+use Rattle.std.specs.Prelude.{Some, slice_get, slice_index, AllPairs}
+use Rattle.std.proofs.lemmas.Bool.{cases_eq, cases_lt}
+use Rattle.finite_sets.specs.Lists.{In}
+use Rattle.finite_sets.proofs.Members.{In-append_cases, In-append_left, In-append_right, In-map, In-map_source}
+use Rattle.finite_sets.proofs.Pairs.{AllPairs-from_Pairwise, Pairwise, Pairwise-append, Pairwise-from_AllPairs}
+use Rattle.geo_core.specs.declared.squares.Rect.{Rect}
+use Rattle.geo_core.specs.Areas.{AreDisjoint}
+use Rattle.tech_model.specs.declared.raw.RawTech.{RawTech}
+use Rattle.layout_model.specs.Places.{Place}
+use Rattle.offences.specs.declared.plane_stacks.PlaneStack.{PlaneStack}
+use Rattle.offences.specs.declared.stacks.TypedStack.{TypedStack}
+use Rattle.offences.specs.Offences.{HaveTypes, OffendsOn, SetLayout}
+use Rattle.offences.specs.PlaneStacks.{ArePlaneStacks}
+use Rattle.offences.specs.SetTiles.{tile_parts}
+use Rattle.offences.specs.TypedStacks.{AreTypedStacks, typed_stack_areas}
+use Rattle.cell_library.specs.declared.part_tiles.PartTile.{PartTile}
+use Rattle.hier_merge.specs.PlanePieces.{ArePiecesFrom, HasPlanePieces, plane_stack, tiles_before}
+use Rattle.hier_merge.specs.StripLists.{AreStripsFrom}
+use Rattle.hier_merge.specs.Visits.{AreOfParts, tiles_on}
+use Rattle.hier_merge.proofs.MeetingBoxes.{parts_of_tiles}
+use Rattle.hier_merge.proofs.PlanePieceLaws.{pieces_of_all}
+use Rattle.hier_merge.proofs.PlaneTiles.{parts_on_plane}
+
+-- ---- from planes to all
+
+module _ (raw : RawTech) (tiles : List PartTile) (count : ℕ) (of_parts : AreOfParts count tiles)
+    (types : (plane : ℕ) → HaveTypes raw (tile_parts (tiles_on raw plane tiles) plane count)) where
+  abbrev pub all_parts : List SetLayout
+  all_parts = parts_of_tiles raw tiles count
+
+  -- the pieces of a plane are pieces of all parts
+  pub plane_pieces : (plane : ℕ) (found : List TypedStack) (strips : List Rect) → HasPlanePieces raw tiles plane found strips
+      → AreTypedStacks raw all_parts plane found
+  plane_pieces plane found strips has =
+      pieces_of_all raw tiles count plane found (has.stand count (parts_on_plane raw plane count tiles of_parts) (types plane))
+
+  -- the strips of all planes are those of what offends of all parts
+  pub strips_of_pieces : (plane n : ℕ) (starts : List ℕ) (stacks : List PlaneStack) (offending : List (ℕ × Rect))
+      → ArePiecesFrom raw tiles plane n starts stacks offending → AreStripsFrom (OffendsOn raw all_parts) plane n offending
+  strips_of_pieces plane zero starts stacks offending are = are.2
+  strips_of_pieces plane (suc n) starts stacks offending (found, strips, later, others, more, has, starts_are, stacks_are, strips_are, rest) =
+      (strips, more, strips_are, has.strips_are all_parts (plane_pieces plane found strips has), strips_of_pieces (suc plane) n later others more rest)
+
+  -- A piece that is found is of one of the planes, among the pieces of it.
+  pub record IsOfPlane (plane n : ℕ) (starts : List ℕ) (piece : PlaneStack) : Type 0 where
+    pub from : plane ≤ piece.plane
+    pub below : piece.plane < plane + n
+    pub found : List TypedStack
+    pub strips : List Rect
+    pub has : HasPlanePieces raw tiles piece.plane found strips
+    pub listed : In piece.stack found
+    pub start : (offset : ℕ) → piece.plane ≡ plane + offset → slice_index starts offset ≡ tiles_before tiles piece.plane
+
+  pub piece_of_plane : (plane n : ℕ) (starts : List ℕ) (stacks : List PlaneStack) (offending : List (ℕ × Rect))
+      → ArePiecesFrom raw tiles plane n starts stacks offending → (piece : PlaneStack) → In piece stacks → IsOfPlane plane n starts piece
+  piece_of_plane plane zero starts stacks offending are piece among = absurd (subst (λ (all : List PlaneStack). In piece all) are.1 among)
+  piece_of_plane plane (suc n) starts stacks offending (found, strips, later, others, more, has, starts_are, stacks_are, strips_are, rest) piece among =
+      elim (In-append_cases piece (map (plane_stack plane) found) others (subst (λ (all : List PlaneStack). In piece all) stacks_are among)) [
+        | inl first ↦
+            let source = In-map_source (plane_stack plane) piece found first in
+            let same : plane ≡ piece.plane = ap (λ (p : PlaneStack). p.plane) source.1.1 in
+            record {
+              from = omega (arith, same);
+              below = omega (arith, same);
+              found = found;
+              strips = strips;
+              has = subst (λ (q : ℕ). HasPlanePieces raw tiles q found strips) same has;
+              listed = subst (λ (s : TypedStack). In s found) (ap (λ (p : PlaneStack). p.stack) source.1.1) source.1.0;
+              start = λ offset at.
+                  let none : offset ≡ 0 = omega (arith, same, at) in
+                  ap (λ (k : ℕ). slice_index starts k) none ∙ ap (λ (all : List ℕ). slice_index all 0) starts_are ∙ ap (tiles_before tiles) same;
+            }
+        | inr second ↦
+            let of = piece_of_plane (suc plane) n later others more rest piece second in
+            record {
+              from = omega (arith, of.from);
+              below = omega (arith, of.below);
+              found = of.found;
+              strips = of.strips;
+              has = of.has;
+              listed = of.listed;
+              start = λ offset at. next_start plane later starts starts_are piece offset (omega (arith, of.from)) at of.start;
+            }
+      ] where
+        next_start : (p : ℕ) (rest_starts all_starts : List ℕ) → all_starts ≡ tiles_before tiles p ∷ rest_starts → (one : PlaneStack) (offset : ℕ)
+            → p < one.plane → one.plane ≡ p + offset
+            → ((k : ℕ) → one.plane ≡ suc p + k → slice_index rest_starts k ≡ tiles_before tiles one.plane)
+            → slice_index all_starts offset ≡ tiles_before tiles one.plane
+        next_start p rest_starts all_starts is one zero past at known = absurd (omega (arith, past, at))
+        next_start p rest_starts all_starts is one (suc k) past at known =
+            ap (λ (all : List ℕ). slice_index all (suc k)) is ∙ known k (omega (arith, at))
+
+  -- each piece of a plane is found
+  pub plane_is_found : (plane n : ℕ) (starts : List ℕ) (stacks : List PlaneStack) (offending : List (ℕ × Rect))
+      → ArePiecesFrom raw tiles plane n starts stacks offending → (other : ℕ) → plane ≤ other → other < plane + n
+      → (found : List TypedStack) × (strips : List Rect) × HasPlanePieces raw tiles other found strips
+      × ((stack : TypedStack) → In stack found → In (plane_stack other stack) stacks)
+  plane_is_found plane zero starts stacks offending are other from below = absurd (omega (arith, from, below))
+  plane_is_found plane (suc n) starts stacks offending (found, strips, later, others, more, has, starts_are, stacks_are, strips_are, rest) other from below =
+      elim (cases_eq plane other) [
+        | inl same ↦ (
+          found,
+          strips,
+          subst (λ (q : ℕ). HasPlanePieces raw tiles q found strips) same has,
+          λ stack among. subst (λ (all : List PlaneStack). In (plane_stack other stack) all) (sym stacks_are)
+              (In-append_left (plane_stack other stack) (map (plane_stack plane) found) others
+              (subst (λ (q : ℕ). In (plane_stack q stack) (map (plane_stack plane) found)) same (In-map (plane_stack plane) stack found among))),
+        )
+        | inr differ ↦
+            let deeper = plane_is_found (suc plane) n later others more rest other (omega (arith, from, differ)) (omega (arith, below)) in (
+              deeper.0,
+              deeper.1,
+              deeper.2,
+              λ stack among. subst (λ (all : List PlaneStack). In (plane_stack other stack) all) (sym stacks_are)
+                  (In-append_right (plane_stack other stack) (map (plane_stack plane) found) others (deeper.3 stack among)),
+            )
+      ]
+
+  -- ---- in the order of planes, and apart
+
+  of_one_plane : (plane : ℕ) (found : List TypedStack) → AllPairs AreDisjoint (typed_stack_areas found)
+      → Pairwise (λ (a b : PlaneStack). (a.plane ≤ b.plane) × (a.plane ≡ b.plane → AreDisjoint a.stack.area b.stack.area)) (map (plane_stack plane) found)
+  of_one_plane plane found apart = go found (Pairwise-from_AllPairs AreDisjoint (typed_stack_areas found) apart)
+    where
+      go : (list : List TypedStack) → Pairwise AreDisjoint (typed_stack_areas list)
+          → Pairwise (λ (a b : PlaneStack). (a.plane ≤ b.plane) × (a.plane ≡ b.plane → AreDisjoint a.stack.area b.stack.area)) (map (plane_stack plane) list)
+      go [] pairs = tt
+      go (stack ∷ list) pairs = (
+        (λ piece among.
+            let source = In-map_source (plane_stack plane) piece list among in
+            let disjoint : AreDisjoint stack.area source.0.area =
+            pairs.0 source.0.area (In-map (λ (s : TypedStack). s.area) source.0 list source.1.0) in
+            subst (λ (p : PlaneStack). (plane ≤ p.plane) × (plane ≡ p.plane → AreDisjoint stack.area p.stack.area)) source.1.1
+            (omega arith, (λ same. disjoint))),
+        go list pairs.1,
+      )
+
+  in_order : (plane n : ℕ) (starts : List ℕ) (stacks : List PlaneStack) (offending : List (ℕ × Rect))
+      → ArePiecesFrom raw tiles plane n starts stacks offending
+      → Pairwise (λ (a b : PlaneStack). (a.plane ≤ b.plane) × (a.plane ≡ b.plane → AreDisjoint a.stack.area b.stack.area)) stacks
+  in_order plane zero starts stacks offending are =
+      subst (Pairwise (λ (a b : PlaneStack). (a.plane ≤ b.plane) × (a.plane ≡ b.plane → AreDisjoint a.stack.area b.stack.area))) (sym are.1) tt
+  in_order plane (suc n) starts stacks offending (found, strips, later, others, more, has, starts_are, stacks_are, strips_are, rest) =
+      subst (Pairwise (λ (a b : PlaneStack). (a.plane ≤ b.plane) × (a.plane ≡ b.plane → AreDisjoint a.stack.area b.stack.area))) (sym stacks_are)
+      (Pairwise-append (λ (a b : PlaneStack). (a.plane ≤ b.plane) × (a.plane ≡ b.plane → AreDisjoint a.stack.area b.stack.area))
+      (map (plane_stack plane) found) others
+      (of_one_plane plane found (plane_pieces plane found strips has).apart)
+      (in_order (suc plane) n later others more rest)
+      (λ a b first second.
+      let source = In-map_source (plane_stack plane) a found first in
+      let here : plane ≡ a.plane = ap (λ (p : PlaneStack). p.plane) source.1.1 in
+      let there = piece_of_plane (suc plane) n later others more rest b second in
+      (omega (arith, here, there.from), (λ same. absurd (omega (arith, here, there.from, same))))))
+
+  module _ (planes : ℕ) (starts : List ℕ) (stacks : List PlaneStack) (offending : List (ℕ × Rect))
+      (are : ArePiecesFrom raw tiles 0 planes starts stacks offending) where
+    pub by_plane : AllPairs (λ a b. a.plane ≤ b.plane) stacks
+    by_plane = AllPairs-from_Pairwise (λ (a b : PlaneStack). a.plane ≤ b.plane) stacks (first_of stacks (in_order 0 planes starts stacks offending are))
+      where
+        first_of : (list : List PlaneStack)
+            → Pairwise (λ (a b : PlaneStack). (a.plane ≤ b.plane) × (a.plane ≡ b.plane → AreDisjoint a.stack.area b.stack.area)) list
+            → Pairwise (λ (a b : PlaneStack). a.plane ≤ b.plane) list
+        first_of [] pairs = tt
+        first_of (piece ∷ list) pairs = ((λ other among. (pairs.0 other among).0), first_of list pairs.1)
+
+    apart : AllPairs (λ a b. a.plane ≡ b.plane → AreDisjoint a.stack.area b.stack.area) stacks
+    apart = AllPairs-from_Pairwise (λ (a b : PlaneStack). a.plane ≡ b.plane → AreDisjoint a.stack.area b.stack.area) stacks
+        (second_of stacks (in_order 0 planes starts stacks offending are))
+      where
+        second_of : (list : List PlaneStack)
+            → Pairwise (λ (a b : PlaneStack). (a.plane ≤ b.plane) × (a.plane ≡ b.plane → AreDisjoint a.stack.area b.stack.area)) list
+            → Pairwise (λ (a b : PlaneStack). a.plane ≡ b.plane → AreDisjoint a.stack.area b.stack.area) list
+        second_of [] pairs = tt
+        second_of (piece ∷ list) pairs = ((λ other among. (pairs.0 other among).1), second_of list pairs.1)
+
+    -- they are the pieces of all parts, where none of these stands past the planes
+    pub all_pieces : ((place : Place) → planes ≤ place.plane → (position : ℕ) (part : SetLayout) → slice_get all_parts position ≡ Some part → part place ≡ 0)
+        → ArePlaneStacks raw all_parts stacks
+    all_pieces past = record {
+      each = λ piece among.
+          let of = piece_of_plane 0 planes starts stacks offending are piece among in
+          (plane_pieces piece.plane of.found of.strips of.has).each piece.stack of.listed;
+      apart = apart;
+      outside = λ place none position part there. elim (cases_lt place.plane planes) [
+        | inr beyond ↦ past place (omega (arith, beyond)) position part there
+        | inl below ↦
+            let found = plane_is_found 0 planes starts stacks offending are place.plane (omega arith) (omega (arith, below)) in
+            (plane_pieces place.plane found.0 found.1 found.2).outside place.square
+            (λ stack among covers. none (plane_stack place.plane stack) (found.3 stack among) refl covers) position part there
+      ];
+    }

@@ -1,0 +1,140 @@
+-- Pieces that are found plane by plane, and what they are of the parts that all tiles make.
+use Rattle.std.proofs.Common.{◌≡◌, ◌<◌, ◌+◌, ℕ, zero, suc, bit_or, List, [], ◌∷◌, ◌++◌, length, map, refl, sym, ap, subst, ◌∙◌, arith}
+use Rattle.std.specs.Prelude.{Some, slice_get}
+use Rattle.std.specs.List.{range_with_len}
+use Rattle.std.proofs.lemmas.List.{append-nil, append_assoc}
+use Rattle.std.proofs.lemmas.List.FromFn.{length-map-range_with_len}
+use Rattle.std.proofs.lemmas.Option.{slice_get_within}
+use Rattle.geo_core.specs.declared.squares.Rect.{Rect}
+use Rattle.geo_core.specs.declared.squares.Square.{Square}
+use Rattle.tech_model.specs.declared.raw.RawTech.{RawTech}
+use Rattle.tech_model.specs.Types.{joined}
+use Rattle.layout_model.specs.Places.{Place}
+use Rattle.offences.specs.declared.plane_stacks.PlaneStack.{PlaneStack}
+use Rattle.offences.specs.declared.stacks.TypedStack.{TypedStack}
+use Rattle.offences.specs.Offences.{SetLayout, flat_type, union_of}
+use Rattle.offences.specs.SetTiles.{tile_part, tile_parts}
+use Rattle.offences.specs.TypedStacks.{AreTypedStacks, IsTypedStack, on_plane}
+use Rattle.cell_library.specs.declared.part_tiles.PartTile.{PartTile}
+use Rattle.cell_library.specs.PartTiles.{set_of_tiles}
+use Rattle.hier_merge.specs.PlanePieces.{AddsPlane, ArePiecesFrom, HasPlanePieces, plane_stack, tiles_before}
+use Rattle.hier_merge.specs.Visits.{tiles_on}
+use Rattle.hier_merge.specs.declared.meetings.Pieces.{Pieces}
+use Rattle.hier_merge.proofs.MeetingBoxes.{parts_of_tiles}
+use Rattle.hier_merge.proofs.NumberedParts.{made_from, stands_made}
+use Rattle.hier_merge.proofs.PlaneTiles.{set_on_plane}
+
+-- ---- one plane more
+
+pub pieces_more : (raw : RawTech) (tiles : List PartTile) (plane count last start : ℕ) (old new : Pieces) → last ≡ plane + count
+    → start ≡ tiles_before tiles last
+    → ArePiecesFrom raw tiles plane count old.starts.items old.stacks.items old.offending.items → AddsPlane raw tiles last start old new
+    → ArePiecesFrom raw tiles plane (suc count) new.starts.items new.stacks.items new.offending.items
+pieces_more raw tiles plane count last start old new at begins are adds =
+    rw (adds.starts, adds.stacks, adds.offending)
+    (go plane count old.starts.items old.stacks.items old.offending.items at are)
+  where
+    strips_of : List (ℕ × Rect)
+    strips_of = map (λ (area : Rect). (last, area)) adds.strips
+
+    go : (p n : ℕ) (starts : List ℕ) (stacks : List PlaneStack) (offending : List (ℕ × Rect)) → last ≡ p + n
+        → ArePiecesFrom raw tiles p n starts stacks offending
+        → ArePiecesFrom raw tiles p (suc n) (starts ++ start ∷ []) (stacks ++ map (plane_stack last) adds.found) (offending ++ strips_of)
+    go p zero starts stacks offending here (no_starts, no_stacks, no_strips) =
+        let same : last ≡ p = omega (arith, here) in (
+          adds.found,
+          adds.strips,
+          [],
+          [],
+          [],
+          subst (λ (q : ℕ). HasPlanePieces raw tiles q adds.found adds.strips) same adds.has,
+          ap (λ (xs : List ℕ). xs ++ start ∷ []) no_starts ∙ ap (λ (n : ℕ). n ∷ []) (begins ∙ ap (tiles_before tiles) same),
+          ap (λ (xs : List PlaneStack). xs ++ map (plane_stack last) adds.found) no_stacks
+              ∙ ap (λ (q : ℕ). map (plane_stack q) adds.found) same
+              ∙ sym (append-nil (map (plane_stack p) adds.found)),
+          ap (λ (xs : List (ℕ × Rect)). xs ++ strips_of) no_strips
+              ∙ ap (λ (q : ℕ). map (λ (area : Rect). (q, area)) adds.strips) same
+              ∙ sym (append-nil (map (λ (area : Rect). (p, area)) adds.strips)),
+          (refl, refl, refl),
+        )
+    go p (suc n) starts stacks offending here (found, strips, later, others, more, has, starts_are, stacks_are, strips_are, rest) = (
+      found,
+      strips,
+      later ++ start ∷ [],
+      others ++ map (plane_stack last) adds.found,
+      more ++ strips_of,
+      has,
+      ap (λ (xs : List ℕ). xs ++ start ∷ []) starts_are,
+      ap (λ (xs : List PlaneStack). xs ++ map (plane_stack last) adds.found) stacks_are
+          ∙ append_assoc (map (plane_stack p) found) others (map (plane_stack last) adds.found),
+      ap (λ (xs : List (ℕ × Rect)). xs ++ strips_of) strips_are
+          ∙ append_assoc (map (λ (area : Rect). (p, area)) strips) more strips_of,
+      go (suc p) n later others more (omega (arith, here)) rest,
+    )
+
+-- ---- what all tiles make
+
+-- lists of parts that are alike at a place have one union there
+union_made : (make other : ℕ → SetLayout) (positions : List ℕ) (place : Place) → ((k : ℕ) → make k place ≡ other k place)
+    → union_of (map make positions) place ≡ union_of (map other positions) place
+union_made make other [] place same = refl
+union_made make other (k ∷ positions) place same =
+    ap (λ (set : ℕ). bit_or set (union_of (map make positions) place)) (same k)
+    ∙ ap (bit_or (other k place)) (union_made make other positions place same)
+
+module _ (raw : RawTech) (tiles : List PartTile) (count plane : ℕ) where
+  abbrev pub here : List SetLayout
+  here = tile_parts (tiles_on raw plane tiles) plane count
+
+  abbrev pub all : List SetLayout
+  all = parts_of_tiles raw tiles count
+
+  flat_same : (square : Square) → flat_type raw all (on_plane plane square) ≡ flat_type raw here (on_plane plane square)
+  flat_same square =
+      ap (joined raw plane) (sym (union_made (tile_part (tiles_on raw plane tiles) plane) (set_of_tiles raw tiles) (range_with_len 0 count)
+      (on_plane plane square) (λ part. set_on_plane raw plane tiles part (on_plane plane square) refl)))
+
+  part_same : (position : ℕ) (part other : SetLayout) → slice_get all position ≡ Some part → slice_get here position ≡ Some other → (square : Square)
+      → part (on_plane plane square) ≡ other (on_plane plane square)
+  part_same position part other there also square =
+      ap (λ (p : SetLayout). p (on_plane plane square)) (sym (made_from (set_of_tiles raw tiles) count position part there))
+      ∙ sym (set_on_plane raw plane tiles position (on_plane plane square) refl)
+      ∙ ap (λ (p : SetLayout). p (on_plane plane square)) (made_from (tile_part (tiles_on raw plane tiles) plane) count position other also)
+
+  long : length here ≡ length all
+  long =
+      length-map-range_with_len (tile_part (tiles_on raw plane tiles) plane) 0 count
+      ∙ sym (length-map-range_with_len (set_of_tiles raw tiles) 0 count)
+
+  counterpart : (position : ℕ) (part : SetLayout) → slice_get all position ≡ Some part → (other : SetLayout) × (slice_get here position ≡ Some other)
+  counterpart position part there =
+      let below : position < length all = slice_get_within all position part there in (
+        tile_part (tiles_on raw plane tiles) plane position,
+        stands_made (tile_part (tiles_on raw plane tiles) plane) count position
+            (omega (arith, below, length-map-range_with_len (set_of_tiles raw tiles) 0 count)),
+      )
+
+  -- a piece of the plane's parts is one of all parts
+  piece_of_all : (piece : TypedStack) → IsTypedStack raw here plane piece → IsTypedStack raw all plane piece
+  piece_of_all piece is = record {
+    proper = is.proper;
+    near = is.near;
+    ordered = is.ordered;
+    within = λ entry listed. omega (arith, is.within entry listed, long);
+    material = is.material;
+    flat = λ square covers. flat_same square ∙ is.flat square covers;
+    kinds = λ square covers position part there.
+        let other = counterpart position part there in
+        ap (joined raw plane) (part_same position part other.0 there other.1 square) ∙ is.kinds square covers position other.0 other.1;
+    owner = is.owner;
+  }
+
+  -- and so are all pieces of the plane
+  pub pieces_of_all : (found : List TypedStack) → AreTypedStacks raw here plane found → AreTypedStacks raw all plane found
+  pieces_of_all found are = record {
+    each = λ piece listed. piece_of_all piece (are.each piece listed);
+    apart = are.apart;
+    outside = λ square none position part there.
+        let other = counterpart position part there in
+        part_same position part other.0 there other.1 square ∙ are.outside square none position other.0 other.1;
+  }
