@@ -1,0 +1,2 @@
+pub mod NamedRecords
+pub mod RecordedTrees

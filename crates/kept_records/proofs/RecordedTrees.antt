@@ -1,0 +1,174 @@
+-- The records of the tree of a cell, from the records that are kept of cells.
+use Rattle.std.proofs.Common.{◌≡◌, ◌<◌, ◌≤◌, ℕ, zero, suc, List, [], ◌∷◌, length, map, get_or, inl, inr, refl, sym, ap, subst, ◌∙◌, arith}
+use Rattle.std.specs.Prelude.{Some, slice_get}
+use Rattle.std.proofs.lemmas.Bool.{cases_lt, cases_eq}
+use Rattle.std.proofs.lemmas.Option.{same_Some}
+use Rattle.std.proofs.lemmas.List.{get_or-map, length-map}
+use Rattle.finite_sets.specs.Chain.Chain.{stay, go}
+use Rattle.finite_sets.specs.Lists.{In}
+use Rattle.finite_sets.proofs.Distincts.{Distinct-places}
+use Rattle.geo_core.specs.declared.transforms.Transform.{Transform}
+use Rattle.tech_model.specs.declared.raw.RawTech.{RawTech}
+use Rattle.ext_model.specs.declared.records.CellExt.{CellExt}
+use Rattle.circuit_model.specs.Elements.{ext_of}
+use Rattle.cell_tree.specs.declared.use_tables.UseBody.{UseBody}
+use Rattle.cell_tree.specs.Sizes.{CellState, size_at}
+use Rattle.cell_tree.specs.Trees.{cell_at}
+use Rattle.cell_tree.specs.Uses.{HasChild}
+use Rattle.cell_tree.specs.declared.sizes.Size.{Size}
+use Rattle.cell_tree.proofs.SizeLaws.{child_is_lower}
+use Rattle.cell_library.specs.Contents.{Held}
+use Rattle.cell_library.specs.Libraries.{LibraryParts, IsLawfulLibrary, cells_seen, seen, uses_in}
+use Rattle.cell_library.specs.Views.{no_cell, view_at}
+use Rattle.cell_library.proofs.LayoutTreeLaws.{children_are_cells, uses_seen}
+use Rattle.cell_library.proofs.ViewLaws.{length-cell_views, names_seen}
+use Rattle.named_trees.specs.NamedTrees.{NamedTree, NamedElements, named_elements_in, own_body}
+use Rattle.tree_records.specs.TreeRecords.{HasTreeRecord, HasTreeRecords, HaveTreeRecords}
+use Rattle.library_trees.specs.ElementNames.{UseElement, use_elements}
+use Rattle.library_trees.specs.NamedCells.{IsAtOrBelow, named_elements_at, named_elements_from, named_tree_at}
+use Rattle.library_trees.proofs.EditedTrees.{below_is_cell}
+use Rattle.library_trees.proofs.WholeTrees.{UsesWithIds, depth_is, named_tree_unfolds, state_is}
+use Rattle.kept_records.specs.KeptRecords.{KeptRecords, HasKeptRecord}
+use Rattle.kept_records.specs.Laws.{KeptRecordsAreOfTheTree, ListedRecordsAreOfTheTree}
+use Rattle.kept_records.proofs.NamedRecords.{IsKeptAt, found_under, kept_there, listed_there, records_to}
+
+-- elements of one child have records where the child and the others have
+have_at : (raw : RawTech) (exts : List CellExt) (tree : NamedTree) (placed : Transform) (elements : List UseElement) (rest : NamedElements)
+    → HasTreeRecords raw exts tree → HaveTreeRecords raw exts rest → HaveTreeRecords raw exts (named_elements_at tree placed elements rest)
+have_at raw exts tree placed [] rest has have = have
+have_at raw exts tree placed (element ∷ elements) rest has have = (has, have_at raw exts tree placed elements rest has have)
+
+-- and the elements of uses where all children have
+have_from : (raw : RawTech) (exts : List CellExt) (trees : ℕ → NamedTree) (uses : UsesWithIds)
+    → ((k : ℕ) (entry : List ℕ × UseBody) → slice_get uses k ≡ Some entry → HasTreeRecords raw exts (trees entry.1.child.0))
+    → HaveTreeRecords raw exts (named_elements_from trees uses)
+have_from raw exts trees [] each = tt
+have_from raw exts trees (entry ∷ rest) each =
+    have_at raw exts (trees entry.1.child.0) entry.1.placed (use_elements entry.0 entry.1.grid) (named_elements_from trees rest)
+    (each 0 entry refl) (have_from raw exts trees rest (λ k e is. each (suc k) e is))
+
+module _ (library : LibraryParts) (lawful : IsLawfulLibrary library) where
+  -- the name of the cell at a position
+  abbrev pub name_at : ℕ → List ℕ
+  name_at cell = (view_at (seen library) cell).name
+
+  abbrev count : ℕ
+  count = length library.contents
+
+  -- it is the name in the list of names
+  name_is : (cell : ℕ) → cell < count → get_or (map (λ (held : Held). held.name) library.contents) cell [] ≡ name_at cell
+  name_is cell below =
+      let views = cells_seen library.contents library.tree in
+      ap (λ (names : List (List ℕ)). get_or names cell []) (sym (names_seen library.contents (uses_in library.tree.cells)))
+      ∙ get_or-map (λ view. view.name) views cell no_cell [] (omega (arith, below, length-cell_views library.contents (uses_in library.tree.cells)))
+
+  -- names tell positions
+  names_tell : (a b : ℕ) → a < count → b < count → name_at a ≡ name_at b → a ≡ b
+  names_tell a b a_below b_below same = elim (cases_eq a b) [
+    | inl one ↦ one
+    | inr apart ↦ elim (cases_lt a b) [
+      | inl before ↦ absurd (differ a b before b_below (name_is a a_below ∙ same ∙ sym (name_is b b_below)))
+      | inr behind ↦ absurd (differ b a (omega (arith, apart, behind)) a_below (name_is b b_below ∙ sym same ∙ sym (name_is a a_below)))
+    ]
+  ]
+    where
+      names : List (List ℕ)
+      names = map (λ (held : Held). held.name) library.contents
+
+      differ : (i j : ℕ) → i < j → j < count → get_or names i [] ≡ get_or names j [] → ⊥
+      differ i j before within =
+          Distinct-places names i j [] lawful.names_differ before (omega (arith, within, length-map library.contents (λ (held : Held). held.name)))
+
+  -- what stands at the top of a cell's tree is the cell
+  own_is : (cell : ℕ) → cell < count → (own_body (named_tree_at (seen library) cell)).name ≡ name_at cell
+  own_is cell below = ap (λ (tree : NamedTree). (own_body tree).name) (named_tree_unfolds library lawful cell below)
+
+  -- a child is less deep
+  child_is_less_deep : (cell : ℕ) → cell < count → (k : ℕ) (entry : List ℕ × UseBody) → slice_get (view_at (seen library) cell).uses k ≡ Some entry
+      → (size_at library.tree.sizes entry.1.child.0).depth < (size_at library.tree.sizes cell).depth
+  child_is_less_deep cell below k entry is =
+      let state : CellState = cell_at library.tree.cells cell in
+      let there : slice_get state.uses k ≡ Some entry =
+      sym (ap (λ (uses : UsesWithIds). slice_get uses k) (uses_seen library lawful cell below)) ∙ is in
+      let size = ap (λ (s : Size). s.depth) (lawful.tree.sizes.right cell state (state_is library lawful cell below)) in
+      omega (arith, size, child_is_lower (size_at library.tree.sizes) state k entry there)
+
+  module _ (kept : KeptRecords) (exts : List CellExt) (of : (ext : CellExt) → In ext exts → IsKeptAt name_at kept count ext) where
+    -- the kept record of a cell, which is among the records, is found under its name
+    has_record : (cell : ℕ) → cell < count → (has : HasKeptRecord (seen library) kept cell) → In has.ext exts
+        → HasTreeRecord library.tech exts (named_tree_at (seen library) cell)
+    has_record cell below has listed = record {
+      ext = has.ext;
+      found = ap (λ (name : List ℕ). ext_of exts name) (own_is cell below)
+          ∙ found_under exts (name_at cell) has.ext listed (has.is.cell ∙ own_is cell below) one;
+      is = has.is;
+    }
+      where
+        one : (other : CellExt) → In other exts → other.cell ≡ name_at cell → other ≡ has.ext
+        one other among named =
+            let at = of other among in
+            let same : at.position ≡ cell = names_tell at.position cell at.below below (sym at.named ∙ named) in
+            same_Some other has.ext (sym (ap kept (sym same) ∙ at.is) ∙ has.is_kept)
+
+    -- The kept records of all cells at and below the cell are among the records.
+    abbrev AreListedBelow : ℕ → Type 0
+    AreListedBelow cell = (below : ℕ) → IsAtOrBelow (seen library) cell below → (has : HasKeptRecord (seen library) kept below) × In has.ext exts
+
+    -- the records are those of the tree, where they are of all cells at and below the cell
+    pub has_all : (depth cell : ℕ) → cell < count → (size_at library.tree.sizes cell).depth ≤ depth → AreListedBelow cell
+        → HasTreeRecords library.tech exts (named_tree_at (seen library) cell)
+    has_all zero cell below shallow listed = absurd (omega (arith, shallow, depth_is library lawful cell below))
+    has_all (suc depth) cell below shallow listed =
+        let unfolds = named_tree_unfolds library lawful cell below in
+        let here = listed cell stay in
+        let P : NamedTree → Type 0 = λ tree. HasTreeRecords library.tech exts tree in
+        let Q : NamedTree → Type 0 = λ tree. HasTreeRecord library.tech exts tree in
+        subst P (sym unfolds) (
+          subst Q unfolds (has_record cell below here.0 here.1),
+          have_from library.tech exts (named_tree_at (seen library)) (view_at (seen library) cell).uses (λ k entry is.
+              let uses : HasChild (view_at (seen library) cell).uses entry.1.child.0 = record { k = k; entry = entry; stands = is; same = refl } in
+              has_all depth entry.1.child.0 (children_are_cells library lawful cell below k entry is)
+              (omega (arith, shallow, child_is_less_deep cell below k entry is))
+              (λ lower chain. listed lower (go uses chain))),
+        )
+
+  -- ---- the laws
+
+  -- of records that are kept
+  pub kept_are : KeptRecordsAreOfTheTree library
+  kept_are kept cell below have =
+      let exts = records_to name_at kept count in
+      let view = seen library in
+      let P : NamedTree → Type 0 = λ tree. HaveTreeRecords library.tech exts (named_elements_in tree) in (
+        exts,
+        subst P (sym (named_tree_unfolds library lawful cell below))
+            (have_from library.tech exts (named_tree_at view) (view_at view cell).uses (λ k entry is.
+            let child = entry.1.child.0 in
+            let child_below = children_are_cells library lawful cell below k entry is in
+            has_all kept exts (kept_there name_at kept count) (size_at library.tree.sizes child).depth child child_below (omega arith)
+            (λ lower chain. listed child child_below (record { k = k; entry = entry; stands = is; same = refl }) lower chain))),
+      )
+    where
+      listed : (child : ℕ) → child < count → HasChild (view_at (seen library) cell).uses child → (lower : ℕ) → IsAtOrBelow (seen library) child lower
+          → (has : HasKeptRecord (seen library) kept lower) × In has.ext (records_to name_at kept count)
+      listed child child_below uses lower chain =
+          let has = have lower (record { child = child; uses = uses; at_or_below = chain }) in
+          let within = below_is_cell library lawful child lower child_below chain in (
+            has,
+            listed_there name_at kept count has.ext
+                (record { position = lower; below = within; is = has.is_kept; named = has.is.cell ∙ own_is lower within }),
+          )
+
+  -- and of lists of them
+  pub listed_are : ListedRecordsAreOfTheTree library
+  listed_are kept cell exts below listed of =
+      has_all kept exts (λ ext among. at ext (of ext among)) (size_at library.tree.sizes cell).depth cell below (omega arith) listed
+    where
+      at : (ext : CellExt) → ((lower : ℕ) × (lower < count) × (has : HasKeptRecord (seen library) kept lower) × (has.ext ≡ ext))
+          → IsKeptAt name_at kept count ext
+      at ext found = record {
+        position = found.0;
+        below = found.1;
+        is = found.2.is_kept ∙ ap (λ (e : CellExt). Some e) found.3;
+        named = ap (λ (e : CellExt). e.cell) (sym found.3) ∙ found.2.is.cell ∙ own_is found.0 found.1;
+      }

@@ -1,0 +1,2 @@
+pub mod KeptRecords
+pub mod Laws
