@@ -1,0 +1,3 @@
+pub mod MergeFinds
+pub mod GroupFirsts
+pub mod RecordedGroups

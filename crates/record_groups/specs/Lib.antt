@@ -1,0 +1,3 @@
+pub mod MergedMembers
+pub mod MergeTables
+pub mod Laws
