@@ -1,0 +1,2 @@
+pub mod StandingTypes
+pub mod WholeTiles
