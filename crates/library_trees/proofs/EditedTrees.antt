@@ -58,7 +58,7 @@ edits_keep view cell other apart = record {
 -- ---- a new cell
 
 -- what stands at or below a cell of a lawful library is a cell of it
-below_is_cell : (library : LibraryParts) → IsLawfulLibrary library → (cell below : ℕ) → cell < length library.contents
+pub below_is_cell : (library : LibraryParts) → IsLawfulLibrary library → (cell below : ℕ) → cell < length library.contents
     → IsAtOrBelow (seen library) cell below → below < length library.contents
 below_is_cell library lawful cell below there chain =
     Chain-carries (λ c. c < length library.contents) (λ upper lower (child : HasChild (view_at (seen library) upper).uses lower) known.

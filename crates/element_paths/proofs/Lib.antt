@@ -1,0 +1,4 @@
+pub mod ElementLaws
+pub mod UseLaws
+pub mod StartLaws
+pub mod DescentLaws

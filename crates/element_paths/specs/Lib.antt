@@ -1,0 +1,2 @@
+pub mod ElementPaths
+pub mod UseStarts
