@@ -1,0 +1,13 @@
+pub mod ListPlaces
+pub mod NewNames
+pub mod StandingCells
+pub mod TileCorners
+pub mod NodesFound
+pub mod LabelLaws
+pub mod OpenedLaws
+pub mod ChildCells
+pub mod Climbs
+pub mod GroupPaths
+pub mod KnownLaws
+pub mod FoundTiles
+pub mod FinderLaws

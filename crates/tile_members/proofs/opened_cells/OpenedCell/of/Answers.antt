@@ -1,0 +1,14 @@
+use Rattle.std.proofs.Common.{List, sym, subst}
+use Rattle.std.specs.Prelude.{All}
+use Rattle.tech_model.specs.declared.raw.Label.{Label}
+use Rattle.tech_model.specs.declared.raw.RawTech.{RawTech}
+use Rattle.names.specs.Labels.{IsLabelOf}
+use Rattle.tile_members.proofs.LabelLaws.{labels_may_name}
+use Rattle.tile_members.proofs.opened_cells.OpenedCell.of.Goals as goal
+
+pub cell_regions-requires-clause-labels : goal.cell_regions-requires-clause-labels
+cell_regions-requires-clause-labels g c =
+    let library = c.args.library.now in
+    subst (λ (raw : RawTech). All (IsLabelOf raw) c.labels_of.result.now) (sym c.tech.ensures)
+    (subst (λ (labels : List Label). All (IsLabelOf library.tech) labels) (sym c.labels_of.ensures)
+    (labels_may_name library c.args.cell.0 c.lawful.ensures c.requires))

@@ -1,0 +1,8 @@
+use Rattle.std.proofs.Common.{sym, subst}
+use Rattle.geo_core.specs.Reach.{MovesInReach}
+use Rattle.cell_library.proofs.RowSpots.{inverted_in_reach}
+use Rattle.tile_members.proofs.opened_cells.own_corner.Goals as goal
+
+pub square-requires-clause-moves : goal.square-requires-clause-moves
+square-requires-clause-moves c =
+    subst MovesInReach (sym c.inverse.ensures.value) (inverted_in_reach c.args.tile.now.to_cell c.requires.moves)
