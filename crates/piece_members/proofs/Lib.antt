@@ -1,0 +1,2 @@
+pub mod PiecePlaces
+pub mod MarkedGroups

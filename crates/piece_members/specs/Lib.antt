@@ -1,0 +1,3 @@
+pub mod PieceMembers
+pub mod MemberMarks
+pub mod Laws
