@@ -1,0 +1,11 @@
+use Rattle.std.specs.List.{range_with_len}
+use Rattle.finite_sets.specs.Lists.{In}
+use Rattle.finite_sets.specs.Total.{sum_on}
+use Rattle.layout_model.specs.Technologies.{class_of}
+use Rattle.meeting_sums.specs.Counts.{area_counted, AddAmounts}
+use Rattle.meeting_sums.proofs.columns.push_areas.Given as goal
+
+abbrev pub invariant-loop-place : goal.invariant-loop-place
+invariant-loop-place l =
+    AddAmounts (λ key. In key l.groups) (λ key. sum_on (area_counted (class_of l.class).contains l.stacks l.groups key) (range_with_len 0 l.place))
+    l.fn.amounts.items l.amounts.items
