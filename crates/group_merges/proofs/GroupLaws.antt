@@ -1,0 +1,128 @@
+-- The merges of a group, and of one group behind the other.
+use Rattle.std.proofs.Common.{◌≡◌, ◌<◌, ◌+◌, ℕ, zero, suc, Bool, true, false, cond, List, [], ◌∷◌, ◌++◌, map, filter, length, get_or}
+use Rattle.std.proofs.Common.{refl, sym, ◌∙◌, ap, arith}
+use Rattle.std.specs.Prelude.{pos}
+use Rattle.std.specs.List.{flat_map, range_with_len}
+use Rattle.std.proofs.lemmas.Bool.{cond-true, cond-false}
+use Rattle.std.proofs.lemmas.List.{append-nil, append_assoc, get_or_default, map-append}
+use Rattle.std.proofs.lemmas.List.Concat.{flat_map-append}
+use Rattle.std.proofs.lemmas.List.Elements.{filter-append}
+use Rattle.layout_model.specs.Technologies.{Class}
+use Rattle.ext_model.specs.declared.records.MergeRec.{MergeRec}
+use Rattle.tree_records.specs.Merges.{Adjustment, MemberGroup, group_merges, is_zero_adjustment, merge_of, zero_adjustment}
+use Rattle.meeting_sums.specs.declared.sums.MeetingSum.{MeetingSum}
+use Rattle.group_merges.specs.declared.members.Member.{Member}
+use Rattle.group_merges.specs.Groups.{name_at, mark_at, names_behind, merges_behind, is_first, sum_at, group_at, groups_before, AddsMerges}
+use Rattle.group_merges.specs.MarkedGroups.{adjustment_of}
+use Rattle.group_merges.proofs.WalkLaws.{IsNext, mark_read}
+
+-- the sum that is read at a member's mark
+pub sum_read : (members : List Member) (sums : List MeetingSum) (place : ℕ) (member : Member) (sum : MeetingSum) → place < length members
+    → mark_at members place < length sums → member ≡ get_or members place member → sum ≡ get_or sums member.mark sum
+    → sum ≡ sum_at sums (mark_at members place)
+sum_read members sums place member sum within marked is_member is_sum =
+    is_sum ∙ ap (λ (mark : ℕ). get_or sums mark sum) (mark_read members place member within is_member)
+    ∙ get_or_default sums (mark_at members place) sum (record { cap = pos 0; measures = [] }) marked
+
+module _ (members : List Member) (sums : List MeetingSum) (nothing : MeetingSum) (first : ℕ) (old : List MergeRec) where
+  abbrev added : Adjustment
+  added = adjustment_of (sum_at sums (mark_at members first))
+
+  -- the merges of the group, whoever stands behind its first member
+  abbrev merges_with : List Class → List (List ℕ) → List MergeRec
+  merges_with classes behind = flat_map (group_merges classes) (record { members = name_at members first ∷ behind; adjustment = added } ∷ [])
+
+  abbrev alone : MergeRec
+  alone = merge_of (name_at members first) (name_at members first) added
+
+  -- a group of one member
+  one_member : (classes : List Class) → names_behind members first ≡ []
+      → flat_map (group_merges classes) (group_at members sums first ∷ []) ≡ cond (is_zero_adjustment added) [] (alone ∷ [])
+  one_member classes none = ap (merges_with classes) none ∙ append-nil (cond (is_zero_adjustment added) [] (alone ∷ []))
+
+  pub adds_merge : (name : List ℕ) (sum : MeetingSum) (merge : MergeRec) (new : List MergeRec) → names_behind members first ≡ []
+      → name ≡ name_at members first → sum ≡ sum_at sums (mark_at members first) → is_zero_adjustment (adjustment_of sum) ≡ false
+      → merge ≡ merge_of name name (adjustment_of sum) → new ≡ old ++ merge ∷ [] → AddsMerges nothing (group_at members sums first ∷ []) old new
+  adds_merge name sum merge new none is_name is_sum some is_merge is_new = record {
+    are = λ classes is_nothing.
+        let made : merge ≡ alone = is_merge ∙ (λ i. merge_of (is_name i) (is_name i) (adjustment_of (is_sum i))) in
+        let not_zero : is_zero_adjustment added ≡ false = ap (λ (s : MeetingSum). is_zero_adjustment (adjustment_of s)) (sym is_sum) ∙ some in
+        is_new ∙ ap (λ (merges : List MergeRec). old ++ merges)
+        ((λ i. made i ∷ []) ∙ sym (one_member classes none ∙ cond-false (is_zero_adjustment added) [] (alone ∷ []) not_zero));
+  }
+
+  pub adds_none : (sum : MeetingSum) → names_behind members first ≡ [] → sum ≡ sum_at sums (mark_at members first)
+      → is_zero_adjustment (adjustment_of sum) ≡ true → AddsMerges nothing (group_at members sums first ∷ []) old old
+  adds_none sum none is_sum all_zero = record {
+    are = λ classes is_nothing.
+        let is_zero : is_zero_adjustment added ≡ true = ap (λ (s : MeetingSum). is_zero_adjustment (adjustment_of s)) (sym is_sum) ∙ all_zero in
+        sym (ap (λ (merges : List MergeRec). old ++ merges)
+        (one_member classes none ∙ cond-true (is_zero_adjustment added) [] (alone ∷ []) is_zero) ∙ append-nil old);
+  }
+
+  -- a group of more
+  pub adds_more : (name other : List ℕ) (sum : MeetingSum) (merge : MergeRec) (second : ℕ) (middle new : List MergeRec) → IsNext members first second
+      → name ≡ name_at members first → other ≡ name_at members second → sum ≡ sum_at sums (mark_at members first)
+      → merge ≡ merge_of name other (adjustment_of sum) → middle ≡ old ++ merge ∷ []
+      → new ≡ middle ++ merges_behind members (adjustment_of nothing) first second → AddsMerges nothing (group_at members sums first ∷ []) old new
+  adds_more name other sum merge second middle new next is_name is_other is_sum is_merge is_middle is_new = record {
+    are = λ classes is_nothing.
+        let one = merge_of (name_at members first) (name_at members second) added in
+        let others = merges_behind members (zero_adjustment classes) first second in
+        let made : merge ≡ one = is_merge ∙ (λ i. merge_of (is_name i) (is_other i) (adjustment_of (is_sum i))) in
+        let before : middle ≡ old ++ one ∷ [] = is_middle ∙ (λ i. old ++ made i ∷ []) in
+        is_new ∙ (λ i. before i ++ merges_behind members (is_nothing i) first second) ∙ append_assoc old (one ∷ []) others
+        ∙ ap (λ (merges : List MergeRec). old ++ merges) (sym (append-nil (one ∷ others)) ∙ ap (merges_with classes) (sym next.names));
+  }
+
+-- a range of one more
+range_more : (a n : ℕ) → range_with_len a (suc n) ≡ range_with_len a n ++ (a + n) ∷ []
+range_more a zero = ap (λ (k : ℕ). k ∷ []) (omega arith)
+range_more a (suc n) = ap (λ (v : List ℕ). a ∷ v) (range_more (a + 1) n ∙ ap (λ (k : ℕ). range_with_len (a + 1) n ++ k ∷ []) (omega arith))
+
+range_one_more : (n : ℕ) → range_with_len 0 (n + 1) ≡ range_with_len 0 n ++ n ∷ []
+range_one_more n =
+    ap (range_with_len 0) (let next : n + 1 ≡ suc n = omega arith in next) ∙ range_more 0 n
+    ∙ ap (λ (k : ℕ). range_with_len 0 n ++ k ∷ []) (omega arith)
+
+-- the groups before the next place
+groups_more : (members : List Member) (sums : List MeetingSum) (place : ℕ)
+    → groups_before members sums (place + 1) ≡ groups_before members sums place ++ cond (is_first members place) (group_at members sums place ∷ []) []
+groups_more members sums place =
+    ap (λ (places : List ℕ). map (group_at members sums) (filter (is_first members) places)) (range_one_more place)
+    ∙ ap (map (group_at members sums)) (filter-append (is_first members) (range_with_len 0 place) (place ∷ []))
+    ∙ map-append (group_at members sums) (filter (is_first members) (range_with_len 0 place)) (filter (is_first members) (place ∷ []))
+    ∙ ap (λ (groups : List MemberGroup). groups_before members sums place ++ groups) (last (is_first members place)) where
+      last : (kept : Bool) → map (group_at members sums) (cond kept (place ∷ []) []) ≡ cond kept (group_at members sums place ∷ []) []
+      last true = refl
+      last false = refl
+
+pub groups_none : (members : List Member) (sums : List MeetingSum) (nothing : MeetingSum) (merges : List MergeRec) → merges ≡ []
+    → AddsMerges nothing (groups_before members sums 0) [] merges
+groups_none members sums nothing merges none = record { are = λ classes is_nothing. none }
+
+-- behind the merges of the groups before stand those of the group that begins here
+pub groups_added : (members : List Member) (sums : List MeetingSum) (nothing : MeetingSum) (place : ℕ) (merges later : List MergeRec)
+    → is_first members place ≡ true → AddsMerges nothing (group_at members sums place ∷ []) merges later
+    → AddsMerges nothing (groups_before members sums place) [] merges → AddsMerges nothing (groups_before members sums (place + 1)) [] later
+groups_added members sums nothing place merges later first added so_far = record {
+  are = λ classes is_nothing.
+      let before = groups_before members sums place in
+      let here = group_at members sums place ∷ [] in
+      added.are classes is_nothing ∙ ap (λ (front : List MergeRec). front ++ flat_map (group_merges classes) here) (so_far.are classes is_nothing)
+      ∙ sym (flat_map-append (group_merges classes) before here)
+      ∙ ap (flat_map (group_merges classes)) (sym (groups_more members sums place
+      ∙ ap (λ (groups : List MemberGroup). before ++ groups) (cond-true (is_first members place) here [] first)));
+}
+
+-- where none begins here, nothing is added
+pub groups_kept : (members : List Member) (sums : List MeetingSum) (nothing : MeetingSum) (place : ℕ) (merges : List MergeRec)
+    → is_first members place ≡ false → AddsMerges nothing (groups_before members sums place) [] merges
+    → AddsMerges nothing (groups_before members sums (place + 1)) [] merges
+groups_kept members sums nothing place merges later so_far = record {
+  are = λ classes is_nothing.
+      let before = groups_before members sums place in
+      so_far.are classes is_nothing ∙ ap (flat_map (group_merges classes)) (sym (groups_more members sums place
+      ∙ ap (λ (groups : List MemberGroup). before ++ groups) (cond-false (is_first members place) (group_at members sums place ∷ []) [] later)
+      ∙ append-nil before));
+}

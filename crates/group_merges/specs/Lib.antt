@@ -1,0 +1,5 @@
+pub mod MarkedGroups
+pub mod Members
+pub mod Links
+pub mod Groups
+pub mod MarkMerges
