@@ -1,0 +1,9 @@
+pub mod ListedThings
+pub mod OwnPlaces
+pub mod RecordedTotals
+pub mod PiecePlaces
+pub mod MarkedMembers
+pub mod GroupAdjustments
+pub mod MarkedAdjustments
+pub mod UnlistedMembers
+pub mod RecordedGroups
