@@ -1,0 +1,150 @@
+-- The merges of members that are marked by the regions of pieces are those of the groups of a clean cell.
+use Rattle.std.proofs.Common.{◌≡◌, ◌<◌, ℕ, suc, List, length, Option, Some, None, inl, refl, sym, subst, arith}
+use Rattle.geo_core.specs.declared.squares.Rect.{Rect}
+use Rattle.geo_core.specs.Covering.{Covers}
+use Rattle.rect_contacts.specs.Rects.{no_rect}
+use Rattle.tech_model.specs.declared.raw.Label.{Label}
+use Rattle.tech_model.specs.declared.raw.RawTech.{RawTech}
+use Rattle.tech_model.specs.Rules.{KeepsRules}
+use Rattle.tech_model.specs.WellFormed.{IsWellFormed}
+use Rattle.layout_model.specs.Layouts.{IsMaterial, Layout}
+use Rattle.layout_model.specs.Places.{Place}
+use Rattle.layout_trees.specs.CellTrees.{CellTree}
+use Rattle.layout_trees.specs.FlatSets.{parts_in}
+use Rattle.ext_model.specs.declared.records.MergeRec.{MergeRec}
+use Rattle.ext_model.specs.declared.records.NodeRec.{NodeRec}
+use Rattle.cell_nodes.specs.NodeRecords.{AreNodeRecords}
+use Rattle.flood_nodes.specs.declared.found.Regions.{Regions}
+use Rattle.hierarchy_model.specs.CleanCells.{IsClean}
+use Rattle.named_trees.specs.NamedTrees.{NamedTree, OwnBody, layouts_of, own_body}
+use Rattle.tree_records.specs.Merges.{AreGroupMerges}
+use Rattle.tree_names.specs.CleanTrees.{IsCleanTree}
+use Rattle.meeting_laws.specs.PartLayouts.{HoldsAllMeetings, Passes}
+use Rattle.hierarchy_model.specs.Restrictions.{IsRestriction}
+use Rattle.group_meetings.specs.Laws.{RecordedPartsHaveMembers}
+use Rattle.group_meetings.specs.Members.{PartsHaveMembers}
+use Rattle.cell_tree.specs.Trees.{cell_at}
+use Rattle.cell_library.specs.LayoutTrees.{tree_at}
+use Rattle.cell_library.specs.Libraries.{LibraryParts, IsLawfulLibrary, cells_seen, seen}
+use Rattle.cell_library.specs.OwnBoxes.{OwnBoxIs}
+use Rattle.cell_library.specs.PartCounts.{element_count}
+use Rattle.cell_library.specs.Views.{LibraryView, view_at}
+use Rattle.cell_library.proofs.ElementCounts.{few_elements, part_count}
+use Rattle.cell_library.proofs.ViewLaws.{state_there}
+use Rattle.library_trees.specs.NamedCells.{named_tree_at, own_body_of}
+use Rattle.kept_records.specs.KeptRecords.{HaveKeptRecordsBelow, KeptRecords}
+use Rattle.kept_records.specs.Laws.{KeptRecordsAreOfTheTree}
+use Rattle.hier_merge.specs.declared.meetings.Meeting.{Meeting}
+use Rattle.hier_merge.specs.MeetingPieces.{AreMeetingPieces}
+use Rattle.meeting_sums.specs.declared.limits.TheConstants.{MOST_PARTS}
+use Rattle.piece_members.specs.Laws.{AreMarkedPieces}
+use Rattle.piece_members.specs.MemberMarks.{AreMemberMarks}
+use Rattle.piece_groups.specs.Laws.{HasRecordsBelow, MarkedGroupsAreRecorded}
+use Rattle.tile_members.specs.declared.members.TileMembers.{TileMembers}
+use Rattle.tile_members.specs.TileMembers.{AreTileMembers}
+use Rattle.tree_merges.specs.MarkedMerges.{AreMarkedMerges}
+use Rattle.tree_merges.specs.MemberPairs.{member_pairs}
+use Rattle.tree_merges.specs.Pieces.{ArePieceRegions, ArePieces}
+use Rattle.tree_merges.proofs.FlatTypes.{pieces_are_typed}
+use Rattle.tree_merges.proofs.PairLaws.{members_in_pieces}
+use Rattle.tree_merges.proofs.PieceTiles.{piece_is_tile}
+
+-- ---- trees of a library
+
+-- a cell has its own body
+pub body_at : (view : LibraryView) (cell : ℕ) → own_body (named_tree_at view cell) ≡ own_body_of view cell
+unfolding named_tree_at
+body_at view cell = refl
+
+-- a cell has fewer parts than there may be
+pub few_parts : (library : LibraryParts) → IsLawfulLibrary library → (cell : ℕ) → cell < length library.contents
+    → length (parts_in library.tech (tree_at (seen library) cell)) < MOST_PARTS
+unfolding tree_at
+few_parts library lawful cell below =
+    let few = few_elements library lawful cell below in
+    let count : length (parts_in library.tech (tree_at (seen library) cell)) ≡ suc (element_count (view_at (seen library) cell).uses) =
+    part_count library.tech (seen library) 63 cell in
+    omega (arith, few, count)
+
+-- an area holds all that a cell has of its own
+own_material : (own : Layout) (labels : List Label) (box : Option Rect) → OwnBoxIs own labels box
+    → (area : Rect) × ((place : Place) → IsMaterial own place → Covers area place.square)
+own_material own labels None is = (no_rect, λ place material. absurd (is (inl (place, material))))
+own_material own labels (Some box) is = (box, λ place material. is.holds.material place material)
+
+own_area : (library : LibraryParts) → IsLawfulLibrary library → (cell : ℕ) → cell < length library.contents
+    → (area : Rect) × ((place : Place) → IsMaterial (own_body (named_tree_at (seen library) cell)).layout place → Covers area place.square)
+own_area library lawful cell below =
+    let view = view_at (seen library) cell in
+    let there : cell < length library.tree.cells = let many = lawful.so_many in omega (arith, below, many) in
+    let box = state_there (cells_seen library.contents library.tree) library.tree.cells cell lawful.boxes there in
+    subst (λ (body : OwnBody). (area : Rect) × ((place : Place) → IsMaterial body.layout place → Covers area place.square))
+    (sym (body_at (seen library) cell)) (own_material view.own view.labels (cell_at library.tree.cells cell).own box)
+
+-- the nodes of a cell and the cells of its elements have records, where records are kept
+pub records_below : (library : LibraryParts) → IsLawfulLibrary library → (kept : KeptRecords) (cell : ℕ) → cell < length library.contents
+    → KeptRecordsAreOfTheTree library → HaveKeptRecordsBelow (seen library) kept cell → (nodes : List NodeRec)
+    → AreNodeRecords library.tech (view_at (seen library) cell).own (view_at (seen library) cell).labels nodes
+    → HasRecordsBelow library.tech (named_tree_at (seen library) cell)
+records_below library lawful kept cell below law have nodes are =
+    let exts = law kept cell below have in
+    let own = own_area library lawful cell below in
+    record {
+      area = own.0;
+      inside = own.1;
+      nodes = nodes;
+      own = subst (λ (body : OwnBody). AreNodeRecords library.tech body.layout body.labels nodes) (sym (body_at (seen library) cell)) are;
+      exts = exts.0;
+      elements = exts.1;
+    }
+
+-- ---- pieces
+
+-- the pieces of a clean cell are pieces of few parts, with types
+pub meeting_pieces : (raw : RawTech) (cells : CellTree) (meeting : Meeting) → IsClean raw cells → length (parts_in raw cells) < MOST_PARTS
+    → AreMeetingPieces raw cells meeting.tiles.items meeting.starts.items meeting.stacks.items → ArePieces raw meeting.stacks.items
+meeting_pieces raw cells meeting clean few pieces = record {
+  parts = pieces.others;
+  are = pieces.pieces;
+  few = let count = pieces.restricted.count in omega (arith, few, count);
+  typed = pieces_are_typed raw cells meeting.tiles.items meeting.starts.items meeting.stacks.items clean pieces;
+  by_plane = pieces.by_plane;
+  planes = pieces.planes;
+}
+
+module _ (raw : RawTech) (tree : NamedTree) (cells : CellTree) (same : layouts_of tree ≡ cells) (meeting : Meeting) (members : TileMembers)
+    (regions : Regions) (pieces : AreMeetingPieces raw cells meeting.tiles.items meeting.starts.items meeting.stacks.items)
+    (are_members : AreTileMembers raw tree meeting.tiles.items members.names.items members.numbers.items)
+    (are_regions : ArePieceRegions raw meeting.stacks.items regions) (clean : IsCleanTree raw tree) where
+  -- the pieces of the cell are marked
+  marked_pieces : PartsHaveMembers raw tree → (marks : List ℕ)
+      → AreMemberMarks (length members.names.items) regions.tiles regions.count
+      (member_pairs members.numbers.items meeting.starts.items meeting.stacks.items) marks
+      → AreMarkedPieces raw pieces.within tree pieces.others meeting.stacks.items members.names.items
+      (member_pairs members.numbers.items meeting.starts.items meeting.stacks.items) regions.tiles regions.count marks
+  marked_pieces have marks are_marks = record {
+    clean = clean;
+    members = have;
+    restricted = record {
+      typed = clean.typed;
+      clean = clean.clean;
+      holds = subst (λ (c : CellTree). HoldsAllMeetings (Passes pieces.within) (parts_in raw c)) (sym same) pieces.holds;
+      restricted = subst (λ (c : CellTree). IsRestriction (Passes pieces.within) (parts_in raw c) pieces.others) (sym same) pieces.restricted;
+    };
+    stacks = pieces.pieces;
+    names = members_in_pieces raw tree cells meeting.tiles.items meeting.starts.items meeting.stacks.items members.names.items members.numbers.items
+        pieces are_members;
+    one_each = piece_is_tile meeting.stacks.items are_regions.labels regions.tiles are_regions.same;
+    regions = are_regions.are pieces.others pieces.pieces;
+    marks = are_marks;
+  }
+
+  -- so the merges of the marks are those of the cell
+  pub merges_of_cell : IsWellFormed raw → KeepsRules raw → RecordedPartsHaveMembers raw → MarkedGroupsAreRecorded raw → HasRecordsBelow raw tree
+      → (merges : List MergeRec) → AreMarkedMerges raw meeting members regions merges → AreGroupMerges raw tree merges
+  merges_of_cell formed rules recorded law records merges are =
+      let have = recorded formed records.exts tree records.nodes clean.clean records.own records.elements in
+      law formed rules pieces.within tree pieces.others meeting.stacks.items members.names.items
+      (member_pairs members.numbers.items meeting.starts.items meeting.stacks.items) regions.tiles regions.count are.marks are.sums
+      are.are_merges.groups merges records (marked_pieces have are.marks are.are_marks) (are.are_sums pieces.others pieces.pieces)
+      are.are_merges.marked are.are_merges.are

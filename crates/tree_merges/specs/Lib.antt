@@ -1,0 +1,4 @@
+pub mod MarkedMerges
+pub mod MemberPairs
+pub mod Pieces
+pub mod Relations

@@ -1,0 +1,67 @@
+//! What the parts of a cell do to each other: its merges, or the squares at which its parts spoil each other.
+ghost use Rattle.std.specs.Prelude.{◌≡◌, ◌≢◌, ◌↔◌, ◌≤◌, ◌+◌, ◌*◌, ◌<◌, ℕ, List, [], IfOk, length};
+ghost use Rattle.ext_model.specs.declared.records.NodeRec.{NodeRec as OneNode};
+ghost use Rattle.cell_nodes.specs.NodeRecords.{AreNodeRecords};
+ghost use Rattle.hierarchy_model.specs.CleanCells.{IsCleanBelow};
+ghost use Rattle.cell_library.specs.Libraries.{seen};
+ghost use Rattle.cell_library.specs.LayoutTrees.{tree_at};
+ghost use Rattle.cell_library.specs.Views.{view_at};
+ghost use Rattle.library_trees.specs.NamedCells.{named_tree_at};
+ghost use Rattle.kept_records.specs.KeptRecords.{HaveKeptRecordsBelow};
+ghost use Rattle.tree_records.specs.Merges.{AreGroupMerges};
+ghost use Rattle.hier_merge.specs.Interactions.{IsWork};
+ghost use Rattle.tree_merges.specs.Relations.{records_in};
+ghost use Rattle.hier_merge.specs.UncleanCells.{AreOffendingOf, IsCleanCell};
+
+use crate::merging::merges_of;
+use cell_library::Reader;
+use ext_model::{CellKey, ExtTable, MergeRec};
+use geo_core::{List, Rect};
+use hier_merge::{HierFault, meeting_of};
+use std::alloc::Global;
+use std::sync::ledger::Ledger;
+use step_count::Steps;
+
+/// The merges of a clean cell, or the strips of the squares that offend, by plane.
+#[derive(Debug, Drop)]
+pub struct Related {
+    pub merges: List<MergeRec>,
+    pub offending: List<(u8, Rect)>,
+}
+
+/// The merges of a cell, or the strips of its squares that offend, by plane; there are no merges then.
+///
+/// All cells below the cell are clean, and their records are in the table. It opens the cell for a step, visits the areas in which its parts
+/// interact, for a step each tile, and opens each cell once that has such a tile. Want of memory alone refuses.
+pub fn relate<L: Ledger>(
+    alloc: Global,
+    library: &Reader<'_>,
+    records: &ExtTable,
+    cell: CellKey,
+    steps: &mut Steps<L>,
+) -> Result<Related, HierFault>
+    requires cell { cell.0 < length library.now.contents }
+    requires clean { IsCleanBelow library.now.tech (tree_at (seen library.now) cell.0) }
+    requires records { HaveKeptRecordsBelow (seen library.now) (records_in records.now) cell.0 }
+    requires nodes { let body = view_at (seen library.now) cell.0 in
+        (nodes : List OneNode) × AreNodeRecords library.now.tech body.own body.labels nodes }
+    ensures squares { IfOk result (λ found. AreOffendingOf (seen library.now) cell.0 found.offending) }
+    ensures clean { IfOk result (λ found. (found.offending ≡ []) ↔ IsCleanCell (seen library.now) cell.0) }
+    ensures merges { IfOk result (λ found. found.offending ≡ []
+        → AreGroupMerges library.now.tech (named_tree_at (seen library.now) cell.0) found.merges) }
+    ensures none { IfOk result (λ found. found.offending ≢ [] → found.merges ≡ []) }
+    ensures steps { (work : ℕ) → IsWork (seen library.now) cell.0 work → steps.new ≤ steps.old + (2 * work + 1) }
+{
+    let meeting = meeting_of(alloc, library, cell, steps)?;
+    if !meeting.offending.is_empty() {
+        return Ok(Related {
+            merges: List::of(Vec::new(alloc)),
+            offending: List::of(meeting.offending),
+        });
+    }
+    let merges = merges_of(alloc, library, records, cell, &meeting, steps)?;
+    Ok(Related {
+        merges: List::of(merges),
+        offending: List::of(meeting.offending),
+    })
+}
