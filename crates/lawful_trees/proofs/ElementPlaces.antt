@@ -1,0 +1,75 @@
+-- The elements of lawful uses are displaced within the range of a record.
+use Rattle.std.proofs.Common.{◌≡◌, ◌<◌, ℕ, ℤ, List, inl, inr, refl, ap, subst, arith}
+use Rattle.std.specs.Prelude.{Option, Some, None, slice_get}
+use Rattle.std.specs.Int.RustNames.{unsigned_abs}
+use Rattle.std.proofs.lemmas.Int.{ints}
+use Rattle.std.proofs.lemmas.Option.{slice_get-get_or}
+use Rattle.std.proofs.Common.{◌∙◌}
+use Rattle.finite_sets.specs.Lists.{In}
+use Rattle.finite_sets.proofs.Members.{In-index, In-map_source}
+use Rattle.geo_core.specs.declared.grids.Grid.{Grid}
+use Rattle.geo_core.specs.declared.orients.Orient.{Orient}
+use Rattle.geo_core.specs.declared.orients.Orient.TheVariants.{R0}
+use Rattle.geo_core.specs.declared.transforms.Transform.{Transform}
+use Rattle.geo_core.specs.Elements.{elements_of}
+use Rattle.geo_core.specs.Images.{six_of}
+use Rattle.geo_core.proofs.ImageLaws.{transform_of}
+use Rattle.cell_tree.specs.declared.use_tables.UseBody.{UseBody}
+use Rattle.cell_tree.specs.Uses.{IsLawfulUse, IsShift}
+use Rattle.cell_library.specs.LayoutTrees.{element_transform}
+use Rattle.cell_library.proofs.GridSteps.{IsNearStep, element_is_near}
+use Rattle.ext_model.specs.declared.limits.TheConstants.{SHIFT_EDGE}
+use Rattle.ext_model.specs.Lawful.{IsPlacement}
+use Rattle.library_trees.specs.ElementNames.{UseElement, array_element, use_elements}
+
+-- a thing of a list stands at a position
+pub get_of : {X : Type 0} (x : X) (xs : List X) → In x xs → (k : ℕ) × (slice_get xs k ≡ Some x)
+get_of x xs here =
+    let at = In-index x xs here in
+    (at.0, slice_get-get_or xs at.0 x at.1.0 ∙ ap Some (at.1.1 x))
+
+-- The displacement is that of an element of a lawful use.
+record IsNearBoth (step : ℤ × ℤ) : Type 0 where
+  x : IsNearStep step.0
+  y : IsNearStep step.1
+
+-- each element of a lawful use is displaced so
+near_step : (id : List ℕ) (used : UseBody) → IsLawfulUse used → (grid : Option Grid) → used.grid ≡ grid → (element : UseElement)
+    → In element (use_elements id grid) → IsNearBoth element.step
+near_step id used lawful None is element (inl same) =
+    subst (λ (e : UseElement). IsNearBoth e.step) same
+    (record {
+      x = record { low = omega (arith, ints); high = omega (arith, ints) };
+      y = record { low = omega (arith, ints); high = omega (arith, ints) };
+    })
+near_step id used lawful None is element (inr none) = absurd none
+near_step id used lawful (Some grid) is element listed =
+    let made = In-map_source (array_element id) element (elements_of grid) listed in
+    let at = get_of made.0 (elements_of grid) made.1.0 in
+    let near = element_is_near grid at.0 made.0 (lawful.grid grid is) at.1 in
+    subst (λ (e : UseElement). IsNearBoth e.step) made.1.1 (record { x = near.0; y = near.1 })
+
+-- The transform displaces no farther than a record may have it.
+record IsNearTransform (transform : Transform) : Type 0 where
+  dx : unsigned_abs transform.dx < SHIFT_EDGE
+  dy : unsigned_abs transform.dy < SHIFT_EDGE
+
+-- whichever way the use turns its child
+near_by_orient : (o : Orient) (dx dy x y : ℤ) → IsShift dx → IsShift dy → IsNearStep x → IsNearStep y
+    → IsNearTransform (element_transform (transform_of o dx dy) (x, y))
+near_by_orient R0 dx dy x y shift_x shift_y near_x near_y = record {
+  dx = omega (arith, ints, shift_x.low, shift_x.high, near_x.low, near_x.high);
+  dy = omega (arith, ints, shift_y.low, shift_y.high, near_y.low, near_y.high);
+}
+near_by_orient _ dx dy x y shift_x shift_y near_x near_y = record {
+  dx = omega (arith, ints, shift_x.low, shift_x.high, near_x.low, near_x.high, near_y.low, near_y.high);
+  dy = omega (arith, ints, shift_y.low, shift_y.high, near_x.low, near_x.high, near_y.low, near_y.high);
+}
+
+-- the transform of an element of a lawful use is one that a record may have
+pub element_placement : (id : List ℕ) (used : UseBody) → IsLawfulUse used → (element : UseElement) → In element (use_elements id used.grid)
+    → IsPlacement (six_of (element_transform used.placed element.step))
+element_placement id used lawful element listed =
+    let step = near_step id used lawful used.grid refl element listed in
+    let near = near_by_orient used.placed.orient used.placed.dx used.placed.dy element.step.0 element.step.1 lawful.dx lawful.dy step.x step.y in
+    record { transform = element_transform used.placed element.step; numbers = refl; dx = near.dx; dy = near.dy }
