@@ -3,4 +3,4 @@ mod FetSwitches
 mod FlatNames
 mod FewNodes
 mod FittingNetworks
-mod OwnLetters
+mod FlatLetters

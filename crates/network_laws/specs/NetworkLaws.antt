@@ -1,13 +1,12 @@
 -- What holds of the networks of flat circuits.
 use Rattle.std.specs.Prelude.{ℕ, List, All}
-use Rattle.tech_model.specs.declared.raw.Label.{Label}
 use Rattle.tech_model.specs.declared.raw.RawTech.{RawTech}
 use Rattle.ext_model.specs.declared.records.CellExt.{CellExt}
 use Rattle.ext_model.specs.declared.circuits.Circuit.{Circuit}
-use Rattle.layout_model.specs.Layouts.{Layout}
 use Rattle.circuit_model.specs.Elements.{AreRecords}
 use Rattle.circuit_model.specs.Refusals.{IsFlatOf}
-use Rattle.own_records.specs.OwnCircuits.{IsOwnCircuit}
+use Rattle.named_trees.specs.NamedTrees.{NamedTree}
+use Rattle.tree_records.specs.TreeCircuits.{IsFlatCircuit}
 use Rattle.sim_records.specs.SimRecords.{sim_of}
 use Rattle.switch_net.specs.declared.limits.TheConstants.{MOST_NODES}
 use Rattle.sim_networks.specs.SimNetworks.{HasLetter, HasMoreNodesThan, records_of}
@@ -18,8 +17,7 @@ FlatNetworksFit =
     (exts : List CellExt) (root : List ℕ) (circuit : Circuit) → AreRecords exts → IsFlatOf exts root circuit
     → ¬ (HasMoreNodesThan MOST_NODES (records_of (sim_of circuit)))
 
--- each transistor of the circuit of a layout has a letter that makes a switch
-abbrev pub OwnCircuitsHaveLetters : RawTech → Type 0
-OwnCircuitsHaveLetters tech =
-    (layout : Layout) (labels : List Label) (circuit : Circuit) → IsOwnCircuit tech layout labels circuit
-    → All HasLetter (sim_of circuit).fets
+-- each transistor of the circuit of a cell's flat layout has a letter that makes a switch
+abbrev pub FlatCircuitsHaveLetters : RawTech → Type 0
+FlatCircuitsHaveLetters tech =
+    (tree : NamedTree) (circuit : Circuit) → IsFlatCircuit tech tree circuit → All HasLetter (sim_of circuit).fets

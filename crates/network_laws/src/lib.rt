@@ -10,10 +10,10 @@
 //! join them: names of different nodes come from different records, and there are no more of these than a tree may have (`FewNodes`,
 //! `LawfulElements`).
 //!
-//! The kind of a transistor of a layout is a name that the technology gives, whose first letter its rules bound (`OwnLetters`).
+//! The kind of a transistor of a flat layout is a name that the technology gives, whose first letter its rules bound (`FlatLetters`).
 #![tactic(auto)]
 
-ghost use Rattle.network_laws.specs.NetworkLaws.{FlatNetworksFit, OwnCircuitsHaveLetters};
+ghost use Rattle.network_laws.specs.NetworkLaws.{FlatCircuitsHaveLetters, FlatNetworksFit};
 
 use tech_model::Tech;
 
@@ -22,9 +22,9 @@ pub fn flat_networks_fit()
     ensures { FlatNetworksFit }
 {}
 
-/// Each transistor of the circuit of a layout of this technology has a letter that makes a switch.
-pub fn own_circuits_have_letters(tech: &Tech)
-    ensures { OwnCircuitsHaveLetters tech.now }
+/// Each transistor of the circuit of a flat layout of this technology has a letter that makes a switch.
+pub fn flat_circuits_have_letters(tech: &Tech)
+    ensures { FlatCircuitsHaveLetters tech.now }
 {
     let _ = tech.raw();
 }
