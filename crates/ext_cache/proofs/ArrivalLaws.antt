@@ -1,5 +1,5 @@
 -- Records after cells came: those of the cells that were there stay as they are, and a cell that came has none.
-use Rattle.std.proofs.Common.{◌≡◌, ◌<◌, ◌≤◌, ℕ, List, [], ◌∷◌, ◌++◌, length, map, Option, Some, None, refl, ap, ◌∙◌, arith, length-append}
+use Rattle.std.proofs.Common.{◌≡◌, ◌<◌, ◌≤◌, ℕ, List, [], ◌∷◌, ◌++◌, length, map, Option, Some, None, refl, sym, ap, ◌∙◌, arith, length-append}
 use Rattle.std.proofs.lemmas.List.{get_or_append_left}
 use Rattle.ext_model.specs.declared.tables.ExtEntry.{ExtEntry}
 use Rattle.cell_bodies.specs.declared.bodies.CellBody.{CellBody}
@@ -7,6 +7,9 @@ use Rattle.cell_tree.specs.Trees.{stamp_at}
 use Rattle.cell_library.specs.Additions.{AreNextCells, kept_cell, names_with, with_all}
 use Rattle.cell_library.specs.Libraries.{LibraryParts, IsLawfulLibrary, IsNextCell, edits_of, seen}
 use Rattle.cell_library.specs.Views.{no_cell, view_at}
+use Rattle.library_trees.specs.NamedCells.{named_tree_at}
+use Rattle.library_trees.proofs.AgreeingViews.{agreeing_views}
+use Rattle.library_trees.proofs.EditedTrees.{below_is_cell}
 use Rattle.ext_cache.specs.Caches.{Agrees, Records, entry_in, is_dirty, is_stale, stamp_in}
 use Rattle.ext_cache.proofs.RecordLaws.{agrees_with, counted}
 
@@ -18,12 +21,20 @@ module _ (old new : LibraryParts) (records : Records) (more : List ℕ) (lawful 
       ap (λ (all : List ℕ). stamp_at all cell) stamps
       ∙ get_or_append_left old.tree.stamps more 0 cell (omega (arith, agrees.known cell entry is, lawful.so_many, lawful.tree.stamps))
 
+  -- a cell that was there keeps its tree, where all that were there stay
+  tree_kept : ((cell : ℕ) → cell < length (seen old).cells → view_at (seen new) cell ≡ view_at (seen old) cell) → (cell : ℕ)
+      → cell < length old.contents → named_tree_at (seen new) cell ≡ named_tree_at (seen old) cell
+  tree_kept earlier cell there =
+      sym (agreeing_views (seen old) (seen new) cell (λ below chain.
+      let known = below_is_cell old lawful cell below there chain in
+      sym (earlier below (omega (arith, known, counted old)))))
+
   -- records agree where the cells that were there stay
   agrees_more : length (seen old).cells ≤ length (seen new).cells → (seen new).tech ≡ (seen old).tech
       → ((cell : ℕ) → cell < length (seen old).cells → view_at (seen new) cell ≡ view_at (seen old) cell) → Agrees new records
   agrees_more count tech earlier =
       agrees_with old new records count tech (λ cell entry is. omega (arith, agrees.past cell entry is, stamp_kept cell entry is))
-      (λ cell entry is stamp. (stamp_kept cell entry is, earlier cell (omega (arith, agrees.known cell entry is, counted old)))) agrees
+      (λ cell entry is stamp. (stamp_kept cell entry is, tree_kept earlier cell (agrees.known cell entry is))) agrees
 
   -- the same cells are dirty
   dirty_more : (cell : ℕ) → is_dirty new records cell ≡ is_dirty old records cell

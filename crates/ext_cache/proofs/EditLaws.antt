@@ -1,13 +1,13 @@
 -- Records after an edit of a cell: the cell and those above it are dirty, and the others are as before.
-use Rattle.std.proofs.Common.{◌≡◌, ◌≢◌, ◌≤◌, ℕ, true, length, Some, sym, ap, subst, inl, inr, arith}
+use Rattle.std.proofs.Common.{◌≡◌, ◌≤◌, ℕ, true, length, Some, ap, inl, inr, arith}
 use Rattle.std.proofs.lemmas.Bool.{cases_lt}
-use Rattle.finite_sets.specs.Chain.Chain.{stay}
 use Rattle.use_orders.specs.Uses.{IsAtOrBelow}
 use Rattle.ext_model.specs.declared.tables.ExtEntry.{ExtEntry}
 use Rattle.cell_tree.specs.Cells.{IsAbove}
 use Rattle.cell_library.specs.Additions.{children_in}
 use Rattle.cell_library.specs.Libraries.{LibraryParts, IsLawfulLibrary, IsNextEdit, seen}
-use Rattle.cell_library.specs.Views.{view_at}
+use Rattle.cell_library.specs.Views.{CellView, with_cell_changed}
+use Rattle.library_trees.proofs.StampedTrees.{stamps_tell}
 use Rattle.ext_cache.specs.Caches.{Agrees, Records, entry_in, is_dirty, is_stale, stamp_in}
 use Rattle.ext_cache.proofs.AboveLaws.{above_leads_down, leads_down_from_above}
 use Rattle.ext_cache.proofs.RecordLaws.{agrees_with, stale_if}
@@ -29,14 +29,14 @@ module _ (old new : LibraryParts) (records : Records) (cell : ℕ) (lawful : IsL
     | inr past ↦ past
   ]
 
-  -- Where the other cells stay as they were, records agree after the edit.
+  -- Where that cell alone changes, records agree after the edit.
   pub agrees_edit : length (seen new).cells ≡ length (seen old).cells → (seen new).tech ≡ (seen old).tech
-      → ((key : ℕ) → key ≢ cell → view_at (seen new) key ≡ view_at (seen old) key) → Agrees new records
-  agrees_edit count tech others =
+      → (change : CellView → CellView) → seen new ≡ with_cell_changed (seen old) cell change → Agrees new records
+  agrees_edit count tech change after =
       agrees_with old new records (omega arith) tech past_edit (λ key entry is stamp.
       let free : IsAbove old.tree.cells cell key → ⊥ = λ above. earlier_above key entry is above stamp in
-      let other : key ≢ cell = λ same. free (subst (λ (at : ℕ). IsAbove old.tree.cells cell at) (sym same) stay) in
-      (edit.stamps.others key free, others key other)) agrees
+      let kept : stamp_in new key ≡ stamp_in old key = edit.stamps.others key free in
+      (kept, stamps_tell old lawful new cell change edit after key kept)) agrees
 
   -- A cell that has the edited one at or below itself is dirty.
   pub dirty_edit : (key : ℕ) → IsAtOrBelow (children_in (seen old)) key cell → is_dirty new records key ≡ true

@@ -2,4 +2,11 @@ pub mod AboveLaws
 pub mod ArrivalLaws
 pub mod EditLaws
 pub mod LabelLaws
+pub mod LoopLaws
+pub mod MadeLaws
+pub mod MakingLaws
+pub mod OrderLaws
 pub mod RecordLaws
+pub mod UncleanLaws
+pub mod UndoingLaws
+pub mod WorkLaws

@@ -1,7 +1,7 @@
 -- Records that are kept, one more of them, and which cells are dirty then.
-use Rattle.std.proofs.Common.{◌≡◌, ◌≢◌, ◌⊎◌, ◌<◌, ◌≤◌, ◌==◌, not, ℕ, Bool, true, false, cond, List, [], length, Option, Some, None}
+use Rattle.std.proofs.Common.{◌≡◌, ◌≢◌, ◌⊎◌, ◌<◌, ◌≤◌, ◌==◌, not, ℕ, Bool, true, false, cond, length, Option, Some, None}
 use Rattle.std.proofs.Common.{refl, sym, ap, subst, ◌∙◌, inl, inr, arith}
-use Rattle.std.specs.Prelude.{MatchBool, option_map}
+use Rattle.std.specs.Prelude.{option_map}
 use Rattle.std.specs.Cmp.{unsigned_tied}
 use Rattle.std.specs.FinMap as fin_map
 use Rattle.std.specs.Ordering.{nat_cmp}
@@ -11,13 +11,18 @@ use Rattle.std.proofs.lemmas.Cmp.{nat_cmp_total}
 use Rattle.ext_model.specs.declared.records.CellExt.{CellExt}
 use Rattle.ext_model.specs.declared.tables.ExtEntry.{ExtEntry}
 use Rattle.tech_model.specs.declared.raw.RawTech.{RawTech}
-use Rattle.own_records.specs.OwnRecords.{IsOwnRecord}
+use Rattle.layout_trees.specs.CellTrees.{CellTree}
+use Rattle.hierarchy_model.specs.CleanCells.{IsClean}
+use Rattle.cell_library.specs.LayoutTrees.{tree_at}
+use Rattle.named_trees.specs.NamedTrees.{NamedTree, layouts_of}
+use Rattle.tree_records.specs.TreeRecords.{IsTreeRecord}
+use Rattle.library_trees.specs.NamedCells.{named_tree_at}
+use Rattle.library_trees.proofs.LayoutLaws.{layouts_of_cell}
 use Rattle.cell_tree.specs.Trees.{stamp_at}
 use Rattle.cell_library.specs.Libraries.{LibraryParts, IsSame, seen, uses_in}
-use Rattle.cell_library.specs.Views.{CellView, LibraryView, view_at}
+use Rattle.cell_library.specs.Views.{LibraryView}
 use Rattle.cell_library.proofs.ViewLaws.{length-cell_views}
-use Rattle.ext_cache.specs.declared.extraction.Extracted.{Extracted}
-use Rattle.ext_cache.specs.Caches.{Agrees, Extracts, IsExtracted, IsRecordNow, Records, entry_in, is_dirty, is_stale, next_serial, no_records}
+use Rattle.ext_cache.specs.Caches.{Agrees, IsRecordNow, Records, entry_in, is_dirty, is_stale, next_serial, no_records}
 use Rattle.ext_cache.specs.Caches.{record_in, stamp_in, with_record}
 
 -- ---- without records
@@ -47,23 +52,26 @@ dirty_none library cell = ap (λ (found : Option ExtEntry). is_stale found (stam
 pub counted : (library : LibraryParts) → length (seen library).cells ≡ length library.contents
 counted library = length-cell_views library.contents (uses_in library.tree.cells)
 
--- a record of a cell as it is stays one, where the technology and the cell stay
-pub record_stays : (old new : LibraryView) (cell : ℕ) (ext : CellExt) → new.tech ≡ old.tech → view_at new cell ≡ view_at old cell
+-- a record of a cell as it is stays one, where the technology and the cell's tree stay
+pub record_stays : (old new : LibraryView) (cell : ℕ) (ext : CellExt) → new.tech ≡ old.tech → named_tree_at new cell ≡ named_tree_at old cell
     → IsRecordNow old cell ext → IsRecordNow new cell ext
-record_stays old new cell ext tech same now = record {
-  no_uses = ap (λ (body : CellView). body.uses) same ∙ now.no_uses;
-  is = subst (λ (raw : RawTech). IsOwnRecord raw (view_at new cell).own (view_at new cell).labels (view_at new cell).name ext) (sym tech)
-      (subst (λ (body : CellView). IsOwnRecord old.tech body.own body.labels body.name ext) (sym same) now.is);
-  lawful = now.lawful;
-}
+record_stays old new cell ext tech same now =
+    let layouts : tree_at new cell ≡ tree_at old cell = sym (layouts_of_cell new cell) ∙ ap layouts_of same ∙ layouts_of_cell old cell in
+    record {
+      clean = subst (λ (raw : RawTech). IsClean raw (tree_at new cell)) (sym tech)
+          (subst (λ (tree : CellTree). IsClean old.tech tree) (sym layouts) now.clean);
+      is = subst (λ (raw : RawTech). IsTreeRecord raw (named_tree_at new cell) ext) (sym tech)
+          (subst (λ (tree : NamedTree). IsTreeRecord old.tech tree ext) (sym same) now.is);
+      lawful = now.lawful;
+    }
 
 -- Records agree with another library that has these cells and maybe more, where the record of each is of no later stamp than the cell has
--- there, and of its stamp only where the cell stayed as it was.
+-- there, and of its stamp only where the cell and all below it stayed as they were.
 pub agrees_with : (old new : LibraryParts) (records : Records) → length (seen old).cells ≤ length (seen new).cells
     → (seen new).tech ≡ (seen old).tech
     → ((cell : ℕ) (entry : ExtEntry) → entry_in records cell ≡ Some entry → entry.stamp ≤ stamp_in new cell)
     → ((cell : ℕ) (entry : ExtEntry) → entry_in records cell ≡ Some entry → entry.stamp ≡ stamp_in new cell
-    → (stamp_in new cell ≡ stamp_in old cell) × (view_at (seen new) cell ≡ view_at (seen old) cell))
+    → (stamp_in new cell ≡ stamp_in old cell) × (named_tree_at (seen new) cell ≡ named_tree_at (seen old) cell))
     → Agrees old records → Agrees new records
 agrees_with old new records more tech past now agrees = record {
   known = λ cell entry is. omega (arith, agrees.known cell entry is, counted old, counted new);
@@ -79,7 +87,7 @@ agrees_same old new records same agrees =
     let stamps : (cell : ℕ) → stamp_in new cell ≡ stamp_in old cell = λ cell i. stamp_at (same.tree i).stamps cell in
     agrees_with old new records (let long : length (seen new).cells ≡ length (seen old).cells = λ i. length (same.seen i).cells in omega arith)
     (λ i. (same.seen i).tech) (λ cell entry is. omega (arith, agrees.past cell entry is, stamps cell))
-    (λ cell entry is stamp. (stamps cell, λ i. view_at (same.seen i) cell)) agrees
+    (λ cell entry is stamp. (stamps cell, λ i. named_tree_at (same.seen i) cell)) agrees
 
 -- And the same cells are dirty.
 pub dirty_same : (old new : LibraryParts) (records : Records) (cell : ℕ) → IsSame old new → is_dirty new records cell ≡ is_dirty old records cell
@@ -167,37 +175,6 @@ module _ (library : LibraryParts) (records : Records) (cell : ℕ) (ext : CellEx
       → is_dirty library (with_record records cell ext (stamp_in library cell)) key ≡ is_dirty library records key
   dirty_besides key other =
       ap (λ (found : Option ExtEntry). is_stale found (stamp_in library key)) (found_there records cell ext (stamp_in library cell) key other)
-
--- ---- an extraction
-
--- what holds of the records as they were and of those with a new record holds after an extraction
-after_extraction : (P : Records → Type 0) (library : LibraryParts) (records : Records) (cell : ℕ) (after : Records) (told : List Extracted) (dirty : Bool)
-    → (dirty ≡ false → P records) → ((ext : CellExt) → IsRecordNow (seen library) cell ext → P (with_record records cell ext (stamp_in library cell)))
-    → is_dirty library records cell ≡ dirty
-    → MatchBool dirty (IsExtracted library records cell after told) ((after ≡ records) × (told ≡ [])) → P after
-after_extraction P library records cell after told true same made is extracts =
-    subst P (sym extracts.after_is) (made extracts.ext extracts.is)
-after_extraction P library records cell after told false same made is extracts = subst P (sym extracts.0) (same refl)
-
-module _ (library : LibraryParts) (records : Records) (cell : ℕ) (after : Records) (told : List Extracted)
-    (extracts : Extracts library records cell after told) where
-  -- Records agree with the library after an extraction.
-  pub agrees_extracted : cell < length library.contents → Agrees library records → Agrees library after
-  agrees_extracted below agrees =
-      after_extraction (Agrees library) library records cell after told (is_dirty library records cell) (λ clean. agrees)
-      (λ ext now. agrees_made library records cell ext below now agrees) refl extracts
-
-  -- The cell that was extracted is not dirty.
-  pub clean_extracted : is_dirty library after cell ≡ false
-  clean_extracted =
-      after_extraction (λ (r : Records). is_dirty library r cell ≡ false) library records cell after told (is_dirty library records cell) (λ clean. clean)
-      (λ ext now. clean_made library records cell ext) refl extracts
-
-  -- Any other cell is dirty as before.
-  pub dirty_extracted : (key : ℕ) → key ≢ cell → is_dirty library after key ≡ is_dirty library records key
-  dirty_extracted key other =
-      after_extraction (λ (r : Records). is_dirty library r key ≡ is_dirty library records key) library records cell after told
-      (is_dirty library records cell) (λ clean. refl) (λ ext now. dirty_besides library records cell ext key other) refl extracts
 
 -- A cell that is not dirty has a record, which is that of the cell as it is.
 pub kept_clean : (library : LibraryParts) (records : Records) (cell : ℕ) → Agrees library records → is_dirty library records cell ≡ false

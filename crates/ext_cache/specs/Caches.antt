@@ -1,5 +1,5 @@
 -- The records that are kept of a library's cells, which cells are dirty, and what an extraction does.
-use Rattle.std.specs.Prelude.{◌≡◌, ◌<◌, ◌≤◌, ◌==◌, nat_lt, not, if◌then◌else◌, ℕ, suc, Bool, true, MatchBool, List, [], ◌∷◌, length, Option, Some}
+use Rattle.std.specs.Prelude.{◌≡◌, ◌<◌, ◌≤◌, ◌==◌, nat_lt, not, if◌then◌else◌, ℕ, suc, ◌+◌, ◌*◌, Bool, true, List, [], ◌∷◌, length, filter, Option, Some}
 use Rattle.std.specs.Prelude.{None, option_map, refl}
 use Rattle.std.specs.Coded.{Coded, code_by, coded×, coded_ℕ}
 use Rattle.std.specs.FinMap as fin_map
@@ -12,7 +12,13 @@ use Rattle.names.specs.Attachments.{AreUnattached}
 use Rattle.cell_tree.specs.Trees.{stamp_at}
 use Rattle.cell_library.specs.Libraries.{LibraryParts, seen}
 use Rattle.cell_library.specs.Views.{LibraryView, view_at}
-use Rattle.own_records.specs.OwnRecords.{IsOwnRecord}
+use Rattle.use_orders.specs.LibraryOrder.{IsLibraryOrder}
+use Rattle.hierarchy_model.specs.CleanCells.{IsClean}
+use Rattle.cell_library.specs.Additions.{children_in}
+use Rattle.cell_library.specs.LayoutTrees.{tree_at}
+use Rattle.tree_records.specs.TreeRecords.{IsTreeRecord}
+use Rattle.library_trees.specs.NamedCells.{named_tree_at}
+use Rattle.hier_merge.specs.Interactions.{IsWork}
 use Rattle.ext_cache.specs.declared.extraction.Extracted.{Extracted}
 use Rattle.ext_cache.specs.declared.limits.TheConstants.{LAST_SERIAL}
 
@@ -42,10 +48,10 @@ record_in records cell = option_map (λ entry. entry.ext) (entry_in records cell
 abbrev pub stamp_in : LibraryParts → ℕ → ℕ
 stamp_in library cell = stamp_at library.tree.stamps cell
 
--- The record is that of the cell as it is: it has no uses.
+-- The cell is clean, and the record is that of the cell as it is.
 pub record IsRecordNow (view : LibraryView) (cell : ℕ) (ext : CellExt) : Type 0 where
-  pub no_uses : (view_at view cell).uses ≡ []
-  pub is : IsOwnRecord view.tech (view_at view cell).own (view_at view cell).labels (view_at view cell).name ext
+  pub clean : IsClean view.tech (tree_at view cell)
+  pub is : IsTreeRecord view.tech (named_tree_at view cell) ext
   pub lawful : IsLawful ext
 
 -- Records are kept of cells of the library alone, none is of a later stamp than its cell has, and one of its cell's stamp is that of the
@@ -76,18 +82,34 @@ with_record records cell ext stamp = record {
   made = next_serial records.made;
 }
 
--- A record of the cell was made, and these labels name nothing.
-pub record IsExtracted (library : LibraryParts) (records : Records) (cell : ℕ) (after : Records) (told : List Extracted) : Type 0 where
-  pub ext : CellExt
-  pub is : IsRecordNow (seen library) cell ext
-  pub unattached : List (List ℕ)
-  pub are_unattached : AreUnattached (seen library).tech (view_at (seen library) cell).own (view_at (seen library) cell).labels unattached
-  pub after_is : after ≡ with_record records cell ext (stamp_in library cell)
-  pub told_is : told ≡ record { cell = record { 0 = cell }; unattached = unattached } ∷ []
+-- A record is made of each of these cells, one after another, and of each is told which of its labels name nothing.
+abbrev pub MakesRecords : LibraryParts → List ℕ → Records → Records → List Extracted → Type 0
+MakesRecords library [] records after told = (after ≡ records) × (told ≡ [])
+MakesRecords library (cell ∷ cells) records after told =
+    (ext : CellExt) × (unattached : List (List ℕ)) × (rest : List Extracted)
+    × IsRecordNow (seen library) cell ext
+    × AreUnattached (seen library).tech (view_at (seen library) cell).own (view_at (seen library) cell).labels unattached
+    × (told ≡ record { cell = record { 0 = cell }; unattached = unattached } ∷ rest)
+    × MakesRecords library cells (with_record records cell ext (stamp_in library cell)) after rest
 
--- What an extraction of a cell without uses does: it makes a record of the cell where it is dirty, and nothing elsewhere.
-abbrev pub Extracts : LibraryParts → Records → ℕ → Records → List Extracted → Type 0
-Extracts library records cell after told =
-    MatchBool (is_dirty library records cell)
-    (IsExtracted library records cell after told)
-    ((after ≡ records) × (told ≡ []))
+-- those of the cells that are dirty, in their order
+abbrev pub dirty_cells : LibraryParts → Records → List ℕ → List ℕ
+dirty_cells library records cells = filter (is_dirty library records) cells
+
+-- What an extraction does: it makes a record of each dirty cell at and below the root, in library order, and of no other.
+pub record Extracts (library : LibraryParts) (records : Records) (root : ℕ) (after : Records) (told : List Extracted) : Type 0 where
+  pub order : List ℕ
+  pub is_order : IsLibraryOrder (children_in (seen library)) root order
+  pub makes : MakesRecords library (dirty_cells library records order) records after told
+
+-- The steps that records of these cells may take: for each, two for each tile where its parts interact, and two.
+abbrev pub IsWorkOfAll : LibraryView → List ℕ → ℕ → Type 0
+IsWorkOfAll view [] work = work ≡ 0
+IsWorkOfAll view (cell ∷ cells) work =
+    (own : ℕ) × (rest : ℕ) × IsWork view cell own × IsWorkOfAll view cells rest × (work ≡ 2 * own + 2 + rest)
+
+-- An extraction of the root takes no more steps than these: those for the dirty cells at and below it.
+pub record IsWorkOfExtraction (library : LibraryParts) (records : Records) (root work : ℕ) : Type 0 where
+  pub order : List ℕ
+  pub is_order : IsLibraryOrder (children_in (seen library)) root order
+  pub is_work : IsWorkOfAll (seen library) (dirty_cells library records order) work

@@ -1,1 +1,4 @@
 pub mod Caches
+pub mod Refusals
+pub mod Undoing
+pub mod MadeRecords

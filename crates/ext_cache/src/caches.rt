@@ -1,8 +1,8 @@
 //! The records that are kept.
-ghost use Rattle.std.specs.Prelude.{◌≡◌, OnOk, OnErr};
-ghost use Rattle.std.specs.FinMap as fin_map;
+ghost use Rattle.std.specs.Prelude.{◌≡◌, Some, All, map, IfOk, IsSome, OnOk, OnErr};
 ghost use Rattle.std.specs.Option.{option_copied};
 ghost use Rattle.ext_cache.specs.Caches.{next_serial};
+ghost use Rattle.ext_cache.specs.Undoing.{with_entry};
 
 use crate::limits::LAST_SERIAL;
 use ext_model::{CellExt, CellKey, ExtEntry, ExtTable};
@@ -56,6 +56,24 @@ impl Cache {
         self.table.get(cell)
     }
 
+    /// Copies of the records that are kept of these cells, in their order. Each of them has one. Want of memory alone refuses.
+    pub fn copies(&self, cells: &[CellKey]) -> Result<Vec<CellExt>, AllocError>
+        requires { All (λ cell. IsSome (record_in self.now cell.0)) cells.now }
+        ensures { IfOk result (λ exts. map (λ ext. Some ext) exts.items ≡ map (λ cell. record_in self.now cell.0) cells.now) }
+    {
+        let mut exts = Vec::with_capacity(self.alloc, cells.len())?;
+        for cell in cells {
+            let Some(ext) = self.kept(*cell) else {
+                unreachable!()
+            };
+            let Ok(copy) = ext.copy(self.alloc) else {
+                return Err(AllocError);
+            };
+            exts.push(copy)?;
+        }
+        Ok(exts)
+    }
+
     /// What records take their memory from.
     pub(crate) fn allocator(&self) -> Global {
         self.alloc
@@ -71,9 +89,23 @@ impl Cache {
         }
     }
 
-    /// Keeps a new record of the cell, in place of any earlier one. Want of memory alone refuses, and leaves the records as they were.
-    pub(crate) fn keep(&mut self, cell: CellKey, ext: CellExt, stamp: u64) -> Result<(), AllocError>
+    /// The records of cells, by their keys.
+    pub(crate) fn table(&self) -> &ExtTable
+        ensures { result.now.entries ≡ self.now.entries }
+    {
+        &self.table
+    }
+
+    /// Keeps a new record of the cell, and hands out the entry that it replaces. Want of memory alone refuses, and leaves the records as they
+    /// were.
+    pub(crate) fn keep(
+        &mut self,
+        cell: CellKey,
+        ext: CellExt,
+        stamp: u64,
+    ) -> Result<Option<ExtEntry>, AllocError>
         ensures kept { OnOk result (self.new ≡ with_record self.old cell.0 ext stamp) }
+        ensures replaced { IfOk result (λ entry. entry ≡ entry_in self.old cell.0) }
         ensures refused { OnErr result (self.new ≡ self.old) }
     {
         let Ok(()) = self.table.reserve(1) else {
@@ -85,8 +117,23 @@ impl Cache {
             serial: self.made,
             stamp,
         };
-        self.table.put(cell, entry);
-        Ok(())
+        Ok(self.table.put(cell, entry))
+    }
+
+    /// Puts back the entry that a cell had when so many records were made. It takes no memory.
+    pub(crate) fn put_back(&mut self, cell: CellKey, entry: Option<ExtEntry>, made: u64)
+        requires { IsSome (entry_in self.old cell.0) }
+        ensures { self.new ≡ record { entries = with_entry self.old.entries cell.0 entry; made = made } }
+    {
+        match entry {
+            Some(entry) => {
+                self.table.put(cell, entry);
+            }
+            None => {
+                self.table.take(cell);
+            }
+        }
+        self.made = made;
     }
 }
 

@@ -5,16 +5,28 @@
 //! # How the proof goes
 //!
 //! Records agree with a library where none is of a later stamp than its cell has, and each of its cell's stamp is that of the cell as it is.
-//! An extraction adds a record of the present stamp (`RecordLaws`). An edit gives its cell and all above it a stamp that is later than that of
+//! A new record of the present stamp keeps them so (`RecordLaws`). An edit gives its cell and all above it a stamp that is later than that of
 //! any record, so these are dirty then, and the others keep their stamps and stay as they were (`EditLaws`); what stands above in the tree of
-//! cells is what is seen to have the cell below itself (`AboveLaws`). A cell that comes has no record (`ArrivalLaws`). The labels of a library
-//! are such as may name nodes (`LabelLaws`).
+//! cells is what is seen to have the cell below itself (`AboveLaws`). A cell that comes has no record (`ArrivalLaws`).
+//!
+//! An extraction goes over the cells in library order, passes over those that are not dirty, and keeps a new record of each of the others.
+//! A cell stands behind all that are below it, and each cell is listed once (`OrderLaws`). So what is below the cell at hand is not dirty any
+//! more, where new records were kept of the dirty cells so far (`MakingLaws`): it has a record, which is of the cell as it is, and is clean.
+//! The cell itself is dirty if it was at the start. `LoopLaws` has how the extraction goes on with it. Its labels are such as may name nodes
+//! (`LabelLaws`), and a record with the nodes and transistors of its own paint, its elements and its merges is its record (`MadeLaws`). The
+//! steps are those of each dirty cell, one after another (`WorkLaws`).
+//!
+//! A cell that is not clean is the first of the order, since all before it are clean (`UncleanLaws`). A log has what each new record replaced:
+//! put back from the last to the first, this leaves the records as they were (`UndoingLaws`).
 #![tactic(auto)]
 
 mod caches;
 mod extraction;
+mod faults;
 mod limits;
+mod undo;
 
 pub use caches::Cache;
 pub use extraction::{Extracted, extract_dirty};
+pub use faults::{ExtractFault, Unclean};
 pub use limits::LAST_SERIAL;

@@ -1,0 +1,79 @@
+-- A record that is put together of a cell's own paint, its elements and its merges is the cell's.
+use Rattle.std.proofs.Common.{◌≡◌, ◌==◌, ◌∙◌, ℕ, zero, suc, Bool, true, List, [], ◌∷◌, length, refl, sym, ap, subst, arith}
+use Rattle.std.proofs.lemmas.Bool.Decides.{nat_tests}
+use Rattle.geo_core.specs.declared.squares.Rect.{Rect}
+use Rattle.tech_model.specs.declared.raw.Label.{Label}
+use Rattle.tech_model.specs.declared.raw.RawTech.{RawTech}
+use Rattle.layout_model.specs.Layouts.{Layout}
+use Rattle.cell_tree.specs.declared.limits.TheConstants.{MOST_DEPTH}
+use Rattle.own_records.specs.OwnRecords.{IsOwnRecord}
+use Rattle.own_records.specs.FetRecords.{AreFetRecords, IsNodeBefore}
+use Rattle.cell_nodes.specs.NodeRecords.{AreNodeRecords}
+use Rattle.named_trees.specs.NamedTrees.{OwnBody, own_body}
+use Rattle.tree_records.specs.Merges.{AreGroupMerges}
+use Rattle.tree_records.specs.TreeRecords.{IsTreeRecord}
+use Rattle.cell_library.specs.Libraries.{LibraryParts, seen}
+use Rattle.cell_library.specs.Views.{LibraryView, view_at}
+use Rattle.library_trees.specs.NamedCells.{named_tree_at, named_tree_to, own_body_of}
+use Rattle.hier_merge.specs.UncleanCells.{IsCleanCell}
+use Rattle.lawful_trees.specs.Laws.{TreeRecordIsLawful}
+use Rattle.ext_model.specs.declared.records.CellExt.{CellExt}
+use Rattle.cell_records.specs.declared.records.CellRecord.{CellRecord}
+use Rattle.tree_merges.specs.declared.relating.Related.{Related}
+use Rattle.ext_cache.specs.Caches.{IsRecordNow}
+use Rattle.ext_cache.specs.MadeRecords.{IsMadeOf}
+
+-- the tree of a cell has what the cell has of its own
+own_body_to : (view : LibraryView) (depth cell : ℕ) → own_body (named_tree_to view depth cell) ≡ own_body_of view cell
+own_body_to view zero cell = refl
+own_body_to view (suc depth) cell = refl
+
+own_body_at : (view : LibraryView) (cell : ℕ) → own_body (named_tree_at view cell) ≡ own_body_of view cell
+unfolding named_tree_at
+own_body_at view cell = own_body_to view MOST_DEPTH cell
+
+-- an own record stays one, along equations
+pub own_record_of : (raw other : RawTech) (layout there : Layout) (labels words : List Label) (name text : List ℕ) (ext : CellExt) → raw ≡ other
+    → layout ≡ there → labels ≡ words → name ≡ text → IsOwnRecord raw layout labels name ext → IsOwnRecord other there words text ext
+own_record_of raw other layout there labels words name text ext same_raw same_layout same_labels same_name is =
+    subst (λ (r : RawTech). IsOwnRecord r there words text ext) same_raw
+    (subst (λ (l : Layout). IsOwnRecord raw l words text ext) same_layout
+    (subst (λ (w : List Label). IsOwnRecord raw layout w text ext) same_labels
+    (subst (λ (n : List ℕ). IsOwnRecord raw layout labels n ext) same_name is)))
+
+-- a list that is found to be empty is
+pub found_empty : (strips items : List (ℕ × Rect)) (empty : Bool) → items ≡ strips → empty ≡ (length items == 0) → empty ≡ true → strips ≡ []
+found_empty [] items empty same is holds = refl
+found_empty (strip ∷ strips) items empty same is holds = absurd (grind (arith, nat_tests, ap length same))
+
+module _ (view : LibraryView) (cell : ℕ) (own : CellRecord) (related : Related) (made : CellRecord)
+    (is_own : IsOwnRecord view.tech (view_at view cell).own (view_at view cell).labels (view_at view cell).name own.ext)
+    (is_made : IsMadeOf view cell own related made) where
+  -- the record has the cell's merges, so it is the record of the cell's tree
+  pub made_is_of_tree : AreGroupMerges view.tech (named_tree_at view cell) related.merges → IsTreeRecord view.tech (named_tree_at view cell) made.ext
+  made_is_of_tree merges =
+      let there : OwnBody = own_body (named_tree_at view cell) in
+      let body : own_body_of view cell ≡ there = sym (own_body_at view cell) in
+      let Nodes : OwnBody → CellExt → Type 0 = λ own_of ext. AreNodeRecords view.tech own_of.layout own_of.labels ext.nodes in
+      let Fets : OwnBody → CellExt → Type 0 =
+      λ own_of ext. AreFetRecords view.tech own_of.layout own_of.labels (IsNodeBefore view.tech own_of.layout own_of.labels) ext.fets in
+      record {
+        cell = ap (λ (ext : CellExt). ext.cell) is_made.ext ∙ is_own.cell ∙ ap (λ (own : OwnBody). own.name) body;
+        tech = ap (λ (ext : CellExt). ext.tech) is_made.ext ∙ is_own.tech;
+        classes = ap (λ (ext : CellExt). ext.classes) is_made.ext ∙ is_own.classes;
+        uses = ap (λ (ext : CellExt). ext.uses) is_made.ext;
+        nodes = subst (Nodes there) (sym is_made.ext) (subst (λ (own_of : OwnBody). Nodes own_of own.ext) body is_own.nodes);
+        fets = subst (Fets there) (sym is_made.ext) (subst (λ (own_of : OwnBody). Fets own_of own.ext) body is_own.fets);
+        merges = subst (λ (ext : CellExt). AreGroupMerges view.tech (named_tree_at view cell) ext.merges) (sym is_made.ext) merges;
+      }
+
+-- Where the cell is clean, that is its record now.
+pub made_is_now : (library : LibraryParts) (cell : ℕ) (own : CellRecord) (related : Related) (made : CellRecord)
+    → TreeRecordIsLawful library cell → IsCleanCell (seen library) cell
+    → IsOwnRecord library.tech (view_at (seen library) cell).own (view_at (seen library) cell).labels (view_at (seen library) cell).name own.ext
+    → AreGroupMerges library.tech (named_tree_at (seen library) cell) related.merges → IsMadeOf (seen library) cell own related made
+    → IsRecordNow (seen library) cell made.ext
+made_is_now library cell own related made law clean is_own merges is_made =
+    let is : IsTreeRecord library.tech (named_tree_at (seen library) cell) made.ext =
+    made_is_of_tree (seen library) cell own related made is_own is_made merges in
+    record { clean = clean; is = is; lawful = law made.ext clean is }

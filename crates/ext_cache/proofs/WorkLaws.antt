@@ -1,0 +1,35 @@
+-- The work of several cells.
+use Rattle.std.proofs.Common.{◌≡◌, ◌≤◌, ◌+◌, ◌*◌, ℕ, List, [], ◌∷◌, ◌++◌, refl, arith}
+use Rattle.cell_library.specs.Views.{LibraryView}
+use Rattle.hier_merge.specs.Interactions.{IsWork}
+use Rattle.ext_cache.specs.Caches.{IsWorkOfAll}
+
+-- The work of the first cells, and that of the others.
+pub record WorkSplits (view : LibraryView) (first rest : List ℕ) (work : ℕ) : Type 0 where
+  pub before : ℕ
+  pub after : ℕ
+  pub is_before : IsWorkOfAll view first before
+  pub is_after : IsWorkOfAll view rest after
+  pub sum : work ≡ before + after
+
+pub work_splits : (view : LibraryView) (first rest : List ℕ) (work : ℕ) → IsWorkOfAll view (first ++ rest) work → WorkSplits view first rest work
+work_splits view [] rest work is = record { before = 0; after = work; is_before = refl; is_after = is; sum = omega arith }
+work_splits view (cell ∷ first) rest work (own, others, is_own, is_others, sum) =
+    let split = work_splits view first rest others is_others in
+    record {
+      before = 2 * own + 2 + split.before;
+      after = split.after;
+      is_before = (own, split.before, is_own, split.is_before, refl);
+      is_after = split.is_after;
+      sum = omega (arith, sum, split.sum);
+    }
+
+-- Where the first cells took no more than their work, and the next no more than its own, all of it is within the work of all.
+pub work_within : (view : LibraryView) (first rest : List ℕ) (cell start here after : ℕ)
+    → ((work : ℕ) → IsWorkOfAll view first work → here ≤ start + work) → ((work : ℕ) → IsWork view cell work → after ≤ here + (2 * work + 2))
+    → (work : ℕ) → IsWorkOfAll view (first ++ cell ∷ rest) work → after ≤ start + work
+work_within view first rest cell start here after before own work is =
+    let split = work_splits view first (cell ∷ rest) work is in
+    let bound = before split.before split.is_before in
+    let next = own split.is_after.0 split.is_after.2 in
+    omega (arith, bound, next, split.sum, split.is_after.4)

@@ -1,0 +1,10 @@
+use Rattle.ext_cache.specs.Caches.{Records}
+use Rattle.ext_cache.specs.Undoing.{IsLogOf}
+use Rattle.ext_cache.proofs.caches.Cache.roll_back.Given as goal
+
+-- what is left of the log tells of the records
+abbrev pub invariant-loop-undo : goal.invariant-loop-undo
+invariant-loop-undo l = (before : Records) → IsLogOf before l.initial.log.items l.initial.self → IsLogOf before l.log.items l.self
+
+abbrev pub decreases-loop-undo : goal.decreases-loop-undo
+decreases-loop-undo l = goal.left-loop-undo l
