@@ -1,88 +1,95 @@
--- What the commands answer that extract a cell, and those that write its circuit.
-use Rattle.std.proofs.Common.{◌≡◌, ℕ, false, List, [], ◌∷◌, Some, sym, subst, inl, inr}
-use Rattle.finite_sets.specs.Lists.{In}
-use Rattle.finite_sets.proofs.Searches.{All-from_In}
+-- What the commands answer that write the circuit of a cell.
+use Rattle.std.proofs.Common.{◌≡◌, ◌<◌, ◌∙◌, ℕ, List, length, Option, Some, refl, sym, ap, subst, inl, inr}
+use Rattle.std.specs.Prelude.{IsSome}
+use Rattle.tech_model.specs.declared.raw.RawTech.{RawTech}
 use Rattle.geo_core.specs.declared.limits.Limit.{Limit}
 use Rattle.geo_core.specs.declared.limits.Limit.TheVariants.{Nodes, Names}
 use Rattle.ext_model.specs.declared.circuits.Circuit.{Circuit}
 use Rattle.ext_model.specs.declared.records.CellExt.{CellExt}
-use Rattle.ext_model.specs.Lawful.{IsLawful}
 use Rattle.circuit_model.specs.declared.faults.FlatFault.{FlatFault}
 use Rattle.circuit_model.specs.declared.faults.FlatFault.TheVariants.{TooMany as FlatTooMany}
-use Rattle.circuit_model.specs.Elements.{AreRecords}
+use Rattle.circuit_model.specs.Elements.{AreRecords, ext_of}
 use Rattle.circuit_model.specs.Refusals.{IsFlatFaultOf, IsFlatOf}
 use Rattle.circuit_laws.specs.CircuitLaws.{FlatTransistorsHaveLetterAndLengths}
-use Rattle.own_record_laws.specs.Laws.{OwnRecordsHaveNoOtherFault, OwnRecordsMeanTheLayout}
+use Rattle.hier_merge.specs.UncleanCells.{IsCleanCell}
+use Rattle.cell_library.specs.Libraries.{IsLawfulLibrary, LibraryParts, seen}
 use Rattle.cell_library.specs.Views.{LibraryView, view_at}
-use Rattle.cell_library.specs.Libraries.{LibraryParts, seen}
-use Rattle.ext_cache.specs.Caches.{Agrees, IsRecordNow, Records, is_dirty, record_in}
-use Rattle.ext_cache.proofs.RecordLaws.{kept_clean}
-use Rattle.network_laws.specs.NetworkLaws.{FlatNetworksFit, OwnCircuitsHaveLetters}
+use Rattle.named_trees.specs.NamedTrees.{NamedTree, own_body}
+use Rattle.named_trees.specs.NamedTrees.NamedTree.{named_tree}
+use Rattle.tree_records.specs.TreeRecords.{HasTreeRecord, HasTreeRecords}
+use Rattle.tree_circuits.specs.Laws.{RecordsStandForTheFlatLayout, TreeRecordsHaveNoOtherFault}
+use Rattle.library_trees.specs.Laws.{AreChainsShort, CleanCellHasCleanTree}
+use Rattle.library_trees.specs.NamedCells.{named_tree_at}
+use Rattle.magex_top.proofs.CellNames.{tree_named}
+use Rattle.network_laws.specs.NetworkLaws.{FlatCircuitsHaveLetters, FlatNetworksFit}
 use Rattle.magex_top.specs.declared.circuits.CircuitFile.{CircuitFile}
 use Rattle.magex_top.specs.declared.circuits.Flattened.TheVariants.{Circuit as OneCircuit}
 use Rattle.magex_top.specs.declared.circuits.Written.{Written}
 use Rattle.magex_top.specs.declared.circuits.Written.TheVariants.{Stored, Passed}
 use Rattle.magex_top.specs.Circuits.{IsCircuitAt, IsFlattenedAt, IsWritten, IsWrittenAt, PassesAt}
+use Rattle.magex_top.proofs.StandingLaws.{few_elements}
 
--- ---- a record alone
+-- ---- the records of a clean cell and of all below it
 
--- it is a tree of records
-pub alone : (ext : CellExt) → IsLawful ext → AreRecords (ext ∷ [])
-alone ext lawful = record { lawful = All-from_In IsLawful (ext ∷ []) each; cells_differ = (λ absent. absent, tt) }
-  where
-    each : (one : CellExt) → In one (ext ∷ []) → IsLawful one
-    each one (inl same) = subst IsLawful same lawful
-    each one (inr absent) = absurd absent
+-- the record of the cell at the top
+top_record : (raw : RawTech) (exts : List CellExt) (tree : NamedTree) → HasTreeRecords raw exts tree → HasTreeRecord raw exts tree
+top_record raw exts (named_tree own elements) has = has.0
 
--- what it means is the circuit of its cell
-pub circuit_alone : (library : LibraryView) (cell : ℕ) (ext : CellExt) (circuit : Circuit) → OwnRecordsMeanTheLayout → IsRecordNow library cell ext
-    → IsFlatOf (ext ∷ []) ext.cell circuit → IsCircuitAt library cell circuit
-circuit_alone library cell ext circuit means now flat =
-    let named = subst (λ (name : List ℕ). IsFlatOf (ext ∷ []) name circuit) now.is.cell flat in
-    record {
-      ext = ext;
-      is_record = now.is;
-      is_flat = flat;
-      is_circuit = means library.tech (view_at library cell).own (view_at library cell).labels (view_at library cell).name ext circuit now.lawful now.is named;
-    }
+module _ (library : LibraryParts) (lawful : IsLawfulLibrary library) (cell : ℕ) (there : cell < length library.contents)
+    (clean : IsCleanCell (seen library) cell) (exts : List CellExt) (are : AreRecords exts)
+    (tree : HasTreeRecords library.tech exts (named_tree_at (seen library) cell)) where
+  -- the name of the cell is that of its tree
+  name_is : (own_body (named_tree_at (seen library) cell)).name ≡ (view_at (seen library) cell).name
+  name_is = tree_named library lawful cell there
 
--- sim records can be made of it, and a network of these
-pub flattened_alone : (library : LibraryView) (cell : ℕ) (ext : CellExt) (circuit : Circuit) → OwnRecordsMeanTheLayout → FlatTransistorsHaveLetterAndLengths
-    → FlatNetworksFit → OwnCircuitsHaveLetters library.tech → IsRecordNow library cell ext → IsFlatOf (ext ∷ []) ext.cell circuit
-    → IsFlattenedAt library cell (OneCircuit circuit)
-flattened_alone library cell ext circuit means lengths fit letters now flat =
-    let is = circuit_alone library cell ext circuit means now flat in
-    let tree = alone ext now.lawful in (
-      is,
-      lengths (ext ∷ []) ext.cell circuit tree flat,
-      record {
-        letters = letters (view_at library cell).own (view_at library cell).labels circuit is.is_circuit;
-        few_nodes = fit (ext ∷ []) ext.cell circuit tree flat;
-      },
-    )
+  -- one of them is that of the cell
+  pub root_found : IsSome (ext_of exts (view_at (seen library) cell).name)
+  root_found =
+      let top = top_record library.tech exts (named_tree_at (seen library) cell) tree in
+      let found : ext_of exts (view_at (seen library) cell).name ≡ Some top.ext = ap (ext_of exts) (sym name_is) ∙ top.found in
+      subst (λ (one : Option CellExt). IsSome one) (sym found) refl
 
--- or it passes a limit
-pub passes_alone : (library : LibraryView) (cell : ℕ) (ext : CellExt) (limit : Limit) → IsRecordNow library cell ext
-    → IsFlatFaultOf (ext ∷ []) ext.cell (FlatTooMany limit) → PassesAt library cell limit
-passes_alone library cell ext limit now fault = record { ext = ext; is_record = now.is; is_fault = fault }
+  -- what they mean is the circuit of the cell
+  pub circuit_is : RecordsStandForTheFlatLayout → CleanCellHasCleanTree library cell → AreChainsShort library → (circuit : Circuit)
+      → IsFlatOf exts (view_at (seen library) cell).name circuit → IsCircuitAt (seen library) cell circuit
+  circuit_is stand cleans short circuit flat = record {
+    exts = exts;
+    are_records = tree;
+    is_flat = flat;
+    is_circuit = stand library.tech exts (named_tree_at (seen library) cell) flat.top circuit lawful.well_formed lawful.rules (cleans clean) tree
+        (ap (ext_of exts) name_is ∙ flat.found) (short.chain cell there) flat.meaning;
+  }
 
--- and has no other fault
-pub no_other_fault : (library : LibraryView) (cell : ℕ) (ext : CellExt) (fault : FlatFault) → OwnRecordsHaveNoOtherFault → IsRecordNow library cell ext
-    → IsFlatFaultOf (ext ∷ []) ext.cell fault → (limit : Limit) × (fault ≡ FlatTooMany limit)
-no_other_fault library cell ext fault others now is =
-    let named = subst (λ (name : List ℕ). IsFlatFaultOf (ext ∷ []) name fault) now.is.cell is in
-    elim (others library.tech (view_at library cell).own (view_at library cell).labels (view_at library cell).name ext fault now.is named) [
-      | inl nodes ↦ (Nodes, nodes)
-      | inr names ↦ (Names, names)
-    ]
+  -- sim records can be made of it, and a network of these
+  pub flattened_is : RecordsStandForTheFlatLayout → CleanCellHasCleanTree library cell → AreChainsShort library → FlatTransistorsHaveLetterAndLengths
+      → FlatNetworksFit → FlatCircuitsHaveLetters library.tech → (circuit : Circuit) → IsFlatOf exts (view_at (seen library) cell).name circuit
+      → IsFlattenedAt (seen library) cell (OneCircuit circuit)
+  flattened_is stand cleans short lengths fit letters circuit flat =
+      let is = circuit_is stand cleans short circuit flat in (
+        is,
+        lengths exts (view_at (seen library) cell).name circuit are flat,
+        record {
+          letters = letters (named_tree_at (seen library) cell) circuit is.is_circuit;
+          few_nodes = fit exts (view_at (seen library) cell).name circuit are flat;
+        },
+      )
 
--- what is kept of a cell that is not dirty is its record
-pub kept_is : (library : LibraryParts) (records : Records) (cell : ℕ) (ext : CellExt) → Agrees library records → is_dirty library records cell ≡ false
-    → Some ext ≡ record_in records cell → IsRecordNow (seen library) cell ext
-kept_is library records cell ext agrees clean is =
-    let kept = kept_clean library records cell agrees clean in
-    let same : kept.0 ≡ ext = cc (sym kept.1.0, sym is) in
-    subst (λ (e : CellExt). IsRecordNow (seen library) cell e) same kept.1.1
+  -- or it passes a limit
+  pub passes_limit : (limit : Limit) → IsFlatFaultOf exts (view_at (seen library) cell).name (FlatTooMany limit) → PassesAt (seen library) cell limit
+  passes_limit limit fault = record { exts = exts; are_records = tree; is_fault = fault }
+
+  -- and they have no other fault
+  pub no_other_fault : TreeRecordsHaveNoOtherFault → CleanCellHasCleanTree library cell → AreChainsShort library → (fault : FlatFault)
+      → IsFlatFaultOf exts (view_at (seen library) cell).name fault → (limit : Limit) × (fault ≡ FlatTooMany limit)
+  no_other_fault others cleans short fault is =
+      let named = subst (λ (name : List ℕ). IsFlatFaultOf exts name fault) (sym name_is) is in
+      elim (others library.tech exts (named_tree_at (seen library) cell) fault lawful.well_formed (cleans clean) tree (short.chain cell there)
+      (few_elements library lawful cell there) named) [
+        | inl nodes ↦ (Nodes, nodes)
+        | inr names ↦ (Names, names)
+      ]
+
+-- ---- what is written
 
 -- what is written of the circuit of a cell
 pub written_at : (file : CircuitFile) (library : LibraryView) (cell : ℕ) (name : List ℕ) (circuit : Circuit) (written : Written)

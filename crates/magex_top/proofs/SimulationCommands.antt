@@ -14,35 +14,35 @@ use Rattle.sim_text.specs.SimTexts.{sim_in}
 use Rattle.switch_net.specs.Network.{Network}
 use Rattle.magex_top.specs.declared.faults.TopFault.TheVariants.{File, Sim, TooMany}
 use Rattle.magex_top.specs.CommandSimrun.{RunsRead, RunsRecords, RunsSource, RunsVectors, SimrunMeans, sim_file}
-use Rattle.magex_top.specs.CommandVectors.{RunsCell, RunsFetched}
+use Rattle.magex_top.specs.CommandVectors.{RunsFetched}
 use Rattle.magex_top.specs.Refusals.{refusal}
 use Rattle.magex_top.specs.Simulations.{IsNetOf, PassesNet, TellsVectors, vec_file}
 use Rattle.magex_top.specs.States.{State, Workspace, refused}
 use Rattle.magex_top.proofs.AnswerLaws.{answers_refusal}
 
 -- `vectors`: the vector file was fetched
-pub runs_fetched : (number : ℕ) (name file text : List ℕ) (fetch : Result (List ℕ) FetchFault) (work : Workspace) (cell : ℕ) (after : State) (answer : Answer)
+pub runs_fetched : (number : ℕ) (file text : List ℕ) (fetch : Result (List ℕ) FetchFault) (work : Workspace) (cell : ℕ) (after : State) (answer : Answer)
     → fetch ≡ Ok text
-    → RunsCell number name text (file ∷ []) work cell
+    → RunsFetched number file (Ok text) work cell
     (record { state = after; lines = answer.lines.items; stores = answer.stores.items; fetched = file ∷ [] })
-    → Answers (RunsFetched number name file fetch work cell) after answer
-runs_fetched number name file text fetch work cell after answer is runs = (
+    → Answers (RunsFetched number file fetch work cell) after answer
+runs_fetched number file text fetch work cell after answer is runs = (
   file ∷ [],
   subst
       (λ (f : Result (List ℕ) FetchFault).
-      RunsFetched number name file f work cell (record { state = after; lines = answer.lines.items; stores = answer.stores.items; fetched = file ∷ [] }))
+      RunsFetched number file f work cell (record { state = after; lines = answer.lines.items; stores = answer.stores.items; fetched = file ∷ [] }))
       (sym is) runs,
 )
 
 -- there is none
-pub refuses_fetched : (number : ℕ) (name file : List ℕ) (fault : FetchFault) (fetch : Result (List ℕ) FetchFault) (work : Workspace) (cell : ℕ)
+pub refuses_fetched : (number : ℕ) (file : List ℕ) (fault : FetchFault) (fetch : Result (List ℕ) FetchFault) (work : Workspace) (cell : ℕ)
     (answer : Answer)
     → fetch ≡ Err fault → answer.lines.items ≡ refusal number (File file fault) ∷ [] → answer.stores.items ≡ []
-    → Answers (RunsFetched number name file fetch work cell) (Some work) answer
-refuses_fetched number name file fault fetch work cell answer is lines stores =
-    answers_refusal (RunsFetched number name file fetch work cell) number (Some work) (File file fault) (file ∷ []) answer lines stores
+    → Answers (RunsFetched number file fetch work cell) (Some work) answer
+refuses_fetched number file fault fetch work cell answer is lines stores =
+    answers_refusal (RunsFetched number file fetch work cell) number (Some work) (File file fault) (file ∷ []) answer lines stores
     (subst
-    (λ (f : Result (List ℕ) FetchFault). RunsFetched number name file f work cell (refused number (Some work) (File file fault) (file ∷ [])))
+    (λ (f : Result (List ℕ) FetchFault). RunsFetched number file f work cell (refused number (Some work) (File file fault) (file ∷ [])))
     (sym is) refl)
 
 -- `simrun`: the vector file was fetched

@@ -21,7 +21,9 @@ use Rattle.sim_networks.specs.SimNetworks.{HasLetter, HasMoreNodesThan, records_
 use Rattle.circuit_model.specs.declared.faults.FlatFault.TheVariants.{TooMany as FlatTooMany}
 use Rattle.circuit_model.specs.Refusals.{IsFlatFaultOf, IsFlatOf}
 use Rattle.cell_library.specs.Views.{LibraryView, view_at}
-use Rattle.own_records.specs.OwnCircuits.{IsOwnCircuit}
+use Rattle.tree_records.specs.TreeCircuits.{IsFlatCircuit}
+use Rattle.tree_records.specs.TreeRecords.{HasTreeRecords}
+use Rattle.library_trees.specs.NamedCells.{named_tree_at}
 use Rattle.magex_top.specs.declared.circuits.CircuitFile.{CircuitFile}
 use Rattle.magex_top.specs.declared.circuits.CircuitFile.TheVariants.{Flat, Sim}
 use Rattle.magex_top.specs.declared.circuits.Written.{Written}
@@ -30,7 +32,7 @@ use Rattle.magex_top.specs.declared.circuits.Flattened.{Flattened}
 use Rattle.magex_top.specs.declared.circuits.Flattened.TheVariants.{Circuit as OneCircuit, Passed as TooMuch}
 use Rattle.magex_top.specs.declared.extractions.Extraction.{Extraction}
 use Rattle.magex_top.specs.declared.faults.TopFault.TheVariants.{TooMany}
-use Rattle.magex_top.specs.Extractions.{IsExtraction, IsRecordOf, with_clean}
+use Rattle.magex_top.specs.Extractions.{IsExtraction, with_clean}
 use Rattle.magex_top.specs.Refusals.{refusal}
 use Rattle.magex_top.specs.States.{State, Workspace, reply}
 
@@ -89,20 +91,20 @@ abbrev pub IsWritten : CircuitFile → List ℕ → Circuit → Written → Type
 IsWritten Flat cell circuit written = IsFlatWritten cell circuit written
 IsWritten Sim cell circuit written = IsSimWritten cell circuit written
 
--- ---- circuits of cells without uses
+-- ---- circuits of cells
 
--- The circuit is that of the cell: of its layout, and what its record means.
+-- The circuit is that of the cell's layout painted flat, and what the records of the cell and of all below it mean.
 pub record IsCircuitAt (library : LibraryView) (cell : ℕ) (circuit : Circuit) : Type 0 where
-  pub ext : CellExt
-  pub is_record : IsRecordOf library cell ext
-  pub is_flat : IsFlatOf (ext ∷ []) ext.cell circuit
-  pub is_circuit : IsOwnCircuit library.tech (view_at library cell).own (view_at library cell).labels circuit
+  pub exts : List CellExt
+  pub are_records : HasTreeRecords library.tech exts (named_tree_at library cell)
+  pub is_flat : IsFlatOf exts (view_at library cell).name circuit
+  pub is_circuit : IsFlatCircuit library.tech (named_tree_at library cell) circuit
 
--- The cell has too many nodes for a circuit, or too long names.
+-- The cell has too many nodes for a circuit, or too long names: the records of the cell and of all below it say so.
 pub record PassesAt (library : LibraryView) (cell : ℕ) (limit : Limit) : Type 0 where
-  pub ext : CellExt
-  pub is_record : IsRecordOf library cell ext
-  pub is_fault : IsFlatFaultOf (ext ∷ []) ext.cell (FlatTooMany limit)
+  pub exts : List CellExt
+  pub are_records : HasTreeRecords library.tech exts (named_tree_at library cell)
+  pub is_fault : IsFlatFaultOf exts (view_at library cell).name (FlatTooMany limit)
 
 -- The sim records of the circuit have a network, unless there are too many switches: its transistors have letters that make switches, and
 -- it has no more nodes than a network may have.
@@ -137,11 +139,11 @@ stores_of (Passed limit) = []
 pub record WritesCircuit (file : CircuitFile) (number : ℕ) (name : List ℕ) (work : Workspace) (cell : ℕ)
     (effect : Effect State) : Type 0 where
   pub extraction : Extraction
-  pub is_extraction : IsExtraction work cell name extraction
+  pub is_extraction : IsExtraction work cell extraction
   pub written : Written
   pub is_written : IsWrittenAt file work.editing.library cell name written
   pub is : effect ≡ record {
-    state = Some (with_clean work cell);
+    state = Some (with_clean work is_extraction.order);
     lines = extraction.lines ++ lines_of number written;
     stores = extraction.stores ++ stores_of written;
     fetched = [];

@@ -14,7 +14,7 @@ use Rattle.cell_library.specs.Views.{LibraryView}
 use Rattle.magex_top.specs.declared.extractions.Extraction.{Extraction}
 use Rattle.magex_top.specs.declared.faults.TopFault.TheVariants.{File, TooMany}
 use Rattle.magex_top.specs.Circuits.{IsCircuitAt, PassesAt}
-use Rattle.magex_top.specs.Extractions.{IsExtraction, OnCell, with_clean}
+use Rattle.magex_top.specs.Extractions.{IsExtraction, OnCell, RefusesUnclean, with_clean}
 use Rattle.magex_top.specs.Refusals.{refusal}
 use Rattle.magex_top.specs.Simulations.{TellsNet, vec_file}
 use Rattle.magex_top.specs.States.{State, Workspace, refused}
@@ -42,24 +42,25 @@ abbrev pub TellsAt : ℕ → LibraryView → ℕ → List ℕ → List ReportLin
 TellsAt number library cell text lines = TellsLimit number library cell lines ⊎ TellsCell number library cell text lines
 
 -- The cell is extracted, and then the vectors are run. Where they are refused then, the extraction stays done.
-pub record RunsCell (number : ℕ) (name text : List ℕ) (fetched : List (List ℕ)) (work : Workspace) (cell : ℕ) (effect : Effect State)
+pub record RunsCell (number : ℕ) (text : List ℕ) (fetched : List (List ℕ)) (work : Workspace) (cell : ℕ) (effect : Effect State)
     : Type 0 where
   pub extraction : Extraction
-  pub is_extraction : IsExtraction work cell name extraction
+  pub is_extraction : IsExtraction work cell extraction
   pub lines : List ReportLine
   pub tells : TellsAt number work.editing.library cell text lines
   pub is : effect ≡ record {
-    state = Some (with_clean work cell);
+    state = Some (with_clean work is_extraction.order);
     lines = extraction.lines ++ lines;
     stores = extraction.stores;
     fetched = fetched;
   }
 
--- The vector file is fetched first: where there is none, nothing is extracted.
-abbrev pub RunsFetched : ℕ → List ℕ → List ℕ → Result (List ℕ) FetchFault → Workspace → ℕ → Effect State → Type 0
-RunsFetched number name file (Ok text) work cell effect = RunsCell number name text (file ∷ []) work cell effect
-RunsFetched number name file (Err fault) work cell effect = effect ≡ refused number (Some work) (File file fault) (file ∷ [])
+-- The vector file is fetched first: where there is none, nothing is extracted. A cell at or below the cell may be not clean.
+abbrev pub RunsFetched : ℕ → List ℕ → Result (List ℕ) FetchFault → Workspace → ℕ → Effect State → Type 0
+RunsFetched number file (Ok text) work cell effect =
+    RunsCell number text (file ∷ []) work cell effect ⊎ RefusesUnclean number work (file ∷ []) cell effect
+RunsFetched number file (Err fault) work cell effect = effect ≡ refused number (Some work) (File file fault) (file ∷ [])
 
 abbrev pub VectorsMeans : ℕ → State → Files → List ℕ → List ℕ → Effect State → Type 0
 VectorsMeans number state files name file effect =
-    OnCell number state name (RunsFetched number name (vec_file file) (text_in files (vec_file file))) effect
+    OnCell number state name (RunsFetched number (vec_file file) (text_in files (vec_file file))) effect

@@ -11,7 +11,9 @@ pub mod CommandSimrun
 pub mod CommandSquares
 pub mod CommandTech
 pub mod CommandVectors
+pub mod Extracting
 pub mod Extractions
+pub mod Offending
 pub mod Refusals
 pub mod Runs
 pub mod Sessions

@@ -40,7 +40,7 @@ use Rattle.session_model.specs.declared.report.LineKind.TheVariants.{Refusal}
 use Rattle.session_model.specs.declared.report.ReportLine.{ReportLine}
 use Rattle.magex_top.specs.declared.faults.TopFault.{TopFault}
 use Rattle.magex_top.specs.declared.faults.TopFault.TheVariants.{Line, NoTech, Tech, File, Load, Ext, Sim, Flat, Vectors, TooMany, NoCell, Edit}
-use Rattle.magex_top.specs.declared.faults.TopFault.TheVariants.{TechAgain, NotBuilt}
+use Rattle.magex_top.specs.declared.faults.TopFault.TheVariants.{Unclean, TechAgain, NotBuilt}
 
 -- the name of a section
 abbrev pub section_word : Section → List ℕ
@@ -227,6 +227,7 @@ fault_text (Vectors at) = vec_fault_text at.line at.fault
 fault_text (TooMany limit) = too_many_text limit
 fault_text (NoCell cell) = no_cell_text cell
 fault_text (Edit fault) = edit_fault_text fault
+fault_text (Unclean cell) = codes "E19 unclean " ++ cell
 fault_text TechAgain = codes "E22 technology again"
 fault_text NotBuilt = codes "E26 not built"
 

@@ -1,29 +1,36 @@
 //! What the commands have in common that make the circuit of a cell, and those that store one.
-ghost use Rattle.std.specs.Prelude.{◌≡◌, ◌≤◌, ◌++◌, ◌∷◌, [], false, All, IfOk, IsOkUnless, OnOk, length};
+ghost use Rattle.std.specs.Prelude.{◌≡◌, ◌<◌, ◌≤◌, ◌++◌, ◌∷◌, [], All, IfOk, IsOkUnless, OnOk, length};
 ghost use Rattle.cell_library.specs.Libraries.{seen};
-ghost use Rattle.ext_cache.specs.Caches.{Agrees, is_dirty};
+ghost use Rattle.circuit_model.specs.Elements.{AreRecords};
+ghost use Rattle.ext_cache.specs.Caches.{Agrees};
+ghost use Rattle.hier_merge.specs.UncleanCells.{IsCleanCell};
+ghost use Rattle.library_trees.specs.NamedCells.{named_tree_at};
+ghost use Rattle.tree_records.specs.TreeRecords.{HasTreeRecords};
 ghost use Rattle.sim_records.specs.declared.limits.TheConstants.{MOST_SWITCHES};
 ghost use Rattle.sim_records.specs.SimRecords.{HasLetterAndLengths, sim_of};
 ghost use Rattle.magex_top.specs.Circuits.{IsFlatWritten, IsFlattenedAt, IsSimWritten, IsWritten, bare_line, bare_lines, bare_of};
 ghost use Rattle.magex_top.specs.Circuits.{counts_text, flat_reply, sim_reply};
+ghost use Rattle.magex_top.specs.Extracting.{IsFreshBelow};
 ghost use Rattle.magex_top.specs.States.{reply};
 
 use crate::cells::Edited;
 use crate::refusals::append_with_name;
 use crate::replies::{append_count, file_name, one_line, reply};
+use cell_library::Reader;
 use circuit_laws::flat_transistors_have_letter_and_lengths;
 use circuit_model::FlatFault;
-use ext_model::{CellKey, Circuit, FetRec};
+use ext_model::{CellExt, CellKey, Circuit, FetRec};
 use ext_text::{ExtFault, write_flat};
 use flatten::flatten;
 use geo_core::{Limit, List, Name};
-use network_laws::{flat_networks_fit, own_circuits_have_letters};
-use own_record_laws::{own_records_have_no_other_fault, own_records_mean_the_layout};
+use kept_records::listed_records_are_of_the_tree;
+use library_trees::{chains_are_short, clean_cell_has_clean_tree};
+use network_laws::{flat_circuits_have_letters, flat_networks_fit};
 use session_model::{Halt, ReportLine, Store};
 use sim_records::sim_of;
 use sim_text::{SimFault, SimFile, write_sim};
 use std::alloc::{AllocError, Global};
-use std::slice::from_ref;
+use tree_circuits::{records_stand_for_the_flat_layout, tree_records_have_no_other_fault};
 
 /// The files that a circuit is written into.
 #[derive(Clone, Copy, Debug, PartialEq, Eq)]
@@ -48,23 +55,47 @@ pub enum Flattened {
     Passed(Limit),
 }
 
-/// The circuit of a cell that is not dirty.
+/// The circuit of a cell where none at and below it is dirty.
 pub fn flatten_kept(alloc: Global, edited: &Edited, cell: CellKey) -> Result<Flattened, Halt>
     requires agrees { Agrees edited.now.library edited.now.cache }
-    requires clean { is_dirty edited.now.library edited.now.cache cell.0 ≡ false }
+    requires cell { cell.0 < length edited.now.library.contents }
+    requires fresh { IsFreshBelow edited.now.library edited.now.cache cell.0 }
     ensures flattened { IfOk result (IsFlattenedAt (seen edited.now.library) cell.0) }
     ensures memory { IsOkUnless result Halt.Memory }
 {
-    let Some(ext) = edited.cache.kept(cell) else {
-        unreachable!()
-    };
+    let library = edited.library.reader();
+    let order = library.below(cell)?;
+    // The laws by which these are the records of the cell's tree.
+    library.lawful();
+    listed_records_are_of_the_tree(&library);
+    let exts = edited.cache.copies(order.as_slice())?;
+    flatten_records(alloc, &library, cell, exts.as_slice())
+}
+
+// The circuit of a clean cell, where these are the records of it and of all below it.
+fn flatten_records(
+    alloc: Global,
+    library: &Reader<'_>,
+    cell: CellKey,
+    exts: &[CellExt],
+) -> Result<Flattened, Halt>
+    requires cell { cell.0 < length library.now.contents }
+    requires clean { IsCleanCell (seen library.now) cell.0 }
+    requires records { AreRecords exts.now }
+    requires tree { HasTreeRecords library.now.tech exts.now (named_tree_at (seen library.now) cell.0) }
+    ensures flattened { IfOk result (IsFlattenedAt (seen library.now) cell.0) }
+    ensures memory { IsOkUnless result Halt.Memory }
+{
     // The laws of what is flattened here.
-    own_records_mean_the_layout();
-    own_records_have_no_other_fault();
+    library.lawful();
+    clean_cell_has_clean_tree(library, cell);
+    chains_are_short(library);
+    records_stand_for_the_flat_layout();
+    tree_records_have_no_other_fault();
     flat_transistors_have_letter_and_lengths();
     flat_networks_fit();
-    own_circuits_have_letters(edited.library.tech());
-    match flatten(alloc, from_ref(ext), &ext.cell) {
+    flat_circuits_have_letters(library.tech());
+    match flatten(alloc, exts, library.name_of(cell)) {
         Ok(circuit) => Ok(Flattened::Circuit(circuit)),
         Err(FlatFault::TooMany(limit)) => Ok(Flattened::Passed(limit)),
         Err(FlatFault::Memory) => Err(Halt::Memory),

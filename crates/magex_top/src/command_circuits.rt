@@ -1,18 +1,19 @@
 //! `flat c` and `sim c`: extract c, and store the flat file or the sim file of its circuit.
-ghost use Rattle.std.specs.Prelude.{◌≡◌, ◌<◌, ◌++◌, Some, false, length, IfOk, IsOkUnless};
+ghost use Rattle.std.specs.Prelude.{◌≡◌, ◌<◌, ◌⊎◌, ◌++◌, Some, [], length, IfOk, IsOkUnless};
 ghost use Rattle.cell_library.specs.Libraries.{seen};
-ghost use Rattle.ext_cache.specs.Caches.{Agrees, is_dirty};
+ghost use Rattle.ext_cache.specs.Caches.{Agrees};
 ghost use Rattle.session_model.specs.Effects.{Answers};
 ghost use Rattle.magex_top.specs.Answers.{IsEdited, IsOfInside, IsSession, edited_state, state_of};
 ghost use Rattle.magex_top.specs.Circuits.{IsWrittenAt, WritesCircuit, lines_of, stores_of};
 ghost use Rattle.magex_top.specs.CommandCircuits.{CircuitMeans};
-ghost use Rattle.magex_top.specs.Extractions.{has_uses};
+ghost use Rattle.magex_top.specs.Extracting.{IsFreshBelow};
+ghost use Rattle.magex_top.specs.Extractions.{RefusesUnclean};
 
 use crate::cells::{Edited, LayoutSession};
 use crate::circuits::{CircuitFile, Flattened, Written, flatten_kept, write_circuit};
-use crate::extractions::{Extraction, FoundCell, extract_cell, find_cell};
+use crate::extractions::{Extracting, Extraction, extract_cell};
 use crate::faults::TopFault;
-use crate::replies::{joined, one_store, refuse};
+use crate::replies::{joined, one_store, refuse, told};
 use ext_model::CellKey;
 use geo_core::Name;
 use session_model::{Answer, Halt};
@@ -38,7 +39,7 @@ pub fn circuit(
     }
 }
 
-// Extracts the cell of this name and writes its circuit, where there is one and it has no uses.
+// Extracts the cell of this name and writes its circuit, where there is one.
 fn circuit_named(
     alloc: Global,
     edited: &mut Edited,
@@ -52,13 +53,13 @@ fn circuit_named(
     ensures inside { IfOk result (λ answer. IsOfInside answer.lines.items) }
     ensures memory { IsOkUnless result Halt.Memory }
 {
-    match find_cell(alloc, &edited.library, name)? {
-        FoundCell::Cell(cell) => circuit_found(alloc, edited, number, cell, name, file),
-        FoundCell::Refused(fault) => refuse(alloc, number, fault),
+    match edited.library.find(name.bytes()) {
+        Some(cell) => circuit_found(alloc, edited, number, cell, name, file),
+        None => refuse(alloc, number, TopFault::NoCell(name.copy(alloc)?)),
     }
 }
 
-// Extracts the cell of this name, which has no uses, and writes its circuit.
+// Extracts the cell, which has this name, and writes its circuit.
 fn circuit_found(
     alloc: Global,
     edited: &mut Edited,
@@ -69,18 +70,23 @@ fn circuit_found(
 ) -> Result<Answer, Halt>
     requires edited { IsEdited edited.old }
     requires cell { cell.0 < length edited.old.library.contents }
-    requires no_uses { has_uses (seen edited.old.library) cell.0 ≡ false }
-    ensures effect { IfOk result (Answers (WritesCircuit file number name.now (edited_state edited.old) cell.0) (Some (edited_state edited.new))) }
+    ensures effect { let work = edited_state edited.old in IfOk result (Answers
+        (λ effect. WritesCircuit file number name.now work cell.0 effect ⊎ RefusesUnclean number work [] cell.0 effect)
+        (Some (edited_state edited.new))) }
     ensures kept { IsEdited edited.new }
     ensures inside { IfOk result (λ answer. IsOfInside answer.lines.items) }
     ensures memory { IsOkUnless result Halt.Memory }
 {
-    let extraction = extract_cell(alloc, edited, cell, name)?;
-    let written = write_kept(alloc, edited, cell, name, file)?;
-    answer(alloc, number, extraction, written)
+    match extract_cell(alloc, edited, number, cell)? {
+        Extracting::Done(extraction) => {
+            let written = write_kept(alloc, edited, cell, name, file)?;
+            answer(alloc, number, extraction, written)
+        }
+        Extracting::Refused(lines) => Ok(told(alloc, lines.into_vec())),
+    }
 }
 
-// Writes the circuit of a cell that is not dirty.
+// Writes the circuit of a cell where none at and below it is dirty.
 fn write_kept(
     alloc: Global,
     edited: &Edited,
@@ -89,7 +95,8 @@ fn write_kept(
     file: CircuitFile,
 ) -> Result<Written, Halt>
     requires agrees { Agrees edited.now.library edited.now.cache }
-    requires clean { is_dirty edited.now.library edited.now.cache cell.0 ≡ false }
+    requires cell { cell.0 < length edited.now.library.contents }
+    requires fresh { IsFreshBelow edited.now.library edited.now.cache cell.0 }
     ensures written { IfOk result (IsWrittenAt file (seen edited.now.library) cell.0 name.now) }
     ensures memory { IsOkUnless result Halt.Memory }
 {

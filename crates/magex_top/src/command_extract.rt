@@ -1,15 +1,15 @@
-//! `extract c`: makes a new record of c where it is dirty, and stores c.ext.
-ghost use Rattle.std.specs.Prelude.{◌≡◌, ◌<◌, Some, false, length, IfOk, IsOkUnless};
-ghost use Rattle.cell_library.specs.Libraries.{seen};
+//! `extract c`: makes a new record of each dirty cell at and below c, and stores its file.
+ghost use Rattle.std.specs.Prelude.{◌≡◌, ◌<◌, ◌⊎◌, ◌++◌, ◌∷◌, Some, [], length, IfOk, IsOkUnless};
 ghost use Rattle.session_model.specs.Effects.{Answers};
 ghost use Rattle.magex_top.specs.Answers.{IsEdited, IsOfInside, IsSession, edited_state, state_of};
 ghost use Rattle.magex_top.specs.CommandExtract.{ExtractMeans, ExtractsCell};
-ghost use Rattle.magex_top.specs.Extractions.{has_uses};
+ghost use Rattle.magex_top.specs.Extractions.{RefusesUnclean, extracted_text};
+ghost use Rattle.magex_top.specs.States.{reply};
 
 use crate::cells::{Edited, LayoutSession};
-use crate::extractions::{FoundCell, extract_cell, find_cell};
+use crate::extractions::{Extracting, Extraction, extract_cell};
 use crate::faults::TopFault;
-use crate::replies::{extracted, joined, refuse};
+use crate::replies::{extracted, joined, refuse, told};
 use ext_model::CellKey;
 use geo_core::Name;
 use session_model::{Answer, Halt};
@@ -34,7 +34,7 @@ pub fn extract(
     }
 }
 
-// Extracts the cell of this name, where there is one and it has no uses.
+// Extracts the cell of this name, where there is one.
 fn extract_named(
     alloc: Global,
     edited: &mut Edited,
@@ -47,28 +47,40 @@ fn extract_named(
     ensures inside { IfOk result (λ answer. IsOfInside answer.lines.items) }
     ensures memory { IsOkUnless result Halt.Memory }
 {
-    match find_cell(alloc, &edited.library, name)? {
-        FoundCell::Cell(cell) => extract_found(alloc, edited, cell, name),
-        FoundCell::Refused(fault) => refuse(alloc, number, fault),
+    match edited.library.find(name.bytes()) {
+        Some(cell) => extract_found(alloc, edited, number, cell, name),
+        None => refuse(alloc, number, TopFault::NoCell(name.copy(alloc)?)),
     }
 }
 
-// Extracts the cell of this name, which has no uses.
+// Extracts the cell, which has this name.
 fn extract_found(
     alloc: Global,
     edited: &mut Edited,
+    number: usize,
     cell: CellKey,
     name: &Name,
 ) -> Result<Answer, Halt>
     requires edited { IsEdited edited.old }
     requires cell { cell.0 < length edited.old.library.contents }
-    requires no_uses { has_uses (seen edited.old.library) cell.0 ≡ false }
-    ensures effect { IfOk result (Answers (ExtractsCell name.now (edited_state edited.old) cell.0) (Some (edited_state edited.new))) }
+    ensures effect { let work = edited_state edited.old in IfOk result (Answers
+        (λ effect. ExtractsCell name.now work cell.0 effect ⊎ RefusesUnclean number work [] cell.0 effect) (Some (edited_state edited.new))) }
     ensures kept { IsEdited edited.new }
     ensures inside { IfOk result (λ answer. IsOfInside answer.lines.items) }
     ensures memory { IsOkUnless result Halt.Memory }
 {
-    let extraction = extract_cell(alloc, edited, cell, name)?;
+    match extract_cell(alloc, edited, number, cell)? {
+        Extracting::Done(extraction) => answer(alloc, extraction, name),
+        Extracting::Refused(lines) => Ok(told(alloc, lines.into_vec())),
+    }
+}
+
+// What the extraction of the cell of this name comes to, and the reply to it.
+fn answer(alloc: Global, extraction: Extraction, name: &Name) -> Result<Answer, Halt>
+    ensures lines { IfOk result (λ answer. answer.lines.items ≡ extraction.lines ++ reply (extracted_text name.now extraction.count) ∷ []) }
+    ensures stores { IfOk result (λ answer. answer.stores.items ≡ extraction.stores) }
+    ensures memory { IsOkUnless result Halt.Memory }
+{
     let told = extracted(alloc, name, extraction.count)?;
     Ok(Answer {
         lines: joined(extraction.lines, told)?,

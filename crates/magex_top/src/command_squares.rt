@@ -1,38 +1,30 @@
 //! `squares c`: tells that c is clean, or the squares that offend of the first cell at or below it that is not.
-ghost use Rattle.std.specs.Prelude.{◌≡◌, ◌<◌, ◌++◌, All, MatchOption, map, length, codes, IfOk, OnOk, IsOkUnless};
-ghost use Rattle.text_scan.specs.Decimal.{decimal};
+ghost use Rattle.std.specs.Prelude.{◌≡◌, ◌<◌, All, MatchOption, map, length, IfOk, IsOkUnless};
 ghost use Rattle.use_orders.specs.LibraryOrder.{IsLibraryOrder};
 ghost use Rattle.cell_library.specs.Additions.{children_in};
 ghost use Rattle.cell_library.specs.Libraries.{seen};
+ghost use Rattle.hier_merge.specs.UncleanCells.{IsCleanCell, IsUncleanBelow};
 ghost use Rattle.session_model.specs.Effects.{Answers};
 ghost use Rattle.magex_top.specs.Answers.{IsOfInside, IsSession, state_of};
-ghost use Rattle.magex_top.specs.CommandSquares.{AreOffendingOf, IsCleanCell, IsFirstUnclean, SquaresMeans, TellsSquares};
-ghost use Rattle.magex_top.specs.CommandSquares.{bounds_text, clean_text, offending_line};
+ghost use Rattle.magex_top.specs.CommandSquares.{SquaresMeans, TellsSquares, clean_text};
 ghost use Rattle.magex_top.specs.States.{reply};
 
 use crate::cells::LayoutSession;
 use crate::faults::TopFault;
+use crate::offending::offending_lines;
 use crate::refusals::append_with_name;
 use crate::replies::{one_line, refuse, reply, told};
 use cell_library::Reader;
+use ext_cache::Unclean;
 use ext_model::CellKey;
-use geo_core::{List, Name, Rect};
+use geo_core::{List, Name};
 use hier_merge::offending_of;
-use session_model::{Answer, Halt, LineKind, ReportLine};
+use session_model::{Answer, Halt, ReportLine};
 use std::alloc::{AllocError, Global};
 use std::marker::Brand;
 use std::sync::ledger::{Blank, Ledger};
 use step_count::Steps;
-use tech_model::Tech;
-use text_scan::append_decimal;
 use use_orders::library_order_law;
-
-/// A cell that is not clean, and the strips of its squares that offend, by plane.
-#[derive(Debug, Drop)]
-struct Unclean {
-    cell: CellKey,
-    squares: Vec<(u8, Rect)>,
-}
 
 /// `squares c`, the script's line of this number.
 pub fn squares(
@@ -79,12 +71,7 @@ fn squares_of<L: Ledger>(
     let Some(found) = first_unclean(alloc, library, cell, order.as_slice(), &mut steps)? else {
         return Ok(one_line(alloc, clean_line(alloc, name)?)?);
     };
-    Ok(offending_lines(
-        alloc,
-        library.tech(),
-        library.name_of(found.cell),
-        found.squares.as_slice(),
-    )?)
+    Ok(offending_lines(alloc, library, &found)?)
 }
 
 // The first cell of the order that is not clean, with the squares that offend.
@@ -98,8 +85,7 @@ fn first_unclean<L: Ledger>(
     requires root { root.0 < length library.now.contents }
     requires order { IsLibraryOrder (children_in (seen library.now)) root.0 (map (λ key. key.0) order.now) }
     ensures found { IfOk result (λ found. MatchOption found (All (IsCleanCell (seen library.now)) (map (λ key. key.0) order.now))
-        (λ unclean. IsFirstUnclean (seen library.now) (map (λ key. key.0) order.now) unclean.cell.0
-        × AreOffendingOf (seen library.now) unclean.cell.0 unclean.squares.items × (unclean.cell.0 < length library.now.contents))) }
+        (λ unclean. IsUncleanBelow (seen library.now) root.0 unclean.cell.0 unclean.squares × (unclean.cell.0 < length library.now.contents))) }
     ensures memory { IsOkUnless result Halt.Memory }
 {
     library.lawful();
@@ -112,7 +98,7 @@ fn first_unclean<L: Ledger>(
         if !squares.is_empty() {
             return Ok(Some(Unclean {
                 cell: *cell,
-                squares,
+                squares: List::of(squares),
             }));
         }
     }
@@ -126,64 +112,4 @@ fn clean_line(alloc: Global, name: &Name) -> Result<ReportLine, AllocError>
     let mut text = Vec::new(alloc);
     append_with_name(&mut text, b"clean ", name)?;
     Ok(reply(text))
-}
-
-// The lines of the strips of a cell's squares that offend.
-fn offending_lines(
-    alloc: Global,
-    tech: &Tech,
-    cell: &Name,
-    squares: &[(u8, Rect)],
-) -> Result<Vec<ReportLine>, AllocError>
-    requires { All (λ strip. strip.0 < length tech.now.planes) squares.now }
-    ensures { IfOk result (λ lines. lines.items ≡ map (offending_line tech.now cell.now) squares.now) }
-{
-    let mut lines = Vec::with_capacity(alloc, squares.len())?;
-    for strip in squares {
-        lines.push(offending_line(alloc, tech, cell, strip)?)?;
-    }
-    Ok(lines)
-}
-
-// `offending CELL PLANE XLO YLO XHI YHI`.
-fn offending_line(
-    alloc: Global,
-    tech: &Tech,
-    cell: &Name,
-    strip: &(u8, Rect),
-) -> Result<ReportLine, AllocError>
-    requires { strip.now.0 < length tech.now.planes }
-    ensures { IfOk result (λ line. line ≡ offending_line tech.now cell.now strip.now) }
-{
-    let (plane, area) = strip;
-    let mut text = Vec::new(alloc);
-    append_with_name(&mut text, b"offending ", cell)?;
-    append_with_name(
-        &mut text,
-        b" ",
-        &tech.raw().planes.items()[usize::from(*plane)],
-    )?;
-    append_bounds(&mut text, area)?;
-    Ok(ReportLine {
-        kind: LineKind::Offending,
-        text: List::of(text),
-    })
-}
-
-// Writes the four numbers of a rectangle, a blank before each.
-fn append_bounds(text: &mut Vec<u8>, area: &Rect) -> Result<(), AllocError>
-    ensures { OnOk result (text.new.items ≡ text.old.items ++ bounds_text area.now) }
-{
-    append_number(text, area.xlo)?;
-    append_number(text, area.ylo)?;
-    append_number(text, area.xhi)?;
-    append_number(text, area.yhi)
-}
-
-// Writes a blank and a number.
-fn append_number(text: &mut Vec<u8>, number: i64) -> Result<(), AllocError>
-    ensures { OnOk result (text.new.items ≡ text.old.items ++ (codes " " ++ decimal number)) }
-{
-    text.push(b' ')?;
-    append_decimal(text, i128::from(number))
 }

@@ -1,8 +1,8 @@
 //! `vectors c f`: runs f.vec on the network of the circuit of c.
-ghost use Rattle.std.specs.Prelude.{◌≡◌, ◌<◌, ◌≤◌, ◌∷◌, [], ℕ, List, Some, false, All, length, IfOk, IsOkUnless};
+ghost use Rattle.std.specs.Prelude.{◌≡◌, ◌<◌, ◌≤◌, ◌∷◌, [], ℕ, List, Some, All, length, IfOk, IsOkUnless};
 ghost use Rattle.outside_io.specs.Files.{Files};
 ghost use Rattle.cell_library.specs.Libraries.{seen};
-ghost use Rattle.ext_cache.specs.Caches.{Agrees, is_dirty};
+ghost use Rattle.ext_cache.specs.Caches.{Agrees};
 ghost use Rattle.session_model.specs.Causes.{HasCauses, kinds_of};
 ghost use Rattle.session_model.specs.Effects.{Answers};
 ghost use Rattle.session_model.specs.Fetches.{text_in};
@@ -11,16 +11,16 @@ ghost use Rattle.switch_net.specs.declared.limits.TheConstants.{MOST_NODES, MOST
 ghost use Rattle.sim_networks.specs.SimNetworks.{HasLetter, HasMoreNodesThan, records_of};
 ghost use Rattle.magex_top.specs.Answers.{IsEdited, IsOfInside, IsSession, edited_state, state_of};
 ghost use Rattle.magex_top.specs.Circuits.{CanBeSimulated};
-ghost use Rattle.magex_top.specs.CommandVectors.{RunsCell, RunsFetched, TellsAt, TellsCircuit, VectorsMeans};
-ghost use Rattle.magex_top.specs.Extractions.{has_uses};
+ghost use Rattle.magex_top.specs.CommandVectors.{RunsFetched, TellsAt, TellsCircuit, VectorsMeans};
+ghost use Rattle.magex_top.specs.Extracting.{IsFreshBelow};
 ghost use Rattle.magex_top.specs.Refusals.{refusal};
 ghost use Rattle.magex_top.specs.Simulations.{TellsNet};
 
 use crate::cells::{Edited, LayoutSession};
 use crate::circuits::{Flattened, flatten_kept};
-use crate::extractions::{FoundCell, extract_cell, find_cell};
+use crate::extractions::{Extracting, extract_cell};
 use crate::faults::TopFault;
-use crate::replies::{file_name, joined, refuse, refused_line};
+use crate::replies::{file_name, joined, refuse, refused_line, told};
 use crate::simulations::{MadeNet, make_network, vector_lines};
 use ext_model::{CellKey, Circuit};
 use geo_core::{Limit, Name};
@@ -52,7 +52,7 @@ pub fn vectors<F: Shelf>(
     }
 }
 
-// Runs vectors on the circuit of the cell of this name, where there is one and it has no uses.
+// Runs vectors on the circuit of the cell of this name, where there is one.
 fn vectors_named<F: Shelf>(
     alloc: Global,
     edited: &mut Edited,
@@ -68,72 +68,72 @@ fn vectors_named<F: Shelf>(
     ensures files { F.files shelf.new ≡ F.files shelf.old }
     ensures causes { HasCauses F.Shelf shelf.old shelf.new kinds_of result }
 {
-    match find_cell(alloc, &edited.library, name)? {
-        FoundCell::Cell(cell) => {
+    match edited.library.find(name.bytes()) {
+        Some(cell) => {
             let file = file_name(alloc, file, b".vec")?;
-            fetch_vectors(alloc, edited, shelf, number, cell, name, file)
+            fetch_vectors(alloc, edited, shelf, number, cell, file)
         }
-        FoundCell::Refused(fault) => refuse(alloc, number, fault),
+        None => refuse(alloc, number, TopFault::NoCell(name.copy(alloc)?)),
     }
 }
 
-// Runs the vectors of a file on the circuit of the cell, which has no uses.
+// Runs the vectors of a file on the circuit of the cell.
 fn fetch_vectors<F: Shelf>(
     alloc: Global,
     edited: &mut Edited,
     shelf: &mut F,
     number: usize,
     cell: CellKey,
-    name: &Name,
     file: Name,
 ) -> Result<Answer, Halt>
     requires edited { IsEdited edited.old }
     requires cell { cell.0 < length edited.old.library.contents }
-    requires no_uses { has_uses (seen edited.old.library) cell.0 ≡ false }
     ensures effect { (files : Files) → F.files shelf.old ≡ Some files → IfOk result
-        (Answers (RunsFetched number name.now file (text_in files file) (edited_state edited.old) cell.0) (Some (edited_state edited.new))) }
+        (Answers (RunsFetched number file (text_in files file) (edited_state edited.old) cell.0) (Some (edited_state edited.new))) }
     ensures kept { IsEdited edited.new }
     ensures files { F.files shelf.new ≡ F.files shelf.old }
     ensures causes { HasCauses F.Shelf shelf.old shelf.new kinds_of result }
 {
     match fetch_text(alloc, shelf, &file)? {
-        Fetched::Text(text) => run_cell(alloc, edited, number, cell, name, &text),
+        Fetched::Text(text) => run_cell(alloc, edited, number, cell, &text),
         Fetched::Refused(fault) => refuse(alloc, number, TopFault::File(file, fault)),
     }
 }
 
-// Extracts the cell, which has no uses, and runs the vectors of this text on its circuit.
+// Extracts the cell, and runs the vectors of this text on its circuit.
 fn run_cell(
     alloc: Global,
     edited: &mut Edited,
     number: usize,
     cell: CellKey,
-    name: &Name,
     text: &[u8],
 ) -> Result<Answer, Halt>
     requires edited { IsEdited edited.old }
     requires cell { cell.0 < length edited.old.library.contents }
-    requires no_uses { has_uses (seen edited.old.library) cell.0 ≡ false }
-    ensures effect { (fetched : List (List ℕ)) → IfOk result (λ answer.
-        RunsCell number name.now text.now fetched (edited_state edited.old) cell.0 (record {
+    ensures effect { (file : List ℕ) → IfOk result (λ answer.
+        RunsFetched number file (Ok text.now) (edited_state edited.old) cell.0 (record {
           state = Some (edited_state edited.new);
           lines = answer.lines.items;
           stores = answer.stores.items;
-          fetched = fetched;
+          fetched = file ∷ [];
         })) }
     ensures kept { IsEdited edited.new }
     ensures inside { IfOk result (λ answer. IsOfInside answer.lines.items) }
     ensures memory { IsOkUnless result Halt.Memory }
 {
-    let extraction = extract_cell(alloc, edited, cell, name)?;
-    let lines = run_kept(alloc, edited, number, cell, text)?;
-    Ok(Answer {
-        lines: joined(extraction.lines, lines)?,
-        stores: extraction.stores.into_vec(),
-    })
+    match extract_cell(alloc, edited, number, cell)? {
+        Extracting::Done(extraction) => {
+            let lines = run_kept(alloc, edited, number, cell, text)?;
+            Ok(Answer {
+                lines: joined(extraction.lines, lines)?,
+                stores: extraction.stores.into_vec(),
+            })
+        }
+        Extracting::Refused(lines) => Ok(told(alloc, lines.into_vec())),
+    }
 }
 
-// Runs vectors on the circuit of a cell that is not dirty.
+// Runs vectors on the circuit of a cell where none at and below it is dirty.
 fn run_kept(
     alloc: Global,
     edited: &Edited,
@@ -142,7 +142,8 @@ fn run_kept(
     text: &[u8],
 ) -> Result<Vec<ReportLine>, Halt>
     requires agrees { Agrees edited.now.library edited.now.cache }
-    requires clean { is_dirty edited.now.library edited.now.cache cell.0 ≡ false }
+    requires cell { cell.0 < length edited.now.library.contents }
+    requires fresh { IsFreshBelow edited.now.library edited.now.cache cell.0 }
     ensures tells { IfOk result (λ lines. TellsAt number (seen edited.now.library) cell.0 text.now lines.items) }
     ensures inside { IfOk result (λ lines. IsOfInside lines.items) }
     ensures memory { IsOkUnless result Halt.Memory }

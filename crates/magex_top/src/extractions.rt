@@ -1,17 +1,23 @@
 //! What the commands have in common that extract a cell.
-ghost use Rattle.std.specs.Prelude.{◌≡◌, ◌<◌, ◌∷◌, [], false, length, map, IfOk, IsOkUnless, OnErr};
+ghost use Rattle.std.specs.Prelude.{◌≡◌, ◌<◌, ◌∷◌, Some, All, length, map, IfErr, IfOk, IsOkUnless, OnErr};
+ghost use Rattle.std.specs.List.{flat_map};
 ghost use Rattle.cell_library.specs.Libraries.{seen};
 ghost use Rattle.cell_library.specs.Views.{view_at};
 ghost use Rattle.ext_cache.specs.Caches.{Agrees, Extracts};
+ghost use Rattle.ext_cache.specs.Refusals.{IsUncleanFault};
 ghost use Rattle.magex_top.specs.Answers.{IsEdited, edited_state};
-ghost use Rattle.magex_top.specs.Extractions.{IsExtraction, IsFoundCell, ext_store, has_uses, no_extraction, unattached_line, with_clean};
+ghost use Rattle.magex_top.specs.Extracting.{HasKeptRecord, IsExtracted, kept_store, told_lines};
+ghost use Rattle.magex_top.specs.Extractions.{ext_store, unattached_line};
+ghost use Rattle.magex_top.specs.Offending.{offending_line};
+ghost use Rattle.magex_top.specs.Refusals.{refusal};
 
 use crate::cells::Edited;
 use crate::faults::TopFault;
+use crate::offending::offending_lines;
 use crate::refusals::append_with_name;
-use crate::replies::{file_name, one_store, reply};
-use cell_library::{Library, Reader};
-use ext_cache::{Cache, Extracted, extract_dirty};
+use crate::replies::{file_name, refused_line, reply};
+use cell_library::Reader;
+use ext_cache::{Cache, ExtractFault, Extracted, Unclean, extract_dirty};
 use ext_model::{CellExt, CellKey};
 use ext_text::write_ext;
 use geo_core::{List, Name};
@@ -21,13 +27,6 @@ use std::marker::Brand;
 use std::sync::ledger::{Blank, Ledger};
 use step_count::Steps;
 
-/// The cell of a command's name, or why there is none for it.
-#[derive(Debug, Drop)]
-pub enum FoundCell {
-    Cell(CellKey),
-    Refused(TopFault),
-}
-
 /// What an extraction comes to: the lines of the labels that name nothing, the files that it stores, and how many records it makes.
 #[derive(Debug, Drop)]
 pub struct Extraction {
@@ -36,106 +35,139 @@ pub struct Extraction {
     pub count: usize,
 }
 
-/// The cell of this name, where it has no uses.
-pub fn find_cell(alloc: Global, library: &Library, name: &Name) -> Result<FoundCell, Halt>
-    ensures found { IfOk result (IsFoundCell (seen library.now) name.now) }
-    ensures memory { IsOkUnless result Halt.Memory }
-{
-    let Some(cell) = library.find(name.bytes()) else {
-        return Ok(FoundCell::Refused(TopFault::NoCell(name.copy(alloc)?)));
-    };
-    if library.use_count(cell) > 0 {
-        return Ok(FoundCell::Refused(TopFault::NotBuilt));
-    }
-    Ok(FoundCell::Cell(cell))
+/// The extraction of a cell, or the lines that refuse it since a cell at or below it is not clean.
+#[derive(Debug, Drop)]
+pub enum Extracting {
+    Done(Extraction),
+    Refused(List<ReportLine>),
 }
 
-/// Extracts a cell without uses: makes its record where it is dirty.
+/// Extracts a cell, for the script's line of this number: makes the record of each dirty cell at and below it.
 pub fn extract_cell(
     alloc: Global,
     edited: &mut Edited,
+    number: usize,
     cell: CellKey,
-    name: &Name,
-) -> Result<Extraction, Halt>
+) -> Result<Extracting, Halt>
     requires edited { IsEdited edited.old }
     requires cell { cell.0 < length edited.old.library.contents }
-    requires no_uses { has_uses (seen edited.old.library) cell.0 ≡ false }
-    ensures extraction { IfOk result (IsExtraction (edited_state edited.old) cell.0 name.now) }
+    ensures extracted { IfOk result (IsExtracted number (edited_state edited.old) (edited_state edited.new) cell.0) }
     ensures library { edited.new.library ≡ edited.old.library }
-    ensures current { edited.new.current ≡ edited.old.current }
-    ensures state { IfOk result (λ _. edited_state edited.new ≡ with_clean (edited_state edited.old) cell.0) }
     ensures edited { IsEdited edited.new }
     ensures memory { IsOkUnless result Halt.Memory }
 {
-    let made = extract_root::<Brand>(
-        Blank::new(1),
-        &mut edited.cache,
-        &edited.library.reader(),
-        cell,
-    )?;
-    let Some(extracted) = made.first() else {
-        return Ok(nothing_made(alloc));
-    };
-    match edited.cache.kept(extracted.cell) {
-        Some(ext) => record_made(alloc, ext, extracted.unattached.items(), name),
-        None => unreachable!(),
+    let library = edited.library.reader();
+    library.lawful();
+    match extract_root::<Brand>(Blank::new(1), &mut edited.cache, &library, cell) {
+        Ok(made) => {
+            let extraction = records_made(alloc, &library, &edited.cache, made.as_slice())?;
+            Ok(Extracting::Done(extraction))
+        }
+        Err(ExtractFault::Unclean(found)) => {
+            let lines = unclean_lines(alloc, number, &library, &found)?;
+            Ok(Extracting::Refused(List::of(lines)))
+        }
+        Err(ExtractFault::Memory) => Err(Halt::Memory),
     }
 }
 
-// Extracts what is dirty at the cell, in a count of its own.
+// Extracts what is dirty at and below the cell, in a count of its own.
 fn extract_root<L: Ledger>(
     blank: Blank,
     cache: &mut Cache,
     library: &Reader<'_>,
     cell: CellKey,
-) -> Result<Vec<Extracted>, AllocError>
+) -> Result<Vec<Extracted>, ExtractFault>
     requires name { blank.name ≡ L.name }
     requires parts { blank.parts ≡ L.parts }
     requires some_part { 0 < blank.parts }
     requires root { cell.0 < length library.now.contents }
-    requires no_uses { (view_at (seen library.now) cell.0).uses ≡ [] }
     requires agrees { Agrees library.now cache.old }
     ensures extracted { IfOk result (λ made. Extracts library.now cache.old cell.0 cache.new made.items) }
     ensures agrees { Agrees library.now cache.new }
+    ensures unclean { IfErr result (IsUncleanFault (seen library.now) cell.0) }
     ensures refused { OnErr result (cache.new ≡ cache.old) }
 {
     let mut steps: Steps<L> = Steps::new(blank);
     extract_dirty(cache, library, cell, &mut steps)
 }
 
-// What an extraction comes to that makes no record.
-fn nothing_made(alloc: Global) -> Extraction
-    ensures { result ≡ no_extraction }
+// What an extraction comes to that makes the records of these cells.
+fn records_made(
+    alloc: Global,
+    library: &Reader<'_>,
+    cache: &Cache,
+    made: &[Extracted],
+) -> Result<Extraction, Halt>
+    requires cells { All (λ told. told.cell.0 < length library.now.contents) made.now }
+    requires kept { All (HasKeptRecord cache.now) made.now }
+    ensures lines { IfOk result (λ made_of. made_of.lines ≡ flat_map (told_lines (seen library.now)) made.now) }
+    ensures stores { IfOk result (λ made_of. map (λ store. Some store) made_of.stores ≡ map (kept_store (seen library.now) cache.now) made.now) }
+    ensures count { IfOk result (λ made_of. made_of.count ≡ length made.now) }
+    ensures memory { IsOkUnless result Halt.Memory }
 {
-    Extraction {
-        lines: List::of(Vec::new(alloc)),
-        stores: List::of(Vec::new(alloc)),
-        count: 0,
-    }
+    Ok(Extraction {
+        lines: List::of(lines_told(alloc, library, made)?),
+        stores: List::of(records_stored(alloc, library, cache, made)?),
+        count: made.len(),
+    })
 }
 
-// What an extraction comes to that makes this record of a cell with this name, whose labels with these texts name nothing.
-fn record_made(
+// The lines of the labels that name nothing, for each cell of which a record was made.
+fn lines_told(
     alloc: Global,
-    ext: &CellExt,
-    unattached: &[Name],
-    name: &Name,
-) -> Result<Extraction, Halt>
-    ensures made { IfOk result (λ made. made
-        ≡ record { lines = map (unattached_line name.now) unattached.now; stores = ext_store name.now ext.now ∷ []; count = 1 }) }
+    library: &Reader<'_>,
+    made: &[Extracted],
+) -> Result<Vec<ReportLine>, AllocError>
+    requires { All (λ told. told.cell.0 < length library.now.contents) made.now }
+    ensures { IfOk result (λ lines. lines.items ≡ flat_map (told_lines (seen library.now)) made.now) }
+{
+    let mut lines = Vec::new(alloc);
+    for extracted in made {
+        let name = library.name_of(extracted.cell);
+        let mut told = unattached_lines(alloc, name, extracted.unattached.items())?;
+        lines.append(&mut told)?;
+    }
+    Ok(lines)
+}
+
+// The files of the records that were made.
+fn records_stored(
+    alloc: Global,
+    library: &Reader<'_>,
+    cache: &Cache,
+    made: &[Extracted],
+) -> Result<Vec<Store>, Halt>
+    requires cells { All (λ told. told.cell.0 < length library.now.contents) made.now }
+    requires kept { All (HasKeptRecord cache.now) made.now }
+    ensures stores { IfOk result (λ stores. map (λ store. Some store) stores.items ≡ map (kept_store (seen library.now) cache.now) made.now) }
+    ensures memory { IsOkUnless result Halt.Memory }
+{
+    let mut stores = Vec::with_capacity(alloc, made.len())?;
+    for extracted in made {
+        let Some(ext) = cache.kept(extracted.cell) else {
+            unreachable!()
+        };
+        let name = library.name_of(extracted.cell);
+        let store = record_stored(alloc, name, ext)?;
+        let Ok(()) = stores.push(store) else {
+            return Err(Halt::Memory);
+        };
+    }
+    Ok(stores)
+}
+
+// The file of the record of the cell of this name.
+fn record_stored(alloc: Global, name: &Name, ext: &CellExt) -> Result<Store, Halt>
+    ensures store { IfOk result (λ store. store ≡ ext_store name.now ext.now) }
     ensures memory { IsOkUnless result Halt.Memory }
 {
     let Ok(text) = write_ext(alloc, ext) else {
         return Err(Halt::Memory);
     };
-    let store = Store {
+    Ok(Store {
         name: file_name(alloc, name, b".ext")?,
         bytes: List::of(text),
-    };
-    Ok(Extraction {
-        lines: List::of(unattached_lines(alloc, name, unattached)?),
-        stores: List::of(one_store(alloc, store)?),
-        count: 1,
     })
 }
 
@@ -162,4 +194,24 @@ fn unattached_line(alloc: Global, cell: &Name, label: &Name) -> Result<ReportLin
     append_with_name(&mut text, b"unattached ", cell)?;
     append_with_name(&mut text, b" ", label)?;
     Ok(reply(text))
+}
+
+// The lines that refuse an extraction, for the script's line of this number: that the cell is not clean, and the squares that offend.
+fn unclean_lines(
+    alloc: Global,
+    number: usize,
+    library: &Reader<'_>,
+    found: &Unclean,
+) -> Result<Vec<ReportLine>, Halt>
+    requires cell { found.now.cell.0 < length library.now.contents }
+    requires planes { All (λ strip. strip.0 < length library.now.tech.planes) found.now.squares }
+    ensures lines { let view = seen library.now in let name = (view_at view found.now.cell.0).name in IfOk result (λ lines. lines.items
+        ≡ refusal number (TopFault.Unclean name) ∷ map (offending_line view.tech name) found.now.squares) }
+    ensures memory { IsOkUnless result Halt.Memory }
+{
+    let name = library.name_of(found.cell).copy(alloc)?;
+    let mut lines = refused_line(alloc, number, TopFault::Unclean(name))?;
+    let mut offending = offending_lines(alloc, library, found)?;
+    lines.append(&mut offending)?;
+    Ok(lines)
 }

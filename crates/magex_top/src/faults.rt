@@ -38,6 +38,8 @@ pub enum TopFault {
     NoCell(Name),
     /// The edit is refused.
     Edit(EditFault),
+    /// The cell of this name, at or below the one that is asked for, is not clean.
+    Unclean(Name),
     /// A technology was read already.
     TechAgain,
     /// The program does not have this yet.

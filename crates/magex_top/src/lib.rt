@@ -22,6 +22,7 @@ mod command_tech;
 mod command_vectors;
 mod extractions;
 mod faults;
+mod offending;
 mod refusals;
 mod replies;
 mod session;

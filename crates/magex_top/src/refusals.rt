@@ -77,6 +77,7 @@ fn append_fault(text: &mut Vec<u8>, fault: &TopFault) -> Result<(), AllocError>
         TopFault::TooMany(limit) => append_too_many(text, *limit),
         TopFault::NoCell(cell) => append_with_name(text, b"E8 no cell ", cell),
         TopFault::Edit(fault) => append_edit_fault(text, fault),
+        TopFault::Unclean(cell) => append_with_name(text, b"E19 unclean ", cell),
         TopFault::TechAgain => text.extend_from_slice(b"E22 technology again"),
         TopFault::NotBuilt => text.extend_from_slice(b"E26 not built"),
     }

@@ -1,44 +1,68 @@
-use Rattle.std.proofs.Common.{◌≡◌, [], ◌∷◌, Some, rules, subst}
-use Rattle.cell_library.specs.Libraries.{seen}
-use Rattle.circuit_model.specs.declared.faults.FlatFault.TheVariants.{TooMany as FlatTooMany}
-use Rattle.circuit_model.specs.Refusals.{IsFlatFaultOf, IsFlatOf}
-use Rattle.ext_cache.specs.Caches.{record_in}
-use Rattle.network_laws.specs.NetworkLaws.{OwnCircuitsHaveLetters}
-use Rattle.tech_model.specs.declared.raw.RawTech.{RawTech}
-use Rattle.magex_top.proofs.CircuitCommands.{alone, flattened_alone, kept_is, no_other_fault, passes_alone}
+use Rattle.std.proofs.Common.{◌≡◌, ◌<◌, List, length, map, sym, subst}
+use Rattle.std.specs.Prelude.{All, IfOk, IsSome}
+use Rattle.ext_model.specs.declared.records.CellExt.{CellExt}
+use Rattle.ext_model.specs.declared.tables.CellKey.{CellKey}
+use Rattle.circuit_model.specs.Elements.{AreRecords}
+use Rattle.cell_library.specs.Libraries.{LibraryParts, seen}
+use Rattle.ext_cache.specs.Caches.{Agrees, record_in}
+use Rattle.library_trees.specs.NamedCells.{named_tree_at}
+use Rattle.tree_records.specs.TreeRecords.{HasTreeRecords}
+use Rattle.magex_top.specs.Circuits.{IsFlattenedAt}
+use Rattle.magex_top.specs.Extracting.{IsFreshBelow}
+use Rattle.magex_top.proofs.KeptLaws.{are_records, order_kept, root_clean, tree_records}
 use Rattle.magex_top.proofs.circuits.flatten_kept.Goals as goal
 
-pub flatten-requires-clause-records : goal.flatten-requires-clause-records
-flatten-requires-clause-records c =
-    let is : Some c.in-Some.ext.now ≡ record_in c.args.edited.now.cache c.args.cell.0 = search rules in
-    let now = kept_is c.args.edited.now.library c.args.edited.now.cache c.args.cell.0 c.in-Some.ext.now c.requires.agrees c.requires.clean is in
-    rw c.from_ref.ensures.value (alone c.in-Some.ext.now now.lawful)
+pub copies-requires : goal.copies-requires
+copies-requires c =
+    let library = c.reader-library.result in
+    let cache = c.args.edited.now.cache in
+    let back = sym c.reader-library.ensures in
+    let agrees = subst (λ (l : LibraryParts). Agrees l cache) back c.requires.agrees in
+    let there = subst (λ (l : LibraryParts). c.args.cell.0 < length l.contents) back c.requires.cell in
+    let fresh = subst (λ (l : LibraryParts). IsFreshBelow l cache c.args.cell.0) back c.requires.fresh in
+    subst (λ (order : List CellKey). All (λ (cell : CellKey). IsSome (record_in cache cell.0)) order) (sym c.as_slice.ensures.value)
+    (order_kept library c.lawful.ensures cache agrees c.args.cell.0 there fresh c.in_ok-order.order.items c.in_ok-order.ensures)
 
-pub returns-in-Ok-clause-flattened : goal.returns-in-Ok-clause-flattened
-returns-in-Ok-clause-flattened c =
-    let ext = c.in-Some.ext.now in
-    let is : Some ext ≡ record_in c.args.edited.now.cache c.args.cell.0 = search rules in
-    let now = kept_is c.args.edited.now.library c.args.edited.now.cache c.args.cell.0 ext c.requires.agrees c.requires.clean is in
-    let flat : IsFlatOf (ext ∷ []) ext.cell c.in-Ok.circuit = search rules in
-    let letters : OwnCircuitsHaveLetters (seen c.args.edited.now.library).tech =
-    subst (λ (raw : RawTech). OwnCircuitsHaveLetters raw) c.tech.ensures c.own_circuits_have_letters.ensures in
-    flattened_alone (seen c.args.edited.now.library) c.args.cell.0 ext c.in-Ok.circuit c.own_records_mean_the_layout.ensures
-    c.flat_transistors_have_letter_and_lengths.ensures c.flat_networks_fit.ensures letters now flat
+pub flatten_records-requires-clause-cell : goal.flatten_records-requires-clause-cell
+flatten_records-requires-clause-cell c =
+    subst (λ (l : LibraryParts). c.args.cell.0 < length l.contents) (sym c.reader-library.ensures) c.requires.cell
 
-pub returns-in-Err-TooMany-clause-flattened : goal.returns-in-Err-TooMany-clause-flattened
-returns-in-Err-TooMany-clause-flattened c =
-    let ext = c.in-Some.ext.now in
-    let is : Some ext ≡ record_in c.args.edited.now.cache c.args.cell.0 = search rules in
-    let now = kept_is c.args.edited.now.library c.args.edited.now.cache c.args.cell.0 ext c.requires.agrees c.requires.clean is in
-    let fault : IsFlatFaultOf (ext ∷ []) ext.cell (FlatTooMany c.in-Err-TooMany.limit) = search rules in
-    passes_alone (seen c.args.edited.now.library) c.args.cell.0 ext c.in-Err-TooMany.limit now fault
+pub flatten_records-requires-clause-clean : goal.flatten_records-requires-clause-clean
+flatten_records-requires-clause-clean c =
+    let library = c.reader-library.result in
+    let cache = c.args.edited.now.cache in
+    let back = sym c.reader-library.ensures in
+    let agrees = subst (λ (l : LibraryParts). Agrees l cache) back c.requires.agrees in
+    let there = subst (λ (l : LibraryParts). c.args.cell.0 < length l.contents) back c.requires.cell in
+    let fresh = subst (λ (l : LibraryParts). IsFreshBelow l cache c.args.cell.0) back c.requires.fresh in
+    root_clean library c.lawful.ensures cache agrees c.args.cell.0 there fresh
 
-pub unreachable-requires-in-Err : goal.unreachable-requires-in-Err
-unreachable-requires-in-Err c =
-    let ext = c.in-Some.ext.now in
-    let is : Some ext ≡ record_in c.args.edited.now.cache c.args.cell.0 = search rules in
-    let now = kept_is c.args.edited.now.library c.args.edited.now.cache c.args.cell.0 ext c.requires.agrees c.requires.clean is in
-    let fault : IsFlatFaultOf (ext ∷ []) ext.cell c.in-Err.field-0 = search rules in
-    let why = no_other_fault (seen c.args.edited.now.library) c.args.cell.0 ext c.in-Err.field-0 c.own_records_have_no_other_fault.ensures now fault in
-    let is_limit : c.in-Err.field-0 ≡ FlatTooMany why.0 = why.1 in
-    search (rules, is_limit)
+pub flatten_records-requires-clause-records : goal.flatten_records-requires-clause-records
+flatten_records-requires-clause-records c =
+    let library = c.reader-library.result in
+    let cache = c.args.edited.now.cache in
+    let back = sym c.reader-library.ensures in
+    let agrees = subst (λ (l : LibraryParts). Agrees l cache) back c.requires.agrees in
+    let there = subst (λ (l : LibraryParts). c.args.cell.0 < length l.contents) back c.requires.cell in
+    let fresh = subst (λ (l : LibraryParts). IsFreshBelow l cache c.args.cell.0) back c.requires.fresh in
+    let copied = rw c.as_slice.ensures.value at c.in_ok-exts.ensures in
+    subst (λ (exts : List CellExt). AreRecords exts) (sym c.as_slice-2.ensures.value)
+    (are_records library c.lawful.ensures cache agrees c.args.cell.0 there fresh c.in_ok-order.order.items c.in_ok-order.ensures c.in_ok-exts.exts.items copied)
+
+pub flatten_records-requires-clause-tree : goal.flatten_records-requires-clause-tree
+flatten_records-requires-clause-tree c =
+    let library = c.reader-library.result in
+    let cache = c.args.edited.now.cache in
+    let back = sym c.reader-library.ensures in
+    let agrees = subst (λ (l : LibraryParts). Agrees l cache) back c.requires.agrees in
+    let there = subst (λ (l : LibraryParts). c.args.cell.0 < length l.contents) back c.requires.cell in
+    let fresh = subst (λ (l : LibraryParts). IsFreshBelow l cache c.args.cell.0) back c.requires.fresh in
+    let copied = rw c.as_slice.ensures.value at c.in_ok-exts.ensures in
+    subst (λ (exts : List CellExt). HasTreeRecords library.tech exts (named_tree_at (seen library) c.args.cell.0)) (sym c.as_slice-2.ensures.value)
+    (tree_records library c.lawful.ensures cache agrees c.args.cell.0 there fresh c.in_ok-order.order.items c.in_ok-order.ensures c.in_ok-exts.exts.items copied
+    c.listed_records_are_of_the_tree.ensures)
+
+pub returns-clause-flattened : goal.returns-clause-flattened
+returns-clause-flattened c =
+    subst (λ (l : LibraryParts). IfOk c.flatten_records.result (IsFlattenedAt (seen l) c.args.cell.0)) c.reader-library.ensures
+    c.flatten_records.ensures.flattened

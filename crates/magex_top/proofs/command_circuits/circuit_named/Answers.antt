@@ -1,34 +1,37 @@
-use Rattle.std.proofs.Common.{◌≡◌, Some, false, subst, rules}
+use Rattle.std.proofs.Common.{◌≡◌, ◌⊎◌, ℕ, Some, None, [], rules}
 use Rattle.std.proofs.lemmas.Result.{IfOk-weaker}
+use Rattle.session_model.specs.Effects.{Effect}
 use Rattle.cell_library.specs.Libraries.{seen}
 use Rattle.cell_library.specs.Views.{cell_named}
 use Rattle.edit_script.proofs.CellLaws.{found_there}
-use Rattle.magex_top.specs.declared.extractions.FoundCell.{FoundCell}
 use Rattle.magex_top.specs.Answers.{edited_state}
 use Rattle.magex_top.specs.Circuits.{WritesCircuit}
-use Rattle.magex_top.specs.Extractions.{IsFoundCell, has_uses}
+use Rattle.magex_top.specs.Extractions.{RefusesUnclean}
+use Rattle.magex_top.specs.States.{State, Workspace}
 use Rattle.magex_top.proofs.AnswerLaws.{both_ok}
 use Rattle.magex_top.proofs.CellCommands.{answers_on_cell, refused_on_cell}
 use Rattle.magex_top.proofs.command_circuits.circuit_named.Goals as goal
 
 pub circuit_found-requires-clause-cell : goal.circuit_found-requires-clause-cell
 circuit_found-requires-clause-cell c =
-    let named : cell_named (seen c.args.edited.now.library) c.args.name.now ≡ Some c.in-Cell.cell.0 = search rules in
-    found_there c.args.edited.now.library c.args.name.now c.in-Cell.cell named
+    let named : cell_named (seen c.args.edited.now.library) c.args.name.now ≡ Some c.in-Some.cell.0 = search rules in
+    found_there c.args.edited.now.library c.args.name.now c.in-Some.cell named
 
-pub returns-in-Cell-clause-effect : goal.returns-in-Cell-clause-effect
-returns-in-Cell-clause-effect c =
-    let named : cell_named (seen c.args.edited.now.library) c.args.name.now ≡ Some c.in-Cell.cell.0 = search rules in
-    let free : has_uses (seen c.args.edited.now.library) c.in-Cell.cell.0 ≡ false = search rules in
+pub returns-in-Some-clause-effect : goal.returns-in-Some-clause-effect
+returns-in-Some-clause-effect c =
+    let named : cell_named (seen c.args.edited.now.library) c.args.name.now ≡ Some c.in-Some.cell.0 = search rules in
+    let Means : Workspace → ℕ → Effect State → Type 0 =
+    λ work cell effect. WritesCircuit c.args.file c.args.number c.args.name.now work cell effect ⊎ RefusesUnclean c.args.number work [] cell effect in
     IfOk-weaker c.circuit_found.result _ _
-    (λ answer means. answers_on_cell c.args.number (edited_state c.args.edited.now) c.args.name.now (WritesCircuit c.args.file c.args.number c.args.name.now)
-    (Some (edited_state c.circuit_found.new.edited)) c.in-Cell.cell.0 answer named free means)
+    (λ answer means. answers_on_cell c.args.number (edited_state c.args.edited.now) c.args.name.now Means
+    (Some (edited_state c.circuit_found.new.edited)) c.in-Some.cell.0 answer named means)
     c.circuit_found.ensures.effect
 
-pub returns-in-Refused-clause-effect : goal.returns-in-Refused-clause-effect
-returns-in-Refused-clause-effect c =
-    let found = subst (λ (f : FoundCell). IsFoundCell (seen c.args.edited.now.library) c.args.name.now f) c.in-Refused.is c.in_ok-cell.ensures.found in
+pub returns-in_ok-copy-in-None-clause-effect : goal.returns-in_ok-copy-in-None-clause-effect
+returns-in_ok-copy-in-None-clause-effect c =
+    let none : cell_named (seen c.args.edited.now.library) c.args.name.now ≡ None = search rules in
+    let Means : Workspace → ℕ → Effect State → Type 0 =
+    λ work cell effect. WritesCircuit c.args.file c.args.number c.args.name.now work cell effect ⊎ RefusesUnclean c.args.number work [] cell effect in
     both_ok c.refuse.result _ _ _
-    (λ answer lines stores. refused_on_cell c.args.number (edited_state c.args.edited.now) c.args.name.now (WritesCircuit c.args.file c.args.number c.args.name.now) c.in-Refused.fault
-    answer found lines stores)
-    c.refuse.ensures.lines c.refuse.ensures.stores
+    (λ answer lines stores. refused_on_cell c.args.number (edited_state c.args.edited.now) c.args.name.now Means answer none lines stores)
+    (rw c.in_ok-copy-in-None.ensures at c.refuse.ensures.lines) c.refuse.ensures.stores

@@ -4,8 +4,9 @@ use Rattle.std.proofs.lemmas.List.{length-map, take_all}
 use Rattle.geo_core.specs.declared.squares.Rect.{Rect}
 use Rattle.ext_model.specs.declared.tables.CellKey.{CellKey}
 use Rattle.cell_library.specs.Libraries.{seen}
-use Rattle.magex_top.specs.CommandSquares.{IsCleanCell}
-use Rattle.magex_top.proofs.SquaresLaws.{clean_before, first_unclean_there, numbers, one_more_clean, ordered_there}
+use Rattle.hier_merge.specs.UncleanCells.{IsCleanCell}
+use Rattle.ext_cache.proofs.OrderLaws.{clean_before, numbers, one_more_clean, ordered_there}
+use Rattle.magex_top.proofs.SquaresLaws.{unclean_there}
 use Rattle.magex_top.proofs.command_squares.first_unclean.Goals as goal
 
 -- where an order ends, all of it was seen
@@ -44,10 +45,10 @@ returns-then-not-is_empty-clause-found g c =
     ordered_there library c.lawful.ensures c.args.root.0 c.requires.root order
     (c.library_order_law.ensures.lists _ c.args.root.0 (numbers order) c.requires.order) c.loop-cell.cell-index (record { 0 = 0 })
     c.loop-cell-test.true in (
-      first_unclean_there (seen library) order c.loop-cell.cell-index (record { 0 = 0 }) c.loop-cell-test.true c.loop-cell.invariant (λ clean.
+      unclean_there (seen library) c.args.root.0 order c.loop-cell.cell-index (record { 0 = 0 }) c.in-Ok.squares.items c.requires.order
+          c.loop-cell-test.true c.loop-cell.invariant (λ clean.
           let none : c.in-Ok.squares.items ≡ [] = c.in-Ok.ensures.clean.1 clean in
-          grind (arith, c.in-Ok.squares.ok.0, ap length none)),
-      c.in-Ok.ensures.squares,
+          grind (arith, c.in-Ok.squares.ok.0, ap length none)) c.in-Ok.ensures.squares,
       there,
     )
 

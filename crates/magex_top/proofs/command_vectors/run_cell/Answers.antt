@@ -1,19 +1,53 @@
-use Rattle.std.proofs.Common.{◌≡◌, ◌++◌, List, sym, subst, rules}
+use Rattle.std.proofs.Common.{◌≡◌, ◌++◌, ◌∷◌, [], List, inl, sym, subst, rules}
 use Rattle.session_model.specs.declared.report.ReportLine.{ReportLine}
+use Rattle.cell_library.specs.Libraries.{LibraryParts, seen}
+use Rattle.magex_top.specs.declared.extractions.Extracting.{Extracting}
 use Rattle.magex_top.specs.Answers.{IsOfInside, edited_state}
-use Rattle.magex_top.proofs.ExtractionLaws.{clean_then}
-use Rattle.magex_top.proofs.InsideLaws.{both_inside, extraction_inside}
+use Rattle.magex_top.specs.CommandVectors.{TellsAt}
+use Rattle.magex_top.specs.Extracting.{IsExtracted}
+use Rattle.magex_top.proofs.ExtractionCommands.{runs_cell}
+use Rattle.magex_top.proofs.ExtractionLaws.{fresh_below}
+use Rattle.magex_top.proofs.InsideLaws.{both_inside, extraction_inside, unclean_inside}
 use Rattle.magex_top.proofs.command_vectors.run_cell.Goals as goal
 
-pub run_kept-requires-clause-clean : goal.run_kept-requires-clause-clean
-run_kept-requires-clause-clean c =
-    clean_then (edited_state c.args.edited.now) (edited_state c.extract_cell.new.edited) c.args.cell.0 c.in_ok-extraction.ensures.state
+pub run_kept-requires-clause-fresh : goal.run_kept-requires-clause-fresh
+run_kept-requires-clause-fresh c =
+    let old = c.args.edited.now in
+    let new = c.extract_cell.new.edited in
+    let is = subst (λ (e : Extracting). IsExtracted c.args.number (edited_state old) (edited_state new) c.args.cell.0 e) c.in-Done.is
+    c.in_ok-extraction.ensures.extracted in
+    fresh_below c.args.number old new c.args.cell.0 c.in-Done.extraction c.in_ok-extraction.ensures.library is
 
-pub returns-clause-inside : goal.returns-clause-inside
-returns-clause-inside c =
-    let extraction = c.in_ok-extraction.extraction in
-    let lines : c.in_ok-joined.field-0.items ≡ extraction.lines ++ c.in_ok-lines.lines.items = search rules in
+pub returns-in_ok-joined-in-Done-clause-effect : goal.returns-in_ok-joined-in-Done-clause-effect
+returns-in_ok-joined-in-Done-clause-effect c file =
+    let work = edited_state c.args.edited.now in
+    let after = edited_state c.extract_cell.new.edited in
+    let extraction = c.in-Done.extraction in
+    let told = c.in_ok-lines-in-Done.lines.items in
+    let is = subst (λ (e : Extracting). IsExtracted c.args.number work after c.args.cell.0 e) c.in-Done.is c.in_ok-extraction.ensures.extracted in
+    let tells = subst (λ (l : LibraryParts). TellsAt c.args.number (seen l) c.args.cell.0 c.args.text.now told) c.in_ok-extraction.ensures.library
+    c.in_ok-lines-in-Done.ensures.tells in
+    let lines : c.in_ok-joined-in-Done.field-0.items ≡ extraction.lines ++ told = search rules in
+    let stores : c.into_vec.result.items ≡ extraction.stores = search rules in
+    inl (runs_cell c.args.number c.args.text.now (file ∷ []) work after c.args.cell.0 extraction told c.in_ok-joined-in-Done.field-0.items
+    c.into_vec.result.items is tells lines stores)
+
+pub returns-in_ok-joined-in-Done-clause-inside : goal.returns-in_ok-joined-in-Done-clause-inside
+returns-in_ok-joined-in-Done-clause-inside c =
+    let work = edited_state c.args.edited.now in
+    let after = edited_state c.extract_cell.new.edited in
+    let extraction = c.in-Done.extraction in
+    let told = c.in_ok-lines-in-Done.lines.items in
+    let is = subst (λ (e : Extracting). IsExtracted c.args.number work after c.args.cell.0 e) c.in-Done.is c.in_ok-extraction.ensures.extracted in
+    let lines : c.in_ok-joined-in-Done.field-0.items ≡ extraction.lines ++ told = search rules in
     subst (λ (all : List ReportLine). IsOfInside all) (sym lines)
-    (both_inside extraction.lines c.in_ok-lines.lines.items
-    (extraction_inside (edited_state c.args.edited.now) c.args.cell.0 c.args.name.now extraction c.in_ok-extraction.ensures.extraction)
-    c.in_ok-lines.ensures.inside)
+    (both_inside extraction.lines told (extraction_inside work c.args.cell.0 extraction is.0) c.in_ok-lines-in-Done.ensures.inside)
+
+pub returns-in-Refused-clause-inside : goal.returns-in-Refused-clause-inside
+returns-in-Refused-clause-inside c =
+    let work = edited_state c.args.edited.now in
+    let after = edited_state c.extract_cell.new.edited in
+    let lines = c.in-Refused.lines in
+    let refuses = subst (λ (e : Extracting). IsExtracted c.args.number work after c.args.cell.0 e) c.in-Refused.is c.in_ok-extraction.ensures.extracted in
+    let told : c.told.result.lines.items ≡ lines = search rules in
+    subst (λ (all : List ReportLine). IsOfInside all) (sym told) (unclean_inside c.args.number work after c.args.cell.0 lines refuses)

@@ -6,5 +6,5 @@ use Rattle.magex_top.proofs.command_vectors.vectors_named.Goals as goal
 
 pub fetch_vectors-requires-clause-cell : goal.fetch_vectors-requires-clause-cell
 fetch_vectors-requires-clause-cell g c =
-    let named : cell_named (seen c.args.edited.now.library) c.args.name.now ≡ Some c.in-Cell.cell.0 = search rules in
-    found_there c.args.edited.now.library c.args.name.now c.in-Cell.cell named
+    let named : cell_named (seen c.args.edited.now.library) c.args.name.now ≡ Some c.in-Some.cell.0 = search rules in
+    found_there c.args.edited.now.library c.args.name.now c.in-Some.cell named

@@ -1,34 +1,53 @@
-use Rattle.std.proofs.Common.{◌≡◌, ◌∙◌, Option, Some, None, rules}
-use Rattle.std.specs.Prelude.{slice_get}
-use Rattle.std.proofs.lemmas.Result.{IfOk-weaker}
-use Rattle.ext_model.specs.declared.records.CellExt.{CellExt}
-use Rattle.ext_cache.specs.Caches.{Extracts, record_in}
-use Rattle.magex_top.proofs.AnswerLaws.{ok_given}
-use Rattle.magex_top.proofs.ExtractionLaws.{clean_workspace, kept_extracted, no_record_is_some, one_extracted}
+use Rattle.std.proofs.Common.{◌≡◌, ◌<◌, List, Some, length, map, sym, subst}
+use Rattle.std.specs.Prelude.{All}
+use Rattle.std.specs.List.{flat_map}
+use Rattle.cell_library.specs.Libraries.{LibraryParts, seen}
+use Rattle.ext_cache.specs.declared.extraction.Extracted.{Extracted}
+use Rattle.ext_cache.specs.Caches.{Agrees, Extracts}
+use Rattle.magex_top.specs.Extracting.{HasKeptRecord, kept_store, told_lines}
+use Rattle.magex_top.proofs.ExtractionLaws.{extraction_told, told_kept, told_there_all}
+use Rattle.magex_top.proofs.SquaresLaws.{offending_planes, unclean_is_cell}
 use Rattle.magex_top.proofs.extractions.extract_cell.Goals as goal
 
-pub unreachable-requires : goal.unreachable-requires
-unreachable-requires c =
-    let extracts : Extracts c.args.edited.now.library c.args.edited.now.cache c.args.cell.0 c.extract_root.new.cache c.in_ok-made.made.items = search rules in
-    let first : slice_get c.in_ok-made.made.items 0 ≡ Some c.in-Some.extracted.now = search rules in
-    let kept = kept_extracted c.args.edited.now.library c.args.edited.now.cache c.args.cell.0 c.extract_root.new.cache c.in_ok-made.made.items
-    c.in-Some.extracted.now extracts first in
-    let none : ◌≡◌ {A = Option CellExt} None (record_in c.extract_root.new.cache c.in-Some.extracted.now.cell.0) = search rules in
-    no_record_is_some kept.0 (none ∙ kept.1)
+pub records_made-requires-clause-cells : goal.records_made-requires-clause-cells
+records_made-requires-clause-cells c =
+    let library = c.reader-library.result in
+    let there = subst (λ (l : LibraryParts). c.args.cell.0 < length l.contents) (sym c.reader-library.ensures) c.requires.cell in
+    subst (λ (told : List Extracted). All (λ (one : Extracted). one.cell.0 < length library.contents) told) (sym c.as_slice.ensures.value)
+    (told_there_all library c.args.edited.now.cache c.args.cell.0 c.extract_root.new.cache c.in-Ok.made.items c.in-Ok.ensures.extracted c.lawful.ensures
+    there)
 
-pub returns-clause-extraction : goal.returns-clause-extraction
-returns-clause-extraction c =
-    let extracts : Extracts c.args.edited.now.library c.args.edited.now.cache c.args.cell.0 c.extract_root.new.cache c.in_ok-made.made.items = search rules in
-    let first : slice_get c.in_ok-made.made.items 0 ≡ Some c.in-Some.extracted.now = search rules in
-    let kept : record_in c.extract_root.new.cache c.in-Some.extracted.now.cell.0 ≡ Some c.in-Some-kept.ext.now = search rules in
-    let made = rw c.items.ensures at c.record_made.ensures.made in
-    IfOk-weaker c.record_made.result _ _
-    (λ made is. one_extracted c.args.edited.now.library c.args.edited.now.current c.args.edited.now.cache c.args.cell.0 c.extract_root.new.cache
-    c.in_ok-made.made.items c.in-Some.extracted.now c.args.name.now c.in-Some-kept.ext.now made extracts first kept is) made
+pub records_made-requires-clause-kept : goal.records_made-requires-clause-kept
+records_made-requires-clause-kept c =
+    subst (λ (told : List Extracted). All (HasKeptRecord c.extract_root.new.cache) told) (sym c.as_slice.ensures.value)
+    (told_kept c.reader-library.result c.args.edited.now.cache c.args.cell.0 c.extract_root.new.cache c.in-Ok.made.items c.in-Ok.ensures.extracted
+    c.extract_root.ensures.agrees)
 
-pub returns-clause-state : goal.returns-clause-state
-returns-clause-state c =
-    let extracts : Extracts c.args.edited.now.library c.args.edited.now.cache c.args.cell.0 c.extract_root.new.cache c.in_ok-made.made.items = search rules in
-    ok_given c.record_made.result _
-    (clean_workspace c.args.edited.now.library c.args.edited.now.current c.args.edited.now.cache c.args.cell.0 c.extract_root.new.cache
-    c.in_ok-made.made.items extracts)
+pub returns-in_ok-extraction-in-Ok-clause-extracted : goal.returns-in_ok-extraction-in-Ok-clause-extracted
+returns-in_ok-extraction-in-Ok-clause-extracted c =
+    let library = c.args.edited.now.library in
+    let records = c.args.edited.now.cache in
+    let after = c.extract_root.new.cache in
+    let told = c.in-Ok.made.items in
+    let extraction = c.in_ok-extraction-in-Ok.extraction in
+    let extracts = subst (λ (l : LibraryParts). Extracts l records c.args.cell.0 after told) c.reader-library.ensures c.in-Ok.ensures.extracted in
+    let agrees = subst (λ (l : LibraryParts). Agrees l after) c.reader-library.ensures c.extract_root.ensures.agrees in
+    let lines : extraction.lines ≡ flat_map (told_lines (seen library)) told =
+    rw (c.as_slice.ensures.value, c.reader-library.ensures) at c.in_ok-extraction-in-Ok.ensures.lines in
+    let stores : map (λ store. Some store) extraction.stores ≡ map (kept_store (seen library) after) told =
+    rw (c.as_slice.ensures.value, c.reader-library.ensures) at c.in_ok-extraction-in-Ok.ensures.stores in
+    let count : extraction.count ≡ length told = rw c.as_slice.ensures.value at c.in_ok-extraction-in-Ok.ensures.count in
+    extraction_told library records c.args.cell.0 after told extracts c.args.edited.now.current c.args.number extraction agrees lines stores count
+
+pub unclean_lines-requires-clause-cell : goal.unclean_lines-requires-clause-cell
+unclean_lines-requires-clause-cell c =
+    let found = c.in-Err-Unclean.found in
+    let there = subst (λ (l : LibraryParts). c.args.cell.0 < length l.contents) (sym c.reader-library.ensures) c.requires.cell in
+    let unclean = rw c.in-Err-Unclean.field-0-is at c.in-Err-Unclean.ensures.unclean in
+    unclean_is_cell c.reader-library.result c.lawful.ensures c.args.cell.0 found.cell.0 found.squares there unclean
+
+pub unclean_lines-requires-clause-planes : goal.unclean_lines-requires-clause-planes
+unclean_lines-requires-clause-planes c =
+    let found = c.in-Err-Unclean.found in
+    let unclean = rw c.in-Err-Unclean.field-0-is at c.in-Err-Unclean.ensures.unclean in
+    offending_planes (seen c.reader-library.result) found.cell.0 found.squares unclean.are_squares

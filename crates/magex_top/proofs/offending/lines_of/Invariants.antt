@@ -1,6 +1,6 @@
 use Rattle.std.proofs.Common.{◌≡◌, ◌++◌, drop, map}
-use Rattle.magex_top.specs.CommandSquares.{offending_line}
-use Rattle.magex_top.proofs.command_squares.offending_lines.Given as goal
+use Rattle.magex_top.specs.Offending.{offending_line}
+use Rattle.magex_top.proofs.offending.lines_of.Given as goal
 
 -- the lines so far and those of the strips that are left are the lines of all
 abbrev pub invariant-loop-strip : goal.invariant-loop-strip

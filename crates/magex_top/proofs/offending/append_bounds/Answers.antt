@@ -2,7 +2,7 @@ use Rattle.std.proofs.Common.{◌≡◌, ◌∙◌, ◌++◌, ℕ, ℤ, List, ap
 use Rattle.std.proofs.lemmas.Result.{IfOk-weaker}
 use Rattle.text_scan.specs.Decimal.{decimal}
 use Rattle.magex_top.proofs.TextLaws.{four_numbers}
-use Rattle.magex_top.proofs.command_squares.append_bounds.Goals as goal
+use Rattle.magex_top.proofs.offending.append_bounds.Goals as goal
 
 -- a number is written as it is passed
 as_passed : (text written : List ℕ) (passed number : ℤ) → passed ≡ number → written ≡ text ++ (codes " " ++ decimal passed)

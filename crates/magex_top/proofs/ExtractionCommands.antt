@@ -1,0 +1,68 @@
+-- What the commands answer that extract a cell.
+use Rattle.std.proofs.Common.{◌≡◌, ◌⊎◌, ℕ, List, [], ◌∷◌, ◌++◌, Some, inl, inr}
+use Rattle.session_model.specs.declared.answer.Answer.{Answer}
+use Rattle.session_model.specs.declared.answer.Store.{Store}
+use Rattle.session_model.specs.declared.report.ReportLine.{ReportLine}
+use Rattle.session_model.specs.Effects.{Answers, Effect}
+use Rattle.magex_top.specs.declared.circuits.CircuitFile.{CircuitFile}
+use Rattle.magex_top.specs.declared.circuits.Written.{Written}
+use Rattle.magex_top.specs.declared.extractions.Extracting.TheVariants.{Done, Refused}
+use Rattle.magex_top.specs.declared.extractions.Extraction.{Extraction}
+use Rattle.magex_top.specs.Circuits.{IsWrittenAt, WritesCircuit, lines_of, stores_of}
+use Rattle.magex_top.specs.CommandExtract.{ExtractsCell}
+use Rattle.magex_top.specs.CommandVectors.{RunsCell, TellsAt}
+use Rattle.magex_top.specs.Extracting.{IsExtracted}
+use Rattle.magex_top.specs.Extractions.{RefusesUnclean, extracted_text}
+use Rattle.magex_top.specs.States.{State, Workspace, reply}
+use Rattle.magex_top.proofs.AnswerLaws.{answers_with}
+
+-- a cell at or below the cell is not clean
+pub refuses_cell : (number : ℕ) (work after : Workspace) (cell : ℕ) (lines : List ReportLine) (Means : Effect State → Type 0) (answer : Answer)
+    → IsExtracted number work after cell (Refused lines) → answer.lines.items ≡ lines → answer.stores.items ≡ []
+    → Answers (λ effect. Means effect ⊎ RefusesUnclean number work [] cell effect) (Some after) answer
+refuses_cell number work after cell lines Means answer refuses lines_are stores_are =
+    answers_with (λ effect. Means effect ⊎ RefusesUnclean number work [] cell effect) (Some after) answer lines [] [] lines_are stores_are
+    (inr (refuses []))
+
+-- `extract`: the cell was extracted
+pub extracts_cell : (number : ℕ) (name : List ℕ) (work after : Workspace) (cell : ℕ) (extraction : Extraction) (answer : Answer)
+    → IsExtracted number work after cell (Done extraction)
+    → answer.lines.items ≡ extraction.lines ++ reply (extracted_text name extraction.count) ∷ [] → answer.stores.items ≡ extraction.stores
+    → Answers (λ effect. ExtractsCell name work cell effect ⊎ RefusesUnclean number work [] cell effect) (Some after) answer
+extracts_cell number name work after cell extraction answer is lines stores = (
+  [],
+  inl (record {
+    extraction = extraction;
+    is_extraction = is.0;
+    is = λ i. record { state = Some (is.1 i); lines = lines i; stores = stores i; fetched = [] };
+  }),
+)
+
+-- `flat` and `sim`: the cell was extracted, and this was written
+pub writes_cell : (file : CircuitFile) (number : ℕ) (name : List ℕ) (work after : Workspace) (cell : ℕ) (extraction : Extraction) (written : Written)
+    (answer : Answer) → IsExtracted number work after cell (Done extraction) → IsWrittenAt file work.editing.library cell name written
+    → answer.lines.items ≡ extraction.lines ++ lines_of number written → answer.stores.items ≡ extraction.stores ++ stores_of written
+    → Answers (λ effect. WritesCircuit file number name work cell effect ⊎ RefusesUnclean number work [] cell effect) (Some after) answer
+writes_cell file number name work after cell extraction written answer is is_written lines stores = (
+  [],
+  inl (record {
+    extraction = extraction;
+    is_extraction = is.0;
+    written = written;
+    is_written = is_written;
+    is = λ i. record { state = Some (is.1 i); lines = lines i; stores = stores i; fetched = [] };
+  }),
+)
+
+-- `vectors`: the cell was extracted, and lines behind those of the extraction answer the vectors
+pub runs_cell : (number : ℕ) (text : List ℕ) (fetched : List (List ℕ)) (work after : Workspace) (cell : ℕ) (extraction : Extraction)
+    (lines all : List ReportLine) (stores : List Store) → IsExtracted number work after cell (Done extraction)
+    → TellsAt number work.editing.library cell text lines → all ≡ extraction.lines ++ lines → stores ≡ extraction.stores
+    → RunsCell number text fetched work cell (record { state = Some after; lines = all; stores = stores; fetched = fetched })
+runs_cell number text fetched work after cell extraction lines all stores is tells lines_are stores_are = record {
+  extraction = extraction;
+  is_extraction = is.0;
+  lines = lines;
+  tells = tells;
+  is = λ i. record { state = Some (is.1 i); lines = lines_are i; stores = stores_are i; fetched = fetched };
+}
