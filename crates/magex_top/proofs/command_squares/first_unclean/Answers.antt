@@ -1,10 +1,10 @@
-use Rattle.std.proofs.Common.{◌≡◌, ◌==◌, ◌≤◌, ℕ, Bool, true, List, [], ◌∷◌, length, take, refl, ap, subst, arith}
+use Rattle.std.proofs.Common.{◌≡◌, ◌==◌, ◌≤◌, ℕ, Bool, true, List, [], ◌∷◌, length, get_or, take, refl, sym, ap, subst, arith}
 use Rattle.std.specs.Prelude.{All}
 use Rattle.std.proofs.lemmas.List.{length-map, take_all}
 use Rattle.geo_core.specs.declared.squares.Rect.{Rect}
 use Rattle.ext_model.specs.declared.tables.CellKey.{CellKey}
 use Rattle.cell_library.specs.Libraries.{seen}
-use Rattle.hier_merge.specs.UncleanCells.{IsCleanCell}
+use Rattle.hier_merge.specs.UncleanCells.{IsCleanCell, IsUncleanBelow}
 use Rattle.ext_cache.proofs.OrderLaws.{clean_before, numbers, one_more_clean, ordered_there}
 use Rattle.magex_top.proofs.SquaresLaws.{unclean_there}
 use Rattle.magex_top.proofs.command_squares.first_unclean.Goals as goal
@@ -44,11 +44,15 @@ returns-then-not-is_empty-clause-found g c =
     let there =
     ordered_there library c.lawful.ensures c.args.root.0 c.requires.root order
     (c.library_order_law.ensures.lists _ c.args.root.0 (numbers order) c.requires.order) c.loop-cell.cell-index (record { 0 = 0 })
-    c.loop-cell-test.true in (
-      unclean_there (seen library) c.args.root.0 order c.loop-cell.cell-index (record { 0 = 0 }) c.in-Ok.squares.items c.requires.order
-          c.loop-cell-test.true c.loop-cell.invariant (λ clean.
-          let none : c.in-Ok.squares.items ≡ [] = c.in-Ok.ensures.clean.1 clean in
-          grind (arith, c.in-Ok.squares.ok.0, ap length none)) c.in-Ok.ensures.squares,
+    c.loop-cell-test.true in
+    let found =
+    unclean_there (seen library) c.args.root.0 order c.loop-cell.cell-index (record { 0 = 0 }) c.in-Ok.squares.items c.requires.order
+    c.loop-cell-test.true c.loop-cell.invariant (λ clean.
+    let none : c.in-Ok.squares.items ≡ [] = c.in-Ok.ensures.clean.1 clean in
+    grind (arith, c.in-Ok.squares.ok.0, ap length none)) c.in-Ok.ensures.squares in (
+      subst
+          (λ (squares : List (ℕ × Rect)).
+          IsUncleanBelow (seen library) c.args.root.0 (get_or order c.loop-cell.cell-index (record { 0 = 0 })).0 squares) (sym c.of.ensures) found,
       there,
     )
 
