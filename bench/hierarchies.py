@@ -21,10 +21,11 @@ LAYERS = {"poly": ("poly", "polysilicon"), "diff": ("diff", "ndiffusion")}
 
 
 class Cell:
-    """A cell of rectangles by their layers, and of uses: the child, the name, the displacement, and how often in a row and in a column, and how far apart."""
+    """A cell of rectangles by their layers, of labels by their layers, and of uses: the child, the name, the displacement, and how often in a row and
+    in a column, and how far apart."""
 
-    def __init__(self, rects=(), uses=()):
-        self.rects, self.uses = rects, uses
+    def __init__(self, rects=(), uses=(), labels=()):
+        self.rects, self.uses, self.labels = rects, uses, labels
 
 
 def crossings(columns, rows):
@@ -35,8 +36,9 @@ def crossings(columns, rows):
 
 
 def array(side):
-    """A square array of one transistor that touches its neighbours."""
-    return {"tile": Cell(crossings(1, 1)), "top": Cell(uses=[("tile", "t", 0, 0, (side, side, CROSSING, CROSSING))])}
+    """A square array of one transistor that touches its neighbours, with a label on each of its three nodes."""
+    labels = [("poly", (0, 2, 0, 4), "w"), ("diff", (2, 0, 4, 0), "b"), ("diff", (2, 6, 4, 6), "t")]
+    return {"tile": Cell(crossings(1, 1), labels=labels), "top": Cell(uses=[("tile", "t", 0, 0, (side, side, CROSSING, CROSSING))])}
 
 
 def tree(elements):
@@ -69,6 +71,9 @@ def mag_text(cell, tech, which):
             lines += [f"<< {LAYERS[layer][which]} >>"] + ["rect %d %d %d %d" % rect for rect in rects]
     for use in cell.uses:
         lines += use_lines(use)
+    if cell.labels:
+        lines.append("<< labels >>")
+    lines += ["rlabel %s %d %d %d %d 0 %s" % ((LAYERS[layer][which],) + area + (text,)) for layer, area, text in cell.labels]
     return "\n".join(lines + ["<< end >>"]) + "\n"
 
 
