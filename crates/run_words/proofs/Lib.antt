@@ -1,0 +1,3 @@
+pub mod BudgetLaws
+pub mod ParseLaws
+pub mod WalkLaws
