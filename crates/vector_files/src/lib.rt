@@ -23,4 +23,5 @@ mod words;
 pub use faults::{VecAt, VecFault};
 pub use files::{VecLine, Vectors};
 pub use laws::vector_files_are_refused_at_their_first_faulty_line;
+pub use nodes::NodeNames;
 pub use reading::read_vectors;
