@@ -8,7 +8,7 @@ use Rattle.vector_files.specs.declared.files.VecLine.{VecLine}
 use Rattle.vector_files.specs.declared.files.Vectors.{Vectors}
 use Rattle.vector_runs.specs.declared.replies.VecReply.{VecReply}
 use Rattle.vector_runs.specs.Running.{RanLine, RanLines}
-use Rattle.vector_runs.specs.Runs.{IsRun, LineRuns, LinesRun, Standing, begun_in}
+use Rattle.vector_runs.specs.Runs.{EndsRun, LineRuns, LinesRun, Standing, begun_in}
 
 -- lines are run, and then one more
 one_more : (budget : ℕ) (lines : List VecLine) (line : VecLine) (old mid new : Standing) (told more : List VecReply) →
@@ -54,19 +54,22 @@ ran_next budget lines k line old mid new before between after lt is ran last =
     subst (λ (lines : List VecLine). RanLines budget old lines new before after) (sym front)
     (ran_more budget (map said (take k lines)) line.1 old mid new before between after ran last)
 
--- lines that were run from the states in which a network begins are a run of their vectors
+-- lines that were run from the states in which a network begins are a run of their vectors, and leave the states that they leave
 pub run_told : (net : Network) (names : List (List ℕ × ℕ)) (budget : ℕ) (vectors : Vectors) (start : List Level) (read : List (ℕ × VecLine))
     (last : Standing) (before after : List VecReply) → AreStarts net names start → read ≡ vectors.lines →
     RanLines budget (begun_in net start) (map (λ line. line.1) read) last before after →
-    (told : List VecReply) × IsRun net names budget vectors told × (after ≡ before ++ told)
+    (told : List VecReply) × EndsRun net names budget vectors told last.states × (after ≡ before ++ told)
 run_told net names budget vectors start read last before after starts same ran = (
   ran.told,
   record {
-    start = start;
-    starts = starts;
-    last = last;
-    runs = subst (λ (lines : List (ℕ × VecLine)). LinesRun budget (begun_in net start) (map (λ line. line.1) lines) last ran.told) same
-        ran.runs;
+    run = record {
+      start = start;
+      starts = starts;
+      last = last;
+      runs = subst (λ (lines : List (ℕ × VecLine)). LinesRun budget (begun_in net start) (map (λ line. line.1) lines) last ran.told) same
+          ran.runs;
+    };
+    states_are = refl;
   },
   ran.added,
 )

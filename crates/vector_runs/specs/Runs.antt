@@ -87,3 +87,9 @@ pub record IsRun (net : Network) (names : List (List ℕ × ℕ)) (budget : ℕ)
   pub starts : AreStarts net names start
   pub last : Standing
   pub runs : LinesRun budget (begun_in net start) (lines_of vectors) last replies
+
+-- Vectors are run on a network with these names: what they reply, and the states in which they leave its nodes.
+pub record EndsRun (net : Network) (names : List (List ℕ × ℕ)) (budget : ℕ) (vectors : Vectors) (replies : List VecReply)
+    (states : List Level) : Type 0 where
+  pub run : IsRun net names budget vectors replies
+  pub states_are : states ≡ run.last.states

@@ -21,4 +21,4 @@ mod runs;
 
 pub use laws::{runs_are_unique, shown_values_are_steady};
 pub use replies::VecReply;
-pub use runs::run_vectors;
+pub use runs::{run_to_end, run_vectors};

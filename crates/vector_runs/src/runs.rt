@@ -1,16 +1,16 @@
 //! Runs vectors on a network.
-ghost use Rattle.std.specs.Prelude.{◌≡◌, ◌++◌, List, OnOk, OnErr};
+ghost use Rattle.std.specs.Prelude.{◌≡◌, ◌++◌, All, List, IfOk, OnOk, OnErr};
 ghost use Rattle.switch_net.specs.Net.{network_of};
 ghost use Rattle.vector_files.specs.VectorFiles.{IsWithin};
-ghost use Rattle.vector_runs.specs.Running.{AddsReplies};
-ghost use Rattle.vector_runs.specs.Runs.{IsFresh, IsRun};
+ghost use Rattle.vector_runs.specs.Running.{AddsReplies, FitsNodes};
+ghost use Rattle.vector_runs.specs.Runs.{EndsRun, IsFresh, IsRun};
 ghost use Rattle.vector_runs.specs.declared.replies.VecReply.{VecReply as ReplyOf};
 
 use crate::progress::Progress;
 use crate::rails::{make_fresh, starts};
 use crate::replies::VecReply;
 use std::alloc::{AllocError, Global};
-use switch_net::NamedNet;
+use switch_net::{Level, NamedNet};
 use vector_files::Vectors;
 
 /// Runs the vectors on the network, from the states in which it begins, and adds what they reply. The network is left with the inputs and
@@ -30,6 +30,27 @@ pub fn run_vectors(
     ensures names { named.new.names ≡ named.old.names }
     ensures refused { OnErr result (replies.new.items ≡ replies.old.items) }
 {
+    run_to_end(alloc, named, vectors, budget, replies)?;
+    Ok(())
+}
+
+/// Runs vectors on the network as `run_vectors` does, and tells the states in which they leave its nodes. They may change power and ground.
+pub fn run_to_end(
+    alloc: Global,
+    named: &mut NamedNet,
+    vectors: &Vectors,
+    budget: u32,
+    replies: &mut Vec<VecReply>,
+) -> Result<Vec<Level>, AllocError>
+    requires fresh { IsFresh (network_of named.old.net) named.old.names }
+    requires within { All (λ line. FitsNodes named.old.net.nodes line.1) vectors.now.lines }
+    ensures run { IfOk result (λ states. (told : List ReplyOf)
+        × EndsRun (network_of named.old.net) named.old.names budget vectors.now told states.items
+        × (replies.new.items ≡ replies.old.items ++ told)) }
+    ensures network { network_of named.new.net ≡ network_of named.old.net }
+    ensures names { named.new.names ≡ named.old.names }
+    ensures refused { OnErr result (replies.new.items ≡ replies.old.items) }
+{
     let told = replies.len();
     let ran = run_from_start(alloc, named, vectors, budget, replies);
     make_fresh(named);
@@ -39,7 +60,7 @@ pub fn run_vectors(
     ran
 }
 
-// Runs the vectors as `run_vectors` does, but leaves the inputs and sizes as the lines changed them, and replies that were added before
+// Runs vectors as `run_to_end` does, but leaves the inputs and sizes as the lines changed them, and replies that were added before
 // memory was short.
 fn run_from_start(
     alloc: Global,
@@ -47,9 +68,10 @@ fn run_from_start(
     vectors: &Vectors,
     budget: u32,
     replies: &mut Vec<VecReply>,
-) -> Result<(), AllocError>
-    requires { IsWithin named.old vectors.now }
-    ensures run { OnOk result ((told : List ReplyOf) × IsRun (network_of named.old.net) named.old.names budget vectors.now told
+) -> Result<Vec<Level>, AllocError>
+    requires { All (λ line. FitsNodes named.old.net.nodes line.1) vectors.now.lines }
+    ensures run { IfOk result (λ states. (told : List ReplyOf)
+        × EndsRun (network_of named.old.net) named.old.names budget vectors.now told states.items
         × (replies.new.items ≡ replies.old.items ++ told)) }
     ensures names { named.new.names ≡ named.old.names }
     ensures nodes { named.new.net.nodes ≡ named.old.net.nodes }
@@ -66,5 +88,7 @@ fn run_from_start(
         vectors.lines.items(),
         budget,
         replies,
-    )
+    )?;
+    let Progress { states, phases: _ } = progress;
+    Ok(states)
 }

@@ -1,5 +1,4 @@
-use Rattle.std.proofs.Common.{ℕ, subst, sym}
-use Rattle.std.proofs.lemmas.Result.{on_ok_weaker}
+use Rattle.std.proofs.Common.{ℕ, rules, subst, sym}
 use Rattle.switch_net.specs.Names.{NameNodesBelow}
 use Rattle.switch_net.specs.Net.{network_of}
 use Rattle.vector_runs.specs.Running.{standing}
@@ -17,8 +16,6 @@ invariant_of-named c =
 pub returns-clause-run : goal.returns-clause-run
 returns-clause-run c =
     let named = c.args.named.now in
-    on_ok_weaker c.run_lines.result
-    (run_told (network_of named.net) named.names c.args.budget c.args.vectors.now c.in_ok-starts.field-0.items c.items.result.now
+    run_told (network_of named.net) named.names c.args.budget c.args.vectors.now c.in_ok-starts.field-0.items c.items.result.now
     (standing c.run_lines.new.net c.run_lines.new.self) c.args.replies.now.items c.run_lines.new.replies.items c.in_ok-starts.ensures
-    c.items.ensures)
-    c.run_lines.ensures.ran
+    c.items.ensures (search rules)

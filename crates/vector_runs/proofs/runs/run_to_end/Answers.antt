@@ -1,6 +1,6 @@
 use Rattle.std.proofs.Common.{◌∙◌}
 use Rattle.vector_runs.proofs.RailStates.{put_back}
-use Rattle.vector_runs.proofs.runs.run_vectors.Goals as goal
+use Rattle.vector_runs.proofs.runs.run_to_end.Goals as goal
 
 pub returns-then-is_err-clause-network : goal.returns-then-is_err-clause-network
 returns-then-is_err-clause-network c =
