@@ -1,0 +1,3 @@
+pub mod Outcomes
+pub mod StackVectors
+pub mod Summaries
