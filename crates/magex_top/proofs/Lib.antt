@@ -7,6 +7,7 @@ pub mod CircuitCommands
 pub mod EditLaws
 pub mod ExtractionCommands
 pub mod ExtractionLaws
+pub mod GenerateLaws
 pub mod InsideLaws
 pub mod KeptLaws
 pub mod LoadLaws

@@ -4,6 +4,7 @@ pub mod CommandCircuits
 pub mod CommandEdits
 pub mod CommandExt2sim
 pub mod CommandExtract
+pub mod CommandGenerate
 pub mod CommandLoad
 pub mod CommandNodes
 pub mod CommandSave
@@ -13,6 +14,7 @@ pub mod CommandTech
 pub mod CommandVectors
 pub mod Extracting
 pub mod Extractions
+pub mod MadeStacks
 pub mod Offending
 pub mod Refusals
 pub mod Runs

@@ -17,6 +17,8 @@ use Rattle.script_lines.specs.declared.faults.LineFault.{LineFault}
 use Rattle.script_lines.specs.declared.faults.LineFault.TheVariants as line
 use Rattle.edit_script.specs.declared.faults.EditFault.{EditFault}
 use Rattle.edit_script.specs.declared.faults.EditFault.TheVariants as edit
+use Rattle.layout_gen.specs.declared.faults.GenerateFault.{GenerateFault}
+use Rattle.layout_gen.specs.declared.faults.GenerateFault.TheVariants as made
 use Rattle.cell_loading.specs.declared.faults.LoadFault.{LoadFault}
 use Rattle.cell_loading.specs.declared.faults.LoadFault.TheVariants as load
 use Rattle.cell_loading.specs.Loads.{cause_of_load}
@@ -40,7 +42,7 @@ use Rattle.session_model.specs.declared.report.LineKind.TheVariants.{Refusal}
 use Rattle.session_model.specs.declared.report.ReportLine.{ReportLine}
 use Rattle.magex_top.specs.declared.faults.TopFault.{TopFault}
 use Rattle.magex_top.specs.declared.faults.TopFault.TheVariants.{Line, NoTech, Tech, File, Load, Ext, Sim, Flat, Vectors, TooMany, NoCell, Edit}
-use Rattle.magex_top.specs.declared.faults.TopFault.TheVariants.{Unclean, TechAgain, NotBuilt}
+use Rattle.magex_top.specs.declared.faults.TopFault.TheVariants.{Unclean, Generate, TechAgain}
 
 -- the name of a section
 abbrev pub section_word : Section → List ℕ
@@ -97,6 +99,10 @@ no_cell_text cell = codes "E8 no cell " ++ cell
 -- there is a cell of the name
 abbrev pub cell_exists_text : List ℕ → List ℕ
 cell_exists_text cell = codes "E9 cell exists " ++ cell
+
+-- no layer has the name
+abbrev pub no_layer_text : List ℕ → List ℕ
+no_layer_text word = codes "E10 no layer " ++ word
 
 abbrev pub out_of_range_text : List ℕ
 out_of_range_text = codes "E12 out of range"
@@ -202,7 +208,7 @@ abbrev pub edit_fault_text : EditFault → List ℕ
 edit_fault_text edit.NoCurrent = codes "E8 no cell -"
 edit_fault_text (edit.NoCell cell) = no_cell_text cell
 edit_fault_text (edit.CellExists cell) = cell_exists_text cell
-edit_fault_text (edit.NoLayer word) = codes "E10 no layer " ++ word
+edit_fault_text (edit.NoLayer word) = no_layer_text word
 edit_fault_text edit.EmptyRect = codes "E11 empty rectangle"
 edit_fault_text edit.OutOfRange = out_of_range_text
 edit_fault_text edit.BadTransform = codes "E13 not an orientation"
@@ -212,6 +218,13 @@ edit_fault_text (edit.Cycle cell) = cycle_text cell
 edit_fault_text (edit.NoLabel text) = codes "E17 no label " ++ text
 edit_fault_text (edit.TooMany limit) = too_many_text limit
 edit_fault_text edit.Memory = []
+
+-- why the cells of a stack are not made
+abbrev pub generate_fault_text : GenerateFault → List ℕ
+generate_fault_text (made.CellExists cell) = cell_exists_text cell
+generate_fault_text (made.NoLayer word) = no_layer_text word
+generate_fault_text (made.TooMany limit) = too_many_text limit
+generate_fault_text made.Memory = []
 
 -- what is written of a fault; want of memory refuses no line, but ends the run
 abbrev pub fault_text : TopFault → List ℕ
@@ -228,8 +241,8 @@ fault_text (TooMany limit) = too_many_text limit
 fault_text (NoCell cell) = no_cell_text cell
 fault_text (Edit fault) = edit_fault_text fault
 fault_text (Unclean cell) = codes "E19 unclean " ++ cell
+fault_text (Generate fault) = generate_fault_text fault
 fault_text TechAgain = codes "E22 technology again"
-fault_text NotBuilt = codes "E26 not built"
 
 -- what a refusal comes from
 abbrev pub cause_of : TopFault → Cause

@@ -4,15 +4,16 @@ use Rattle.outside_io.specs.Files.{Files}
 use Rattle.session_model.specs.Effects.{Effect}
 use Rattle.script_lines.specs.declared.commands.Command.{Command}
 use Rattle.script_lines.specs.declared.commands.Command.TheVariants.{Tech, Load, New, Edit, Paint, Erase, Place, Array, Move, Delete, Label, Unlabel}
-use Rattle.script_lines.specs.declared.commands.Command.TheVariants.{Save, Squares, Nodes, Extract, Flat, Sim, Ext2sim, Vectors, Simrun}
+use Rattle.script_lines.specs.declared.commands.Command.TheVariants.{Save, Squares, Nodes, Extract, Flat, Sim, Ext2sim, Vectors, Simrun, Generate}
 use Rattle.script_lines.specs.declared.faults.LineFault.{LineFault}
 use Rattle.script_lines.specs.Commands.{command_of}
 use Rattle.magex_top.specs.declared.circuits.CircuitFile.TheVariants as file
-use Rattle.magex_top.specs.declared.faults.TopFault.TheVariants.{Line, NotBuilt}
+use Rattle.magex_top.specs.declared.faults.TopFault.TheVariants.{Line}
 use Rattle.magex_top.specs.CommandCircuits.{CircuitMeans}
 use Rattle.magex_top.specs.CommandEdits.{EditMeans}
 use Rattle.magex_top.specs.CommandExt2sim.{Ext2simMeans}
 use Rattle.magex_top.specs.CommandExtract.{ExtractMeans}
+use Rattle.magex_top.specs.CommandGenerate.{GenerateMeans}
 use Rattle.magex_top.specs.CommandLoad.{LoadMeans}
 use Rattle.magex_top.specs.CommandNodes.{NodesMeans}
 use Rattle.magex_top.specs.CommandSave.{SaveMeans}
@@ -22,7 +23,7 @@ use Rattle.magex_top.specs.CommandTech.{TechMeans}
 use Rattle.magex_top.specs.CommandVectors.{VectorsMeans}
 use Rattle.magex_top.specs.States.{State, accepted, refused}
 
--- what a command does; those that follow the others here are not built yet
+-- what a command does
 abbrev pub CommandMeans : ℕ → State → Files → Command → Effect State → Type 0
 CommandMeans number state files (Tech name) effect = TechMeans number state files name effect
 CommandMeans number state files (Load cell) effect = LoadMeans number state files cell effect
@@ -45,7 +46,7 @@ CommandMeans number state files (Sim cell) effect = CircuitMeans file.Sim number
 CommandMeans number state files (Ext2sim cell) effect = Ext2simMeans number state files cell effect
 CommandMeans number state files (Vectors cell file) effect = VectorsMeans number state files cell file effect
 CommandMeans number state files (Simrun cell file) effect = SimrunMeans number state files cell file effect
-CommandMeans number state files _ effect = effect ≡ refused number state NotBuilt []
+CommandMeans number state files (Generate count) effect = GenerateMeans number state count effect
 
 -- A line that is no command is refused, and one that asks for nothing does nothing.
 abbrev pub ReadLineMeans : ℕ → State → Files → Result (Option Command) LineFault → Effect State → Type 0

@@ -154,8 +154,8 @@ fn run_kept(
     }
 }
 
-// The line that refuses what passes a limit.
-fn limit_passed(alloc: Global, number: usize, limit: Limit) -> Result<Vec<ReportLine>, Halt>
+/// The line that refuses what passes a limit.
+pub fn limit_passed(alloc: Global, number: usize, limit: Limit) -> Result<Vec<ReportLine>, Halt>
     ensures told { IfOk result (λ lines. lines.items ≡ refusal number (TopFault.TooMany limit) ∷ []) }
     ensures inside { IfOk result (λ lines. IsOfInside lines.items) }
     ensures memory { IsOkUnless result Halt.Memory }

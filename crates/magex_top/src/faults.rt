@@ -5,6 +5,7 @@ use circuit_model::FlatFault;
 use edit_script::EditFault;
 use ext_loading::ExtLoadFault;
 use geo_core::{Limit, Name};
+use layout_gen::GenerateFault;
 use script_lines::LineFault;
 use session_model::FetchFault;
 use sim_text::SimAt;
@@ -40,8 +41,8 @@ pub enum TopFault {
     Edit(EditFault),
     /// The cell of this name, at or below the one that is asked for, is not clean.
     Unclean(Name),
+    /// The cells of a stack can't be made.
+    Generate(GenerateFault),
     /// A technology was read already.
     TechAgain,
-    /// The program does not have this yet.
-    NotBuilt,
 }

@@ -13,6 +13,7 @@ mod command_circuits;
 mod command_edits;
 mod command_ext2sim;
 mod command_extract;
+mod command_generate;
 mod command_load;
 mod command_nodes;
 mod command_save;

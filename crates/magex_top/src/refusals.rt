@@ -4,7 +4,7 @@ ghost use Rattle.text_scan.specs.Decimal.{decimal};
 ghost use Rattle.session_model.specs.Fetches.{cause_of_fault};
 ghost use Rattle.magex_top.specs.Refusals.{cause_of, fault_text, limit_word, refusal, section_word, table_word, tech_fault_text, line_fault_text};
 ghost use Rattle.magex_top.specs.Refusals.{file_fault_text, too_many_text, load_fault_text, mag_fault_text, mag_code, edit_fault_text};
-ghost use Rattle.magex_top.specs.Refusals.{ext_code, flat_fault_text, sim_code, sim_fault_text, tree_fault_text, vec_fault_text};
+ghost use Rattle.magex_top.specs.Refusals.{ext_code, flat_fault_text, generate_fault_text, sim_code, sim_fault_text, tree_fault_text, vec_fault_text};
 
 use crate::faults::TopFault;
 use cell_loading::LoadFault;
@@ -13,6 +13,7 @@ use edit_script::EditFault;
 use ext_loading::ExtLoadFault;
 use ext_reading::{ExtAt, ExtReadFault};
 use geo_core::{Limit, List, Name};
+use layout_gen::GenerateFault;
 use mag_text::MagFault;
 use script_lines::LineFault;
 use session_model::{Cause, FetchFault, LineKind, ReportLine};
@@ -78,8 +79,8 @@ fn append_fault(text: &mut Vec<u8>, fault: &TopFault) -> Result<(), AllocError>
         TopFault::NoCell(cell) => append_with_name(text, b"E8 no cell ", cell),
         TopFault::Edit(fault) => append_edit_fault(text, fault),
         TopFault::Unclean(cell) => append_with_name(text, b"E19 unclean ", cell),
+        TopFault::Generate(fault) => append_generate_fault(text, fault),
         TopFault::TechAgain => text.extend_from_slice(b"E22 technology again"),
-        TopFault::NotBuilt => text.extend_from_slice(b"E26 not built"),
     }
 }
 
@@ -285,6 +286,18 @@ fn append_edit_fault(text: &mut Vec<u8>, fault: &EditFault) -> Result<(), AllocE
         EditFault::NoLabel(label) => append_with_name(text, b"E17 no label ", label),
         EditFault::TooMany(limit) => append_too_many(text, *limit),
         EditFault::Memory => Ok(()),
+    }
+}
+
+// Writes why the cells of a stack are not made.
+fn append_generate_fault(text: &mut Vec<u8>, fault: &GenerateFault) -> Result<(), AllocError>
+    ensures { OnOk result (text.new.items ≡ text.old.items ++ generate_fault_text fault.now) }
+{
+    match fault {
+        GenerateFault::CellExists(cell) => append_with_name(text, b"E9 cell exists ", cell),
+        GenerateFault::NoLayer(word) => append_with_name(text, b"E10 no layer ", word),
+        GenerateFault::TooMany(limit) => append_too_many(text, *limit),
+        GenerateFault::Memory => Ok(()),
     }
 }
 

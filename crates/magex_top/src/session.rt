@@ -13,6 +13,7 @@ use crate::command_circuits::circuit;
 use crate::command_edits::edit;
 use crate::command_ext2sim::ext2sim;
 use crate::command_extract::extract;
+use crate::command_generate::generate;
 use crate::command_load::load;
 use crate::command_nodes::nodes;
 use crate::command_save::save;
@@ -94,6 +95,6 @@ fn answer<F: Shelf>(
         Command::Ext2sim(cell) => ext2sim(alloc, shelf, number, cell),
         Command::Vectors(cell, file) => vectors(alloc, session, shelf, number, cell, file),
         Command::Simrun(cell, file) => simrun(alloc, shelf, number, cell, file),
-        _ => refuse(alloc, number, TopFault::NotBuilt),
+        Command::Generate(count) => generate(alloc, session, number, *count),
     }
 }

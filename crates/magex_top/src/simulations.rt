@@ -102,8 +102,8 @@ fn lines_told(alloc: Global, replies: &[VecReply]) -> Result<Vec<ReportLine>, Al
     Ok(lines)
 }
 
-// The line of a reply.
-fn vector_line(alloc: Global, reply: &VecReply) -> Result<ReportLine, AllocError>
+/// The line of a reply.
+pub fn vector_line(alloc: Global, reply: &VecReply) -> Result<ReportLine, AllocError>
     ensures { IfOk result (λ line. line ≡ vector_line reply.now) }
 {
     Ok(ReportLine {

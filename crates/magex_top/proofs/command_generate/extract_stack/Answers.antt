@@ -1,0 +1,66 @@
+use Rattle.std.proofs.Common.{◌≡◌, ◌++◌, List, sym, subst, rules}
+use Rattle.session_model.specs.declared.report.ReportLine.{ReportLine}
+use Rattle.session_model.specs.Effects.{Effect}
+use Rattle.cell_library.specs.Libraries.{LibraryParts, seen}
+use Rattle.magex_top.specs.declared.extractions.Extracting.{Extracting}
+use Rattle.magex_top.specs.Answers.{IsOfInside, edited_state}
+use Rattle.magex_top.specs.CommandGenerate.{RunsStack, TellsStack}
+use Rattle.magex_top.specs.Extracting.{IsExtracted}
+use Rattle.magex_top.specs.States.{State}
+use Rattle.magex_top.proofs.ExtractionCommands.{refuses_cell}
+use Rattle.magex_top.proofs.ExtractionLaws.{fresh_below}
+use Rattle.magex_top.proofs.GenerateLaws.{runs_stack}
+use Rattle.magex_top.proofs.InsideLaws.{both_inside, extraction_inside, unclean_inside}
+use Rattle.magex_top.proofs.command_generate.extract_stack.Goals as goal
+
+pub run_kept-requires-clause-fresh : goal.run_kept-requires-clause-fresh
+run_kept-requires-clause-fresh c =
+    let old = c.args.edited.now in
+    let new = c.extract_cell.new.edited in
+    let is = subst (λ (e : Extracting). IsExtracted c.args.number (edited_state old) (edited_state new) c.args.cell.0 e) c.in-Done.is
+    c.in_ok-extraction.ensures.extracted in
+    fresh_below c.args.number old new c.args.cell.0 c.in-Done.extraction c.in_ok-extraction.ensures.library is
+
+pub returns-in_ok-joined-in-Done-clause-effect : goal.returns-in_ok-joined-in-Done-clause-effect
+returns-in_ok-joined-in-Done-clause-effect c =
+    let work = edited_state c.args.edited.now in
+    let after = edited_state c.extract_cell.new.edited in
+    let extraction = c.in-Done.extraction in
+    let told = c.in_ok-lines-in-Done.lines.items in
+    let is = subst (λ (e : Extracting). IsExtracted c.args.number work after c.args.cell.0 e) c.in-Done.is c.in_ok-extraction.ensures.extracted in
+    let tells = subst (λ (l : LibraryParts). TellsStack c.args.number c.args.n (seen l) c.args.cell.0 told) c.in_ok-extraction.ensures.library
+    c.in_ok-lines-in-Done.ensures.tells in
+    let lines : c.in_ok-joined-in-Done.field-0.items ≡ extraction.lines ++ told = search rules in
+    let stores : c.into_vec.result.items ≡ extraction.stores = search rules in
+    runs_stack c.args.number c.args.n work after c.args.cell.0 extraction told
+    (record { lines = c.in_ok-joined-in-Done.field-0; stores = c.into_vec.result }) is tells lines stores
+
+pub returns-in_ok-joined-in-Done-clause-inside : goal.returns-in_ok-joined-in-Done-clause-inside
+returns-in_ok-joined-in-Done-clause-inside c =
+    let work = edited_state c.args.edited.now in
+    let after = edited_state c.extract_cell.new.edited in
+    let extraction = c.in-Done.extraction in
+    let told = c.in_ok-lines-in-Done.lines.items in
+    let is = subst (λ (e : Extracting). IsExtracted c.args.number work after c.args.cell.0 e) c.in-Done.is c.in_ok-extraction.ensures.extracted in
+    let lines : c.in_ok-joined-in-Done.field-0.items ≡ extraction.lines ++ told = search rules in
+    subst (λ (all : List ReportLine). IsOfInside all) (sym lines)
+    (both_inside extraction.lines told (extraction_inside work c.args.cell.0 extraction is.0) c.in_ok-lines-in-Done.ensures.inside)
+
+pub returns-in-Refused-clause-effect : goal.returns-in-Refused-clause-effect
+returns-in-Refused-clause-effect c =
+    let work = edited_state c.args.edited.now in
+    let after = edited_state c.extract_cell.new.edited in
+    let lines = c.in-Refused.lines in
+    let refuses = subst (λ (e : Extracting). IsExtracted c.args.number work after c.args.cell.0 e) c.in-Refused.is c.in_ok-extraction.ensures.extracted in
+    let told : c.told.result.lines.items ≡ lines = search rules in
+    refuses_cell c.args.number work after c.args.cell.0 lines (λ (effect : Effect State). RunsStack c.args.number c.args.n work c.args.cell.0 effect)
+    c.told.result refuses told c.told.ensures.stores
+
+pub returns-in-Refused-clause-inside : goal.returns-in-Refused-clause-inside
+returns-in-Refused-clause-inside c =
+    let work = edited_state c.args.edited.now in
+    let after = edited_state c.extract_cell.new.edited in
+    let lines = c.in-Refused.lines in
+    let refuses = subst (λ (e : Extracting). IsExtracted c.args.number work after c.args.cell.0 e) c.in-Refused.is c.in_ok-extraction.ensures.extracted in
+    let told : c.told.result.lines.items ≡ lines = search rules in
+    subst (λ (all : List ReportLine). IsOfInside all) (sym told) (unclean_inside c.args.number work after c.args.cell.0 lines refuses)

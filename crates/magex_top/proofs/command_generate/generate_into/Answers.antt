@@ -1,0 +1,38 @@
+use Rattle.std.proofs.Common.{ℕ, Some, length, subst}
+use Rattle.std.proofs.lemmas.Result.{IfOk-weaker}
+use Rattle.session_model.specs.Effects.{Answers}
+use Rattle.magex_top.specs.declared.command_generate.MadeStack.{MadeStack}
+use Rattle.magex_top.specs.Answers.{edited_state}
+use Rattle.magex_top.specs.CommandGenerate.{GeneratesStack}
+use Rattle.magex_top.specs.MadeStacks.{IsCellOf, IsStackMade}
+use Rattle.magex_top.specs.States.{State}
+use Rattle.magex_top.proofs.AnswerLaws.{both_ok}
+use Rattle.magex_top.proofs.GenerateLaws.{stack_made, stack_refused}
+use Rattle.magex_top.proofs.command_generate.generate_into.Goals as goal
+
+pub extract_stack-requires-clause-cell : goal.extract_stack-requires-clause-cell
+extract_stack-requires-clause-cell c =
+    subst (λ (made : MadeStack). IsCellOf (length c.make_stack.new.edited.library.contents) made) c.in-Made.is c.in_ok-cell.ensures.cell
+
+pub returns-in-Made-clause-effect : goal.returns-in-Made-clause-effect
+returns-in-Made-clause-effect c =
+    let work = edited_state c.args.edited.now in
+    let now = edited_state c.make_stack.new.edited in
+    let n = c.rows_of-n.result in
+    let after : State = Some (edited_state c.extract_stack.new.edited) in
+    let came = subst (λ (made : MadeStack). IsStackMade n work now made) c.in-Made.is c.in_ok-cell.ensures.made in
+    IfOk-weaker c.extract_stack.result _ _
+    (λ answer means. subst (λ (rows : ℕ). Answers (GeneratesStack c.args.number rows work) after answer) c.rows_of-n.ensures.rows
+    (stack_made c.args.number n work now c.in-Made.cell.0 after answer came means))
+    c.extract_stack.ensures.effect
+
+pub returns-in-Refused-clause-effect : goal.returns-in-Refused-clause-effect
+returns-in-Refused-clause-effect c =
+    let work = edited_state c.args.edited.now in
+    let now = edited_state c.make_stack.new.edited in
+    let n = c.rows_of-n.result in
+    let is = subst (λ (made : MadeStack). IsStackMade n work now made) c.in-Refused.is c.in_ok-cell.ensures.made in
+    both_ok c.refuse.result _ _ _
+    (λ answer lines stores. subst (λ (rows : ℕ). Answers (GeneratesStack c.args.number rows work) (Some now) answer) c.rows_of-n.ensures.rows
+    (stack_refused c.args.number n work now c.in-Refused.fault answer is.0 is.1 lines stores))
+    c.refuse.ensures.lines c.refuse.ensures.stores
