@@ -55,11 +55,11 @@ writes_cell file number name work after cell extraction written answer is is_wri
 )
 
 -- `vectors`: the cell was extracted, and lines behind those of the extraction answer the vectors
-pub runs_cell : (number : ℕ) (text : List ℕ) (fetched : List (List ℕ)) (work after : Workspace) (cell : ℕ) (extraction : Extraction)
+pub runs_cell : (budget number : ℕ) (text : List ℕ) (fetched : List (List ℕ)) (work after : Workspace) (cell : ℕ) (extraction : Extraction)
     (lines all : List ReportLine) (stores : List Store) → IsExtracted number work after cell (Done extraction)
-    → TellsAt number work.editing.library cell text lines → all ≡ extraction.lines ++ lines → stores ≡ extraction.stores
-    → RunsCell number text fetched work cell (record { state = Some after; lines = all; stores = stores; fetched = fetched })
-runs_cell number text fetched work after cell extraction lines all stores is tells lines_are stores_are = record {
+    → TellsAt budget number work.editing.library cell text lines → all ≡ extraction.lines ++ lines → stores ≡ extraction.stores
+    → RunsCell budget number text fetched work cell (record { state = Some after; lines = all; stores = stores; fetched = fetched })
+runs_cell budget number text fetched work after cell extraction lines all stores is tells lines_are stores_are = record {
   extraction = extraction;
   is_extraction = is.0;
   lines = lines;

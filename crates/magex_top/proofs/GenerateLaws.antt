@@ -1,8 +1,9 @@
 -- What `generate` does in each case.
-use Rattle.std.proofs.Common.{◌≡◌, ◌<◌, ◌+◌, ◌∙◌, ℕ, Bool, true, false, List, [], ◌∷◌, ◌++◌, length, cond, Option, Some, None, inl, inr, refl, sym, ap, subst, arith, length-append}
+use Rattle.std.proofs.Common.{◌≡◌, ◌<◌, ◌+◌, ◌∙◌, ℕ, Bool, true, false, List, [], ◌∷◌, ◌++◌, length, map, cond, Option, Some, None, inl, inr, refl, sym, ap, subst, arith, length-append}
 use Rattle.std.specs.Prelude.{ℤ, pos, negsuc, ◌≤◌, IsTrue}
 use Rattle.std.specs.Int.RustNames.{unsigned_abs}
 use Rattle.std.proofs.lemmas.Bool.Decides.{nat_tests}
+use Rattle.std.proofs.lemmas.List.{length-map}
 use Rattle.script_lines.specs.declared.limits.TheConstants.{MOST_GENERATED}
 use Rattle.script_lines.specs.Arguments.{is_between}
 use Rattle.layout_gen.specs.declared.limits.TheConstants.{MOST_TILES}
@@ -11,6 +12,7 @@ use Rattle.session_model.specs.declared.report.ReportLine.{ReportLine}
 use Rattle.session_model.specs.Effects.{Answers, Effect}
 use Rattle.ext_model.specs.declared.circuits.Circuit.{Circuit}
 use Rattle.ext_model.specs.declared.tables.CellKey.{CellKey}
+use Rattle.cell_library.specs.Additions.{kept_cell, names_with, with_all}
 use Rattle.cell_library.specs.Libraries.{IsLawfulLibrary, LibraryParts, edits_of, seen}
 use Rattle.edit_script.proofs.CellLaws.{counted}
 use Rattle.layout_gen.specs.declared.faults.GenerateFault.{GenerateFault}
@@ -28,7 +30,6 @@ use Rattle.stack_runs.specs.Summaries.{summary_of, summary_text}
 use Rattle.magex_top.specs.declared.extractions.Extracting.TheVariants.{Done}
 use Rattle.magex_top.specs.declared.extractions.Extraction.{Extraction}
 use Rattle.magex_top.specs.declared.faults.TopFault.TheVariants.{Generate}
-use Rattle.magex_top.specs.declared.simulations.TheConstants.{BUDGET}
 use Rattle.magex_top.specs.Answers.{IsOfInside}
 use Rattle.magex_top.specs.CommandGenerate.{ExtractsStack, GeneratesStack, TellsOutcome, TellsStack, outcome_lines, stack_cell, with_stack}
 use Rattle.magex_top.specs.Extracting.{IsExtracted}
@@ -69,8 +70,10 @@ module _ (old new : LibraryParts) (records : Records) (n : ℕ) (lawful : IsLawf
   -- it is one of the cells
   pub stack_there : (key : CellKey) → key.0 ≡ length old.contents + 2 → key.0 < length new.contents
   stack_there key key_is =
-      let count = λ i. length (generated.is i).cells in
-      omega (arith, key_is, counted old, counted new, count, length-append (seen old).cells _)
+      let kept = kept_cell (names_with (seen old) came.cells) in
+      let long : length (seen new).cells ≡ length (with_all (seen old) came.cells).cells = λ i. length (came.after i).cells in
+      omega
+      (arith, key_is, counted old, counted new, long, length-append (seen old).cells (map kept came.cells), length-map came.cells kept, came.three)
 
   -- and the records that are kept agree with the library
   pub stack_agrees : Agrees new records
@@ -79,36 +82,36 @@ module _ (old new : LibraryParts) (records : Records) (n : ℕ) (lawful : IsLawf
 -- ---- the answers
 
 -- the stack was made, and this answers what is done with it
-pub stack_made : (number n : ℕ) (work now : Workspace) (cell : ℕ) (after : State) (answer : Answer) → StackCame n work now cell
-    → Answers (ExtractsStack number n now cell) after answer → Answers (GeneratesStack number n work) after answer
-stack_made number n work now cell after answer came means =
+pub stack_made : (budget number n : ℕ) (work now : Workspace) (cell : ℕ) (after : State) (answer : Answer) → StackCame n work now cell
+    → Answers (ExtractsStack budget number n now cell) after answer → Answers (GeneratesStack budget number n work) after answer
+stack_made budget number n work now cell after answer came means =
     let effect : Effect State = record { state = after; lines = answer.lines.items; stores = answer.stores.items; fetched = means.0 } in
-    let here = subst (λ (c : ℕ). ExtractsStack number n now c effect) came.place means.1 in (
+    let here = subst (λ (c : ℕ). ExtractsStack budget number n now c effect) came.place means.1 in (
       means.0,
       inl (record {
         accepted = came.accepted;
         after = came.after;
         generated = came.generated;
-        extracts = subst (λ (w : Workspace). ExtractsStack number n w (stack_cell work) effect) came.is here;
+        extracts = subst (λ (w : Workspace). ExtractsStack budget number n w (stack_cell work) effect) came.is here;
       }),
     )
 
 -- it is refused
-pub stack_refused : (number n : ℕ) (work now : Workspace) (fault : GenerateFault) (answer : Answer)
+pub stack_refused : (budget number n : ℕ) (work now : Workspace) (fault : GenerateFault) (answer : Answer)
     → generate_fault work.editing.library work.editing.edits ≡ Some fault → now ≡ work
     → answer.lines.items ≡ refusal number (Generate fault) ∷ [] → answer.stores.items ≡ []
-    → Answers (GeneratesStack number n work) (Some now) answer
-stack_refused number n work now fault answer is_fault same lines stores =
-    subst (λ (w : Workspace). Answers (GeneratesStack number n work) (Some w) answer) (sym same)
-    (answers_refusal (GeneratesStack number n work) number (Some work) (Generate fault) [] answer lines stores
+    → Answers (GeneratesStack budget number n work) (Some now) answer
+stack_refused budget number n work now fault answer is_fault same lines stores =
+    subst (λ (w : Workspace). Answers (GeneratesStack budget number n work) (Some w) answer) (sym same)
+    (answers_refusal (GeneratesStack budget number n work) number (Some work) (Generate fault) [] answer lines stores
     (inr (record { fault = fault; is_fault = is_fault; is = refl })))
 
 -- the stack was extracted, and lines behind those of the extraction tell what came of it
-pub runs_stack : (number n : ℕ) (work after : Workspace) (cell : ℕ) (extraction : Extraction) (lines : List ReportLine) (answer : Answer)
-    → IsExtracted number work after cell (Done extraction) → TellsStack number n work.editing.library cell lines
+pub runs_stack : (budget number n : ℕ) (work after : Workspace) (cell : ℕ) (extraction : Extraction) (lines : List ReportLine) (answer : Answer)
+    → IsExtracted number work after cell (Done extraction) → TellsStack budget number n work.editing.library cell lines
     → answer.lines.items ≡ extraction.lines ++ lines → answer.stores.items ≡ extraction.stores
-    → Answers (ExtractsStack number n work cell) (Some after) answer
-runs_stack number n work after cell extraction lines answer is tells lines_are stores_are = (
+    → Answers (ExtractsStack budget number n work cell) (Some after) answer
+runs_stack budget number n work after cell extraction lines answer is tells lines_are stores_are = (
   [],
   inl (record {
     extraction = extraction;
@@ -122,10 +125,10 @@ runs_stack number n work after cell extraction lines answer is tells lines_are s
 -- ---- the lines
 
 -- what came of the vectors is told
-pub tells_outcome : (n : ℕ) (circuit : Circuit) (sim : SimFile) (net : Network) (names : List (List ℕ × ℕ)) (outcome : Outcome)
-    (lines : List ReportLine) → sim ≡ sim_of circuit → IsNetOf sim net names → IsOutcome net names BUDGET n outcome
-    → lines ≡ outcome_lines n circuit outcome → TellsOutcome n circuit lines
-tells_outcome n circuit sim net names outcome lines sim_is is is_outcome are = record {
+pub tells_outcome : (budget n : ℕ) (circuit : Circuit) (sim : SimFile) (net : Network) (names : List (List ℕ × ℕ)) (outcome : Outcome)
+    (lines : List ReportLine) → sim ≡ sim_of circuit → IsNetOf sim net names → IsOutcome net names budget n outcome
+    → lines ≡ outcome_lines n circuit outcome → TellsOutcome budget n circuit lines
+tells_outcome budget n circuit sim net names outcome lines sim_is is is_outcome are = record {
   net = net;
   names = names;
   is_net = subst (λ (one : SimFile). IsNetOf one net names) sim_is is;

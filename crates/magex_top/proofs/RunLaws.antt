@@ -1,8 +1,8 @@
 -- What a run means in each case of its words and its script.
-use Rattle.std.proofs.Common.{◌≡◌, ℕ, ◌<◌, ◌≤◌, ◌∙◌, inl, List, [], ◌∷◌, ◌++◌, map, length, Some, refl, sym, ap, subst, Option, arith}
+use Rattle.std.proofs.Common.{◌≡◌, ℕ, ◌<◌, ◌≤◌, ◌∙◌, inl, List, [], ◌∷◌, ◌++◌, map, length, Some, None, refl, sym, ap, subst, Option, arith}
 use Rattle.std.proofs.lemmas.Bool.Decides.{nat_tests}
 use Rattle.std.proofs.lemmas.List.{append-nil}
-use Rattle.std.specs.Prelude.{nat_lt, MatchBool, true, false, Err}
+use Rattle.std.specs.Prelude.{nat_lt, is_some, Bool, MatchBool, true, false, Err}
 use Rattle.text_scan.specs.Lines.{lines_of}
 use Rattle.outside_io.specs.Files.{Files}
 use Rattle.outside_io.specs.ToldBytes.{ToldBytes}
@@ -14,12 +14,14 @@ use Rattle.session_model.specs.declared.answer.Halt.TheVariants as halt
 use Rattle.session_model.specs.Causes.{ComeFrom, UnlessReadFault, UnlessWriteFault, line_kinds}
 use Rattle.session_model.specs.Effects.{no_effect}
 use Rattle.session_model.specs.Progress.{BeginsNext, IsPrefixOf, Progress}
-use Rattle.session_model.specs.Reports.{text_of}
+use Rattle.session_model.specs.Reports.{report_of, text_of}
 use Rattle.magex_top.specs.declared.status.Status.{Status}
 use Rattle.magex_top.specs.declared.status.Status.TheVariants.{Usage, ReadFault, WriteFault, ScriptTooLong}
-use Rattle.magex_top.specs.Runs.{RunMeans, RunReaches, ScriptMeans, ScriptReaches, usage_text}
-use Rattle.magex_top.specs.Sessions.{LineMeans}
-use Rattle.magex_top.specs.States.{State, first_state, reply}
+use Rattle.run_words.specs.declared.words.RunWords.{RunWords}
+use Rattle.run_words.specs.RunWords.{words_of}
+use Rattle.magex_top.specs.Runs.{is_quiet, AskedReaches, RunMeans, RunReaches, ScriptMeans, ScriptReaches, usage_text}
+use Rattle.magex_top.specs.Sessions.{RunLineMeans, RunState, first_run}
+use Rattle.magex_top.specs.States.{reply}
 use Rattle.magex_top.specs.Statuses.{status_of}
 
 -- what is not too long passes no test of it
@@ -29,72 +31,113 @@ fits_test n fits = grind (arith, nat_tests)
 long_test : (n : ℕ) → LONGEST_FILE < n → nat_lt LONGEST_FILE n ≡ true
 long_test n long = grind (arith, nat_tests)
 
--- with words it is a usage fault
-pub usage_run : {X : Type 0} (f : X → List ℕ) (words : List X) (text : List ℕ) (files : Files) → (words ≡ [] → ⊥)
-    → RunMeans (map f words) text files (reply usage_text ∷ []) files Usage
-usage_run f [] text files some = absurd (some refl)
-usage_run f (word ∷ words) text files some = (refl, refl, refl)
+-- what is there is something
+pub something : {A : Type 0} (found : Option A) (a : A) → found ≡ Some a → is_some found ≡ false → ⊥
+something None a is none = let no : ⊥ = cc in no
+something (Some b) a is none = let no : ⊥ = cc in no
+
+-- and what is not there is nothing
+pub nothing : {A : Type 0} (found : Option A) → found ≡ None → is_some found ≡ true → ⊥
+nothing None is some = let no : ⊥ = cc in no
+nothing (Some b) is some = let no : ⊥ = cc in no
+
+-- with words that are not of the form it is a usage fault
+pub usage_run : (words : List (List ℕ)) (text : List ℕ) (files : Files) → words_of words ≡ None
+    → RunMeans words text files (reply usage_text ∷ []) files Usage
+usage_run words text files none = rw none (refl, refl, refl)
 
 -- a script that is not too long means what its lines mean
-pub script_run : {X : Type 0} (f : X → List ℕ) (words : List X) (text : List ℕ) (files : Files) (lines : List ReportLine) (after : Files) (status : Status)
-    → words ≡ [] → length text ≤ LONGEST_FILE → ScriptMeans text files lines after status → RunMeans (map f words) text files lines after status
-script_run f words text files lines after status none fits means = rw (none, fits_test (length text) fits) means
+pub script_run : (words : List (List ℕ)) (asked : RunWords) (text : List ℕ) (files : Files) (lines : List ReportLine) (after : Files) (status : Status)
+    → words_of words ≡ Some asked → length text ≤ LONGEST_FILE → ScriptMeans asked text files lines after status
+    → RunMeans words text files lines after status
+script_run words asked text files lines after status is fits means = rw (is, fits_test (length text) fits) means
 
 -- a script that is too long means that and an empty report
-pub long_run : {X : Type 0} (f : X → List ℕ) (words : List X) (text : List ℕ) (files : Files) → words ≡ [] → LONGEST_FILE < length text
-    → RunMeans (map f words) text files [] files ScriptTooLong
-long_run f words text files none long = rw (none, long_test (length text) long) (refl, refl, refl)
+pub long_run : (words : List (List ℕ)) (asked : RunWords) (text : List ℕ) (files : Files) → words_of words ≡ Some asked → LONGEST_FILE < length text
+    → RunMeans words text files [] files ScriptTooLong
+long_run words asked text files is long = rw (is, long_test (length text) long) (refl, refl, refl)
 
 pub nothing_more : (written : ToldBytes) (before : List ℕ) → written ≡ Some before → written ≡ Some (before ++ [])
 nothing_more written before is = is ∙ ap (λ (xs : List ℕ). Some xs) (sym (append-nil before))
 
--- what a run with words reaches
-pub usage_reached : {X : Type 0} (f : X → List ℕ) (words : List X) (text : List ℕ) (files : Files) (Failed : Type 0) (reported : List ℕ) → (words ≡ [] → ⊥)
-    → IsPrefixOf reported (text_of (reply usage_text ∷ [])) → RunReaches (map f words) text files Failed reported files
-usage_reached f [] text files Failed reported some prefix = absurd (some refl)
-usage_reached f (word ∷ words) text files Failed reported some prefix = (prefix, refl)
+-- without lines there is no report
+no_report : (quiet : Bool) → report_of quiet [] ≡ []
+no_report true = refl
+no_report false = refl
 
--- what a run without words reaches in a script that is not too long
-pub script_reached : {X : Type 0} (f : X → List ℕ) (words : List X) (text : List ℕ) (files : Files) (Failed : Type 0) (reported : List ℕ) (after : Files)
-    → words ≡ [] → length text ≤ LONGEST_FILE → ScriptReaches text files Failed reported after → RunReaches (map f words) text files Failed reported after
-script_reached f words text files Failed reported after none fits reached = rw (none, fits_test (length text) fits) reached
+-- what was written of the usage line is the report
+pub usage_written : (words : List (List ℕ)) (written : ToldBytes) (before : List ℕ) (lines : List ReportLine) → words_of words ≡ None
+    → written ≡ Some (before ++ text_of lines) → written ≡ Some (before ++ report_of (is_quiet words) lines)
+usage_written words written before lines none is = rw none is
+
+-- what was written of a script's lines is the report that the words ask for
+pub script_written : (words : List (List ℕ)) (asked : RunWords) (written : ToldBytes) (before : List ℕ) (lines : List ReportLine)
+    → words_of words ≡ Some asked → written ≡ Some (before ++ report_of asked.quiet lines)
+    → written ≡ Some (before ++ report_of (is_quiet words) lines)
+script_written words asked written before lines asks is = rw asks is
+
+-- nothing was written, and that is the report of no lines
+pub nothing_written : (words : List (List ℕ)) (written : ToldBytes) (before : List ℕ) → written ≡ Some before
+    → written ≡ Some (before ++ report_of (is_quiet words) [])
+nothing_written words written before is =
+    subst (λ (t : List ℕ). written ≡ Some (before ++ t)) (sym (no_report (is_quiet words))) (nothing_more written before is)
+
+-- what a run with words that are not of the form reaches
+pub usage_reached : (words : List (List ℕ)) (text : List ℕ) (files : Files) (Failed : Type 0) (reported : List ℕ) → words_of words ≡ None
+    → IsPrefixOf reported (text_of (reply usage_text ∷ [])) → RunReaches words text files Failed reported files
+usage_reached words text files Failed reported none prefix = rw none (prefix, refl)
+
+-- what a run reaches in a script that is not too long
+pub script_reached : (words : List (List ℕ)) (asked : RunWords) (text : List ℕ) (files : Files) (Failed : Type 0) (reported : List ℕ) (after : Files)
+    → words_of words ≡ Some asked → length text ≤ LONGEST_FILE → ScriptReaches asked text files Failed reported after
+    → RunReaches words text files Failed reported after
+script_reached words asked text files Failed reported after is fits reached = rw (is, fits_test (length text) fits) reached
 
 -- no line of a script was begun
-nothing_begun : (text : List ℕ) (files : Files) (Failed : Type 0) → ScriptReaches text files Failed [] files
-nothing_begun text files Failed = record {
+nothing_begun : (asked : RunWords) (text : List ℕ) (files : Files) (Failed : Type 0) → ScriptReaches asked text files Failed [] files
+nothing_begun asked text files Failed = record {
   past = [];
   left = lines_of text;
   split = refl;
-  done = no_effect first_state;
+  done = no_effect (first_run asked.budget);
   means = refl;
   front = [];
-  next = elim (lines_of text) as (λ (left : List (List ℕ)). BeginsNext LineMeans false Failed 1 first_state files left [] files) [
-    | [] ↦ (refl, refl)
-    | line ∷ lines ↦ inl (refl, refl)
-  ];
-  reported = refl;
+  next = elim (lines_of text)
+      as (λ (left : List (List ℕ)). BeginsNext RunLineMeans asked.quiet Failed 1 (first_run asked.budget) files left [] files) [
+        | [] ↦ (refl, refl)
+        | line ∷ lines ↦ inl (refl, refl)
+      ];
+  reported = sym (append-nil (report_of asked.quiet []) ∙ no_report asked.quiet);
 }
 
--- nothing is reached before the script was read
-pub nothing_reached : {X : Type 0} (f : X → List ℕ) (words : List X) (text : List ℕ) (files : Files) (Failed : Type 0) → words ≡ []
-    → RunReaches (map f words) text files Failed [] files
-nothing_reached f words text files Failed none = rw none (elim (nat_lt LONGEST_FILE (length text)) as (λ test. MatchBool test ((◌≡◌ {A = List ℕ} [] []) × (files ≡ files)) (ScriptReaches text files Failed [] files)) [
-  | true ↦ (refl, refl)
-  | false ↦ nothing_begun text files Failed
-])
+asked_nothing : (asked : RunWords) (text : List ℕ) (files : Files) (Failed : Type 0) → AskedReaches (Some asked) text files Failed [] files
+asked_nothing asked text files Failed =
+    elim (nat_lt LONGEST_FILE (length text))
+    as (λ test. MatchBool test ((◌≡◌ {A = List ℕ} [] []) × (files ≡ files)) (ScriptReaches asked text files Failed [] files)) [
+      | true ↦ (refl, refl)
+      | false ↦ nothing_begun asked text files Failed
+    ]
+
+-- nothing is reached before the words and the script were read
+pub nothing_reached : (words : List (List ℕ)) (text : List ℕ) (files : Files) (Failed : Type 0) → RunReaches words text files Failed [] files
+nothing_reached words text files Failed =
+    elim (words_of words) as (λ (asked : Option RunWords). AskedReaches asked text files Failed [] files) [
+      | None ↦ ((text_of (reply usage_text ∷ []), refl), refl)
+      | Some asked ↦ asked_nothing asked text files Failed
+    ]
 
 -- the usage line refuses no line
 pub usage_comes : {F : Type 0} (shelf : ShelfWords F) (old new : F) → ComeFrom shelf old new (line_kinds (reply usage_text ∷ []))
 usage_comes shelf old new = record { absent = λ some. cc; too_long = λ some. cc }
 
 -- what a run from the state at the start has reached
-pub reached_from_first : (state : State) (text : List ℕ) (files : Files) (Failed : Type 0) (before : List ℕ) (written : ToldBytes) (left : Option Files)
-    → state ≡ first_state
-    → (reported : List ℕ) × (after : Files) × Progress LineMeans false Failed state files (lines_of text) reported after
+pub reached_from_first : (asked : RunWords) (run : RunState) (text : List ℕ) (files : Files) (Failed : Type 0) (before : List ℕ)
+    (written : ToldBytes) (left : Option Files) → run ≡ first_run asked.budget
+    → (reported : List ℕ) × (after : Files) × Progress RunLineMeans asked.quiet Failed run files (lines_of text) reported after
     × (written ≡ Some (before ++ reported)) × (left ≡ Some after)
-    → (reported : List ℕ) × (after : Files) × ScriptReaches text files Failed reported after × (written ≡ Some (before ++ reported)) × (left ≡ Some after)
-reached_from_first state text files Failed before written left is h =
-    (h.0, h.1, subst (λ (s : State). Progress LineMeans false Failed s files (lines_of text) h.0 h.1) is h.2, h.3, h.4)
+    → (reported : List ℕ) × (after : Files) × ScriptReaches asked text files Failed reported after × (written ≡ Some (before ++ reported)) × (left ≡ Some after)
+reached_from_first asked run text files Failed before written left is h =
+    (h.0, h.1, subst (λ (r : RunState). Progress RunLineMeans asked.quiet Failed r files (lines_of text) h.0 h.1) is h.2, h.3, h.4)
 
 -- what stays unless a write failed stays where the status is none of a write that failed
 pub calm_write : (T : Type 0) (h : Halt) (status : Status) (P : Type 0) → UnlessWriteFault {T = T} (Err h) P → status ≡ status_of h

@@ -32,6 +32,6 @@ pub sim_inside : (number : ℕ) (file : List ℕ) (at : At SimFault) (lines : Li
 sim_inside number file at lines are = subst (λ (all : List ReportLine). IsOfInside all) (sym are) (record { present = refl; fits = refl })
 
 -- what answers a vector file on a network of sim records
-pub tells_net : (number : ℕ) (sim : SimFile) (text : List ℕ) (net : Network) (names : List (List ℕ × ℕ)) (lines : List ReportLine) → IsNetOf sim net names
-    → TellsVectors number text net names lines → TellsNet number sim text lines
-tells_net number sim text net names lines is tells = record { net = net; names = names; is_net = is; tells = tells }
+pub tells_net : (budget number : ℕ) (sim : SimFile) (text : List ℕ) (net : Network) (names : List (List ℕ × ℕ)) (lines : List ReportLine) → IsNetOf sim net names
+    → TellsVectors budget number text net names lines → TellsNet budget number sim text lines
+tells_net budget number sim text net names lines is tells = record { net = net; names = names; is_net = is; tells = tells }

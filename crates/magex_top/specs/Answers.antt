@@ -7,6 +7,8 @@ use Rattle.session_model.specs.Causes.{line_kinds}
 use Rattle.session_model.specs.Reports.{is_for_absent, is_for_too_long}
 use Rattle.edit_script.specs.Editing.{IsCurrent, editing_of}
 use Rattle.ext_cache.specs.Caches.{Agrees, is_dirty}
+use Rattle.magex_top.specs.declared.cells.RunSession.{RunSession}
+use Rattle.magex_top.specs.Sessions.{RunState}
 use Rattle.magex_top.specs.declared.cells.Edited.{Edited}
 use Rattle.magex_top.specs.declared.cells.LayoutSession.{LayoutSession}
 use Rattle.magex_top.specs.States.{State, Workspace}
@@ -31,3 +33,9 @@ IsSession session = IfSome session.edited IsEdited
 pub record IsOfInside (lines : List ReportLine) : Type 0 where
   pub present : list_any is_for_absent (line_kinds lines) ≡ false
   pub fits : list_any is_for_too_long (line_kinds lines) ≡ false
+
+abbrev pub run_state_of : RunSession → RunState
+run_state_of run = record { session = state_of run.session; budget = run.budget }
+
+abbrev pub IsRunSession : RunSession → Type 0
+IsRunSession run = IsSession run.session

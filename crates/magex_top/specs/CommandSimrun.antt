@@ -20,24 +20,24 @@ abbrev pub sim_file : List ℕ → List ℕ
 sim_file name = name ++ codes ".sim"
 
 -- The vectors were fetched, and what they are answered with is told.
-pub record TellsFetched (number : ℕ) (state : State) (text : List ℕ) (net : Network) (names : List (List ℕ × ℕ)) (fetched : List (List ℕ))
+pub record TellsFetched (budget number : ℕ) (state : State) (text : List ℕ) (net : Network) (names : List (List ℕ × ℕ)) (fetched : List (List ℕ))
     (effect : Effect State) : Type 0 where
   pub lines : List ReportLine
-  pub tells : TellsVectors number text net names lines
+  pub tells : TellsVectors budget number text net names lines
   pub is : effect ≡ accepted state lines fetched
 
 -- The vector file is fetched once there is a network.
-abbrev pub RunsVectors : ℕ → State → Result (List ℕ) FetchFault → List ℕ → Network → List (List ℕ × ℕ) → List (List ℕ) → Effect State → Type 0
-RunsVectors number state (Ok text) file net names fetched effect = TellsFetched number state text net names (fetched ++ file ∷ []) effect
-RunsVectors number state (Err fault) file net names fetched effect = effect ≡ refused number state (File file fault) (fetched ++ file ∷ [])
+abbrev pub RunsVectors : ℕ → ℕ → State → Result (List ℕ) FetchFault → List ℕ → Network → List (List ℕ × ℕ) → List (List ℕ) → Effect State → Type 0
+RunsVectors budget number state (Ok text) file net names fetched effect = TellsFetched budget number state text net names (fetched ++ file ∷ []) effect
+RunsVectors budget number state (Err fault) file net names fetched effect = effect ≡ refused number state (File file fault) (fetched ++ file ∷ [])
 
 -- The sim records have a network, and the vectors are run on it.
-pub record RunsNet (number : ℕ) (state : State) (files : Files) (sim : SimFile) (file : List ℕ) (fetched : List (List ℕ)) (effect : Effect State)
+pub record RunsNet (budget number : ℕ) (state : State) (files : Files) (sim : SimFile) (file : List ℕ) (fetched : List (List ℕ)) (effect : Effect State)
     : Type 0 where
   pub net : Network
   pub names : List (List ℕ × ℕ)
   pub is_net : IsNetOf sim net names
-  pub runs : RunsVectors number state (text_in files file) file net names fetched effect
+  pub runs : RunsVectors budget number state (text_in files file) file net names fetched effect
 
 -- The network of the sim records would pass a limit.
 pub record RefusesNet (number : ℕ) (state : State) (sim : SimFile) (fetched : List (List ℕ)) (effect : Effect State) : Type 0 where
@@ -45,20 +45,20 @@ pub record RefusesNet (number : ℕ) (state : State) (sim : SimFile) (fetched : 
   pub passes : PassesNet sim limit
   pub is : effect ≡ refused number state (TooMany limit) fetched
 
-abbrev pub RunsRecords : ℕ → State → Files → SimFile → List ℕ → List (List ℕ) → Effect State → Type 0
-RunsRecords number state files sim file fetched effect =
-    RefusesNet number state sim fetched effect ⊎ RunsNet number state files sim file fetched effect
+abbrev pub RunsRecords : ℕ → ℕ → State → Files → SimFile → List ℕ → List (List ℕ) → Effect State → Type 0
+RunsRecords budget number state files sim file fetched effect =
+    RefusesNet number state sim fetched effect ⊎ RunsNet budget number state files sim file fetched effect
 
 -- A text that is no sim text is refused.
-abbrev pub RunsRead : ℕ → State → Files → List ℕ → Result SimFile (At SimFault) → List ℕ → Effect State → Type 0
-RunsRead number state files source (Ok sim) file effect = RunsRecords number state files sim file (source ∷ []) effect
-RunsRead number state files source (Err at) file effect = effect ≡ refused number state (Sim source at) (source ∷ [])
+abbrev pub RunsRead : ℕ → ℕ → State → Files → List ℕ → Result SimFile (At SimFault) → List ℕ → Effect State → Type 0
+RunsRead budget number state files source (Ok sim) file effect = RunsRecords budget number state files sim file (source ∷ []) effect
+RunsRead budget number state files source (Err at) file effect = effect ≡ refused number state (Sim source at) (source ∷ [])
 
-abbrev pub RunsSource : ℕ → State → Files → List ℕ → Result (List ℕ) FetchFault → List ℕ → Effect State → Type 0
-RunsSource number state files source (Ok text) file effect = RunsRead number state files source (sim_in text) file effect
-RunsSource number state files source (Err fault) file effect = effect ≡ refused number state (File source fault) (source ∷ [])
+abbrev pub RunsSource : ℕ → ℕ → State → Files → List ℕ → Result (List ℕ) FetchFault → List ℕ → Effect State → Type 0
+RunsSource budget number state files source (Ok text) file effect = RunsRead budget number state files source (sim_in text) file effect
+RunsSource budget number state files source (Err fault) file effect = effect ≡ refused number state (File source fault) (source ∷ [])
 
 -- It needs no technology.
-abbrev pub SimrunMeans : ℕ → State → Files → List ℕ → List ℕ → Effect State → Type 0
-SimrunMeans number state files name file effect =
-    RunsSource number state files (sim_file name) (text_in files (sim_file name)) (vec_file file) effect
+abbrev pub SimrunMeans : ℕ → ℕ → State → Files → List ℕ → List ℕ → Effect State → Type 0
+SimrunMeans budget number state files name file effect =
+    RunsSource budget number state files (sim_file name) (text_in files (sim_file name)) (vec_file file) effect

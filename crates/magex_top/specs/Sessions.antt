@@ -21,39 +21,55 @@ use Rattle.magex_top.specs.CommandSimrun.{SimrunMeans}
 use Rattle.magex_top.specs.CommandSquares.{SquaresMeans}
 use Rattle.magex_top.specs.CommandTech.{TechMeans}
 use Rattle.magex_top.specs.CommandVectors.{VectorsMeans}
-use Rattle.magex_top.specs.States.{State, accepted, refused}
+use Rattle.magex_top.specs.States.{State, first_state, accepted, refused}
 
--- what a command does
-abbrev pub CommandMeans : ℕ → State → Files → Command → Effect State → Type 0
-CommandMeans number state files (Tech name) effect = TechMeans number state files name effect
-CommandMeans number state files (Load cell) effect = LoadMeans number state files cell effect
-CommandMeans number state files (New cell) effect = EditMeans number state (New cell) effect
-CommandMeans number state files (Edit cell) effect = EditMeans number state (Edit cell) effect
-CommandMeans number state files (Paint layer area) effect = EditMeans number state (Paint layer area) effect
-CommandMeans number state files (Erase layer area) effect = EditMeans number state (Erase layer area) effect
-CommandMeans number state files (Place cell id six) effect = EditMeans number state (Place cell id six) effect
-CommandMeans number state files (Array id six) effect = EditMeans number state (Array id six) effect
-CommandMeans number state files (Move id dx dy) effect = EditMeans number state (Move id dx dy) effect
-CommandMeans number state files (Delete id) effect = EditMeans number state (Delete id) effect
-CommandMeans number state files (Label layer area position text) effect = EditMeans number state (Label layer area position text) effect
-CommandMeans number state files (Unlabel text) effect = EditMeans number state (Unlabel text) effect
-CommandMeans number state files (Save cell) effect = SaveMeans number state cell effect
-CommandMeans number state files (Squares cell) effect = SquaresMeans number state cell effect
-CommandMeans number state files (Nodes cell) effect = NodesMeans number state cell effect
-CommandMeans number state files (Extract cell) effect = ExtractMeans number state cell effect
-CommandMeans number state files (Flat cell) effect = CircuitMeans file.Flat number state cell effect
-CommandMeans number state files (Sim cell) effect = CircuitMeans file.Sim number state cell effect
-CommandMeans number state files (Ext2sim cell) effect = Ext2simMeans number state files cell effect
-CommandMeans number state files (Vectors cell file) effect = VectorsMeans number state files cell file effect
-CommandMeans number state files (Simrun cell file) effect = SimrunMeans number state files cell file effect
-CommandMeans number state files (Generate count) effect = GenerateMeans number state count effect
+-- What a command does. The budget is the most steps of a phase.
+abbrev pub CommandMeans : ℕ → ℕ → State → Files → Command → Effect State → Type 0
+CommandMeans budget number state files (Tech name) effect = TechMeans number state files name effect
+CommandMeans budget number state files (Load cell) effect = LoadMeans number state files cell effect
+CommandMeans budget number state files (New cell) effect = EditMeans number state (New cell) effect
+CommandMeans budget number state files (Edit cell) effect = EditMeans number state (Edit cell) effect
+CommandMeans budget number state files (Paint layer area) effect = EditMeans number state (Paint layer area) effect
+CommandMeans budget number state files (Erase layer area) effect = EditMeans number state (Erase layer area) effect
+CommandMeans budget number state files (Place cell id six) effect = EditMeans number state (Place cell id six) effect
+CommandMeans budget number state files (Array id six) effect = EditMeans number state (Array id six) effect
+CommandMeans budget number state files (Move id dx dy) effect = EditMeans number state (Move id dx dy) effect
+CommandMeans budget number state files (Delete id) effect = EditMeans number state (Delete id) effect
+CommandMeans budget number state files (Label layer area position text) effect = EditMeans number state (Label layer area position text) effect
+CommandMeans budget number state files (Unlabel text) effect = EditMeans number state (Unlabel text) effect
+CommandMeans budget number state files (Save cell) effect = SaveMeans number state cell effect
+CommandMeans budget number state files (Squares cell) effect = SquaresMeans number state cell effect
+CommandMeans budget number state files (Nodes cell) effect = NodesMeans number state cell effect
+CommandMeans budget number state files (Extract cell) effect = ExtractMeans number state cell effect
+CommandMeans budget number state files (Flat cell) effect = CircuitMeans file.Flat number state cell effect
+CommandMeans budget number state files (Sim cell) effect = CircuitMeans file.Sim number state cell effect
+CommandMeans budget number state files (Ext2sim cell) effect = Ext2simMeans number state files cell effect
+CommandMeans budget number state files (Vectors cell file) effect = VectorsMeans budget number state files cell file effect
+CommandMeans budget number state files (Simrun cell file) effect = SimrunMeans budget number state files cell file effect
+CommandMeans budget number state files (Generate count) effect = GenerateMeans budget number state count effect
 
 -- A line that is no command is refused, and one that asks for nothing does nothing.
-abbrev pub ReadLineMeans : ℕ → State → Files → Result (Option Command) LineFault → Effect State → Type 0
-ReadLineMeans number state files (Ok None) effect = effect ≡ accepted state [] []
-ReadLineMeans number state files (Ok (Some command)) effect = CommandMeans number state files command effect
-ReadLineMeans number state files (Err fault) effect = effect ≡ refused number state (Line fault) []
+abbrev pub ReadLineMeans : ℕ → ℕ → State → Files → Result (Option Command) LineFault → Effect State → Type 0
+ReadLineMeans budget number state files (Ok None) effect = effect ≡ accepted state [] []
+ReadLineMeans budget number state files (Ok (Some command)) effect = CommandMeans budget number state files command effect
+ReadLineMeans budget number state files (Err fault) effect = effect ≡ refused number state (Line fault) []
 
 -- what the script's line of this number does in the state and the files
-abbrev pub LineMeans : ℕ → State → Files → List ℕ → Effect State → Type 0
-LineMeans number state files line effect = ReadLineMeans number state files (command_of line) effect
+abbrev pub LineMeans : ℕ → ℕ → State → Files → List ℕ → Effect State → Type 0
+LineMeans budget number state files line effect = ReadLineMeans budget number state files (command_of line) effect
+
+-- The state of a run between two lines: that of its session, and the most steps of a phase, which no line changes.
+pub record RunState : Type 0 where
+  pub session : State
+  pub budget : ℕ
+
+abbrev pub session_effect : Effect RunState → Effect State
+session_effect effect = record { state = effect.state.session; lines = effect.lines; stores = effect.stores; fetched = effect.fetched }
+
+-- what the script's line of this number does in a run
+abbrev pub RunLineMeans : ℕ → RunState → Files → List ℕ → Effect RunState → Type 0
+RunLineMeans number run files line effect =
+    (effect.state.budget ≡ run.budget) × LineMeans run.budget number run.session files line (session_effect effect)
+
+abbrev pub first_run : ℕ → RunState
+first_run budget = record { session = first_state; budget = budget }

@@ -22,7 +22,6 @@ use Rattle.vector_runs.specs.Runs.{IsRun}
 use Rattle.magex_top.specs.declared.faults.TopFault.TheVariants.{Vectors}
 use Rattle.magex_top.specs.declared.simulations.MadeNet.{MadeNet}
 use Rattle.magex_top.specs.declared.simulations.MadeNet.TheVariants.{Net, Passed}
-use Rattle.magex_top.specs.declared.simulations.TheConstants.{BUDGET}
 use Rattle.magex_top.specs.Refusals.{refusal}
 
 -- The network of sim records, with its names; it has no more nodes and switches than a network may have.
@@ -52,26 +51,26 @@ abbrev pub vector_line : VecReply → ReportLine
 vector_line reply = record { kind = kind_of reply; text = reply_text reply }
 
 -- The lines are those of what the vectors reply on the network.
-pub record TellsRun (net : Network) (names : List (List ℕ × ℕ)) (vectors : VectorFile) (lines : List ReportLine) : Type 0 where
+pub record TellsRun (budget : ℕ) (net : Network) (names : List (List ℕ × ℕ)) (vectors : VectorFile) (lines : List ReportLine) : Type 0 where
   pub replies : List VecReply
-  pub is_run : IsRun net names BUDGET vectors replies
+  pub is_run : IsRun net names budget vectors replies
   pub are : lines ≡ map vector_line replies
 
 -- Vectors that were read are run, and a fault of theirs is told.
-abbrev pub TellsRead : ℕ → Network → List (List ℕ × ℕ) → Result VectorFile (At VecFault) → List ReportLine → Type 0
-TellsRead number net names (Ok vectors) lines = TellsRun net names vectors lines
-TellsRead number net names (Err at) lines = lines ≡ refusal number (Vectors at) ∷ []
+abbrev pub TellsRead : ℕ → ℕ → Network → List (List ℕ × ℕ) → Result VectorFile (At VecFault) → List ReportLine → Type 0
+TellsRead budget number net names (Ok vectors) lines = TellsRun budget net names vectors lines
+TellsRead budget number net names (Err at) lines = lines ≡ refusal number (Vectors at) ∷ []
 
 -- what answers the vector file of this text on the network
-abbrev pub TellsVectors : ℕ → List ℕ → Network → List (List ℕ × ℕ) → List ReportLine → Type 0
-TellsVectors number text net names lines = TellsRead number net names (vectors_in names text) lines
+abbrev pub TellsVectors : ℕ → ℕ → List ℕ → Network → List (List ℕ × ℕ) → List ReportLine → Type 0
+TellsVectors budget number text net names lines = TellsRead budget number net names (vectors_in names text) lines
 
 -- The lines answer a vector file of this text on the network of sim records.
-pub record TellsNet (number : ℕ) (sim : SimFile) (text : List ℕ) (lines : List ReportLine) : Type 0 where
+pub record TellsNet (budget number : ℕ) (sim : SimFile) (text : List ℕ) (lines : List ReportLine) : Type 0 where
   pub net : Network
   pub names : List (List ℕ × ℕ)
   pub is_net : IsNetOf sim net names
-  pub tells : TellsVectors number text net names lines
+  pub tells : TellsVectors budget number text net names lines
 
 -- the file of vectors of this name
 abbrev pub vec_file : List ℕ → List ℕ

@@ -22,6 +22,13 @@ pub struct LayoutSession {
     pub edited: Option<Edited>,
 }
 
+/// The session of a run: that of its lines, and the most steps of a phase.
+#[derive(Drop)]
+pub struct RunSession {
+    pub session: LayoutSession,
+    pub budget: u32,
+}
+
 /// The session at the start of a script: without a technology.
 pub fn new_session() -> LayoutSession
     ensures state { state_of result ≡ first_state }

@@ -21,7 +21,7 @@ use crate::command_vectors::limit_passed;
 use crate::extractions::{Extracting, extract_cell};
 use crate::faults::TopFault;
 use crate::replies::{joined, refuse, reply, told};
-use crate::simulations::{BUDGET, MadeNet, make_network, vector_line};
+use crate::simulations::{MadeNet, make_network, vector_line};
 use ext_model::{CellKey, Circuit};
 use geo_core::Limit;
 use layout_gen::{GenerateFault, MOST_TILES, generate as make_cells};
@@ -45,17 +45,18 @@ pub fn generate(
     alloc: Global,
     session: &mut LayoutSession,
     number: usize,
+    budget: u32,
     count: i64,
 ) -> Result<Answer, Halt>
     requires session { IsSession session.old }
     requires count { IsTrue (is_between (pos 1) MOST_GENERATED count) }
-    ensures effect { IfOk result (Answers (GenerateMeans number (state_of session.old) count) (state_of session.new)) }
+    ensures effect { IfOk result (Answers (GenerateMeans budget number (state_of session.old) count) (state_of session.new)) }
     ensures kept { IsSession session.new }
     ensures inside { IfOk result (λ answer. IsOfInside answer.lines.items) }
     ensures memory { IsOkUnless result Halt.Memory }
 {
     match &mut session.edited {
-        Some(edited) => generate_into(alloc, edited, number, count),
+        Some(edited) => generate_into(alloc, edited, number, budget, count),
         None => refuse(alloc, number, TopFault::NoTech),
     }
 }
@@ -75,18 +76,19 @@ fn generate_into(
     alloc: Global,
     edited: &mut Edited,
     number: usize,
+    budget: u32,
     count: i64,
 ) -> Result<Answer, Halt>
     requires edited { IsEdited edited.old }
     requires count { IsTrue (is_between (pos 1) MOST_GENERATED count) }
-    ensures effect { IfOk result (Answers (GeneratesStack number (unsigned_abs count) (edited_state edited.old)) (Some (edited_state edited.new))) }
+    ensures effect { IfOk result (Answers (GeneratesStack budget number (unsigned_abs count) (edited_state edited.old)) (Some (edited_state edited.new))) }
     ensures kept { IsEdited edited.new }
     ensures inside { IfOk result (λ answer. IsOfInside answer.lines.items) }
     ensures memory { IsOkUnless result Halt.Memory }
 {
     let n = rows_of(count);
     match make_stack(alloc, edited, n)? {
-        MadeStack::Made(cell) => extract_stack(alloc, edited, number, n, cell),
+        MadeStack::Made(cell) => extract_stack(alloc, edited, number, budget, n, cell),
         MadeStack::Refused(fault) => refuse(alloc, number, TopFault::Generate(fault)),
     }
 }
@@ -117,19 +119,20 @@ fn extract_stack(
     alloc: Global,
     edited: &mut Edited,
     number: usize,
+    budget: u32,
     n: u32,
     cell: CellKey,
 ) -> Result<Answer, Halt>
     requires edited { IsEdited edited.old }
     requires cell { cell.0 < length edited.old.library.contents }
-    ensures effect { IfOk result (Answers (ExtractsStack number n (edited_state edited.old) cell.0) (Some (edited_state edited.new))) }
+    ensures effect { IfOk result (Answers (ExtractsStack budget number n (edited_state edited.old) cell.0) (Some (edited_state edited.new))) }
     ensures kept { IsEdited edited.new }
     ensures inside { IfOk result (λ answer. IsOfInside answer.lines.items) }
     ensures memory { IsOkUnless result Halt.Memory }
 {
     match extract_cell(alloc, edited, number, cell)? {
         Extracting::Done(extraction) => {
-            let lines = run_kept(alloc, edited, number, n, cell)?;
+            let lines = run_kept(alloc, edited, number, budget, n, cell)?;
             Ok(Answer {
                 lines: joined(extraction.lines, lines)?,
                 stores: extraction.stores.into_vec(),
@@ -144,18 +147,19 @@ fn run_kept(
     alloc: Global,
     edited: &Edited,
     number: usize,
+    budget: u32,
     n: u32,
     cell: CellKey,
 ) -> Result<Vec<ReportLine>, Halt>
     requires agrees { Agrees edited.now.library edited.now.cache }
     requires cell { cell.0 < length edited.now.library.contents }
     requires fresh { IsFreshBelow edited.now.library edited.now.cache cell.0 }
-    ensures tells { IfOk result (λ lines. TellsStack number n (seen edited.now.library) cell.0 lines.items) }
+    ensures tells { IfOk result (λ lines. TellsStack budget number n (seen edited.now.library) cell.0 lines.items) }
     ensures inside { IfOk result (λ lines. IsOfInside lines.items) }
     ensures memory { IsOkUnless result Halt.Memory }
 {
     match flatten_kept(alloc, edited, cell)? {
-        Flattened::Circuit(circuit) => run_circuit(alloc, number, n, &circuit),
+        Flattened::Circuit(circuit) => run_circuit(alloc, number, budget, n, &circuit),
         Flattened::Passed(limit) => limit_passed(alloc, number, limit),
     }
 }
@@ -164,37 +168,45 @@ fn run_kept(
 fn run_circuit(
     alloc: Global,
     number: usize,
+    budget: u32,
     n: u32,
     circuit: &Circuit,
 ) -> Result<Vec<ReportLine>, Halt>
     requires lengths { All HasLetterAndLengths circuit.now.fets }
     requires simulated { CanBeSimulated circuit.now }
-    ensures tells { IfOk result (λ lines. TellsStackCircuit number n circuit.now lines.items) }
+    ensures tells { IfOk result (λ lines. TellsStackCircuit budget number n circuit.now lines.items) }
     ensures inside { IfOk result (λ lines. IsOfInside lines.items) }
     ensures memory { IsOkUnless result Halt.Memory }
 {
     match sim_of(alloc, circuit) {
-        Ok(sim) => run_sim(alloc, n, circuit, &sim),
+        Ok(sim) => run_sim(alloc, budget, n, circuit, &sim),
         Err(SimFault::Memory) => Err(Halt::Memory),
         Err(_) => limit_passed(alloc, number, Limit::Switches),
     }
 }
 
 // Runs the vectors of a stack of n rows on the network of the sim records of its circuit, which passes no limit.
-fn run_sim(alloc: Global, n: u32, circuit: &Circuit, sim: &SimFile) -> Result<Vec<ReportLine>, Halt>
+fn run_sim(
+    alloc: Global,
+    budget: u32,
+    n: u32,
+    circuit: &Circuit,
+    sim: &SimFile,
+) -> Result<Vec<ReportLine>, Halt>
     requires records { sim.now ≡ sim_of circuit.now }
     requires letters { All HasLetter sim.now.fets }
     requires few_nodes { ¬ (HasMoreNodesThan MOST_NODES (records_of sim.now)) }
     requires few_switches { length sim.now.fets ≤ MOST_SWITCHES }
-    ensures tells { IfOk result (λ lines. TellsOutcome n circuit.now lines.items) }
+    ensures tells { IfOk result (λ lines. TellsOutcome budget n circuit.now lines.items) }
     ensures inside { IfOk result (λ lines. IsOfInside lines.items) }
     ensures memory { IsOkUnless result Halt.Memory }
 {
     match make_network(alloc, sim)? {
         MadeNet::Net(named) => {
             let mut named = named;
-            let outcome = run_stack(alloc, &mut named, n, BUDGET)?;
-            Ok(outcome_lines(alloc, n, circuit, outcome)?)
+            let outcome = run_stack(alloc, &mut named, n, budget)?;
+            let lines = outcome_lines(alloc, n, circuit, outcome)?;
+            Ok(lines)
         }
         MadeNet::Passed(_) => unreachable!(),
     }

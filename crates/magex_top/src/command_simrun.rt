@@ -29,18 +29,19 @@ pub fn simrun<F: Shelf>(
     alloc: Global,
     shelf: &mut F,
     number: usize,
+    budget: u32,
     name: &Name,
     file: &Name,
 ) -> Result<Answer, Halt>
     ensures effect { (files : Files) (state : LayoutState) → F.files shelf.old ≡ Some files → IfOk result
-        (Answers (SimrunMeans number state files name.now file.now) state) }
+        (Answers (SimrunMeans budget number state files name.now file.now) state) }
     ensures files { F.files shelf.new ≡ F.files shelf.old }
     ensures causes { HasCauses F.Shelf shelf.old shelf.new kinds_of result }
 {
     let source = file_name(alloc, name, b".sim")?;
     let file = file_name(alloc, file, b".vec")?;
     match fetch_text(alloc, shelf, &source)? {
-        Fetched::Text(text) => run_text(alloc, shelf, number, source, &text, file),
+        Fetched::Text(text) => run_text(alloc, shelf, number, budget, source, &text, file),
         Fetched::Refused(fault) => refuse(alloc, number, TopFault::File(source, fault)),
     }
 }
@@ -50,18 +51,19 @@ fn run_text<F: Shelf>(
     alloc: Global,
     shelf: &mut F,
     number: usize,
+    budget: u32,
     source: Name,
     text: &[u8],
     file: Name,
 ) -> Result<Answer, Halt>
     ensures effect { (files : Files) (state : LayoutState) → F.files shelf.old ≡ Some files → IfOk result
-        (Answers (RunsRead number state files source (sim_in text.now) file) state) }
+        (Answers (RunsRead budget number state files source (sim_in text.now) file) state) }
     ensures files { F.files shelf.new ≡ F.files shelf.old }
     ensures causes { HasCauses F.Shelf shelf.old shelf.new kinds_of result }
 {
     read_records_have_letters();
     match read_sim(alloc, text) {
-        Ok(sim) => run_records(alloc, shelf, number, &sim, file),
+        Ok(sim) => run_records(alloc, shelf, number, budget, &sim, file),
         Err(
             SimAt {
                 line: _,
@@ -77,17 +79,18 @@ fn run_records<F: Shelf>(
     alloc: Global,
     shelf: &mut F,
     number: usize,
+    budget: u32,
     sim: &SimFile,
     file: Name,
 ) -> Result<Answer, Halt>
     requires letters { All HasLetter sim.now.fets }
     ensures effect { (files : Files) (state : LayoutState) (fetched : List (List ℕ)) → F.files shelf.old ≡ Some files → IfOk result
-        (Answers (RunsRecords number state files sim.now file fetched) state) }
+        (Answers (RunsRecords budget number state files sim.now file fetched) state) }
     ensures files { F.files shelf.new ≡ F.files shelf.old }
     ensures causes { HasCauses F.Shelf shelf.old shelf.new kinds_of result }
 {
     match make_network(alloc, sim)? {
-        MadeNet::Net(named) => run_network(alloc, shelf, number, named, file),
+        MadeNet::Net(named) => run_network(alloc, shelf, number, budget, named, file),
         MadeNet::Passed(limit) => refuse(alloc, number, TopFault::TooMany(limit)),
     }
 }
@@ -97,29 +100,39 @@ fn run_network<F: Shelf>(
     alloc: Global,
     shelf: &mut F,
     number: usize,
+    budget: u32,
     named: NamedNet,
     file: Name,
 ) -> Result<Answer, Halt>
     requires fresh { IsFresh (network_of named.net) named.names }
     ensures effect { (files : Files) (state : LayoutState) (fetched : List (List ℕ)) → F.files shelf.old ≡ Some files → IfOk result
-        (Answers (RunsVectors number state (text_in files file) file (network_of named.net) named.names fetched) state) }
+        (Answers (RunsVectors budget number state (text_in files file) file (network_of named.net) named.names fetched) state) }
     ensures files { F.files shelf.new ≡ F.files shelf.old }
     ensures causes { HasCauses F.Shelf shelf.old shelf.new kinds_of result }
 {
     match fetch_text(alloc, shelf, &file)? {
-        Fetched::Text(text) => run_fetched(alloc, number, named, &text),
+        Fetched::Text(text) => run_fetched(alloc, number, budget, named, &text),
         Fetched::Refused(fault) => refuse(alloc, number, TopFault::File(file, fault)),
     }
 }
 
 // Runs vectors of this text on a network as it is made.
-fn run_fetched(alloc: Global, number: usize, named: NamedNet, text: &[u8]) -> Result<Answer, Halt>
+fn run_fetched(
+    alloc: Global,
+    number: usize,
+    budget: u32,
+    named: NamedNet,
+    text: &[u8],
+) -> Result<Answer, Halt>
     requires fresh { IsFresh (network_of named.net) named.names }
-    ensures tells { IfOk result (λ answer. TellsVectors number text.now (network_of named.net) named.names answer.lines.items) }
+    ensures tells { IfOk result (λ answer. TellsVectors budget number text.now (network_of named.net) named.names answer.lines.items) }
     ensures stores { IfOk result (λ answer. answer.stores.items ≡ []) }
     ensures inside { IfOk result (λ answer. IsOfInside answer.lines.items) }
     ensures memory { IsOkUnless result Halt.Memory }
 {
     let mut named = named;
-    Ok(told(alloc, vector_lines(alloc, number, &mut named, text)?))
+    Ok(told(
+        alloc,
+        vector_lines(alloc, number, budget, &mut named, text)?,
+    ))
 }

@@ -36,18 +36,19 @@ pub fn vectors<F: Shelf>(
     session: &mut LayoutSession,
     shelf: &mut F,
     number: usize,
+    budget: u32,
     name: &Name,
     file: &Name,
 ) -> Result<Answer, Halt>
     requires { IsSession session.old }
     ensures effect { (files : Files) → F.files shelf.old ≡ Some files → IfOk result
-        (Answers (VectorsMeans number (state_of session.old) files name.now file.now) (state_of session.new)) }
+        (Answers (VectorsMeans budget number (state_of session.old) files name.now file.now) (state_of session.new)) }
     ensures kept { IsSession session.new }
     ensures files { F.files shelf.new ≡ F.files shelf.old }
     ensures causes { HasCauses F.Shelf shelf.old shelf.new kinds_of result }
 {
     match &mut session.edited {
-        Some(edited) => vectors_named(alloc, edited, shelf, number, name, file),
+        Some(edited) => vectors_named(alloc, edited, shelf, number, budget, name, file),
         None => refuse(alloc, number, TopFault::NoTech),
     }
 }
@@ -58,12 +59,13 @@ fn vectors_named<F: Shelf>(
     edited: &mut Edited,
     shelf: &mut F,
     number: usize,
+    budget: u32,
     name: &Name,
     file: &Name,
 ) -> Result<Answer, Halt>
     requires { IsEdited edited.old }
     ensures effect { (files : Files) → F.files shelf.old ≡ Some files → IfOk result
-        (Answers (VectorsMeans number (Some (edited_state edited.old)) files name.now file.now) (Some (edited_state edited.new))) }
+        (Answers (VectorsMeans budget number (Some (edited_state edited.old)) files name.now file.now) (Some (edited_state edited.new))) }
     ensures kept { IsEdited edited.new }
     ensures files { F.files shelf.new ≡ F.files shelf.old }
     ensures causes { HasCauses F.Shelf shelf.old shelf.new kinds_of result }
@@ -71,7 +73,7 @@ fn vectors_named<F: Shelf>(
     match edited.library.find(name.bytes()) {
         Some(cell) => {
             let file = file_name(alloc, file, b".vec")?;
-            fetch_vectors(alloc, edited, shelf, number, cell, file)
+            fetch_vectors(alloc, edited, shelf, number, budget, cell, file)
         }
         None => refuse(alloc, number, TopFault::NoCell(name.copy(alloc)?)),
     }
@@ -83,19 +85,20 @@ fn fetch_vectors<F: Shelf>(
     edited: &mut Edited,
     shelf: &mut F,
     number: usize,
+    budget: u32,
     cell: CellKey,
     file: Name,
 ) -> Result<Answer, Halt>
     requires edited { IsEdited edited.old }
     requires cell { cell.0 < length edited.old.library.contents }
     ensures effect { (files : Files) → F.files shelf.old ≡ Some files → IfOk result
-        (Answers (RunsFetched number file (text_in files file) (edited_state edited.old) cell.0) (Some (edited_state edited.new))) }
+        (Answers (RunsFetched budget number file (text_in files file) (edited_state edited.old) cell.0) (Some (edited_state edited.new))) }
     ensures kept { IsEdited edited.new }
     ensures files { F.files shelf.new ≡ F.files shelf.old }
     ensures causes { HasCauses F.Shelf shelf.old shelf.new kinds_of result }
 {
     match fetch_text(alloc, shelf, &file)? {
-        Fetched::Text(text) => run_cell(alloc, edited, number, cell, &text),
+        Fetched::Text(text) => run_cell(alloc, edited, number, budget, cell, &text),
         Fetched::Refused(fault) => refuse(alloc, number, TopFault::File(file, fault)),
     }
 }
@@ -105,13 +108,14 @@ fn run_cell(
     alloc: Global,
     edited: &mut Edited,
     number: usize,
+    budget: u32,
     cell: CellKey,
     text: &[u8],
 ) -> Result<Answer, Halt>
     requires edited { IsEdited edited.old }
     requires cell { cell.0 < length edited.old.library.contents }
     ensures effect { (file : List ℕ) → IfOk result (λ answer.
-        RunsFetched number file (Ok text.now) (edited_state edited.old) cell.0 (record {
+        RunsFetched budget number file (Ok text.now) (edited_state edited.old) cell.0 (record {
           state = Some (edited_state edited.new);
           lines = answer.lines.items;
           stores = answer.stores.items;
@@ -123,7 +127,7 @@ fn run_cell(
 {
     match extract_cell(alloc, edited, number, cell)? {
         Extracting::Done(extraction) => {
-            let lines = run_kept(alloc, edited, number, cell, text)?;
+            let lines = run_kept(alloc, edited, number, budget, cell, text)?;
             Ok(Answer {
                 lines: joined(extraction.lines, lines)?,
                 stores: extraction.stores.into_vec(),
@@ -138,18 +142,19 @@ fn run_kept(
     alloc: Global,
     edited: &Edited,
     number: usize,
+    budget: u32,
     cell: CellKey,
     text: &[u8],
 ) -> Result<Vec<ReportLine>, Halt>
     requires agrees { Agrees edited.now.library edited.now.cache }
     requires cell { cell.0 < length edited.now.library.contents }
     requires fresh { IsFreshBelow edited.now.library edited.now.cache cell.0 }
-    ensures tells { IfOk result (λ lines. TellsAt number (seen edited.now.library) cell.0 text.now lines.items) }
+    ensures tells { IfOk result (λ lines. TellsAt budget number (seen edited.now.library) cell.0 text.now lines.items) }
     ensures inside { IfOk result (λ lines. IsOfInside lines.items) }
     ensures memory { IsOkUnless result Halt.Memory }
 {
     match flatten_kept(alloc, edited, cell)? {
-        Flattened::Circuit(circuit) => run_circuit(alloc, number, &circuit, text),
+        Flattened::Circuit(circuit) => run_circuit(alloc, number, budget, &circuit, text),
         Flattened::Passed(limit) => limit_passed(alloc, number, limit),
     }
 }
@@ -167,17 +172,18 @@ pub fn limit_passed(alloc: Global, number: usize, limit: Limit) -> Result<Vec<Re
 fn run_circuit(
     alloc: Global,
     number: usize,
+    budget: u32,
     circuit: &Circuit,
     text: &[u8],
 ) -> Result<Vec<ReportLine>, Halt>
     requires lengths { All HasLetterAndLengths circuit.now.fets }
     requires simulated { CanBeSimulated circuit.now }
-    ensures tells { IfOk result (λ lines. TellsCircuit number circuit.now text.now lines.items) }
+    ensures tells { IfOk result (λ lines. TellsCircuit budget number circuit.now text.now lines.items) }
     ensures inside { IfOk result (λ lines. IsOfInside lines.items) }
     ensures memory { IsOkUnless result Halt.Memory }
 {
     match sim_of(alloc, circuit) {
-        Ok(sim) => run_sim(alloc, number, &sim, text),
+        Ok(sim) => run_sim(alloc, number, budget, &sim, text),
         Err(SimFault::Memory) => Err(Halt::Memory),
         Err(_) => limit_passed(alloc, number, Limit::Switches),
     }
@@ -187,20 +193,21 @@ fn run_circuit(
 fn run_sim(
     alloc: Global,
     number: usize,
+    budget: u32,
     sim: &SimFile,
     text: &[u8],
 ) -> Result<Vec<ReportLine>, Halt>
     requires letters { All HasLetter sim.now.fets }
     requires few_nodes { ¬ (HasMoreNodesThan MOST_NODES (records_of sim.now)) }
     requires few_switches { length sim.now.fets ≤ MOST_SWITCHES }
-    ensures tells { IfOk result (λ lines. TellsNet number sim.now text.now lines.items) }
+    ensures tells { IfOk result (λ lines. TellsNet budget number sim.now text.now lines.items) }
     ensures inside { IfOk result (λ lines. IsOfInside lines.items) }
     ensures memory { IsOkUnless result Halt.Memory }
 {
     match make_network(alloc, sim)? {
         MadeNet::Net(named) => {
             let mut named = named;
-            vector_lines(alloc, number, &mut named, text)
+            vector_lines(alloc, number, budget, &mut named, text)
         }
         MadeNet::Passed(_) => unreachable!(),
     }

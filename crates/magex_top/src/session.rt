@@ -5,9 +5,9 @@ ghost use Rattle.script_lines.specs.Forms.{IsFormed};
 ghost use Rattle.session_model.specs.Causes.{HasCauses, kinds_of};
 ghost use Rattle.session_model.specs.Effects.{Answers};
 ghost use Rattle.magex_top.specs.Answers.{IsSession, state_of};
-ghost use Rattle.magex_top.specs.Sessions.{CommandMeans};
+ghost use Rattle.magex_top.specs.Sessions.{CommandMeans, LineMeans};
 
-use crate::cells::LayoutSession;
+use crate::cells::{LayoutSession, RunSession};
 use crate::circuits::CircuitFile;
 use crate::command_circuits::circuit;
 use crate::command_edits::edit;
@@ -28,18 +28,17 @@ use script_lines::{Command, LineFault, read_line};
 use session_model::{Answer, Halt, Session};
 use std::alloc::Global;
 
-impl Session for LayoutSession {
-    ghost use Rattle.magex_top.specs.Answers.{IsSession, state_of};
-    ghost use Rattle.magex_top.specs.Sessions.{LineMeans};
-    ghost use Rattle.magex_top.specs.States.{State as LayoutState};
+impl Session for RunSession {
+    ghost use Rattle.magex_top.specs.Answers.{IsRunSession, run_state_of};
+    ghost use Rattle.magex_top.specs.Sessions.{RunLineMeans, RunState};
 
-    ghost State = { LayoutState };
+    ghost State = { RunState };
 
-    ghost state = { state_of };
+    ghost state = { run_state_of };
 
-    ghost is_sound = { IsSession };
+    ghost is_sound = { IsRunSession };
 
-    ghost means = { LineMeans };
+    ghost means = { RunLineMeans };
 
     fn answer_line<F: Shelf>(
         &mut self,
@@ -48,12 +47,31 @@ impl Session for LayoutSession {
         number: usize,
         line: &[u8],
     ) -> Result<Answer, Halt> {
-        match read_line(alloc, line) {
-            Ok(None) => Ok(told(alloc, Vec::new(alloc))),
-            Ok(Some(command)) => answer(alloc, self, shelf, number, &command),
-            Err(LineFault::Memory) => Err(Halt::Memory),
-            Err(fault) => refuse(alloc, number, TopFault::Line(fault)),
-        }
+        answer_line(alloc, &mut self.session, shelf, number, self.budget, line)
+    }
+}
+
+// Does what a line asks for, but for its stores, and answers it.
+fn answer_line<F: Shelf>(
+    alloc: Global,
+    session: &mut LayoutSession,
+    shelf: &mut F,
+    number: usize,
+    budget: u32,
+    line: &[u8],
+) -> Result<Answer, Halt>
+    requires session { IsSession session.old }
+    ensures effect { (files : Files) → F.files shelf.old ≡ Some files → IfOk result (λ answer.
+        Answers (LineMeans budget number (state_of session.old) files line.now) (state_of session.new) answer) }
+    ensures kept { IsSession session.new }
+    ensures files { F.files shelf.new ≡ F.files shelf.old }
+    ensures causes { HasCauses F.Shelf shelf.old shelf.new kinds_of result }
+{
+    match read_line(alloc, line) {
+        Ok(None) => Ok(told(alloc, Vec::new(alloc))),
+        Ok(Some(command)) => answer(alloc, session, shelf, number, budget, &command),
+        Err(LineFault::Memory) => Err(Halt::Memory),
+        Err(fault) => refuse(alloc, number, TopFault::Line(fault)),
     }
 }
 
@@ -63,12 +81,13 @@ fn answer<F: Shelf>(
     session: &mut LayoutSession,
     shelf: &mut F,
     number: usize,
+    budget: u32,
     command: &Command,
 ) -> Result<Answer, Halt>
     requires session { IsSession session.old }
     requires formed { IsFormed command.now }
     ensures effect { (files : Files) → F.files shelf.old ≡ Some files → IfOk result (λ answer.
-        Answers (CommandMeans number (state_of session.old) files command.now) (state_of session.new) answer) }
+        Answers (CommandMeans budget number (state_of session.old) files command.now) (state_of session.new) answer) }
     ensures kept { IsSession session.new }
     ensures files { F.files shelf.new ≡ F.files shelf.old }
     ensures causes { HasCauses F.Shelf shelf.old shelf.new kinds_of result }
@@ -93,8 +112,8 @@ fn answer<F: Shelf>(
         Command::Flat(cell) => circuit(alloc, session, number, cell, CircuitFile::Flat),
         Command::Sim(cell) => circuit(alloc, session, number, cell, CircuitFile::Sim),
         Command::Ext2sim(cell) => ext2sim(alloc, shelf, number, cell),
-        Command::Vectors(cell, file) => vectors(alloc, session, shelf, number, cell, file),
-        Command::Simrun(cell, file) => simrun(alloc, shelf, number, cell, file),
-        Command::Generate(count) => generate(alloc, session, number, *count),
+        Command::Vectors(cell, file) => vectors(alloc, session, shelf, number, budget, cell, file),
+        Command::Simrun(cell, file) => simrun(alloc, shelf, number, budget, cell, file),
+        Command::Generate(count) => generate(alloc, session, number, budget, *count),
     }
 }

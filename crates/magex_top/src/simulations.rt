@@ -19,9 +19,6 @@ use switch_net::NamedNet;
 use vector_files::{VecAt, VecFault, Vectors, read_vectors};
 use vector_runs::{VecReply, run_vectors};
 
-/// The most steps of a phase.
-pub const BUDGET: u32 = 1000;
-
 /// The network of sim records, or the limit that it would pass.
 #[derive(Debug, Drop)]
 pub enum MadeNet {
@@ -47,16 +44,17 @@ pub fn make_network(alloc: Global, sim: &SimFile) -> Result<MadeNet, Halt>
 pub fn vector_lines(
     alloc: Global,
     number: usize,
+    budget: u32,
     named: &mut NamedNet,
     text: &[u8],
 ) -> Result<Vec<ReportLine>, Halt>
     requires fresh { IsFresh (network_of named.old.net) named.old.names }
-    ensures tells { IfOk result (λ lines. TellsVectors number text.now (network_of named.old.net) named.old.names lines.items) }
+    ensures tells { IfOk result (λ lines. TellsVectors budget number text.now (network_of named.old.net) named.old.names lines.items) }
     ensures inside { IfOk result (λ lines. IsOfInside lines.items) }
     ensures memory { IsOkUnless result Halt.Memory }
 {
     match read_vectors(alloc, text, named) {
-        Ok(vectors) => run_lines(alloc, named, &vectors),
+        Ok(vectors) => run_lines(alloc, budget, named, &vectors),
         Err(at) => refused_vectors(alloc, number, at),
     }
 }
@@ -77,17 +75,18 @@ fn refused_vectors(alloc: Global, number: usize, at: VecAt) -> Result<Vec<Report
 // The lines of what vectors reply on the network.
 fn run_lines(
     alloc: Global,
+    budget: u32,
     named: &mut NamedNet,
     vectors: &Vectors,
 ) -> Result<Vec<ReportLine>, Halt>
     requires fresh { IsFresh (network_of named.old.net) named.old.names }
     requires within { IsWithin named.old vectors.now }
-    ensures tells { IfOk result (λ lines. TellsRun (network_of named.old.net) named.old.names vectors.now lines.items) }
+    ensures tells { IfOk result (λ lines. TellsRun budget (network_of named.old.net) named.old.names vectors.now lines.items) }
     ensures inside { IfOk result (λ lines. IsOfInside lines.items) }
     ensures memory { IsOkUnless result Halt.Memory }
 {
     let mut replies = Vec::new(alloc);
-    run_vectors(alloc, named, vectors, BUDGET, &mut replies)?;
+    run_vectors(alloc, named, vectors, budget, &mut replies)?;
     Ok(lines_told(alloc, &replies)?)
 }
 

@@ -1,18 +1,19 @@
 //! The top call.
-ghost use Rattle.std.specs.Prelude.{◌≡◌, ◌≢◌, ◌⊎◌, ◌<◌, ◌≤◌, [], ◌∷◌, ◌++◌, ℕ, List, Some, map, length, string_bytes, IfSome};
+ghost use Rattle.std.specs.Prelude.{◌≡◌, ◌≢◌, ◌⊎◌, ◌<◌, ◌≤◌, [], ◌∷◌, ◌++◌, ℕ, List, Some, map, length, string_bytes, IfSome, true, false};
 ghost use Rattle.outside_io.specs.Counts.{Rose};
 ghost use Rattle.outside_io.specs.Files.{Files};
 ghost use Rattle.outside_io.specs.ToldBytes.{with_back};
 ghost use Rattle.session_model.specs.declared.report.ReportLine.{ReportLine as Line};
 ghost use Rattle.session_model.specs.Causes.{ComeFrom, line_kinds};
 ghost use Rattle.session_model.specs.Progress.{IsPrefixOf};
-ghost use Rattle.session_model.specs.Reports.{text_of};
-ghost use Rattle.magex_top.specs.Runs.{EndsByItself, IsEndOfScript, RunMeans, RunReaches, ScriptMeans, ScriptReaches, usage_text};
+ghost use Rattle.session_model.specs.Reports.{report_of, text_of};
+ghost use Rattle.magex_top.specs.Runs.{EndsByItself, IsEndOfScript, RunMeans, RunReaches, ScriptMeans, ScriptReaches, are_of_form, is_quiet, usage_text};
 ghost use Rattle.magex_top.specs.States.{reply};
 
-use crate::cells::new_session;
+use crate::cells::{RunSession, new_session};
 use crate::status::Status;
 use outside_io::{LONGEST_FILE, ReadAllFault, Shelf, Sink, Source, read_all};
+use run_words::{RunWords, read_words};
 use session_model::{run_lines, write_text};
 use std::alloc::Global;
 use std::sync::ledger::Ledger;
@@ -36,8 +37,8 @@ pub fn run<S: Source, K: Sink, F: Shelf, L: Ledger>(
         S.left script.old ≡ Some text → K.written report.old ≡ Some before → F.files shelf.old ≡ Some files →
         EndsByItself result → (lines : List Line) × (after : Files)
         × RunMeans (map string_bytes words.now) text files lines after result
-        × (K.written report.new ≡ Some (before ++ text_of lines)) × (F.files shelf.new ≡ Some after)
-        × ComeFrom F.Shelf shelf.old shelf.new (line_kinds lines) }
+        × (K.written report.new ≡ Some (before ++ report_of (is_quiet (map string_bytes words.now)) lines))
+        × (F.files shelf.new ≡ Some after) × ComeFrom F.Shelf shelf.old shelf.new (line_kinds lines) }
     ensures read_to_end { (result ≡ Status.Done) ⊎ (result ≡ Status.Told) → IfSome (S.left script.new) (λ left. left ≡ []) }
 
     // However it ends, it has come somewhere in the script: the lines before are done, and that line is begun.
@@ -61,36 +62,43 @@ pub fn run<S: Source, K: Sink, F: Shelf, L: Ledger>(
     ensures calm_store { result ≢ Status.WriteFault → F.store_faults shelf.new ≡ F.store_faults shelf.old }
 
     // When it ends with usage, and when with a script that is too long.
-    ensures usage { words.now ≢ [] → (result ≡ Status.Usage) ⊎ ((result ≡ Status.WriteFault) ⊎ (result ≡ Status.Memory)) }
-    ensures told_usage { words.now ≢ [] → EndsByItself result → K.written report.new ≡ with_back (K.written report.old) (text_of (reply usage_text ∷ [])) }
-    ensures untouched { words.now ≢ [] → (script.new ≡ script.old) × (shelf.new ≡ shelf.old) }
-    ensures no_usage { words.now ≡ [] → result ≢ Status.Usage }
-    ensures too_long { result ≡ Status.ScriptTooLong → (words.now ≡ []) × IfSome (S.left script.old) (λ text. LONGEST_FILE < length text) }
+    ensures usage { are_of_form (map string_bytes words.now) ≡ false → (result ≡ Status.Usage) ⊎ ((result ≡ Status.WriteFault) ⊎ (result ≡ Status.Memory)) }
+    ensures told_usage { are_of_form (map string_bytes words.now) ≡ false → EndsByItself result →
+        K.written report.new ≡ with_back (K.written report.old) (text_of (reply usage_text ∷ [])) }
+    ensures untouched { are_of_form (map string_bytes words.now) ≡ false → (script.new ≡ script.old) × (shelf.new ≡ shelf.old) }
+    ensures no_usage { are_of_form (map string_bytes words.now) ≡ true → result ≢ Status.Usage }
+    ensures too_long { result ≡ Status.ScriptTooLong → (are_of_form (map string_bytes words.now) ≡ true)
+        × IfSome (S.left script.old) (λ text. LONGEST_FILE < length text) }
     ensures silent { result ≡ Status.ScriptTooLong → (report.new ≡ report.old) × (shelf.new ≡ shelf.old) }
 
     // A script that is too long runs no line, and ends so unless a fault of its own or want of memory comes first.
-    ensures long { (text : List ℕ) → words.now ≡ [] → S.left script.old ≡ Some text → LONGEST_FILE < length text →
+    ensures long { (text : List ℕ) → are_of_form (map string_bytes words.now) ≡ true → S.left script.old ≡ Some text →
+        LONGEST_FILE < length text →
         (result ≡ Status.ScriptTooLong) ⊎ ((result ≡ Status.ReadFault) ⊎ (result ≡ Status.Memory)) }
-    ensures long_calm { (text : List ℕ) → words.now ≡ [] → S.left script.old ≡ Some text → LONGEST_FILE < length text →
+    ensures long_calm { (text : List ℕ) → are_of_form (map string_bytes words.now) ≡ true → S.left script.old ≡ Some text →
+        LONGEST_FILE < length text →
         (Rose (S.faults script.old) (S.faults script.new) → ⊥) → (result ≡ Status.ScriptTooLong) ⊎ (result ≡ Status.Memory) }
-    ensures long_untouched { (text : List ℕ) → words.now ≡ [] → S.left script.old ≡ Some text → LONGEST_FILE < length text →
+    ensures long_untouched { (text : List ℕ) → are_of_form (map string_bytes words.now) ≡ true → S.left script.old ≡ Some text →
+        LONGEST_FILE < length text →
         (report.new ≡ report.old) × (shelf.new ≡ shelf.old) }
 
     // A script that is not too long comes to its end, unless a fault or want of memory ends the run.
-    ensures complete { (text : List ℕ) → words.now ≡ [] → S.left script.old ≡ Some text → length text ≤ LONGEST_FILE →
+    ensures complete { (text : List ℕ) → are_of_form (map string_bytes words.now) ≡ true → S.left script.old ≡ Some text →
+        length text ≤ LONGEST_FILE →
         (Rose (S.faults script.old) (S.faults script.new) → ⊥) → (Rose (K.faults report.old) (K.faults report.new) → ⊥) →
         (Rose (F.fetch_faults shelf.old) (F.fetch_faults shelf.new) → ⊥) → (Rose (F.store_faults shelf.old) (F.store_faults shelf.new) → ⊥) →
         (result ≡ Status.Done) ⊎ ((result ≡ Status.Told) ⊎ (result ≡ Status.Memory)) }
     ensures steps { steps.old ≤ steps.new }
 {
-    if !words.is_empty() {
-        return write_usage(report);
-    }
-    match read_all(alloc, script, LONGEST_FILE) {
-        Ok(text) => run_script(alloc, &text, report, shelf),
-        Err(ReadAllFault::TooLong) => Status::ScriptTooLong,
-        Err(ReadAllFault::Failed) => Status::ReadFault,
-        Err(ReadAllFault::Memory) => Status::Memory,
+    match read_words(alloc, words) {
+        Ok(Some(asked)) => match read_all(alloc, script, LONGEST_FILE) {
+            Ok(text) => run_script(alloc, asked, &text, report, shelf),
+            Err(ReadAllFault::TooLong) => Status::ScriptTooLong,
+            Err(ReadAllFault::Failed) => Status::ReadFault,
+            Err(ReadAllFault::Memory) => Status::Memory,
+        },
+        Ok(None) => write_usage(report),
+        Err(_) => Status::Memory,
     }
 }
 
@@ -113,19 +121,20 @@ fn write_usage<K: Sink>(report: &mut K) -> Status
 // Runs the lines of a script.
 fn run_script<K: Sink, F: Shelf>(
     alloc: Global,
+    asked: RunWords,
     text: &[u8],
     report: &mut K,
     shelf: &mut F,
 ) -> Status
     ensures meaning { (before : List ℕ) (files : Files) →
         K.written report.old ≡ Some before → F.files shelf.old ≡ Some files →
-        EndsByItself result → (lines : List Line) × (after : Files) × ScriptMeans text.now files lines after result
-        × (K.written report.new ≡ Some (before ++ text_of lines)) × (F.files shelf.new ≡ Some after)
+        EndsByItself result → (lines : List Line) × (after : Files) × ScriptMeans asked text.now files lines after result
+        × (K.written report.new ≡ Some (before ++ report_of asked.quiet lines)) × (F.files shelf.new ≡ Some after)
         × ComeFrom F.Shelf shelf.old shelf.new (line_kinds lines) }
     ensures beginning { (before : List ℕ) (files : Files) →
         K.written report.old ≡ Some before → F.files shelf.old ≡ Some files →
         (reported : List ℕ) × (after : Files)
-        × ScriptReaches text.now files (Rose (F.store_faults shelf.old) (F.store_faults shelf.new)) reported after
+        × ScriptReaches asked text.now files (Rose (F.store_faults shelf.old) (F.store_faults shelf.new)) reported after
         × (K.written report.new ≡ Some (before ++ reported)) × (F.files shelf.new ≡ Some after) }
     ensures cases { IsEndOfScript result }
     ensures read_fault { result ≡ Status.ReadFault → Rose (F.fetch_faults shelf.old) (F.fetch_faults shelf.new) }
@@ -135,8 +144,11 @@ fn run_script<K: Sink, F: Shelf>(
     ensures calm_fetch { result ≢ Status.ReadFault → F.fetch_faults shelf.new ≡ F.fetch_faults shelf.old }
     ensures calm_store { result ≢ Status.WriteFault → F.store_faults shelf.new ≡ F.store_faults shelf.old }
 {
-    let mut session = new_session();
-    match run_lines(alloc, &mut session, false, text, report, shelf) {
+    let mut session = RunSession {
+        session: new_session(),
+        budget: asked.budget,
+    };
+    match run_lines(alloc, &mut session, asked.quiet, text, report, shelf) {
         Ok(true) => Status::Told,
         Ok(false) => Status::Done,
         Err(halt) => Status::from(halt),

@@ -28,11 +28,11 @@ returns-in_ok-joined-in-Done-clause-effect c =
     let extraction = c.in-Done.extraction in
     let told = c.in_ok-lines-in-Done.lines.items in
     let is = subst (λ (e : Extracting). IsExtracted c.args.number work after c.args.cell.0 e) c.in-Done.is c.in_ok-extraction.ensures.extracted in
-    let tells = subst (λ (l : LibraryParts). TellsStack c.args.number c.args.n (seen l) c.args.cell.0 told) c.in_ok-extraction.ensures.library
+    let tells = subst (λ (l : LibraryParts). TellsStack c.args.budget c.args.number c.args.n (seen l) c.args.cell.0 told) c.in_ok-extraction.ensures.library
     c.in_ok-lines-in-Done.ensures.tells in
     let lines : c.in_ok-joined-in-Done.field-0.items ≡ extraction.lines ++ told = search rules in
     let stores : c.into_vec.result.items ≡ extraction.stores = search rules in
-    runs_stack c.args.number c.args.n work after c.args.cell.0 extraction told
+    runs_stack c.args.budget c.args.number c.args.n work after c.args.cell.0 extraction told
     (record { lines = c.in_ok-joined-in-Done.field-0; stores = c.into_vec.result }) is tells lines stores
 
 pub returns-in_ok-joined-in-Done-clause-inside : goal.returns-in_ok-joined-in-Done-clause-inside
@@ -53,7 +53,7 @@ returns-in-Refused-clause-effect c =
     let lines = c.in-Refused.lines in
     let refuses = subst (λ (e : Extracting). IsExtracted c.args.number work after c.args.cell.0 e) c.in-Refused.is c.in_ok-extraction.ensures.extracted in
     let told : c.told.result.lines.items ≡ lines = search rules in
-    refuses_cell c.args.number work after c.args.cell.0 lines (λ (effect : Effect State). RunsStack c.args.number c.args.n work c.args.cell.0 effect)
+    refuses_cell c.args.number work after c.args.cell.0 lines (λ (effect : Effect State). RunsStack c.args.budget c.args.number c.args.n work c.args.cell.0 effect)
     c.told.result refuses told c.told.ensures.stores
 
 pub returns-in-Refused-clause-inside : goal.returns-in-Refused-clause-inside

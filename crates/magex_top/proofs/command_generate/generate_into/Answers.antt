@@ -1,4 +1,6 @@
-use Rattle.std.proofs.Common.{ℕ, Some, length, subst}
+use Rattle.std.proofs.Common.{◌∙◌, ℕ, Some, ap, length, subst}
+use Rattle.std.proofs.lemmas.Int.{to_z-of_z}
+use Rattle.std.specs.Int.RustNames.{unsigned_abs}
 use Rattle.std.proofs.lemmas.Result.{IfOk-weaker}
 use Rattle.session_model.specs.Effects.{Answers}
 use Rattle.magex_top.specs.declared.command_generate.MadeStack.{MadeStack}
@@ -19,11 +21,12 @@ returns-in-Made-clause-effect c =
     let work = edited_state c.args.edited.now in
     let now = edited_state c.make_stack.new.edited in
     let n = c.rows_of-n.result in
+    let rows_are = c.rows_of-n.ensures.rows ∙ ap unsigned_abs (to_z-of_z _ _ c.ranges.count) in
     let after : State = Some (edited_state c.extract_stack.new.edited) in
     let came = subst (λ (made : MadeStack). IsStackMade n work now made) c.in-Made.is c.in_ok-cell.ensures.made in
     IfOk-weaker c.extract_stack.result _ _
-    (λ answer means. subst (λ (rows : ℕ). Answers (GeneratesStack c.args.number rows work) after answer) c.rows_of-n.ensures.rows
-    (stack_made c.args.number n work now c.in-Made.cell.0 after answer came means))
+    (λ answer means. subst (λ (rows : ℕ). Answers (GeneratesStack c.args.budget c.args.number rows work) after answer) rows_are
+    (stack_made c.args.budget c.args.number n work now c.in-Made.cell.0 after answer came means))
     c.extract_stack.ensures.effect
 
 pub returns-in-Refused-clause-effect : goal.returns-in-Refused-clause-effect
@@ -31,8 +34,9 @@ returns-in-Refused-clause-effect c =
     let work = edited_state c.args.edited.now in
     let now = edited_state c.make_stack.new.edited in
     let n = c.rows_of-n.result in
+    let rows_are = c.rows_of-n.ensures.rows ∙ ap unsigned_abs (to_z-of_z _ _ c.ranges.count) in
     let is = subst (λ (made : MadeStack). IsStackMade n work now made) c.in-Refused.is c.in_ok-cell.ensures.made in
     both_ok c.refuse.result _ _ _
-    (λ answer lines stores. subst (λ (rows : ℕ). Answers (GeneratesStack c.args.number rows work) (Some now) answer) c.rows_of-n.ensures.rows
-    (stack_refused c.args.number n work now c.in-Refused.fault answer is.0 is.1 lines stores))
+    (λ answer lines stores. subst (λ (rows : ℕ). Answers (GeneratesStack c.args.budget c.args.number rows work) (Some now) answer) rows_are
+    (stack_refused c.args.budget c.args.number n work now c.in-Refused.fault answer is.0 is.1 lines stores))
     c.refuse.ensures.lines c.refuse.ensures.stores

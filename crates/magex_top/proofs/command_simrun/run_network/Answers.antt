@@ -11,7 +11,7 @@ returns-in-Text-clause-effect g c files state fetched told =
     let there : text_in files c.args.file ≡ Ok c.in-Text.text.items =
     subst (λ (fetched : Fetched). FetchMeans files c.args.file fetched) c.in-Text.is (c.in_ok-text.ensures.effect files told) in
     both_ok c.run_fetched.result _ _ _
-    (λ answer tells stores. vectors_run c.args.number state c.args.file c.in-Text.text.items (text_in files c.args.file) (network_of c.args.named.net)
+    (λ answer tells stores. vectors_run c.args.budget c.args.number state c.args.file c.in-Text.text.items (text_in files c.args.file) (network_of c.args.named.net)
     c.args.named.names fetched answer there tells stores)
     (rw c.deref.ensures.value at c.run_fetched.ensures.tells) c.run_fetched.ensures.stores
 
@@ -20,6 +20,6 @@ returns-in-Refused-clause-effect g c files state fetched told =
     let there : text_in files c.args.file ≡ Err c.in-Refused.fault =
     subst (λ (fetched : Fetched). FetchMeans files c.args.file fetched) c.in-Refused.is (c.in_ok-text.ensures.effect files told) in
     both_ok c.refuse.result _ _ _
-    (λ answer lines stores. vectors_refused c.args.number state c.args.file c.in-Refused.fault (text_in files c.args.file) (network_of c.args.named.net)
+    (λ answer lines stores. vectors_refused c.args.budget c.args.number state c.args.file c.in-Refused.fault (text_in files c.args.file) (network_of c.args.named.net)
     c.args.named.names fetched answer there lines stores)
     c.refuse.ensures.lines c.refuse.ensures.stores

@@ -11,7 +11,7 @@ pub returns-in-Ok-clause-effect : goal.returns-in-Ok-clause-effect
 returns-in-Ok-clause-effect g c files state told =
     let is : sim_in c.args.text.now ≡ Ok c.in-Ok.sim = search rules in
     IfOk-weaker c.run_records.result _ _
-    (λ answer means. read_run c.args.number state files c.args.source (sim_in c.args.text.now) c.in-Ok.sim c.args.file answer is means)
+    (λ answer means. read_run c.args.budget c.args.number state files c.args.source (sim_in c.args.text.now) c.in-Ok.sim c.args.file answer is means)
     (c.run_records.ensures.effect files state (c.args.source ∷ []) told)
 
 pub returns-in-Err : goal.returns-in-Err
@@ -22,7 +22,7 @@ returns-in-Err g c =
     record {
       effect = λ files state told.
           both_ok c.refuse.result _ _ _
-          (λ answer lines stores. read_refused c.args.number state files c.args.source (sim_in c.args.text.now) c.in-Err.at c.args.file answer is
+          (λ answer lines stores. read_refused c.args.budget c.args.number state files c.args.source (sim_in c.args.text.now) c.in-Err.at c.args.file answer is
           lines stores)
           c.refuse.ensures.lines c.refuse.ensures.stores;
       files = refl;

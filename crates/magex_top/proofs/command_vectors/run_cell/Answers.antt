@@ -25,11 +25,11 @@ returns-in_ok-joined-in-Done-clause-effect c file =
     let extraction = c.in-Done.extraction in
     let told = c.in_ok-lines-in-Done.lines.items in
     let is = subst (λ (e : Extracting). IsExtracted c.args.number work after c.args.cell.0 e) c.in-Done.is c.in_ok-extraction.ensures.extracted in
-    let tells = subst (λ (l : LibraryParts). TellsAt c.args.number (seen l) c.args.cell.0 c.args.text.now told) c.in_ok-extraction.ensures.library
+    let tells = subst (λ (l : LibraryParts). TellsAt c.args.budget c.args.number (seen l) c.args.cell.0 c.args.text.now told) c.in_ok-extraction.ensures.library
     c.in_ok-lines-in-Done.ensures.tells in
     let lines : c.in_ok-joined-in-Done.field-0.items ≡ extraction.lines ++ told = search rules in
     let stores : c.into_vec.result.items ≡ extraction.stores = search rules in
-    inl (runs_cell c.args.number c.args.text.now (file ∷ []) work after c.args.cell.0 extraction told c.in_ok-joined-in-Done.field-0.items
+    inl (runs_cell c.args.budget c.args.number c.args.text.now (file ∷ []) work after c.args.cell.0 extraction told c.in_ok-joined-in-Done.field-0.items
     c.into_vec.result.items is tells lines stores)
 
 pub returns-in_ok-joined-in-Done-clause-inside : goal.returns-in_ok-joined-in-Done-clause-inside

@@ -10,5 +10,5 @@ returns-clause-tells c =
     let named = c.in-Net.named in
     let is : IsNetOf c.args.sim.now (network_of named.net) named.names = search rules in
     IfOk-weaker c.vector_lines.result _ _
-    (λ lines tells. tells_net c.args.number c.args.sim.now c.args.text.now (network_of named.net) named.names lines.items is tells)
+    (λ lines tells. tells_net c.args.budget c.args.number c.args.sim.now c.args.text.now (network_of named.net) named.names lines.items is tells)
     c.vector_lines.ensures.tells

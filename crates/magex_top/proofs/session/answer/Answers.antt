@@ -9,29 +9,29 @@ use Rattle.magex_top.proofs.session.answer.Goals as goal
 pub returns-in-Tech-clause-effect : goal.returns-in-Tech-clause-effect
 returns-in-Tech-clause-effect g c files told =
     IfOk-weaker c.tech.result _ _
-    (λ answer means. subst (λ (command : Command). Answers (CommandMeans c.args.number (state_of c.args.session.now) files command)
+    (λ answer means. subst (λ (command : Command). Answers (CommandMeans c.args.budget c.args.number (state_of c.args.session.now) files command)
     (state_of c.tech.new.session) answer) (sym c.in-Tech.is) means) (c.tech.ensures.effect files told)
 
 pub returns-in-Load-clause-effect : goal.returns-in-Load-clause-effect
 returns-in-Load-clause-effect g c files told =
     IfOk-weaker c.load.result _ _
-    (λ answer means. subst (λ (command : Command). Answers (CommandMeans c.args.number (state_of c.args.session.now) files command)
+    (λ answer means. subst (λ (command : Command). Answers (CommandMeans c.args.budget c.args.number (state_of c.args.session.now) files command)
     (state_of c.load.new.session) answer) (sym c.in-Load.is) means) (c.load.ensures.effect files told)
 
 pub returns-in-Ext2sim-clause-effect : goal.returns-in-Ext2sim-clause-effect
 returns-in-Ext2sim-clause-effect g c files told =
     IfOk-weaker c.ext2sim.result _ _
-    (λ answer means. subst (λ (command : Command). Answers (CommandMeans c.args.number (state_of c.args.session.now) files command)
+    (λ answer means. subst (λ (command : Command). Answers (CommandMeans c.args.budget c.args.number (state_of c.args.session.now) files command)
     (state_of c.args.session.now) answer) (sym c.in-Ext2sim.is) means) (c.ext2sim.ensures.effect files (state_of c.args.session.now) told)
 
 pub returns-in-Vectors-clause-effect : goal.returns-in-Vectors-clause-effect
 returns-in-Vectors-clause-effect g c files told =
     IfOk-weaker c.vectors.result _ _
-    (λ answer means. subst (λ (command : Command). Answers (CommandMeans c.args.number (state_of c.args.session.now) files command)
+    (λ answer means. subst (λ (command : Command). Answers (CommandMeans c.args.budget c.args.number (state_of c.args.session.now) files command)
     (state_of c.vectors.new.session) answer) (sym c.in-Vectors.is) means) (c.vectors.ensures.effect files told)
 
 pub returns-in-Simrun-clause-effect : goal.returns-in-Simrun-clause-effect
 returns-in-Simrun-clause-effect g c files told =
     IfOk-weaker c.simrun.result _ _
-    (λ answer means. subst (λ (command : Command). Answers (CommandMeans c.args.number (state_of c.args.session.now) files command)
+    (λ answer means. subst (λ (command : Command). Answers (CommandMeans c.args.budget c.args.number (state_of c.args.session.now) files command)
     (state_of c.args.session.now) answer) (sym c.in-Simrun.is) means) (c.simrun.ensures.effect files (state_of c.args.session.now) told)

@@ -1,108 +1,161 @@
-use Rattle.std.proofs.Common.{◌≡◌, ◌∙◌, sym, ap, subst, refl, List, [], ◌∷◌, map, ◌≤◌, ◌<◌, Global, Err, string_bytes, ℕ, Bool, true, false, ◌==◌, length}
+use Rattle.std.proofs.Common.{◌≡◌, ◌∙◌, sym, ap, subst, refl, List, [], ◌∷◌, map, ◌≤◌, ◌<◌, Global, Err, Option, Some, None, string_bytes, ℕ, length, rules}
 use Rattle.std.proofs.Common.{arith}
-use Rattle.std.proofs.lemmas.Bool.Decides.{nat_tests}
+use Rattle.std.specs.Prelude.{is_some}
 use Rattle.outside_io.specs.Counts.{Rose}
 use Rattle.outside_io.specs.ToldBytes.{ToldBytes, with_back}
 use Rattle.outside_io.specs.declared.faults.ReadAllFault.{ReadAllFault}
 use Rattle.outside_io.specs.declared.limits.TheConstants.{LONGEST_FILE}
+use Rattle.run_words.specs.declared.words.RunWords.{RunWords}
+use Rattle.run_words.specs.RunWords.{words_of}
 use Rattle.session_model.proofs.CauseLaws.{no_refusals}
 use Rattle.session_model.specs.Reports.{text_of}
 use Rattle.magex_top.specs.declared.status.Status.{Status}
 use Rattle.magex_top.specs.Runs.{RunMeans, ScriptMeans, ScriptReaches, usage_text}
 use Rattle.magex_top.specs.States.{reply}
-use Rattle.magex_top.proofs.RunLaws.{usage_run, script_run, long_run, nothing_more, usage_reached, script_reached, nothing_reached, usage_comes}
+use Rattle.magex_top.proofs.RunLaws.{long_run, nothing, nothing_more, nothing_reached, nothing_written, script_reached, script_run, script_written, something}
+use Rattle.magex_top.proofs.RunLaws.{usage_comes, usage_reached, usage_run, usage_written}
 use Rattle.magex_top.proofs.top_call.run.Goals as goal
 
-some_words : {X : Type 0} (words : List X) (empty : Bool) → empty ≡ (length words == 0) → empty ≡ false → words ≡ [] → ⊥
-some_words words empty test no_words none = absurd (grind (arith, nat_tests, ap length none))
+-- ---- words that are not of the form
 
-no_words : {X : Type 0} (words : List X) (empty : Bool) → empty ≡ (length words == 0) → empty ≡ true → words ≡ []
-no_words [] empty test yes_words = refl
-no_words (word ∷ words) empty test yes_words = absurd (grind (arith, nat_tests))
-
-pub returns-then-not-is_empty-clause-meaning : goal.returns-then-not-is_empty-clause-meaning
-returns-then-not-is_empty-clause-meaning g c text before files text_told told files_told ends =
-    let some = some_words c.args.words.now c.is_empty.result c.is_empty.ensures c.if-not-is_empty.true in
+pub returns-in-Ok-None-clause-meaning : goal.returns-in-Ok-None-clause-meaning
+returns-in-Ok-None-clause-meaning g c text before files text_told told files_told ends =
+    let words = map (string_bytes {Z = Global}) c.args.words.now in
+    let none : words_of words ≡ None = search rules in
     let h = c.write_usage.ensures.meaning ends in
     let lines = reply usage_text ∷ [] in (
       lines,
       files,
-      subst (λ (status : Status). RunMeans (map (string_bytes {Z = Global}) c.args.words.now) text files lines files status) (sym h.0)
-          (usage_run (string_bytes {Z = Global}) c.args.words.now text files some),
-      h.1 ∙ ap (λ (t : ToldBytes). with_back t (text_of lines)) told,
+      subst (λ (status : Status). RunMeans words text files lines files status) (sym h.0) (usage_run words text files none),
+      usage_written words _ before lines none (h.1 ∙ ap (λ (t : ToldBytes). with_back t (text_of lines)) told),
       files_told,
       usage_comes g.F.Shelf c.args.shelf.now c.args.shelf.now,
     )
 
+pub returns-in-Ok-None-clause-beginning : goal.returns-in-Ok-None-clause-beginning
+returns-in-Ok-None-clause-beginning g c text before files text_told told files_told =
+    let words = map (string_bytes {Z = Global}) c.args.words.now in
+    let none : words_of words ≡ None = search rules in
+    let Fails = Rose (g.F.Shelf.store_faults c.args.shelf.now) (g.F.Shelf.store_faults c.args.shelf.now) in
+    let h = c.write_usage.ensures.beginning before told in
+    (h.0, files, usage_reached words text files Fails h.0 none h.1, h.2, files_told)
+
+pub returns-in-Ok-None-clause-no_usage : goal.returns-in-Ok-None-clause-no_usage
+returns-in-Ok-None-clause-no_usage g c some =
+    let words = map (string_bytes {Z = Global}) c.args.words.now in
+    let none : words_of words ≡ None = search rules in
+    absurd (nothing (words_of words) none some)
+
+pub returns-in-Ok-None-clause-long : goal.returns-in-Ok-None-clause-long
+returns-in-Ok-None-clause-long g c text some text_told long =
+    let words = map (string_bytes {Z = Global}) c.args.words.now in
+    let none : words_of words ≡ None = search rules in
+    absurd (nothing (words_of words) none some)
+
+pub returns-in-Ok-None-clause-long_calm : goal.returns-in-Ok-None-clause-long_calm
+returns-in-Ok-None-clause-long_calm g c text some text_told long calm =
+    let words = map (string_bytes {Z = Global}) c.args.words.now in
+    let none : words_of words ≡ None = search rules in
+    absurd (nothing (words_of words) none some)
+
+pub returns-in-Ok-None-clause-long_untouched : goal.returns-in-Ok-None-clause-long_untouched
+returns-in-Ok-None-clause-long_untouched g c text some text_told long =
+    let words = map (string_bytes {Z = Global}) c.args.words.now in
+    let none : words_of words ≡ None = search rules in
+    absurd (nothing (words_of words) none some)
+
+pub returns-in-Ok-None-clause-complete : goal.returns-in-Ok-None-clause-complete
+returns-in-Ok-None-clause-complete g c text some text_told fits read write fetch store =
+    let words = map (string_bytes {Z = Global}) c.args.words.now in
+    let none : words_of words ≡ None = search rules in
+    absurd (nothing (words_of words) none some)
+
+-- ---- words of the form
+
 pub returns-in-Ok-clause-meaning : goal.returns-in-Ok-clause-meaning
 returns-in-Ok-clause-meaning g c text before files text_told told files_told ends =
-    let none = no_words c.args.words.now c.is_empty.result c.is_empty.ensures c.if-not-is_empty.false in
+    let words = map (string_bytes {Z = Global}) c.args.words.now in
+    let asked = c.in-Ok-Some.asked in
+    let is : words_of words ≡ Some asked = search rules in
     let read : c.in-Ok.text.items ≡ text = rw text_told at c.in-Ok.ensures.all in
     let within : length c.in-Ok.text.items ≤ LONGEST_FILE = omega (arith, c.in-Ok.ensures.within, c.in-Ok.text.ok.0) in
     let fits = subst (λ (t : List ℕ). length t ≤ LONGEST_FILE) read within in
     let h = c.run_script.ensures.meaning before files told files_told ends in
-    let means = subst (λ (t : List ℕ). ScriptMeans t files h.0 h.1 c.run_script.result) (c.deref.ensures.value ∙ read) h.2 in
-    (h.0, h.1, script_run (string_bytes {Z = Global}) c.args.words.now text files h.0 h.1 c.run_script.result none fits means, h.3, h.4, h.5)
+    let means = subst (λ (t : List ℕ). ScriptMeans asked t files h.0 h.1 c.run_script.result) (c.deref.ensures.value ∙ read) h.2 in (
+      h.0,
+      h.1,
+      script_run words asked text files h.0 h.1 c.run_script.result is fits means,
+      script_written words asked _ before h.0 is h.3,
+      h.4,
+      h.5,
+    )
 
 pub returns-in-Ok-clause-beginning : goal.returns-in-Ok-clause-beginning
 returns-in-Ok-clause-beginning g c text before files text_told told files_told =
-    let none = no_words c.args.words.now c.is_empty.result c.is_empty.ensures c.if-not-is_empty.false in
+    let words = map (string_bytes {Z = Global}) c.args.words.now in
+    let asked = c.in-Ok-Some.asked in
+    let is : words_of words ≡ Some asked = search rules in
     let read : c.in-Ok.text.items ≡ text = rw text_told at c.in-Ok.ensures.all in
     let within : length c.in-Ok.text.items ≤ LONGEST_FILE = omega (arith, c.in-Ok.ensures.within, c.in-Ok.text.ok.0) in
     let fits = subst (λ (t : List ℕ). length t ≤ LONGEST_FILE) read within in
     let Fails = Rose (g.F.Shelf.store_faults c.args.shelf.now) (g.F.Shelf.store_faults c.run_script.new.shelf) in
     let h = c.run_script.ensures.beginning before files told files_told in
-    let reached = subst (λ (t : List ℕ). ScriptReaches t files Fails h.0 h.1) (c.deref.ensures.value ∙ read) h.2 in
-    (h.0, h.1, script_reached (string_bytes {Z = Global}) c.args.words.now text files Fails h.0 h.1 none fits reached, h.3, h.4)
+    let reached = subst (λ (t : List ℕ). ScriptReaches asked t files Fails h.0 h.1) (c.deref.ensures.value ∙ read) h.2 in
+    (h.0, h.1, script_reached words asked text files Fails h.0 h.1 is fits reached, h.3, h.4)
 
 -- a text that was read within the limit is not too long
 not_long : (read text : List ℕ) → read ≡ text → length read ≤ LONGEST_FILE → LONGEST_FILE < length text → ⊥
 not_long read text is fits long = omega (arith, ap length is, fits, long)
 
 pub returns-in-Ok-clause-long_calm : goal.returns-in-Ok-clause-long_calm
-returns-in-Ok-clause-long_calm g c text none text_told long calm =
+returns-in-Ok-clause-long_calm g c text some text_told long calm =
     let read : c.in-Ok.text.items ≡ text = rw text_told at c.in-Ok.ensures.all in
     absurd (not_long c.in-Ok.text.items text read (omega (arith, c.in-Ok.ensures.within, c.in-Ok.text.ok.0)) long)
 
 pub returns-in-Ok-clause-long_untouched : goal.returns-in-Ok-clause-long_untouched
-returns-in-Ok-clause-long_untouched g c text none text_told long =
+returns-in-Ok-clause-long_untouched g c text some text_told long =
     let read : c.in-Ok.text.items ≡ text = rw text_told at c.in-Ok.ensures.all in
     absurd (not_long c.in-Ok.text.items text read (omega (arith, c.in-Ok.ensures.within, c.in-Ok.text.ok.0)) long)
 
-pub returns-then-not-is_empty-clause-beginning : goal.returns-then-not-is_empty-clause-beginning
-returns-then-not-is_empty-clause-beginning g c text before files text_told told files_told =
-    let some = some_words c.args.words.now c.is_empty.result c.is_empty.ensures c.if-not-is_empty.true in
-    let Fails = Rose (g.F.Shelf.store_faults c.args.shelf.now) (g.F.Shelf.store_faults c.args.shelf.now) in
-    let h = c.write_usage.ensures.beginning before told in
-    (h.0, files, usage_reached (string_bytes {Z = Global}) c.args.words.now text files Fails h.0 some h.1, h.2, files_told)
-
 pub returns-in-Err-TooLong-clause-meaning : goal.returns-in-Err-TooLong-clause-meaning
 returns-in-Err-TooLong-clause-meaning g c text before files text_told told files_told ends =
-    let none = no_words c.args.words.now c.is_empty.result c.is_empty.ensures c.if-not-is_empty.false in
+    let words = map (string_bytes {Z = Global}) c.args.words.now in
+    let is : words_of words ≡ Some c.in-Ok-Some.asked = search rules in
     let long = rw text_told at (c.in-Err-TooLong.ensures.too_long (ap (λ (f : ReadAllFault). Err f) c.in-Err-TooLong.field-0-is)) in (
       [],
       files,
-      long_run (string_bytes {Z = Global}) c.args.words.now text files none long,
-      nothing_more _ before told,
+      long_run words c.in-Ok-Some.asked text files is long,
+      nothing_written words _ before told,
       files_told,
-      no_refusals
-          g.F.Shelf c.args.shelf.now c.args.shelf.now,
+      no_refusals g.F.Shelf c.args.shelf.now c.args.shelf.now,
     )
+
+pub returns-in-Err-TooLong-clause-too_long : goal.returns-in-Err-TooLong-clause-too_long
+returns-in-Err-TooLong-clause-too_long g c long =
+    let words = map (string_bytes {Z = Global}) c.args.words.now in
+    let is : words_of words ≡ Some c.in-Ok-Some.asked = search rules in
+    (ap (λ (found : Option RunWords). is_some found) is, c.in-Err-TooLong.ensures.too_long (ap (λ (f : ReadAllFault). Err f) c.in-Err-TooLong.field-0-is))
 
 pub returns-in-Err-TooLong-clause-beginning : goal.returns-in-Err-TooLong-clause-beginning
 returns-in-Err-TooLong-clause-beginning g c text before files text_told told files_told =
-    let none = no_words c.args.words.now c.is_empty.result c.is_empty.ensures c.if-not-is_empty.false in
+    let words = map (string_bytes {Z = Global}) c.args.words.now in
     let Fails = Rose (g.F.Shelf.store_faults c.args.shelf.now) (g.F.Shelf.store_faults c.args.shelf.now) in
-    ([], files, nothing_reached (string_bytes {Z = Global}) c.args.words.now text files Fails none, nothing_more _ before told, files_told)
+    ([], files, nothing_reached words text files Fails, nothing_more _ before told, files_told)
 
 pub returns-in-Err-Failed-clause-beginning : goal.returns-in-Err-Failed-clause-beginning
 returns-in-Err-Failed-clause-beginning g c text before files text_told told files_told =
-    let none = no_words c.args.words.now c.is_empty.result c.is_empty.ensures c.if-not-is_empty.false in
+    let words = map (string_bytes {Z = Global}) c.args.words.now in
     let Fails = Rose (g.F.Shelf.store_faults c.args.shelf.now) (g.F.Shelf.store_faults c.args.shelf.now) in
-    ([], files, nothing_reached (string_bytes {Z = Global}) c.args.words.now text files Fails none, nothing_more _ before told, files_told)
+    ([], files, nothing_reached words text files Fails, nothing_more _ before told, files_told)
 
 pub returns-in-Err-Memory-clause-beginning : goal.returns-in-Err-Memory-clause-beginning
 returns-in-Err-Memory-clause-beginning g c text before files text_told told files_told =
-    let none = no_words c.args.words.now c.is_empty.result c.is_empty.ensures c.if-not-is_empty.false in
+    let words = map (string_bytes {Z = Global}) c.args.words.now in
     let Fails = Rose (g.F.Shelf.store_faults c.args.shelf.now) (g.F.Shelf.store_faults c.args.shelf.now) in
-    ([], files, nothing_reached (string_bytes {Z = Global}) c.args.words.now text files Fails none, nothing_more _ before told, files_told)
+    ([], files, nothing_reached words text files Fails, nothing_more _ before told, files_told)
+
+pub returns-in-Err-clause-beginning : goal.returns-in-Err-clause-beginning
+returns-in-Err-clause-beginning g c text before files text_told told files_told =
+    let words = map (string_bytes {Z = Global}) c.args.words.now in
+    let Fails = Rose (g.F.Shelf.store_faults c.args.shelf.now) (g.F.Shelf.store_faults c.args.shelf.now) in
+    ([], files, nothing_reached words text files Fails, nothing_more _ before told, files_told)
