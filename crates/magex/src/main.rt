@@ -4,7 +4,7 @@
 ghost use Rattle.std.specs.Prelude.{◌≡◌, ◌<◌};
 
 use magex_top::{Status, run};
-use outside_io::{FolderShelf, ReaderSource, WriterSink};
+use outside_io::{FolderShelf, ReaderSource, WriterSink, write_all};
 use std::marker::Brand;
 use std::process::ExitCode;
 use std::sync::ledger::{Blank, Ledger};
@@ -15,9 +15,29 @@ use step_count::Steps;
 const NO_WORDS: u8 = 7;
 
 fn main(rt: HostRuntime) -> ExitCode {
-    match words_of(&rt) {
-        Ok(words) => ExitCode::from(run_here::<Brand>(&rt, Blank::new(1), words.as_slice()).code()),
-        Err(_) => ExitCode::from(NO_WORDS),
+    let (code, trouble) = match words_of(&rt) {
+        Ok(words) => {
+            let status = run_here::<Brand>(&rt, Blank::new(1), words.as_slice());
+            (status.code(), trouble_of(status))
+        }
+        Err(_) => (
+            NO_WORDS,
+            "magex: the words of the command line could not be had\n",
+        ),
+    };
+    // A script's author sees a number alone where standard error fails too.
+    let _ = write_all(&mut WriterSink::new(rt.stderr()), trouble.as_bytes());
+    ExitCode::from(code)
+}
+
+// What is said on standard error of a run that did not come to its end.
+fn trouble_of(status: Status) -> &'static str {
+    match status {
+        Status::Done | Status::Told | Status::Usage => "",
+        Status::ReadFault => "magex: the script, or a file that it asks for, could not be read\n",
+        Status::WriteFault => "magex: the report, or a file, could not be written\n",
+        Status::Memory => "magex: there was not enough memory\n",
+        Status::ScriptTooLong => "magex: the script has more than 16 MiB\n",
     }
 }
 
