@@ -1,7 +1,7 @@
 #!/usr/bin/env python3
 """Times the extraction of hierarchies that are made from a number, and Magic on the same cells where it is installed.
 
-    bench/hierarchies.py [--arrays 100,250,500] [--trees 10000,20000,40000] [--program PATH] [--magic PATH]
+    bench/hierarchies.py [--arrays 100,250,500] [--trees 10000,20000,40000] [--generate 100,500] [--program PATH] [--magic PATH]
 
 An array has so many transistors in a row and in a column. A tree has so many elements: leaves of six transistors, sixteen leaves in a block, sixteen
 blocks in a column, each column of cells of its own, and columns side by side. For each it prints the seconds and the most megabytes of a whole run
@@ -129,10 +129,22 @@ def measure(kind, cells, size, before, options):
     return size, sim.seconds
 
 
+def generate(rows, options):
+    """Prints what `generate` takes."""
+    with tempfile.TemporaryDirectory() as name:
+        folder = Path(name)
+        (folder / "nm.tech").write_text((TOP / "crates/run_tests/data/nm.tech").read_text())
+        (folder / "run.script").write_text(f"tech nm\ngenerate {rows}\n")
+        run = timed([options.program], folder / "run.script", folder)
+    assert run.status == 0, run.status
+    print("generate %d: %.2f s, %.0f MB" % (rows, run.seconds, run.megabytes), flush=True)
+
+
 def main():
     parser = argparse.ArgumentParser(description=__doc__.split("\n")[0])
     parser.add_argument("--arrays", default="100,250,500", help="transistors in a row")
     parser.add_argument("--trees", default="10000,20000,40000", help="elements")
+    parser.add_argument("--generate", default="100,500", help="rows")
     parser.add_argument("--program", default=str(PROGRAM))
     parser.add_argument("--magic", default=shutil.which("magic"), help="the path of Magic, or nothing to leave it out")
     options = parser.parse_args()
@@ -140,6 +152,8 @@ def main():
     before = None
     for side in map(int, filter(None, options.arrays.split(","))):
         before = measure("array", array(side), side * side, before, options)
+    for rows in map(int, filter(None, options.generate.split(","))):
+        generate(rows, options)
     before = None
     for elements in map(int, filter(None, options.trees.split(","))):
         before = measure("tree", tree(elements), elements, before, options)
