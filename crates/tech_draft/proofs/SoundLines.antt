@@ -29,7 +29,7 @@ use Rattle.tech_model.specs.declared.limits.TheConstants.{MOST_PLANES, MOST_TYPE
 use Rattle.tech_model.specs.Forms.{is_layer_name}
 use Rattle.tech_model.specs.Types.{plane_of, has_name}
 use Rattle.tech_draft.specs.Drafts.{Drafted}
-use Rattle.tech_draft.specs.Words.{one_word, two_words, three_words, four_words, has_three_words, has_form, is_comma, pieces_of}
+use Rattle.tech_draft.specs.Words.{has_form, is_comma, pieces_of}
 use Rattle.tech_draft.specs.Words.{is_entry_list, measure_in, name_part}
 use Rattle.tech_draft.specs.declared.words.WordForm.TheVariants.{LayerName, LayerTerm}
 use Rattle.tech_draft.specs.declared.draft.word_rules.WordRule.TheVariants as rule
@@ -37,7 +37,7 @@ use Rattle.tech_draft.specs.WordRules.{refuse, check_entries, check_layers}
 use Rattle.tech_draft.specs.Lookups.{plane_named, entry_types, has_type, types_of_list, type_of_word, layer_of_word, is_contact}
 use Rattle.tech_draft.specs.TypeLines.{with_name, new_name, name_line, with_plane, new_plane, plane_line, new_names, with_atom, new_atom}
 use Rattle.tech_draft.specs.TypeLines.{new_type, type_line}
-use Rattle.tech_draft.specs.SetLines.{are_misplaced, is_part, other_residues, residues_of_layer, with_contact, new_contact, is_contact_form}
+use Rattle.tech_draft.specs.SetLines.{are_misplaced, is_part, other_residues, residues_of_layer, with_contact, new_contact, joined_with}
 use Rattle.tech_draft.specs.SetLines.{contact_line}
 use Rattle.tech_draft.specs.SetLines.{are_composable, is_settled, with_union, new_union, composed, compose_line}
 use Rattle.tech_draft.specs.ListLines.{with_pairs, with_pair_list, connected, connect_line, with_class, new_class, resist_line}
@@ -85,16 +85,15 @@ rules-sound draft name planes pairs classes fets capped sound names more rules =
 
 sound-name : (draft next : Drafted) (words : List (List ℕ)) → IsSound draft → name_line draft words ≡ Ok next → IsSound next
 unfolding name_line
-sound-name draft next words sound is =
+sound-name draft next (name ∷ []) sound is =
     let raw = draft.raw in
-    let line = and_then-ok (one_word words) (new_name draft) next is in
-    let name = line.0 in
-    let form = rule-ok (not (length raw.name == 0) || not (is_plain_name name)) BadForm (Ok (with_name draft name)) next line.1.1 in
+    let form = rule-ok (not (length raw.name == 0) || not (is_plain_name name)) BadForm (Ok (with_name draft name)) next is in
     let plain = not-false (is_plain_name name) (or_parts (not (length raw.name == 0)) (not (is_plain_name name)) form.0).1 in
     let names : HasSoundNames name raw.planes =
     record { plain = inr plain; limit = sound.names.limit; plane_names = sound.names.plane_names; differ = sound.names.differ } in
     made (with_name draft name) next form.1
     (rules-sound draft name raw.planes raw.pairs raw.classes raw.fets draft.capped sound names (omega arith) sound.rules)
+sound-name draft next _ sound is = absurd (cc)
 
 -- the word is none of these
 absent_word : (word : List ℕ) (words : List (List ℕ)) → list_any (bytes_eq word) words ≡ false → In word words → ⊥
@@ -102,11 +101,9 @@ absent_word word words none is = true≢false (sym ((bytes_eq-Decides word word)
 
 sound-plane : (draft next : Drafted) (words : List (List ℕ)) → IsSound draft → plane_line draft words ≡ Ok next → IsSound next
 unfolding plane_line
-sound-plane draft next words sound is =
+sound-plane draft next (name ∷ []) sound is =
     let raw = draft.raw in
-    let line = and_then-ok (one_word words) (new_plane draft) next is in
-    let name = line.0 in
-    let form = rule-ok (not (is_plain_name name)) BadForm _ next line.1.1 in
+    let form = rule-ok (not (is_plain_name name)) BadForm _ next is in
     let once = rule-ok (list_any (bytes_eq name) raw.planes) (Twice name) _ next form.1 in
     let room = rule-ok (nat_le MOST_PLANES (length raw.planes)) (TooMany tables.Planes) (Ok (with_plane draft name)) next once.1 in
     let few = leb-false MOST_PLANES (length raw.planes) room.0 in
@@ -121,6 +118,7 @@ sound-plane draft next words sound is =
     made (with_plane draft name) next room.1
     (rules-sound draft raw.name (raw.planes ++ name ∷ []) raw.pairs raw.classes raw.fets draft.capped sound names
     (omega (arith, long)) sound.rules)
+sound-plane draft next _ sound is = absurd (cc)
 
 -- ---- types
 
@@ -149,12 +147,10 @@ new_layer-line draft word names plane some good placed new room =
 
 sound-type : (draft next : Drafted) (words : List (List ℕ)) → IsSound draft → type_line draft words ≡ Ok next → IsSound next
 unfolding type_line
-sound-type draft next words sound is =
+sound-type draft next (word ∷ list ∷ []) sound is =
     let raw = draft.raw in
-    let line = and_then-ok (two_words words) (λ line. new_type draft line.0 (pieces_of line.1)) next is in
-    let word = line.0.0 in
-    let names = pieces_of line.0.1 in
-    let form = rule-ok (not (is_plain_name word) || not (list_all (has_form LayerName) names)) BadForm _ next line.1.1 in
+    let names = pieces_of list in
+    let form = rule-ok (not (is_plain_name word) || not (list_all (has_form LayerName) names)) BadForm _ next is in
     let good = not-false (list_all (has_form LayerName) names)
     (or_parts (not (is_plain_name word)) (not (list_all (has_form LayerName) names)) form.0).1 in
     let placed = and_then-ok (ok_or (plane_named raw word) (NoPlane word)) (new_atom draft names) next form.1 in
@@ -162,7 +158,7 @@ sound-type draft next words sound is =
     let after : Drafted = record draft { raw = with_atom raw plane names } in
     let new = and_then-ok (new_names raw [] names) _ next placed.1.1 in
     let room = rule-ok (nat_le MOST_TYPES (length raw.types)) (TooMany tables.Types) (Ok after) next new.1.1 in
-    let fresh = new_layer-line draft word names plane (omega (arith, length-slice_split is_comma line.0.1)) good
+    let fresh = new_layer-line draft word names plane (omega (arith, length-slice_split is_comma list)) good
     (found_some (plane_named raw word) (NoPlane word) plane placed.1.0) new.1.0 (leb-false MOST_TYPES (length raw.types) room.0) in
     made after next room.1 (record {
       names = sound.names;
@@ -170,14 +166,9 @@ sound-type draft next words sound is =
       rules = kept_rules raw raw.name raw.planes after.raw.types after.raw.layers (atom-keeps raw plane names) sound.rules;
       sets = sets_after draft after (atom_step draft plane names sound.layers sound.sets) sound.sets;
     })
+sound-type draft next _ sound is = absurd (cc)
 
 -- ---- contacts
-
-three_long : (words : List (List ℕ)) → has_three_words words ≡ true → 2 < length words
-three_long [] is = absurd (cc)
-three_long (a ∷ []) is = absurd (cc)
-three_long (a ∷ b ∷ []) is = absurd (cc)
-three_long (a ∷ b ∷ c ∷ rest) is = omega arith
 
 layers_named : (draft : Drafted) (words : List (List ℕ)) → IsSound draft → check_layers draft.raw words ≡ Ok tt → (word : List ℕ)
     → In word words → IsNamed draft.raw word
@@ -210,15 +201,12 @@ new_contact-rules draft next base residues many named is =
 
 sound-contact : (draft next : Drafted) (words : List (List ℕ)) → IsSound draft → contact_line draft words ≡ Ok next → IsSound next
 unfolding contact_line
-sound-contact draft next [] sound is = absurd (cc)
-sound-contact draft next (base ∷ residues) sound is =
+sound-contact draft next (base ∷ one ∷ two ∷ more) sound is =
     let raw = draft.raw in
-    let form = rule-ok (not (is_contact_form (base ∷ residues))) BadForm _ next is in
-    let long = three_long (base ∷ residues)
-    (and_parts (has_three_words (base ∷ residues)) (list_all (has_form LayerTerm) (base ∷ residues))
-    (not-false (is_contact_form (base ∷ residues)) form.0)).0 in
+    let residues = one ∷ two ∷ more in
+    let form = rule-ok (not (list_all (has_form LayerTerm) (base ∷ residues))) BadForm _ next is in
     let known = and_then-ok (check_layers raw (base ∷ residues)) _ next form.1 in
-    let rules = new_contact-rules draft next base residues long (layers_named draft (base ∷ residues) sound known.1.0) known.1.1 in
+    let rules = new_contact-rules draft next base residues (omega arith) (layers_named draft (base ∷ residues) sound known.1.0) known.1.1 in
     let layer = layer_of_word raw base in
     let own = type_of_word raw base in
     let others = other_residues raw base residues in
@@ -233,6 +221,7 @@ sound-contact draft next (base ∷ residues) sound is =
           (contact_step draft layer own others (residues_of_layer raw layer residues) sound.layers sound.sets plan
           (contact_line-keeps draft base residues rules.0)) sound.sets;
     })
+sound-contact draft next _ sound is = absurd (cc)
 
 -- ---- composed types
 
@@ -285,32 +274,26 @@ sound-union draft next whole first second sound named is =
 
 sound-compose : (draft next : Drafted) (words : List (List ℕ)) → IsSound draft → compose_line draft words ≡ Ok next → IsSound next
 unfolding compose_line
-sound-compose draft next [] sound is = absurd (cc)
-sound-compose draft next (key ∷ words) sound is =
+sound-compose draft next (key ∷ whole ∷ first ∷ second ∷ []) sound is =
     let named = rule-ok (not (bytes_eq key (codes "compose"))) BadForm _ next is in
-    let line = and_then-ok (three_words words) (λ line. composed draft line.0 line.1 line.2) next named.1 in
-    let whole = line.0.0 in
-    let first = line.0.1 in
-    let second = line.0.2 in
-    let form = rule-ok (not (list_all (has_form LayerTerm) (whole ∷ first ∷ second ∷ []))) BadForm _ next line.1.1 in
+    let form = rule-ok (not (list_all (has_form LayerTerm) (whole ∷ first ∷ second ∷ []))) BadForm _ next named.1 in
     let known = and_then-ok (check_layers draft.raw (whole ∷ first ∷ second ∷ [])) _ next form.1 in
     sound-union draft next whole first second sound (layers_named draft (whole ∷ first ∷ second ∷ []) sound known.1.0) known.1.1
+sound-compose draft next _ sound is = absurd (cc)
 
 -- ---- pairs, classes and transistors
 
 sound-connect : (draft next : Drafted) (words : List (List ℕ)) → IsSound draft → connect_line draft words ≡ Ok next → IsSound next
 unfolding connect_line
-sound-connect draft next words sound is =
+sound-connect draft next (first ∷ second ∷ []) sound is =
     let raw = draft.raw in
-    let line = and_then-ok (two_words words) (λ line. connected draft line.0 line.1) next is in
-    let first = line.0.0 in
-    let second = line.0.1 in
-    let form = rule-ok (not (is_entry_list first) || not (is_entry_list second)) BadForm _ next line.1.1 in
+    let form = rule-ok (not (is_entry_list first) || not (is_entry_list second)) BadForm _ next is in
     let known = and_then-ok (check_entries raw (pieces_of first ++ pieces_of second)) _ next form.1 in
     let pairs = with_pairs raw (types_of_list raw first) (types_of_list raw second) in
     made (with_pair_list draft pairs) next known.1.1
     (rules-sound draft raw.name raw.planes pairs raw.classes raw.fets draft.capped sound sound.names (omega arith)
     (connect_rules raw first second sound.layers sound.rules))
+sound-connect draft next _ sound is = absurd (cc)
 
 sound-class : (draft next : Drafted) (list : List ℕ) (value : ℕ) → IsSound draft → value ≤ LARGEST_MEASURE
     → new_class draft list value ≡ Ok next → IsSound next
@@ -327,10 +310,10 @@ sound-class draft next list value sound small is =
 
 sound-resist : (draft next : Drafted) (words : List (List ℕ)) → IsSound draft → resist_line draft words ≡ Ok next → IsSound next
 unfolding resist_line
-sound-resist draft next words sound is =
-    let line = and_then-ok (two_words words) (λ line. and_then (measure_in line.1) (new_class draft line.0)) next is in
-    let value = and_then-ok (measure_in line.0.1) (new_class draft line.0.0) next line.1.1 in
-    sound-class draft next line.0.0 value.0 sound (measure-small line.0.1 value.0 value.1.0) value.1.1
+sound-resist draft next (list ∷ word ∷ []) sound is =
+    let value = and_then-ok (measure_in word) (new_class draft list) next is in
+    sound-class draft next list value.0 sound (measure-small word value.0 value.1.0) value.1.1
+sound-resist draft next _ sound is = absurd (cc)
 
 sound-capacitance : (draft next : Drafted) (list : List ℕ) (area perimeter : ℕ) → IsSound draft → area ≤ LARGEST_MEASURE
     → perimeter ≤ LARGEST_MEASURE
@@ -348,14 +331,12 @@ sound-capacitance draft next list area perimeter sound area_small perimeter_smal
 
 sound-cap : (draft next : Drafted) (words : List (List ℕ)) → IsSound draft → cap_line draft words ≡ Ok next → IsSound next
 unfolding cap_line
-sound-cap draft next words sound is =
-    let line = and_then-ok (three_words words)
-    (λ line. and_then (measure_in line.1) (λ area. and_then (measure_in line.2) (new_capacitance draft line.0 area))) next is in
-    let area = and_then-ok (measure_in line.0.1)
-    (λ area. and_then (measure_in line.0.2) (new_capacitance draft line.0.0 area)) next line.1.1 in
-    let perimeter = and_then-ok (measure_in line.0.2) (new_capacitance draft line.0.0 area.0) next area.1.1 in
-    sound-capacitance draft next line.0.0 area.0 perimeter.0 sound (measure-small line.0.1 area.0 area.1.0)
-    (measure-small line.0.2 perimeter.0 perimeter.1.0) perimeter.1.1
+sound-cap draft next (list ∷ first ∷ second ∷ []) sound is =
+    let area = and_then-ok (measure_in first) (λ area. and_then (measure_in second) (new_capacitance draft list area)) next is in
+    let perimeter = and_then-ok (measure_in second) (new_capacitance draft list area.0) next area.1.1 in
+    sound-capacitance draft next list area.0 perimeter.0 sound (measure-small first area.0 area.1.0)
+    (measure-small second perimeter.0 perimeter.1.0) perimeter.1.1
+sound-cap draft next _ sound is = absurd (cc)
 
 sound-new_fet : (draft next : Drafted) (kind list name substrate : List ℕ) → IsSound draft
     → new_fet draft kind list name substrate ≡ Ok next → IsSound next
@@ -375,9 +356,8 @@ sound-new_fet draft next kind list name substrate sound is =
 
 sound-fet : (draft next : Drafted) (words : List (List ℕ)) → IsSound draft → fet_line draft words ≡ Ok next → IsSound next
 unfolding fet_line
-sound-fet draft next words sound is =
-    let line = and_then-ok (four_words words) (λ line. new_fet draft line.0 line.1 line.2 line.3) next is in
-    sound-new_fet draft next line.0.0 line.0.1 line.0.2 line.0.3 sound line.1.1
+sound-fet draft next (kind ∷ list ∷ name ∷ substrate ∷ []) sound is = sound-new_fet draft next kind list name substrate sound is
+sound-fet draft next _ sound is = absurd (cc)
 
 sound-extract : (draft next : Drafted) (words : List (List ℕ)) → IsSound draft → extract_line draft words ≡ Ok next → IsSound next
 unfolding extract_line

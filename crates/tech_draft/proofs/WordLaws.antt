@@ -1,12 +1,12 @@
--- The pieces of a comma list, the last byte of a text, and the words of a line.
-use Rattle.std.specs.Prelude.{◌≡◌, ◌==◌, ◌+◌, ℕ, Bool, cond, suc, zero, List, [], ◌∷◌, length, take, drop, Some, None, Ok, position}
+-- The pieces of a comma list, and the last byte of a text.
+use Rattle.std.specs.Prelude.{◌≡◌, ◌==◌, ◌+◌, ℕ, Bool, cond, suc, zero, List, [], ◌∷◌, length, take, drop, Some, None, position}
 use Rattle.std.specs.List.{position_or_len}
 use Rattle.std.proofs.Common.{refl, ap, get_or, arith, inl, inr}
 use Rattle.std.proofs.lemmas.Bool.{cases_lt, lt-ltb, le-ltb}
 use Rattle.std.proofs.lemmas.List.Splits.{slice_split_first, slice_split_none}
 use Rattle.std.proofs.lemmas.List.Sums.{fails_before_first}
 use Rattle.tech_model.specs.Forms.{ends_in_hash}
-use Rattle.tech_draft.specs.Words.{is_comma, pieces_of, three_words}
+use Rattle.tech_draft.specs.Words.{is_comma, pieces_of}
 
 -- a text ends in a hash where its last byte is one
 pub ends_in_hash-last : (text : List ℕ) (i d : ℕ) → i + 1 ≡ length text → ends_in_hash text ≡ (get_or text i d == 35)
@@ -41,12 +41,3 @@ pieces-one list none =
           absurd (cc)
       | inr past ↦ slice_split_none is_comma list (λ k d m. fails_before_first is_comma list k d (omega arith))
     ]
-
--- the words of a line that has three
-pub three_are : (words : List (List ℕ)) (line : List ℕ × List ℕ × List ℕ) → three_words words ≡ Ok line
-    → words ≡ line.0 ∷ line.1 ∷ line.2 ∷ []
-three_are [] line is = absurd (cc)
-three_are (a ∷ []) line is = absurd (cc)
-three_are (a ∷ b ∷ []) line is = absurd (cc)
-three_are (a ∷ b ∷ c ∷ []) line is = let same : (a, b, c) ≡ line = cc in ap (λ (l : List ℕ × List ℕ × List ℕ). l.0 ∷ l.1 ∷ l.2 ∷ []) same
-three_are (a ∷ b ∷ c ∷ d ∷ rest) line is = absurd (cc)

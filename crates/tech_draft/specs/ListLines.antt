@@ -20,7 +20,7 @@ use Rattle.tech_model.specs.declared.limits.TheConstants.{MOST_CLASSES, MOST_FET
 use Rattle.tech_model.specs.Forms.{is_naming_label}
 use Rattle.tech_model.specs.Types.{plane_of}
 use Rattle.tech_draft.specs.Drafts.{Drafted}
-use Rattle.tech_draft.specs.Words.{two_words, three_words, four_words, is_entry, is_entry_list, pieces_of, name_part, measure_in}
+use Rattle.tech_draft.specs.Words.{is_entry, is_entry_list, pieces_of, name_part, measure_in}
 use Rattle.tech_draft.specs.Lookups.{entry_types, has_type, types_of_list, type_of_word, class_of}
 use Rattle.tech_draft.specs.WordRules.{refuse, check_entries}
 use Rattle.tech_draft.specs.declared.draft.word_rules.WordRule.TheVariants.{Classed}
@@ -53,7 +53,8 @@ connected draft first second =
     (λ _. Ok (with_pair_list draft (with_pairs draft.raw (types_of_list draft.raw first) (types_of_list draft.raw second))))
 
 unfoldable pub connect_line : Drafted → List (List ℕ) → Result Drafted TechFault
-connect_line draft words = and_then (two_words words) (λ line. connected draft line.0 line.1)
+connect_line draft (first ∷ second ∷ []) = connected draft first second
+connect_line draft _ = Err BadForm
 
 -- ---- classes
 
@@ -75,7 +76,8 @@ new_class draft list value =
     else Ok (with_class draft (types_of_list draft.raw list) value)))
 
 unfoldable pub resist_line : Drafted → List (List ℕ) → Result Drafted TechFault
-resist_line draft words = and_then (two_words words) (λ line. and_then (measure_in line.1) (new_class draft line.0))
+resist_line draft (list ∷ value ∷ []) = and_then (measure_in value) (new_class draft list)
+resist_line draft _ = Err BadForm
 
 -- ---- capacitances
 
@@ -125,9 +127,9 @@ new_capacitance draft list per_area per_perimeter =
     (λ class. Ok (with_capacitance draft per_area per_perimeter class)))
 
 unfoldable pub cap_line : Drafted → List (List ℕ) → Result Drafted TechFault
-cap_line draft words =
-    and_then (three_words words) (λ line.
-    and_then (measure_in line.1) (λ per_area. and_then (measure_in line.2) (new_capacitance draft line.0 per_area)))
+cap_line draft (list ∷ area ∷ perimeter ∷ []) =
+    and_then (measure_in area) (λ per_area. and_then (measure_in perimeter) (new_capacitance draft list per_area))
+cap_line draft _ = Err BadForm
 
 -- ---- transistors
 
@@ -161,7 +163,8 @@ new_fet draft kind list name substrate =
     and_then (check_fet draft.raw kind) (λ _. Ok (with_rule draft (fet_with draft.raw kind list name substrate))))
 
 unfoldable pub fet_line : Drafted → List (List ℕ) → Result Drafted TechFault
-fet_line draft words = and_then (four_words words) (λ line. new_fet draft line.0 line.1 line.2 line.3)
+fet_line draft (kind ∷ list ∷ name ∷ substrate ∷ []) = new_fet draft kind list name substrate
+fet_line draft _ = Err BadForm
 
 -- what the first word of a line of `extract` says that the line is: other lines add nothing
 unfoldable pub extract_line : Drafted → List (List ℕ) → Result Drafted TechFault

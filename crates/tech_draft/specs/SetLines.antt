@@ -16,7 +16,7 @@ use Rattle.tech_model.specs.declared.faults.Table.TheVariants.{Types}
 use Rattle.tech_model.specs.declared.limits.TheConstants.{MOST_TYPES, FIRST_MARK}
 use Rattle.tech_model.specs.Types.{type_number, layer_number, type_at, layer_at, plane_of, parts_of}
 use Rattle.tech_draft.specs.Drafts.{Drafted}
-use Rattle.tech_draft.specs.Words.{three_words, has_three_words, has_form}
+use Rattle.tech_draft.specs.Words.{has_form}
 use Rattle.tech_draft.specs.Lookups.{has_type, type_of_word, plane_of_word, layer_of_word, is_contact}
 use Rattle.tech_draft.specs.WordRules.{refuse, check_layers}
 use Rattle.tech_draft.specs.declared.words.WordForm.TheVariants.{LayerTerm}
@@ -95,16 +95,16 @@ new_contact draft base residues =
     then Err (TooMany Types)
     else Ok (with_contact draft base residues))
 
--- three words or more, each in the place of a layer's name
-abbrev pub is_contact_form : List (List ℕ) → Bool
-is_contact_form words = has_three_words words && list_all (has_form LayerTerm) words
-
-unfoldable pub contact_line : Drafted → List (List ℕ) → Result Drafted TechFault
-contact_line draft [] = Err BadForm
-contact_line draft (base ∷ residues) =
-    if not (is_contact_form (base ∷ residues))
+-- each of the words stands in the place of a layer's name
+abbrev pub joined_with : Drafted → List ℕ → List (List ℕ) → Result Drafted TechFault
+joined_with draft base residues =
+    if not (list_all (has_form LayerTerm) (base ∷ residues))
     then Err BadForm
     else and_then (check_layers draft.raw (base ∷ residues)) (λ _. new_contact draft base residues)
+
+unfoldable pub contact_line : Drafted → List (List ℕ) → Result Drafted TechFault
+contact_line draft (base ∷ first ∷ second ∷ others) = joined_with draft base (first ∷ second ∷ others)
+contact_line draft _ = Err BadForm
 
 -- ---- composed types
 
@@ -143,8 +143,6 @@ composed draft whole first second =
     else and_then (check_layers draft.raw (whole ∷ first ∷ second ∷ [])) (λ _. new_union draft whole first second)
 
 unfoldable pub compose_line : Drafted → List (List ℕ) → Result Drafted TechFault
-compose_line draft [] = Err BadForm
-compose_line draft (key ∷ words) =
-    if not (bytes_eq key (codes "compose"))
-    then Err BadForm
-    else and_then (three_words words) (λ line. composed draft line.0 line.1 line.2)
+compose_line draft (key ∷ whole ∷ first ∷ second ∷ []) =
+    if not (bytes_eq key (codes "compose")) then Err BadForm else composed draft whole first second
+compose_line draft _ = Err BadForm

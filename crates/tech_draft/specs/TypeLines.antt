@@ -17,7 +17,7 @@ use Rattle.tech_model.specs.declared.faults.Table.TheVariants.{Planes, Types}
 use Rattle.tech_model.specs.declared.limits.TheConstants.{MOST_PLANES, MOST_TYPES}
 use Rattle.tech_model.specs.Types.{type_number, layer_number, layer_named}
 use Rattle.tech_draft.specs.Drafts.{Drafted}
-use Rattle.tech_draft.specs.Words.{one_word, two_words, has_form, pieces_of}
+use Rattle.tech_draft.specs.Words.{has_form, pieces_of}
 use Rattle.tech_draft.specs.Lookups.{plane_named}
 use Rattle.tech_draft.specs.declared.words.WordForm.TheVariants.{LayerName}
 
@@ -30,7 +30,8 @@ new_name draft name =
     if not (length draft.raw.name == 0) || not (is_plain_name name) then Err BadForm else Ok (with_name draft name)
 
 unfoldable pub name_line : Drafted → List (List ℕ) → Result Drafted TechFault
-name_line draft words = and_then (one_word words) (new_name draft)
+name_line draft (name ∷ []) = new_name draft name
+name_line draft _ = Err BadForm
 
 abbrev pub with_plane : Drafted → List ℕ → Drafted
 with_plane draft name = record draft { raw = record draft.raw { planes = draft.raw.planes ++ name ∷ [] } }
@@ -43,7 +44,8 @@ new_plane draft name =
     else Ok (with_plane draft name)
 
 unfoldable pub plane_line : Drafted → List (List ℕ) → Result Drafted TechFault
-plane_line draft words = and_then (one_word words) (new_plane draft)
+plane_line draft (name ∷ []) = new_plane draft name
+plane_line draft _ = Err BadForm
 
 -- none of the names is one that a layer has, or that stands among those before it
 abbrev pub new_names : RawTech → List (List ℕ) → List (List ℕ) → Result (Unit {0}) TechFault
@@ -79,4 +81,5 @@ new_type draft plane names =
     else and_then (ok_or (plane_named draft.raw plane) (NoPlane plane)) (new_atom draft names)
 
 unfoldable pub type_line : Drafted → List (List ℕ) → Result Drafted TechFault
-type_line draft words = and_then (two_words words) (λ line. new_type draft line.0 (pieces_of line.1))
+type_line draft (plane ∷ list ∷ []) = new_type draft plane (pieces_of list)
+type_line draft _ = Err BadForm

@@ -1,5 +1,5 @@
--- Words of a technology's lines: how many a line has, their forms, and the parts of an entry.
-use Rattle.std.specs.Prelude.{◌==◌, ◌&&◌, ◌||◌, not, nat_le, if◌then◌else◌, ℕ, ℤ, pos, negsuc, Bool, true, false, List, [], ◌∷◌, length}
+-- Words of a technology's lines: their forms, and the parts of an entry.
+use Rattle.std.specs.Prelude.{◌==◌, ◌&&◌, ◌||◌, not, nat_le, if◌then◌else◌, ℕ, ℤ, pos, negsuc, Bool, List, length}
 use Rattle.std.specs.Prelude.{Option, Some, None, Result, Ok, Err}
 use Rattle.std.specs.List.{list_any, list_all, slice_split, before_first, after_first}
 use Rattle.std.specs.Option.{ok_or}
@@ -13,28 +13,6 @@ use Rattle.tech_model.specs.declared.limits.TheConstants.{LARGEST_MEASURE}
 use Rattle.tech_model.specs.Forms.{is_layer_name}
 use Rattle.tech_draft.specs.declared.words.WordForm.{WordForm}
 use Rattle.tech_draft.specs.declared.words.WordForm.TheVariants.{LayerName, LayerTerm, Entry}
-
--- ---- the words of a line that has so many
-
-abbrev pub one_word : List (List ℕ) → Result (List ℕ) TechFault
-one_word (word ∷ []) = Ok word
-one_word _ = Err BadForm
-
-abbrev pub two_words : List (List ℕ) → Result (List ℕ × List ℕ) TechFault
-two_words (first ∷ second ∷ []) = Ok (first, second)
-two_words _ = Err BadForm
-
-abbrev pub three_words : List (List ℕ) → Result (List ℕ × List ℕ × List ℕ) TechFault
-three_words (first ∷ second ∷ third ∷ []) = Ok (first, second, third)
-three_words _ = Err BadForm
-
-abbrev pub four_words : List (List ℕ) → Result (List ℕ × List ℕ × List ℕ × List ℕ) TechFault
-four_words (first ∷ second ∷ third ∷ fourth ∷ []) = Ok (first, second, third, fourth)
-four_words _ = Err BadForm
-
-abbrev pub has_three_words : List (List ℕ) → Bool
-has_three_words (first ∷ second ∷ third ∷ rest) = true
-has_three_words _ = false
 
 -- ---- forms
 

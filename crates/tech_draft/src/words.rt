@@ -2,18 +2,17 @@
 ghost use Rattle.std.specs.Prelude.{◌≡◌, ◌++◌, [], ◌∷◌, position, Ok, Err, IfOk, IfErr, OnOk, OnErr};
 ghost use Rattle.std.specs.List.{list_any, list_all};
 ghost use Rattle.std.specs.Str.{bytes_eq};
-ghost use Rattle.text_scan.specs.Words.{words_of};
 ghost use Rattle.tech_model.specs.declared.faults.TechFault.TheVariants.{Memory};
 ghost use Rattle.tech_model.specs.Forms.{is_label_byte, ends_in_hash, is_naming_label, is_layer_name, reserved_words};
 ghost use Rattle.tech_draft.specs.Parts.{parts_in};
-ghost use Rattle.tech_draft.specs.Words.{one_word, two_words, three_words, four_words, has_three_words, is_slash, is_operator};
+ghost use Rattle.tech_draft.specs.Words.{is_slash, is_operator};
 ghost use Rattle.tech_draft.specs.Words.{has_slash, has_operator, name_part, plane_part, has_name_length, is_term_byte, is_term};
 ghost use Rattle.tech_draft.specs.Words.{is_entry, is_layer_term_byte, is_layer_term, has_form, is_entry_list, measure_in};
 
 use crate::parts::{Parted, each_part};
 use std::alloc::AllocError;
 use tech_model::{LARGEST_MEASURE, LONGEST_LABEL, TechFault};
-use text_scan::{LONGEST_NAME, is_plain_byte, is_plain_name, number, words};
+use text_scan::{LONGEST_NAME, is_plain_byte, is_plain_name, number};
 
 /// Puts an item at the end. Where it is refused, the items are as before.
 pub(crate) fn push<T: Drop>(items: &mut Vec<T>, item: T) -> Result<(), TechFault>
@@ -24,74 +23,6 @@ pub(crate) fn push<T: Drop>(items: &mut Vec<T>, item: T) -> Result<(), TechFault
     match items.push(item) {
         Ok(()) => Ok(()),
         Err(error) => Err(AllocError::from(error).into()),
-    }
-}
-
-/// The word of a line that has one.
-pub(crate) fn one_word(line: &[u8]) -> Result<&[u8], TechFault>
-    ensures ok { IfOk result (λ word. one_word (words_of line.now) ≡ Ok word.now) }
-    ensures err { IfErr result (λ fault. one_word (words_of line.now) ≡ Err fault) }
-{
-    let mut rest = words(line);
-    match (rest.next(), rest.next()) {
-        (Some(word), None) => Ok(word),
-        _ => Err(TechFault::BadForm),
-    }
-}
-
-/// The words of a line that has two.
-pub(crate) fn two_words(line: &[u8]) -> Result<(&[u8], &[u8]), TechFault>
-    ensures ok { IfOk result (λ found. two_words (words_of line.now) ≡ Ok (found.0.now, found.1.now)) }
-    ensures err { IfErr result (λ fault. two_words (words_of line.now) ≡ Err fault) }
-{
-    let mut rest = words(line);
-    match (rest.next(), rest.next(), rest.next()) {
-        (Some(first), Some(second), None) => Ok((first, second)),
-        _ => Err(TechFault::BadForm),
-    }
-}
-
-/// The words of a line that has three.
-pub(crate) fn three_words(line: &[u8]) -> Result<(&[u8], &[u8], &[u8]), TechFault>
-    ensures ok { IfOk result (λ found. three_words (words_of line.now) ≡ Ok (found.0.now, found.1.now, found.2.now)) }
-    ensures err { IfErr result (λ fault. three_words (words_of line.now) ≡ Err fault) }
-{
-    let mut rest = words(line);
-    match (rest.next(), rest.next(), rest.next(), rest.next()) {
-        (Some(first), Some(second), Some(third), None) => Ok((first, second, third)),
-        _ => Err(TechFault::BadForm),
-    }
-}
-
-/// The words of a line that has four.
-pub(crate) fn four_words(line: &[u8]) -> Result<(&[u8], &[u8], &[u8], &[u8]), TechFault>
-    ensures ok { IfOk result (λ found.
-        four_words (words_of line.now) ≡ Ok (found.0.now, found.1.now, found.2.now, found.3.now)) }
-    ensures err { IfErr result (λ fault. four_words (words_of line.now) ≡ Err fault) }
-{
-    let mut rest = words(line);
-    match (
-        rest.next(),
-        rest.next(),
-        rest.next(),
-        rest.next(),
-        rest.next(),
-    ) {
-        (Some(first), Some(second), Some(third), Some(fourth), None) => {
-            Ok((first, second, third, fourth))
-        }
-        _ => Err(TechFault::BadForm),
-    }
-}
-
-/// Whether a line has three words or more.
-pub(crate) fn has_three_words(line: &[u8]) -> bool
-    ensures { result ≡ has_three_words (words_of line.now) }
-{
-    let mut rest = words(line);
-    match (rest.next(), rest.next(), rest.next()) {
-        (Some(_), Some(_), Some(_)) => true,
-        _ => false,
     }
 }
 

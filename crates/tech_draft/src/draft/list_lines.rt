@@ -13,13 +13,10 @@ use super::Draft;
 use super::lookups::has_type;
 use super::word_rules::WordRule;
 use crate::parts::{Parted, first_piece};
-use crate::words::{
-    four_words, is_entry, is_entry_list, is_naming_label, measure_in, parts_of_entry, push,
-    three_words, two_words,
-};
+use crate::words::{is_entry, is_entry_list, is_naming_label, measure_in, parts_of_entry, push};
 use geo_core::{List, Name};
 use tech_model::{ClassRec, FetRule, MOST_CLASSES, MOST_FETS, Table, TechFault, TypeId};
-use text_scan::{is_plain_name, split_word};
+use text_scan::{is_plain_name, split_word, words};
 
 fn is_fet_form(kind: &[u8], list: &[u8], name: &[u8], substrate: &[u8]) -> bool
     ensures { result ≡ is_fet_form kind.now list.now name.now substrate.now }
@@ -69,8 +66,11 @@ impl Draft {
         ensures read { OnOk result (connect_line self.old (words_of line.now) ≡ Ok self.new) }
         ensures refused { IfErr result (λ fault. fault ≢ Memory → connect_line self.old (words_of line.now) ≡ Err fault) }
     {
-        let (first, second) = two_words(line)?;
-        self.connect(first, second)
+        let mut words = words(line);
+        match (words.next(), words.next(), words.next()) {
+            (Some(first), Some(second), None) => self.connect(first, second),
+            _ => Err(TechFault::BadForm),
+        }
     }
 
     fn connect(&mut self, first: &[u8], second: &[u8]) -> Result<(), TechFault>
@@ -92,9 +92,11 @@ impl Draft {
         ensures read { OnOk result (resist_line self.old (words_of line.now) ≡ Ok self.new) }
         ensures refused { IfErr result (λ fault. fault ≢ Memory → resist_line self.old (words_of line.now) ≡ Err fault) }
     {
-        let (list, value) = two_words(line)?;
-        let value = measure_in(value)?;
-        self.add_class(list, value)
+        let mut words = words(line);
+        match (words.next(), words.next(), words.next()) {
+            (Some(list), Some(value), None) => self.add_class(list, measure_in(value)?),
+            _ => Err(TechFault::BadForm),
+        }
     }
 
     fn add_class(&mut self, list: &[u8], value: u64) -> Result<(), TechFault>
@@ -160,10 +162,14 @@ impl Draft {
         ensures read { OnOk result (cap_line self.old (words_of line.now) ≡ Ok self.new) }
         ensures refused { IfErr result (λ fault. fault ≢ Memory → cap_line self.old (words_of line.now) ≡ Err fault) }
     {
-        let (list, per_area, per_perimeter) = three_words(line)?;
-        let per_area = measure_in(per_area)?;
-        let per_perimeter = measure_in(per_perimeter)?;
-        self.add_capacitance(list, per_area, per_perimeter)
+        let mut words = words(line);
+        match (words.next(), words.next(), words.next(), words.next()) {
+            (Some(list), Some(area), Some(perimeter), None) => {
+                let per_area = measure_in(area)?;
+                self.add_capacitance(list, per_area, measure_in(perimeter)?)
+            }
+            _ => Err(TechFault::BadForm),
+        }
     }
 
     fn add_capacitance(
@@ -231,8 +237,19 @@ impl Draft {
         ensures read { OnOk result (fet_line self.old (words_of line.now) ≡ Ok self.new) }
         ensures refused { IfErr result (λ fault. fault ≢ Memory → fet_line self.old (words_of line.now) ≡ Err fault) }
     {
-        let (kind, list, name, substrate) = four_words(line)?;
-        self.add_fet(kind, list, name, substrate)
+        let mut words = words(line);
+        match (
+            words.next(),
+            words.next(),
+            words.next(),
+            words.next(),
+            words.next(),
+        ) {
+            (Some(kind), Some(list), Some(name), Some(substrate), None) => {
+                self.add_fet(kind, list, name, substrate)
+            }
+            _ => Err(TechFault::BadForm),
+        }
     }
 
     fn has_fet(&self, kind: TypeId) -> bool

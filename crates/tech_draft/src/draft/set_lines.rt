@@ -7,26 +7,20 @@ ghost use Rattle.tech_model.specs.declared.faults.TechFault.TheVariants.{Memory}
 ghost use Rattle.tech_model.specs.Types.{no_type, no_layer, type_number};
 ghost use Rattle.tech_draft.specs.SetLines.{has_number, are_misplaced, is_part, other_residues, mark_bit, image_record, next_types};
 ghost use Rattle.tech_draft.specs.SetLines.{with_images};
-ghost use Rattle.tech_draft.specs.SetLines.{residues_of_layer, with_contact, new_contact, is_contact_form, contact_line};
+ghost use Rattle.tech_draft.specs.SetLines.{residues_of_layer, with_contact, new_contact, joined_with, contact_line};
 ghost use Rattle.tech_draft.specs.SetLines.{are_composable, is_settled, with_union, new_union, composed, compose_line};
 
 use super::lookups::has_type;
 use super::word_rules::WordRule;
 use super::{Draft, set_parts};
 use crate::parts::Parted;
-use crate::words::{WordForm, all_have, has_three_words, push, three_words};
+use crate::words::{WordForm, all_have, push};
 use geo_core::{List, Name};
 use std::alloc::Global;
 use tech_model::{
     FIRST_MARK, LayerId, LayerRec, MOST_TYPES, PartSet, Table, TechFault, TypeId, TypeRec,
 };
 use text_scan::{split_word, words};
-
-fn is_contact_form(line: &[u8]) -> bool
-    ensures { result ≡ is_contact_form (words_of line.now) }
-{
-    has_three_words(line) && all_have(WordForm::LayerTerm, Parted::Line(line))
-}
 
 fn has_number(numbers: &[u8], number: u8) -> bool
     ensures { result ≡ has_number numbers.now number }
@@ -265,7 +259,21 @@ impl Draft {
         let Some((base, residues)) = split_word(line) else {
             return Err(TechFault::BadForm);
         };
-        if !is_contact_form(line) {
+        let mut words = words(residues);
+        match (words.next(), words.next()) {
+            (Some(_), Some(_)) => self.join(line, base, residues),
+            _ => Err(TechFault::BadForm),
+        }
+    }
+
+    // The words of the line are the base and its residues.
+    fn join(&mut self, line: &[u8], base: &[u8], residues: &[u8]) -> Result<(), TechFault>
+        requires { words_of line.now ≡ base.now ∷ words_of residues.now }
+        ensures read { OnOk result (joined_with self.old base.now (words_of residues.now) ≡ Ok self.new) }
+        ensures refused { IfErr result (λ fault. fault ≢ Memory
+            → joined_with self.old base.now (words_of residues.now) ≡ Err fault) }
+    {
+        if !all_have(WordForm::LayerTerm, Parted::Line(line)) {
             return Err(TechFault::BadForm);
         }
         self.check_layers(line)?;
@@ -364,7 +372,12 @@ impl Draft {
         if key != b"compose".as_slice() {
             return Err(TechFault::BadForm);
         }
-        let (whole, first, second) = three_words(rest)?;
-        self.compose(rest, whole, first, second)
+        let mut words = words(rest);
+        match (words.next(), words.next(), words.next(), words.next()) {
+            (Some(whole), Some(first), Some(second), None) => self.compose(
+                rest, whole, first, second,
+            ),
+            _ => Err(TechFault::BadForm),
+        }
     }
 }

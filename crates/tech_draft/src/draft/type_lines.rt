@@ -13,14 +13,14 @@ ghost use Rattle.tech_draft.specs.TypeLines.{new_type, type_line};
 
 use super::Draft;
 use crate::parts::{Parted, each_part};
-use crate::words::{WordForm, all_have, one_word, push, two_words};
+use crate::words::{WordForm, all_have, push};
 use geo_core::{List, Name};
 use std::alloc::Global;
 use tech_model::{
     LayerId, LayerIndex, LayerRec, MOST_PLANES, MOST_TYPES, PartSet, Table, TechFault, TypeId,
     TypeRec,
 };
-use text_scan::is_plain_name;
+use text_scan::{is_plain_name, words};
 
 // Lets each name of the list name the layer. Refuses the first that names a layer already: the index may then have the
 // names before it.
@@ -93,8 +93,11 @@ impl Draft {
         ensures read { OnOk result (name_line self.old (words_of line.now) ≡ Ok self.new) }
         ensures refused { IfErr result (λ fault. fault ≢ Memory → name_line self.old (words_of line.now) ≡ Err fault) }
     {
-        let name = one_word(line)?;
-        self.set_name(name)
+        let mut words = words(line);
+        match (words.next(), words.next()) {
+            (Some(name), None) => self.set_name(name),
+            _ => Err(TechFault::BadForm),
+        }
     }
 
     fn set_name(&mut self, name: &[u8]) -> Result<(), TechFault>
@@ -120,8 +123,11 @@ impl Draft {
         ensures read { OnOk result (plane_line self.old (words_of line.now) ≡ Ok self.new) }
         ensures refused { IfErr result (λ fault. fault ≢ Memory → plane_line self.old (words_of line.now) ≡ Err fault) }
     {
-        let name = one_word(line)?;
-        self.add_plane(name)
+        let mut words = words(line);
+        match (words.next(), words.next()) {
+            (Some(name), None) => self.add_plane(name),
+            _ => Err(TechFault::BadForm),
+        }
     }
 
     fn add_plane(&mut self, name: &[u8]) -> Result<(), TechFault>
@@ -147,8 +153,11 @@ impl Draft {
         ensures read { OnOk result (type_line self.old (words_of line.now) ≡ Ok self.new) }
         ensures refused { IfErr result (λ fault. fault ≢ Memory → type_line self.old (words_of line.now) ≡ Err fault) }
     {
-        let (plane, list) = two_words(line)?;
-        self.add_type(plane, list)
+        let mut words = words(line);
+        match (words.next(), words.next(), words.next()) {
+            (Some(plane), Some(list), None) => self.add_type(plane, list),
+            _ => Err(TechFault::BadForm),
+        }
     }
 
     fn add_type(&mut self, plane: &[u8], list: &[u8]) -> Result<(), TechFault>
