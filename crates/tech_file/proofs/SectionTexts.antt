@@ -7,7 +7,6 @@ use Rattle.finite_sets.specs.Lists.{In}
 use Rattle.text_form.specs.Folds.{unless_faulty, first_fault_or}
 use Rattle.text_form.specs.SaidLines.{and_then}
 use Rattle.tech_model.specs.declared.faults.Section.{Section}
-use Rattle.tech_model.specs.declared.faults.Section.TheVariants.{Tech, Planes, Types, Contact, Compose, Connect, Extract}
 use Rattle.tech_model.specs.declared.faults.TechFault.{TechFault}
 use Rattle.tech_draft.specs.Drafts.{Drafted}
 use Rattle.tech_draft.specs.Lines.{line_in}
@@ -15,36 +14,32 @@ use Rattle.tech_draft.proofs.Refusals.{and_then-ok}
 use Rattle.tech_file.specs.declared.places.Place.{Place}
 use Rattle.tech_file.specs.declared.places.Place.TheVariants.{Between, Skipped, Within}
 use Rattle.tech_file.specs.declared.outline.Heading.{Heading}
-use Rattle.tech_file.specs.declared.reading.Reading.{Reading}
 use Rattle.tech_file.specs.Sections.{section_named}
 use Rattle.tech_file.specs.Places.{content_of, is_end, name_alone, opened, after}
 use Rattle.tech_file.specs.Outlines.{section_at, place_after}
-use Rattle.tech_file.specs.Reading.{standing, begun, read_between, with_draft, ended_with, in_section, read_line}
-use Rattle.tech_file.specs.Reading.{line_step}
-use Rattle.tech_file.specs.Texts.{TextSection, IsSection, words_of_all, words_in, with_known, known_sections, lines_in, end_of, section_in}
+use Rattle.tech_file.specs.Reading.{standing, begun, read_between, end_of, draft_after, line_step}
+use Rattle.tech_file.specs.Texts.{TextSection, IsSection, words_of_all, words_in, with_known, known_sections, lines_in, section_in}
 use Rattle.tech_file.specs.Texts.{sections_in}
 use Rattle.tech_file.proofs.HeadingLaws.{opened_by, openings, sections_of, IsInPlace}
-use Rattle.tech_file.proofs.TextRests.{Words, fine, AreSections, IsRest, Remains}
+use Rattle.tech_file.proofs.TextRests.{Words, right, AreSections, IsRest, Remains}
 use Rattle.tech_file.proofs.ReadTexts.{opened_sections, in_front, no_section}
 
--- What a line that says something does: it is read, and what is left is left; a section that begins with it must be in place.
+-- What a line does: it makes a draft, and what is left is left; a section that begins with it must be in place.
 record Reads (headings : List Heading) (number : ℕ) (place : Place) (draft : Drafted) (line : Words) (words : List Words)
     (known : List Section) (last : Drafted) : Type 0 where
-  state : Reading
+  next : Drafted
   later : List Section
-  at : state.place ≡ after place line
-  remains : Remains state.place state.draft words later last
+  remains : Remains (after place line) next words later last
   known_are : known ≡ with_known (section_at place line) later
   reads : ((o : Heading) → In o (opened_by number (section_at place line) []) → IsInPlace headings o)
-      → read_line headings number place draft line ≡ Ok state
+      → draft_after headings number place draft line ≡ Ok next
 
 -- the first of these words, and the others
 cons-same : {X : Type 0} (x y : X) (xs ys : List X) → x ∷ xs ≡ y ∷ ys → (x ≡ y) × (xs ≡ ys)
 cons-same x y xs ys e = (cc, cc)
 
 begins-well : (headings : List Heading) (number : ℕ) (word : List ℕ) (section : Option Section)
-    → ((o : Heading) → In o (opened_by number section []) → IsInPlace headings o)
-    → begun headings number word section ≡ Ok (option_map_or Within section Skipped)
+    → ((o : Heading) → In o (opened_by number section []) → IsInPlace headings o) → begun headings number word section ≡ Ok tt
 begins-well headings number word None fine = refl
 begins-well headings number word (Some section) fine =
     let here = fine (record { line = number; section = section }) (inl refl) in
@@ -79,14 +74,15 @@ between-reads headings number draft first others words known last (s ∷ section
       sections = record { sections = sections; are = λ x inside. are x (inr inside); words_are = refl; known_are = refl; read = step.1.1 };
     } in
     record {
-      state = standing (option_map_or Within (section_named s.name) Skipped) draft;
+      next = draft;
       later = known_sections sections;
-      at = sym moves;
-      remains = remains-of (section_named s.name) draft words (known_sections sections) last rest;
+      remains = subst (λ (p : Place). Remains p draft words (known_sections sections) last) (sym moves)
+          (remains-of (section_named s.name) draft words (known_sections sections) last rest);
       known_are = rw opens known_are;
       reads = λ fine.
           let begun_at = begins-well headings number s.name (section_named s.name) (rw opens at fine) in
-          ap (λ (o : Option (List ℕ)). with_draft draft (read_between headings number o)) named ∙ ap (with_draft draft) begun_at;
+          ap (λ (o : Option (List ℕ)). and_then (read_between headings number o) (λ _. right draft)) named
+          ∙ ap (λ (found : Result (Unit {0}) TechFault). and_then found (λ _. right draft)) begun_at;
     }
 
 -- the first line of what is left of a section
@@ -124,33 +120,30 @@ skipped-reads headings number draft first others words known last rest =
           let ends : is_end line ≡ true = ap is_end ended.0 in
           let same : draft ≡ rest.next = let e = ended.1.0 in cc in
           record {
-            state = standing Between draft;
+            next = draft;
             later = known;
-            at = rw ends refl;
-            remains = subst (λ (d : Drafted). AreSections d words known last) (sym same) ended.1.1;
+            remains = rw ends (subst (λ (d : Drafted). AreSections d words known last) (sym same) ended.1.1);
             known_are = refl;
-            reads = λ fine. rw ends refl;
+            reads = λ fine. refl;
           }
       | inr goes_on ↦ record {
-        state = standing Skipped draft;
+        next = draft;
         later = known;
-        at = rw goes_on.1.0 refl;
-        remains = record { body = goes_on.0; no_end = goes_on.1.1.0; rest = rest.rest; words_are = goes_on.1.1.1.0; next = rest.next; read = goes_on.1.1.1.1; sections = rest.sections };
+        remains =
+            let more : IsRest None draft words known last = record {
+              body = goes_on.0;
+              no_end = goes_on.1.1.0;
+              rest = rest.rest;
+              words_are = goes_on.1.1.1.0;
+              next = rest.next;
+              read = goes_on.1.1.1.1;
+              sections = rest.sections;
+            } in
+            rw goes_on.1.0 more;
         known_are = refl;
-        reads = λ fine. rw goes_on.1.0 refl;
+        reads = λ fine. refl;
       }
     ]
-
-ended-well : (section : Section) (name : List ℕ) (draft next : Drafted) → end_of section name draft ≡ Ok next
-    → ended_with section name draft ≡ Ok (standing Between next)
-ended-well Tech [] draft next e = absurd (cc)
-ended-well Tech (byte ∷ name) draft next e = let same : draft ≡ next = cc in ap (λ (d : Drafted). fine (standing Between d)) same
-ended-well Planes name draft next e = let same : draft ≡ next = cc in ap (λ (d : Drafted). fine (standing Between d)) same
-ended-well Types name draft next e = let same : draft ≡ next = cc in ap (λ (d : Drafted). fine (standing Between d)) same
-ended-well Contact name draft next e = let same : draft ≡ next = cc in ap (λ (d : Drafted). fine (standing Between d)) same
-ended-well Compose name draft next e = let same : draft ≡ next = cc in ap (λ (d : Drafted). fine (standing Between d)) same
-ended-well Connect name draft next e = let same : draft ≡ next = cc in ap (λ (d : Drafted). fine (standing Between d)) same
-ended-well Extract name draft next e = let same : draft ≡ next = cc in ap (λ (d : Drafted). fine (standing Between d)) same
 
 within-reads : (headings : List Heading) (number : ℕ) (section : Section) (draft : Drafted) (first : List ℕ) (others : Words)
     (words : List Words) (known : List Section) (last : Drafted)
@@ -163,33 +156,32 @@ within-reads headings number section draft first others words known last rest =
       | inl ended ↦
           let ends : is_end line ≡ true = ap is_end ended.0 in
           record {
-            state = standing Between rest.next;
+            next = rest.next;
             later = known;
-            at = rw ends refl;
-            remains = ended.1.1;
+            remains = rw ends ended.1.1;
             known_are = refl;
-            reads = λ fine. rw ends (ended-well section draft.raw.name draft rest.next ended.1.0);
+            reads = λ fine. rw ends ended.1.0;
           }
       | inr goes_on ↦
           let whole = and_then-ok (lines_in section draft (line ∷ goes_on.0))
           (λ next. end_of section next.raw.name next) rest.next goes_on.1.1.1.1 in
           let step = and_then-ok (line_in section draft line) (λ next. lines_in section next goes_on.0) whole.0 whole.1.0 in
+          let more : IsRest (Some section) step.0 words known last = record {
+            body = goes_on.0;
+            no_end = goes_on.1.1.0;
+            rest = rest.rest;
+            words_are = goes_on.1.1.1.0;
+            next = rest.next;
+            read = ap (λ (found : Result Drafted TechFault). and_then found (λ next. end_of section next.raw.name next)) step.1.1
+                ∙ whole.1.1;
+            sections = rest.sections;
+          } in
           record {
-            state = standing (Within section) step.0;
+            next = step.0;
             later = known;
-            at = rw goes_on.1.0 refl;
-            remains = record {
-              body = goes_on.0;
-              no_end = goes_on.1.1.0;
-              rest = rest.rest;
-              words_are = goes_on.1.1.1.0;
-              next = rest.next;
-              read = ap (λ (found : Result Drafted TechFault). and_then found (λ next. end_of section next.raw.name next)) step.1.1
-                  ∙ whole.1.1;
-              sections = rest.sections;
-            };
+            remains = rw goes_on.1.0 more;
             known_are = refl;
-            reads = λ fine. rw goes_on.1.0 (ap (in_section section) step.1.0);
+            reads = λ fine. rw goes_on.1.0 step.1.0;
           }
     ]
 
@@ -207,9 +199,8 @@ line-reads : (headings : List Heading) (number : ℕ) (place : Place) (draft : D
     (known : List Section) (last : Drafted)
     → Remains place draft (in_front line words) known last → Reads headings number place draft line words known last
 line-reads headings number place draft [] words known last rest = record {
-  state = standing place draft;
+  next = draft;
   later = known;
-  at = refl;
   remains = rest;
   known_are = rw (no_section place) refl;
   reads = λ fine. refl;
@@ -266,16 +257,16 @@ read-remains headings end number place draft [] known last rest =
 read-remains headings end number place draft (line ∷ lines) known last rest =
     let content = content_of line in
     let here = line-reads headings number place draft content (words_in lines) known last rest in
-    let state = here.state in
-    let on = read-remains headings end (number + 1) state.place state.draft lines here.later last here.remains in
-    let os = openings (number + 1) (after place content) lines in
-    let begin : sections_of os ≡ here.later = ap (λ (p : Place). sections_of (openings (number + 1) p lines)) (sym here.at) ∙ on.begin in
+    let at = after place content in
+    let on = read-remains headings end (number + 1) at here.next lines here.later last here.remains in
+    let os = openings (number + 1) at lines in
     record {
-      begin = opened_sections number (section_at place content) os ∙ ap (with_known (section_at place content)) begin ∙ sym here.known_are;
-      ends = ap (λ (p : Place). place_after p lines) (sym here.at) ∙ on.ends;
+      begin = opened_sections number (section_at place content) os ∙ ap (with_known (section_at place content)) on.begin
+          ∙ sym here.known_are;
+      ends = on.ends;
       reads = λ fine.
           let read = here.reads (λ o inside. fine o (opened_in number (section_at place content) os o inside)) in
-          ap (λ (found : Result Reading TechFault). unless_faulty number found
+          ap (λ (found : Result Drafted TechFault). unless_faulty number (and_then found (λ next. Ok (standing at next)))
           (λ next. first_fault_or (line_step headings end false) (number + 1) next lines)) read
-          ∙ on.reads (λ o inside. fine o (opened_later number (section_at place content) os o (rw (← here.at) inside)));
+          ∙ on.reads (λ o inside. fine o (opened_later number (section_at place content) os o inside));
     }

@@ -9,11 +9,14 @@ use Rattle.finite_sets.specs.Lists.{In}
 use Rattle.tech_model.specs.declared.faults.Section.{Section}
 use Rattle.tech_model.specs.declared.faults.TechFault.{TechFault}
 use Rattle.tech_draft.specs.Drafts.{Drafted}
+use Rattle.tech_draft.proofs.Refusals.{and_then-ok}
+use Rattle.tech_file.specs.declared.outline.Heading.{Heading}
 use Rattle.tech_file.specs.declared.places.Place.{Place}
 use Rattle.tech_file.specs.declared.places.Place.TheVariants.{Between, Skipped, Within}
 use Rattle.tech_file.specs.declared.reading.Reading.{Reading}
 use Rattle.tech_file.specs.Sections.{section_named}
-use Rattle.tech_file.specs.Places.{is_end, name_alone}
+use Rattle.tech_file.specs.Places.{is_end, name_alone, after}
+use Rattle.tech_file.specs.Reading.{standing, draft_after, read_line}
 use Rattle.tech_file.specs.Texts.{TextSection, IsSection, words_of_all, with_known, known_sections, section_in}
 use Rattle.tech_file.specs.Texts.{sections_in}
 
@@ -22,12 +25,21 @@ abbrev pub Words : Type 0
 Words = List (List ℕ)
 
 -- a draft without a fault
-abbrev pub Drafts : Drafted → Result Drafted TechFault
-Drafts draft = Ok draft
+abbrev pub right : Drafted → Result Drafted TechFault
+right draft = Ok draft
 
 -- a reading without a fault
 abbrev pub fine : Reading → Result Reading TechFault
 fine reading = Ok reading
+
+-- a line that is read makes a draft, and the next line stands behind it
+pub line-taken : (headings : List Heading) (number : ℕ) (place : Place) (draft : Drafted) (line : Words) (state : Reading)
+    → read_line headings number place draft line ≡ Ok state
+    → (next : Drafted) × ((draft_after headings number place draft line ≡ Ok next) × (standing (after place line) next ≡ state))
+line-taken headings number place draft line state e =
+    let taken = and_then-ok (draft_after headings number place draft line) (λ next. fine (standing (after place line) next)) state e in
+    let stands : fine (standing (after place line) taken.0) ≡ fine state = taken.1.1 in
+    (taken.0, (taken.1.0, cc))
 
 -- ---- what is left of a text, from where its first line stands
 

@@ -30,8 +30,8 @@ use Rattle.tech_file.specs.Reading.{standing, read_line, line_step, step_in, tex
 use Rattle.tech_file.specs.Reading.{checked_reading, technology_of}
 use Rattle.tech_file.specs.Texts.{known_sections, words_in, AreInOrder, IsTechText, IsTechnologyOf, IsRefusedAt}
 use Rattle.tech_file.proofs.HeadingLaws.{openings, sections_of, in_place-order, order-in_place, begins-somewhere, is-heading}
-use Rattle.tech_file.proofs.TextRests.{AreSections}
-use Rattle.tech_file.proofs.ReadTexts.{line-at, remains-read}
+use Rattle.tech_file.proofs.TextRests.{line-taken, AreSections}
+use Rattle.tech_file.proofs.ReadTexts.{remains-read}
 use Rattle.tech_file.proofs.SectionTexts.{read-remains}
 use Rattle.tech_file.proofs.WholeLaws.{finished_name}
 
@@ -75,7 +75,7 @@ ends-at headings end unended number place draft (line ∷ lines) state e =
     (λ next. first_fault_or (line_step headings end unended) (number + 1) next lines) state e in
     let read = rule-ok (unended && number == end) BadForm (read_line headings number place draft (content_of line)) p.0 p.1 in
     ends-at headings end unended (number + 1) p.0.place p.0.draft lines state p.2
-    ∙ ap (λ (q : Place). place_after q lines) (line-at headings number place draft (content_of line) p.0 read.1)
+    ∙ ap (λ (r : Reading). place_after r.place lines) (sym (line-taken headings number place draft (content_of line) p.0 read.1).1.1)
 
 between : (place : Place) → is_in_section place ≡ false → place ≡ Between
 between Between outside = refl

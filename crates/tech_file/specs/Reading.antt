@@ -4,6 +4,7 @@ use Rattle.std.specs.Option.{option_map, option_or}
 use Rattle.text_scan.specs.Lines.{lines_of}
 use Rattle.text_form.specs.declared.reading.At.{At}
 use Rattle.text_form.specs.Folds.{first_fault_or, last_number}
+use Rattle.text_form.specs.SaidLines.{and_then}
 use Rattle.tech_model.specs.declared.raw.RawTech.{RawTech}
 use Rattle.tech_model.specs.declared.faults.Section.{Section}
 use Rattle.tech_model.specs.declared.faults.Section.TheVariants.{Tech}
@@ -20,54 +21,46 @@ use Rattle.tech_file.specs.declared.outline.Outline.{Outline}
 use Rattle.tech_file.specs.declared.reading.Reading.{Reading}
 use Rattle.tech_file.specs.declared.reading.TechAt.{TechAt}
 use Rattle.tech_file.specs.Sections.{section_named}
-use Rattle.tech_file.specs.Places.{content_of, says_nothing, is_end, name_alone, moved}
+use Rattle.tech_file.specs.Places.{content_of, says_nothing, is_end, name_alone, after}
 use Rattle.tech_file.specs.Outlines.{headings_of, is_too_early, is_second, missing, ends_open}
 
 abbrev pub standing : Place → Drafted → Reading
 standing place draft = record { place = place; draft = draft }
 
--- A section begins: it may be neither too early nor a second one of its name. One that means nothing is skipped.
-abbrev pub begun : List Heading → ℕ → List ℕ → Option Section → Result Place TechFault
-begun headings number word None = Ok Skipped
+-- A section begins: it may be neither too early nor a second one of its name. One that means nothing may stand anywhere.
+abbrev pub begun : List Heading → ℕ → List ℕ → Option Section → Result (Unit {0}) TechFault
+begun headings number word None = Ok tt
 begun headings number word (Some section) =
     if is_too_early headings number section
     then Err BadForm
-    else if is_second headings number section then Err (Twice word) else Ok (Within section)
+    else if is_second headings number section then Err (Twice word) else Ok tt
 
 -- between sections a line has a name alone
-abbrev pub read_between : List Heading → ℕ → Option (List ℕ) → Result Place TechFault
+abbrev pub read_between : List Heading → ℕ → Option (List ℕ) → Result (Unit {0}) TechFault
 read_between headings number None = Err BadForm
 read_between headings number (Some word) = begun headings number word (section_named word)
 
-abbrev pub with_draft : Drafted → Result Place TechFault → Result Reading TechFault
-with_draft draft (Ok place) = Ok (standing place draft)
-with_draft draft (Err fault) = Err fault
+-- A section ends: where `tech` ends, the technology has a name.
+abbrev pub end_of : Section → List ℕ → Drafted → Result Drafted TechFault
+end_of Tech [] draft = Err BadForm
+end_of section name draft = Ok draft
 
--- A section ends. The section `tech` may not be empty.
-abbrev pub ended_with : Section → List ℕ → Drafted → Result Reading TechFault
-ended_with Tech [] draft = Err BadForm
-ended_with _ _ draft = Ok (standing Between draft)
+abbrev pub read_within : Section → Drafted → List (List ℕ) → Result Drafted TechFault
+read_within section draft words = if is_end words then end_of section draft.raw.name draft else line_in section draft words
 
-abbrev pub ended : Section → Drafted → Result Reading TechFault
-ended section draft = ended_with section draft.raw.name draft
-
-abbrev pub in_section : Section → Result Drafted TechFault → Result Reading TechFault
-in_section section (Ok draft) = Ok (standing (Within section) draft)
-in_section section (Err fault) = Err fault
-
-abbrev pub read_within : Section → Drafted → List (List ℕ) → Result Reading TechFault
-read_within section draft words =
-    if is_end words then ended section draft else in_section section (line_in section draft words)
-
--- what a line that says these words does at a place
-abbrev pub read_words : List Heading → ℕ → Place → Drafted → List (List ℕ) → Result Reading TechFault
-read_words headings number Between draft words = with_draft draft (read_between headings number (name_alone words))
-read_words headings number Skipped draft words = Ok (standing (moved Skipped words) draft)
+-- what a line that says these words makes of the draft at a place
+abbrev pub read_words : List Heading → ℕ → Place → Drafted → List (List ℕ) → Result Drafted TechFault
+read_words headings number Between draft words = and_then (read_between headings number (name_alone words)) (λ _. Ok draft)
+read_words headings number Skipped draft words = Ok draft
 read_words headings number (Within section) draft words = read_within section draft words
 
+abbrev pub draft_after : List Heading → ℕ → Place → Drafted → List (List ℕ) → Result Drafted TechFault
+draft_after headings number place draft words = if says_nothing words then Ok draft else read_words headings number place draft words
+
+-- what a line does: the next one stands behind it
 abbrev pub read_line : List Heading → ℕ → Place → Drafted → List (List ℕ) → Result Reading TechFault
 read_line headings number place draft words =
-    if says_nothing words then Ok (standing place draft) else read_words headings number place draft words
+    and_then (draft_after headings number place draft words) (λ next. Ok (standing (after place words) next))
 
 -- The same, but for the last line of a text whose last section has no `end`: there that is the fault.
 abbrev pub line_step : List Heading → ℕ → Bool → ℕ → Reading → List ℕ → Result Reading TechFault

@@ -1,15 +1,13 @@
 -- What the text of a technology is: sections, each a line with its name alone, then lines, then a line `end`.
 use Rattle.std.specs.Prelude.{◌≡◌, ◌≢◌, ◌⊎◌, ◌<◌, not, false, ℕ, List, [], ◌∷◌, ◌++◌, map, filter, Option, Some, None}
-use Rattle.std.specs.Prelude.{Result, Ok, Err, codes, ⊤}
+use Rattle.std.specs.Prelude.{Result, Ok, codes, ⊤}
 use Rattle.finite_sets.specs.Lists.{In}
 use Rattle.text_form.specs.FirstFaults.{IsFirstFault}
 use Rattle.text_form.specs.Folds.{last_number}
 use Rattle.text_form.specs.SaidLines.{and_then}
 use Rattle.tech_model.specs.declared.raw.RawTech.{RawTech}
 use Rattle.tech_model.specs.declared.faults.Section.{Section}
-use Rattle.tech_model.specs.declared.faults.Section.TheVariants.{Tech}
 use Rattle.tech_model.specs.declared.faults.TechFault.{TechFault}
-use Rattle.tech_model.specs.declared.faults.TechFault.TheVariants.{BadForm}
 use Rattle.tech_model.specs.Rules.{rule_fault}
 use Rattle.tech_draft.specs.Drafts.{Drafted, empty_draft}
 use Rattle.tech_draft.specs.Lines.{line_in}
@@ -17,7 +15,7 @@ use Rattle.tech_draft.specs.Finished.{finished}
 use Rattle.tech_file.specs.declared.places.Place.TheVariants.{Between}
 use Rattle.tech_file.specs.declared.reading.TechAt.{TechAt}
 use Rattle.tech_file.specs.Outlines.{headings_of}
-use Rattle.tech_file.specs.Reading.{standing, step_in, whole_fault, EndsWell}
+use Rattle.tech_file.specs.Reading.{standing, end_of, step_in, whole_fault, EndsWell}
 use Rattle.tech_file.specs.Sections.{section_named, rank, required}
 use Rattle.tech_file.specs.Places.{content_of, says_nothing, is_end, name_alone}
 
@@ -58,11 +56,6 @@ AreInOrder (section ∷ sections) = ((other : Section) → In other sections →
 abbrev pub lines_in : Section → Drafted → List (List (List ℕ)) → Result Drafted TechFault
 lines_in section draft [] = Ok draft
 lines_in section draft (words ∷ body) = and_then (line_in section draft words) (λ next. lines_in section next body)
-
--- the end of a section: where `tech` ends, the technology has a name
-abbrev pub end_of : Section → List ℕ → Drafted → Result Drafted TechFault
-end_of Tech [] draft = Err BadForm
-end_of section name draft = Ok draft
 
 -- the draft with a section that means something; of another nothing is read
 abbrev pub section_in : Drafted → Option Section → List (List (List ℕ)) → Result Drafted TechFault

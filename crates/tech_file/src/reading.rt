@@ -3,10 +3,10 @@ ghost use Rattle.std.specs.Prelude.{◌≡◌, ◌≢◌, Ok, Err, IfOk, IfErr, 
 ghost use Rattle.text_scan.specs.Lines.{lines_of};
 ghost use Rattle.tech_model.specs.declared.faults.TechFault.TheVariants.{Memory as OutOfMemory};
 ghost use Rattle.tech_file.specs.Places.{content_of, says_nothing, name_alone};
-ghost use Rattle.tech_file.specs.Reading.{standing, read_between, read_within, read_line, text_reading, told, IsOutline, EndsWell};
+ghost use Rattle.tech_file.specs.Reading.{read_between, read_within, draft_after, text_reading, told, IsOutline, EndsWell};
 
 use crate::outline::{Heading, Outline, is_second, is_too_early};
-use crate::places::{Place, is_end, moved, name_alone, says_nothing};
+use crate::places::{Place, after, is_end, name_alone, says_nothing};
 use crate::sections::section_named;
 use geo_core::Name;
 use std::alloc::Global;
@@ -65,8 +65,8 @@ impl LineReader for Reading {
             &mut self.draft,
             line,
         ) {
-            Ok(next) => {
-                self.place = next;
+            Ok(()) => {
+                self.place = after(self.place, line);
                 Ok(())
             }
             Err(fault) => Err(fault),
@@ -94,7 +94,7 @@ pub fn read_draft(alloc: Global, text: &[u8], outline: &Outline) -> Result<Draft
     }
 }
 
-// Reads a line, and says where the next one stands.
+// Reads a line at a place.
 fn read_line(
     alloc: Global,
     headings: &[Heading],
@@ -102,17 +102,17 @@ fn read_line(
     place: Place,
     draft: &mut Draft,
     line: &[u8],
-) -> Result<Place, TechFault>
-    ensures read { IfOk result (λ next. read_line headings.now number place draft.old (content_of line.now) ≡ Ok (standing next draft.new)) }
+) -> Result<(), TechFault>
+    ensures read { OnOk result (draft_after headings.now number place draft.old (content_of line.now) ≡ Ok draft.new) }
     ensures refused { IfErr result (λ fault. fault ≢ OutOfMemory →
-        read_line headings.now number place draft.old (content_of line.now) ≡ Err fault) }
+        draft_after headings.now number place draft.old (content_of line.now) ≡ Err fault) }
 {
     if says_nothing(line) {
-        return Ok(place);
+        return Ok(());
     }
     match place {
         Place::Between => read_between(alloc, headings, number, line),
-        Place::Skipped => Ok(moved(place, line)),
+        Place::Skipped => Ok(()),
         Place::Within(section) => read_within(section, draft, line),
     }
 }
@@ -123,8 +123,8 @@ fn read_between(
     headings: &[Heading],
     number: usize,
     line: &[u8],
-) -> Result<Place, TechFault>
-    ensures read { IfOk result (λ next. read_between headings.now number (name_alone (content_of line.now)) ≡ Ok next) }
+) -> Result<(), TechFault>
+    ensures read { OnOk result (read_between headings.now number (name_alone (content_of line.now)) ≡ Ok tt) }
     ensures refused { IfErr result (λ fault. fault ≢ OutOfMemory →
         read_between headings.now number (name_alone (content_of line.now)) ≡ Err fault) }
 {
@@ -132,7 +132,7 @@ fn read_between(
         return Err(TechFault::BadForm);
     };
     let Some(section) = section_named(word) else {
-        return Ok(Place::Skipped);
+        return Ok(());
     };
     if is_too_early(headings, number, section) {
         return Err(TechFault::BadForm);
@@ -140,21 +140,20 @@ fn read_between(
     if is_second(headings, number, section) {
         return Err(TechFault::Twice(Name::of(alloc, word)?));
     }
-    Ok(Place::Within(section))
+    Ok(())
 }
 
 // Reads a line in a section.
-fn read_within(section: Section, draft: &mut Draft, line: &[u8]) -> Result<Place, TechFault>
+fn read_within(section: Section, draft: &mut Draft, line: &[u8]) -> Result<(), TechFault>
     requires { says_nothing (content_of line.now) ≡ false }
-    ensures read { IfOk result (λ next. read_within section draft.old (content_of line.now) ≡ Ok (standing next draft.new)) }
+    ensures read { OnOk result (read_within section draft.old (content_of line.now) ≡ Ok draft.new) }
     ensures refused { IfErr result (λ fault. fault ≢ OutOfMemory → read_within section draft.old (content_of line.now) ≡ Err fault) }
 {
     if !is_end(line) {
-        draft.read_line(section, line)?;
-        return Ok(Place::Within(section));
+        return draft.read_line(section, line);
     }
     match section {
         Section::Tech if !draft.name_is_read() => Err(TechFault::BadForm),
-        _ => Ok(Place::Between),
+        _ => Ok(()),
     }
 }
