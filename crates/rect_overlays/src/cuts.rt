@@ -8,6 +8,9 @@ use geo_core::Rect;
 /// How many rectangles are looked at, at most, to choose a cut.
 const SAMPLE: usize = 8;
 
+/// Of so few members any side that cuts is as good as another: to look for the best takes longer than it spares.
+const FEW: usize = 6;
+
 /// A line along which an area is cut.
 #[derive(Clone, Copy)]
 pub enum Cut {
@@ -175,7 +178,7 @@ fn best_cut(rects: &[Rect], area: &Rect, members: &[usize], partial: &Rect) -> C
     ensures { IsInside area.now result }
 {
     let mut best = inner_side(area, partial);
-    if members.len() <= 2 {
+    if members.len() <= FEW {
         return best;
     }
     let mut sample = [*partial; SAMPLE];
