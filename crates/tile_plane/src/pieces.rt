@@ -347,10 +347,21 @@ fn join_columns(store: &mut Store, area: &Rect, hint: u32) -> u32
     ensures grown { AreGrown store.old store.new }
     ensures tall { AreColumnsTall area.now store.new }
 {
+    // The walks begin at the hint: the tiles at which they end may be as wide as the plane.
     let right = join_column(store, area.xhi, area.ylo, area.yhi, hint);
-    let left = join_column(store, area.xlo - 1, area.ylo, area.yhi, right);
-    let first = join_column(store, area.xlo, area.ylo, area.yhi, left);
-    if store.has_tile(hint) { hint } else { first }
+    let near = tile_or(store, hint, right);
+    let left = join_column(store, area.xlo - 1, area.ylo, area.yhi, near);
+    let near = tile_or(store, hint, left);
+    let first = join_column(store, area.xlo, area.ylo, area.yhi, near);
+    tile_or(store, hint, first)
+}
+
+/// The first number where it still stands for a tile, and else the second.
+fn tile_or(store: &Store, id: u32, other: u32) -> u32
+    requires { IsTaken store.now other }
+    ensures { IsTaken store.now result }
+{
+    if store.has_tile(id) { id } else { other }
 }
 
 /// Sets a piece. The tiles are strips before and after. The result is a tile near it.
