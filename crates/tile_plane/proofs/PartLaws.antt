@@ -1,10 +1,10 @@
 -- The parts of tiles in an area: they lie apart, and cover what the tiles have of it.
-use Rattle.std.proofs.Common.{◌≡◌, ◌≢◌, inl, inr, Bool, true, false, cond, ℕ, ◌+◌, ◌<◌, ◌≤◌, ◌≤ℤ◌, ◌<ℤ◌, List, [], ◌∷◌, ◌++◌, length, map, take, filter}
-use Rattle.std.proofs.Common.{get_or, refl, sym, ◌∙◌, ap, subst, arith}
+use Rattle.std.proofs.Common.{◌≡◌, ◌≢◌, inl, inr, Bool, true, ℕ, ◌+◌, ◌<◌, ◌≤◌, ◌≤ℤ◌, ◌<ℤ◌, List, [], ◌∷◌, ◌++◌, length, map, take, filter}
+use Rattle.std.proofs.Common.{append_assoc, get_or, refl, sym, ◌∙◌, ap, subst, arith}
 use Rattle.std.specs.Prelude.{All, AllPairs, IsPermutation}
 use Rattle.std.specs.List.Sorted.{IsSortedByKey}
 use Rattle.std.proofs.lemmas.Int.{ints, clamps}
-use Rattle.std.proofs.lemmas.List.{take_more, take_all, get_or-take, length-take-le}
+use Rattle.std.proofs.lemmas.List.{map-append, take_more, take_all, get_or-take, length-take-le}
 use Rattle.std.proofs.lemmas.List.Sorted.{IsPermutation-sym}
 use Rattle.finite_sets.specs.Lists.{In, Distinct, Lists}
 use Rattle.finite_sets.proofs.Members.{In-append_left, In-append_right, In-append_cases, In-push_cases, In-push, In-map, In-map_source, In-filter}
@@ -156,6 +156,37 @@ near_in_near core area proper within near =
 -- the corner of an area lies in the plane
 pub corner_in_plane : (area : Rect) → IsNear area → IsProper area → Covers plane_range (corner_of area)
 corner_in_plane area near proper = covers_within area plane_range (corner_of area) (near_within area near) (corner_covered area proper)
+
+-- the next thing's image comes behind those of the things before it
+pub one_more_part : {X Y : Type 0} (first so_far : List Y) (xs : List X) (f : X → Y) (index : ℕ) (x : X) → index < length xs
+    → so_far ≡ first ++ map f (take index xs) → so_far ++ f (get_or xs index x) ∷ [] ≡ first ++ map f (take (index + 1) xs)
+one_more_part first so_far xs f index x below is =
+    ap (λ (v : List _). v ++ f (get_or xs index x) ∷ []) is
+    ∙ append_assoc first (map f (take index xs)) (f (get_or xs index x) ∷ [])
+    ∙ ap (λ (v : List _). first ++ v) (sym (map-append f (take index xs) (get_or xs index x ∷ [])))
+    ∙ ap (λ (v : List _). first ++ map f v) (sym (take_more xs index x below))
+
+-- where the tile of the corner goes as far as the area, it is the only one that meets it
+pub alone_listed : (tiles : Tiles) (area : Rect) (id : ℕ) → IsPartition tiles → IsProper area → Owns tiles id (corner_of area)
+    → area.xhi ≤ℤ (tile_at tiles id).area.xhi → area.yhi ≤ℤ (tile_at tiles id).area.yhi → Lists (Meets tiles area) (id ∷ [])
+alone_listed tiles area id partition proper owns wide high = (
+  ((λ none. none), tt),
+  (λ k meets. inl (partition.one id k meets.square (all meets.square meets.covers) meets.owns)),
+  (λ k i. elim i [
+    | inl same ↦ subst (Meets tiles area) same (record { square = corner_of area; owns = owns; covers = corner_covered area proper })
+    | inr none ↦ absurd none
+  ]),
+)
+  where
+    all : (square : Square) → Covers area square → Owns tiles id square
+    all square inside = record {
+      covers = record {
+        right_of_xlo = omega (arith, ints, owns.covers.right_of_xlo);
+        left_of_xhi = omega (arith, ints);
+        above_ylo = omega (arith, ints, owns.covers.above_ylo);
+        below_yhi = omega (arith, ints);
+      };
+    }
 
 -- the pieces of the areas so far
 pub record ArePiecesSoFar (values : Square → ℕ) (areas : List Rect) (pieces : List Piece) : Type 0 where

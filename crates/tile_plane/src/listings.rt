@@ -7,7 +7,7 @@ ghost use Rattle.geo_core.specs.Covering.{IsProper};
 ghost use Rattle.geo_core.specs.Planes.{HasValue, AreTilesIn, IsBox};
 ghost use Rattle.geo_core.specs.Strips.{IsStrips};
 ghost use Rattle.tile_plane.specs.Contents.{IsPlane};
-ghost use Rattle.tile_plane.specs.Listings.{Meets, IsOnSide, IsFollower, AddsAll, AddsParts, ArePiecesIn};
+ghost use Rattle.tile_plane.specs.Listings.{Meets, IsOnSide, IsFollower, AddsAll, AddsParts, ArePiecesIn, part_in};
 ghost use Rattle.tile_plane.specs.Tiles.{value_at, IsTaken, Owns, IsPartition, HasStitches};
 
 use crate::stores::Store;
@@ -174,7 +174,7 @@ fn push_followers(
     Ok(())
 }
 
-/// Adds the parts in the area of all tiles that meet it.
+/// Adds the parts in the area of all tiles that meet it. Where one tile has all of the area, no list of tiles is made.
 fn push_parts(
     alloc: Global,
     parts: &mut Vec<Piece>,
@@ -189,13 +189,26 @@ fn push_parts(
     requires first { Owns store.now first (corner_of area.now) }
     ensures { OnOk result (AddsParts store.now area.now parts.old.items parts.new.items) }
 {
+    let corner = store.get(first).area;
+    if area.xhi <= corner.xhi && area.yhi <= corner.yhi {
+        parts.push(part_in(store, area, first))?;
+        return Ok(());
+    }
     let ids = tiles_meeting(alloc, store, area, first)?;
     for id in &ids {
-        let tile = store.get(*id);
-        parts.push(Piece {
-            area: tile.area.common(area),
-            value: tile.value,
-        })?;
+        parts.push(part_in(store, area, *id))?;
     }
     Ok(())
+}
+
+/// What a tile has of an area.
+fn part_in(store: &Store, area: &Rect, id: u32) -> Piece
+    requires { IsTaken store.now id }
+    ensures { result ≡ part_in store.now area.now id }
+{
+    let tile = store.get(id);
+    Piece {
+        area: tile.area.common(area),
+        value: tile.value,
+    }
 }

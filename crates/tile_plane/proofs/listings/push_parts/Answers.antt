@@ -1,13 +1,25 @@
-use Rattle.std.proofs.Common.{◌≡◌, ℕ, ◌++◌, List, map, take, get_or, ◌∙◌, ap, subst, arith}
+use Rattle.std.proofs.Common.{◌≡◌, ℕ, ◌++◌, ◌∷◌, [], List, map, take, get_or, w64, to_z, of_z, ◌∙◌, ap, subst, arith, rules}
+use Rattle.std.proofs.lemmas.Int.{ints, to_z-of_z}
 use Rattle.std.proofs.lemmas.List.{take_all}
 use Rattle.finite_sets.specs.Lists.{In}
 use Rattle.finite_sets.proofs.Members.{In-get_or}
+use Rattle.geo_core.specs.Areas.{corner_of}
+use Rattle.geo_core.specs.declared.squares.Piece.{Piece}
+use Rattle.tile_plane.specs.declared.tiles.Tile.{Tile}
 use Rattle.tile_plane.specs.Listings.{part_in}
+use Rattle.tile_plane.specs.Tiles.{tile_at}
 use Rattle.tile_plane.proofs.TileLaws.{owner_taken}
+use Rattle.tile_plane.proofs.PartLaws.{alone_listed, one_more_part}
 use Rattle.tile_plane.proofs.listings.push_parts.Goals as goal
 
-pub get-tile-requires : goal.get-tile-requires
-get-tile-requires c =
+pub get-requires : goal.get-requires
+get-requires c = owner_taken c.args.store.now c.args.first (corner_of c.args.area.now) c.requires.first
+
+pub part_in-requires : goal.part_in-requires
+part_in-requires c = owner_taken c.args.store.now c.args.first (corner_of c.args.area.now) c.requires.first
+
+pub part_in-requires-in-loop-id : goal.part_in-requires-in-loop-id
+part_in-requires-in-loop-id c =
     let tiles = c.args.store.now in
     let ids = c.in_ok-ids.ids.items in
     let id = get_or c.deref-id-items.result.now c.loop-id.id-index 0 in
@@ -15,6 +27,36 @@ get-tile-requires c =
     let there : In id ids = subst (In id) c.deref-id-items.ensures.value (In-get_or c.deref-id-items.result.now c.loop-id.id-index 0 (omega arith)) in
     let meets = c.in_ok-ids.ensures.2 id there in
     owner_taken tiles id meets.square meets.owns
+
+pub loop-id-preserved : goal.loop-id-preserved
+loop-id-preserved c =
+    let tiles = c.args.store.now in
+    let area = c.args.area.now in
+    let all = c.deref-id-items.result.now in
+    let index = c.loop-id.id-index in
+    let test = c.loop-id-test.true in
+    c.in_ok-push-2.ensures.items
+    ∙ ap (λ (p : Piece). c.loop-id.parts.items ++ p ∷ []) c.part_in-in-loop-id.ensures
+    ∙ one_more_part c.args.parts.now.items c.loop-id.parts.items all (part_in tiles area) index 0 (omega arith) c.loop-id.invariant
+
+pub returns-then-area-corner-2 : goal.returns-then-area-corner-2
+returns-then-area-corner-2 c =
+    let tiles = c.args.store.now in
+    let area = c.args.area.now in
+    let near = c.requires.near in
+    let right : to_z w64 (of_z w64 c.get.result.area.xhi) ≡ (tile_at tiles c.args.first).area.xhi =
+    to_z-of_z w64 c.get.result.area.xhi (search rules) ∙ ap (λ (t : Tile). t.area.xhi) c.get.ensures in
+    let top : to_z w64 (of_z w64 c.get.result.area.yhi) ≡ (tile_at tiles c.args.first).area.yhi =
+    to_z-of_z w64 c.get.result.area.yhi (search rules) ∙ ap (λ (t : Tile). t.area.yhi) c.get.ensures in
+    let xhi : to_z w64 (of_z w64 area.xhi) ≡ area.xhi = to_z-of_z w64 area.xhi (search rules) in
+    let yhi : to_z w64 (of_z w64 area.yhi) ≡ area.yhi = to_z-of_z w64 area.yhi (search rules) in
+    let wide = c.if-area-corner.true in
+    let high = c.if-area-corner-2.true in
+    record {
+      ids = c.args.first ∷ [];
+      lists = alone_listed tiles area c.args.first c.requires.partition c.requires.proper c.requires.first (omega (arith, ints)) (omega (arith, ints));
+      joined = c.in_ok-push.ensures.items ∙ ap (λ (p : Piece). c.args.parts.now.items ++ p ∷ []) c.part_in.ensures;
+    }
 
 pub returns : goal.returns
 returns c =
