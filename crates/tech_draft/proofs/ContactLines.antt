@@ -1,9 +1,9 @@
 -- What is known of a line of the section `contact` that breaks no rule.
-use Rattle.std.proofs.Common.{◌≡◌, ◌≢◌, ◌+◌, ◌<◌, ◌≤◌, ◌==◌, ◌||◌, ℕ, Bool, true, false, List, [], ◌∷◌, ◌++◌, length, map, filter, refl}
+use Rattle.std.proofs.Common.{◌≡◌, ◌≢◌, ◌+◌, ◌<◌, ◌==◌, ℕ, Bool, true, false, List, [], ◌∷◌, ◌++◌, length, map, filter, refl}
 use Rattle.std.proofs.Common.{sym, ap, subst, ◌∙◌, arith, inl, inr}
-use Rattle.std.specs.Prelude.{IsTrue, not}
+use Rattle.std.specs.Prelude.{IsTrue, Ok, not, nat_lt}
 use Rattle.std.specs.List.{list_any}
-use Rattle.std.proofs.lemmas.Bool.{cases_Bool, cases_eq, or_parts, not-false, not-true, eqb-true, eqb-false, ne_eqb, true≢false}
+use Rattle.std.proofs.lemmas.Bool.{cases_Bool, cases_eq, or_parts, not-false, not-true, ltb-false, eqb-true, eqb-false, ne_eqb, true≢false}
 use Rattle.std.proofs.lemmas.List.{length-map}
 use Rattle.finite_sets.specs.Lists.{In, Distinct}
 use Rattle.finite_sets.proofs.Members.{In-push, In-append_left, In-map, In-map_source, In-filter, In-filter_source, In-filter_passes}
@@ -11,26 +11,20 @@ use Rattle.finite_sets.proofs.Searches.{list_any-In}
 use Rattle.tech_model.specs.declared.raw.LayerId.{LayerId}
 use Rattle.tech_model.specs.declared.raw.TypeId.{TypeId}
 use Rattle.tech_model.specs.declared.raw.RawTech.{RawTech}
+use Rattle.tech_model.specs.declared.faults.TechFault.TheVariants.{BadForm, Twice, ContactPart, TooMany}
+use Rattle.tech_model.specs.declared.faults.Table.TheVariants as tables
 use Rattle.tech_model.specs.declared.limits.TheConstants.{MOST_TYPES}
 use Rattle.tech_model.specs.Types.{type_number, layer_number, is_type, plane_of}
 use Rattle.tech_draft.specs.Drafts.{Drafted}
 use Rattle.tech_draft.specs.Lookups.{has_type, type_of_word, plane_of_word, layer_of_word, is_contact}
-use Rattle.tech_draft.specs.SetLines.{has_number, has_repeat, are_misplaced, is_part, other_residues, residues_of_layer}
+use Rattle.tech_draft.specs.SetLines.{has_number, has_repeat, are_misplaced, is_part, other_residues, residues_of_layer, with_contact}
+use Rattle.tech_draft.specs.SetLines.{new_contact}
+use Rattle.tech_draft.specs.WordRules.{refuse}
+use Rattle.tech_draft.specs.declared.draft.word_rules.WordRule.TheVariants as rule
 use Rattle.tech_draft.specs.Sound.{IsPart}
 use Rattle.tech_draft.proofs.LookupLaws.{IsNamed, part_word, single_word}
-use Rattle.tech_draft.proofs.ContactLayers.{IsContactPlan}
-use Rattle.tech_draft.proofs.ContactSteps.{IsContactLine}
-
--- The words name layers, the residues stand on planes of their own, one of them the base's, and none is a contact or the base.
-pub record KeepsContactRules (draft : Drafted) (base : List ℕ) (residues : List (List ℕ)) : Type 0 where
-  pub some : 1 < length residues
-  pub named : (word : List ℕ) → In word (base ∷ residues) → IsNamed draft.raw word
-  pub placed : are_misplaced draft.raw base residues ≡ false
-  pub simple : is_contact draft.raw base ≡ false
-  pub free : is_part draft (type_of_word draft.raw base) ≡ false
-  pub atoms : (word : List ℕ) → In word residues
-      → (is_contact draft.raw word || (type_of_word draft.raw word).0 == (type_of_word draft.raw base).0) ≡ false
-  pub room : length draft.raw.types + length (other_residues draft.raw base residues) ≤ MOST_TYPES
+use Rattle.tech_draft.proofs.ContactSteps.{IsContactPlan, IsContactLine}
+use Rattle.tech_draft.proofs.Refusals.{right, and_then-ok, rule-ok, none_breaks}
 
 -- ---- planes
 
@@ -137,51 +131,56 @@ other_word raw base residues t inside =
     let source = In-map_source (type_of_word raw) t (filter (is_elsewhere raw base) residues) inside in
     (source.0, (In-filter_source (is_elsewhere raw base) source.0 residues source.1.0, source.1.1))
 
--- there is room for the images
-pub contact_plan : (draft : Drafted) (base : List ℕ) (residues : List (List ℕ)) → KeepsContactRules draft base residues
+-- a line that breaks no rule makes the base's layer a contact with these residues
+pub new_contact-keeps : (draft next : Drafted) (base : List ℕ) (residues : List (List ℕ)) → 1 < length residues
+    → ((word : List ℕ) → In word (base ∷ residues) → IsNamed draft.raw word) → new_contact draft base residues ≡ Ok next
     → IsContactPlan draft.raw (layer_of_word draft.raw base) (type_of_word draft.raw base) (other_residues draft.raw base residues)
-contact_plan draft base residues rules =
-    let raw = draft.raw in
-    let named = rules.named base (inl refl) in
-    record {
-      below = named.below;
-      single = single_word raw base named rules.simple;
-      is_own = named.is;
-      own_layer = named.layer;
-      limit = rules.room;
-      residues = λ t inside.
-          let word = other_word raw base residues t inside in
-          subst (λ (u : TypeId). IsTrue (is_type raw u.0)) word.1.1 (rules.named word.0 (inr word.1.0)).is;
-      planes = other_planes raw base residues rules.placed;
-    }
-
--- the residues may be those of the base's layer
-pub contact_line-keeps : (draft : Drafted) (base : List ℕ) (residues : List (List ℕ)) → KeepsContactRules draft base residues
-    → IsContactLine draft (layer_of_word draft.raw base) (type_of_word draft.raw base) (other_residues draft.raw base residues)
+    × IsContactLine draft (layer_of_word draft.raw base) (type_of_word draft.raw base) (other_residues draft.raw base residues)
     (residues_of_layer draft.raw (layer_of_word draft.raw base) residues)
-contact_line-keeps draft base residues rules =
+    × (right (with_contact draft base residues) ≡ right next)
+new_contact-keeps draft next base residues many named is =
     let raw = draft.raw in
     let own = type_of_word raw base in
     let layer = layer_of_word raw base in
+    let others = other_residues raw base residues in
+    let count = length raw.types + length others in
+    let place = rule-ok (are_misplaced raw base residues) BadForm _ next is in
+    let once = rule-ok (is_contact raw base) (Twice base) _ next place.1 in
+    let part = rule-ok (is_part draft own) (ContactPart base) _ next once.1 in
+    let atoms = and_then-ok (refuse raw (rule.ContactOr own) residues) _ next part.1 in
+    let room = rule-ok (nat_lt MOST_TYPES count) (TooMany tables.Types) (Ok (with_contact draft base residues)) next atoms.1.1 in
     let noted : List ℕ → LayerId × TypeId = λ word. (layer_number layer, type_of_word raw word) in
-    let planes = placed raw base residues rules.placed in
+    let planes = placed raw base residues place.0 in
     let home = number_source (plane_of_word raw) (plane_of_word raw base) residues planes.1 in
-    let free = part_free draft own rules.free in
-    record {
+    let free = part_free draft own part.0 in
+    let of_base = named base (inl refl) in
+    let plan : IsContactPlan raw layer own others = record {
+      below = of_base.below;
+      single = single_word raw base of_base once.0;
+      is_own = of_base.is;
+      own_layer = of_base.layer;
+      limit = ltb-false MOST_TYPES count room.0;
       some = omega (
         arith,
-        others_some raw base residues rules.some planes.0,
+        others_some raw base residues many planes.0,
         length-map (filter (is_elsewhere raw base) residues)
             (type_of_word raw),
       );
+      residues = λ t inside.
+          let word = other_word raw base residues t inside in
+          subst (λ (u : TypeId). IsTrue (is_type raw u.0)) word.1.1 (named word.0 (inr word.1.0)).is;
+      planes = other_planes raw base residues place.0;
+    } in
+    let line : IsContactLine draft layer own others (residues_of_layer raw layer residues) = record {
       unused = λ t inside. eqb-false t own.0 (list_any-In (λ (u : TypeId). u.0 == own.0) draft.used (type_number t) free.1 inside);
       no_residue = λ pair inside. eqb-false pair.1.0 own.0
           (list_any-In (λ (pair : LayerId × TypeId). pair.1.0 == own.0) draft.residues pair free.0 inside);
       residues = λ pair inside.
           let word = In-map_source noted pair residues inside in
-          let rule = or_parts (is_contact raw word.0) ((type_of_word raw word.0).0 == own.0) (rules.atoms word.0 word.1.0) in
+          let kept = or_parts (is_contact raw word.0) ((type_of_word raw word.0).0 == own.0)
+          (none_breaks raw (rule.ContactOr own) residues atoms.1.0 word.0 word.1.0) in
           subst (λ (p : LayerId × TypeId). (p.0.0 ≡ layer) × (IsPart raw p.1.0 × (p.1.0 ≢ own.0))) word.1.1
-          (refl, (part_word raw word.0 (rules.named word.0 (inr word.1.0)) rule.0, eqb-false (type_of_word raw word.0).0 own.0 rule.1));
+          (refl, (part_word raw word.0 (named word.0 (inr word.1.0)) kept.0, eqb-false (type_of_word raw word.0).0 own.0 kept.1));
       home = type_of_word raw home.0;
       home_noted = In-map noted home.0 residues home.1.0;
       home_plane = home.1.1;
@@ -189,4 +188,5 @@ contact_line-keeps draft base residues rules =
           let word = other_word raw base residues t inside in
           subst (λ (u : TypeId). In (layer_number layer, u) (residues_of_layer raw layer residues)) word.1.1
           (In-map noted word.0 residues word.1.0);
-    }
+    } in
+    (plan, line, room.1)

@@ -1,30 +1,114 @@
 -- What a line of the section `contact` keeps and adds: the images of a layer.
-use Rattle.std.proofs.Common.{◌≡◌, ◌≢◌, ◌+◌, ◌<◌, ℕ, List, [], ◌++◌, length, get_or, refl, sym, ap}
-use Rattle.std.proofs.Common.{subst, ◌∙◌, arith, inl, inr}
+use Rattle.std.proofs.Common.{◌≡◌, ◌≢◌, ◌+◌, ◌-◌, ◌<◌, ◌≤◌, ℕ, List, [], ◌∷◌, ◌++◌, length, map, get_or, refl, sym, ap, subst, ◌∙◌, arith}
+use Rattle.std.proofs.Common.{inl, inr, length-append}
 use Rattle.std.specs.Prelude.{IsTrue}
-use Rattle.std.proofs.lemmas.Bool.{cases_eq}
-use Rattle.std.proofs.lemmas.List.{append-nil}
+use Rattle.std.proofs.lemmas.List.{length-map, length-set, get_or-map, get_or-set_same, get_or-set_other}
 use Rattle.std.proofs.lemmas.List.FromFn.{length-map-range_with_len}
-use Rattle.finite_sets.specs.Lists.{In}
+use Rattle.std.proofs.lemmas.List.Elements.{All-set}
+use Rattle.finite_sets.specs.Lists.{In, Distinct}
 use Rattle.finite_sets.proofs.Members.{In-append_right, In-get_or}
 use Rattle.tech_model.specs.declared.raw.LayerId.{LayerId}
 use Rattle.tech_model.specs.declared.raw.TypeId.{TypeId}
 use Rattle.tech_model.specs.declared.raw.TypeRec.{TypeRec}
+use Rattle.tech_model.specs.declared.raw.LayerRec.{LayerRec}
 use Rattle.tech_model.specs.declared.raw.RawTech.{RawTech}
-use Rattle.tech_model.specs.Types.{type_number, layer_number, is_type, type_at, plane_of, layer_of}
-use Rattle.tech_model.proofs.JoinedLaws.{parts_at}
-use Rattle.tech_model.proofs.WellFormedLaws.{type_from_bounds}
+use Rattle.tech_model.specs.declared.limits.TheConstants.{MOST_TYPES}
+use Rattle.tech_model.specs.Types.{type_number, layer_number, is_type, layer_at, plane_of, layer_of, images_of, no_type, no_layer}
+use Rattle.tech_model.specs.WellFormed.{IsLayer}
 use Rattle.tech_draft.specs.Drafts.{Drafted}
-use Rattle.tech_draft.specs.SetLines.{mark_bit, with_images}
+use Rattle.tech_draft.specs.SetLines.{image_record, next_types, with_images}
 use Rattle.tech_draft.specs.Sound.{HasImages, IsPart, IsImage, HasSoundLayers, HasSoundSets}
-use Rattle.tech_draft.proofs.Keeps.{kept_type}
-use Rattle.tech_draft.proofs.Steps.{IsSame, IsSoundType, IsStep, same_images, same_part}
-use Rattle.tech_draft.proofs.ContactLayers.{IsContactPlan, images-length, old_at, own_at, new_at, images_cases, images-keeps, images_here, images_elsewhere, own_only}
+use Rattle.tech_draft.proofs.Growths.{IsGrown, planes_of, grown, grown_at, grown-keeps, grown_cases, grown_layer, grown_layers, grown_step}
+use Rattle.tech_draft.proofs.Keeps.{kept_layers, apart_set}
+use Rattle.tech_draft.proofs.Steps.{IsStep}
+
+-- The layer has this one image, and there is room for a type on another plane for each of the other residues.
+pub record IsContactPlan (raw : RawTech) (layer : ℕ) (own : TypeId) (others : List TypeId) : Type 0 where
+  pub below : layer < length raw.layers
+  pub single : images_of raw layer ≡ own ∷ []
+  pub is_own : IsTrue (is_type raw own.0)
+  pub own_layer : layer_of raw own.0 ≡ layer
+  pub limit : length raw.types + length others ≤ MOST_TYPES
+  pub some : 0 < length others
+  pub residues : (t : TypeId) → In t others → IsTrue (is_type raw t.0)
+  pub planes : Distinct (plane_of raw own.0 ∷ map (λ t. plane_of raw t.0) others)
+
+-- the record of a new image
+image_at : (raw : RawTech) (layer : ℕ) (others : List TypeId) (d : TypeId) (k : ℕ) → k < length (map (image_record raw layer) others)
+    → get_or (map (image_record raw layer) others) k no_type ≡ image_record raw layer (get_or others k d)
+image_at raw layer others d k below =
+    get_or-map (image_record raw layer) others k d no_type (omega (arith, below, length-map others (image_record raw layer)))
+
+-- the images of the layer are its own one and the next types
+images_are : (raw : RawTech) (layer : ℕ) (own : TypeId) (others : List TypeId) → IsContactPlan raw layer own others
+    → own ∷ next_types raw (length others) ≡ images_of raw layer ++ next_types raw (length (map (image_record raw layer) others))
+images_are raw layer own others plan =
+    ap (λ (n : ℕ). own ∷ next_types raw n) (sym (length-map others (image_record raw layer)))
+    ∙ ap (λ (ts : List TypeId). ts ++ next_types raw (length (map (image_record raw layer) others))) (sym plan.single)
+
+-- the new types are images of the layer
+pub images_growth : (raw : RawTech) (layer : ℕ) (own : TypeId) (others : List TypeId) → IsContactPlan raw layer own others
+    → IsGrown raw (with_images raw layer own others) layer (map (image_record raw layer) others)
+images_growth raw layer own others plan =
+    let more : LayerRec = record (layer_at raw layer) { images = own ∷ next_types raw (length others) } in
+    let layers : length (with_images raw layer own others).layers ≡ length raw.layers = length-set raw.layers layer more in
+    record {
+      types = refl;
+      of = λ k below. ap (λ (kind : TypeRec). kind.layer.0) (image_at raw layer others own k below);
+      more_layers = omega (arith, layers);
+      below = omega (arith, layers, plan.below);
+      others = λ l below apart. omega (arith, layers, below);
+      here = ap (λ (l : LayerRec). l.images) (get_or-set_same raw.layers layer more no_layer plan.below)
+          ∙ images_are raw layer own others plan;
+      elsewhere = λ l apart. ap (λ (l : LayerRec). l.images) (get_or-set_other raw.layers layer l more no_layer apart);
+    }
+
+-- ---- the layers after it
+
+-- a type of the layer is its one image
+own_only : (raw : RawTech) (layer : ℕ) (own : TypeId) (others : List TypeId) (t : ℕ) → HasSoundLayers raw → IsContactPlan raw layer own others
+    → IsTrue (is_type raw t) → layer_of raw t ≡ layer → t ≡ own.0
+own_only raw layer own others t sound plan is here =
+    let among : In (type_number t) (own ∷ []) = rw plan.single at (rw here at (sound.is_image t is)) in
+    elim among [ inl same ↦ ap (λ (u : TypeId). u.0) (sym same) | inr none ↦ absurd none ]
+
+planes_are : (raw : RawTech) (layer : ℕ) (others : List TypeId)
+    → planes_of (map (image_record raw layer) others) ≡ map (λ t. plane_of raw t.0) others
+planes_are raw layer [] = refl
+planes_are raw layer (t ∷ others) = ap (λ (ps : List ℕ). plane_of raw t.0 ∷ ps) (planes_are raw layer others)
+
+-- the images of a contact keep the layers sound
+pub images_layers : (raw : RawTech) (layer : ℕ) (own : TypeId) (others : List TypeId) → HasSoundLayers raw
+    → IsContactPlan raw layer own others → HasSoundLayers (with_images raw layer own others)
+images_layers raw layer own others sound plan =
+    let next = with_images raw layer own others in
+    let g = images_growth raw layer own others plan in
+    let new = map (image_record raw layer) others in
+    let many = length-map others (image_record raw layer) in
+    let images = own ∷ next_types raw (length others) in
+    let more : LayerRec = record (layer_at raw layer) { images = images } in
+    let count : length next.layers ≡ length raw.layers = length-set raw.layers layer more in
+    let was = sound.layers layer no_layer plan.below in
+    let long : length next.types ≡ length raw.types + length new = length-append raw.types new in
+    let differ : Distinct (map (λ t. plane_of raw t.0) (own ∷ []) ++ planes_of new) =
+    subst (λ (ps : List ℕ). Distinct (plane_of raw own.0 ∷ ps)) (sym (planes_are raw layer others)) plan.planes in
+    let one : IsLayer next more = grown_layer g (layer_at raw layer).names images sound was.named was.names
+    (images_are raw layer own others plan) (omega (arith, many, plan.some))
+    (subst (λ (ts : List TypeId). Distinct (map (λ t. plane_of raw t.0) ts ++ planes_of new)) (sym plan.single) differ) in
+    grown_layers g sound (omega (arith, many, plan.limit)) (omega (arith, long, count, sound.limit))
+    (All-set (IsLayer next) raw.layers layer more one (kept_layers raw next (grown-keeps g) raw.layers sound.layers))
+    (apart_set (λ (l : LayerRec). l.names) raw.layers layer more no_layer refl sound.names_differ)
+    (λ k below.
+    let residue = get_or others k own in
+    let on = sound.type_planes residue.0 (plan.residues residue (In-get_or others k own (omega (arith, below, many)))) in
+    subst (λ (kind : TypeRec). kind.plane < length raw.planes) (sym (image_at raw layer others own k below)) on)
+    (omega arith)
+
+-- ---- the sets after it
 
 -- The own image is no part so far, each residue is no contact, and one stands on the plane of each image.
 pub record IsContactLine (draft : Drafted) (layer : ℕ) (own : TypeId) (others : List TypeId)
     (noted : List (LayerId × TypeId)) : Type 0 where
-  pub some : 0 < length others
   pub unused : (t : ℕ) → In (type_number t) draft.used → t ≢ own.0
   pub no_residue : (pair : LayerId × TypeId) → In pair draft.residues → pair.1.0 ≢ own.0
   pub residues : (pair : LayerId × TypeId) → In pair noted → (pair.0.0 ≡ layer) × (IsPart draft.raw pair.1.0 × (pair.1.0 ≢ own.0))
@@ -35,77 +119,34 @@ pub record IsContactLine (draft : Drafted) (layer : ℕ) (own : TypeId) (others 
 
 -- what becomes of the draft
 abbrev pub after : Drafted → ℕ → TypeId → List TypeId → List (LayerId × TypeId) → Drafted
-after draft layer own others noted = record draft { raw = with_images draft.raw layer own others; residues = draft.residues ++ noted }
+after draft layer own others noted = grown draft (with_images draft.raw layer own others) (draft.residues ++ noted)
 
--- a type that is not the own image is as it was
-same_other : (raw : RawTech) (layer : ℕ) (own : TypeId) (others : List TypeId) (t : ℕ) → HasSoundLayers raw
-    → IsContactPlan raw layer own others
-    → IsTrue (is_type raw t) → t ≢ own.0 → IsSame raw (with_images raw layer own others) t
-same_other raw layer own others t sound plan is other =
-    let next = with_images raw layer own others in
-    let elsewhere : layer_of raw t ≢ layer = λ here. other (own_only raw layer own others t sound plan is here) in
-    record {
-      was = is;
-      images = ap length (images_elsewhere raw layer (layer_of raw t) own others elsewhere);
-      set = parts_at next t (kept_type raw next (images-keeps raw layer own others plan.is_own) t is)
-          ∙ ap (λ (kind : TypeRec). kind.parts.0) (old_at raw layer own others t plan.is_own is other) ∙ sym (parts_at raw t is);
-    }
-
-many_images : (raw : RawTech) (layer : ℕ) (own : TypeId) (others : List TypeId) → layer < length raw.layers → 0 < length others
-    → HasImages (with_images raw layer own others) layer
-many_images raw layer own others below some =
-    let count = length-map-range_with_len type_number (length raw.types + 1) (length others) in
-    rw (images_here raw layer own others below) (omega (arith, count, some))
-
--- a type with the record of an image is one
-image_with : (draft : Drafted) (layer t : ℕ) (own residue : TypeId) (others : List TypeId) (noted : List (LayerId × TypeId))
+-- a type of the layer is an image with a residue
+image_sound : (draft : Drafted) (layer t : ℕ) (own : TypeId) (others : List TypeId) (noted : List (LayerId × TypeId))
+    → HasSoundLayers draft.raw → IsContactPlan draft.raw layer own others → IsContactLine draft layer own others noted
     → IsTrue (is_type (with_images draft.raw layer own others) t) → layer_of (with_images draft.raw layer own others) t ≡ layer
-    → (type_at (with_images draft.raw layer own others) t).parts.0 ≡ mark_bit layer → In (layer_number layer, residue) noted
-    → plane_of (with_images draft.raw layer own others) residue.0 ≡ plane_of (with_images draft.raw layer own others) t
     → IsImage (after draft layer own others noted) t
-image_with draft layer t own residue others noted is here mark inside plane =
-    let next = with_images draft.raw layer own others in
-    record {
-      mark = parts_at next t is ∙ mark ∙ ap mark_bit (sym here);
+image_sound draft layer t own others noted layers plan line is here =
+    let raw = draft.raw in
+    let next = with_images raw layer own others in
+    let g = images_growth raw layer own others plan in
+    let keeps = grown-keeps g in
+    let image : (residue : TypeId) → In (layer_number layer, residue) noted → plane_of raw residue.0 ≡ plane_of next t
+    → IsImage (after draft layer own others noted) t = λ residue inside plane. record {
       residue = residue;
       noted = rw here (In-append_right (layer_number layer, residue) draft.residues noted inside);
-      plane = plane;
-    }
-
-own_image : (draft : Drafted) (layer : ℕ) (own : TypeId) (others : List TypeId) (noted : List (LayerId × TypeId))
-    → IsContactPlan draft.raw layer own others
-    → IsContactLine draft layer own others noted → IsImage (after draft layer own others noted) own.0
-own_image draft layer own others noted plan line =
-    let next = with_images draft.raw layer own others in
-    let keeps = images-keeps draft.raw layer own others plan.is_own in
-    let home = (line.residues (layer_number layer, line.home) line.home_noted).1.0 in
-    image_with draft layer own.0 own line.home others noted (kept_type draft.raw next keeps own.0 plan.is_own)
-    (keeps.layers own.0 plan.is_own ∙ plan.own_layer)
-    (ap (λ (kind : TypeRec). kind.parts.0) (own_at draft.raw layer own others plan.is_own)) line.home_noted
-    (keeps.planes line.home.0 home.is ∙ line.home_plane ∙ sym (keeps.planes own.0 plan.is_own))
-
-added_image : (draft : Drafted) (layer : ℕ) (own : TypeId) (others : List TypeId) (noted : List (LayerId × TypeId)) (k : ℕ)
-    → IsContactPlan draft.raw layer own others
-    → IsContactLine draft layer own others noted → k < length others
-    → IsImage (after draft layer own others noted) (length draft.raw.types + 1 + k)
-added_image draft layer own others noted k plan line below =
-    let next = with_images draft.raw layer own others in
-    let keeps = images-keeps draft.raw layer own others plan.is_own in
-    let residue = get_or others k own in
-    let inside = line.others_noted residue (In-get_or others k own below) in
-    let part = (line.residues (layer_number layer, residue) inside).1.0 in
-    let at = new_at draft.raw layer own others k plan.is_own below in
-    image_with draft layer (length draft.raw.types + 1 + k) own residue others noted
-    (type_from_bounds next (length draft.raw.types + 1 + k) (omega arith) (omega (arith, below, images-length draft.raw layer own others)))
-    (ap (λ (kind : TypeRec). kind.layer.0) at) (ap (λ (kind : TypeRec). kind.parts.0) at) inside
-    (keeps.planes residue.0 part.is ∙ sym (ap (λ (kind : TypeRec). kind.plane) at))
-
-sound_image : (draft : Drafted) (layer t : ℕ) (own : TypeId) (others : List TypeId) (noted : List (LayerId × TypeId))
-    → layer < length draft.raw.layers → 0 < length others
-    → layer_of (with_images draft.raw layer own others) t ≡ layer → IsImage (after draft layer own others noted) t
-    → IsSoundType (after draft layer own others noted) t
-sound_image draft layer t own others noted below some here image =
-    inr (subst (HasImages (with_images draft.raw layer own others)) (sym here) (many_images draft.raw layer own others below some), image)
+      plane = keeps.planes residue.0 (line.residues (layer_number layer, residue) inside).1.0.is ∙ plane;
+    } in
+    elim (grown_cases g t is) [
+      | inl old ↦
+          let same = own_only raw layer own others t layers plan old (sym (keeps.layers t old) ∙ here) in
+          image line.home line.home_noted (line.home_plane ∙ ap (plane_of raw) (sym same) ∙ sym (keeps.planes t old))
+      | inr added ↦
+          let residue = get_or others added.0 own in
+          let few : added.0 < length others = omega (arith, added.1.0, length-map others (image_record raw layer)) in
+          image residue (line.others_noted residue (In-get_or others added.0 own few))
+          (sym (ap (plane_of next) added.1.1 ∙ ap (λ (kind : TypeRec). kind.plane) (grown_at g added.0 ∙ image_at raw layer others own added.0 added.1.0)))
+    ]
 
 -- a line that makes a layer a contact
 pub contact_step : (draft : Drafted) (layer : ℕ) (own : TypeId) (others : List TypeId) (noted : List (LayerId × TypeId))
@@ -115,42 +156,19 @@ pub contact_step : (draft : Drafted) (layer : ℕ) (own : TypeId) (others : List
 contact_step draft layer own others noted layers sets plan line =
     let raw = draft.raw in
     let next = with_images raw layer own others in
-    let new = after draft layer own others noted in
-    let keeps = images-keeps raw layer own others plan.is_own in
-    let many = many_images raw layer own others plan.below line.some in
-    let same : (t : ℕ) → IsTrue (is_type raw t) → t ≢ own.0
-    → IsSame raw next t = λ t is other. same_other raw layer own others t layers plan is other in
-    record {
-      more_used = [];
-      more_residues = noted;
-      keeps = keeps;
-      used = sym (append-nil draft.used);
-      residues = refl;
-      types = λ t is. elim (images_cases raw layer own others t is) [
-        | inl here ↦ inr (subst (IsSoundType new) (sym here)
-            (sound_image draft layer own.0 own others noted plan.below line.some (keeps.layers own.0 plan.is_own ∙ plan.own_layer)
-            (own_image draft layer own others noted plan line)))
-        | inr rest ↦ elim rest [
-          | inl before ↦ inl (same t before.0 before.1)
-          | inr added ↦ inr (subst (IsSoundType new) (sym added.1.1)
-              (sound_image draft layer (length raw.types + 1 + added.0) own others noted plan.below line.some
-              (ap (λ (kind : TypeRec). kind.layer.0) (new_at raw layer own others added.0 plan.is_own added.1.0))
-              (added_image draft layer own others noted added.0 plan line added.1.0)))
-        ]
-      ];
-      same_used = λ t inside. same t (sets.used t inside).is (line.unused t inside);
-      contacts = λ l had. elim (cases_eq l layer) [
-        | inl here ↦ subst (HasImages next) (sym here) many
-        | inr elsewhere ↦ omega (arith, had, ap length (images_elsewhere raw layer l own others elsewhere))
-      ];
-      simple_residues = λ pair inside.
-          let was = (sets.residues pair inside).1 in
-          same_images raw next pair.1.0 keeps (same pair.1.0 was.is (line.no_residue pair inside)) ∙ was.simple;
-      new_used = λ t absent. absurd absent;
-      new_residues = λ pair inside.
-          let residue = line.residues pair inside in (
-            subst (HasImages next) (sym residue.0) many,
-            same_part raw next pair.1.0 keeps
-                (same pair.1.0 residue.1.0.is residue.1.1) residue.1.0.simple,
-          );
-    }
+    let g = images_growth raw layer own others plan in
+    let count = length-map-range_with_len type_number (length raw.types + 1) (length others) in
+    let many : HasImages next layer = omega (
+      arith,
+      ap length (g.here ∙ sym (images_are raw layer own others plan)),
+      count,
+      plan.some,
+    ) in
+    let only : (t : ℕ) → IsTrue (is_type raw t) → t ≢ own.0 → layer_of raw t ≢ layer =
+    λ t is other here. other (own_only raw layer own others t layers plan is here) in
+    grown_step draft g (draft.residues ++ noted) noted sets refl
+    (λ t is here. inr (subst (HasImages next) (sym here) many, image_sound draft layer t own others noted layers plan line is here))
+    (λ t is inside. only t is (line.unused t inside)) (λ pair is inside. only pair.1.0 is (line.no_residue pair inside))
+    (λ pair inside.
+    let residue = line.residues pair inside in
+    (subst (HasImages next) (sym residue.0) many, (residue.1.0, only pair.1.0 residue.1.0.is residue.1.1)))

@@ -3,7 +3,6 @@ use Rattle.std.proofs.Common.{◌≡◌, ◌≢◌, ◌<◌, ◌≤◌, ◌-◌,
 use Rattle.std.proofs.Common.{get_or, bit_or, refl, sym, ap, subst, ◌∙◌, arith, inl, inr}
 use Rattle.std.specs.Prelude.{IsTrue, Option, Some, None, find}
 use Rattle.std.specs.Int.{bit_at}
-use Rattle.std.specs.Int.Bits.{or_zero_r}
 use Rattle.std.proofs.lemmas.Bool.{cases_eq, eq-eqb, ne_eqb, eqb-true, and_parts, true≢false}
 use Rattle.std.proofs.lemmas.List.{length-map, get_or-map}
 use Rattle.std.proofs.lemmas.Nat.{or_comm}
@@ -23,8 +22,7 @@ use Rattle.tech_model.proofs.JoinedLaws.{parts_at}
 use Rattle.tech_model.proofs.WellFormedLaws.{type_bounds}
 use Rattle.tech_model.proofs.SetLaws.{or_bit_cases, bit_cases}
 use Rattle.tech_draft.specs.Drafts.{Drafted}
-use Rattle.tech_draft.specs.SetLines.{mark_bit}
-use Rattle.tech_draft.specs.Finished.{is_residue_of, residue_parts, finished_type, finished}
+use Rattle.tech_draft.specs.Finished.{is_residue_of, mark_bit, set_with, finished_type, finished}
 use Rattle.tech_draft.specs.Sound.{IsMadeOf, atom, composed, HasImages, IsPart, IsImage, HasSoundLayers, HasSoundSets, IsSound}
 use Rattle.tech_draft.proofs.Keeps.{Keeps, kept_type, kept_rules, HasSamePlaces, places-keep, same_type, places-layers}
 use Rattle.tech_draft.proofs.Steps.{IsSame, same_part, union_same}
@@ -65,13 +63,12 @@ abbrev residue_of : Drafted → ℕ → Option (LayerId × TypeId)
 residue_of draft t = find (is_residue_of draft.raw (type_at draft.raw t)) draft.residues
 
 whole_parts : (draft : Drafted) (t : ℕ) → IsTrue (is_type draft.raw t)
-    → parts_of (whole draft) t ≡ bit_or (parts_of draft.raw t) (residue_parts draft.raw (residue_of draft t))
+    → parts_of (whole draft) t ≡ set_with draft.raw (type_at draft.raw t) (residue_of draft t)
 whole_parts draft t is =
     let bounds = type_bounds draft.raw t is in
     parts_at (whole draft) t (kept_type draft.raw (whole draft) (whole-keeps draft) t is)
     ∙ ap (λ (kind : TypeRec). kind.parts.0)
     (get_or-map (finished_type draft) draft.raw.types (t - 1) no_type no_type (omega (arith, bounds.0, bounds.1)))
-    ∙ ap (λ (n : ℕ). bit_or n (residue_parts draft.raw (residue_of draft t))) (sym (parts_at draft.raw t is))
 
 -- ---- types that are no contacts
 
@@ -91,8 +88,7 @@ simple_same draft t sets part = record {
   was = part.is;
   images = refl;
   set = whole_parts draft t part.is
-      ∙ ap (λ o. bit_or (parts_of draft.raw t) (residue_parts draft.raw o)) (no_residue draft t sets part.simple)
-      ∙ or_zero_r (parts_of draft.raw t);
+      ∙ ap (set_with draft.raw (type_at draft.raw t)) (no_residue draft t sets part.simple) ∙ sym (parts_at draft.raw t part.is);
 }
 
 simple_set : (draft : Drafted) (t : ℕ) → HasSoundSets draft → IsMadeOf draft.raw draft.used t → IsPart draft.raw t → HasSet (whole draft) t
@@ -157,8 +153,8 @@ found_residue draft t (Some pair) sets is image some =
       residue = pair.1;
       part = (sets.residues pair (find-In test draft.residues pair some)).1;
       plane = eqb-true (plane_of draft.raw pair.1.0) (plane_of draft.raw t) both.1;
-      set = whole_parts draft t is ∙ ap (λ o. bit_or (parts_of draft.raw t) (residue_parts draft.raw o)) some
-          ∙ ap (λ (n : ℕ). bit_or n (parts_of draft.raw pair.1.0)) image.mark;
+      set = whole_parts draft t is ∙ ap (set_with draft.raw (type_at draft.raw t)) some
+          ∙ ap (λ (l : ℕ). bit_or (mark_bit l) (parts_of draft.raw pair.1.0)) (eqb-true pair.0.0 (layer_of draft.raw t) both.0);
     }
 
 has_residue : (draft : Drafted) (t : ℕ) → HasSoundSets draft → IsTrue (is_type draft.raw t) → HasImages draft.raw (layer_of draft.raw t)

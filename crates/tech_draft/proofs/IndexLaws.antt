@@ -1,25 +1,28 @@
 -- What a line leaves: the index has the names of the layers, and the tables keep their limits.
 use Rattle.std.specs.Prelude.{◌≡◌, ◌+◌, ◌<◌, ◌≤◌, ◌||◌, ℕ, Bool, true, false, cond, zero, suc, is_some, if◌then◌else◌, List, [], ◌∷◌, ◌++◌}
-use Rattle.std.specs.Prelude.{length, slice_set, slice_index_or, unwrap_or, Option, Some, None, Ok}
+use Rattle.std.specs.Prelude.{length, All, slice_set, slice_index_or, unwrap_or, Option, Some, None, Ok}
 use Rattle.std.specs.List.{position_from, list_any}
 use Rattle.std.specs.Str.{bytes_eq}
-use Rattle.std.proofs.Common.{refl, ap, ◌∙◌, sym, arith, length-append, inl, inr}
+use Rattle.std.proofs.Common.{refl, ap, subst, ◌∙◌, sym, arith, length-append, inl, inr}
 use Rattle.std.proofs.lemmas.Bool.{cases_Bool, or_cases}
 use Rattle.std.proofs.lemmas.List.{length-map, length-set}
 use Rattle.std.proofs.lemmas.Slice.Eq.{bytes_eq-Decides}
-use Rattle.finite_sets.proofs.Searches.{position_from-below, position_from-push_fails, position_from-push_passes}
+use Rattle.finite_sets.proofs.Members.{In-append_cases, In-map_source}
+use Rattle.finite_sets.proofs.Searches.{All-from_In, position_from-below, position_from-push_fails, position_from-push_passes}
+use Rattle.tech_model.specs.declared.raw.LayerId.{LayerId}
 use Rattle.tech_model.specs.declared.raw.TypeId.{TypeId}
 use Rattle.tech_model.specs.declared.raw.LayerRec.{LayerRec}
 use Rattle.tech_model.specs.declared.raw.RawTech.{RawTech}
 use Rattle.tech_model.specs.declared.faults.TechFault.TheVariants.{Twice}
 use Rattle.tech_model.specs.declared.limits.TheConstants.{MOST_TYPES}
 use Rattle.tech_model.specs.LayerWords.{layer_in}
-use Rattle.tech_model.specs.Types.{layer_named, has_name, no_layer}
+use Rattle.tech_model.specs.Types.{layer_named, layer_number, has_name, no_layer}
+use Rattle.tech_model.proofs.WellFormedLaws.{All_In}
 use Rattle.tech_draft.specs.declared.draft.Draft.TheInside.{Inside}
 use Rattle.tech_draft.specs.Kept.{draft_of, IsKept}
-use Rattle.tech_draft.specs.Lookups.{layer_of_word}
+use Rattle.tech_draft.specs.Lookups.{layer_of_word, type_of_word}
 use Rattle.tech_draft.specs.TypeLines.{new_names, with_atom, atom_layer}
-use Rattle.tech_draft.specs.SetLines.{with_images, next_types}
+use Rattle.tech_draft.specs.SetLines.{with_images, next_types, residues_of_layer}
 use Rattle.tech_draft.proofs.Refusals.{rule-ok}
 
 below_or_zero : (o : Option ℕ) (n : ℕ) → 0 < n → ((k : ℕ) → o ≡ Some k → k < n) → unwrap_or o 0 < n
@@ -67,8 +70,8 @@ pub atom-kept : (before after : Inside) (plane : ℕ) (names : List (List ℕ)) 
     → new_names (draft_of before).raw [] names ≡ Ok tt
     → ((word : List ℕ) → layer_in after.index word
     ≡ (if list_any (bytes_eq word) names then Some (length before.layers.items) else layer_in before.index word))
-    → (draft_of after).raw ≡ with_atom (draft_of before).raw plane names → IsKept after
-atom-kept before after plane names kept room new indexed is =
+    → after.residues.items ≡ before.residues.items → (draft_of after).raw ≡ with_atom (draft_of before).raw plane names → IsKept after
+atom-kept before after plane names kept room new indexed residues is =
     let raw = (draft_of before).raw in
     let types : length (draft_of after).raw.types ≡ length raw.types + 1 = ap (λ (r : RawTech). length r.types) is
     ∙ simp length-append refl in
@@ -86,9 +89,23 @@ atom-kept before after plane names kept room new indexed is =
         types_limit = omega (arith, types, room);
         layers_limit = omega (arith, types, layers, had.layers_limit);
       };
+      marked = subst (All (λ (pair : LayerId × TypeId). pair.0.0 < MOST_TYPES)) (sym residues) kept.marked;
     }
 
 -- ---- images of a contact
+
+-- the residues of a layer are of layers that there may be
+pub noted-kept : (raw : RawTech) (residues : List (LayerId × TypeId)) (layer : ℕ) (words : List (List ℕ)) → layer < MOST_TYPES
+    → All (λ pair. pair.0.0 < MOST_TYPES) residues → All (λ pair. pair.0.0 < MOST_TYPES) (residues ++ residues_of_layer raw layer words)
+noted-kept raw residues layer words below all =
+    let few : LayerId × TypeId → Type 0 = λ pair. pair.0.0 < MOST_TYPES in
+    All-from_In few (residues ++ residues_of_layer raw layer words) (λ pair inside.
+    elim (In-append_cases pair residues (residues_of_layer raw layer words) inside) [
+      | inl before ↦ All_In few residues pair all before
+      | inr added ↦
+          let source = In-map_source (λ (word : List ℕ). (layer_number layer, type_of_word raw word)) pair words added in
+          subst few source.1.1 below
+    ])
 
 names_stay : (word : List ℕ) (images : List TypeId) (layers : List LayerRec) (i n : ℕ)
     → position_from (has_name word) i (slice_set layers n (record (slice_index_or layers n no_layer) { images = images }))
@@ -100,12 +117,12 @@ names_stay word images (layer ∷ layers) i (suc n) = ap (λ (rest : Option ℕ)
 
 -- the images of a contact keep what every draft keeps
 pub images-kept : (before after : Inside) (layer : ℕ) (own : TypeId) (others : List TypeId) → IsKept before → after.index ≡ before.index
-    → length (draft_of before).raw.types + length others ≤ MOST_TYPES
+    → after.residues.items ≡ before.residues.items → length (draft_of before).raw.types + length others ≤ MOST_TYPES
     → (draft_of after).raw ≡ with_images (draft_of before).raw layer own others → IsKept after
-images-kept before after layer own others kept index room is =
+images-kept before after layer own others kept index residues room is =
     let raw = (draft_of before).raw in
     let types : length (draft_of after).raw.types ≡ length raw.types + length others = ap (λ (r : RawTech). length r.types) is
-    ∙ simp (length-set, length-append, length-map) refl in
+    ∙ simp (length-append, length-map) refl in
     let layers : length (draft_of after).raw.layers ≡ length raw.layers = ap (λ (r : RawTech). length r.layers) is ∙ simp length-set refl in
     let planes : length (draft_of after).raw.planes ≡ length raw.planes = ap (λ (r : RawTech). length r.planes) is in
     let had = kept.room in
@@ -119,4 +136,5 @@ images-kept before after layer own others kept index room is =
         types_limit = omega (arith, types, room);
         layers_limit = omega (arith, types, layers, had.layers_limit);
       };
+      marked = subst (All (λ (pair : LayerId × TypeId). pair.0.0 < MOST_TYPES)) (sym residues) kept.marked;
     }

@@ -1,10 +1,10 @@
 -- Technologies that keep the types of another: what holds of the other's lists still holds.
-use Rattle.std.proofs.Common.{◌≡◌, ◌-◌, ◌<◌, ◌≤◌, ℕ, List, [], ◌∷◌, length, map, get_or, set, refl, sym, ap, subst, ◌∙◌, arith, inl, inr}
+use Rattle.std.proofs.Common.{◌≡◌, ◌-◌, ◌≤◌, ℕ, List, [], ◌∷◌, length, map, get_or, set, refl, sym, ap, subst, ◌∙◌, arith, inl, inr}
 use Rattle.std.specs.Prelude.{All, IsTrue}
 use Rattle.std.proofs.lemmas.Bool.{cases_eq, cases_lt}
-use Rattle.std.proofs.lemmas.List.{length-set, get_or-set_same, get_or-set_other, set_past, get_or_past}
+use Rattle.std.proofs.lemmas.List.{length-set, get_or-set_same, get_or-set_other, set_past, get_or_default}
 use Rattle.std.proofs.lemmas.List.Elements.{All-weaker, All-head, All-tail}
-use Rattle.finite_sets.specs.Lists.{Distinct}
+use Rattle.finite_sets.specs.Lists.{In, Distinct}
 use Rattle.tech_model.specs.declared.raw.TypeId.{TypeId}
 use Rattle.tech_model.specs.declared.raw.TypeRec.{TypeRec}
 use Rattle.tech_model.specs.declared.raw.LayerRec.{LayerRec}
@@ -12,25 +12,16 @@ use Rattle.tech_model.specs.declared.raw.ClassRec.{ClassRec}
 use Rattle.tech_model.specs.declared.raw.FetRule.{FetRule}
 use Rattle.tech_model.specs.declared.raw.RawTech.{RawTech}
 use Rattle.tech_model.specs.Types.{is_type, type_at, plane_of, layer_of, images_of, no_type, no_layer}
-use Rattle.tech_model.specs.WellFormed.{IsLayer, IsClass, IsFet, IsPair}
+use Rattle.tech_model.specs.WellFormed.{IsLayer, IsClass, IsFet, IsPair, AreApart}
 use Rattle.tech_model.proofs.WellFormedLaws.{type_bounds, type_from_bounds}
 use Rattle.tech_draft.specs.SetLines.{with_set}
-use Rattle.tech_draft.specs.Sound.{HasImages, HasSoundLayers, HasSoundRules}
+use Rattle.tech_draft.specs.Sound.{HasSoundLayers, HasSoundRules}
 
 -- the other has all types, on their planes and of their layers
 pub record Keeps (raw next : RawTech) : Type 0 where
   pub more : length raw.types ≤ length next.types
   pub planes : (t : ℕ) → IsTrue (is_type raw t) → plane_of next t ≡ plane_of raw t
   pub layers : (t : ℕ) → IsTrue (is_type raw t) → layer_of next t ≡ layer_of raw t
-
--- a layer with images is one of the list
-pub has_images-below : (raw : RawTech) (layer : ℕ) → HasImages raw layer → layer < length raw.layers
-has_images-below raw layer many = elim (cases_lt layer (length raw.layers)) [
-  | inl below ↦ below
-  | inr past ↦
-      let none : length (images_of raw layer) ≡ 0 = ap (λ (l : LayerRec). length l.images) (get_or_past raw.layers layer no_layer past) in
-      absurd (omega (arith, many, none))
-]
 
 -- ---- what holds of the lists
 
@@ -43,7 +34,8 @@ kept_types : (raw next : RawTech) → Keeps raw next → (types : List TypeId) �
 kept_types raw next keeps types all = All-weaker (λ (t : TypeId). IsTrue (is_type raw t.0)) (λ (t : TypeId). IsTrue (is_type next t.0))
     (λ t. kept_type raw next keeps t.0) types all
 
-kept_planes : (raw next : RawTech) → Keeps raw next → (types : List TypeId) → All (λ t. IsTrue (is_type raw t.0)) types
+-- types stand on the planes on which they stood
+pub kept_planes : (raw next : RawTech) → Keeps raw next → (types : List TypeId) → All (λ t. IsTrue (is_type raw t.0)) types
     → map (λ t. plane_of next t.0) types ≡ map (λ t. plane_of raw t.0) types
 kept_planes raw next keeps [] all = refl
 kept_planes raw next keeps (t ∷ types) all =
@@ -141,6 +133,19 @@ set_same f xs i v d same k = elim (cases_eq k i) [
     | inr past ↦ ap (λ zs. f (get_or zs k d)) (set_past xs i v past)
   ]
   | inr other ↦ ap f (get_or-set_other xs i k v d other)
+]
+
+-- a write of something with the same parts keeps things apart
+pub apart_set : {X Y : Type 0} (parts : X → List Y) (xs : List X) (i : ℕ) (v e : X) → parts v ≡ parts (get_or xs i e) → AreApart parts xs
+    → AreApart parts (set xs i v)
+apart_set {X} {Y} parts xs i v e same apart = elim (cases_lt i (length xs)) [
+  | inl inside ↦ λ a b d before below y in_a in_b.
+      let long = length-set xs i v in
+      let here : parts v ≡ parts (get_or xs i d) = same ∙ ap parts (get_or_default xs i e d inside) in
+      apart a b d before (omega (arith, below, long)) y
+      (subst (λ (ys : List Y). In y ys) (set_same parts xs i v d here a) in_a)
+      (subst (λ (ys : List Y). In y ys) (set_same parts xs i v d here b) in_b)
+  | inr past ↦ subst (AreApart parts) (sym (set_past xs i v past)) apart
 ]
 
 -- a write of a set keeps planes and layers

@@ -1,8 +1,8 @@
 pub mod AtomSteps
-pub mod ContactLayers
 pub mod ContactLines
 pub mod ContactSteps
 pub mod FinishedDrafts
+pub mod Growths
 pub mod IndexLaws
 pub mod Keeps
 pub mod LookupLaws

@@ -5,10 +5,16 @@ use Rattle.std.proofs.lemmas.Bool.{or_parts}
 use Rattle.finite_sets.specs.Lists.{In}
 use Rattle.text_form.specs.SaidLines.{and_then}
 use Rattle.tech_model.specs.declared.raw.RawTech.{RawTech}
+use Rattle.tech_model.specs.declared.faults.TechFault.{TechFault}
+use Rattle.tech_draft.specs.Drafts.{Drafted}
 use Rattle.tech_draft.specs.declared.draft.word_rules.WordRule.{WordRule}
 use Rattle.tech_draft.specs.declared.draft.word_rules.WordRule.TheVariants.{Operator, OperatorOrSlash, UnknownPlane, Meaningless}
 use Rattle.tech_draft.specs.Words.{has_operator, has_slash}
 use Rattle.tech_draft.specs.WordRules.{breaks, word_fault, refuse_word, refuse, check_entries, check_layers}
+
+-- a line without a fault
+abbrev pub right : Drafted → Result Drafted TechFault
+right draft = Ok draft
 
 -- where a row of steps ends well, each does
 pub and_then-ok : {A B F : Type 0} (first : Result A F) (next : A → Result B F) (y : B) → and_then first next ≡ Ok y

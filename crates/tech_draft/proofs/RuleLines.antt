@@ -32,8 +32,7 @@ use Rattle.tech_draft.specs.Lookups.{entry_types, has_type, types_of_list, type_
 use Rattle.tech_draft.specs.ListLines.{has_pair, with_pair, with_partners, with_pairs, class_with, no_class, class_at, is_fet_form, has_fet}
 use Rattle.tech_draft.specs.ListLines.{fet_with}
 use Rattle.tech_draft.specs.Sound.{HasSoundLayers, HasSoundRules}
-use Rattle.tech_draft.proofs.ContactLayers.{apart_set}
-use Rattle.tech_draft.proofs.Keeps.{kept_pairs, kept_classes, kept_fets, places-keep, same_places}
+use Rattle.tech_draft.proofs.Keeps.{kept_pairs, kept_classes, kept_fets, apart_set, places-keep, same_places}
 use Rattle.tech_draft.proofs.LookupLaws.{word_type, list_source, list_type, list_types}
 use Rattle.tech_draft.proofs.Refusals.{none_breaks}
 

@@ -1,11 +1,11 @@
 -- Each line that is taken keeps a draft sound.
 use Rattle.std.proofs.Common.{◌≡◌, ◌<◌, ◌≤◌, ◌+◌, ◌==◌, ◌||◌, ℕ, true, false, List, [], ◌∷◌, ◌++◌, length, refl, sym, ap, subst, ◌∙◌, arith}
 use Rattle.std.proofs.Common.{inl, inr}
-use Rattle.std.specs.Prelude.{IsTrue, Option, Some, None, Result, Ok, not, nat_lt, nat_le, codes}
+use Rattle.std.specs.Prelude.{IsTrue, Option, Some, None, Ok, not, nat_lt, nat_le, codes}
 use Rattle.std.specs.List.{list_any, list_all}
 use Rattle.std.specs.Option.{ok_or}
 use Rattle.std.specs.Str.{bytes_eq}
-use Rattle.std.proofs.lemmas.Bool.{cases_Bool, or_parts, and_parts, not-false, not-true, ltb-false, leb-false, eqb-true, eqb-false}
+use Rattle.std.proofs.lemmas.Bool.{cases_Bool, or_parts, and_parts, not-false, not-true, leb-false, eqb-true, eqb-false}
 use Rattle.std.proofs.lemmas.Bool.{true≢false}
 use Rattle.std.proofs.lemmas.List.{length_push}
 use Rattle.std.proofs.lemmas.List.Elements.{All-push}
@@ -23,7 +23,7 @@ use Rattle.tech_model.specs.declared.raw.FetRule.{FetRule}
 use Rattle.tech_model.specs.declared.faults.Section.{Section}
 use Rattle.tech_model.specs.declared.faults.Section.TheVariants.{Tech, Planes, Types, Contact, Compose, Connect, Extract}
 use Rattle.tech_model.specs.declared.faults.TechFault.{TechFault}
-use Rattle.tech_model.specs.declared.faults.TechFault.TheVariants.{BadForm, NoPlane, Twice, ContactPart, TooMany}
+use Rattle.tech_model.specs.declared.faults.TechFault.TheVariants.{BadForm, NoPlane, Twice, TooMany}
 use Rattle.tech_model.specs.declared.faults.Table.TheVariants as tables
 use Rattle.tech_model.specs.declared.limits.TheConstants.{MOST_PLANES, MOST_TYPES, MOST_CLASSES, MOST_FETS, LARGEST_MEASURE}
 use Rattle.tech_model.specs.Forms.{is_layer_name}
@@ -34,32 +34,29 @@ use Rattle.tech_draft.specs.Words.{is_entry_list, measure_in, name_part}
 use Rattle.tech_draft.specs.declared.words.WordForm.TheVariants.{LayerName, LayerTerm}
 use Rattle.tech_draft.specs.declared.draft.word_rules.WordRule.TheVariants as rule
 use Rattle.tech_draft.specs.WordRules.{refuse, check_entries, check_layers}
-use Rattle.tech_draft.specs.Lookups.{plane_named, entry_types, has_type, types_of_list, type_of_word, layer_of_word, is_contact}
-use Rattle.tech_draft.specs.TypeLines.{with_name, new_name, name_line, with_plane, new_plane, plane_line, new_names, with_atom, new_atom}
-use Rattle.tech_draft.specs.TypeLines.{new_type, type_line}
-use Rattle.tech_draft.specs.SetLines.{are_misplaced, is_part, other_residues, residues_of_layer, with_contact, new_contact, joined_with}
+use Rattle.tech_draft.specs.Lookups.{plane_named, entry_types, has_type, types_of_list, type_of_word, layer_of_word}
+use Rattle.tech_draft.specs.TypeLines.{with_name, name_line, with_plane, plane_line, new_names, with_atom, new_atom}
+use Rattle.tech_draft.specs.TypeLines.{type_line}
+use Rattle.tech_draft.specs.SetLines.{other_residues, residues_of_layer, with_contact}
 use Rattle.tech_draft.specs.SetLines.{contact_line}
-use Rattle.tech_draft.specs.SetLines.{are_composable, is_settled, with_union, new_union, composed, compose_line}
-use Rattle.tech_draft.specs.ListLines.{with_pairs, with_pair_list, connected, connect_line, with_class, new_class, resist_line}
+use Rattle.tech_draft.specs.SetLines.{are_composable, is_settled, with_union, new_union, compose_line}
+use Rattle.tech_draft.specs.ListLines.{with_pairs, with_pair_list, connect_line, with_class, new_class, resist_line}
 use Rattle.tech_draft.specs.ListLines.{shared_class, uncapped}
 use Rattle.tech_draft.specs.ListLines.{with_capacitance, new_capacitance, cap_line, is_fet_form, has_fet, with_rule, fet_with, check_fet}
 use Rattle.tech_draft.specs.ListLines.{new_fet, fet_line, extract_line}
 use Rattle.tech_draft.specs.Lines.{line_in}
 use Rattle.tech_draft.specs.Sound.{HasSoundNames, HasSoundRules, IsPart, IsSound}
-use Rattle.tech_draft.proofs.AtomSteps.{IsNewLayer, atom-keeps, atom_layers, atom_step}
-use Rattle.tech_draft.proofs.ContactLines.{KeepsContactRules, contact_plan, contact_line-keeps}
-use Rattle.tech_draft.proofs.ContactLayers.{images-keeps, images_layers}
-use Rattle.tech_draft.proofs.ContactSteps.{contact_step}
+use Rattle.tech_draft.proofs.AtomSteps.{IsNewLayer, atom_growth, atom_layers, atom_step}
+use Rattle.tech_draft.proofs.ContactLines.{new_contact-keeps}
+use Rattle.tech_draft.proofs.ContactSteps.{images_growth, images_layers, contact_step}
+use Rattle.tech_draft.proofs.Growths.{grown-keeps}
 use Rattle.tech_draft.proofs.IndexLaws.{new_names-free}
 use Rattle.tech_draft.proofs.Keeps.{kept_rules, places-keep, places-layers, same_places, with_set-places}
 use Rattle.tech_draft.proofs.LookupLaws.{IsNamed, word_named, part_word}
-use Rattle.tech_draft.proofs.Refusals.{and_then-ok, rule-ok, none_breaks, entries_mean, layers_mean}
+use Rattle.tech_draft.proofs.Refusals.{right, and_then-ok, rule-ok, none_breaks, entries_mean, layers_mean}
 use Rattle.tech_draft.proofs.RuleLines.{with_lists, connect_rules, measure-small, class_rules, cap_rules, fet_rules}
 use Rattle.tech_draft.proofs.Steps.{sets_after, with_rules, rules_step}
 use Rattle.tech_draft.proofs.UnionSteps.{IsUnionLine, union_of, union-keeps, union_step}
-
-abbrev right : Drafted → Result Drafted TechFault
-right draft = Ok draft
 
 -- what a line makes is what it leaves
 made : (after next : Drafted) → right after ≡ right next → IsSound after → IsSound next
@@ -163,7 +160,7 @@ sound-type draft next (word ∷ list ∷ []) sound is =
     made after next room.1 (record {
       names = sound.names;
       layers = atom_layers raw plane names sound.layers fresh;
-      rules = kept_rules raw raw.name raw.planes after.raw.types after.raw.layers (atom-keeps raw plane names) sound.rules;
+      rules = kept_rules raw raw.name raw.planes after.raw.types after.raw.layers (grown-keeps (atom_growth raw plane names)) sound.rules;
       sets = sets_after draft after (atom_step draft plane names sound.layers sound.sets) sound.sets;
     })
 sound-type draft next _ sound is = absurd (cc)
@@ -176,29 +173,6 @@ layers_named draft words sound is word inside =
     let mean = layers_mean draft.raw words is word inside in
     word_named draft.raw word sound.layers mean.0 mean.1
 
-new_contact-rules : (draft next : Drafted) (base : List ℕ) (residues : List (List ℕ)) → 2 < length (base ∷ residues)
-    → ((word : List ℕ) → In word (base ∷ residues) → IsNamed draft.raw word) → new_contact draft base residues ≡ Ok next
-    → KeepsContactRules draft base residues × (right (with_contact draft base residues) ≡ right next)
-new_contact-rules draft next base residues many named is =
-    let raw = draft.raw in
-    let own = type_of_word raw base in
-    let count = length raw.types + length (other_residues raw base residues) in
-    let place = rule-ok (are_misplaced raw base residues) BadForm _ next is in
-    let once = rule-ok (is_contact raw base) (Twice base) _ next place.1 in
-    let part = rule-ok (is_part draft own) (ContactPart base) _ next once.1 in
-    let atoms = and_then-ok (refuse raw (rule.ContactOr own) residues) _ next part.1 in
-    let room = rule-ok (nat_lt MOST_TYPES count) (TooMany tables.Types) (Ok (with_contact draft base residues)) next atoms.1.1 in
-    let rules : KeepsContactRules draft base residues = record {
-      some = omega (arith, many);
-      named = named;
-      placed = place.0;
-      simple = once.0;
-      free = part.0;
-      atoms = none_breaks raw (rule.ContactOr own) residues atoms.1.0;
-      room = ltb-false MOST_TYPES count room.0;
-    } in
-    (rules, room.1)
-
 sound-contact : (draft next : Drafted) (words : List (List ℕ)) → IsSound draft → contact_line draft words ≡ Ok next → IsSound next
 unfolding contact_line
 sound-contact draft next (base ∷ one ∷ two ∷ more) sound is =
@@ -206,20 +180,19 @@ sound-contact draft next (base ∷ one ∷ two ∷ more) sound is =
     let residues = one ∷ two ∷ more in
     let form = rule-ok (not (list_all (has_form LayerTerm) (base ∷ residues))) BadForm _ next is in
     let known = and_then-ok (check_layers raw (base ∷ residues)) _ next form.1 in
-    let rules = new_contact-rules draft next base residues (omega arith) (layers_named draft (base ∷ residues) sound known.1.0) known.1.1 in
+    let rules = new_contact-keeps draft next base residues (omega arith) (layers_named draft (base ∷ residues) sound known.1.0) known.1.1 in
     let layer = layer_of_word raw base in
     let own = type_of_word raw base in
     let others = other_residues raw base residues in
     let after = with_contact draft base residues in
-    let plan = contact_plan draft base residues rules.0 in
-    made after next rules.1 (record {
+    let plan = rules.0 in
+    made after next rules.2 (record {
       names = sound.names;
       layers = images_layers raw layer own others sound.layers plan;
       rules = kept_rules raw raw.name raw.planes after.raw.types after.raw.layers
-          (images-keeps raw layer own others plan.is_own) sound.rules;
+          (grown-keeps (images_growth raw layer own others plan)) sound.rules;
       sets = sets_after draft after
-          (contact_step draft layer own others (residues_of_layer raw layer residues) sound.layers sound.sets plan
-          (contact_line-keeps draft base residues rules.0)) sound.sets;
+          (contact_step draft layer own others (residues_of_layer raw layer residues) sound.layers sound.sets plan rules.1) sound.sets;
     })
 sound-contact draft next _ sound is = absurd (cc)
 

@@ -12,7 +12,6 @@ use Rattle.tech_model.specs.declared.raw.RawTech.{RawTech}
 use Rattle.tech_model.specs.Types.{is_type, layer_of, parts_of, images_of, type_number, layer_number}
 use Rattle.tech_model.specs.WellFormed.{IsSimple, IsUnion}
 use Rattle.tech_draft.specs.Drafts.{Drafted}
-use Rattle.tech_draft.specs.SetLines.{mark_bit}
 use Rattle.tech_draft.specs.Sound.{IsMadeOf, atom, composed, HasImages, IsPart, IsImage, HasSoundSets}
 use Rattle.tech_draft.proofs.Keeps.{Keeps, kept_type, places-keep, same_places}
 
@@ -87,7 +86,6 @@ image_kept old new t step sets same image =
     let noted : In (layer_number (layer_of old.raw t), image.residue) new.residues =
     rw step.residues (In-append_left (layer_number (layer_of old.raw t), image.residue) old.residues step.more_residues image.noted) in
     record {
-      mark = same.set ∙ image.mark ∙ ap mark_bit (sym layer);
       residue = image.residue;
       noted = subst (λ (l : ℕ). In (layer_number l, image.residue) new.residues) (sym layer) noted;
       plane = step.keeps.planes image.residue.0 (sets.residues (layer_number (layer_of old.raw t), image.residue) image.noted).1.is

@@ -6,7 +6,7 @@ use Rattle.tech_model.specs.declared.raw.RawTech.{RawTech}
 
 -- The lists so far, and what later lines are held to.
 pub record Drafted : Type 0 where
-  -- the lists, where the set of a contact's image is its mark alone
+  -- the lists, but for the sets of contacts' images
   pub raw : RawTech
   -- each contact's layer with each of its residues
   pub residues : List (LayerId × TypeId)

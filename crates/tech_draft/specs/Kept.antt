@@ -1,5 +1,6 @@
 -- What every draft keeps.
-use Rattle.std.specs.Prelude.{◌≡◌, ◌≤◌, ℕ, List, length}
+use Rattle.std.specs.Prelude.{◌≡◌, ◌≤◌, ◌<◌, ℕ, List, length, All}
+use Rattle.tech_model.specs.declared.raw.RawTech.{RawTech}
 use Rattle.tech_model.specs.LayerWords.{layer_in}
 use Rattle.tech_model.specs.Types.{layer_named}
 use Rattle.tech_model.specs.declared.limits.TheConstants.{MOST_PLANES, MOST_TYPES}
@@ -25,12 +26,13 @@ draft_of inside = record {
 }
 
 -- the tables keep their limits
-pub record HasRoom (draft : Drafted) : Type 0 where
-  pub planes_limit : length draft.raw.planes ≤ MOST_PLANES
-  pub types_limit : length draft.raw.types ≤ MOST_TYPES
-  pub layers_limit : length draft.raw.layers ≤ length draft.raw.types
+pub record HasRoom (raw : RawTech) : Type 0 where
+  pub planes_limit : length raw.planes ≤ MOST_PLANES
+  pub types_limit : length raw.types ≤ MOST_TYPES
+  pub layers_limit : length raw.layers ≤ length raw.types
 
--- The index has the names of the layers, and the tables keep their limits.
+-- The index has the names of the layers, the tables keep their limits, and so do the layers of residues.
 pub record IsKept (inside : Inside) : Type 0 where
   pub indexed : (word : List ℕ) → layer_in inside.index word ≡ layer_named (draft_of inside).raw word
-  pub room : HasRoom (draft_of inside)
+  pub room : HasRoom (draft_of inside).raw
+  pub marked : All (λ pair. pair.0.0 < MOST_TYPES) (draft_of inside).residues

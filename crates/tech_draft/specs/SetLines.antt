@@ -1,7 +1,7 @@
 -- What a line of the sections `contact` and `compose` asks for and adds.
 --     contact    BASE RESIDUE RESIDUE ..
 --     compose    compose WHOLE FIRST SECOND
-use Rattle.std.specs.Prelude.{◌==◌, ◌&&◌, ◌||◌, ◌+◌, ◌-◌, ◌^◌, not, nat_lt, if◌then◌else◌, ℕ, Bool, false, bit_or, List, [], ◌∷◌, ◌++◌}
+use Rattle.std.specs.Prelude.{◌==◌, ◌&&◌, ◌||◌, ◌+◌, ◌-◌, not, nat_lt, if◌then◌else◌, ℕ, Bool, false, bit_or, List, [], ◌∷◌, ◌++◌}
 use Rattle.std.specs.Prelude.{length, map, filter, slice_set, Result, Ok, Err, codes}
 use Rattle.std.specs.List.{list_any, list_all, range_with_len}
 use Rattle.std.specs.Str.{bytes_eq}
@@ -13,7 +13,7 @@ use Rattle.tech_model.specs.declared.raw.RawTech.{RawTech}
 use Rattle.tech_model.specs.declared.faults.TechFault.{TechFault}
 use Rattle.tech_model.specs.declared.faults.TechFault.TheVariants.{BadForm, Twice, ContactPart, TooMany}
 use Rattle.tech_model.specs.declared.faults.Table.TheVariants.{Types}
-use Rattle.tech_model.specs.declared.limits.TheConstants.{MOST_TYPES, FIRST_MARK}
+use Rattle.tech_model.specs.declared.limits.TheConstants.{MOST_TYPES}
 use Rattle.tech_model.specs.Types.{type_number, layer_number, type_at, layer_at, plane_of, parts_of}
 use Rattle.tech_draft.specs.Drafts.{Drafted}
 use Rattle.tech_draft.specs.Words.{has_form}
@@ -50,27 +50,19 @@ abbrev pub other_residues : RawTech → List ℕ → List (List ℕ) → List Ty
 other_residues raw base residues =
     map (type_of_word raw) (filter (λ word. not (plane_of_word raw word == plane_of_word raw base)) residues)
 
--- the mark of the contact with this layer: a bit above those of all atoms
-abbrev pub mark_bit : ℕ → ℕ
-mark_bit layer = 2 ^ (FIRST_MARK + layer)
-
--- An image stands on the plane of its residue, and its set is the mark until the residue's is put to it.
+-- An image stands on the plane of its residue. Its set is told when all lines are read.
 abbrev pub image_record : RawTech → ℕ → TypeId → TypeRec
-image_record raw layer residue = record { plane = plane_of raw residue.0; layer = layer_number layer; parts = record { 0 = mark_bit layer } }
+image_record raw layer residue = record { plane = plane_of raw residue.0; layer = layer_number layer; parts = record { 0 = 0 } }
 
 -- the next types, one for each of so many
 abbrev pub next_types : RawTech → ℕ → List TypeId
 next_types raw count = map type_number (range_with_len (length raw.types + 1) count)
 
--- the types with an image for each of these residues
-abbrev pub with_more_types : RawTech → ℕ → List TypeId → RawTech
-with_more_types raw layer others = record raw { types = raw.types ++ map (image_record raw layer) others }
-
--- The layer has its own image and one for each of these residues, and all of them have the contact's mark.
+-- the layer has its own image and one for each of these residues
 abbrev pub with_images : RawTech → ℕ → TypeId → List TypeId → RawTech
 with_images raw layer own others =
     record raw {
-      types = with_set (with_more_types raw layer others) own (mark_bit layer);
+      types = raw.types ++ map (image_record raw layer) others;
       layers = slice_set raw.layers layer (record (layer_at raw layer) { images = own ∷ next_types raw (length others) });
     }
 
@@ -96,14 +88,14 @@ new_contact draft base residues =
     else Ok (with_contact draft base residues))
 
 -- each of the words stands in the place of a layer's name
-abbrev pub joined_with : Drafted → List ℕ → List (List ℕ) → Result Drafted TechFault
-joined_with draft base residues =
+abbrev pub contacted : Drafted → List ℕ → List (List ℕ) → Result Drafted TechFault
+contacted draft base residues =
     if not (list_all (has_form LayerTerm) (base ∷ residues))
     then Err BadForm
     else and_then (check_layers draft.raw (base ∷ residues)) (λ _. new_contact draft base residues)
 
 unfoldable pub contact_line : Drafted → List (List ℕ) → Result Drafted TechFault
-contact_line draft (base ∷ first ∷ second ∷ others) = joined_with draft base (first ∷ second ∷ others)
+contact_line draft (base ∷ first ∷ second ∷ others) = contacted draft base (first ∷ second ∷ others)
 contact_line draft _ = Err BadForm
 
 -- ---- composed types

@@ -9,7 +9,6 @@ use Rattle.tech_model.specs.declared.limits.TheConstants.{MOST_PLANES, MOST_TYPE
 use Rattle.tech_model.specs.Types.{is_type, plane_of, layer_of, parts_of, images_of, type_number, layer_number}
 use Rattle.tech_model.specs.WellFormed.{IsSimple, IsUnion, IsLayer, IsClass, IsFet, IsPair, AreApart}
 use Rattle.tech_draft.specs.Drafts.{Drafted}
-use Rattle.tech_draft.specs.SetLines.{mark_bit}
 
 -- the technology has a plain name or none yet, and its planes have plain names that differ
 pub record HasSoundNames (name : List ℕ) (planes : List (List ℕ)) : Type 0 where
@@ -54,9 +53,8 @@ pub record IsPart (raw : RawTech) (t : ℕ) : Type 0 where
   pub is : IsTrue (is_type raw t)
   pub simple : IsSimple raw t
 
--- The set of a contact's image is the contact's mark, and one of its residues stands on the plane of the image.
+-- One of the contact's residues stands on the plane of its image.
 pub record IsImage (draft : Drafted) (t : ℕ) : Type 0 where
-  pub mark : parts_of draft.raw t ≡ mark_bit (layer_of draft.raw t)
   pub residue : TypeId
   pub noted : In (layer_number (layer_of draft.raw t), residue) draft.residues
   pub plane : plane_of draft.raw residue.0 ≡ plane_of draft.raw t

@@ -1,6 +1,6 @@
 //! A technology as far as the lines of its text were read.
-ghost use Rattle.std.specs.Prelude.{◌≡◌, ◌≢◌, ◌-◌, ◌&&◌, nat_le, if◌then◌else◌, [], length, find, map, ◌↔◌, slice_set, slice_index_or};
-ghost use Rattle.std.specs.Prelude.{Ok, Err, OnOk, IfOk, IfErr, IsTrue};
+ghost use Rattle.std.specs.Prelude.{◌≡◌, ◌≢◌, ◌<◌, ◌-◌, ◌&&◌, nat_le, if◌then◌else◌, [], length, find, map, ◌↔◌, slice_set, slice_index_or};
+ghost use Rattle.std.specs.Prelude.{Ok, Err, OnOk, IfOk, IfErr, IfSome, IsTrue};
 ghost use Rattle.text_scan.specs.Words.{words_of};
 ghost use Rattle.text_scan.specs.PlainNames.{is_plain_name};
 ghost use Rattle.tech_model.specs.declared.faults.TechFault.TheVariants.{Memory};
@@ -8,7 +8,7 @@ ghost use Rattle.tech_model.specs.Types.{no_type};
 ghost use Rattle.tech_model.specs.WellFormed.{IsWellFormed};
 ghost use Rattle.tech_draft.specs.Drafts.{empty_draft};
 ghost use Rattle.tech_draft.specs.Lines.{line_in};
-ghost use Rattle.tech_draft.specs.Finished.{is_residue_of, residue_parts, finished_type, finished};
+ghost use Rattle.tech_draft.specs.Finished.{is_residue_of, mark_bit, set_with, finished_type, finished};
 ghost use Rattle.tech_draft.specs.Sound.{IsSound};
 
 use self::pair_list::PairList;
@@ -17,8 +17,8 @@ use geo_core::{List, Name};
 use std::alloc::Global;
 use std::marker::Model;
 use tech_model::{
-    ClassRec, FetRule, LayerId, LayerIndex, LayerRec, PartSet, RawTech, Section, TechFault, TypeId,
-    TypeRec,
+    ClassRec, FIRST_MARK, FetRule, LayerId, LayerIndex, LayerRec, MOST_TYPES, PartSet, RawTech,
+    Section, TechFault, TypeId, TypeRec,
 };
 
 mod list_lines;
@@ -176,27 +176,36 @@ impl Draft {
         Ok(types)
     }
 
-    // The type with the set of its residue too, where it has one.
+    // The type, with the mark of its contact and the set of its residue where it has one.
     fn finished_type(&self, kind: &TypeRec) -> TypeRec
         ensures { result ≡ finished_type self.now kind.now }
     {
-        let residue = match self.residue_of(kind) {
-            Some(pair) => self.parts_of(pair.1),
-            None => 0,
+        let parts = match self.residue_of(kind) {
+            Some(pair) => mark_of(pair.0) | self.parts_of(pair.1),
+            None => kind.parts.0,
         };
         TypeRec {
             plane: kind.plane,
             layer: kind.layer,
-            parts: PartSet(kind.parts.0 | residue),
+            parts: PartSet(parts),
         }
     }
 
     fn residue_of(&self, kind: &TypeRec) -> Option<(LayerId, TypeId)>
-        ensures { result ≡ find (is_residue_of self.now.raw kind.now) self.now.residues }
+        ensures found { result ≡ find (is_residue_of self.now.raw kind.now) self.now.residues }
+        ensures in_range { IfSome result (λ pair. pair.0.0 < MOST_TYPES) }
     {
         self.residues.iter().copied().find(|pair| pair.0.0 == kind.layer.0
             && self.plane_of(pair.1) == kind.plane)
     }
+}
+
+/// The mark of the contact with this layer, a bit of its sets.
+fn mark_of(layer: LayerId) -> u128
+    requires { layer.0 < MOST_TYPES }
+    ensures { result ≡ mark_bit layer.0 }
+{
+    1u128 << (FIRST_MARK + layer.0)
 }
 
 /// The set of a type of these, the empty set for space.

@@ -11,11 +11,11 @@
 //!
 //! That a draft is a well-formed technology in the end is proved over these definitions alone. A line that is taken keeps each rule
 //! (`Refusals`), and its words name planes, layers and types (`LookupLaws`). Lists that a line leaves alone still fit (`Keeps`). Of the
-//! sets of types there is one record of what a line keeps and adds, `IsStep`, with one law that sets stay sound (`Steps`): a line of
-//! `types` adds an atom (`AtomSteps`), one of `contact` the images of a layer (`ContactLines`, `ContactLayers`, `ContactSteps`), one of
-//! `compose` changes one set (`UnionSteps`), and the others add pairs, classes and transistors (`RuleLines`). `SoundLines` puts them
-//! together. While lines are read the set of a contact's image is its mark alone; at the end each gets the set of the residue on its
-//! plane (`FinishedDrafts`).
+//! sets of types there is one record of what a line keeps and adds, `IsStep`, with one law that sets stay sound (`Steps`). A line of
+//! `types` adds an atom (`AtomSteps`) and one of `contact` the images of a layer (`ContactLines`, `ContactSteps`): both put types at the
+//! end that are the last images of one layer (`Growths`). One of `compose` changes one set (`UnionSteps`), and the others add pairs,
+//! classes and transistors (`RuleLines`). `SoundLines` puts them together. The set of a contact's image is told at the end: the mark and
+//! the set of the residue on its plane (`FinishedDrafts`).
 #![tactic(auto)]
 
 mod draft;

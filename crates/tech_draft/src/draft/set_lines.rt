@@ -4,10 +4,10 @@ ghost use Rattle.std.specs.Prelude.{OnOk, IfOk, IfErr};
 ghost use Rattle.std.specs.List.{list_any, range_with_len};
 ghost use Rattle.text_scan.specs.Words.{words_of};
 ghost use Rattle.tech_model.specs.declared.faults.TechFault.TheVariants.{Memory};
-ghost use Rattle.tech_model.specs.Types.{no_type, no_layer, type_number};
-ghost use Rattle.tech_draft.specs.SetLines.{has_number, are_misplaced, is_part, other_residues, mark_bit, image_record, next_types};
+ghost use Rattle.tech_model.specs.Types.{no_layer, type_number};
+ghost use Rattle.tech_draft.specs.SetLines.{has_number, are_misplaced, is_part, other_residues, image_record, next_types};
 ghost use Rattle.tech_draft.specs.SetLines.{with_images};
-ghost use Rattle.tech_draft.specs.SetLines.{residues_of_layer, with_contact, new_contact, joined_with, contact_line};
+ghost use Rattle.tech_draft.specs.SetLines.{residues_of_layer, with_contact, new_contact, contacted, contact_line};
 ghost use Rattle.tech_draft.specs.SetLines.{are_composable, is_settled, with_union, new_union, composed, compose_line};
 
 use super::lookups::has_type;
@@ -17,23 +17,13 @@ use crate::parts::Parted;
 use crate::words::{WordForm, all_have, push};
 use geo_core::{List, Name};
 use std::alloc::Global;
-use tech_model::{
-    FIRST_MARK, LayerId, LayerRec, MOST_TYPES, PartSet, Table, TechFault, TypeId, TypeRec,
-};
+use tech_model::{LayerId, LayerRec, MOST_TYPES, PartSet, Table, TechFault, TypeId, TypeRec};
 use text_scan::{split_word, words};
 
 fn has_number(numbers: &[u8], number: u8) -> bool
     ensures { result ≡ has_number numbers.now number }
 {
     numbers.iter().any(|&other| other == number)
-}
-
-// The set that is the mark of the contact with this layer.
-fn mark_of(layer: LayerId) -> PartSet
-    requires { layer.0 < MOST_TYPES }
-    ensures { result.0 ≡ mark_bit layer.0 }
-{
-    PartSet(1u128 << (FIRST_MARK + layer.0))
 }
 
 // The own image of a contact, and so many types from this number on.
@@ -55,6 +45,24 @@ fn numbered_images(
     Ok(List::of(images))
 }
 
+// Puts these types at the end, and gives the layer these images.
+fn put_images(
+    types: &mut Vec<TypeRec>,
+    layers: &mut Vec<LayerRec>,
+    records: &[TypeRec],
+    layer: LayerId,
+    images: List<TypeId>,
+) -> Result<(), TechFault>
+    ensures types { OnOk result (types.new.items ≡ types.old.items ++ records.now) }
+    ensures layers { OnOk result (layers.new.items ≡ slice_set layers.old.items layer.0
+        (record (slice_index_or layers.old.items layer.0 no_layer) { images = images })) }
+    ensures only_memory { IfErr result (λ fault. fault ≡ Memory) }
+{
+    types.extend_from_slice(records)?;
+    set_images(layers, layer, images);
+    Ok(())
+}
+
 // Gives a layer these images.
 fn set_images(layers: &mut [LayerRec], layer: LayerId, images: List<TypeId>)
     ensures { layers.new ≡ slice_set layers.old layer.0
@@ -63,39 +71,6 @@ fn set_images(layers: &mut [LayerRec], layer: LayerId, images: List<TypeId>)
     let place = usize::from(layer.0);
     if place < layers.len() {
         layers[place].images = images;
-    }
-}
-
-// The images of a contact: the records of the new ones, all of them in order, the own one, their layer and their mark.
-#[derive(Drop)]
-struct ContactImages {
-    records: Vec<TypeRec>,
-    images: List<TypeId>,
-    mark: PartSet,
-    layer: LayerId,
-    own: TypeId,
-}
-
-impl ContactImages {
-    // Puts the new images at the end of the types, marks the own one, and gives the layer all of them.
-    fn put(self, types: &mut Vec<TypeRec>, layers: &mut Vec<LayerRec>) -> Result<(), TechFault>
-        ensures types { OnOk result (types.new.items ≡ slice_set (types.old.items ++ self.records.items) (self.own.0 - 1)
-            (record (slice_index_or (types.old.items ++ self.records.items) (self.own.0 - 1) no_type) { parts = self.mark })) }
-        ensures layers { OnOk result (layers.new.items ≡ slice_set layers.old.items self.layer.0
-            (record (slice_index_or layers.old.items self.layer.0 no_layer) { images = self.images })) }
-        ensures only_memory { IfErr result (λ fault. fault ≡ Memory) }
-    {
-        let ContactImages {
-            records,
-            images,
-            mark,
-            layer,
-            own,
-        } = self;
-        types.extend_from_slice(&records)?;
-        set_parts(types, own, mark);
-        set_images(layers, layer, images);
-        Ok(())
     }
 }
 
@@ -148,11 +123,10 @@ impl Draft {
 
     // The records of images of this layer on the planes of these residues.
     fn image_records(&self, layer: LayerId, others: &[TypeId]) -> Result<Vec<TypeRec>, TechFault>
-        requires { layer.0 < MOST_TYPES }
         ensures ok { IfOk result (λ records. records.items ≡ map (image_record self.now.raw layer.0) others.now) }
         ensures only_memory { IfErr result (λ fault. fault ≡ Memory) }
     {
-        let parts = mark_of(layer);
+        let parts = PartSet(0);
         let mut records = Vec::new(self.alloc);
         for &residue in others {
             let plane = self.plane_of(residue);
@@ -168,26 +142,20 @@ impl Draft {
         Ok(records)
     }
 
-    // Gives the layer its own image and one for each of these residues, and all of them the contact's mark.
+    // Gives the layer its own image and one for each of these residues.
     fn add_images(
         &mut self,
         layer: LayerId,
         own: TypeId,
         others: &[TypeId],
     ) -> Result<(), TechFault>
-        requires in_range { layer.0 < MOST_TYPES }
-        requires room { length self.old.raw.types + length others.now ≤ MOST_TYPES }
+        requires { length self.old.raw.types + length others.now ≤ MOST_TYPES }
         ensures read { OnOk result (self.new ≡ record self.old { raw = with_images self.old.raw layer.0 own others.now }) }
         ensures only_memory { IfErr result (λ fault. fault ≡ Memory) }
     {
-        let images = ContactImages {
-            records: self.image_records(layer, others)?,
-            images: numbered_images(self.alloc, own, self.types.len() + 1, others.len())?,
-            mark: mark_of(layer),
-            layer,
-            own,
-        };
-        if let Err(fault) = images.put(&mut self.types, &mut self.layers) {
+        let records = self.image_records(layer, others)?;
+        let images = numbered_images(self.alloc, own, self.types.len() + 1, others.len())?;
+        if let Err(fault) = put_images(&mut self.types, &mut self.layers, &records, layer, images) {
             *self = Draft::new(self.alloc);
             return Err(fault);
         }
@@ -261,17 +229,17 @@ impl Draft {
         };
         let mut words = words(residues);
         match (words.next(), words.next()) {
-            (Some(_), Some(_)) => self.join(line, base, residues),
+            (Some(_), Some(_)) => self.contact(line, base, residues),
             _ => Err(TechFault::BadForm),
         }
     }
 
     // The words of the line are the base and its residues.
-    fn join(&mut self, line: &[u8], base: &[u8], residues: &[u8]) -> Result<(), TechFault>
+    fn contact(&mut self, line: &[u8], base: &[u8], residues: &[u8]) -> Result<(), TechFault>
         requires { words_of line.now ≡ base.now ∷ words_of residues.now }
-        ensures read { OnOk result (joined_with self.old base.now (words_of residues.now) ≡ Ok self.new) }
+        ensures read { OnOk result (contacted self.old base.now (words_of residues.now) ≡ Ok self.new) }
         ensures refused { IfErr result (λ fault. fault ≢ Memory
-            → joined_with self.old base.now (words_of residues.now) ≡ Err fault) }
+            → contacted self.old base.now (words_of residues.now) ≡ Err fault) }
     {
         if !all_have(WordForm::LayerTerm, Parted::Line(line)) {
             return Err(TechFault::BadForm);

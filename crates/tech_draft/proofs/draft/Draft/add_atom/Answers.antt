@@ -22,4 +22,4 @@ invariant_of-self-in_default c =
     (c.in-Ok.ensures.passed raw c.self.invariant.indexed)
     (λ word. c.in-Ok.ensures.indexed word
     ∙ ap (λ (n : ℕ). if list_any (bytes_eq word) (pieces_of c.args.list.now) then Some n else layer_in c.self.inside.index word) count)
-    (rw (types, layers, names) refl)
+    refl (rw (types, layers, names) refl)
