@@ -1,8 +1,9 @@
 -- Rules that are kept, one after another.
-use Rattle.std.specs.Prelude.{◌≡◌, ℕ, Bool, true, false, cond, List, [], ◌∷◌, ◌++◌, Result, Ok, Err}
-use Rattle.std.proofs.Common.{refl, subst, inl, inr}
+use Rattle.std.specs.Prelude.{◌≡◌, ℕ, Bool, true, false, cond, List, find, Option, Some, None, Result, Ok, Err}
+use Rattle.std.proofs.Common.{refl}
 use Rattle.std.proofs.lemmas.Bool.{or_parts}
 use Rattle.finite_sets.specs.Lists.{In}
+use Rattle.finite_sets.proofs.Searches.{find-none}
 use Rattle.text_form.specs.SaidLines.{and_then}
 use Rattle.tech_model.specs.declared.raw.RawTech.{RawTech}
 use Rattle.tech_model.specs.declared.faults.TechFault.{TechFault}
@@ -10,7 +11,7 @@ use Rattle.tech_draft.specs.Drafts.{Drafted}
 use Rattle.tech_draft.specs.declared.draft.word_rules.WordRule.{WordRule}
 use Rattle.tech_draft.specs.declared.draft.word_rules.WordRule.TheVariants.{Operator, OperatorOrSlash, UnknownPlane, Meaningless}
 use Rattle.tech_draft.specs.Words.{has_operator, has_slash}
-use Rattle.tech_draft.specs.WordRules.{breaks, word_fault, refuse_word, refuse, check_entries, check_layers}
+use Rattle.tech_draft.specs.WordRules.{breaks, refuse_found, refuse, check_entries, check_layers}
 
 -- a line without a fault
 abbrev pub right : Drafted → Result Drafted TechFault
@@ -28,28 +29,16 @@ pub rule-ok : {A F : Type 0} (broken : Bool) (fault : F) (rest : Result A F) (y 
 rule-ok true fault rest y is = absurd (cc)
 rule-ok false fault rest y is = (refl, is)
 
+none_found : (rule : WordRule) (found : Option (List ℕ)) → refuse_found rule found ≡ Ok tt → found ≡ None
+none_found rule None is = refl
+none_found rule (Some word) is = absurd (cc)
+
 -- no word has what the rule forbids
 pub none_breaks : (raw : RawTech) (rule : WordRule) (words : List (List ℕ)) → refuse raw rule words ≡ Ok tt
     → (word : List ℕ) → In word words → breaks raw rule word ≡ false
-none_breaks raw rule [] is word absent = absurd absent
-none_breaks raw rule (x ∷ xs) is word inside =
-    let steps = and_then-ok (refuse_word raw rule x) (λ _. refuse raw rule xs) tt is in
-    elim inside [
-      | inl same ↦ subst (λ (w : List ℕ). breaks raw rule w ≡ false) same
-          (rule-ok (breaks raw rule x) (word_fault rule x) (Ok tt) steps.0 steps.1.0).0
-      | inr later ↦ none_breaks raw rule xs steps.1.1 word later
-    ]
-
--- the words of two lists, one list behind the other
-pub refuse_append : (raw : RawTech) (rule : WordRule) (xs ys : List (List ℕ))
-    → refuse raw rule (xs ++ ys) ≡ and_then (refuse raw rule xs) (λ _. refuse raw rule ys)
-refuse_append raw rule [] ys = refl
-refuse_append raw rule (x ∷ xs) ys = elim (breaks raw rule x) as (λ b.
-    and_then (cond b (Err (word_fault rule x)) (Ok (tt {0}))) (λ _. refuse raw rule (xs ++ ys))
-    ≡ and_then (and_then (cond b (Err (word_fault rule x)) (Ok (tt {0}))) (λ _. refuse raw rule xs)) (λ _. refuse raw rule ys)) [
-      | true ↦ refl
-      | false ↦ refuse_append raw rule xs ys
-    ]
+unfolding refuse
+none_breaks raw rule words is word inside =
+    find-none (breaks raw rule) words word (none_found rule (find (breaks raw rule) words) is) inside
 
 -- entries that are taken mean types
 pub entries_mean : (raw : RawTech) (entries : List (List ℕ)) → check_entries raw entries ≡ Ok tt

@@ -1,5 +1,5 @@
 -- What each of several words is held to, and the first word that breaks a rule.
-use Rattle.std.specs.Prelude.{◌==◌, ◌&&◌, ◌||◌, is_none, if◌then◌else◌, ℕ, Bool, List, [], ◌∷◌, length, Result, Ok, Err}
+use Rattle.std.specs.Prelude.{◌==◌, ◌&&◌, ◌||◌, is_none, find, ℕ, Bool, List, length, Option, Some, None, Result, Ok, Err}
 use Rattle.text_form.specs.SaidLines.{and_then}
 use Rattle.tech_model.specs.declared.raw.RawTech.{RawTech}
 use Rattle.tech_model.specs.declared.faults.TechFault.{TechFault}
@@ -30,13 +30,13 @@ word_fault Classed word = Twice (name_part word)
 word_fault Contact word = ContactPart word
 word_fault (ContactOr t) word = ContactPart word
 
-abbrev pub refuse_word : RawTech → WordRule → List ℕ → Result (Unit {0}) TechFault
-refuse_word raw rule word = if breaks raw rule word then Err (word_fault rule word) else Ok tt
+abbrev pub refuse_found : WordRule → Option (List ℕ) → Result (Unit {0}) TechFault
+refuse_found rule None = Ok tt
+refuse_found rule (Some word) = Err (word_fault rule word)
 
 -- the first word that breaks the rule is refused
-abbrev pub refuse : RawTech → WordRule → List (List ℕ) → Result (Unit {0}) TechFault
-refuse raw rule [] = Ok tt
-refuse raw rule (word ∷ words) = and_then (refuse_word raw rule word) (λ _. refuse raw rule words)
+unfoldable pub refuse : RawTech → WordRule → List (List ℕ) → Result (Unit {0}) TechFault
+refuse raw rule words = refuse_found rule (find (breaks raw rule) words)
 
 -- Entries of lists: the first expression is refused, then the first plane that there is not, and then the first name without a type.
 unfoldable pub check_entries : RawTech → List (List ℕ) → Result (Unit {0}) TechFault

@@ -12,9 +12,8 @@ ghost use Rattle.tech_draft.specs.Finished.{is_residue_of, mark_bit, set_with, f
 ghost use Rattle.tech_draft.specs.Sound.{IsSound};
 
 use self::pair_list::PairList;
-use crate::words::push;
 use geo_core::{List, Name};
-use std::alloc::Global;
+use std::alloc::{AllocError, Global};
 use std::marker::Model;
 use tech_model::{
     ClassRec, FIRST_MARK, FetRule, LayerId, LayerIndex, LayerRec, MOST_TYPES, PartSet, RawTech,
@@ -165,15 +164,13 @@ impl Draft {
         }
     }
 
-    fn finished_types(&self) -> Result<Vec<TypeRec>, TechFault>
-        ensures ok { IfOk result (λ types. types.items ≡ map (finished_type self.now) self.now.raw.types) }
-        ensures only_memory { IfErr result (λ fault. fault ≡ Memory) }
+    fn finished_types(&self) -> Result<Vec<TypeRec>, AllocError>
+        ensures { IfOk result (λ types. types.items ≡ map (finished_type self.now) self.now.raw.types) }
     {
-        let mut types = Vec::new(self.alloc);
-        for kind in &self.types {
-            push(&mut types, self.finished_type(kind))?;
-        }
-        Ok(types)
+        self.types
+            .iter()
+            .map(|kind| self.finished_type(kind))
+            .collect(self.alloc)
     }
 
     // The type, with the mark of its contact and the set of its residue where it has one.

@@ -158,12 +158,7 @@ fn has_form(form: WordForm, word: &[u8]) -> bool
 pub(crate) fn all_have(form: WordForm, text: Parted<'_>) -> bool
     ensures { result ≡ list_all (has_form form) (parts_in text.entry) }
 {
-    for part in each_part(text) {
-        if !has_form(form, part) {
-            return false;
-        }
-    }
-    true
+    each_part(text).all(|part| has_form(form, part))
 }
 
 /// Whether each piece of the list is an entry.

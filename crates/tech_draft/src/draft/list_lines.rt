@@ -13,8 +13,9 @@ use super::Draft;
 use super::lookups::has_type;
 use super::word_rules::WordRule;
 use crate::parts::{Parted, first_piece};
-use crate::words::{is_entry, is_entry_list, is_naming_label, measure_in, parts_of_entry, push};
+use crate::words::{is_entry, is_entry_list, is_naming_label, measure_in, parts_of_entry};
 use geo_core::{List, Name};
+use std::alloc::AllocError;
 use tech_model::{ClassRec, FetRule, MOST_CLASSES, MOST_FETS, Table, TechFault, TypeId};
 use text_scan::{is_plain_name, split_word, words};
 
@@ -26,10 +27,9 @@ fn is_fet_form(kind: &[u8], list: &[u8], name: &[u8], substrate: &[u8]) -> bool
 
 impl Draft {
     // Lets two types of one plane connect, where they don't yet.
-    fn add_pair(&mut self, first: TypeId, second: TypeId) -> Result<(), TechFault>
-        ensures read { OnOk result (self.new
+    fn add_pair(&mut self, first: TypeId, second: TypeId) -> Result<(), AllocError>
+        ensures { OnOk result (self.new
             ≡ with_pair_list self.old (with_pair self.old.raw first self.old.raw.pairs second)) }
-        ensures only_memory { IfErr result (λ fault. fault ≡ Memory) }
     {
         if self.plane_of(first) == self.plane_of(second) && !self.pairs.has(first, second) {
             self.pairs.push(first, second)?;
@@ -37,10 +37,9 @@ impl Draft {
         Ok(())
     }
 
-    fn add_partners(&mut self, first: TypeId, seconds: &[TypeId]) -> Result<(), TechFault>
-        ensures read { OnOk result (self.new
+    fn add_partners(&mut self, first: TypeId, seconds: &[TypeId]) -> Result<(), AllocError>
+        ensures { OnOk result (self.new
             ≡ with_pair_list self.old (with_partners self.old.raw seconds.now self.old.raw.pairs first)) }
-        ensures only_memory { IfErr result (λ fault. fault ≡ Memory) }
     {
         for &second in seconds {
             self.add_pair(first, second)?;
@@ -49,10 +48,9 @@ impl Draft {
     }
 
     // The lists of a line have each type once, so they make at most the square of `MOST_TYPES` pairs.
-    fn add_pairs(&mut self, firsts: &[TypeId], seconds: &[TypeId]) -> Result<(), TechFault>
-        ensures read { OnOk result (self.new
+    fn add_pairs(&mut self, firsts: &[TypeId], seconds: &[TypeId]) -> Result<(), AllocError>
+        ensures { OnOk result (self.new
             ≡ with_pair_list self.old (with_pairs self.old.raw firsts.now seconds.now)) }
-        ensures only_memory { IfErr result (λ fault. fault ≡ Memory) }
     {
         for &first in firsts {
             self.add_partners(first, seconds)?;
@@ -83,7 +81,8 @@ impl Draft {
         self.check_entries(Parted::Listed(first), Parted::Listed(second))?;
         let firsts = self.types_of_list(first)?;
         let seconds = self.types_of_list(second)?;
-        self.add_pairs(&firsts, &seconds)
+        self.add_pairs(&firsts, &seconds)?;
+        Ok(())
     }
 
     // Reads the words after `resist`.
@@ -112,12 +111,12 @@ impl Draft {
             return Err(TechFault::TooMany(Table::Classes));
         }
         let types = self.types_of_list(list)?;
-        self.push_class(types, value)
+        self.push_class(types, value)?;
+        Ok(())
     }
 
-    fn push_class(&mut self, types: Vec<TypeId>, value: u64) -> Result<(), TechFault>
-        ensures read { OnOk result (self.new ≡ with_class self.old types.items value) }
-        ensures only_memory { IfErr result (λ fault. fault ≡ Memory) }
+    fn push_class(&mut self, types: Vec<TypeId>, value: u64) -> Result<(), AllocError>
+        ensures { OnOk result (self.new ≡ with_class self.old types.items value) }
     {
         let class = ClassRec {
             value,
@@ -125,7 +124,8 @@ impl Draft {
             per_perimeter: 0,
             types: List::of(types),
         };
-        push(&mut self.classes, class)
+        self.classes.push(class)?;
+        Ok(())
     }
 
     // Whether all these types belong to the class.
@@ -187,7 +187,8 @@ impl Draft {
         }
         self.check_entries(Parted::Nothing, Parted::Listed(list))?;
         let class = self.uncapped(list)?;
-        self.set_capacitance(class, per_area, per_perimeter)
+        self.set_capacitance(class, per_area, per_perimeter)?;
+        Ok(())
     }
 
     // The class of all types of the list, where it has no `cap` line.
@@ -219,11 +220,10 @@ impl Draft {
         class: usize,
         per_area: u64,
         per_perimeter: u64,
-    ) -> Result<(), TechFault>
-        ensures read { OnOk result (self.new ≡ with_capacitance self.old per_area per_perimeter class) }
-        ensures only_memory { IfErr result (λ fault. fault ≡ Memory) }
+    ) -> Result<(), AllocError>
+        ensures { OnOk result (self.new ≡ with_capacitance self.old per_area per_perimeter class) }
     {
-        push(&mut self.capped, class)?;
+        self.capped.push(class)?;
         if let Some(record) = self.classes.get_mut(class) {
             record.per_area = per_area;
             record.per_perimeter = per_perimeter;
@@ -298,14 +298,15 @@ impl Draft {
             name: Name::of(self.alloc, name)?,
             substrate: Name::of(self.alloc, substrate)?,
         };
-        self.push_fet(fet)
+        self.push_fet(fet)?;
+        Ok(())
     }
 
-    fn push_fet(&mut self, fet: FetRule) -> Result<(), TechFault>
-        ensures read { OnOk result (self.new ≡ with_rule self.old fet) }
-        ensures only_memory { IfErr result (λ fault. fault ≡ Memory) }
+    fn push_fet(&mut self, fet: FetRule) -> Result<(), AllocError>
+        ensures { OnOk result (self.new ≡ with_rule self.old fet) }
     {
-        push(&mut self.fets, fet)
+        self.fets.push(fet)?;
+        Ok(())
     }
 
     /// Reads a line of the section `extract`.

@@ -1,8 +1,7 @@
 // What words stand for in a draft.
-ghost use Rattle.std.specs.Prelude.{◌≡◌, ◌<◌, fold, is_some, slice_index_or, Some, None, IfOk, IfErr, OnOk};
+ghost use Rattle.std.specs.Prelude.{◌≡◌, ◌<◌, fold, is_some, slice_index_or, Some, None, IfOk, OnOk};
 ghost use Rattle.std.specs.List.{list_any};
 ghost use Rattle.std.specs.Option.{option_map};
-ghost use Rattle.tech_model.specs.declared.faults.TechFault.TheVariants.{Memory};
 ghost use Rattle.tech_model.specs.Types.{plane_of, parts_of, images_of, layer_named, layer_number, type_number};
 ghost use Rattle.tech_draft.specs.Lookups.{plane_named, named_types, first_on, type_on, entry_types, has_type, with_type_once};
 ghost use Rattle.tech_draft.specs.Lookups.{types_of_list};
@@ -10,8 +9,9 @@ ghost use Rattle.tech_draft.specs.Lookups.{type_of_word, plane_of_word, layer_of
 
 use super::{Draft, parts_in};
 use crate::parts::{Parted, each_part};
-use crate::words::{has_slash, parts_of_entry, push};
-use tech_model::{LayerId, MOST_TYPES, TechFault, TypeId};
+use crate::words::{has_slash, parts_of_entry};
+use std::alloc::AllocError;
+use tech_model::{LayerId, MOST_TYPES, TypeId};
 
 /// Whether the type is one of these.
 pub(super) fn has_type(types: &[TypeId], kind: TypeId) -> bool
@@ -31,9 +31,8 @@ fn first_type(types: &[TypeId]) -> TypeId
 }
 
 /// Puts each of these types at the end that is not there.
-fn push_each_once(types: &mut Vec<TypeId>, more: &[TypeId]) -> Result<(), TechFault>
-    ensures ok { OnOk result (types.new.items ≡ fold with_type_once types.old.items more.now) }
-    ensures only_memory { IfErr result (λ fault. fault ≡ Memory) }
+fn push_each_once(types: &mut Vec<TypeId>, more: &[TypeId]) -> Result<(), AllocError>
+    ensures { OnOk result (types.new.items ≡ fold with_type_once types.old.items more.now) }
 {
     for &kind in more {
         push_once(types, kind)?;
@@ -42,14 +41,13 @@ fn push_each_once(types: &mut Vec<TypeId>, more: &[TypeId]) -> Result<(), TechFa
 }
 
 /// Puts a type at the end, unless it is there.
-fn push_once(types: &mut Vec<TypeId>, kind: TypeId) -> Result<(), TechFault>
-    ensures ok { OnOk result (types.new.items ≡ with_type_once types.old.items kind) }
-    ensures only_memory { IfErr result (λ fault. fault ≡ Memory) }
+fn push_once(types: &mut Vec<TypeId>, kind: TypeId) -> Result<(), AllocError>
+    ensures { OnOk result (types.new.items ≡ with_type_once types.old.items kind) }
 {
-    if has_type(types, kind) {
-        return Ok(());
+    if !has_type(types, kind) {
+        types.push(kind)?;
     }
-    push(types, kind)
+    Ok(())
 }
 
 impl Draft {
@@ -141,9 +139,8 @@ impl Draft {
     }
 
     /// The types that the entries of a list mean, each once, where it is first meant.
-    pub(super) fn types_of_list(&self, list: &[u8]) -> Result<Vec<TypeId>, TechFault>
-        ensures ok { IfOk result (λ types. types.items ≡ types_of_list self.now.raw list.now) }
-        ensures only_memory { IfErr result (λ fault. fault ≡ Memory) }
+    pub(super) fn types_of_list(&self, list: &[u8]) -> Result<Vec<TypeId>, AllocError>
+        ensures { IfOk result (λ types. types.items ≡ types_of_list self.now.raw list.now) }
     {
         let mut types = Vec::new(self.alloc);
         for entry in each_part(Parted::Listed(list)) {

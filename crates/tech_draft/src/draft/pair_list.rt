@@ -1,13 +1,11 @@
 // Pairs of types that are looked up without a search.
-ghost use Rattle.std.specs.Prelude.{◌≡◌, ◌++◌, ◌+◌, ◌*◌, ◌<◌, ◌∷◌, [], ℕ, false, length, slice_index_or, OnOk, IfErr};
-ghost use Rattle.tech_model.specs.declared.faults.TechFault.TheVariants.{Memory};
+ghost use Rattle.std.specs.Prelude.{◌≡◌, ◌++◌, ◌+◌, ◌*◌, ◌<◌, ◌∷◌, [], ℕ, false, length, slice_index_or, OnOk};
 ghost use Rattle.tech_draft.specs.ListLines.{has_pair};
 ghost use Rattle.tech_draft.specs.PairFlags.{flag_place, HasFlags};
 
-use crate::words::push;
-use std::alloc::Global;
+use std::alloc::{AllocError, Global};
 use std::marker::Model;
-use tech_model::{TechFault, TypeId};
+use tech_model::TypeId;
 
 /// The flags of one first type: one for each number that a second may have.
 const FLAGS_OF_ONE: usize = 256;
@@ -54,13 +52,12 @@ impl PairList {
     }
 
     /// Puts a pair at the end.
-    pub(crate) fn push(&mut self, first: TypeId, second: TypeId) -> Result<(), TechFault>
-        ensures ok { OnOk result (self.new ≡ self.old ++ (first, second) ∷ []) }
-        ensures only_memory { IfErr result (λ fault. fault ≡ Memory) }
+    pub(crate) fn push(&mut self, first: TypeId, second: TypeId) -> Result<(), AllocError>
+        ensures { OnOk result (self.new ≡ self.old ++ (first, second) ∷ []) }
     {
         let place = place_of(first, second);
         make_room(&mut self.flags, place)?;
-        push(&mut self.pairs, (first, second))?;
+        self.pairs.push((first, second))?;
         self.flags[place] = true;
         Ok(())
     }
@@ -81,13 +78,12 @@ fn place_of(first: TypeId, second: TypeId) -> usize
 }
 
 // Sees to it that the flags reach this place.
-fn make_room(flags: &mut Vec<bool>, place: usize) -> Result<(), TechFault>
+fn make_room(flags: &mut Vec<bool>, place: usize) -> Result<(), AllocError>
     ensures same { (k : ℕ) → slice_index_or flags.new.items k false ≡ slice_index_or flags.old.items k false }
     ensures room { OnOk result (place < length flags.new.items) }
-    ensures only_memory { IfErr result (λ fault. fault ≡ Memory) }
 {
     while flags.len() <= place {
-        push(flags, false)?;
+        flags.push(false)?;
     }
     Ok(())
 }

@@ -14,9 +14,9 @@ use super::lookups::has_type;
 use super::word_rules::WordRule;
 use super::{Draft, set_parts};
 use crate::parts::Parted;
-use crate::words::{WordForm, all_have, push};
+use crate::words::{WordForm, all_have};
 use geo_core::{List, Name};
-use std::alloc::Global;
+use std::alloc::{AllocError, Global};
 use tech_model::{LayerId, LayerRec, MOST_TYPES, PartSet, Table, TechFault, TypeId, TypeRec};
 use text_scan::{split_word, words};
 
@@ -32,15 +32,14 @@ fn numbered_images(
     own: TypeId,
     first: usize,
     count: usize,
-) -> Result<List<TypeId>, TechFault>
+) -> Result<List<TypeId>, AllocError>
     requires { first + count ≤ u8.MAX }
-    ensures ok { IfOk result (λ images. images ≡ own ∷ map type_number (range_with_len first count)) }
-    ensures only_memory { IfErr result (λ fault. fault ≡ Memory) }
+    ensures { IfOk result (λ images. images ≡ own ∷ map type_number (range_with_len first count)) }
 {
     let mut images = Vec::new(alloc);
-    push(&mut images, own)?;
+    images.push(own)?;
     for number in first..first + count {
-        push(&mut images, TypeId(number as u8))?;
+        images.push(TypeId(number as u8))?;
     }
     Ok(List::of(images))
 }
@@ -52,11 +51,10 @@ fn put_images(
     records: &[TypeRec],
     layer: LayerId,
     images: List<TypeId>,
-) -> Result<(), TechFault>
+) -> Result<(), AllocError>
     ensures types { OnOk result (types.new.items ≡ types.old.items ++ records.now) }
     ensures layers { OnOk result (layers.new.items ≡ slice_set layers.old.items layer.0
         (record (slice_index_or layers.old.items layer.0 no_layer) { images = images })) }
-    ensures only_memory { IfErr result (λ fault. fault ≡ Memory) }
 {
     types.extend_from_slice(records)?;
     set_images(layers, layer, images);
@@ -77,9 +75,8 @@ fn set_images(layers: &mut [LayerRec], layer: LayerId, images: List<TypeId>)
 impl Draft {
     // Whether two residues stand on one plane, or none stands on the base's plane.
     #[tactic(auto, unfolding(crate::specs::SetLines::are_misplaced))]
-    fn are_misplaced(&self, base: &[u8], residues: &[u8]) -> Result<bool, TechFault>
-        ensures ok { IfOk result (λ misplaced. misplaced ≡ are_misplaced self.now.raw base.now (words_of residues.now)) }
-        ensures only_memory { IfErr result (λ fault. fault ≡ Memory) }
+    fn are_misplaced(&self, base: &[u8], residues: &[u8]) -> Result<bool, AllocError>
+        ensures { IfOk result (λ misplaced. misplaced ≡ are_misplaced self.now.raw base.now (words_of residues.now)) }
     {
         let mut planes = Vec::new(self.alloc);
         for residue in words(residues) {
@@ -87,7 +84,7 @@ impl Draft {
             if has_number(&planes, plane) {
                 return Ok(true);
             }
-            push(&mut planes, plane)?;
+            planes.push(plane)?;
         }
         Ok(!has_number(&planes, self.plane_of_word(base)))
     }
@@ -107,39 +104,28 @@ impl Draft {
     }
 
     // The residues on other planes than the base's, in order.
-    fn other_residues(&self, base: &[u8], residues: &[u8]) -> Result<Vec<TypeId>, TechFault>
-        ensures ok { IfOk result (λ others. others.items ≡ other_residues self.now.raw base.now (words_of residues.now)) }
-        ensures only_memory { IfErr result (λ fault. fault ≡ Memory) }
+    fn other_residues(&self, base: &[u8], residues: &[u8]) -> Result<Vec<TypeId>, AllocError>
+        ensures { IfOk result (λ others. others.items ≡ other_residues self.now.raw base.now (words_of residues.now)) }
     {
         let plane = self.plane_of_word(base);
-        let mut others = Vec::new(self.alloc);
-        for word in words(residues) {
-            if self.plane_of_word(word) != plane {
-                push(&mut others, self.type_of_word(word))?;
-            }
-        }
-        Ok(others)
+        words(residues)
+            .filter(|word| self.plane_of_word(word) != plane)
+            .map(|word| self.type_of_word(word))
+            .collect(self.alloc)
     }
 
     // The records of images of this layer on the planes of these residues.
-    fn image_records(&self, layer: LayerId, others: &[TypeId]) -> Result<Vec<TypeRec>, TechFault>
-        ensures ok { IfOk result (λ records. records.items ≡ map (image_record self.now.raw layer.0) others.now) }
-        ensures only_memory { IfErr result (λ fault. fault ≡ Memory) }
+    fn image_records(&self, layer: LayerId, others: &[TypeId]) -> Result<Vec<TypeRec>, AllocError>
+        ensures { IfOk result (λ records. records.items ≡ map (image_record self.now.raw layer.0) others.now) }
     {
-        let parts = PartSet(0);
-        let mut records = Vec::new(self.alloc);
-        for &residue in others {
-            let plane = self.plane_of(residue);
-            push(
-                &mut records,
-                TypeRec {
-                    plane,
-                    layer,
-                    parts,
-                },
-            )?;
-        }
-        Ok(records)
+        others
+            .iter()
+            .map(|&residue| TypeRec {
+                plane: self.plane_of(residue),
+                layer,
+                parts: PartSet(0),
+            })
+            .collect(self.alloc)
     }
 
     // Gives the layer its own image and one for each of these residues.
@@ -148,10 +134,9 @@ impl Draft {
         layer: LayerId,
         own: TypeId,
         others: &[TypeId],
-    ) -> Result<(), TechFault>
+    ) -> Result<(), AllocError>
         requires { length self.old.raw.types + length others.now ≤ MOST_TYPES }
-        ensures read { OnOk result (self.new ≡ record self.old { raw = with_images self.old.raw layer.0 own others.now }) }
-        ensures only_memory { IfErr result (λ fault. fault ≡ Memory) }
+        ensures { OnOk result (self.new ≡ record self.old { raw = with_images self.old.raw layer.0 own others.now }) }
     {
         let records = self.image_records(layer, others)?;
         let images = numbered_images(self.alloc, own, self.types.len() + 1, others.len())?;
@@ -167,15 +152,12 @@ impl Draft {
         &self,
         layer: LayerId,
         residues: &[u8],
-    ) -> Result<Vec<(LayerId, TypeId)>, TechFault>
-        ensures ok { IfOk result (λ pairs. pairs.items ≡ residues_of_layer self.now.raw layer.0 (words_of residues.now)) }
-        ensures only_memory { IfErr result (λ fault. fault ≡ Memory) }
+    ) -> Result<Vec<(LayerId, TypeId)>, AllocError>
+        ensures { IfOk result (λ pairs. pairs.items ≡ residues_of_layer self.now.raw layer.0 (words_of residues.now)) }
     {
-        let mut pairs = Vec::new(self.alloc);
-        for word in words(residues) {
-            push(&mut pairs, (layer, self.type_of_word(word)))?;
-        }
-        Ok(pairs)
+        words(residues)
+            .map(|word| (layer, self.type_of_word(word)))
+            .collect(self.alloc)
     }
 
     // The residues on other planes than the base's, where the base may become a contact with all of them.
@@ -215,7 +197,8 @@ impl Draft {
         let own = self.type_of_word(base);
         let pairs = self.residues_of_layer(layer, residues)?;
         self.residues.extend_from_slice(&pairs)?;
-        self.add_images(layer, own, &others)
+        self.add_images(layer, own, &others)?;
+        Ok(())
     }
 
     /// Reads a line of the section `contact`.
@@ -269,14 +252,13 @@ impl Draft {
     }
 
     // Gives the whole the union of the sets of its parts.
-    fn unite(&mut self, whole: TypeId, first: TypeId, second: TypeId) -> Result<(), TechFault>
-        ensures read { OnOk result (self.new ≡ with_union self.old whole first second) }
-        ensures only_memory { IfErr result (λ fault. fault ≡ Memory) }
+    fn unite(&mut self, whole: TypeId, first: TypeId, second: TypeId) -> Result<(), AllocError>
+        ensures { OnOk result (self.new ≡ with_union self.old whole first second) }
     {
         let parts = self.parts_of(first) | self.parts_of(second);
-        push(&mut self.used, first)?;
-        push(&mut self.used, second)?;
-        push(&mut self.results, whole)?;
+        self.used.push(first)?;
+        self.used.push(second)?;
+        self.results.push(whole)?;
         set_parts(&mut self.types, whole, PartSet(parts));
         Ok(())
     }
@@ -306,7 +288,8 @@ impl Draft {
             return Err(TechFault::Twice(Name::of(self.alloc, whole)?));
         }
         self.refuse(WordRule::Contact, Parted::Line(line))?;
-        self.unite(whole_type, first, second)
+        self.unite(whole_type, first, second)?;
+        Ok(())
     }
 
     fn compose(

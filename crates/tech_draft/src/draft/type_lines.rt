@@ -15,7 +15,7 @@ use super::Draft;
 use crate::parts::{Parted, each_part};
 use crate::words::{WordForm, all_have, push};
 use geo_core::{List, Name};
-use std::alloc::Global;
+use std::alloc::{AllocError, Global};
 use tech_model::{
     LayerId, LayerIndex, LayerRec, MOST_PLANES, MOST_TYPES, PartSet, Table, TechFault, TypeId,
     TypeRec,
@@ -57,33 +57,29 @@ fn push_atom(
     layers: &mut Vec<LayerRec>,
     plane: u8,
     names: Vec<Name>,
-) -> Result<(), TechFault>
+) -> Result<(), AllocError>
     requires types_room { length types.old.items < MOST_TYPES }
     requires layers_room { length layers.old.items < MOST_TYPES }
     ensures types { OnOk result ((raw : RawValue) → types.old.items ≡ raw.types → layers.old.items ≡ raw.layers
         → types.new.items ≡ raw.types ++ atom_on raw plane ∷ []) }
     ensures layers { OnOk result ((raw : RawValue) → types.old.items ≡ raw.types
         → layers.old.items ≡ raw.layers → layers.new.items ≡ raw.layers ++ atom_layer raw names.items ∷ []) }
-    ensures only_memory { IfErr result (λ fault. fault ≡ Memory) }
 {
     let number = types.len() as u8;
     let mut images = Vec::new(alloc);
-    push(&mut images, TypeId(number + 1))?;
+    images.push(TypeId(number + 1))?;
     let layer = LayerId(layers.len() as u8);
     let parts = PartSet(1u128 << number);
-    push(
-        types,
-        TypeRec {
-            plane,
-            layer,
-            parts,
-        },
-    )?;
-    let record = LayerRec {
+    types.push(TypeRec {
+        plane,
+        layer,
+        parts,
+    })?;
+    layers.push(LayerRec {
         names: List::of(names),
         images: List::of(images),
-    };
-    push(layers, record)
+    })?;
+    Ok(())
 }
 
 impl Draft {
@@ -193,7 +189,7 @@ impl Draft {
         }
         if let Err(fault) = push_atom(self.alloc, &mut self.types, &mut self.layers, plane, names) {
             *self = Draft::new(self.alloc);
-            return Err(fault);
+            return Err(fault.into());
         }
         Ok(())
     }

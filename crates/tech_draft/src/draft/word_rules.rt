@@ -1,9 +1,10 @@
 // Rules for words, and the first word that breaks one.
-ghost use Rattle.std.specs.Prelude.{◌≡◌, ◌≢◌, ◌++◌, ◌∷◌, Ok, Err, OnOk, IfOk, IfErr};
+ghost use Rattle.std.specs.Prelude.{◌≡◌, ◌≢◌, ◌++◌, ◌∷◌, find, Ok, Err, OnOk, IfOk, IfErr};
+ghost use Rattle.std.specs.Option.{option_map};
 ghost use Rattle.text_scan.specs.Words.{words_of};
 ghost use Rattle.tech_model.specs.declared.faults.TechFault.TheVariants.{Memory};
 ghost use Rattle.tech_draft.specs.Parts.{parts_in};
-ghost use Rattle.tech_draft.specs.WordRules.{breaks, word_fault, refuse_word, refuse, check_entries, check_layers};
+ghost use Rattle.tech_draft.specs.WordRules.{breaks, word_fault, refuse, check_entries, check_layers};
 
 use super::Draft;
 use crate::parts::{Parted, each_part};
@@ -68,30 +69,32 @@ impl Draft {
         }
     }
 
-    fn refuse_word(&self, rule: WordRule, word: &[u8]) -> Result<(), TechFault>
-        ensures passed { OnOk result (refuse_word self.now.raw rule word.now ≡ Ok tt) }
-        ensures refused { IfErr result (λ fault. fault ≢ Memory → refuse_word self.now.raw rule word.now ≡ Err fault) }
-    {
-        if self.breaks(rule, word) {
-            return Err(self.word_fault(rule, word)?);
-        }
-        Ok(())
-    }
-
     /// Refuses the first part of the text that breaks the rule.
     pub(super) fn refuse(&self, rule: WordRule, text: Parted<'_>) -> Result<(), TechFault>
         ensures passed { OnOk result (refuse self.now.raw rule (parts_in text.entry) ≡ Ok tt) }
         ensures refused { IfErr result (λ fault. fault ≢ Memory
             → refuse self.now.raw rule (parts_in text.entry) ≡ Err fault) }
     {
-        for word in each_part(text) {
-            self.refuse_word(rule, word)?;
-        }
-        Ok(())
+        self.refuse_both(rule, Parted::Nothing, text)
+    }
+
+    // The first part of two texts that breaks the rule.
+    fn first_breaking<'a>(
+        &self,
+        rule: WordRule,
+        first: Parted<'a>,
+        second: Parted<'a>,
+    ) -> Option<&'a [u8]>
+        ensures { option_map (λ word. word.now) result
+            ≡ find (breaks self.now.raw rule) (parts_in first.entry ++ parts_in second.entry) }
+    {
+        each_part(first)
+            .chain(each_part(second))
+            .find(|word| self.breaks(rule, word))
     }
 
     // Refuses the first part of two texts that breaks the rule.
-    #[tactic(auto, using(crate::proofs::Refusals::refuse_append))]
+    #[tactic(auto, unfolding(crate::specs::WordRules::refuse))]
     fn refuse_both(
         &self,
         rule: WordRule,
@@ -102,8 +105,10 @@ impl Draft {
         ensures refused { IfErr result (λ fault. fault ≢ Memory
             → refuse self.now.raw rule (parts_in first.entry ++ parts_in second.entry) ≡ Err fault) }
     {
-        self.refuse(rule, first)?;
-        self.refuse(rule, second)
+        match self.first_breaking(rule, first, second) {
+            Some(word) => Err(self.word_fault(rule, word)?),
+            None => Ok(()),
+        }
     }
 
     /// Refuses the first entry that is an expression, then the first plane that there is not, then the first name

@@ -16,7 +16,7 @@ invariant_of-self-2 c =
     let words = words_of c.args.residues.now in
     let old = c.self.inside.residues.items in
     let noted : c.deref.result.now ≡ residues_of_layer raw layer words =
-    first_of (cc (c.deref.ensures.value, c.in_ok-pairs.ensures.ok), search (rules, c.deref.ensures.value, c.in_ok-pairs.ensures.ok)) in
+    first_of (cc (c.deref.ensures.value, c.in_ok-pairs.ensures), search (rules, c.deref.ensures.value, c.in_ok-pairs.ensures)) in
     let are : c.extend_from_slice.new.self.items ≡ old ++ residues_of_layer raw layer words =
     c.in_ok-extend_from_slice.ensures.items ∙ ap (λ (more : List (LayerId × TypeId)). old ++ more) noted in
     record {

@@ -10,5 +10,5 @@ loop-number-preserved c =
     let whole = c.args.first + c.args.count in
     let left : whole - n ≡ whole - (n + 1) + 1 = omega (arith, c.loop-number-test.true) in
     let split = range_split n (whole - n) (whole - (n + 1)) left in
-    rw (c.in_ok-push-2.ensures.ok, append_assoc)
+    rw (c.in_ok-push-2.ensures.items, append_assoc)
     (ap (λ (ns : List ℕ). c.loop-number.images.items ++ map type_number ns) (sym split) ∙ c.loop-number.invariant)
