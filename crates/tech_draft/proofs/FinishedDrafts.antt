@@ -33,23 +33,18 @@ whole draft = record draft.raw { types = map (finished_type draft) draft.raw.typ
 
 -- ---- its types
 
-finished_plane : (draft : Drafted) (kinds : List TypeRec) (k : ℕ)
-    → (get_or (map (finished_type draft) kinds) k no_type).plane ≡ (get_or kinds k no_type).plane
-finished_plane draft [] k = refl
-finished_plane draft (kind ∷ kinds) zero = refl
-finished_plane draft (kind ∷ kinds) (suc k) = finished_plane draft kinds k
-
-finished_layer : (draft : Drafted) (kinds : List TypeRec) (k : ℕ)
-    → (get_or (map (finished_type draft) kinds) k no_type).layer.0 ≡ (get_or kinds k no_type).layer.0
-finished_layer draft [] k = refl
-finished_layer draft (kind ∷ kinds) zero = refl
-finished_layer draft (kind ∷ kinds) (suc k) = finished_layer draft kinds k
+-- what a set doesn't change stays
+finished_same : {X : Type 0} (draft : Drafted) (f : TypeRec → X) → ((kind : TypeRec) → f (finished_type draft kind) ≡ f kind)
+    → (kinds : List TypeRec) (k : ℕ) → f (get_or (map (finished_type draft) kinds) k no_type) ≡ f (get_or kinds k no_type)
+finished_same draft f same [] k = refl
+finished_same draft f same (kind ∷ kinds) zero = same kind
+finished_same draft f same (kind ∷ kinds) (suc k) = finished_same draft f same kinds k
 
 whole-places : (draft : Drafted) → HasSamePlaces draft.raw.types (whole draft).types
 whole-places draft = record {
   many = length-map draft.raw.types (finished_type draft);
-  planes = finished_plane draft draft.raw.types;
-  layers = finished_layer draft draft.raw.types;
+  planes = finished_same draft (λ (kind : TypeRec). kind.plane) (λ kind. refl) draft.raw.types;
+  layers = finished_same draft (λ (kind : TypeRec). kind.layer.0) (λ kind. refl) draft.raw.types;
 }
 
 whole-keeps : (draft : Drafted) → Keeps draft.raw (whole draft)

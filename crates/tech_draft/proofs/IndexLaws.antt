@@ -5,7 +5,7 @@ use Rattle.std.specs.List.{position_from, list_any}
 use Rattle.std.specs.Str.{bytes_eq}
 use Rattle.std.proofs.Common.{refl, ap, subst, ◌∙◌, sym, arith, length-append, inl, inr}
 use Rattle.std.proofs.lemmas.Bool.{cases_Bool, or_cases}
-use Rattle.std.proofs.lemmas.List.{length-map, length-set}
+use Rattle.std.proofs.lemmas.List.{length_push, length-map, length-set}
 use Rattle.std.proofs.lemmas.Slice.Eq.{bytes_eq-Decides}
 use Rattle.finite_sets.proofs.Members.{In-append_cases, In-map_source}
 use Rattle.finite_sets.proofs.Searches.{All-from_In, position_from-below, position_from-push_fails, position_from-push_passes}
@@ -19,9 +19,9 @@ use Rattle.tech_model.specs.LayerWords.{layer_in}
 use Rattle.tech_model.specs.Types.{layer_named, layer_number, has_name, no_layer}
 use Rattle.tech_model.proofs.WellFormedLaws.{All_In}
 use Rattle.tech_draft.specs.declared.draft.Draft.TheInside.{Inside}
-use Rattle.tech_draft.specs.Kept.{draft_of, IsKept}
+use Rattle.tech_draft.specs.Kept.{draft_of, HasRoom, IsKept}
 use Rattle.tech_draft.specs.Lookups.{layer_of_word, type_of_word}
-use Rattle.tech_draft.specs.TypeLines.{new_names, with_atom, atom_layer}
+use Rattle.tech_draft.specs.TypeLines.{new_names, with_atom, atom_on, atom_layer}
 use Rattle.tech_draft.specs.SetLines.{with_images, next_types, residues_of_layer}
 use Rattle.tech_draft.proofs.Refusals.{rule-ok}
 
@@ -73,22 +73,18 @@ pub atom-kept : (before after : Inside) (plane : ℕ) (names : List (List ℕ)) 
     → after.residues.items ≡ before.residues.items → (draft_of after).raw ≡ with_atom (draft_of before).raw plane names → IsKept after
 atom-kept before after plane names kept room new indexed residues is =
     let raw = (draft_of before).raw in
-    let types : length (draft_of after).raw.types ≡ length raw.types + 1 = ap (λ (r : RawTech). length r.types) is
-    ∙ simp length-append refl in
-    let layers : length (draft_of after).raw.layers ≡ length raw.layers + 1 = ap (λ (r : RawTech). length r.layers) is
-    ∙ simp length-append refl in
-    let planes : length (draft_of after).raw.planes ≡ length raw.planes = ap (λ (r : RawTech). length r.planes) is in
-    let had = kept.room in
+    let types = length_push raw.types (atom_on raw plane) in
+    let layers = length_push raw.layers (atom_layer raw names) in
     record {
       indexed = λ word.
           indexed word ∙ ap (λ (o : Option ℕ). cond (list_any (bytes_eq word) names) (Some (length before.layers.items)) o)
           (kept.indexed word)
           ∙ named_after raw plane names word new ∙ ap (λ (r : RawTech). layer_named r word) (sym is);
-      room = record {
-        planes_limit = omega (arith, planes, had.planes_limit);
+      room = subst HasRoom (sym is) (record {
+        planes_limit = kept.room.planes_limit;
         types_limit = omega (arith, types, room);
-        layers_limit = omega (arith, types, layers, had.layers_limit);
-      };
+        layers_limit = omega (arith, types, layers, kept.room.layers_limit);
+      });
       marked = subst (All (λ (pair : LayerId × TypeId). pair.0.0 < MOST_TYPES)) (sym residues) kept.marked;
     }
 
@@ -121,20 +117,18 @@ pub images-kept : (before after : Inside) (layer : ℕ) (own : TypeId) (others :
     → (draft_of after).raw ≡ with_images (draft_of before).raw layer own others → IsKept after
 images-kept before after layer own others kept index residues room is =
     let raw = (draft_of before).raw in
-    let types : length (draft_of after).raw.types ≡ length raw.types + length others = ap (λ (r : RawTech). length r.types) is
-    ∙ simp (length-append, length-map) refl in
-    let layers : length (draft_of after).raw.layers ≡ length raw.layers = ap (λ (r : RawTech). length r.layers) is ∙ simp length-set refl in
-    let planes : length (draft_of after).raw.planes ≡ length raw.planes = ap (λ (r : RawTech). length r.planes) is in
-    let had = kept.room in
+    let images = own ∷ next_types raw (length others) in
+    let types : length (with_images raw layer own others).types ≡ length raw.types + length others = simp (length-append, length-map) refl in
+    let layers : length (with_images raw layer own others).layers ≡ length raw.layers = simp length-set refl in
     record {
       indexed = λ word.
           ap (λ entries. layer_in entries word) index ∙ kept.indexed word
-          ∙ sym (names_stay word (own ∷ next_types raw (length others)) raw.layers 0 layer)
+          ∙ sym (names_stay word images raw.layers 0 layer)
           ∙ ap (λ (r : RawTech). layer_named r word) (sym is);
-      room = record {
-        planes_limit = omega (arith, planes, had.planes_limit);
+      room = subst HasRoom (sym is) (record {
+        planes_limit = kept.room.planes_limit;
         types_limit = omega (arith, types, room);
-        layers_limit = omega (arith, types, layers, had.layers_limit);
-      };
+        layers_limit = omega (arith, types, layers, kept.room.layers_limit);
+      });
       marked = subst (All (λ (pair : LayerId × TypeId). pair.0.0 < MOST_TYPES)) (sym residues) kept.marked;
     }

@@ -11,6 +11,7 @@ use Rattle.tech_model.specs.declared.raw.LayerRec.{LayerRec}
 use Rattle.tech_model.specs.declared.raw.ClassRec.{ClassRec}
 use Rattle.tech_model.specs.declared.raw.FetRule.{FetRule}
 use Rattle.tech_model.specs.declared.raw.RawTech.{RawTech}
+use Rattle.tech_model.specs.declared.limits.TheConstants.{MOST_CLASSES, MOST_FETS}
 use Rattle.tech_model.specs.Types.{is_type, type_at, plane_of, layer_of, images_of, no_type, no_layer}
 use Rattle.tech_model.specs.WellFormed.{IsLayer, IsClass, IsFet, IsPair, AreApart}
 use Rattle.tech_model.proofs.WellFormedLaws.{type_bounds, type_from_bounds}
@@ -64,11 +65,6 @@ kept_class raw next keeps class is = record {
   types = kept_types raw next keeps class.types is.types;
 }
 
--- classes that fitted the lists fit them still
-pub kept_classes : (raw next : RawTech) → Keeps raw next → (classes : List ClassRec) → All (IsClass raw) classes
-    → All (IsClass next) classes
-kept_classes raw next keeps classes all = All-weaker (IsClass raw) (IsClass next) (kept_class raw next keeps) classes all
-
 kept_fet : (raw next : RawTech) → Keeps raw next → (fet : FetRule) → IsFet raw fet → IsFet next fet
 kept_fet raw next keeps fet is = record {
   kind = kept_type raw next keeps fet.kind.0 is.kind;
@@ -77,10 +73,6 @@ kept_fet raw next keeps fet is = record {
   substrate = is.substrate;
 }
 
--- transistors that fitted the lists fit them still
-pub kept_fets : (raw next : RawTech) → Keeps raw next → (fets : List FetRule) → All (IsFet raw) fets → All (IsFet next) fets
-kept_fets raw next keeps fets all = All-weaker (IsFet raw) (IsFet next) (kept_fet raw next keeps) fets all
-
 kept_pair : (raw next : RawTech) → Keeps raw next → (pair : TypeId × TypeId) → IsPair raw pair → IsPair next pair
 kept_pair raw next keeps pair is = record {
   first = kept_type raw next keeps pair.0.0 is.first;
@@ -88,9 +80,19 @@ kept_pair raw next keeps pair is = record {
   plane = keeps.planes pair.0.0 is.first ∙ is.plane ∙ sym (keeps.planes pair.1.0 is.second);
 }
 
--- pairs that fitted the lists fit them still
-pub kept_pairs : (raw next : RawTech) → Keeps raw next → (pairs : List (TypeId × TypeId)) → All (IsPair raw) pairs → All (IsPair next) pairs
-kept_pairs raw next keeps pairs all = All-weaker (IsPair raw) (IsPair next) (kept_pair raw next keeps) pairs all
+-- pairs, classes and transistors that fit the types from before are sound
+pub rules_in : (raw next : RawTech) → Keeps raw next → All (IsPair raw) next.pairs → length next.classes ≤ MOST_CLASSES
+    → All (IsClass raw) next.classes → AreApart (λ class. class.types) next.classes → length next.fets ≤ MOST_FETS
+    → All (IsFet raw) next.fets → Distinct (map (λ fet. fet.kind) next.fets) → HasSoundRules next
+rules_in raw next keeps pairs few_classes classes apart few_fets fets differ = record {
+  pairs = All-weaker (IsPair raw) (IsPair next) (kept_pair raw next keeps) next.pairs pairs;
+  classes_limit = few_classes;
+  classes = All-weaker (IsClass raw) (IsClass next) (kept_class raw next keeps) next.classes classes;
+  classes_apart = apart;
+  fets_limit = few_fets;
+  fets = All-weaker (IsFet raw) (IsFet next) (kept_fet raw next keeps) next.fets fets;
+  fets_differ = differ;
+}
 
 -- the technology with other names, planes, types and layers
 abbrev pub with_shape : RawTech → List ℕ → List (List ℕ) → List TypeRec → List LayerRec → RawTech
@@ -100,16 +102,8 @@ with_shape raw name planes types layers = record raw { name = name; planes = pla
 pub kept_rules : (raw : RawTech) (name : List ℕ) (planes : List (List ℕ)) (types : List TypeRec) (layers : List LayerRec)
     → Keeps raw (with_shape raw name planes types layers) → HasSoundRules raw → HasSoundRules (with_shape raw name planes types layers)
 kept_rules raw name planes types layers keeps rules =
-    let next = with_shape raw name planes types layers in
-    record {
-      pairs = kept_pairs raw next keeps raw.pairs rules.pairs;
-      classes_limit = rules.classes_limit;
-      classes = kept_classes raw next keeps raw.classes rules.classes;
-      classes_apart = rules.classes_apart;
-      fets_limit = rules.fets_limit;
-      fets = kept_fets raw next keeps raw.fets rules.fets;
-      fets_differ = rules.fets_differ;
-    }
+    rules_in raw (with_shape raw name planes types layers) keeps rules.pairs rules.classes_limit rules.classes rules.classes_apart
+    rules.fets_limit rules.fets rules.fets_differ
 
 -- ---- types that stay where they are
 

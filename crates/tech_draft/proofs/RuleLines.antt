@@ -32,7 +32,7 @@ use Rattle.tech_draft.specs.Lookups.{entry_types, has_type, types_of_list, type_
 use Rattle.tech_draft.specs.ListLines.{has_pair, with_pair, with_partners, with_pairs, class_with, no_class, class_at, is_fet_form, has_fet}
 use Rattle.tech_draft.specs.ListLines.{fet_with}
 use Rattle.tech_draft.specs.Sound.{HasSoundLayers, HasSoundRules}
-use Rattle.tech_draft.proofs.Keeps.{kept_pairs, kept_classes, kept_fets, apart_set, places-keep, same_places}
+use Rattle.tech_draft.proofs.Keeps.{rules_in, apart_set, places-keep, same_places}
 use Rattle.tech_draft.proofs.LookupLaws.{word_type, list_source, list_type, list_types}
 use Rattle.tech_draft.proofs.Refusals.{none_breaks}
 
@@ -45,18 +45,8 @@ pub lists-rules : (raw : RawTech) (pairs : List (TypeId × TypeId)) (classes : L
     → length classes ≤ MOST_CLASSES → All (IsClass raw) classes → AreApart (λ class. class.types) classes
     → length fets ≤ MOST_FETS → All (IsFet raw) fets → Distinct (map (λ fet. fet.kind) fets)
     → HasSoundRules (with_lists raw pairs classes fets)
-lists-rules raw pairs classes fets all_pairs few_classes all_classes apart few_fets all_fets differ =
-    let next = with_lists raw pairs classes fets in
-    let keeps = places-keep raw next (same_places raw.types) in
-    record {
-      pairs = kept_pairs raw next keeps pairs all_pairs;
-      classes_limit = few_classes;
-      classes = kept_classes raw next keeps classes all_classes;
-      classes_apart = apart;
-      fets_limit = few_fets;
-      fets = kept_fets raw next keeps fets all_fets;
-      fets_differ = differ;
-    }
+lists-rules raw pairs classes fets =
+    let next = with_lists raw pairs classes fets in rules_in raw next (places-keep raw next (same_places raw.types))
 
 -- ---- pairs
 

@@ -1,5 +1,5 @@
 -- Each line that is taken keeps a draft sound.
-use Rattle.std.proofs.Common.{◌≡◌, ◌<◌, ◌≤◌, ◌+◌, ◌==◌, ◌||◌, ℕ, true, false, List, [], ◌∷◌, ◌++◌, length, refl, sym, ap, subst, ◌∙◌, arith}
+use Rattle.std.proofs.Common.{◌≡◌, ◌<◌, ◌≤◌, ◌==◌, ◌||◌, ℕ, true, false, List, [], ◌∷◌, ◌++◌, length, refl, sym, ap, subst, ◌∙◌, arith}
 use Rattle.std.proofs.Common.{inl, inr}
 use Rattle.std.specs.Prelude.{IsTrue, Option, Some, None, Ok, not, nat_lt, nat_le, codes}
 use Rattle.std.specs.List.{list_any, list_all}
@@ -25,7 +25,7 @@ use Rattle.tech_model.specs.declared.faults.Section.TheVariants.{Tech, Planes, T
 use Rattle.tech_model.specs.declared.faults.TechFault.{TechFault}
 use Rattle.tech_model.specs.declared.faults.TechFault.TheVariants.{BadForm, NoPlane, Twice, TooMany}
 use Rattle.tech_model.specs.declared.faults.Table.TheVariants as tables
-use Rattle.tech_model.specs.declared.limits.TheConstants.{MOST_PLANES, MOST_TYPES, MOST_CLASSES, MOST_FETS, LARGEST_MEASURE}
+use Rattle.tech_model.specs.declared.limits.TheConstants.{MOST_PLANES, MOST_TYPES, MOST_CLASSES, MOST_FETS}
 use Rattle.tech_model.specs.Forms.{is_layer_name}
 use Rattle.tech_model.specs.Types.{plane_of, has_name}
 use Rattle.tech_draft.specs.Drafts.{Drafted}
@@ -39,11 +39,11 @@ use Rattle.tech_draft.specs.TypeLines.{with_name, name_line, with_plane, plane_l
 use Rattle.tech_draft.specs.TypeLines.{type_line}
 use Rattle.tech_draft.specs.SetLines.{other_residues, residues_of_layer, with_contact}
 use Rattle.tech_draft.specs.SetLines.{contact_line}
-use Rattle.tech_draft.specs.SetLines.{are_composable, is_settled, with_union, new_union, compose_line}
+use Rattle.tech_draft.specs.SetLines.{are_composable, is_settled, with_union, compose_line}
 use Rattle.tech_draft.specs.ListLines.{with_pairs, with_pair_list, connect_line, with_class, new_class, resist_line}
 use Rattle.tech_draft.specs.ListLines.{shared_class, uncapped}
 use Rattle.tech_draft.specs.ListLines.{with_capacitance, new_capacitance, cap_line, is_fet_form, has_fet, with_rule, fet_with, check_fet}
-use Rattle.tech_draft.specs.ListLines.{new_fet, fet_line, extract_line}
+use Rattle.tech_draft.specs.ListLines.{fet_line, extract_line}
 use Rattle.tech_draft.specs.Lines.{line_in}
 use Rattle.tech_draft.specs.Sound.{HasSoundNames, HasSoundRules, IsPart, IsSound}
 use Rattle.tech_draft.proofs.AtomSteps.{IsNewLayer, atom_growth, atom_layers, atom_step}
@@ -59,7 +59,7 @@ use Rattle.tech_draft.proofs.Steps.{sets_after, with_rules, rules_step}
 use Rattle.tech_draft.proofs.UnionSteps.{IsUnionLine, union_of, union-keeps, union_step}
 
 -- what a line makes is what it leaves
-made : (after next : Drafted) → right after ≡ right next → IsSound after → IsSound next
+pub made : (after next : Drafted) → right after ≡ right next → IsSound after → IsSound next
 made after next is sound = let same : after ≡ next = cc in subst IsSound same sound
 
 -- names, planes and rules that fit the lists
@@ -221,20 +221,23 @@ union_line draft whole first second good free is_whole is_first is_second =
       unused = λ t inside. eqb-false t.0 whole.0 (list_any-In (λ (u : TypeId). u.0 == whole.0) draft.used t unused inside);
     }
 
-sound-union : (draft next : Drafted) (whole first second : List ℕ) → IsSound draft
-    → ((word : List ℕ) → In word (whole ∷ first ∷ second ∷ []) → IsNamed draft.raw word)
-    → new_union draft whole first second ≡ Ok next → IsSound next
-sound-union draft next whole first second sound named is =
+sound-compose : (draft next : Drafted) (words : List (List ℕ)) → IsSound draft → compose_line draft words ≡ Ok next → IsSound next
+unfolding compose_line
+sound-compose draft next (key ∷ whole ∷ first ∷ second ∷ []) sound is =
     let raw = draft.raw in
     let words = whole ∷ first ∷ second ∷ [] in
+    let said = rule-ok (not (bytes_eq key (codes "compose"))) BadForm _ next is in
+    let well = rule-ok (not (list_all (has_form LayerTerm) words)) BadForm _ next said.1 in
+    let known = and_then-ok (check_layers raw words) _ next well.1 in
     let w = type_of_word raw whole in
     let f = type_of_word raw first in
     let s = type_of_word raw second in
-    let form = rule-ok (not (are_composable raw w f s)) BadForm _ next is in
+    let form = rule-ok (not (are_composable raw w f s)) BadForm _ next known.1.1 in
     let once = rule-ok (is_settled draft w) (Twice whole) _ next form.1 in
     let parts = and_then-ok (refuse raw rule.Contact words) _ next once.1 in
     let part : (word : List ℕ) → In word words → IsPart raw (type_of_word raw word).0 =
-    λ word inside. part_word raw word (named word inside) (none_breaks raw rule.Contact words parts.1.0 word inside) in
+    λ word inside. part_word raw word (layers_named draft words sound known.1.0 word inside)
+    (none_breaks raw rule.Contact words parts.1.0 word inside) in
     let line = union_line draft w f s (not-false (are_composable raw w f s) form.0) once.0 (part whole (inl refl))
     (part first (inr (inl refl))) (part second (inr (inr (inl refl)))) in
     let after = with_union draft w f s in
@@ -244,14 +247,6 @@ sound-union draft next whole first second sound named is =
       rules = kept_rules raw raw.name raw.planes after.raw.types raw.layers (union-keeps raw w f s) sound.rules;
       sets = sets_after draft after (union_step draft w f s sound.sets line) sound.sets;
     })
-
-sound-compose : (draft next : Drafted) (words : List (List ℕ)) → IsSound draft → compose_line draft words ≡ Ok next → IsSound next
-unfolding compose_line
-sound-compose draft next (key ∷ whole ∷ first ∷ second ∷ []) sound is =
-    let named = rule-ok (not (bytes_eq key (codes "compose"))) BadForm _ next is in
-    let form = rule-ok (not (list_all (has_form LayerTerm) (whole ∷ first ∷ second ∷ []))) BadForm _ next named.1 in
-    let known = and_then-ok (check_layers draft.raw (whole ∷ first ∷ second ∷ [])) _ next form.1 in
-    sound-union draft next whole first second sound (layers_named draft (whole ∷ first ∷ second ∷ []) sound known.1.0) known.1.1
 sound-compose draft next _ sound is = absurd (cc)
 
 -- ---- pairs, classes and transistors
@@ -268,52 +263,42 @@ sound-connect draft next (first ∷ second ∷ []) sound is =
     (connect_rules raw first second sound.layers sound.rules))
 sound-connect draft next _ sound is = absurd (cc)
 
-sound-class : (draft next : Drafted) (list : List ℕ) (value : ℕ) → IsSound draft → value ≤ LARGEST_MEASURE
-    → new_class draft list value ≡ Ok next → IsSound next
-sound-class draft next list value sound small is =
-    let raw = draft.raw in
-    let form = rule-ok (not (is_entry_list list)) BadForm _ next is in
-    let known = and_then-ok (check_entries raw (pieces_of list)) _ next form.1 in
-    let free = and_then-ok (refuse raw rule.Classed (pieces_of list)) _ next known.1.1 in
-    let after = with_class draft (types_of_list raw list) value in
-    let room = rule-ok (nat_le MOST_CLASSES (length raw.classes)) (TooMany tables.Classes) (Ok after) next free.1.1 in
-    made after next room.1
-    (rules-sound draft raw.name raw.planes raw.pairs after.raw.classes raw.fets draft.capped sound sound.names (omega arith)
-    (class_rules raw list value sound.layers sound.rules free.1.0 (leb-false MOST_CLASSES (length raw.classes) room.0) small))
-
 sound-resist : (draft next : Drafted) (words : List (List ℕ)) → IsSound draft → resist_line draft words ≡ Ok next → IsSound next
 unfolding resist_line
 sound-resist draft next (list ∷ word ∷ []) sound is =
-    let value = and_then-ok (measure_in word) (new_class draft list) next is in
-    sound-class draft next list value.0 sound (measure-small word value.0 value.1.0) value.1.1
-sound-resist draft next _ sound is = absurd (cc)
-
-sound-capacitance : (draft next : Drafted) (list : List ℕ) (area perimeter : ℕ) → IsSound draft → area ≤ LARGEST_MEASURE
-    → perimeter ≤ LARGEST_MEASURE
-    → new_capacitance draft list area perimeter ≡ Ok next → IsSound next
-sound-capacitance draft next list area perimeter sound area_small perimeter_small is =
     let raw = draft.raw in
-    let form = rule-ok (not (is_entry_list list)) BadForm _ next is in
+    let value = and_then-ok (measure_in word) (new_class draft list) next is in
+    let form = rule-ok (not (is_entry_list list)) BadForm _ next value.1.1 in
     let known = and_then-ok (check_entries raw (pieces_of list)) _ next form.1 in
-    let free = and_then-ok (uncapped draft list (shared_class raw (types_of_list raw list)))
-    (λ class. Ok (with_capacitance draft area perimeter class)) next known.1.1 in
-    let after = with_capacitance draft area perimeter free.0 in
-    made after next free.1.1
-    (rules-sound draft raw.name raw.planes raw.pairs after.raw.classes raw.fets after.capped sound sound.names (omega arith)
-    (cap_rules raw area perimeter free.0 sound.rules area_small perimeter_small))
+    let free = and_then-ok (refuse raw rule.Classed (pieces_of list)) _ next known.1.1 in
+    let after = with_class draft (types_of_list raw list) value.0 in
+    let room = rule-ok (nat_le MOST_CLASSES (length raw.classes)) (TooMany tables.Classes) (Ok after) next free.1.1 in
+    made after next room.1
+    (rules-sound draft raw.name raw.planes raw.pairs after.raw.classes raw.fets draft.capped sound sound.names (omega arith)
+    (class_rules raw list value.0 sound.layers sound.rules free.1.0 (leb-false MOST_CLASSES (length raw.classes) room.0)
+    (measure-small word value.0 value.1.0)))
+sound-resist draft next _ sound is = absurd (cc)
 
 sound-cap : (draft next : Drafted) (words : List (List ℕ)) → IsSound draft → cap_line draft words ≡ Ok next → IsSound next
 unfolding cap_line
 sound-cap draft next (list ∷ first ∷ second ∷ []) sound is =
+    let raw = draft.raw in
     let area = and_then-ok (measure_in first) (λ area. and_then (measure_in second) (new_capacitance draft list area)) next is in
     let perimeter = and_then-ok (measure_in second) (new_capacitance draft list area.0) next area.1.1 in
-    sound-capacitance draft next list area.0 perimeter.0 sound (measure-small first area.0 area.1.0)
-    (measure-small second perimeter.0 perimeter.1.0) perimeter.1.1
+    let form = rule-ok (not (is_entry_list list)) BadForm _ next perimeter.1.1 in
+    let known = and_then-ok (check_entries raw (pieces_of list)) _ next form.1 in
+    let free = and_then-ok (uncapped draft list (shared_class raw (types_of_list raw list)))
+    (λ class. Ok (with_capacitance draft area.0 perimeter.0 class)) next known.1.1 in
+    let after = with_capacitance draft area.0 perimeter.0 free.0 in
+    made after next free.1.1
+    (rules-sound draft raw.name raw.planes raw.pairs after.raw.classes raw.fets after.capped sound sound.names (omega arith)
+    (cap_rules raw area.0 perimeter.0 free.0 sound.rules (measure-small first area.0 area.1.0)
+    (measure-small second perimeter.0 perimeter.1.0)))
 sound-cap draft next _ sound is = absurd (cc)
 
-sound-new_fet : (draft next : Drafted) (kind list name substrate : List ℕ) → IsSound draft
-    → new_fet draft kind list name substrate ≡ Ok next → IsSound next
-sound-new_fet draft next kind list name substrate sound is =
+sound-fet : (draft next : Drafted) (words : List (List ℕ)) → IsSound draft → fet_line draft words ≡ Ok next → IsSound next
+unfolding fet_line
+sound-fet draft next (kind ∷ list ∷ name ∷ substrate ∷ []) sound is =
     let raw = draft.raw in
     let form = rule-ok (not (is_fet_form kind list name substrate)) BadForm _ next is in
     let known = and_then-ok (check_entries raw (kind ∷ pieces_of list)) _ next form.1 in
@@ -326,10 +311,6 @@ sound-new_fet draft next kind list name substrate sound is =
     (rules-sound draft raw.name raw.planes raw.pairs raw.classes after.raw.fets draft.capped sound sound.names (omega arith)
     (fet_rules raw kind list name substrate sound.layers sound.rules (not-false (is_fet_form kind list name substrate) form.0)
     (entries_mean raw (kind ∷ pieces_of list) known.1.0 kind (inl refl)) once.0 (leb-false MOST_FETS (length raw.fets) room.0)))
-
-sound-fet : (draft next : Drafted) (words : List (List ℕ)) → IsSound draft → fet_line draft words ≡ Ok next → IsSound next
-unfolding fet_line
-sound-fet draft next (kind ∷ list ∷ name ∷ substrate ∷ []) sound is = sound-new_fet draft next kind list name substrate sound is
 sound-fet draft next _ sound is = absurd (cc)
 
 sound-extract : (draft next : Drafted) (words : List (List ℕ)) → IsSound draft → extract_line draft words ≡ Ok next → IsSound next
