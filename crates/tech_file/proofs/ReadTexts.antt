@@ -14,7 +14,7 @@ use Rattle.tech_model.specs.declared.faults.TechFault.{TechFault}
 use Rattle.tech_model.specs.declared.faults.TechFault.TheVariants.{BadForm, Twice}
 use Rattle.tech_draft.specs.Drafts.{Drafted}
 use Rattle.tech_draft.specs.Lines.{line_in}
-use Rattle.tech_draft.proofs.Refusals.{and_then-ok, rule-ok}
+use Rattle.tech_draft.proofs.Refusals.{right, and_then-ok, rule-ok}
 use Rattle.tech_file.specs.declared.places.Place.{Place}
 use Rattle.tech_file.specs.declared.places.Place.TheVariants.{Between, Skipped, Within}
 use Rattle.tech_file.specs.declared.outline.Heading.{Heading}
@@ -25,7 +25,7 @@ use Rattle.tech_file.specs.Outlines.{section_at, is_too_early, is_second}
 use Rattle.tech_file.specs.Reading.{standing, begun, read_between, end_of, read_within, draft_after, read_line, line_step}
 use Rattle.tech_file.specs.Texts.{words_in, with_known, lines_in, section_in}
 use Rattle.tech_file.proofs.HeadingLaws.{opened_by, openings, sections_of, IsInPlace}
-use Rattle.tech_file.proofs.TextRests.{Words, right, line-taken, AreSections, IsRest, Remains, end_word, name_word, with_section, with_end, with_line}
+use Rattle.tech_file.proofs.TextRests.{Words, line-taken, AreSections, IsRest, Remains, end_word, name_word, with_section, with_end, with_line}
 
 rest_of : (section : Option Section) (draft : Drafted) (words : List Words) (known : List Section) (last : Drafted)
     → Remains (option_map_or Within section Skipped) draft words known last → IsRest section draft words known last

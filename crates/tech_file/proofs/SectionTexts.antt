@@ -10,7 +10,7 @@ use Rattle.tech_model.specs.declared.faults.Section.{Section}
 use Rattle.tech_model.specs.declared.faults.TechFault.{TechFault}
 use Rattle.tech_draft.specs.Drafts.{Drafted}
 use Rattle.tech_draft.specs.Lines.{line_in}
-use Rattle.tech_draft.proofs.Refusals.{and_then-ok}
+use Rattle.tech_draft.proofs.Refusals.{right, and_then-ok}
 use Rattle.tech_file.specs.declared.places.Place.{Place}
 use Rattle.tech_file.specs.declared.places.Place.TheVariants.{Between, Skipped, Within}
 use Rattle.tech_file.specs.declared.outline.Heading.{Heading}
@@ -21,7 +21,7 @@ use Rattle.tech_file.specs.Reading.{standing, begun, read_between, end_of, draft
 use Rattle.tech_file.specs.Texts.{TextSection, IsSection, words_of_all, words_in, with_known, known_sections, lines_in, section_in}
 use Rattle.tech_file.specs.Texts.{sections_in}
 use Rattle.tech_file.proofs.HeadingLaws.{opened_by, openings, sections_of, IsInPlace}
-use Rattle.tech_file.proofs.TextRests.{Words, right, AreSections, IsRest, Remains}
+use Rattle.tech_file.proofs.TextRests.{Words, AreSections, IsRest, Remains}
 use Rattle.tech_file.proofs.ReadTexts.{opened_sections, in_front, no_section}
 
 -- What a line does: it makes a draft, and what is left is left; a section that begins with it must be in place.

@@ -9,7 +9,7 @@ use Rattle.tech_model.specs.declared.faults.TechFault.TheVariants.{BadForm}
 use Rattle.tech_draft.specs.Drafts.{Drafted, empty_draft}
 use Rattle.tech_draft.specs.Sound.{IsSound}
 use Rattle.tech_draft.proofs.SoundDrafts.{IsSound-empty}
-use Rattle.tech_draft.proofs.SoundLines.{IsSound-line}
+use Rattle.tech_draft.proofs.SoundLines.{made, IsSound-line}
 use Rattle.tech_draft.proofs.Refusals.{and_then-ok, rule-ok}
 use Rattle.tech_file.specs.declared.places.Place.{Place}
 use Rattle.tech_file.specs.declared.places.Place.TheVariants.{Between, Skipped, Within}
@@ -18,21 +18,18 @@ use Rattle.tech_file.specs.declared.reading.Reading.{Reading}
 use Rattle.tech_file.specs.Places.{content_of, is_end, name_alone}
 use Rattle.tech_file.specs.Outlines.{headings_of, ends_open}
 use Rattle.tech_file.specs.Reading.{standing, read_between, end_of, draft_after, read_line, step_in, EndsWell}
-use Rattle.tech_file.proofs.TextRests.{right, line-taken}
-
-same_sound : (draft next : Drafted) → right draft ≡ right next → IsSound draft → IsSound next
-same_sound draft next e sound = let same : draft ≡ next = cc in subst IsSound same sound
+use Rattle.tech_file.proofs.TextRests.{line-taken}
 
 end-sound : (section : Section) (name : List ℕ) (draft next : Drafted) → IsSound draft → end_of section name draft ≡ Ok next → IsSound next
 end-sound Tech [] draft next sound e = absurd (cc)
-end-sound _ _ draft next sound e = same_sound draft next e sound
+end-sound _ _ draft next sound e = made draft next e sound
 
 draft-sound : (headings : List Heading) (number : ℕ) (place : Place) (draft next : Drafted) (words : List (List ℕ)) → IsSound draft
     → draft_after headings number place draft words ≡ Ok next → IsSound next
-draft-sound headings number place draft next [] sound e = same_sound draft next e sound
+draft-sound headings number place draft next [] sound e = made draft next e sound
 draft-sound headings number Between draft next (word ∷ words) sound e =
-    same_sound draft next (and_then-ok (read_between headings number (name_alone (word ∷ words))) (λ _. Ok draft) next e).1.1 sound
-draft-sound headings number Skipped draft next (word ∷ words) sound e = same_sound draft next e sound
+    made draft next (and_then-ok (read_between headings number (name_alone (word ∷ words))) (λ _. Ok draft) next e).1.1 sound
+draft-sound headings number Skipped draft next (word ∷ words) sound e = made draft next e sound
 draft-sound headings number (Within section) draft next (word ∷ words) sound e = elim (cases_Bool (is_end (word ∷ words))) [
   | inl ends ↦ end-sound section draft.raw.name draft next sound (rw ends at e)
   | inr goes_on ↦ IsSound-line section draft next (word ∷ words) sound (rw goes_on at e)

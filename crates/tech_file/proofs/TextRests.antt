@@ -24,10 +24,6 @@ use Rattle.tech_file.specs.Texts.{sections_in}
 abbrev pub Words : Type 0
 Words = List (List ℕ)
 
--- a draft without a fault
-abbrev pub right : Drafted → Result Drafted TechFault
-right draft = Ok draft
-
 -- a reading without a fault
 abbrev pub fine : Reading → Result Reading TechFault
 fine reading = Ok reading
