@@ -10,7 +10,9 @@ use Rattle.tech_model.specs.declared.raw.TypeId.{TypeId}
 use Rattle.tech_model.specs.declared.raw.RawTech.{RawTech}
 use Rattle.tech_model.specs.Types.{is_type, plane_of, parts_of, images_of, is_on, image_on, joined, is_subset}
 use Rattle.tech_model.specs.WellFormed.{IsWellFormed}
-use Rattle.tech_model.specs.Columns.{painted_by, erased_by, where_image, on_planes_from, mark_of, type_on, has_mark_everywhere, without_mark, layer_mark_kept}
+use Rattle.tech_model.specs.declared.columns.Brush.{Brush}
+use Rattle.tech_model.specs.declared.columns.Brush.TheVariants.{Paint, Erase}
+use Rattle.tech_model.specs.Columns.{brushed_by, where_image, on_planes_from, mark_of, type_on, has_mark_everywhere, without_parts, layer_mark_kept}
 use Rattle.tech_model.specs.ColumnForms.{IsOnPlane, IsColumn}
 use Rattle.tech_model.proofs.WellFormedLaws.{All_In, layer_well_formed}
 use Rattle.tech_model.proofs.JoinedLaws.{joined-found}
@@ -50,17 +52,17 @@ image_on_plane raw layer plane image w below is =
       eqb-true (plane_of raw image.0) plane (find-passes (is_on raw plane) (images_of raw layer) image is),
     )
 
-erased_on_plane : (raw : RawTech) (plane : ℕ) (image old : TypeId) → IsOnPlane raw plane old.0 → IsOnPlane raw plane (erased_by raw plane image old).0
-erased_on_plane raw plane image old on = elim (cases_Bool (is_subset (parts_of raw image.0) (parts_of raw old.0))) [
+without_on_plane : (raw : RawTech) (set plane : ℕ) (old : TypeId) → IsOnPlane raw plane old.0 → IsOnPlane raw plane (without_parts raw set plane old).0
+without_on_plane raw set plane old on = elim (cases_Bool (is_subset set (parts_of raw old.0))) [
   | inl part ↦ rw part (joined_on_plane raw plane _ 0 (inl refl))
   | inr none ↦ rw none on
 ]
 
-unmarked_on_plane : (raw : RawTech) (mark plane : ℕ) (old : TypeId) → IsOnPlane raw plane old.0 → IsOnPlane raw plane (without_mark raw mark plane old).0
-unmarked_on_plane raw mark plane old on = elim (cases_Bool (is_subset mark (parts_of raw old.0))) [
-  | inl part ↦ rw part (joined_on_plane raw plane _ 0 (inl refl))
-  | inr none ↦ rw none on
-]
+brushed_on_plane : (raw : RawTech) (brush : Brush) (layer plane : ℕ) (image old : TypeId) → IsWellFormed raw → layer < length raw.layers → image_on raw layer plane ≡ Some image
+    → IsOnPlane raw plane old.0 → IsOnPlane raw plane (brushed_by raw brush plane image old).0
+brushed_on_plane raw Paint layer plane image old w below found on =
+    joined_on_plane raw plane (bit_or (parts_of raw old.0) (parts_of raw image.0)) image.0 (image_on_plane raw layer plane image w below found)
+brushed_on_plane raw Erase layer plane image old w below found on = without_on_plane raw (parts_of raw image.0) plane old on
 
 where_on_plane : (raw : RawTech) (layer plane : ℕ) (change : TypeId → TypeId → TypeId) (old : TypeId) (image : Option TypeId) → image_on raw layer plane ≡ image
     → ((image : TypeId) → image_on raw layer plane ≡ Some image → IsOnPlane raw plane (change image old).0) → IsOnPlane raw plane old.0
@@ -68,36 +70,27 @@ where_on_plane : (raw : RawTech) (layer plane : ℕ) (change : TypeId → TypeId
 where_on_plane raw layer plane change old None is each on = on
 where_on_plane raw layer plane change old (Some image) is each on = each image is
 
--- paint leaves a column
-pub painted_is_column : (raw : RawTech) (layer : ℕ) (column : List TypeId) → IsWellFormed raw → layer < length raw.layers → IsColumn raw column
-    → IsColumn raw (on_planes_from 0 (λ plane old. where_image (painted_by raw plane) (image_on raw layer plane) old) column)
-painted_is_column raw layer column w below is plane =
+-- a brush leaves a column, before marks are looked at
+pub brushed_is_column : (raw : RawTech) (brush : Brush) (layer : ℕ) (column : List TypeId) → IsWellFormed raw → layer < length raw.layers → IsColumn raw column
+    → IsColumn raw (on_planes_from 0 (λ plane old. where_image (brushed_by raw brush plane) (image_on raw layer plane) old) column)
+brushed_is_column raw brush layer column w below is plane =
     changed (λ plane old new. IsOnPlane raw plane old → IsOnPlane raw plane new)
-    (λ plane old. where_image (painted_by raw plane) (image_on raw layer plane) old) column
-    (λ plane old on. where_on_plane raw layer plane (painted_by raw plane) old (image_on raw layer plane) refl
-    (λ image found. joined_on_plane raw plane (bit_or (parts_of raw old.0) (parts_of raw image.0)) image.0 (image_on_plane raw layer plane image w below found)) on)
+    (λ plane old. where_image (brushed_by raw brush plane) (image_on raw layer plane) old) column
+    (λ plane old on. where_on_plane raw layer plane (brushed_by raw brush plane) old (image_on raw layer plane) refl
+    (λ image found. brushed_on_plane raw brush layer plane image old w below found on) on)
     (λ plane on. on) plane (is plane)
 
--- erasing leaves a column
-pub erased_is_column : (raw : RawTech) (layer : ℕ) (column : List TypeId) → IsColumn raw column
-    → IsColumn raw (on_planes_from 0 (λ plane old. where_image (erased_by raw plane) (image_on raw layer plane) old) column)
-erased_is_column raw layer column is plane =
-    changed (λ plane old new. IsOnPlane raw plane old → IsOnPlane raw plane new)
-    (λ plane old. where_image (erased_by raw plane) (image_on raw layer plane) old) column
-    (λ plane old on. where_on_plane raw layer plane (erased_by raw plane) old (image_on raw layer plane) refl (λ image found. erased_on_plane raw plane image old on) on)
-    (λ plane on. on) plane (is plane)
-
-unmarked_is_column : (raw : RawTech) (mark : ℕ) (column : List TypeId) → IsColumn raw column → IsColumn raw (on_planes_from 0 (without_mark raw mark) column)
+unmarked_is_column : (raw : RawTech) (mark : ℕ) (column : List TypeId) → IsColumn raw column → IsColumn raw (on_planes_from 0 (without_parts raw mark) column)
 unmarked_is_column raw mark column is plane =
-    changed (λ plane old new. IsOnPlane raw plane old → IsOnPlane raw plane new) (without_mark raw mark) column
-    (λ plane old on. unmarked_on_plane raw mark plane old on) (λ plane on. on) plane (is plane)
+    changed (λ plane old new. IsOnPlane raw plane old → IsOnPlane raw plane new) (without_parts raw mark) column
+    (λ plane old on. without_on_plane raw mark plane old on) (λ plane on. on) plane (is plane)
 
 -- ---- one contact's mark
 
 -- what one step leaves is the column, or the column without the mark
 pub kept_cases : (raw : RawTech) (images column : List TypeId)
     → ((layer_mark_kept raw images column ≡ column) × ((length images ≤ 1) ⊎ (has_mark_everywhere raw (mark_of raw images) images column ≡ true)))
-    ⊎ ((layer_mark_kept raw images column ≡ on_planes_from 0 (without_mark raw (mark_of raw images)) column) × (1 < length images))
+    ⊎ ((layer_mark_kept raw images column ≡ on_planes_from 0 (without_parts raw (mark_of raw images)) column) × (1 < length images))
 kept_cases raw images column = elim (cases_Bool (nat_lt 1 (length images))) [
   | inr one ↦ inl (rw one refl, inl (ltb-false 1 (length images) one))
   | inl many ↦ elim (cases_Bool (has_mark_everywhere raw (mark_of raw images) images column)) [

@@ -15,27 +15,25 @@ use Rattle.tech_model.specs.declared.raw.LayerRec.{LayerRec}
 use Rattle.tech_model.specs.declared.raw.RawTech.{RawTech}
 use Rattle.tech_model.specs.Types.{is_type, type_number, plane_of, layer_of, parts_of, images_of, no_layer, is_on, image_on, joined, is_subset, without}
 use Rattle.tech_model.specs.WellFormed.{IsWellFormed, IsContact}
-use Rattle.tech_model.specs.Columns.{painted_by, erased_by, where_image, on_planes_from, mark_of, type_on, has_mark_everywhere, without_mark, layer_mark_kept}
-use Rattle.tech_model.specs.Columns.{marks_kept, painted_column, erased_column}
+use Rattle.tech_model.specs.declared.columns.Brush.{Brush}
+use Rattle.tech_model.specs.declared.columns.Brush.TheVariants.{Paint, Erase}
+use Rattle.tech_model.specs.Columns.{painted_by, erased_by, brushed_by, where_image, on_planes_from, mark_of, type_on, has_mark_everywhere, without_parts, layer_mark_kept}
+use Rattle.tech_model.specs.Columns.{marks_kept, brushed_column}
 use Rattle.tech_model.specs.ColumnForms.{IsOnPlane, IsColumn, HasWholeContacts}
 use Rattle.tech_model.proofs.JoinedLaws.{joined-found}
 use Rattle.tech_model.proofs.WellFormedLaws.{All_In, layer_well_formed}
 use Rattle.tech_model.proofs.SetLaws.{bit_cases, without_bit_source, or_bit_cases, or_bit_right, mark_part, mark_part_bit, image_mark, mark_layer}
 use Rattle.tech_model.proofs.MarkLaws.{mark_of-contact}
-use Rattle.tech_model.proofs.ColumnLaws.{changed, kept_cases, kept_is_column, bit_type, painted_is_column, erased_is_column}
+use Rattle.tech_model.proofs.ColumnLaws.{changed, kept_cases, kept_is_column, bit_type, brushed_is_column}
 use Rattle.tech_model.proofs.WholeLaws.{left_set, unmarked_keeps}
 
 -- the bit of the set of a type
 abbrev bit_of : RawTech → ℕ → ℕ → ℕ
 bit_of raw k t = bit_at (parts_of raw t) k
 
--- what paint of a layer does on a plane
-abbrev paint : RawTech → ℕ → ℕ → TypeId → TypeId
-paint raw layer plane old = where_image (painted_by raw plane) (image_on raw layer plane) old
-
--- what erasing a layer does on a plane
-abbrev erase : RawTech → ℕ → ℕ → TypeId → TypeId
-erase raw layer plane old = where_image (erased_by raw plane) (image_on raw layer plane) old
+-- what a brush does on a plane with a layer
+abbrev brushed_on : RawTech → Brush → ℕ → ℕ → TypeId → TypeId
+brushed_on raw brush layer plane old = where_image (brushed_by raw brush plane) (image_on raw layer plane) old
 
 -- the column after the marks of the first n layers were looked at
 abbrev marks_of_first : RawTech → List TypeId → ℕ → List TypeId
@@ -50,7 +48,7 @@ on_planes-length p f (old ∷ column) = ap (λ (n : ℕ). suc n) (on_planes-leng
 kept-length : (raw : RawTech) (images column : List TypeId) → length (layer_mark_kept raw images column) ≡ length column
 kept-length raw images column = elim (kept_cases raw images column) [
   | inl same ↦ ap (λ (c : List TypeId). length c) same.0
-  | inr taken ↦ ap (λ (c : List TypeId). length c) taken.0 ∙ on_planes-length 0 (without_mark raw (mark_of raw images)) column
+  | inr taken ↦ ap (λ (c : List TypeId). length c) taken.0 ∙ on_planes-length 0 (without_parts raw (mark_of raw images)) column
 ]
 
 marks_of-length : (raw : RawTech) (column : List TypeId) (layers : List LayerRec)
@@ -59,15 +57,11 @@ marks_of-length raw column [] = refl
 marks_of-length raw column (layer ∷ layers) =
     marks_of-length raw (layer_mark_kept raw layer.images column) layers ∙ kept-length raw layer.images column
 
--- paint keeps the length of a column
-pub painted-length : (raw : RawTech) (layer : ℕ) (column : List TypeId) → length (painted_column raw layer column) ≡ length column
-unfolding painted_column
-painted-length raw layer column = marks_of-length raw (on_planes_from 0 (paint raw layer) column) raw.layers ∙ on_planes-length 0 (paint raw layer) column
-
--- erasing keeps the length of a column
-pub erased-length : (raw : RawTech) (layer : ℕ) (column : List TypeId) → length (erased_column raw layer column) ≡ length column
-unfolding erased_column
-erased-length raw layer column = marks_of-length raw (on_planes_from 0 (erase raw layer) column) raw.layers ∙ on_planes-length 0 (erase raw layer) column
+-- a brush keeps the length of a column
+pub brushed-length : (raw : RawTech) (brush : Brush) (layer : ℕ) (column : List TypeId) → length (brushed_column raw brush layer column) ≡ length column
+unfolding brushed_column
+brushed-length raw brush layer column =
+    marks_of-length raw (on_planes_from 0 (brushed_on raw brush layer) column) raw.layers ∙ on_planes-length 0 (brushed_on raw brush layer) column
 
 -- ---- two columns of one length
 
@@ -103,7 +97,7 @@ changed_same f a b long k same =
 
 -- another contact's bit stays where it was
 unmarked_bit : (raw : RawTech) (layer other plane : ℕ) (old : TypeId) (contact : IsContact raw layer) (second : IsContact raw other) → layer ≢ other
-    → IsOnPlane raw plane old.0 → bit_of raw second.bit (without_mark raw (2 ^ contact.bit) plane old).0 ≡ bit_of raw second.bit old.0
+    → IsOnPlane raw plane old.0 → bit_of raw second.bit (without_parts raw (2 ^ contact.bit) plane old).0 ≡ bit_of raw second.bit old.0
 unmarked_bit raw layer other plane old contact second apart on = elim (cases_Bool (is_subset (2 ^ contact.bit) (parts_of raw old.0))) [
   | inr none ↦ rw none refl
   | inl part ↦
@@ -128,9 +122,9 @@ kept_bit raw layer other column w below apart is second plane = elim (kept_cases
   | inl same ↦ ap (λ (c : List TypeId). bit_of raw second.bit (type_on c plane)) same.0
   | inr taken ↦
       let contact = w.sets.contacts layer below taken.1 in
-      let new = taken.0 ∙ ap (λ (mark : ℕ). on_planes_from 0 (without_mark raw mark) column) (mark_of-contact raw layer w below taken.1 contact) in
+      let new = taken.0 ∙ ap (λ (mark : ℕ). on_planes_from 0 (without_parts raw mark) column) (mark_of-contact raw layer w below taken.1 contact) in
       ap (λ (c : List TypeId). bit_of raw second.bit (type_on c plane)) new
-      ∙ changed (λ plane old new. IsOnPlane raw plane old → bit_of raw second.bit new ≡ bit_of raw second.bit old) (without_mark raw (2 ^ contact.bit)) column
+      ∙ changed (λ plane old new. IsOnPlane raw plane old → bit_of raw second.bit new ≡ bit_of raw second.bit old) (without_parts raw (2 ^ contact.bit)) column
       (λ plane old on. unmarked_bit raw layer other plane old contact second apart on) (λ plane on. refl) plane (is plane)
 ]
 
@@ -141,9 +135,9 @@ kept_clear : (raw : RawTech) (layer : ℕ) (column : List TypeId) → IsWellForm
 kept_clear raw layer column w below many contact plane clear = elim (kept_cases raw (images_of raw layer) column) [
   | inl same ↦ ap (λ (c : List TypeId). type_on c plane) same.0
   | inr taken ↦
-      let new = taken.0 ∙ ap (λ (mark : ℕ). on_planes_from 0 (without_mark raw mark) column) (mark_of-contact raw layer w below many contact) in
+      let new = taken.0 ∙ ap (λ (mark : ℕ). on_planes_from 0 (without_parts raw mark) column) (mark_of-contact raw layer w below many contact) in
       ap (λ (c : List TypeId). type_on c plane) new
-      ∙ changed (λ plane old new. bit_of raw contact.bit old ≢ 1 → new ≡ old) (without_mark raw (2 ^ contact.bit)) column
+      ∙ changed (λ plane old new. bit_of raw contact.bit old ≢ 1 → new ≡ old) (without_parts raw (2 ^ contact.bit)) column
       (λ plane old free. unmarked_keeps raw contact.bit plane old.0 old free refl) (λ plane free. refl) plane clear
 ]
 
@@ -174,7 +168,7 @@ kept_both raw images a b long everywhere plane same = elim (cases_Bool (nat_lt 1
   | inr one ↦ rw one same
   | inl many ↦ elim (cases_Bool (has_mark_everywhere raw (mark_of raw images) images b)) [
     | inl all ↦ rw (many, everywhere, all) same
-    | inr missing ↦ rw (many, everywhere, missing) (changed_same (without_mark raw (mark_of raw images)) a b long plane same)
+    | inr missing ↦ rw (many, everywhere, missing) (changed_same (without_parts raw (mark_of raw images)) a b long plane same)
   ]
 ]
 
@@ -326,40 +320,39 @@ painted_has raw layer plane t contact (Some image) old t_in at is =
     (image_mark raw layer image.0 contact (find-In (is_on raw plane) (images_of raw layer) image is))
 
 agree_painted : (raw : RawTech) (layer : ℕ) (contact : IsContact raw layer) (a b : List TypeId) → IsWellFormed raw → length a ≡ length b
-    → Agree raw layer contact (on_planes_from 0 (paint raw layer) a) (on_planes_from 0 (paint raw layer) b)
+    → Agree raw layer contact (on_planes_from 0 (brushed_on raw Paint layer) a) (on_planes_from 0 (brushed_on raw Paint layer) b)
 agree_painted raw layer contact a b w long t t_is t_layer =
     let t_in : In (record { 0 = t }) (images_of raw layer) = subst (λ (l : ℕ). In (record { 0 = t }) (images_of raw l)) t_layer (w.is_image t t_is) in
-    changed_both (λ plane x y new_x new_y. plane_of raw t ≡ plane → bit_of raw contact.bit new_x ≡ bit_of raw contact.bit new_y) (paint raw layer) a b long
+    changed_both (λ plane x y new_x new_y. plane_of raw t ≡ plane → bit_of raw contact.bit new_x ≡ bit_of raw contact.bit new_y) (brushed_on raw Paint layer) a b long
     (λ plane x y at. painted_has raw layer plane t contact (image_on raw layer plane) x t_in at refl ∙ sym (painted_has raw layer plane t contact (image_on raw layer plane) y t_in at refl))
     (λ plane at. refl) (plane_of raw t) refl
 
--- what paint leaves on a plane depends on that plane alone
-pub painted_column-local : (raw : RawTech) (layer plane : ℕ) (a b : List TypeId) → IsWellFormed raw → layer < length raw.layers → length a ≡ length b
-    → IsColumn raw a → IsColumn raw b → HasWholeContacts raw a → HasWholeContacts raw b → type_on a plane ≡ type_on b plane
-    → type_on (painted_column raw layer a) plane ≡ type_on (painted_column raw layer b) plane
-unfolding painted_column
-painted_column-local raw layer plane a b w below long a_is b_is a_whole b_whole same =
-    let f : ℕ → TypeId → TypeId = paint raw layer in
-    marks_kept-local raw (on_planes_from 0 f a) (on_planes_from 0 f b) w (painted_is_column raw layer a w below a_is) (painted_is_column raw layer b w below b_is)
-    (on_planes-length 0 f a ∙ long ∙ sym (on_planes-length 0 f b)) plane (changed_same f a b long plane same)
-    (λ other other_below contact set. elim (cases_eq layer other) [
+-- where a contact's bit is on the plane after the brush, it is on the same planes of both columns
+agree_brushed : (raw : RawTech) (brush : Brush) (layer other plane : ℕ) (contact : IsContact raw other) (a b : List TypeId) → IsWellFormed raw → layer < length raw.layers
+    → length a ≡ length b → IsColumn raw a → HasWholeContacts raw a → HasWholeContacts raw b → type_on a plane ≡ type_on b plane
+    → bit_of raw contact.bit (type_on (on_planes_from 0 (brushed_on raw brush layer) a) plane) ≡ 1
+    → Agree raw other contact (on_planes_from 0 (brushed_on raw brush layer) a) (on_planes_from 0 (brushed_on raw brush layer) b)
+agree_brushed raw Paint layer other plane contact a b w below long a_is a_whole b_whole same set =
+    let f : ℕ → TypeId → TypeId = brushed_on raw Paint layer in
+    elim (cases_eq layer other) [
       | inl one ↦ subst (λ (l : ℕ). (c : IsContact raw l) → Agree raw l c (on_planes_from 0 f a) (on_planes_from 0 f b)) one (λ c. agree_painted raw layer c a b w long) contact
       | inr apart ↦
           agree_from_old raw other contact f a b w long a_is a_whole b_whole plane same
           (changed (λ plane old new. bit_of raw contact.bit new ≡ 1 → bit_of raw contact.bit old ≡ 1) f a
           (λ plane old bit. painted_bit raw layer other plane contact (image_on raw layer plane) old w below apart refl bit) (λ plane bit. bit) plane set)
-    ])
+    ]
+agree_brushed raw Erase layer other plane contact a b w below long a_is a_whole b_whole same set =
+    agree_from_old raw other contact (brushed_on raw Erase layer) a b w long a_is a_whole b_whole plane same
+    (changed (λ plane old new. bit_of raw contact.bit new ≡ 1 → bit_of raw contact.bit old ≡ 1) (brushed_on raw Erase layer) a
+    (λ plane old bit. erased_bit raw plane contact.bit (image_on raw layer plane) old bit) (λ plane bit. bit) plane set)
 
--- what erasing leaves on a plane depends on that plane alone
-pub erased_column-local : (raw : RawTech) (layer plane : ℕ) (a b : List TypeId) → IsWellFormed raw → length a ≡ length b
+-- what a brush leaves on a plane depends on that plane alone
+pub brushed_column-local : (raw : RawTech) (brush : Brush) (layer plane : ℕ) (a b : List TypeId) → IsWellFormed raw → layer < length raw.layers → length a ≡ length b
     → IsColumn raw a → IsColumn raw b → HasWholeContacts raw a → HasWholeContacts raw b → type_on a plane ≡ type_on b plane
-    → type_on (erased_column raw layer a) plane ≡ type_on (erased_column raw layer b) plane
-unfolding erased_column
-erased_column-local raw layer plane a b w long a_is b_is a_whole b_whole same =
-    let f : ℕ → TypeId → TypeId = erase raw layer in
-    marks_kept-local raw (on_planes_from 0 f a) (on_planes_from 0 f b) w (erased_is_column raw layer a a_is) (erased_is_column raw layer b b_is)
+    → type_on (brushed_column raw brush layer a) plane ≡ type_on (brushed_column raw brush layer b) plane
+unfolding brushed_column
+brushed_column-local raw brush layer plane a b w below long a_is b_is a_whole b_whole same =
+    let f : ℕ → TypeId → TypeId = brushed_on raw brush layer in
+    marks_kept-local raw (on_planes_from 0 f a) (on_planes_from 0 f b) w (brushed_is_column raw brush layer a w below a_is) (brushed_is_column raw brush layer b w below b_is)
     (on_planes-length 0 f a ∙ long ∙ sym (on_planes-length 0 f b)) plane (changed_same f a b long plane same)
-    (λ other other_below contact set.
-    agree_from_old raw other contact f a b w long a_is a_whole b_whole plane same
-    (changed (λ plane old new. bit_of raw contact.bit new ≡ 1 → bit_of raw contact.bit old ≡ 1) f a
-    (λ plane old bit. erased_bit raw plane contact.bit (image_on raw layer plane) old bit) (λ plane bit. bit) plane set))
+    (λ other other_below contact set. agree_brushed raw brush layer other plane contact a b w below long a_is a_whole b_whole same set)

@@ -1,19 +1,19 @@
 -- Marks of contacts: what the images of a contact have in common is its mark alone.
-use Rattle.std.proofs.Common.{◌≡◌, ◌≢◌, ◌+◌, ◌^◌, ◌<◌, ℕ, List, [], ◌∷◌, length, map, get_or, fold, bit_and, min, refl, sym, ap, ◌∙◌, arith, inl, inr}
+use Rattle.std.proofs.Common.{◌≡◌, ◌≢◌, ◌+◌, ◌^◌, ◌%◌, ◌<◌, ℕ, List, [], ◌∷◌, length, map, get_or, fold, bit_and, max, min, refl, sym, ap, ◌∙◌, arith, inl, inr}
 use Rattle.std.specs.Int.{bit_at}
 use Rattle.std.proofs.lemmas.Bool.{cases_eq}
 use Rattle.std.proofs.lemmas.List.{get_or-map, length-map}
-use Rattle.std.proofs.lemmas.Nat.Bits.{bit_at_and, bit_at-pow_same, bit_at-pow_other, bit_at_ones, same_from_bits}
+use Rattle.std.proofs.lemmas.Nat.Bits.{bit_at_and, bit_at_or, bit_at_xor, bit_at-lt, bit_at-pow_same, bit_at-pow_other, bit_at_ones, same_from_bits}
 use Rattle.finite_sets.specs.Lists.{In}
 use Rattle.finite_sets.proofs.Members.{In-get_or}
 use Rattle.finite_sets.proofs.Distincts.{Distinct-places}
 use Rattle.tech_model.specs.declared.raw.TypeId.{TypeId}
 use Rattle.tech_model.specs.declared.raw.RawTech.{RawTech}
-use Rattle.tech_model.specs.Types.{plane_of, parts_of, images_of, type_number}
+use Rattle.tech_model.specs.Types.{plane_of, parts_of, images_of, type_number, without}
 use Rattle.tech_model.specs.WellFormed.{IsWellFormed, IsMarked, IsContact}
 use Rattle.tech_model.specs.Columns.{all_parts, mark_of}
 use Rattle.tech_model.proofs.WellFormedLaws.{layer_well_formed}
-use Rattle.tech_model.proofs.SetLaws.{bit_cases, or_bit_cases, set_bits, image_mark}
+use Rattle.tech_model.proofs.SetLaws.{bit_cases, or_bit_cases, set_bits, image_mark, mark_layer}
 use Rattle.tech_model.specs.declared.limits.TheConstants.{PART_BITS}
 
 common : RawTech → ℕ → TypeId → ℕ
@@ -93,4 +93,40 @@ mark_of-contact raw layer w below many contact = same_from_bits (mark_of raw (im
       | inr other ↦
           let found = lacking raw layer k w below many contact other in
           fold_clears raw (images_of raw layer) all_parts k found.0 found.1.0 found.1.1 ∙ sym (bit_at-pow_other contact.bit k other)
+    ])
+
+-- ---- a set without the mark
+
+xor_of_own : (x y z : ℕ) → x < 2 → y ≡ min x z → z ≡ 0 → (x + y) % 2 ≡ x
+xor_of_own x y z below is clear = omega arith
+
+xor_of_both : (x y z : ℕ) → x < 2 → y ≡ min x z → z ≡ 1 → (x + y) % 2 ≡ 0
+xor_of_both x y z below is set = omega arith
+
+max_clear : (x y : ℕ) → y ≡ 0 → max x y ≡ x
+max_clear x y clear = omega arith
+
+-- a type of a contact without the mark has the set of its residue
+pub residue_set : (raw : RawTech) (layer t : ℕ) (contact : IsContact raw layer) → 1 < length (images_of raw layer) → (marked : IsMarked raw contact.bit t)
+    → without (parts_of raw t) (2 ^ contact.bit) ≡ parts_of raw marked.residue
+residue_set raw layer t contact many marked = same_from_bits (without (parts_of raw t) (2 ^ contact.bit)) (parts_of raw marked.residue) (λ k.
+    let set = parts_of raw t in
+    let mark = 2 ^ contact.bit in
+    let split = bit_at_xor set (bit_and set mark) k in
+    elim (cases_eq k contact.bit) [
+      | inr other ↦
+          let clear = bit_at-pow_other contact.bit k other in
+          split ∙ xor_of_own (bit_at set k) (bit_at (bit_and set mark) k) (bit_at mark k) (bit_at-lt set k) (bit_at_and set mark k) clear
+          ∙ ap (λ (x : ℕ). bit_at x k) marked.set ∙ bit_at_or (parts_of raw marked.residue) mark k
+          ∙ max_clear (bit_at (parts_of raw marked.residue) k) (bit_at mark k) clear
+      | inl same ↦
+          let set_here : bit_at mark k ≡ 1 = ap (bit_at mark) same ∙ bit_at-pow_same contact.bit in
+          let gone = split ∙ xor_of_both (bit_at set k) (bit_at (bit_and set mark) k) (bit_at mark k) (bit_at-lt set k) (bit_at_and set mark k) set_here in
+          elim (bit_cases (parts_of raw marked.residue) k) [
+            | inl clear ↦ gone ∙ sym clear
+            | inr bit ↦
+                let at = mark_layer raw layer marked.residue contact marked.residue_type (ap (bit_at (parts_of raw marked.residue)) (sym same) ∙ bit) in
+                let one : length (images_of raw layer) ≡ 1 = ap (λ (l : ℕ). length (images_of raw l)) (sym at) ∙ marked.residue_simple in
+                absurd (omega arith)
+          ]
     ])

@@ -7,7 +7,7 @@ use Rattle.std.proofs.lemmas.List.{get_or-set_other}
 use Rattle.std.proofs.lemmas.Bool.{cases_eq, eq-eqb, ne_eqb}
 use Rattle.std.proofs.lemmas.Grind.{common_steps, get_or_default_zero, get_or-set_at}
 use Rattle.tech_model.specs.declared.raw.TypeId.{TypeId}
-use Rattle.tech_model.specs.PairTables.{has_pair}
+use Rattle.tech_model.specs.PairTables.{row_has}
 use Rattle.tech_model.specs.Types.{is_of}
 
 bit_set : (row t y : ℕ) → t < 128 → y < 128 → (bit_at (bit_or row (1 * 2 ^ t % 2 ^ 128)) y == 1) ≡ (bit_at row y == 1 || y == t)
@@ -17,9 +17,9 @@ bit_set row t y t_below y_below = elim (cases_eq y t) [
 ]
 
 -- the rows after a bit was set in the row of s
-pub has_pair-set : (rows : List ℕ) (i row s t x y : ℕ) → i ≡ s → row ≡ slice_index_or rows s row → s < length rows → t < 128 → y < 128
-    → has_pair (slice_set rows i (bit_or row (1 * 2 ^ t % 2 ^ 128))) x y ≡ (has_pair rows x y || (x == s && y == t))
-has_pair-set rows i row s t x y at_s is_row inside t_below y_below =
+pub row_has-set : (rows : List ℕ) (i row s t x y : ℕ) → i ≡ s → row ≡ slice_index_or rows s row → s < length rows → t < 128 → y < 128
+    → row_has (slice_set rows i (bit_or row (1 * 2 ^ t % 2 ^ 128))) x y ≡ (row_has rows x y || (x == s && y == t))
+row_has-set rows i row s t x y at_s is_row inside t_below y_below =
     let here : row ≡ slice_index_or rows s 0 = is_row ∙ get_or_default_zero rows s row inside in
     elim (cases_eq x s) [
       | inl same ↦ grind (arith, common_steps, eq-eqb x s same, get_or-set_at rows i x (bit_or row (1 * 2 ^ t % 2 ^ 128)) 0, bit_set row t y t_below y_below)

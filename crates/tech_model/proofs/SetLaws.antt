@@ -150,7 +150,7 @@ pub mark_layer : (raw : RawTech) (layer t : ℕ) (contact : IsContact raw layer)
 mark_layer raw layer t contact is bit = elim (cases_eq (layer_of raw t) layer) [
   | inl same ↦ same
   | inr other ↦
-      let none = contact.own t is other in
+      let none = contact.no_other t is other in
       let apart : ◌≡◌ {A = ℕ} (1 * 2 ^ contact.bit) 0 = sym (ap (λ (x : ℕ). x * 2 ^ contact.bit) bit) ∙ sym (and_pow (parts_of raw t) contact.bit) ∙ none in
       absurd (bit_not_empty (2 ^ contact.bit) contact.bit (bit_at-pow_same contact.bit) (omega (arith, apart)))
 ]

@@ -15,13 +15,14 @@ use Rattle.tech_model.specs.declared.raw.LayerRec.{LayerRec}
 use Rattle.tech_model.specs.declared.raw.RawTech.{RawTech}
 use Rattle.tech_model.specs.Types.{is_type, plane_of, layer_of, parts_of, images_of, no_layer, joined, is_subset, without}
 use Rattle.tech_model.specs.WellFormed.{IsWellFormed, IsContact}
-use Rattle.tech_model.specs.Columns.{on_planes_from, mark_of, type_on, without_mark, layer_mark_kept, marks_kept}
+use Rattle.tech_model.specs.declared.columns.Brush.{Brush}
+use Rattle.tech_model.specs.Columns.{on_planes_from, mark_of, type_on, without_parts, layer_mark_kept, marks_kept, brushed_column}
 use Rattle.tech_model.specs.ColumnForms.{IsOnPlane, IsColumn, HasWholeContacts}
 use Rattle.tech_model.proofs.JoinedLaws.{joined-found}
 use Rattle.tech_model.proofs.WithinLaws.{one_image}
 use Rattle.tech_model.proofs.SetLaws.{bit_cases, without_bit, without_bit_source, mark_part, mark_part_bit, image_mark, mark_layer, type_cases}
 use Rattle.tech_model.proofs.MarkLaws.{mark_of-contact}
-use Rattle.tech_model.proofs.ColumnLaws.{changed, kept_cases, kept_is_column, bit_type}
+use Rattle.tech_model.proofs.ColumnLaws.{changed, kept_cases, kept_is_column, bit_type, brushed_is_column}
 
 -- Where one image of the layer stands, all of them stand.
 abbrev pub IsWhole : RawTech → ℕ → List TypeId → Type 0
@@ -63,11 +64,11 @@ left_option raw plane set (Some t) is = inr (joined-found raw plane set t is).0
 
 -- a type without the mark is space, or has the set without the mark
 pub left_set : (raw : RawTech) (mark plane : ℕ) (old : TypeId) → is_subset mark (parts_of raw old.0) ≡ true
-    → ((without_mark raw mark plane old).0 ≡ 0) ⊎ (parts_of raw (without_mark raw mark plane old).0 ≡ without (parts_of raw old.0) mark)
+    → ((without_parts raw mark plane old).0 ≡ 0) ⊎ (parts_of raw (without_parts raw mark plane old).0 ≡ without (parts_of raw old.0) mark)
 left_set raw mark plane old part = rw part (left_option raw plane (without (parts_of raw old.0) mark) (joined raw plane (without (parts_of raw old.0) mark)) refl)
 
 -- it has the mark no more
-unmarked_clear : (raw : RawTech) (bit plane : ℕ) (old : TypeId) → bit_at (parts_of raw (without_mark raw (2 ^ bit) plane old).0) bit ≡ 0
+unmarked_clear : (raw : RawTech) (bit plane : ℕ) (old : TypeId) → bit_at (parts_of raw (without_parts raw (2 ^ bit) plane old).0) bit ≡ 0
 unmarked_clear raw bit plane old = elim (cases_Bool (is_subset (2 ^ bit) (parts_of raw old.0))) [
   | inl part ↦ elim (left_set raw (2 ^ bit) plane old part) [
     | inl space ↦ ap (λ (t : ℕ). bit_at (parts_of raw t) bit) space ∙ bit_at-zero bit
@@ -80,7 +81,7 @@ unmarked_clear raw bit plane old = elim (cases_Bool (is_subset (2 ^ bit) (parts_
 ]
 
 -- a type without the mark stays
-pub unmarked_keeps : (raw : RawTech) (bit plane t : ℕ) (old : TypeId) → bit_at (parts_of raw t) bit ≢ 1 → old.0 ≡ t → (without_mark raw (2 ^ bit) plane old).0 ≡ t
+pub unmarked_keeps : (raw : RawTech) (bit plane t : ℕ) (old : TypeId) → bit_at (parts_of raw t) bit ≢ 1 → old.0 ≡ t → (without_parts raw (2 ^ bit) plane old).0 ≡ t
 unmarked_keeps raw bit plane t old clear same = elim (cases_Bool (is_subset (2 ^ bit) (parts_of raw old.0))) [
   | inl part ↦ absurd (clear (ap (λ (n : ℕ). bit_at (parts_of raw n) bit) (sym same) ∙ mark_part_bit (parts_of raw old.0) bit part))
   | inr none ↦ rw none same
@@ -88,7 +89,7 @@ unmarked_keeps raw bit plane t old clear same = elim (cases_Bool (is_subset (2 ^
 
 -- an image of another contact that stands now stood before
 unmarked_back : (raw : RawTech) (layer other plane s : ℕ) (old : TypeId) (contact : IsContact raw layer) (second : IsContact raw other) → layer ≢ other
-    → IsOnPlane raw plane old.0 → bit_at (parts_of raw s) second.bit ≡ 1 → (without_mark raw (2 ^ contact.bit) plane old).0 ≡ s → old.0 ≡ s
+    → IsOnPlane raw plane old.0 → bit_at (parts_of raw s) second.bit ≡ 1 → (without_parts raw (2 ^ contact.bit) plane old).0 ≡ s → old.0 ≡ s
 unmarked_back raw layer other plane s old contact second apart on marked is = elim (cases_Bool (is_subset (2 ^ contact.bit) (parts_of raw old.0))) [
   | inr none ↦ rw none at is
   | inl part ↦
@@ -118,15 +119,15 @@ whole_kept raw layer other column w below other_below apart is whole s t s_is t_
         | inr many ↦
             let contact = w.sets.contacts layer below taken.1 in
             let second = w.sets.contacts other other_below many in
-            let new = taken.0 ∙ ap (λ (mark : ℕ). on_planes_from 0 (without_mark raw mark) column) (mark_of-contact raw layer w below taken.1 contact) in
+            let new = taken.0 ∙ ap (λ (mark : ℕ). on_planes_from 0 (without_parts raw mark) column) (mark_of-contact raw layer w below taken.1 contact) in
             let s_in : In (record { 0 = s }) (images_of raw other) = subst (λ (l : ℕ). In (record { 0 = s }) (images_of raw l)) s_layer (w.is_image s s_is) in
             let marked = image_mark raw other s second s_in in
             let clear : bit_at (parts_of raw t) contact.bit ≢ 1 = λ bit. apart (sym (mark_layer raw layer t contact t_is bit) ∙ t_layer) in
             let before : type_on column (plane_of raw s) ≡ s =
-            changed (λ plane old new. IsOnPlane raw plane old → (new ≡ s → old ≡ s)) (without_mark raw (2 ^ contact.bit)) column
+            changed (λ plane old new. IsOnPlane raw plane old → (new ≡ s → old ≡ s)) (without_parts raw (2 ^ contact.bit)) column
             (λ plane old on now. unmarked_back raw layer other plane s old contact second apart on marked now) (λ plane on same. same) (plane_of raw s) (is (plane_of raw s))
             (subst (λ (c : List TypeId). type_on c (plane_of raw s) ≡ s) new stands) in
-            let after = changed (λ plane old new. old ≡ t → new ≡ t) (without_mark raw (2 ^ contact.bit)) column
+            let after = changed (λ plane old new. old ≡ t → new ≡ t) (without_parts raw (2 ^ contact.bit)) column
             (λ plane old same. unmarked_keeps raw contact.bit plane t old clear same) (λ plane same. same) (plane_of raw t) (whole s t s_is t_is s_layer t_layer before) in
             subst (λ (c : List TypeId). type_on c (plane_of raw t) ≡ t) (sym new) after
       ]
@@ -152,9 +153,9 @@ whole_here raw layer column w below is s t s_is t_is s_layer t_layer stands = el
             subst (λ (c : List TypeId). type_on c (plane_of raw t) ≡ t) (sym same)
             (one_image raw here t w type.0 t_is (mark_layer raw layer here contact type.0 bit ∙ sym t_layer) type.1)
         | inr taken ↦
-            let new = taken.0 ∙ ap (λ (mark : ℕ). on_planes_from 0 (without_mark raw mark) column) mark in
-            let clear : bit_at (parts_of raw (type_on (on_planes_from 0 (without_mark raw (2 ^ contact.bit)) column) (plane_of raw s))) contact.bit ≡ 0 =
-            changed (λ plane old new. bit_at (parts_of raw new) contact.bit ≡ 0) (without_mark raw (2 ^ contact.bit)) column
+            let new = taken.0 ∙ ap (λ (mark : ℕ). on_planes_from 0 (without_parts raw mark) column) mark in
+            let clear : bit_at (parts_of raw (type_on (on_planes_from 0 (without_parts raw (2 ^ contact.bit)) column) (plane_of raw s))) contact.bit ≡ 0 =
+            changed (λ plane old new. bit_at (parts_of raw new) contact.bit ≡ 0) (without_parts raw (2 ^ contact.bit)) column
             (λ plane old. unmarked_clear raw contact.bit plane old) (λ plane. bit_at-zero contact.bit) (plane_of raw s) in
             let stood = subst (λ (c : List TypeId). type_on c (plane_of raw s) ≡ s) new stands in
             let apart : ◌≡◌ {A = ℕ} 1 0 = sym (image_mark raw layer s contact s_in) ∙ sym (ap (λ (n : ℕ). bit_at (parts_of raw n) contact.bit) stood) ∙ clear in
@@ -194,3 +195,9 @@ marks_kept-whole raw column w is =
       λ s t s_is t_is layers stands.
           subst (IsWhole raw (layer_of raw t)) end (all.1 (layer_of raw t) (w.type_layers t t_is)) s t s_is t_is layers refl stands,
     )
+
+-- a brush leaves a column in which all contacts stand whole
+pub brushed_column-whole : (raw : RawTech) (brush : Brush) (layer : ℕ) (column : List TypeId) → IsWellFormed raw → layer < length raw.layers → IsColumn raw column
+    → IsColumn raw (brushed_column raw brush layer column) × HasWholeContacts raw (brushed_column raw brush layer column)
+unfolding brushed_column
+brushed_column-whole raw brush layer column w below is = marks_kept-whole raw _ w (brushed_is_column raw brush layer column w below is)

@@ -6,18 +6,29 @@ use Rattle.tech_model.specs.declared.raw.TypeId.{TypeId}
 use Rattle.tech_model.specs.declared.raw.RawTech.{RawTech}
 use Rattle.tech_model.specs.Types.{type_number, plane_of, parts_of, image_on, joined, is_subset, without}
 use Rattle.tech_model.specs.declared.limits.TheConstants.{PART_BITS}
+use Rattle.tech_model.specs.declared.columns.Brush.{Brush}
+use Rattle.tech_model.specs.declared.columns.Brush.TheVariants.{Paint, Erase}
 
 -- Paint puts the image with what stands there, where the plane has a type with both their parts, and else in its place.
 abbrev pub painted_by : RawTech → ℕ → TypeId → TypeId → TypeId
 painted_by raw plane image old =
     type_number (unwrap_or (joined raw plane (bit_or (parts_of raw old.0) (parts_of raw image.0))) image.0)
 
--- Erasing takes the parts of the image away where they all stand: the type with the rest is left, or space where there is none.
-abbrev pub erased_by : RawTech → ℕ → TypeId → TypeId → TypeId
-erased_by raw plane image old =
-    if is_subset (parts_of raw image.0) (parts_of raw old.0)
-    then type_number (unwrap_or (joined raw plane (without (parts_of raw old.0) (parts_of raw image.0))) 0)
+-- what is left when the parts of a set are taken off, where they all stand: the type with the rest, or space where there is none
+abbrev pub without_parts : RawTech → ℕ → ℕ → TypeId → TypeId
+without_parts raw set plane old =
+    if is_subset set (parts_of raw old.0)
+    then type_number (unwrap_or (joined raw plane (without (parts_of raw old.0) set)) 0)
     else old
+
+-- Erasing takes the parts of the image off.
+abbrev pub erased_by : RawTech → ℕ → TypeId → TypeId → TypeId
+erased_by raw plane image old = without_parts raw (parts_of raw image.0) plane old
+
+-- what a brush makes of a type with an image
+abbrev pub brushed_by : RawTech → Brush → ℕ → TypeId → TypeId → TypeId
+brushed_by raw Paint = painted_by raw
+brushed_by raw Erase = erased_by raw
 
 -- what a change does on a plane: nothing where the layer has no image there
 abbrev pub where_image : (TypeId → TypeId → TypeId) → Option TypeId → TypeId → TypeId
@@ -45,19 +56,12 @@ abbrev pub has_mark_everywhere : RawTech → ℕ → List TypeId → List TypeId
 has_mark_everywhere raw mark images column =
     list_all (λ image. is_subset mark (parts_of raw (type_on column (plane_of raw image.0)))) images
 
--- a type without a mark is the residue below it
-abbrev pub without_mark : RawTech → ℕ → ℕ → TypeId → TypeId
-without_mark raw mark plane old =
-    if is_subset mark (parts_of raw old.0)
-    then type_number (unwrap_or (joined raw plane (without (parts_of raw old.0) mark)) 0)
-    else old
-
 -- the column after one contact's mark was taken off, where it does not stand on all planes of the contact
 abbrev pub mark_kept : RawTech → List TypeId → List TypeId → List TypeId
 mark_kept raw images column =
     if has_mark_everywhere raw (mark_of raw images) images column
     then column
-    else on_planes_from 0 (without_mark raw (mark_of raw images)) column
+    else on_planes_from 0 (without_parts raw (mark_of raw images)) column
 
 -- a layer with more than one image is a contact
 abbrev pub layer_mark_kept : RawTech → List TypeId → List TypeId → List TypeId
@@ -67,12 +71,15 @@ layer_mark_kept raw images column = if nat_lt 1 (length images) then mark_kept r
 abbrev pub marks_kept : RawTech → List TypeId → List TypeId
 marks_kept raw column = fold (λ kept layer. layer_mark_kept raw layer.images kept) column raw.layers
 
+-- the column after a brush was used with a layer
+unfoldable pub brushed_column : RawTech → Brush → ℕ → List TypeId → List TypeId
+brushed_column raw brush layer column =
+    marks_kept raw (on_planes_from 0 (λ plane old. where_image (brushed_by raw brush plane) (image_on raw layer plane) old) column)
+
 -- the column after paint of a layer
-unfoldable pub painted_column : RawTech → ℕ → List TypeId → List TypeId
-painted_column raw layer column =
-    marks_kept raw (on_planes_from 0 (λ plane old. where_image (painted_by raw plane) (image_on raw layer plane) old) column)
+abbrev pub painted_column : RawTech → ℕ → List TypeId → List TypeId
+painted_column raw layer column = brushed_column raw Paint layer column
 
 -- the column after a layer was erased
-unfoldable pub erased_column : RawTech → ℕ → List TypeId → List TypeId
-erased_column raw layer column =
-    marks_kept raw (on_planes_from 0 (λ plane old. where_image (erased_by raw plane) (image_on raw layer plane) old) column)
+abbrev pub erased_column : RawTech → ℕ → List TypeId → List TypeId
+erased_column raw layer column = brushed_column raw Erase layer column

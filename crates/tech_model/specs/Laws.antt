@@ -1,13 +1,14 @@
 -- Laws of technologies, as statements.
-use Rattle.std.specs.Prelude.{◌≡◌, ◌≢◌, ◌⊎◌, ◌↔◌, ◌<◌, ℕ, IsTrue, List, length, Some, None}
+use Rattle.std.specs.Prelude.{◌≡◌, ◌≢◌, ◌⊎◌, ◌↔◌, ◌<◌, ◌^◌, ℕ, IsTrue, List, length, Some, None}
 use Rattle.finite_sets.specs.Lists.{In}
 use Rattle.tech_model.specs.declared.raw.TypeId.{TypeId}
 use Rattle.tech_model.specs.declared.raw.FetRule.{FetRule}
 use Rattle.tech_model.specs.declared.raw.RawTech.{RawTech}
-use Rattle.tech_model.specs.Types.{is_type, plane_of, layer_of, parts_of, joined, connects, is_within}
-use Rattle.tech_model.specs.WellFormed.{IsWellFormed}
+use Rattle.tech_model.specs.Types.{is_type, plane_of, layer_of, parts_of, images_of, joined, connects, is_within, without}
+use Rattle.tech_model.specs.WellFormed.{IsWellFormed, IsContact, IsMarked}
 use Rattle.tech_model.specs.Rules.{IsMonotone, KeepsRules, rule_fault}
-use Rattle.tech_model.specs.Columns.{type_on, painted_column, erased_column}
+use Rattle.tech_model.specs.Columns.{type_on, mark_of, brushed_column}
+use Rattle.tech_model.specs.declared.columns.Brush.{Brush}
 use Rattle.tech_model.specs.ColumnForms.{IsColumn, HasWholeContacts}
 
 -- Exactly where no rule is broken, the rules are kept.
@@ -59,17 +60,22 @@ LayersAreLinked =
     (raw : RawTech) → IsWellFormed raw → (s t : ℕ) → IsTrue (is_type raw s) → IsTrue (is_type raw t) → layer_of raw s ≡ layer_of raw t
     → IsTrue (connects raw s t) × (plane_of raw s ≡ plane_of raw t → s ≡ t)
 
+-- What the images of a contact have in common is its mark's bit alone, and without it a set is that of its residue.
+abbrev pub MarksAreBits : Type 0
+MarksAreBits =
+    (raw : RawTech) → IsWellFormed raw → (layer : ℕ) → layer < length raw.layers → 1 < length (images_of raw layer) → (contact : IsContact raw layer)
+    → (mark_of raw (images_of raw layer) ≡ 2 ^ contact.bit)
+    × ((t : ℕ) (image : IsMarked raw contact.bit t) → without (parts_of raw t) (mark_of raw (images_of raw layer)) ≡ parts_of raw image.residue)
+
 -- Paint and erasing leave columns in which each contact stands whole.
 abbrev pub ColumnsStayWhole : Type 0
 ColumnsStayWhole =
-    (raw : RawTech) → IsWellFormed raw → (layer : ℕ) (column : List TypeId) → layer < length raw.layers → IsColumn raw column
-    → (IsColumn raw (painted_column raw layer column) × HasWholeContacts raw (painted_column raw layer column))
-    × (IsColumn raw (erased_column raw layer column) × HasWholeContacts raw (erased_column raw layer column))
+    (raw : RawTech) → IsWellFormed raw → (brush : Brush) (layer : ℕ) (column : List TypeId) → layer < length raw.layers → IsColumn raw column
+    → IsColumn raw (brushed_column raw brush layer column) × HasWholeContacts raw (brushed_column raw brush layer column)
 
 -- What paint and erasing leave on a plane depends on that plane alone, where contacts stand whole.
 abbrev pub ColumnsAreLocal : Type 0
 ColumnsAreLocal =
-    (raw : RawTech) → IsWellFormed raw → (layer plane : ℕ) (a b : List TypeId) → layer < length raw.layers → length a ≡ length b
+    (raw : RawTech) → IsWellFormed raw → (brush : Brush) (layer plane : ℕ) (a b : List TypeId) → layer < length raw.layers → length a ≡ length b
     → IsColumn raw a → IsColumn raw b → HasWholeContacts raw a → HasWholeContacts raw b → type_on a plane ≡ type_on b plane
-    → (type_on (painted_column raw layer a) plane ≡ type_on (painted_column raw layer b) plane)
-    × (type_on (erased_column raw layer a) plane ≡ type_on (erased_column raw layer b) plane)
+    → type_on (brushed_column raw brush layer a) plane ≡ type_on (brushed_column raw brush layer b) plane

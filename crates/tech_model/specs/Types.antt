@@ -99,7 +99,7 @@ is_pair raw s t = list_any (is_of s t) raw.pairs
 unfoldable pub connects : RawTech → ℕ → ℕ → Bool
 connects raw s t = is_type raw s && is_type raw t && (s == t || is_pair raw s t || layer_of raw s == layer_of raw t)
 
--- s is within t where they are one type, or s has some of the parts of t and not all, and connects to it.
+-- s is within t where they are one type, or the set of s is a proper subset of that of t and s connects to t.
 unfoldable pub is_within : RawTech → ℕ → ℕ → Bool
 is_within raw s t = s == t || (is_proper_subset (parts_of raw s) (parts_of raw t) && connects raw s t)
 

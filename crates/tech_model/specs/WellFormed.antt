@@ -45,7 +45,7 @@ pub record IsContact (raw : RawTech) (layer : ℕ) : Type 0 where
   pub above_atoms : FIRST_MARK ≤ bit
   pub below_limit : bit < PART_BITS
   pub images : All (λ t. IsMarked raw bit t.0) (images_of raw layer)
-  pub own : (t : ℕ) → IsTrue (is_type raw t) → layer_of raw t ≢ layer → bit_and (parts_of raw t) (2 ^ bit) ≡ 0
+  pub no_other : (t : ℕ) → IsTrue (is_type raw t) → layer_of raw t ≢ layer → bit_and (parts_of raw t) (2 ^ bit) ≡ 0
 
 pub record HasSets (raw : RawTech) : Type 0 where
   pub simple : (t : ℕ) → IsTrue (is_type raw t) → IsSimple raw t → HasSet raw t

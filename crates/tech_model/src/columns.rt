@@ -1,14 +1,21 @@
 //! Columns: what paint and erasing make of the types on the planes of one square.
 ghost use Rattle.std.specs.Prelude.{◌≡◌, ◌<◌, length, fold, unwrap_or};
 ghost use Rattle.tech_model.specs.Types.{is_subset, without, image_on, joined};
-ghost use Rattle.tech_model.specs.Columns.{type_on, painted_by, erased_by, where_image, on_planes_from};
-ghost use Rattle.tech_model.specs.Columns.{mark_of, has_mark_everywhere, without_mark, layer_mark_kept, marks_kept};
-ghost use Rattle.tech_model.specs.Columns.{painted_column, erased_column};
+ghost use Rattle.tech_model.specs.Columns.{type_on, painted_by, without_parts, brushed_by, where_image, on_planes_from};
+ghost use Rattle.tech_model.specs.Columns.{mark_of, has_mark_everywhere, layer_mark_kept, marks_kept};
+ghost use Rattle.tech_model.specs.Columns.{brushed_column};
 
 use crate::indexed::Indexed;
 use crate::limits::MOST_PLANES;
 use crate::raw::{LayerId, PartSet, TypeId};
 use std::array;
+
+/// Whether a layer is painted or erased.
+#[derive(Clone, Copy, Debug, PartialEq, Eq)]
+pub enum Brush {
+    Paint,
+    Erase,
+}
 
 /// Whether all parts of a are parts of b.
 fn is_subset(a: PartSet, b: PartSet) -> bool
@@ -47,25 +54,24 @@ fn painted_by(lists: &Indexed, plane: u8, image: TypeId, old: TypeId) -> TypeId
     joined_or(lists, plane, set, image)
 }
 
-fn erased_by(lists: &Indexed, plane: u8, image: TypeId, old: TypeId) -> TypeId
-    ensures { result ≡ erased_by lists.now plane image old }
+/// What is left when the parts of the set are taken off, where they all stand.
+fn without_parts(lists: &Indexed, set: PartSet, plane: u8, old: TypeId) -> TypeId
+    ensures { result ≡ without_parts lists.now set.0 plane old }
 {
-    let (parts, taken) = (lists.parts(old), lists.parts(image));
-    if is_subset(taken, parts) {
-        joined_or(lists, plane, without(parts, taken), TypeId(0))
+    let parts = lists.parts(old);
+    if is_subset(set, parts) {
+        joined_or(lists, plane, without(parts, set), TypeId(0))
     } else {
         old
     }
 }
 
-fn without_mark(lists: &Indexed, mark: PartSet, plane: u8, old: TypeId) -> TypeId
-    ensures { result ≡ without_mark lists.now mark.0 plane old }
+fn brushed_by(lists: &Indexed, brush: Brush, plane: u8, image: TypeId, old: TypeId) -> TypeId
+    ensures { result ≡ brushed_by lists.now brush plane image old }
 {
-    let parts = lists.parts(old);
-    if is_subset(mark, parts) {
-        joined_or(lists, plane, without(parts, mark), TypeId(0))
-    } else {
-        old
+    match brush {
+        Brush::Paint => painted_by(lists, plane, image, old),
+        Brush::Erase => without_parts(lists, lists.parts(image), plane, old),
     }
 }
 
@@ -86,10 +92,10 @@ fn has_mark_everywhere(lists: &Indexed, mark: PartSet, images: &[TypeId], column
 }
 
 fn take_mark_off(lists: &Indexed, mark: PartSet, column: &mut [TypeId; MOST_PLANES])
-    ensures { column.new ≡ on_planes_from 0 (without_mark lists.now mark.0) column.old }
+    ensures { column.new ≡ on_planes_from 0 (without_parts lists.now mark.0) column.old }
 {
     let old = *column;
-    *column = array::from_fn(|plane| without_mark(lists, mark, plane as u8, old[plane]));
+    *column = array::from_fn(|plane| without_parts(lists, mark, plane as u8, old[plane]));
 }
 
 /// Takes the mark of a contact with these images off the column, unless it stands on all its planes.
@@ -112,44 +118,28 @@ fn keep_marks(lists: &Indexed, column: &mut [TypeId; MOST_PLANES])
     }
 }
 
-fn painted_on(lists: &Indexed, layer: LayerId, plane: u8, old: TypeId) -> TypeId
+fn brushed_on(lists: &Indexed, brush: Brush, layer: LayerId, plane: u8, old: TypeId) -> TypeId
     requires { layer.0 < length lists.now.layers }
-    ensures { result ≡ where_image (painted_by lists.now plane) (image_on lists.now layer.0 plane) old }
+    ensures { result ≡ where_image (brushed_by lists.now brush plane) (image_on lists.now layer.0 plane) old }
 {
     match lists.image(layer, plane) {
-        Some(image) => painted_by(lists, plane, image, old),
+        Some(image) => brushed_by(lists, brush, plane, image, old),
         None => old,
     }
 }
 
-fn erased_on(lists: &Indexed, layer: LayerId, plane: u8, old: TypeId) -> TypeId
+/// Paints or erases the layer.
+#[tactic(auto, unfolding(crate::specs::Columns::brushed_column))]
+pub(crate) fn brush_column(
+    lists: &Indexed,
+    brush: Brush,
+    column: &mut [TypeId; MOST_PLANES],
+    layer: LayerId,
+)
     requires { layer.0 < length lists.now.layers }
-    ensures { result ≡ where_image (erased_by lists.now plane) (image_on lists.now layer.0 plane) old }
-{
-    match lists.image(layer, plane) {
-        Some(image) => erased_by(lists, plane, image, old),
-        None => old,
-    }
-}
-
-/// Paints the layer.
-#[tactic(auto, unfolding(crate::specs::Columns::painted_column))]
-pub(crate) fn paint(lists: &Indexed, column: &mut [TypeId; MOST_PLANES], layer: LayerId)
-    requires { layer.0 < length lists.now.layers }
-    ensures { column.new ≡ painted_column lists.now layer.0 column.old }
+    ensures { column.new ≡ brushed_column lists.now brush layer.0 column.old }
 {
     let old = *column;
-    *column = array::from_fn(|plane| painted_on(lists, layer, plane as u8, old[plane]));
-    keep_marks(lists, column);
-}
-
-/// Erases the layer.
-#[tactic(auto, unfolding(crate::specs::Columns::erased_column))]
-pub(crate) fn erase(lists: &Indexed, column: &mut [TypeId; MOST_PLANES], layer: LayerId)
-    requires { layer.0 < length lists.now.layers }
-    ensures { column.new ≡ erased_column lists.now layer.0 column.old }
-{
-    let old = *column;
-    *column = array::from_fn(|plane| erased_on(lists, layer, plane as u8, old[plane]));
+    *column = array::from_fn(move |plane| brushed_on(lists, brush, layer, plane as u8, old[plane]));
     keep_marks(lists, column);
 }

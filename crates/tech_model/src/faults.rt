@@ -18,7 +18,7 @@ pub enum Section {
 
 /// A list of a technology that has a limit.
 #[derive(Clone, Copy, Debug, PartialEq, Eq)]
-pub enum Table {
+pub enum LimitedList {
     /// At most `MOST_PLANES`.
     Planes,
     /// At most `MOST_TYPES`, without space.
@@ -61,7 +61,7 @@ pub enum TechFault {
     FetName(Name),
     /// More of these than there may be.
     #[error("too many")]
-    TooMany(Table),
+    TooMany(LimitedList),
     /// A line or a section is not of its form.
     #[error("bad form")]
     BadForm,

@@ -1,6 +1,6 @@
 //! Laws of technologies, as the contracts of calls that do nothing.
 ghost use Rattle.tech_model.specs.Laws.{RulesAreExact, ConnectsBothWays, ConnectsTypes, WithinIsAnOrder, SpaceIsAlone};
-ghost use Rattle.tech_model.specs.Laws.{SetsNameTypes, JoinedHasSet, FetsAreNoTerminals, LayersAreLinked, ColumnsStayWhole, ColumnsAreLocal};
+ghost use Rattle.tech_model.specs.Laws.{SetsNameTypes, JoinedHasSet, FetsAreNoTerminals, LayersAreLinked, MarksAreBits, ColumnsStayWhole, ColumnsAreLocal};
 
 /// The first broken rule is none exactly where all rules are kept.
 pub fn rules_are_exact()
@@ -45,6 +45,11 @@ pub fn fets_are_no_terminals()
 /// Two types of one layer connect, and on one plane they are one type.
 pub fn layers_are_linked()
     ensures { LayersAreLinked }
+{}
+
+/// What the images of a contact have in common is its mark's bit alone.
+pub fn marks_are_bits()
+    ensures { MarksAreBits }
 {}
 
 /// Paint and erasing leave columns in which each contact stands whole.

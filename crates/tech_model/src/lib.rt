@@ -9,9 +9,9 @@
 //!
 //! The laws of `laws` rest on sets of parts as numbers (`SetLaws`): on its plane a set names one type (`JoinedLaws`), what
 //! is within what is an order (`TypeLaws`, `WithinLaws`), and the images of a contact have its mark, and nothing else, in
-//! common (`MarkLaws`). Paint and erasing leave a type of its plane on each plane (`ColumnLaws`). Then each contact is
-//! looked at in turn: `WholeLaws` says that one that was looked at stands whole from then on, and `LocalLaws` that what is
-//! left on a plane depends on that plane alone.
+//! common, and without it the sets of their residues (`MarkLaws`). Paint and erasing leave a type of its plane on each
+//! plane (`ColumnLaws`). Then each contact is looked at in turn: `WholeLaws` says that one that was looked at stands whole
+//! from then on, and `LocalLaws` that what is left on a plane depends on that plane alone.
 #![tactic(auto)]
 
 mod columns;
@@ -26,12 +26,13 @@ mod raw;
 mod rules;
 mod tech;
 
-pub use faults::{Section, Table, TechFault};
+pub use columns::Brush;
+pub use faults::{LimitedList, Section, TechFault};
 pub use index::LayerIndex;
 pub use laws::{
     columns_are_local, columns_stay_whole, connects_both_ways, connects_types,
-    fets_are_no_terminals, joined_has_set, layers_are_linked, rules_are_exact, sets_name_types,
-    space_is_alone, within_is_an_order,
+    fets_are_no_terminals, joined_has_set, layers_are_linked, marks_are_bits, rules_are_exact,
+    sets_name_types, space_is_alone, within_is_an_order,
 };
 pub use layers::Layers;
 pub use limits::{

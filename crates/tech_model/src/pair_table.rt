@@ -1,6 +1,6 @@
 //! Which types the pairs of a technology join, a bit for each two types.
 ghost use Rattle.std.specs.Prelude.{◌≡◌, ◌<◌, ◌==◌, ◌||◌, ◌&&◌, ℕ, length, All, IfOk};
-ghost use Rattle.tech_model.specs.PairTables.{has_pair, HasPairs};
+ghost use Rattle.tech_model.specs.PairTables.{row_has, HasPairs};
 ghost use Rattle.tech_model.specs.declared.pair_table.TheConstants.{ROWS};
 
 use crate::limits::MOST_TYPES;
@@ -36,8 +36,8 @@ impl PairTable {
     fn put(&mut self, s: TypeId, t: TypeId)
         requires s { s.0 < ROWS }
         requires t { t.0 < ROWS }
-        ensures { (x y : ℕ) → y < ROWS → has_pair self.new.rows.items x y
-            ≡ (has_pair self.old.rows.items x y || (x == s.0 && y == t.0)) }
+        ensures { (x y : ℕ) → y < ROWS → row_has self.new.rows.items x y
+            ≡ (row_has self.old.rows.items x y || (x == s.0 && y == t.0)) }
     {
         let row = self.rows[usize::from(s.0)];
         self.rows[usize::from(s.0)] = row | 1 << t.0;
@@ -47,7 +47,7 @@ impl PairTable {
     pub(crate) fn has(&self, s: TypeId, t: TypeId) -> bool
         requires s { s.0 < ROWS }
         requires t { t.0 < ROWS }
-        ensures { result ≡ has_pair self.now.rows.items s.0 t.0 }
+        ensures { result ≡ row_has self.now.rows.items s.0 t.0 }
     {
         self.rows[usize::from(s.0)] >> t.0 & 1 == 1
     }

@@ -1,12 +1,13 @@
 //! Technologies that keep the rules.
 ghost use Rattle.std.specs.Prelude.{◌≡◌, ◌<◌, ◌⊎◌, None, Some, length, IfOk, IfErr, IsTrue};
 ghost use Rattle.std.specs.Option.{option_map};
-ghost use Rattle.tech_model.specs.Columns.{painted_column, erased_column};
+ghost use Rattle.tech_model.specs.Columns.{brushed_column};
 ghost use Rattle.tech_model.specs.Rules.{KeepsRules, rule_fault};
 ghost use Rattle.tech_model.specs.Types.{first_name, is_type, layer_at, layer_of, layer_number, type_number, layer_named, image_on, joined, connects};
 ghost use Rattle.tech_model.specs.Types.{is_within};
 ghost use Rattle.tech_model.specs.WellFormed.{IsWellFormed};
 
+use crate::columns::Brush;
 use crate::faults::TechFault;
 use crate::indexed::Indexed;
 use crate::limits::MOST_PLANES;
@@ -85,7 +86,7 @@ impl Tech {
         self.lists.connects(s, t)
     }
 
-    /// Whether s is within t: it is t, or it has a part of t's set and connects to t.
+    /// Whether s is within t: it is t, or its set is a proper subset of t's and it connects to t.
     pub fn within(&self, s: TypeId, t: TypeId) -> bool
         ensures { result ≡ is_within self.now s.0 t.0 }
     {
@@ -100,20 +101,12 @@ impl Tech {
         self.lists.layer_name(t)
     }
 
-    /// Paints the layer at one square. A column has a type for each plane: one of that plane or space, and
-    /// space past the last plane.
-    pub fn paint_column(&self, column: &mut [TypeId; MOST_PLANES], layer: LayerId)
+    /// Paints or erases the layer at one square. A column has a type for each plane: one of that plane or
+    /// space, and space past the last plane.
+    pub fn brush_column(&self, brush: Brush, column: &mut [TypeId; MOST_PLANES], layer: LayerId)
         requires { layer.0 < length self.now.layers }
-        ensures { column.new ≡ painted_column self.now layer.0 column.old }
+        ensures { column.new ≡ brushed_column self.now brush layer.0 column.old }
     {
-        columns::paint(&self.lists, column, layer)
-    }
-
-    /// Erases the layer at one square.
-    pub fn erase_column(&self, column: &mut [TypeId; MOST_PLANES], layer: LayerId)
-        requires { layer.0 < length self.now.layers }
-        ensures { column.new ≡ erased_column self.now layer.0 column.old }
-    {
-        columns::erase(&self.lists, column, layer)
+        columns::brush_column(&self.lists, brush, column, layer)
     }
 }
