@@ -7,7 +7,7 @@ use Rattle.std.specs.Int.{bit_at}
 use Rattle.std.proofs.Math.Seq.{take-length}
 use Rattle.std.proofs.lemmas.Bool.{cases_Bool, cases_eq, and_from, ltb-true, true≢false, eqb-true, eq-eqb}
 use Rattle.std.proofs.lemmas.List.Sums.{fold_more}
-use Rattle.std.proofs.lemmas.Nat.Bits.{bit_at-zero, bit_at_and, bit_at_or, bit_at_xor, bit_at-lt, bit_at-pow_same, bit_at-pow_other, same_from_bits}
+use Rattle.std.proofs.lemmas.Nat.Bits.{bit_at-zero, bit_at_and, bit_at_or, bit_at_xor, bit_at-lt, bit_at-pow_other, same_from_bits}
 use Rattle.finite_sets.specs.Lists.{In}
 use Rattle.finite_sets.proofs.Searches.{find-In, find-passes, find-none}
 use Rattle.tech_model.specs.declared.raw.TypeId.{TypeId}
@@ -16,14 +16,15 @@ use Rattle.tech_model.specs.declared.raw.RawTech.{RawTech}
 use Rattle.tech_model.specs.Types.{is_type, type_number, no_layer, plane_of, parts_of, images_of, is_on, image_on, joined, is_subset, without}
 use Rattle.tech_model.specs.WellFormed.{IsWellFormed, IsContact, IsMarked}
 use Rattle.tech_model.specs.Rules.{HaveOwnSets}
-use Rattle.tech_model.specs.Columns.{painted_by, where_image, on_planes_from, mark_of, type_on, has_mark_everywhere, without_mark, layer_mark_kept, marks_kept}
-use Rattle.tech_model.specs.Columns.{painted_column}
+use Rattle.tech_model.specs.declared.columns.Brush.TheVariants.{Paint as PaintBrush}
+use Rattle.tech_model.specs.Columns.{painted_by, where_image, on_planes_from, mark_of, type_on, has_mark_everywhere, without_parts, layer_mark_kept, marks_kept}
+use Rattle.tech_model.specs.Columns.{brushed_column, painted_column}
 use Rattle.tech_model.specs.ColumnForms.{IsOnPlane, IsColumn, HasWholeContacts}
 use Rattle.tech_model.proofs.JoinedLaws.{joined-found, joined-type}
 use Rattle.tech_model.proofs.WellFormedLaws.{All_In, layer_well_formed}
 use Rattle.tech_model.proofs.SetLaws.{bit_cases, or_bit_right, mark_part, mark_part_bit, image_mark, mark_layer, set_not_empty}
-use Rattle.tech_model.proofs.MarkLaws.{mark_of-contact}
-use Rattle.tech_model.proofs.ColumnLaws.{changed, kept_is_column, bit_type, painted_is_column}
+use Rattle.tech_model.proofs.MarkLaws.{mark_of-contact, residue_set}
+use Rattle.tech_model.proofs.ColumnLaws.{changed, kept_is_column, bit_type, brushed_is_column}
 use Rattle.tech_model.proofs.WithinLaws.{one_image}
 use Rattle.tech_model.proofs.WholeLaws.{unmarked_keeps, marks_kept-whole}
 
@@ -126,10 +127,10 @@ whole_step raw layer column w below is whole = elim (cases_Bool (nat_lt 1 (lengt
         | inr missing ↦
             let clear : (k : ℕ) → bit_at (parts_of raw (type_on column k)) contact.bit ≢ 1 =
             λ k bit. true≢false (sym (whole_everywhere raw layer column w below many contact is whole k bit) ∙ missing) in
-            let same : on_planes_from 0 (without_mark raw (2 ^ contact.bit)) column ≡ column =
-            still (without_mark raw (2 ^ contact.bit)) column (λ k old inside at. unmarked_keeps raw contact.bit k old.0 old
+            let same : on_planes_from 0 (without_parts raw (2 ^ contact.bit)) column ≡ column =
+            still (without_parts raw (2 ^ contact.bit)) column (λ k old inside at. unmarked_keeps raw contact.bit k old.0 old
             (subst (λ (t : ℕ). bit_at (parts_of raw t) contact.bit ≢ 1) (sym at) (clear k)) refl) in
-            rw (more, missing) (ap (λ (mark : ℕ). on_planes_from 0 (without_mark raw mark) column) (mark_of-contact raw layer w below many contact) ∙ same)
+            rw (more, missing) (ap (λ (mark : ℕ). on_planes_from 0 (without_parts raw mark) column) (mark_of-contact raw layer w below many contact) ∙ same)
       ]
 ]
 
@@ -168,44 +169,10 @@ without_other : (a b k : ℕ) → bit_at a k ≡ 1 → bit_at b k ≡ 0 → bit_
 without_other a b k bit clear =
     bit_at_xor a (bit_and a b) k ∙ xor_of_other (bit_at a k) (bit_at (bit_and a b) k) (bit_at b k) bit (bit_at_and a b k) clear
 
-xor_of_own : (x y z : ℕ) → x < 2 → y ≡ min x z → z ≡ 0 → (x + y) % 2 ≡ x
-xor_of_own x y z below is clear = omega arith
-
-xor_of_both : (x y z : ℕ) → x < 2 → y ≡ min x z → z ≡ 1 → (x + y) % 2 ≡ 0
-xor_of_both x y z below is set = omega arith
-
-max_clear : (x y : ℕ) → y ≡ 0 → max x y ≡ x
-max_clear x y clear = omega arith
-
--- a type of a contact without the mark has the set of its residue
-residue_set : (raw : RawTech) (layer t : ℕ) (contact : IsContact raw layer) → 1 < length (images_of raw layer) → (marked : IsMarked raw contact.bit t)
-    → without (parts_of raw t) (2 ^ contact.bit) ≡ parts_of raw marked.residue
-residue_set raw layer t contact many marked = same_from_bits (without (parts_of raw t) (2 ^ contact.bit)) (parts_of raw marked.residue) (λ k.
-    let set = parts_of raw t in
-    let mark = 2 ^ contact.bit in
-    let split = bit_at_xor set (bit_and set mark) k in
-    elim (cases_eq k contact.bit) [
-      | inr other ↦
-          let clear = bit_at-pow_other contact.bit k other in
-          split ∙ xor_of_own (bit_at set k) (bit_at (bit_and set mark) k) (bit_at mark k) (bit_at-lt set k) (bit_at_and set mark k) clear
-          ∙ ap (λ (x : ℕ). bit_at x k) marked.set ∙ bit_at_or (parts_of raw marked.residue) mark k
-          ∙ max_clear (bit_at (parts_of raw marked.residue) k) (bit_at mark k) clear
-      | inl same ↦
-          let set_here : bit_at mark k ≡ 1 = ap (bit_at mark) same ∙ bit_at-pow_same contact.bit in
-          let gone = split ∙ xor_of_both (bit_at set k) (bit_at (bit_and set mark) k) (bit_at mark k) (bit_at-lt set k) (bit_at_and set mark k) set_here in
-          elim (bit_cases (parts_of raw marked.residue) k) [
-            | inl clear ↦ gone ∙ sym clear
-            | inr bit ↦
-                let at = mark_layer raw layer marked.residue contact marked.residue_type (ap (bit_at (parts_of raw marked.residue)) (sym same) ∙ bit) in
-                let one : length (images_of raw layer) ≡ 1 = ap (λ (l : ℕ). length (images_of raw l)) (sym at) ∙ marked.residue_simple in
-                absurd (omega arith)
-          ]
-    ])
-
 -- taking a contact's mark off leaves each other part
 unmarked_part : (raw : RawTech) (layer plane k : ℕ) (old : TypeId) → IsWellFormed raw → HaveOwnSets raw → layer < length raw.layers → 1 < length (images_of raw layer)
     → (contact : IsContact raw layer) → k ≢ contact.bit → IsOnPlane raw plane old.0 → bit_at (parts_of raw old.0) k ≡ 1
-    → bit_at (parts_of raw (without_mark raw (2 ^ contact.bit) plane old).0) k ≡ 1
+    → bit_at (parts_of raw (without_parts raw (2 ^ contact.bit) plane old).0) k ≡ 1
 unmarked_part raw layer plane k old w own below many contact other on bit = elim (cases_Bool (is_subset (2 ^ contact.bit) (parts_of raw old.0))) [
   | inr none ↦ rw none bit
   | inl part ↦
@@ -241,9 +208,9 @@ images_step raw layer other column w own below other_below is has = elim (cases_
               let type = image_type raw layer image w below image_in in
               let differs : k ≢ contact.bit = λ same. apart (sym (mark_layer raw other image.0 contact type (ap (bit_at (parts_of raw image.0)) (sym same) ∙ bit))
               ∙ w.of_one_layer layer image.0 below image_in) in
-              subst (λ (mark : ℕ). bit_at (parts_of raw (type_on (on_planes_from 0 (without_mark raw mark) column) (plane_of raw image.0))) k ≡ 1)
+              subst (λ (mark : ℕ). bit_at (parts_of raw (type_on (on_planes_from 0 (without_parts raw mark) column) (plane_of raw image.0))) k ≡ 1)
               (sym (mark_of-contact raw other w other_below many contact))
-              (changed (λ plane old new. IsOnPlane raw plane old → bit_at (parts_of raw old) k ≡ 1 → bit_at (parts_of raw new) k ≡ 1) (without_mark raw (2 ^ contact.bit)) column
+              (changed (λ plane old new. IsOnPlane raw plane old → bit_at (parts_of raw old) k ≡ 1 → bit_at (parts_of raw new) k ≡ 1) (without_parts raw (2 ^ contact.bit)) column
               (λ plane old on had. unmarked_part raw other plane k old w own other_below many contact differs on had) (λ plane on had. had) (plane_of raw image.0)
               (is (plane_of raw image.0)) (has image image_in k bit)))
         ]
@@ -327,10 +294,10 @@ again_on raw layer plane column old (Some image) w own below is has at found =
 -- painting a layer a second time changes nothing
 pub painted_column-again : (raw : RawTech) (layer : ℕ) (column : List TypeId) → IsWellFormed raw → HaveOwnSets raw → layer < length raw.layers
     → length raw.planes ≤ length column → IsColumn raw column → painted_column raw layer (painted_column raw layer column) ≡ painted_column raw layer column
-unfolding painted_column
+unfolding brushed_column
 painted_column-again raw layer column w own below long is =
     let laid = on_planes_from 0 (paint raw layer) column in
-    let laid_is = painted_is_column raw layer column w below is in
+    let laid_is = brushed_is_column raw PaintBrush layer column w below is in
     let once = marks_kept raw laid in
     let end : marks_of_first raw laid (length raw.layers) ≡ once =
     ap (fold (λ (kept : List TypeId) (layer : LayerRec). layer_mark_kept raw layer.images kept) laid) (take-length raw.layers) in

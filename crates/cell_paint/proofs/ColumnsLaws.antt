@@ -10,24 +10,13 @@ use Rattle.tech_model.specs.declared.raw.TypeId.{TypeId}
 use Rattle.tech_model.specs.declared.raw.RawTech.{RawTech}
 use Rattle.tech_model.specs.Types.{type_number, plane_of}
 use Rattle.tech_model.specs.WellFormed.{IsWellFormed}
-use Rattle.tech_model.specs.Columns.{type_on, painted_column, erased_column}
+use Rattle.tech_model.specs.declared.columns.Brush.{Brush}
+use Rattle.tech_model.specs.Columns.{type_on, brushed_column}
 use Rattle.tech_model.specs.ColumnForms.{IsOnPlane, IsColumn, HasWholeContacts}
-use Rattle.tech_model.proofs.ColumnLaws.{painted_is_column, erased_is_column}
-use Rattle.tech_model.proofs.WholeLaws.{marks_kept-whole}
-use Rattle.tech_model.proofs.LocalLaws.{painted_column-local, erased_column-local}
+use Rattle.tech_model.proofs.LocalLaws.{brushed_column-local}
 use Rattle.layout_model.specs.Layouts.{Layout}
-use Rattle.cell_paint.specs.declared.brushes.Brush.{Brush}
-use Rattle.cell_paint.specs.declared.brushes.Brush.TheVariants.{Paint, Erase}
-use Rattle.cell_paint.specs.Changes.{brushed}
 use Rattle.cell_paint.specs.Painting.{all_planes, column_at, kinds_on}
 use Rattle.cell_paint.specs.Paints.{KeepsTypes}
-
--- a brush leaves types of their planes
-pub brushed_is_column : (brush : Brush) (raw : RawTech) (layer : ℕ) (column : List TypeId) → IsWellFormed raw → layer < length raw.layers → IsColumn raw column
-    → IsColumn raw (brushed brush raw layer column)
-unfolding painted_column erased_column
-brushed_is_column Paint raw layer column w below is = (marks_kept-whole raw _ w (painted_is_column raw layer column w below is)).0
-brushed_is_column Erase raw layer column w below is = (marks_kept-whole raw _ w (erased_is_column raw layer column is)).0
 
 -- a type of a plane is one of those that there may be
 small_on_plane : (raw : RawTech) (plane t : ℕ) → length raw.types ≤ MOST_TYPES → IsOnPlane raw plane t → t ≤ MOST_TYPES
@@ -38,15 +27,6 @@ small_on_plane raw plane t few (inr type) = let high = leb-true t (length raw.ty
 -- a type of a column is one of those that there may be
 pub column_small : (raw : RawTech) (column : List TypeId) (plane : ℕ) → IsWellFormed raw → IsColumn raw column → type_on column plane ≤ MOST_TYPES
 column_small raw column plane w is = small_on_plane raw plane (type_on column plane) w.types_limit (is plane)
-
--- what a brush leaves on a plane depends on that plane alone
-pub brushed_local : (brush : Brush) (raw : RawTech) (layer plane : ℕ) (a b : List TypeId) → IsWellFormed raw → layer < length raw.layers → length a ≡ length b
-    → IsColumn raw a → IsColumn raw b → HasWholeContacts raw a → HasWholeContacts raw b → type_on a plane ≡ type_on b plane
-    → type_on (brushed brush raw layer a) plane ≡ type_on (brushed brush raw layer b) plane
-brushed_local Paint raw layer plane a b w below long a_is b_is a_whole b_whole same = painted_column-local raw layer plane a b w below long a_is b_is
-    a_whole b_whole same
-brushed_local Erase raw layer plane a b w below long a_is b_is a_whole b_whole same = erased_column-local raw layer plane a b w long a_is b_is a_whole
-    b_whole same
 
 -- the column of a square has its types
 pub column_type : (layout : Layout) (square : Square) (plane : ℕ) → plane < MOST_PLANES → type_on (column_at layout square) plane ≡ kinds_on layout plane square
@@ -80,17 +60,17 @@ module _ (brush : Brush) (raw : RawTech) (layer : ℕ) (w : IsWellFormed raw) (b
     (keeps : KeepsTypes raw.types layout) (plane : ℕ) (few : plane < MOST_PLANES) where
   -- squares with one type come to have one type
   pub squares_change_alike : (s t : Square) → kinds_on layout plane s ≡ kinds_on layout plane t
-      → type_on (brushed brush raw layer (column_at layout s)) plane ≡ type_on (brushed brush raw layer (column_at layout t)) plane
+      → type_on (brushed_column raw brush layer (column_at layout s)) plane ≡ type_on (brushed_column raw brush layer (column_at layout t)) plane
   squares_change_alike s t same =
       let a = keeps raw refl s in
       let b = keeps raw refl t in
-      brushed_local brush raw layer plane (column_at layout s) (column_at layout t) w below refl a.0 b.0 a.1 b.1
+      brushed_column-local raw brush layer plane (column_at layout s) (column_at layout t) w below refl a.0 b.0 a.1 b.1
       (column_type layout s plane few ∙ same ∙ sym (column_type layout t plane few))
 
   -- a square of space changes as one where all planes have space
   pub space_changes_alike : (s : Square) → kinds_on layout plane s ≡ 0
-      → type_on (brushed brush raw layer (column_at layout s)) plane ≡ type_on (brushed brush raw layer no_types) plane
+      → type_on (brushed_column raw brush layer (column_at layout s)) plane ≡ type_on (brushed_column raw brush layer no_types) plane
   space_changes_alike s space =
       let a = keeps raw refl s in
-      brushed_local brush raw layer plane (column_at layout s) no_types w below refl a.0 (no_types_is_column raw) a.1 (no_types_whole raw)
+      brushed_column-local raw brush layer plane (column_at layout s) no_types w below refl a.0 (no_types_is_column raw) a.1 (no_types_whole raw)
       (column_type layout s plane few ∙ space ∙ sym (no_types_on plane))

@@ -18,19 +18,17 @@ use Rattle.tech_model.specs.declared.raw.TypeId.{TypeId}
 use Rattle.tech_model.specs.declared.raw.TypeRec.{TypeRec}
 use Rattle.tech_model.specs.declared.raw.RawTech.{RawTech}
 use Rattle.tech_model.specs.Types.{is_type, plane_of, type_number}
-use Rattle.tech_model.specs.Columns.{type_on, painted_column, erased_column}
+use Rattle.tech_model.specs.declared.columns.Brush.{Brush}
+use Rattle.tech_model.specs.declared.columns.Brush.TheVariants.{Paint as PaintBrush}
+use Rattle.tech_model.specs.Columns.{type_on, brushed_column, painted_column}
 use Rattle.tech_model.specs.ColumnForms.{IsOnPlane, IsColumn, HasWholeContacts}
 use Rattle.tech_model.specs.WellFormed.{IsWellFormed}
 use Rattle.tech_model.specs.Rules.{HaveOwnSets}
-use Rattle.tech_model.proofs.LocalLaws.{painted-length}
-use Rattle.tech_model.proofs.ColumnLaws.{painted_is_column, erased_is_column}
-use Rattle.tech_model.proofs.WholeLaws.{marks_kept-whole}
+use Rattle.tech_model.proofs.LocalLaws.{brushed-length}
+use Rattle.tech_model.proofs.WholeLaws.{brushed_column-whole}
 use Rattle.tech_model.proofs.WellFormedLaws.{type_bounds}
 use Rattle.layout_model.specs.Places.{Place}
 use Rattle.layout_model.specs.Layouts.{Layout}
-use Rattle.cell_paint.specs.declared.brushes.Brush.{Brush}
-use Rattle.cell_paint.specs.declared.brushes.Brush.TheVariants.{Paint as PaintBrush, Erase as EraseBrush}
-use Rattle.cell_paint.specs.Changes.{brushed}
 use Rattle.cell_paint.specs.Painting.{place_at, kinds_on, column_at, with_columns_where, with_paint, with_all_painted, is_in_some, paint_range}
 use Rattle.cell_paint.specs.Paints.{PlaneValue, layout_on, AreCellPlanes}
 use Rattle.cell_paint.specs.Settings.{pieces_for, AreSettable, AreAllSet, AreChanges, AreAllChanges}
@@ -68,13 +66,6 @@ sound_same raw a b same is = (
 -- Two technologies with the same types have the same columns.
 pub sound_in : (raw other : RawTech) (column : List TypeId) → raw.types ≡ other.types → IsSound raw column → IsSound other column
 sound_in raw other column same is = subst (λ (types : List TypeRec). IsSound (record raw { types = types }) column) same is
-
--- a brush leaves sound columns
-pub brushed_sound : (brush : Brush) (raw : RawTech) (layer : ℕ) (column : List TypeId) → IsWellFormed raw → layer < length raw.layers → IsColumn raw column
-    → IsSound raw (brushed brush raw layer column)
-unfolding painted_column erased_column
-brushed_sound PaintBrush raw layer column well_formed below is = marks_kept-whole raw _ well_formed (painted_is_column raw layer column well_formed below is)
-brushed_sound EraseBrush raw layer column well_formed below is = marks_kept-whole raw _ well_formed (erased_is_column raw layer column is)
 
 -- past the last plane a sound column has space
 pub space_in : (raw : RawTech) (kinds : List TypeRec) (planes : List PlaneValue) (column : List TypeId) → AreCellPlanes kinds planes → raw.types ≡ kinds
@@ -268,13 +259,13 @@ all_set_from old now new changes long same are = record {
 pub stroke_done : (brush : Brush) (raw : RawTech) (layer : ℕ) (inside : Square → Bool) (old now new : List PlaneValue) (changes : List (Vec Piece Global))
     → IsWellFormed raw → layer < length raw.layers
     → AreCellPlanes raw.types old → ((square : Square) → inside square ≡ true → Covers paint_range square) → length changes ≡ length old
-    → AreAllChanges (layout_on old) (with_columns_where (brushed brush raw layer) inside (layout_on old)) changes
+    → AreAllChanges (layout_on old) (with_columns_where (brushed_column raw brush layer) inside (layout_on old)) changes
     → length now ≡ length old → ((place : Place) → layout_on now place ≡ layout_on old place) → AreAllSet now new changes
-    → ((place : Place) → layout_on new place ≡ with_columns_where (brushed brush raw layer) inside (layout_on old) place) × AreCellPlanes raw.types new
+    → ((place : Place) → layout_on new place ≡ with_columns_where (brushed_column raw brush layer) inside (layout_on old) place) × AreCellPlanes raw.types new
 stroke_done brush raw layer inside old now new changes well_formed below whole within one_each are long same are_set =
-    let change : List TypeId → List TypeId = brushed brush raw layer in
+    let change : List TypeId → List TypeId = brushed_column raw brush layer in
     let sound : (square : Square) → IsSound raw (change (column_at (layout_on old) square)) = λ square.
-    brushed_sound brush raw layer (column_at (layout_on old) square) well_formed below (whole.sound.types raw refl square).0 in
+    brushed_column-whole raw brush layer (column_at (layout_on old) square) well_formed below (whole.sound.types raw refl square).0 in
     let are_set_from = all_set_from old now new changes long same are_set in
     let changed = all_changed raw raw.types change inside old new changes refl sound whole one_each are are_set_from in
     (changed, whole_changed raw.types raw change inside old new refl sound within are_set_from.so_many changed whole)
@@ -305,7 +296,7 @@ module _ (raw : RawTech) (layer : ℕ) (well_formed : IsWellFormed raw) (own : H
   covered_column : (area : Rect) (layout : Layout) (square : Square) → is_covered area square ≡ true
       → column_at (with_paint raw layer area layout) square ≡ paint (column_at layout square)
   covered_column area layout square covered =
-      column_whole (with_paint raw layer area layout) square (paint (column_at layout square)) (painted-length raw layer (column_at layout square))
+      column_whole (with_paint raw layer area layout) square (paint (column_at layout square)) (brushed-length raw PaintBrush layer (column_at layout square))
       (λ plane inside. changed_inside paint (is_covered area) layout (place_at plane square) covered)
 
   other_column : (area : Rect) (layout : Layout) (square : Square) → is_covered area square ≡ false
@@ -320,7 +311,7 @@ module _ (raw : RawTech) (layer : ℕ) (well_formed : IsWellFormed raw) (own : H
   painted_columns area layout sound square = elim (cases_Bool (is_covered area square)) [
     | inl covered ↦
         subst (IsColumn raw) (sym (covered_column area layout square covered))
-        (brushed_sound PaintBrush raw layer (column_at layout square) well_formed below (sound square)).0
+        (brushed_column-whole raw PaintBrush layer (column_at layout square) well_formed below (sound square)).0
     | inr outside ↦ subst (IsColumn raw) (sym (other_column area layout square outside)) (sound square)
   ]
 

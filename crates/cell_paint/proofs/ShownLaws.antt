@@ -12,13 +12,14 @@ use Rattle.tech_model.specs.declared.raw.RawTech.{RawTech}
 use Rattle.tech_model.specs.Types.{is_type, type_number, plane_of, layer_of, parts_of, images_of, is_on, image_on, joined}
 use Rattle.tech_model.specs.WellFormed.{IsWellFormed}
 use Rattle.tech_model.specs.Rules.{HaveOwnSets}
-use Rattle.tech_model.specs.Columns.{painted_by, where_image, on_planes_from, type_on, painted_column}
+use Rattle.tech_model.specs.declared.columns.Brush.TheVariants.{Paint as PaintBrush}
+use Rattle.tech_model.specs.Columns.{painted_by, where_image, on_planes_from, type_on, brushed_column, painted_column}
 use Rattle.tech_model.specs.ColumnForms.{IsOnPlane, IsColumn, HasWholeContacts}
 use Rattle.tech_model.proofs.JoinedLaws.{joined-type}
 use Rattle.tech_model.proofs.WellFormedLaws.{type_bounds}
 use Rattle.tech_model.proofs.SetLaws.{set_not_empty}
-use Rattle.tech_model.proofs.ColumnLaws.{painted_is_column}
-use Rattle.tech_model.proofs.LocalLaws.{painted-length}
+use Rattle.tech_model.proofs.ColumnLaws.{brushed_is_column}
+use Rattle.tech_model.proofs.LocalLaws.{brushed-length}
 use Rattle.cell_paint.proofs.AgainLaws.{paint, changed_at, image_type, marks_kept-still, found_image, union_with_part}
 
 -- where one image of a contact stands, all its images stand
@@ -166,15 +167,15 @@ module _ (raw : RawTech) (w : IsWellFormed raw) (own : HaveOwnSets raw) (types :
 
     -- paint of a layer whose images are to stand shows them besides what was shown
     pub painted_column-shown : (plane : ℕ) → type_on (painted_column raw layer column) plane ≡ shown raw (with_layer shows layer) types plane
-    unfolding painted_column
+    unfolding brushed_column
     painted_column-shown plane = elim (cases_lt plane (length column)) [
       | inl inside ↦
           ap (λ (c : List TypeId). type_on c plane)
-          (marks_kept-still raw (on_planes_from 0 (paint raw layer) column) w (painted_is_column raw layer column w below is_column) laid_whole)
+          (marks_kept-still raw (on_planes_from 0 (paint raw layer) column) w (brushed_is_column raw PaintBrush layer column w below is_column) laid_whole)
           ∙ laid_at plane inside
       | inr past ↦ (
           let beyond : length column ≤ plane = omega arith in
-          let long_still = painted-length raw layer column in
+          let long_still = brushed-length raw PaintBrush layer column in
           ap (λ (t : TypeId). t.0) (get_or_past (painted_column raw layer column) plane (type_number 0) (omega arith))
           ∙ sym (shown_space raw (with_layer shows layer) types plane (past_types plane beyond (on plane))))
     ]

@@ -1,20 +1,12 @@
--- What a brush makes of columns, and what becomes of the pieces of a plane.
+-- What becomes of the pieces of a plane where columns change.
 use Rattle.std.specs.Prelude.{◌≡◌, ◌==◌, not, ℕ, Bool, List, map, filter, Option, Some, None, slice_index_or}
 use Rattle.geo_core.specs.declared.squares.Square.{Square}
 use Rattle.geo_core.specs.declared.squares.Piece.{Piece}
 use Rattle.geo_core.specs.Areas.{corner_of}
 use Rattle.tech_model.specs.declared.raw.TypeId.{TypeId}
-use Rattle.tech_model.specs.declared.raw.RawTech.{RawTech}
-use Rattle.tech_model.specs.Columns.{type_on, painted_column, erased_column}
+use Rattle.tech_model.specs.Columns.{type_on}
 use Rattle.layout_model.specs.Layouts.{Layout}
 use Rattle.cell_paint.specs.Painting.{column_at}
-use Rattle.cell_paint.specs.declared.brushes.Brush.{Brush}
-use Rattle.cell_paint.specs.declared.brushes.Brush.TheVariants.{Paint, Erase}
-
--- what a brush makes of a column
-abbrev pub brushed : Brush → RawTech → ℕ → List TypeId → List TypeId
-brushed Paint raw layer column = painted_column raw layer column
-brushed Erase raw layer column = erased_column raw layer column
 
 -- the type that a change leaves on a plane of a square
 abbrev pub kind_after : (List TypeId → List TypeId) → Layout → ℕ → Square → ℕ

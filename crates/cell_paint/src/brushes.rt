@@ -1,17 +1,9 @@
 //! What is done to the squares of an area.
 ghost use Rattle.std.specs.Prelude.{◌≡◌, ◌<◌, ◌≤◌, length};
-ghost use Rattle.tech_model.specs.Columns.{type_on};
+ghost use Rattle.tech_model.specs.Columns.{type_on, brushed_column};
 ghost use Rattle.tech_model.specs.ColumnForms.{IsColumn, HasWholeContacts};
-ghost use Rattle.cell_paint.specs.Changes.{brushed};
 
-use tech_model::{LayerId, MOST_PLANES, MOST_TYPES, Tech, TypeId};
-
-/// Whether a layer is painted or erased.
-#[derive(Clone, Copy, Debug, PartialEq, Eq)]
-pub enum Brush {
-    Paint,
-    Erase,
-}
+use tech_model::{Brush, LayerId, MOST_PLANES, MOST_TYPES, Tech, TypeId};
 
 /// What is done with which layer of which technology.
 #[derive(Drop)]
@@ -27,15 +19,12 @@ impl Stroke<'_> {
         requires plane { plane < MOST_PLANES }
         requires layer { self.now.layer.0 < length self.now.tech.now.layers }
         requires types { IsColumn self.now.tech.now column }
-        ensures kind { result ≡ type_on (brushed self.now.brush self.now.tech.now self.now.layer.0 column) plane }
+        ensures kind { result ≡ type_on (brushed_column self.now.tech.now self.now.brush self.now.layer.0 column) plane }
         ensures few { result ≤ MOST_TYPES }
     {
         // The proof takes from this call that the technology is well formed.
         let _ = self.tech.raw();
-        match self.brush {
-            Brush::Paint => self.tech.paint_column(&mut column, self.layer),
-            Brush::Erase => self.tech.erase_column(&mut column, self.layer),
-        }
+        self.tech.brush_column(self.brush, &mut column, self.layer);
         column[plane].0
     }
 }

@@ -2,7 +2,8 @@
 ghost use Rattle.std.specs.Prelude.{◌≡◌, ◌<◌, ◌≤◌, length, IfOk, IsOkUnless, All, AllPairs};
 ghost use Rattle.geo_core.specs.Areas.{AreDisjoint, IsNear, corner_of};
 ghost use Rattle.geo_core.specs.Covering.{IsProper};
-ghost use Rattle.cell_paint.specs.Changes.{brushed, kind_after, AreKnown, changed_pieces};
+ghost use Rattle.tech_model.specs.Columns.{brushed_column};
+ghost use Rattle.cell_paint.specs.Changes.{kind_after, AreKnown, changed_pieces};
 ghost use Rattle.cell_paint.specs.Painting.{kinds_on, with_columns_where, is_in_some};
 ghost use Rattle.cell_paint.specs.Paints.{layout_on, AreCellPlanes};
 ghost use Rattle.cell_paint.specs.Settings.{AreChanges};
@@ -36,7 +37,7 @@ pub fn changes_on(
     requires near { All IsNear areas.now }
     requires apart { AllPairs AreDisjoint areas.now }
     ensures changes { IfOk result (λ found. AreChanges (kinds_on (layout_on planes.now) plane)
-        (kinds_on (with_columns_where (brushed stroke.now.brush stroke.now.tech.now stroke.now.layer.0) (is_in_some areas.now) (layout_on planes.now)) plane)
+        (kinds_on (with_columns_where (brushed_column stroke.now.tech.now stroke.now.brush stroke.now.layer.0) (is_in_some areas.now) (layout_on planes.now)) plane)
         found.items) }
     ensures memory { IsOkUnless result PaintFault.Memory }
 {
@@ -60,7 +61,7 @@ fn changed(
     requires whole { AreCellPlanes stroke.now.tech.now.types planes.now }
     requires even { All (λ piece. kinds_on (layout_on planes.now) plane (corner_of piece.area) ≡ piece.value) pieces.now }
     ensures { IfOk result (λ found. found.items
-        ≡ changed_pieces (kind_after (brushed stroke.now.brush stroke.now.tech.now stroke.now.layer.0) (layout_on planes.now) plane) pieces.now) }
+        ≡ changed_pieces (kind_after (brushed_column stroke.now.tech.now stroke.now.brush stroke.now.layer.0) (layout_on planes.now) plane) pieces.now) }
 {
     let mut known: [Option<u8>; VALUES] = [None; VALUES];
     let mut found = Vec::new(alloc);
@@ -90,11 +91,11 @@ fn value_after(
     requires even { kinds_on (layout_on planes.now) plane (corner_of piece.now.area) ≡ piece.now.value }
     requires long { length known.old ≡ VALUES }
     requires known { AreKnown (kinds_on (layout_on planes.now) plane)
-        (kind_after (brushed stroke.now.brush stroke.now.tech.now stroke.now.layer.0) (layout_on planes.now) plane) known.old }
-    ensures value { result ≡ kind_after (brushed stroke.now.brush stroke.now.tech.now stroke.now.layer.0) (layout_on planes.now) plane (corner_of piece.now.area) }
+        (kind_after (brushed_column stroke.now.tech.now stroke.now.brush stroke.now.layer.0) (layout_on planes.now) plane) known.old }
+    ensures value { result ≡ kind_after (brushed_column stroke.now.tech.now stroke.now.brush stroke.now.layer.0) (layout_on planes.now) plane (corner_of piece.now.area) }
     ensures long { length known.new ≡ VALUES }
     ensures known { AreKnown (kinds_on (layout_on planes.now) plane)
-        (kind_after (brushed stroke.now.brush stroke.now.tech.now stroke.now.layer.0) (layout_on planes.now) plane) known.new }
+        (kind_after (brushed_column stroke.now.tech.now stroke.now.brush stroke.now.layer.0) (layout_on planes.now) plane) known.new }
 {
     // The proof takes from this call that the technology is well formed.
     let _ = stroke.tech.raw();

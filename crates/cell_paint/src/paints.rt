@@ -7,21 +7,21 @@ ghost use Rattle.geo_core.specs.Covering.{is_covered, IsProper};
 ghost use Rattle.geo_core.specs.Planes.{HasValue, AreTilesIn};
 ghost use Rattle.geo_core.specs.Strips.{IsInUnion, IsStrips};
 ghost use Rattle.tech_model.specs.LayerTiles.{AreTilesOf};
+ghost use Rattle.tech_model.specs.Columns.{brushed_column};
 ghost use Rattle.layout_model.specs.Places.{Place};
-ghost use Rattle.cell_paint.specs.Changes.{brushed};
 ghost use Rattle.cell_paint.specs.Painting.{kinds_on, with_columns_where, is_in_some, with_paint, with_all_painted, with_erased};
 ghost use Rattle.cell_paint.specs.Painting.{is_coordinate, is_in_range, area_fault, first_area_fault};
 ghost use Rattle.cell_paint.specs.Paints.{layout_of, layout_on, number_on, KeepsTypes, IsPaintBox, IsSoundPaint, AreCellPlanes};
 ghost use Rattle.cell_paint.specs.Settings.{AreAllChanges};
 
-use crate::brushes::{Brush, Stroke};
+use crate::brushes::Stroke;
 use crate::changes::changes_on;
 use crate::faults::PaintFault;
 use crate::planes::{PaintPlane, box_of, commit_all, kind_at, reserve_all};
 use geo_core::{List, PAINT_EDGE, Piece, Plane, Rect, Square, strips};
 use std::alloc::{AllocError, Global};
 use std::marker::Model;
-use tech_model::{LayerId, Layers, Tech, TechFault, TypeId, TypeRec};
+use tech_model::{Brush, LayerId, Layers, Tech, TechFault, TypeId, TypeRec};
 use tile_plane::TilePlane;
 
 /// All squares that may have paint.
@@ -160,7 +160,7 @@ impl CellPaint {
         requires kinds { self.old.kinds ≡ stroke.now.tech.now.types }
         requires layer { stroke.now.layer.0 < length stroke.now.tech.now.layers }
         ensures changed { OnOk result ((place : Place) → layout_of self.new place
-            ≡ with_columns_where (brushed stroke.now.brush stroke.now.tech.now stroke.now.layer.0) (is_covered area) (layout_of self.old) place) }
+            ≡ with_columns_where (brushed_column stroke.now.tech.now stroke.now.brush stroke.now.layer.0) (is_covered area) (layout_of self.old) place) }
         ensures refused { OnErr result ((place : Place) → layout_of self.new place ≡ layout_of self.old place) }
         ensures kinds { self.new.kinds ≡ self.old.kinds }
         ensures planes { length self.new.planes ≡ length self.old.planes }
@@ -176,7 +176,7 @@ impl CellPaint {
         requires kinds { self.old.kinds ≡ stroke.now.tech.now.types }
         requires layer { stroke.now.layer.0 < length stroke.now.tech.now.layers }
         ensures changed { OnOk result ((place : Place) → layout_of self.new place
-            ≡ with_columns_where (brushed stroke.now.brush stroke.now.tech.now stroke.now.layer.0) (is_in_some areas.now) (layout_of self.old) place) }
+            ≡ with_columns_where (brushed_column stroke.now.tech.now stroke.now.brush stroke.now.layer.0) (is_in_some areas.now) (layout_of self.old) place) }
         ensures refused { OnErr result ((place : Place) → layout_of self.new place ≡ layout_of self.old place) }
         ensures kinds { self.new.kinds ≡ self.old.kinds }
         ensures planes { length self.new.planes ≡ length self.old.planes }
@@ -291,7 +291,7 @@ fn change_planes(
     requires whole { AreCellPlanes stroke.now.tech.now.types planes.old }
     requires fits { first_area_fault areas.now ≡ None }
     ensures changed { OnOk result ((place : Place) → layout_on planes.new place
-        ≡ with_columns_where (brushed stroke.now.brush stroke.now.tech.now stroke.now.layer.0) (is_in_some areas.now) (layout_on planes.old) place) }
+        ≡ with_columns_where (brushed_column stroke.now.tech.now stroke.now.brush stroke.now.layer.0) (is_in_some areas.now) (layout_on planes.old) place) }
     ensures refused { OnErr result ((place : Place) → layout_on planes.new place ≡ layout_on planes.old place) }
     ensures whole { AreCellPlanes stroke.now.tech.now.types planes.new }
     ensures memory { IsOkUnless result PaintFault.Memory }
@@ -334,7 +334,7 @@ fn all_changes(
     requires apart { AllPairs AreDisjoint areas.now }
     ensures one_each { IfOk result (λ changes. vec_len changes ≡ length planes.now) }
     ensures changes { IfOk result (λ changes. AreAllChanges (layout_on planes.now)
-        (with_columns_where (brushed stroke.now.brush stroke.now.tech.now stroke.now.layer.0) (is_in_some areas.now) (layout_on planes.now)) changes.items) }
+        (with_columns_where (brushed_column stroke.now.tech.now stroke.now.brush stroke.now.layer.0) (is_in_some areas.now) (layout_on planes.now)) changes.items) }
     ensures memory { IsOkUnless result PaintFault.Memory }
 {
     let mut changes = Vec::with_capacity(alloc, planes.len())?;

@@ -1,5 +1,6 @@
 use Rattle.std.proofs.Common.{refl}
-use Rattle.cell_paint.specs.Changes.{brushed, kind_after}
+use Rattle.tech_model.specs.Columns.{brushed_column}
+use Rattle.cell_paint.specs.Changes.{kind_after}
 use Rattle.cell_paint.specs.Painting.{kinds_on}
 use Rattle.cell_paint.specs.Paints.{layout_on}
 use Rattle.cell_paint.proofs.ChangeLaws.{none_known}
@@ -10,6 +11,6 @@ loop-piece-init c =
     let stroke = c.args.stroke.now in
     let layout = layout_on c.args.planes.now in record {
       long = refl;
-      known = none_known (kinds_on layout c.args.plane) (kind_after (brushed stroke.brush stroke.tech.now stroke.layer.0) layout c.args.plane) 256;
+      known = none_known (kinds_on layout c.args.plane) (kind_after (brushed_column stroke.tech.now stroke.brush stroke.layer.0) layout c.args.plane) 256;
       found = c.new-found.ensures.items;
     }

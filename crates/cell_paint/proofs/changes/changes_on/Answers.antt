@@ -5,7 +5,8 @@ use Rattle.geo_core.specs.declared.squares.Piece.{Piece}
 use Rattle.geo_core.specs.Areas.{corner_of}
 use Rattle.tech_model.specs.declared.limits.TheConstants.{MOST_PLANES}
 use Rattle.tech_model.specs.declared.raw.TypeId.{TypeId}
-use Rattle.cell_paint.specs.Changes.{brushed, kind_after, changed_pieces}
+use Rattle.tech_model.specs.Columns.{brushed_column}
+use Rattle.cell_paint.specs.Changes.{kind_after, changed_pieces}
 use Rattle.cell_paint.specs.Painting.{kinds_on, with_columns_where, is_in_some}
 use Rattle.cell_paint.specs.Paints.{layout_on}
 use Rattle.cell_paint.specs.Settings.{AreChanges}
@@ -28,7 +29,7 @@ returns-clause-changes c =
     let raw = stroke.tech.now in
     let layout = layout_on c.args.planes.now in
     let plane = c.args.plane in
-    let change : List TypeId → List TypeId = brushed stroke.brush raw stroke.layer.0 in
+    let change : List TypeId → List TypeId = brushed_column raw stroke.brush stroke.layer.0 in
     let pieces = c.in_ok-pieces.pieces.items in
     let few : plane < MOST_PLANES = omega (arith, c.requires.plane, c.requires.whole.few) in
     let are = pieces_on_plane c.args.planes.now plane c.index-planes-plane.result c.args.areas.now pieces c.requires.plane c.index-planes-plane.is

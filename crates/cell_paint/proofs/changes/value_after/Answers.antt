@@ -1,8 +1,8 @@
 use Rattle.std.proofs.Common.{◌≡◌, ◌<◌, ◌∙◌, List, length, refl, sym, ap, subst, rules}
 use Rattle.tech_model.specs.declared.raw.TypeId.{TypeId}
-use Rattle.tech_model.specs.Columns.{type_on}
+use Rattle.tech_model.specs.Columns.{type_on, brushed_column}
 use Rattle.tech_model.specs.ColumnForms.{IsColumn}
-use Rattle.cell_paint.specs.Changes.{brushed, kind_after}
+use Rattle.cell_paint.specs.Changes.{kind_after}
 use Rattle.cell_paint.specs.Painting.{kinds_on}
 use Rattle.cell_paint.specs.Paints.{layout_on}
 use Rattle.cell_paint.proofs.ChangeLaws.{known_more}
@@ -21,7 +21,7 @@ returns-clause-known c =
     let layer = c.args.stroke.now.layer.0 in
     let layout = layout_on c.args.planes.now in
     let plane = c.args.plane in
-    let change : List TypeId → List TypeId = brushed brush raw layer in
+    let change : List TypeId → List TypeId = brushed_column raw brush layer in
     let value : c.kind_after-value.result ≡ kind_after change layout plane c.corner.result =
     c.kind_after-value.ensures.kind ∙ ap (λ (column : List TypeId). type_on (change column) plane) c.column_at.ensures in
     let corner : kinds_on layout plane c.corner.result ≡ c.args.piece.now.value = ap (kinds_on layout plane) c.corner.ensures ∙ c.requires.even in

@@ -1,4 +1,4 @@
-use Rattle.cell_paint.specs.Changes.{brushed}
+use Rattle.tech_model.specs.Columns.{brushed_column}
 use Rattle.cell_paint.specs.Painting.{with_columns_where, is_in_some}
 use Rattle.cell_paint.specs.Paints.{layout_on}
 use Rattle.cell_paint.proofs.PaintLaws.{changes_more}
@@ -9,7 +9,7 @@ loop-plane-preserved c =
     let stroke = c.args.stroke.now in
     let old = layout_on c.args.planes.now in
     let more =
-    changes_more old (with_columns_where (brushed stroke.brush stroke.tech.now stroke.layer.0) (is_in_some c.args.areas.now) old) c.loop-plane.changes.items
+    changes_more old (with_columns_where (brushed_column stroke.tech.now stroke.brush stroke.layer.0) (is_in_some c.args.areas.now) old) c.loop-plane.changes.items
     c.add_changes.new.changes.items
     c.in_ok-changes_on.field-0 c.loop-plane.plane c.loop-plane.invariant.long c.in_ok-add_changes.ensures c.in_ok-changes_on.ensures.changes
     c.loop-plane.invariant.each in

@@ -1,6 +1,6 @@
 -- The planes below the index have their changes.
 use Rattle.std.proofs.Common.{◌≡◌, length}
-use Rattle.cell_paint.specs.Changes.{brushed}
+use Rattle.tech_model.specs.Columns.{brushed_column}
 use Rattle.cell_paint.specs.Painting.{with_columns_where, is_in_some}
 use Rattle.cell_paint.specs.Paints.{layout_on}
 use Rattle.cell_paint.specs.Settings.{AreAllChanges}
@@ -10,5 +10,5 @@ abbrev pub invariant-loop-plane : goal.invariant-loop-plane
 invariant-loop-plane l = record {
   long : length l.changes.items ≡ l.plane;
   each : AreAllChanges (layout_on l.planes)
-      (with_columns_where (brushed l.stroke.brush l.stroke.tech.now l.stroke.layer.0) (is_in_some l.areas) (layout_on l.planes)) l.changes.items;
+      (with_columns_where (brushed_column l.stroke.tech.now l.stroke.brush l.stroke.layer.0) (is_in_some l.areas) (layout_on l.planes)) l.changes.items;
 }

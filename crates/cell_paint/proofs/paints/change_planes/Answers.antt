@@ -6,7 +6,7 @@ use Rattle.geo_core.specs.declared.squares.Rect.{Rect}
 use Rattle.geo_core.specs.declared.squares.Piece.{Piece}
 use Rattle.geo_core.specs.Covering.{Covers}
 use Rattle.tech_model.specs.declared.raw.TypeId.{TypeId}
-use Rattle.cell_paint.specs.Changes.{brushed}
+use Rattle.tech_model.specs.Columns.{brushed_column}
 use Rattle.cell_paint.specs.Painting.{with_columns_where, is_in_some, paint_range}
 use Rattle.cell_paint.specs.Paints.{layout_on}
 use Rattle.cell_paint.specs.Settings.{AreSettable, AreAllSet}
@@ -19,7 +19,7 @@ reserve_all-requires-clause-settable c =
     let stroke = c.args.stroke.now in
     let old = layout_on c.args.planes.now in
     subst (λ (changes : List (Vec Piece Global)). AreSettable changes) (sym c.as_slice-2.ensures.value)
-    (all_settable old (with_columns_where (brushed stroke.brush stroke.tech.now stroke.layer.0) (is_in_some c.as_slice.result.now) old) c.in_ok-changes.changes.items
+    (all_settable old (with_columns_where (brushed_column stroke.tech.now stroke.brush stroke.layer.0) (is_in_some c.as_slice.result.now) old) c.in_ok-changes.changes.items
     c.in_ok-changes.ensures.changes)
 
 pub returns-in_err-reserve_all-clause-whole : goal.returns-in_err-reserve_all-clause-whole
@@ -31,7 +31,7 @@ commit_all-requires-clause-settable c =
     let stroke = c.args.stroke.now in
     let old = layout_on c.args.planes.now in
     subst (λ (changes : List (Vec Piece Global)). AreSettable changes) (sym c.as_slice-3.ensures.value)
-    (all_settable old (with_columns_where (brushed stroke.brush stroke.tech.now stroke.layer.0) (is_in_some c.as_slice.result.now) old) c.in_ok-changes.changes.items
+    (all_settable old (with_columns_where (brushed_column stroke.tech.now stroke.brush stroke.layer.0) (is_in_some c.as_slice.result.now) old) c.in_ok-changes.changes.items
     c.in_ok-changes.ensures.changes)
 
 -- the strips cover what the areas cover
@@ -42,7 +42,7 @@ strips_same areas strips found is same square = ap (λ (list : List Rect). is_in
 pub returns-clause-changed : goal.returns-clause-changed
 returns-clause-changed c =
     let stroke = c.args.stroke.now in
-    let change : List TypeId → List TypeId = brushed stroke.brush stroke.tech.now stroke.layer.0 in
+    let change : List TypeId → List TypeId = brushed_column stroke.tech.now stroke.brush stroke.layer.0 in
     let changes = c.in_ok-changes.changes in
     let cover = strips_same c.args.areas.now c.in_ok-apart.apart.items c.as_slice.result.now c.as_slice.ensures.value c.in_ok-apart.ensures.same in
     let within : (square : Square) → is_in_some c.as_slice.result.now square ≡ true → Covers paint_range square =
