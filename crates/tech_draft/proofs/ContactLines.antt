@@ -12,7 +12,7 @@ use Rattle.tech_model.specs.declared.raw.LayerId.{LayerId}
 use Rattle.tech_model.specs.declared.raw.TypeId.{TypeId}
 use Rattle.tech_model.specs.declared.raw.RawTech.{RawTech}
 use Rattle.tech_model.specs.declared.faults.TechFault.TheVariants.{BadForm, Twice, ContactPart, TooMany}
-use Rattle.tech_model.specs.declared.faults.Table.TheVariants as tables
+use Rattle.tech_model.specs.declared.faults.LimitedList.TheVariants as lists
 use Rattle.tech_model.specs.declared.limits.TheConstants.{MOST_TYPES}
 use Rattle.tech_model.specs.Types.{type_number, layer_number, is_type, plane_of}
 use Rattle.tech_draft.specs.Drafts.{Drafted}
@@ -148,7 +148,7 @@ new_contact-keeps draft next base residues many named is =
     let once = rule-ok (is_contact raw base) (Twice base) _ next place.1 in
     let part = rule-ok (is_part draft own) (ContactPart base) _ next once.1 in
     let atoms = and_then-ok (refuse raw (rule.ContactOr own) residues) _ next part.1 in
-    let room = rule-ok (nat_lt MOST_TYPES count) (TooMany tables.Types) (Ok (with_contact draft base residues)) next atoms.1.1 in
+    let room = rule-ok (nat_lt MOST_TYPES count) (TooMany lists.Types) (Ok (with_contact draft base residues)) next atoms.1.1 in
     let noted : List ℕ → LayerId × TypeId = λ word. (layer_number layer, type_of_word raw word) in
     let planes = placed raw base residues place.0 in
     let home = number_source (plane_of_word raw) (plane_of_word raw base) residues planes.1 in

@@ -210,7 +210,7 @@ whole_contact draft layer layers sets below many =
           let is = (layers.layers layer no_layer below).images k d inside in
           image_marked draft layer t.0 sets is
           (layers.of_one_layer layer t.0 below (In-get_or (images_of draft.raw layer) k d inside)) many;
-      own = λ t is other.
+      no_other = λ t is other.
           let was = was_type draft t is in
           let elsewhere : layer_of draft.raw t ≢ layer = λ same. other ((whole-keeps draft).layers t was ∙ same) in
           elim (bit_cases (parts_of new t) (FIRST_MARK + layer)) [

@@ -24,7 +24,7 @@ use Rattle.tech_model.specs.declared.faults.Section.{Section}
 use Rattle.tech_model.specs.declared.faults.Section.TheVariants.{Tech, Planes, Types, Contact, Compose, Connect, Extract}
 use Rattle.tech_model.specs.declared.faults.TechFault.{TechFault}
 use Rattle.tech_model.specs.declared.faults.TechFault.TheVariants.{BadForm, NoPlane, Twice, TooMany}
-use Rattle.tech_model.specs.declared.faults.Table.TheVariants as tables
+use Rattle.tech_model.specs.declared.faults.LimitedList.TheVariants as lists
 use Rattle.tech_model.specs.declared.limits.TheConstants.{MOST_PLANES, MOST_TYPES, MOST_CLASSES, MOST_FETS}
 use Rattle.tech_model.specs.Forms.{is_layer_name}
 use Rattle.tech_model.specs.Types.{plane_of, has_name}
@@ -102,7 +102,7 @@ sound-plane draft next (name ∷ []) sound is =
     let raw = draft.raw in
     let form = rule-ok (not (is_plain_name name)) BadForm _ next is in
     let once = rule-ok (list_any (bytes_eq name) raw.planes) (Twice name) _ next form.1 in
-    let room = rule-ok (nat_le MOST_PLANES (length raw.planes)) (TooMany tables.Planes) (Ok (with_plane draft name)) next once.1 in
+    let room = rule-ok (nat_le MOST_PLANES (length raw.planes)) (TooMany lists.Planes) (Ok (with_plane draft name)) next once.1 in
     let few = leb-false MOST_PLANES (length raw.planes) room.0 in
     let long = length_push raw.planes name in
     let names : HasSoundNames raw.name (raw.planes ++ name ∷ []) = record {
@@ -154,7 +154,7 @@ sound-type draft next (word ∷ list ∷ []) sound is =
     let plane = placed.0 in
     let after : Drafted = record draft { raw = with_atom raw plane names } in
     let new = and_then-ok (new_names raw [] names) _ next placed.1.1 in
-    let room = rule-ok (nat_le MOST_TYPES (length raw.types)) (TooMany tables.Types) (Ok after) next new.1.1 in
+    let room = rule-ok (nat_le MOST_TYPES (length raw.types)) (TooMany lists.Types) (Ok after) next new.1.1 in
     let fresh = new_layer-line draft word names plane (omega (arith, length-slice_split is_comma list)) good
     (found_some (plane_named raw word) (NoPlane word) plane placed.1.0) new.1.0 (leb-false MOST_TYPES (length raw.types) room.0) in
     made after next room.1 (record {
@@ -272,7 +272,7 @@ sound-resist draft next (list ∷ word ∷ []) sound is =
     let known = and_then-ok (check_entries raw (pieces_of list)) _ next form.1 in
     let free = and_then-ok (refuse raw rule.Classed (pieces_of list)) _ next known.1.1 in
     let after = with_class draft (types_of_list raw list) value.0 in
-    let room = rule-ok (nat_le MOST_CLASSES (length raw.classes)) (TooMany tables.Classes) (Ok after) next free.1.1 in
+    let room = rule-ok (nat_le MOST_CLASSES (length raw.classes)) (TooMany lists.Classes) (Ok after) next free.1.1 in
     made after next room.1
     (rules-sound draft raw.name raw.planes raw.pairs after.raw.classes raw.fets draft.capped sound sound.names (omega arith)
     (class_rules raw list value.0 sound.layers sound.rules free.1.0 (leb-false MOST_CLASSES (length raw.classes) room.0)
@@ -305,7 +305,7 @@ sound-fet draft next (kind ∷ list ∷ name ∷ substrate ∷ []) sound is =
     let allowed = and_then-ok (check_fet raw kind) _ next known.1.1 in
     let single = rule-ok (nat_lt 1 (length (entry_types raw kind))) BadForm _ tt allowed.1.0 in
     let once = rule-ok (has_fet raw (type_of_word raw kind)) (Twice (name_part kind)) _ tt single.1 in
-    let room = rule-ok (nat_le MOST_FETS (length raw.fets)) (TooMany tables.Fets) (Ok tt) tt once.1 in
+    let room = rule-ok (nat_le MOST_FETS (length raw.fets)) (TooMany lists.Fets) (Ok tt) tt once.1 in
     let after = with_rule draft (fet_with raw kind list name substrate) in
     made after next allowed.1.1
     (rules-sound draft raw.name raw.planes raw.pairs raw.classes after.raw.fets draft.capped sound sound.names (omega arith)

@@ -15,7 +15,7 @@ use Rattle.tech_model.specs.declared.raw.FetRule.{FetRule}
 use Rattle.tech_model.specs.declared.raw.RawTech.{RawTech}
 use Rattle.tech_model.specs.declared.faults.TechFault.{TechFault}
 use Rattle.tech_model.specs.declared.faults.TechFault.TheVariants.{BadForm, Twice, TooMany}
-use Rattle.tech_model.specs.declared.faults.Table.TheVariants.{Classes, Fets}
+use Rattle.tech_model.specs.declared.faults.LimitedList.TheVariants.{Classes, Fets}
 use Rattle.tech_model.specs.declared.limits.TheConstants.{MOST_CLASSES, MOST_FETS}
 use Rattle.tech_model.specs.Forms.{is_naming_label}
 use Rattle.tech_model.specs.Types.{plane_of}

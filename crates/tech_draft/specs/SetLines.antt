@@ -12,7 +12,7 @@ use Rattle.tech_model.specs.declared.raw.TypeRec.{TypeRec}
 use Rattle.tech_model.specs.declared.raw.RawTech.{RawTech}
 use Rattle.tech_model.specs.declared.faults.TechFault.{TechFault}
 use Rattle.tech_model.specs.declared.faults.TechFault.TheVariants.{BadForm, Twice, ContactPart, TooMany}
-use Rattle.tech_model.specs.declared.faults.Table.TheVariants.{Types}
+use Rattle.tech_model.specs.declared.faults.LimitedList.TheVariants.{Types}
 use Rattle.tech_model.specs.declared.limits.TheConstants.{MOST_TYPES}
 use Rattle.tech_model.specs.Types.{type_number, layer_number, type_at, layer_at, plane_of, parts_of}
 use Rattle.tech_draft.specs.Drafts.{Drafted}

@@ -13,7 +13,7 @@ use Rattle.tech_model.specs.declared.raw.LayerRec.{LayerRec}
 use Rattle.tech_model.specs.declared.raw.RawTech.{RawTech}
 use Rattle.tech_model.specs.declared.faults.TechFault.{TechFault}
 use Rattle.tech_model.specs.declared.faults.TechFault.TheVariants.{BadForm, NoPlane, Twice, TooMany}
-use Rattle.tech_model.specs.declared.faults.Table.TheVariants.{Planes, Types}
+use Rattle.tech_model.specs.declared.faults.LimitedList.TheVariants.{Planes, Types}
 use Rattle.tech_model.specs.declared.limits.TheConstants.{MOST_PLANES, MOST_TYPES}
 use Rattle.tech_model.specs.Types.{type_number, layer_number, layer_named}
 use Rattle.tech_draft.specs.Drafts.{Drafted}

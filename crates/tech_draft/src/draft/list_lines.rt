@@ -16,7 +16,7 @@ use crate::parts::{Parted, first_piece};
 use crate::words::{is_entry, is_entry_list, is_naming_label, measure_in, parts_of_entry};
 use geo_core::{List, Name};
 use std::alloc::AllocError;
-use tech_model::{ClassRec, FetRule, MOST_CLASSES, MOST_FETS, Table, TechFault, TypeId};
+use tech_model::{ClassRec, FetRule, LimitedList, MOST_CLASSES, MOST_FETS, TechFault, TypeId};
 use text_scan::{is_plain_name, split_word, words};
 
 fn is_fet_form(kind: &[u8], list: &[u8], name: &[u8], substrate: &[u8]) -> bool
@@ -108,7 +108,7 @@ impl Draft {
         self.check_entries(Parted::Nothing, Parted::Listed(list))?;
         self.refuse(WordRule::Classed, Parted::Listed(list))?;
         if self.classes.len() >= MOST_CLASSES {
-            return Err(TechFault::TooMany(Table::Classes));
+            return Err(TechFault::TooMany(LimitedList::Classes));
         }
         let types = self.types_of_list(list)?;
         self.push_class(types, value)?;
@@ -271,7 +271,7 @@ impl Draft {
             return Err(TechFault::Twice(Name::of(self.alloc, name)?));
         }
         if self.fets.len() >= MOST_FETS {
-            return Err(TechFault::TooMany(Table::Fets));
+            return Err(TechFault::TooMany(LimitedList::Fets));
         }
         Ok(())
     }

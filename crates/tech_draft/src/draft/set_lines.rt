@@ -17,7 +17,7 @@ use crate::parts::Parted;
 use crate::words::{WordForm, all_have};
 use geo_core::{List, Name};
 use std::alloc::{AllocError, Global};
-use tech_model::{LayerId, LayerRec, MOST_TYPES, PartSet, Table, TechFault, TypeId, TypeRec};
+use tech_model::{LayerId, LayerRec, LimitedList, MOST_TYPES, PartSet, TechFault, TypeId, TypeRec};
 use text_scan::{split_word, words};
 
 fn has_number(numbers: &[u8], number: u8) -> bool
@@ -182,7 +182,7 @@ impl Draft {
         self.refuse(WordRule::ContactOr(own), Parted::Line(residues))?;
         let others = self.other_residues(base, residues)?;
         if self.types.len().saturating_add(others.len()) > MOST_TYPES {
-            return Err(TechFault::TooMany(Table::Types));
+            return Err(TechFault::TooMany(LimitedList::Types));
         }
         Ok(others)
     }

@@ -17,8 +17,8 @@ use crate::words::{WordForm, all_have, push};
 use geo_core::{List, Name};
 use std::alloc::{AllocError, Global};
 use tech_model::{
-    LayerId, LayerIndex, LayerRec, MOST_PLANES, MOST_TYPES, PartSet, Table, TechFault, TypeId,
-    TypeRec,
+    LayerId, LayerIndex, LayerRec, LimitedList, MOST_PLANES, MOST_TYPES, PartSet, TechFault,
+    TypeId, TypeRec,
 };
 use text_scan::{is_plain_name, words};
 
@@ -138,7 +138,7 @@ impl Draft {
             return Err(TechFault::Twice(word));
         }
         if self.planes.len() >= MOST_PLANES {
-            return Err(TechFault::TooMany(Table::Planes));
+            return Err(TechFault::TooMany(LimitedList::Planes));
         }
         push(&mut self.planes, word)
     }
@@ -185,7 +185,7 @@ impl Draft {
         };
         if self.types.len() >= MOST_TYPES {
             *self = Draft::new(self.alloc);
-            return Err(TechFault::TooMany(Table::Types));
+            return Err(TechFault::TooMany(LimitedList::Types));
         }
         if let Err(fault) = push_atom(self.alloc, &mut self.types, &mut self.layers, plane, names) {
             *self = Draft::new(self.alloc);
