@@ -5,7 +5,7 @@ use crate::nm::NM;
 use std::alloc::AllocError;
 use std::test::Fail;
 use tech_file::read_tech;
-use tech_model::{LayerId, LayerIndex, MOST_PLANES, PartSet, Tech, TypeId};
+use tech_model::{Brush, LayerId, LayerIndex, MOST_PLANES, PartSet, Tech, TypeId};
 
 /// A question to a technology, and its answer. Types, layers and planes are told by their numbers.
 enum Asked {
@@ -104,20 +104,12 @@ fn column(kinds: [u8; 2]) -> [TypeId; MOST_PLANES] {
     column
 }
 
-fn is_painted(tech: &Tech, layer: LayerId, below: [u8; 2], want: [u8; 2]) -> bool {
-    let mut painted = column(below);
+fn is_brushed(tech: &Tech, brush: Brush, layer: LayerId, below: [u8; 2], want: [u8; 2]) -> bool {
+    let mut brushed = column(below);
     if usize::from(layer.0) < tech.raw().layers.items().len() {
-        tech.paint_column(&mut painted, layer);
+        tech.brush_column(brush, &mut brushed, layer);
     }
-    painted == column(want)
-}
-
-fn is_erased(tech: &Tech, layer: LayerId, below: [u8; 2], want: [u8; 2]) -> bool {
-    let mut erased = column(below);
-    if usize::from(layer.0) < tech.raw().layers.items().len() {
-        tech.erase_column(&mut erased, layer);
-    }
-    erased == column(want)
+    brushed == column(want)
 }
 
 fn is_kind(tech: &Tech, kind: u8, plane: u8, layer: u8) -> bool {
@@ -174,8 +166,20 @@ fn is_answered(tech: &Tech, asked: &Asked) -> bool {
         Asked::Connects(s, t, want) => tech.connects(TypeId(*s), TypeId(*t)) == *want,
         Asked::Within(s, t, want) => tech.within(TypeId(*s), TypeId(*t)) == *want,
         Asked::Word(kind, want) => is_word(tech, *kind, want),
-        Asked::Painted(layer, below, want) => is_painted(tech, LayerId(*layer), *below, *want),
-        Asked::Erased(layer, below, want) => is_erased(tech, LayerId(*layer), *below, *want),
+        Asked::Painted(layer, below, want) => is_brushed(
+            tech,
+            Brush::Paint,
+            LayerId(*layer),
+            *below,
+            *want,
+        ),
+        Asked::Erased(layer, below, want) => is_brushed(
+            tech,
+            Brush::Erase,
+            LayerId(*layer),
+            *below,
+            *want,
+        ),
         Asked::Kind(kind, plane, layer) => is_kind(tech, *kind, *plane, *layer),
         Asked::Class(place, numbers, kinds) => is_class(tech, *place, *numbers, kinds),
         Asked::Fet(place, kind, terminals, name) => is_fet(tech, *place, *kind, terminals, name),
