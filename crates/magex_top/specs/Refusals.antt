@@ -5,8 +5,8 @@ use Rattle.geo_core.specs.declared.limits.Limit.{Limit}
 use Rattle.geo_core.specs.declared.limits.Limit.TheVariants as limits
 use Rattle.tech_model.specs.declared.faults.Section.{Section}
 use Rattle.tech_model.specs.declared.faults.Section.TheVariants as sections
-use Rattle.tech_model.specs.declared.faults.Table.{Table}
-use Rattle.tech_model.specs.declared.faults.Table.TheVariants as tables
+use Rattle.tech_model.specs.declared.faults.LimitedList.{LimitedList}
+use Rattle.tech_model.specs.declared.faults.LimitedList.TheVariants as lists
 use Rattle.tech_model.specs.declared.faults.TechFault.{TechFault}
 use Rattle.tech_model.specs.declared.faults.TechFault.TheVariants.{NoSection, NoPlane, NoType, Twice, SameSet, ContactPart, NotMonotone, FetTerminal}
 use Rattle.tech_model.specs.declared.faults.TechFault.TheVariants.{FetName, BadForm, TypeExpression, Memory}
@@ -55,11 +55,11 @@ section_word sections.Connect = codes "connect"
 section_word sections.Extract = codes "extract"
 
 -- what a technology has too many of
-abbrev pub table_word : Table → List ℕ
-table_word tables.Planes = codes "planes"
-table_word tables.Types = codes "types"
-table_word tables.Classes = codes "classes"
-table_word tables.Fets = codes "fets"
+abbrev pub list_word : LimitedList → List ℕ
+list_word lists.Planes = codes "planes"
+list_word lists.Types = codes "types"
+list_word lists.Classes = codes "classes"
+list_word lists.Fets = codes "fets"
 
 -- what a session has too many of
 abbrev pub limit_word : Limit → List ℕ
@@ -87,7 +87,7 @@ tech_fault_text (ContactPart name) = codes "T6 " ++ name
 tech_fault_text (NotMonotone s t wide_s wide_t) = codes "T7 " ++ s ++ codes " " ++ t ++ codes " " ++ wide_s ++ codes " " ++ wide_t
 tech_fault_text (FetTerminal fet terminal) = codes "T8 " ++ fet ++ codes " " ++ terminal
 tech_fault_text (FetName name) = codes "T9 " ++ name
-tech_fault_text (faults.TooMany table) = codes "T10 " ++ table_word table
+tech_fault_text (faults.TooMany list) = codes "T10 " ++ list_word list
 tech_fault_text BadForm = codes "T11"
 tech_fault_text (TypeExpression entry) = codes "T12 " ++ entry
 tech_fault_text Memory = []

@@ -2,7 +2,7 @@
 ghost use Rattle.std.specs.Prelude.{◌≡◌, ◌++◌, codes, pos, IfOk, OnOk};
 ghost use Rattle.text_scan.specs.Decimal.{decimal};
 ghost use Rattle.session_model.specs.Fetches.{cause_of_fault};
-ghost use Rattle.magex_top.specs.Refusals.{cause_of, fault_text, limit_word, refusal, section_word, table_word, tech_fault_text, line_fault_text};
+ghost use Rattle.magex_top.specs.Refusals.{cause_of, fault_text, limit_word, refusal, section_word, list_word, tech_fault_text, line_fault_text};
 ghost use Rattle.magex_top.specs.Refusals.{file_fault_text, too_many_text, load_fault_text, mag_fault_text, mag_code, edit_fault_text};
 ghost use Rattle.magex_top.specs.Refusals.{ext_code, flat_fault_text, generate_fault_text, sim_code, sim_fault_text, tree_fault_text, vec_fault_text};
 
@@ -20,7 +20,7 @@ use session_model::{Cause, FetchFault, LineKind, ReportLine};
 use sim_text::{SimAt, SimFault};
 use std::alloc::{AllocError, Global};
 use tech_file::TechAt;
-use tech_model::{Section, Table, TechFault};
+use tech_model::{LimitedList, Section, TechFault};
 use text_scan::append_decimal;
 use vector_files::{VecAt, VecFault};
 
@@ -329,7 +329,7 @@ fn append_tech_fault(text: &mut Vec<u8>, fault: &TechFault) -> Result<(), AllocE
         }
         TechFault::FetTerminal(fet, terminal) => append_with_names(text, b"T8 ", fet, terminal),
         TechFault::FetName(name) => append_with_name(text, b"T9 ", name),
-        TechFault::TooMany(table) => append_two(text, b"T10 ", table_word(*table)),
+        TechFault::TooMany(list) => append_two(text, b"T10 ", list_word(*list)),
         TechFault::BadForm => text.extend_from_slice(b"T11"),
         TechFault::TypeExpression(entry) => append_with_name(text, b"T12 ", entry),
         TechFault::Memory => Ok(()),
@@ -378,14 +378,14 @@ fn section_word(section: Section) -> &'static [u8]
     }
 }
 
-fn table_word(table: Table) -> &'static [u8]
-    ensures { result.now ≡ table_word table }
+fn list_word(list: LimitedList) -> &'static [u8]
+    ensures { result.now ≡ list_word list }
 {
-    match table {
-        Table::Planes => b"planes",
-        Table::Types => b"types",
-        Table::Classes => b"classes",
-        Table::Fets => b"fets",
+    match list {
+        LimitedList::Planes => b"planes",
+        LimitedList::Types => b"types",
+        LimitedList::Classes => b"classes",
+        LimitedList::Fets => b"fets",
     }
 }
 
