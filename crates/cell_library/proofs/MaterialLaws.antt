@@ -1,11 +1,11 @@
 -- Painting takes no material away and leaves none of the area without; erasing makes none.
-use Rattle.std.proofs.Common.{◌≡◌, ◌≢◌, ◌⊎◌, ◌+◌, ◌^◌, ◌%◌, ◌<◌, ℕ, zero, suc, Option, List, [], ◌∷◌, length, fold, bit_and, bit_or, max, min, refl, sym, ap}
+use Rattle.std.proofs.Common.{◌≡◌, ◌≢◌, ◌⊎◌, ◌+◌, ◌^◌, ◌<◌, ℕ, zero, suc, Option, List, [], ◌∷◌, length, fold, bit_and, bit_or, refl, sym, ap}
 use Rattle.std.proofs.Common.{get_or}
 use Rattle.std.proofs.Common.{subst, ◌∙◌, arith, inl, inr}
 use Rattle.std.specs.Prelude.{Some, None, IsTrue, unwrap_or}
 use Rattle.std.specs.Int.{bit_at}
-use Rattle.std.proofs.lemmas.Bool.{cases_Bool, cases_eq, cases_lt, true≢false, eq-eqb, eqb-true}
-use Rattle.std.proofs.lemmas.Nat.Bits.{bit_at-zero, bit_at_and, bit_at_or, bit_at_xor, bit_at-lt, bit_at-pow_same, bit_at-pow_other, same_from_bits}
+use Rattle.std.proofs.lemmas.Bool.{cases_Bool, cases_lt, true≢false, eq-eqb, eqb-true}
+use Rattle.std.proofs.lemmas.Nat.Bits.{bit_at-zero, bit_at_and, same_from_bits}
 use Rattle.finite_sets.specs.Lists.{In}
 use Rattle.finite_sets.proofs.Members.{In-index, In-get_or}
 use Rattle.finite_sets.proofs.Searches.{find-In, find-none}
@@ -20,14 +20,15 @@ use Rattle.tech_model.specs.declared.raw.RawTech.{RawTech}
 use Rattle.tech_model.specs.Types.{is_type, type_number, no_layer, plane_of, layer_at, parts_of, images_of, is_on, image_on, joined, is_subset, without}
 use Rattle.tech_model.specs.WellFormed.{IsWellFormed, IsContact, IsMarked}
 use Rattle.tech_model.specs.Rules.{HaveOwnSets}
-use Rattle.tech_model.specs.Columns.{painted_by, erased_by, where_image, on_planes_from, mark_of, type_on, without_mark, layer_mark_kept, marks_kept}
-use Rattle.tech_model.specs.Columns.{painted_column, erased_column}
+use Rattle.tech_model.specs.Columns.{painted_by, erased_by, where_image, on_planes_from, mark_of, type_on, without_parts, layer_mark_kept, marks_kept}
+use Rattle.tech_model.specs.declared.columns.Brush.TheVariants.{Paint as PaintBrush, Erase as EraseBrush}
+use Rattle.tech_model.specs.Columns.{brushed_column, painted_column, erased_column}
 use Rattle.tech_model.specs.ColumnForms.{IsOnPlane, IsColumn}
 use Rattle.tech_model.proofs.JoinedLaws.{joined-found, joined-type}
 use Rattle.tech_model.proofs.WellFormedLaws.{All_In, layer_well_formed, type_bounds}
 use Rattle.tech_model.proofs.SetLaws.{bit_cases, or_bit_right, mark_part_bit, mark_layer, set_not_empty}
-use Rattle.tech_model.proofs.MarkLaws.{mark_of-contact}
-use Rattle.tech_model.proofs.ColumnLaws.{changed, kept_cases, kept_is_column, bit_type, painted_is_column, erased_is_column}
+use Rattle.tech_model.proofs.MarkLaws.{mark_of-contact, residue_set}
+use Rattle.tech_model.proofs.ColumnLaws.{changed, kept_cases, kept_is_column, bit_type, brushed_is_column}
 use Rattle.tech_model.proofs.WholeLaws.{unmarked_keeps}
 use Rattle.layout_model.specs.Places.{Place}
 use Rattle.layout_model.specs.Layouts.{Layout, IsMaterial}
@@ -38,29 +39,9 @@ use Rattle.cell_paint.proofs.PaintLaws.{type_past_column, changed_inside, change
 
 -- ---- one contact's mark
 
--- a set without the mark that was added to it is the set
-set_unmarked : (set bit : ℕ) → bit_at set bit ≡ 0 → without (bit_or set (2 ^ bit)) (2 ^ bit) ≡ set
-set_unmarked set bit clear = same_from_bits (without (bit_or set (2 ^ bit)) (2 ^ bit)) set (λ k.
-    let both = bit_or set (2 ^ bit) in
-    let meet = bit_at_and both (2 ^ bit) k in
-    let join = bit_at_or set (2 ^ bit) k in
-    let small = bit_at-lt set k in
-    bit_at_xor both (bit_and both (2 ^ bit)) k ∙ elim (cases_eq k bit) [
-      | inr other ↦ unmarked_bit (bit_at both k) (bit_at (bit_and both (2 ^ bit)) k) (bit_at set k) (bit_at (2 ^ bit) k) small meet join (bit_at-pow_other bit k other)
-      | inl same ↦
-          marked_bit (bit_at both k) (bit_at (bit_and both (2 ^ bit)) k) (bit_at set k) (bit_at (2 ^ bit) k) meet join
-          (ap (bit_at (2 ^ bit)) same ∙ bit_at-pow_same bit) (ap (bit_at set) same ∙ clear)
-    ])
-  where
-    unmarked_bit : (both meet set mark : ℕ) → set < 2 → meet ≡ min both mark → both ≡ max set mark → mark ≡ 0 → (both + meet) % 2 ≡ set
-    unmarked_bit both meet set mark small is joins none = omega arith
-
-    marked_bit : (both meet set mark : ℕ) → meet ≡ min both mark → both ≡ max set mark → mark ≡ 1 → set ≡ 0 → (both + meet) % 2 ≡ set
-    marked_bit both meet set mark is joins one none = omega arith
-
 -- a type without a contact's mark is no space, where it was none
 unmarked_material : (raw : RawTech) (layer plane : ℕ) (old : TypeId) → IsWellFormed raw → HaveOwnSets raw → layer < length raw.layers → 1 < length (images_of raw layer)
-    → (contact : IsContact raw layer) → IsOnPlane raw plane old.0 → old.0 ≢ 0 → (without_mark raw (2 ^ contact.bit) plane old).0 ≢ 0
+    → (contact : IsContact raw layer) → IsOnPlane raw plane old.0 → old.0 ≢ 0 → (without_parts raw (2 ^ contact.bit) plane old).0 ≢ 0
 unmarked_material raw layer plane old w own below many contact on is = elim (cases_Bool (is_subset (2 ^ contact.bit) (parts_of raw old.0))) [
   | inr none ↦ rw none is
   | inl part ↦
@@ -68,14 +49,7 @@ unmarked_material raw layer plane old w own below many contact on is = elim (cas
       let at = mark_layer raw layer old.0 contact type.0 (mark_part_bit (parts_of raw old.0) contact.bit part) in
       let image_in : In (type_number old.0) (images_of raw layer) = subst (λ (l : ℕ). In (type_number old.0) (images_of raw l)) at (w.is_image old.0 type.0) in
       let marked = All_In (λ (t : TypeId). IsMarked raw contact.bit t.0) (images_of raw layer) (type_number old.0) contact.images image_in in
-      let clear : bit_at (parts_of raw marked.residue) contact.bit ≡ 0 = elim (bit_cases (parts_of raw marked.residue) contact.bit) [
-        | inl clear ↦ clear
-        | inr bit ↦
-            let there = mark_layer raw layer marked.residue contact marked.residue_type bit in
-            let one : length (images_of raw layer) ≡ 1 = ap (λ (l : ℕ). length (images_of raw l)) (sym there) ∙ marked.residue_simple in
-            absurd (omega arith)
-      ] in
-      let left = ap (λ (set : ℕ). without set (2 ^ contact.bit)) marked.set ∙ set_unmarked (parts_of raw marked.residue) contact.bit clear in
+      let left = residue_set raw layer old.0 contact many marked in
       let found : joined raw plane (without (parts_of raw old.0) (2 ^ contact.bit)) ≡ Some marked.residue =
       ap (joined raw plane) left ∙ ap (λ (p : ℕ). joined raw p (parts_of raw marked.residue)) (sym (marked.residue_plane ∙ type.1))
       ∙ joined-type raw marked.residue own marked.residue_type (set_not_empty raw marked.residue w marked.residue_type) in
@@ -84,7 +58,7 @@ unmarked_material raw layer plane old w own below many contact on is = elim (cas
 ]
 
 -- space has no mark
-unmarked_space : (raw : RawTech) (bit plane : ℕ) (old : TypeId) → old.0 ≡ 0 → (without_mark raw (2 ^ bit) plane old).0 ≡ 0
+unmarked_space : (raw : RawTech) (bit plane : ℕ) (old : TypeId) → old.0 ≡ 0 → (without_parts raw (2 ^ bit) plane old).0 ≡ 0
 unmarked_space raw bit plane old space =
     unmarked_keeps raw bit plane 0 old (λ set. let apart : ◌≡◌ {A = ℕ} 1 0 = sym set ∙ bit_at-zero bit in absurd (omega arith)) space
 
@@ -98,7 +72,7 @@ fold_keeps P f (y ∷ ys) x is each = fold_keeps P f ys (f x y) (each x y (inl r
 -- what holds of each type that is left by each contact's mark holds of what all leave
 kept_each : (raw : RawTech) (plane : ℕ) (P : ℕ → Type 0) (column : List TypeId) → IsWellFormed raw
     → ((layer : ℕ) → layer < length raw.layers → 1 < length (images_of raw layer) → (contact : IsContact raw layer) → (plane : ℕ) (old : TypeId)
-    → IsOnPlane raw plane old.0 → P old.0 → P (without_mark raw (2 ^ contact.bit) plane old).0)
+    → IsOnPlane raw plane old.0 → P old.0 → P (without_parts raw (2 ^ contact.bit) plane old).0)
     → IsColumn raw column → P (type_on column plane) → P (type_on (marks_kept raw column) plane)
 kept_each raw plane P column w each is has =
     (fold_keeps (λ (c : List TypeId). IsColumn raw c × P (type_on c plane)) (λ (kept : List TypeId) (layer : LayerRec). layer_mark_kept raw layer.images kept) raw.layers column (is, has)
@@ -113,8 +87,8 @@ kept_each raw plane P column w each is has =
             let contact = w.sets.contacts index.0 index.1.0 many in
             let mark : mark_of raw rec.images ≡ 2 ^ contact.bit =
             ap (λ (l : LayerRec). mark_of raw l.images) (sym at) ∙ mark_of-contact raw index.0 w index.1.0 many contact in
-            subst (λ (d : List TypeId). P (type_on d plane)) (sym (taken.0 ∙ ap (λ (m : ℕ). on_planes_from 0 (without_mark raw m) c) mark))
-            (changed (λ plane old new. IsOnPlane raw plane old → P old → P new) (without_mark raw (2 ^ contact.bit)) c
+            subst (λ (d : List TypeId). P (type_on d plane)) (sym (taken.0 ∙ ap (λ (m : ℕ). on_planes_from 0 (without_parts raw m) c) mark))
+            (changed (λ plane old new. IsOnPlane raw plane old → P old → P new) (without_parts raw (2 ^ contact.bit)) c
             (λ plane old on had. each index.0 index.1.0 many contact plane old on had) (λ plane on had. had) plane (so_far.0 plane) so_far.1)
       ],
     ))).1
@@ -172,10 +146,10 @@ painted_where raw layer plane old (Some image) is w below some =
 -- painting takes no material away
 pub painted_column-material : (raw : RawTech) (layer plane : ℕ) (column : List TypeId) → IsWellFormed raw → HaveOwnSets raw → layer < length raw.layers → IsColumn raw column
     → type_on column plane ≢ 0 → type_on (painted_column raw layer column) plane ≢ 0
-unfolding painted_column
+unfolding brushed_column
 painted_column-material raw layer plane column w own below is some =
     marks_kept-material raw plane (on_planes_from 0 (λ plane old. where_image (painted_by raw plane) (image_on raw layer plane) old) column) w own
-    (painted_is_column raw layer column w below is)
+    (brushed_is_column raw PaintBrush layer column w below is)
     (changed (λ plane old new. old ≢ 0 → new ≢ 0) (λ plane old. where_image (painted_by raw plane) (image_on raw layer plane) old) column
     (λ plane old had. painted_where raw layer plane old (image_on raw layer plane) refl w below had) (λ plane had. had) plane some)
 
@@ -199,11 +173,11 @@ filled_where raw layer image old (Some other) is w below image_in =
 -- painting leaves material on each plane of the layer
 pub painted_column-fills : (raw : RawTech) (layer : ℕ) (image : TypeId) (column : List TypeId) → IsWellFormed raw → HaveOwnSets raw → layer < length raw.layers
     → IsColumn raw column → In image (images_of raw layer) → plane_of raw image.0 < length column → type_on (painted_column raw layer column) (plane_of raw image.0) ≢ 0
-unfolding painted_column
+unfolding brushed_column
 painted_column-fills raw layer image column w own below is image_in inside =
     let plane = plane_of raw image.0 in
     let f : ℕ → TypeId → TypeId = λ p old. where_image (painted_by raw p) (image_on raw layer p) old in
-    marks_kept-material raw plane (on_planes_from 0 f column) w own (painted_is_column raw layer column w below is)
+    marks_kept-material raw plane (on_planes_from 0 f column) w own (brushed_is_column raw PaintBrush layer column w below is)
     (changed_within (λ p new. p ≡ plane → new ≢ 0) f 0 column
     (λ p old at. subst (λ (q : ℕ). (where_image (painted_by raw q) (image_on raw layer q) old).0 ≢ 0) (sym at)
     (filled_where raw layer image old (image_on raw layer plane) refl w below image_in))
@@ -232,10 +206,10 @@ erased_where raw layer plane old (Some image) is w below space =
 -- erasing makes no material
 pub erased_column-space : (raw : RawTech) (layer plane : ℕ) (column : List TypeId) → IsWellFormed raw → layer < length raw.layers → IsColumn raw column
     → type_on column plane ≡ 0 → type_on (erased_column raw layer column) plane ≡ 0
-unfolding erased_column
+unfolding brushed_column
 erased_column-space raw layer plane column w below is space =
     marks_kept-space raw plane (on_planes_from 0 (λ plane old. where_image (erased_by raw plane) (image_on raw layer plane) old) column) w
-    (erased_is_column raw layer column is)
+    (brushed_is_column raw EraseBrush layer column w below is)
     (changed (λ plane old new. old ≡ 0 → new ≡ 0) (λ plane old. where_image (erased_by raw plane) (image_on raw layer plane) old) column
     (λ plane old had. erased_where raw layer plane old (image_on raw layer plane) refl w below had) (λ plane had. had) plane space)
 
