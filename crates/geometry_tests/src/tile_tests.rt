@@ -117,3 +117,37 @@ fn many_squares_are_set_one_by_one(rt: HostRuntime) -> Result<(), Fail> {
     assert!(rt; many_are_listed(rt.alloc())?);
     Ok(())
 }
+
+/// So many teeth cross a strip.
+const TEETH: u16 = 50_000;
+
+/// Where the teeth cross the strip.
+fn crossings(alloc: Global) -> Result<Vec<Rect>, AllocError> {
+    let mut found = Vec::new(alloc);
+    for tooth in 0..TEETH {
+        let x = 4 * i64::from(tooth);
+        found.push(rect([x, 2, x + 2, 4]))?;
+    }
+    Ok(found)
+}
+
+/// Sets a strip and teeth that cross it, one by one from the left, and lists the crossings.
+fn crossings_are_listed(alloc: Global) -> Result<bool, PlaneFault> {
+    let mut plane = TilePlane::new(alloc)?;
+    let crossings = crossings(alloc)?;
+    let mut done = set(&mut plane, rect([0, 2, 4 * i64::from(TEETH), 4]), 1)?;
+    for crossing in &crossings {
+        let Rect { xlo, xhi, .. } = *crossing;
+        done = done
+            && set(&mut plane, rect([xlo, 0, xhi, 2]), 2)?
+            && set(&mut plane, *crossing, 3)?
+            && set(&mut plane, rect([xlo, 4, xhi, 6]), 2)?;
+    }
+    Ok(done && has_strips(&plane, 3, crossings.as_slice())?)
+}
+
+#[test]
+fn many_teeth_cross_a_strip(rt: HostRuntime) -> Result<(), Fail> {
+    assert!(rt; crossings_are_listed(rt.alloc())?);
+    Ok(())
+}
