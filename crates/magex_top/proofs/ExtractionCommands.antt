@@ -1,7 +1,6 @@
 -- What the commands answer that extract a cell.
 use Rattle.std.proofs.Common.{◌≡◌, ◌⊎◌, ℕ, List, [], ◌∷◌, ◌++◌, Some, inl, inr}
 use Rattle.session_model.specs.declared.answer.Answer.{Answer}
-use Rattle.session_model.specs.declared.answer.Store.{Store}
 use Rattle.session_model.specs.declared.report.ReportLine.{ReportLine}
 use Rattle.session_model.specs.Effects.{Answers, Effect}
 use Rattle.magex_top.specs.declared.circuits.CircuitFile.{CircuitFile}
@@ -10,7 +9,6 @@ use Rattle.magex_top.specs.declared.extractions.Extracting.TheVariants.{Done, Re
 use Rattle.magex_top.specs.declared.extractions.Extraction.{Extraction}
 use Rattle.magex_top.specs.Circuits.{IsWrittenAt, WritesCircuit, lines_of, stores_of}
 use Rattle.magex_top.specs.CommandExtract.{ExtractsCell}
-use Rattle.magex_top.specs.CommandVectors.{RunsCell, TellsAt}
 use Rattle.magex_top.specs.Extracting.{IsExtracted}
 use Rattle.magex_top.specs.Extractions.{RefusesUnclean, extracted_text}
 use Rattle.magex_top.specs.States.{State, Workspace, reply}
@@ -53,16 +51,3 @@ writes_cell file number name work after cell extraction written answer is is_wri
     is = λ i. record { state = Some (is.1 i); lines = lines i; stores = stores i; fetched = [] };
   }),
 )
-
--- `vectors`: the cell was extracted, and lines behind those of the extraction answer the vectors
-pub runs_cell : (budget number : ℕ) (text : List ℕ) (fetched : List (List ℕ)) (work after : Workspace) (cell : ℕ) (extraction : Extraction)
-    (lines all : List ReportLine) (stores : List Store) → IsExtracted number work after cell (Done extraction)
-    → TellsAt budget number work.editing.library cell text lines → all ≡ extraction.lines ++ lines → stores ≡ extraction.stores
-    → RunsCell budget number text fetched work cell (record { state = Some after; lines = all; stores = stores; fetched = fetched })
-runs_cell budget number text fetched work after cell extraction lines all stores is tells lines_are stores_are = record {
-  extraction = extraction;
-  is_extraction = is.0;
-  lines = lines;
-  tells = tells;
-  is = λ i. record { state = Some (is.1 i); lines = lines_are i; stores = stores_are i; fetched = fetched };
-}

@@ -1,6 +1,6 @@
 -- What an extraction comes to, and what is dirty after it.
-use Rattle.std.proofs.Common.{◌≡◌, ◌⊎◌, ◌<◌, ◌∙◌, ◌==◌, ◌&&◌, not, ℕ, suc, Bool, true, false, cond, List, [], ◌∷◌, ◌++◌, length, map, filter}
-use Rattle.std.proofs.Common.{Option, Some, None, refl, sym, ap, subst, inl, inr}
+use Rattle.std.proofs.Common.{◌≡◌, ◌⊎◌, ◌<◌, ◌∙◌, ◌==◌, ◌&&◌, not, ℕ, suc, Bool, true, false, List, [], ◌∷◌, length, map}
+use Rattle.std.proofs.Common.{Option, Some, refl, sym, ap, subst, inl, inr}
 use Rattle.std.specs.Prelude.{All, IsSome, option_map}
 use Rattle.std.specs.List.{flat_map, list_any}
 use Rattle.std.proofs.lemmas.Bool.{eq-eqb, ne_eqb, true≢false}
@@ -19,7 +19,7 @@ use Rattle.cell_library.specs.Additions.{children_in}
 use Rattle.cell_library.specs.Libraries.{IsLawfulLibrary, LibraryParts, seen}
 use Rattle.cell_library.specs.Views.{LibraryView, view_at}
 use Rattle.ext_cache.specs.declared.extraction.Extracted.{Extracted}
-use Rattle.ext_cache.specs.Caches.{Agrees, Extracts, IsRecordNow, MakesRecords as KeepsRecords, Records, dirty_cells, is_dirty, record_in, stamp_in, with_record}
+use Rattle.ext_cache.specs.Caches.{Agrees, Extracts, MakesRecords as KeepsRecords, Records, dirty_cells, is_dirty, stamp_in, with_record}
 use Rattle.ext_cache.proofs.MakingLaws.{clean_making, dirty_unmade}
 use Rattle.ext_cache.proofs.OrderLaws.{below_there}
 use Rattle.ext_cache.proofs.RecordLaws.{kept_clean}
@@ -28,7 +28,7 @@ use Rattle.magex_top.specs.declared.extractions.Extracting.TheVariants.{Done}
 use Rattle.magex_top.specs.declared.extractions.Extraction.{Extraction}
 use Rattle.magex_top.specs.Answers.{edited_state}
 use Rattle.magex_top.specs.Extracting.{HasKeptRecord, IsExtracted, IsFreshBelow, kept_store, told_lines}
-use Rattle.magex_top.specs.Extractions.{IsExtraction, MakesRecords, ext_store, with_clean}
+use Rattle.magex_top.specs.Extractions.{MakesRecords, ext_store, with_clean}
 use Rattle.magex_top.specs.States.{Workspace}
 use Rattle.magex_top.proofs.WorkspaceLaws.{workspace_of}
 

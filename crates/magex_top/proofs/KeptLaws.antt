@@ -1,5 +1,5 @@
 -- The records that are kept of a cell and of all below it, where none of these is dirty.
-use Rattle.std.proofs.Common.{◌≡◌, ◌<◌, ◌∙◌, ℕ, false, List, [], ◌∷◌, length, map, Option, Some, refl, sym, ap, subst, inl, inr}
+use Rattle.std.proofs.Common.{◌≡◌, ◌<◌, ◌∙◌, ℕ, List, [], ◌∷◌, length, map, Option, Some, refl, sym, ap, subst, inl, inr}
 use Rattle.std.specs.Prelude.{All, IsSome}
 use Rattle.std.proofs.lemmas.Option.{same_Some}
 use Rattle.finite_sets.specs.Chain.Chain.{stay, go}

@@ -11,6 +11,7 @@ pub mod GenerateLaws
 pub mod InsideLaws
 pub mod KeptLaws
 pub mod LoadLaws
+pub mod NetworkRunLaws
 pub mod NodesLaws
 pub mod RunLaws
 pub mod SimulationCommands

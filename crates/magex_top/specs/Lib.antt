@@ -15,6 +15,7 @@ pub mod CommandVectors
 pub mod Extracting
 pub mod Extractions
 pub mod MadeStacks
+pub mod NetworkRuns
 pub mod Offending
 pub mod Refusals
 pub mod Runs

@@ -23,6 +23,7 @@ mod command_tech;
 mod command_vectors;
 mod extractions;
 mod faults;
+mod network_runs;
 mod offending;
 mod refusals;
 mod replies;

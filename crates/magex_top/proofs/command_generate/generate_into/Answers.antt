@@ -1,4 +1,4 @@
-use Rattle.std.proofs.Common.{◌∙◌, ℕ, Some, ap, length, subst}
+use Rattle.std.proofs.Common.{◌∙◌, ℕ, [], Some, ap, length, subst}
 use Rattle.std.proofs.lemmas.Int.{to_z-of_z}
 use Rattle.std.specs.Int.RustNames.{unsigned_abs}
 use Rattle.std.proofs.lemmas.Result.{IfOk-weaker}
@@ -12,8 +12,8 @@ use Rattle.magex_top.proofs.AnswerLaws.{both_ok}
 use Rattle.magex_top.proofs.GenerateLaws.{stack_made, stack_refused}
 use Rattle.magex_top.proofs.command_generate.generate_into.Goals as goal
 
-pub extract_stack-requires-clause-cell : goal.extract_stack-requires-clause-cell
-extract_stack-requires-clause-cell c =
+pub run_extracted-requires-clause-cell : goal.run_extracted-requires-clause-cell
+run_extracted-requires-clause-cell c =
     subst (λ (made : MadeStack). IsCellOf (length c.make_stack.new.edited.library.contents) made) c.in-Made.is c.in_ok-cell.ensures.cell
 
 pub returns-in-Made-clause-effect : goal.returns-in-Made-clause-effect
@@ -22,12 +22,12 @@ returns-in-Made-clause-effect c =
     let now = edited_state c.make_stack.new.edited in
     let n = c.rows_of-n.result in
     let rows_are = c.rows_of-n.ensures.rows ∙ ap unsigned_abs (to_z-of_z _ _ c.ranges.count) in
-    let after : State = Some (edited_state c.extract_stack.new.edited) in
+    let after : State = Some (edited_state c.run_extracted.new.edited) in
     let came = subst (λ (made : MadeStack). IsStackMade n work now made) c.in-Made.is c.in_ok-cell.ensures.made in
-    IfOk-weaker c.extract_stack.result _ _
-    (λ answer means. subst (λ (rows : ℕ). Answers (GeneratesStack c.args.budget c.args.number rows work) after answer) rows_are
-    (stack_made c.args.budget c.args.number n work now c.in-Made.cell.0 after answer came means))
-    c.extract_stack.ensures.effect
+    IfOk-weaker c.run_extracted.result _ _
+    (λ answer runs. subst (λ (rows : ℕ). Answers (GeneratesStack c.args.budget c.args.number rows work) after answer) rows_are
+    (stack_made c.args.budget c.args.number n work now c.in-Made.cell.0 after answer came runs))
+    (c.run_extracted.ensures.effect [])
 
 pub returns-in-Refused-clause-effect : goal.returns-in-Refused-clause-effect
 returns-in-Refused-clause-effect c =

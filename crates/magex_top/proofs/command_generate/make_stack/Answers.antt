@@ -1,8 +1,6 @@
-use Rattle.std.proofs.Common.{Some}
 use Rattle.ext_cache.proofs.RecordLaws.{agrees_same}
 use Rattle.magex_top.proofs.GenerateLaws.{stack_agrees, stack_came, stack_there}
 use Rattle.magex_top.proofs.LoadLaws.{same_current}
-use Rattle.magex_top.proofs.WorkspaceLaws.{same_workspace}
 use Rattle.magex_top.proofs.command_generate.make_stack.Goals as goal
 
 pub returns-in-Ok-clause-made : goal.returns-in-Ok-clause-made

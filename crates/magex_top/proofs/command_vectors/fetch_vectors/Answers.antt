@@ -1,8 +1,11 @@
-use Rattle.std.proofs.Common.{◌≡◌, [], ◌∷◌, Ok, Err, Some, subst}
+use Rattle.std.proofs.Common.{◌≡◌, ℕ, List, [], ◌∷◌, Ok, Err, Some, subst}
 use Rattle.std.proofs.lemmas.Result.{IfOk-weaker}
 use Rattle.session_model.specs.declared.fetching.Fetched.{Fetched}
 use Rattle.session_model.specs.Fetches.{FetchMeans, text_in}
+use Rattle.magex_top.specs.declared.network_runs.NetworkRun.TheVariants.{Vectors}
 use Rattle.magex_top.specs.Answers.{edited_state}
+use Rattle.magex_top.specs.NetworkRuns.{RunsExtracted}
+use Rattle.magex_top.specs.States.{State}
 use Rattle.magex_top.proofs.AnswerLaws.{both_ok}
 use Rattle.magex_top.proofs.SimulationCommands.{refuses_fetched, runs_fetched}
 use Rattle.magex_top.proofs.command_vectors.fetch_vectors.Goals as goal
@@ -11,10 +14,13 @@ pub returns-in-Text-clause-effect : goal.returns-in-Text-clause-effect
 returns-in-Text-clause-effect g c files told =
     let there : text_in files c.args.file ≡ Ok c.in-Text.text.items =
     subst (λ (fetched : Fetched). FetchMeans files c.args.file fetched) c.in-Text.is (c.in_ok-text.ensures.effect files told) in
-    IfOk-weaker c.run_cell.result _ _
-    (λ answer runs. runs_fetched c.args.budget c.args.number c.args.file c.in-Text.text.items (text_in files c.args.file) (edited_state c.args.edited.now)
-    c.args.cell.0 (Some (edited_state c.run_cell.new.edited)) answer there runs)
-    (rw c.deref.ensures.value at c.run_cell.ensures.effect c.args.file)
+    let work = edited_state c.args.edited.now in
+    let after : State = Some (edited_state c.run_extracted.new.edited) in
+    IfOk-weaker c.run_extracted.result _ _
+    (λ answer runs. runs_fetched c.args.budget c.args.number c.args.file c.in-Text.text.items (text_in files c.args.file) work c.args.cell.0 after answer there
+    (subst (λ (text : List ℕ). RunsExtracted (Vectors text) c.args.budget c.args.number (c.args.file ∷ []) work c.args.cell.0
+    (record { state = after; lines = answer.lines.items; stores = answer.stores.items; fetched = c.args.file ∷ [] })) c.of.ensures runs))
+    (c.run_extracted.ensures.effect (c.args.file ∷ []))
 
 pub returns-in-Refused-clause-effect : goal.returns-in-Refused-clause-effect
 returns-in-Refused-clause-effect g c files told =

@@ -1,14 +1,14 @@
-use Rattle.std.proofs.Common.{◌≡◌, ◌++◌, ◌∷◌, [], List, inl, sym, subst, rules}
+use Rattle.std.proofs.Common.{◌≡◌, ◌++◌, List, inl, sym, subst, rules}
 use Rattle.session_model.specs.declared.report.ReportLine.{ReportLine}
 use Rattle.cell_library.specs.Libraries.{LibraryParts, seen}
 use Rattle.magex_top.specs.declared.extractions.Extracting.{Extracting}
 use Rattle.magex_top.specs.Answers.{IsOfInside, edited_state}
-use Rattle.magex_top.specs.CommandVectors.{TellsAt}
+use Rattle.magex_top.specs.NetworkRuns.{TellsAt}
 use Rattle.magex_top.specs.Extracting.{IsExtracted}
-use Rattle.magex_top.proofs.ExtractionCommands.{runs_cell}
+use Rattle.magex_top.proofs.NetworkRunLaws.{runs_cell}
 use Rattle.magex_top.proofs.ExtractionLaws.{fresh_below}
 use Rattle.magex_top.proofs.InsideLaws.{both_inside, extraction_inside, unclean_inside}
-use Rattle.magex_top.proofs.command_vectors.run_cell.Goals as goal
+use Rattle.magex_top.proofs.network_runs.run_extracted.Goals as goal
 
 pub run_kept-requires-clause-fresh : goal.run_kept-requires-clause-fresh
 run_kept-requires-clause-fresh c =
@@ -19,17 +19,17 @@ run_kept-requires-clause-fresh c =
     fresh_below c.args.number old new c.args.cell.0 c.in-Done.extraction c.in_ok-extraction.ensures.library is
 
 pub returns-in_ok-joined-in-Done-clause-effect : goal.returns-in_ok-joined-in-Done-clause-effect
-returns-in_ok-joined-in-Done-clause-effect c file =
+returns-in_ok-joined-in-Done-clause-effect c fetched =
     let work = edited_state c.args.edited.now in
     let after = edited_state c.extract_cell.new.edited in
     let extraction = c.in-Done.extraction in
     let told = c.in_ok-lines-in-Done.lines.items in
     let is = subst (λ (e : Extracting). IsExtracted c.args.number work after c.args.cell.0 e) c.in-Done.is c.in_ok-extraction.ensures.extracted in
-    let tells = subst (λ (l : LibraryParts). TellsAt c.args.budget c.args.number (seen l) c.args.cell.0 c.args.text.now told) c.in_ok-extraction.ensures.library
+    let tells = subst (λ (l : LibraryParts). TellsAt c.args.run.now c.args.budget c.args.number (seen l) c.args.cell.0 told) c.in_ok-extraction.ensures.library
     c.in_ok-lines-in-Done.ensures.tells in
     let lines : c.in_ok-joined-in-Done.field-0.items ≡ extraction.lines ++ told = search rules in
     let stores : c.into_vec.result.items ≡ extraction.stores = search rules in
-    inl (runs_cell c.args.budget c.args.number c.args.text.now (file ∷ []) work after c.args.cell.0 extraction told c.in_ok-joined-in-Done.field-0.items
+    inl (runs_cell c.args.run.now c.args.budget c.args.number fetched work after c.args.cell.0 extraction told c.in_ok-joined-in-Done.field-0.items
     c.into_vec.result.items is tells lines stores)
 
 pub returns-in_ok-joined-in-Done-clause-inside : goal.returns-in_ok-joined-in-Done-clause-inside

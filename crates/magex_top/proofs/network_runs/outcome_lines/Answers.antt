@@ -1,7 +1,7 @@
 use Rattle.std.proofs.Common.{◌≡◌, ◌∙◌, ◌++◌, ◌∷◌, [], ap}
 use Rattle.stack_runs.specs.Summaries.{summary_of, summary_text}
 use Rattle.magex_top.specs.States.{reply}
-use Rattle.magex_top.proofs.command_generate.outcome_lines.Goals as goal
+use Rattle.magex_top.proofs.network_runs.outcome_lines.Goals as goal
 
 pub returns : goal.returns
 returns c =
