@@ -4,7 +4,7 @@
     bench/circuits.py [--trees 10000,100000,1000000] [--cells 5000,10000,20000] [--program PATH]
 
 A tree has as many records of nodes: leaves of 100 nodes, 100 of them in a row, and rows in the root; in `chains` every node is joined with the one of
-the next leaf by a merge. A cell is a comb of transistors, whose load is taken off. For each it prints seconds, peak megabytes, and the power of n by which
+the next leaf by a merge. A cell is a comb of transistors, whose load is timed by itself and taken off. For each it prints seconds, peak megabytes, and the power of n by which
 time grew.
 """
 import argparse
@@ -106,7 +106,7 @@ def main():
             assert run.status == 0, run.status
             print(f"{name:>10} {size:>9} {run.seconds:>8.2f} {run.megabytes:>7.0f}  {grown(before, size, run.seconds)}", flush=True)
             before = (size, run.seconds)
-    before = None
+    loaded = before = None
     for size in map(int, options.cells.split(",")):
         with tempfile.TemporaryDirectory() as folder:
             comb(size, Path(folder))
@@ -114,8 +114,9 @@ def main():
             run = timed([options.program], Path(folder) / "run.script", folder)
         assert load.status == run.status == 0
         seconds = run.seconds - load.seconds
+        print(f"{'load comb':>10} {size:>9} {load.seconds:>8.2f} {load.megabytes:>7.0f}  {grown(loaded, size, load.seconds)}", flush=True)
         print(f"{'sim comb':>10} {size:>9} {seconds:>8.2f} {run.megabytes:>7.0f}  {grown(before, size, seconds)}", flush=True)
-        before = (size, seconds)
+        loaded, before = (size, load.seconds), (size, seconds)
 
 
 if __name__ == "__main__":
