@@ -7,7 +7,7 @@ use Rattle.geo_core.specs.Areas.{LiesWithin}
 use Rattle.geo_core.specs.Covering.{Covers, IsProper}
 use Rattle.geo_core.specs.Planes.{plane_range, AreSame}
 use Rattle.tile_plane.specs.declared.tiles.Tile.{Tile}
-use Rattle.tile_plane.specs.Tiles.{Tiles, tile_at, IsTaken, Owns, Leads, IsPartition, HasStitches, square_above, square_right, value_at}
+use Rattle.tile_plane.specs.Tiles.{Tiles, tile_at, IsTaken, Owns, Leads, IsPartition, HasStitches, square_above, square_right, square_left, value_at}
 use Rattle.tile_plane.specs.Walks.{square_at}
 use Rattle.tile_plane.specs.Cuts.{IsHandedOver}
 use Rattle.tile_plane.specs.Mends.{Side, Above, Right, Below, Left, stitch_of, square_of, AreRedirected, IsUpperSide, IsRightSide, IsLowerSide, IsLeftSide}
@@ -125,6 +125,19 @@ module _ {part : Rect} {id : ℕ} {old new : Tiles} (partition : IsPartition old
       let same = given.hand.taker k (square_at ((tile_at new k).area.xhi -ℤ pos 1) y) (omega (arith, ints)) (omega (arith, ints)) in
       let end = ap (λ (v : ℕ). (tile_at new v).area.xhi) same in
       absurd (omega (arith, ints)))
+
+  -- one from the tile on the right
+  pub left_into : (k : ℕ) → (tile_at new id).area.xlo ≡ part.xlo → IsTaken new k → Covers part (square_left (tile_at new k))
+      → ((y : ℤ) → part.ylo ≤ℤ y → y <ℤ part.yhi → Owns new k (square_at part.xhi y) → (tile_at new k).left ≡ id) → (tile_at new k).left ≡ id
+  left_into k edge taken covers after =
+      let proper = taken.proper in
+      let y = (tile_at new k).area.ylo in
+      by_lt_z (tile_at new k).area.xlo part.xhi
+      (λ under.
+      let same = given.hand.taker k (square_at (tile_at new k).area.xlo y) (omega (arith, ints)) (omega (arith, ints)) in
+      let end = ap (λ (v : ℕ). (tile_at new v).area.xlo) same in
+      absurd (omega (arith, ints)))
+      (λ over. after y (omega (arith, ints)) (omega (arith, ints)) (omega (arith, ints)))
 
   -- all stitches to squares of the part are redirected to the holder
   module _ {last : Tiles} (redirected : AreRedirected part id new last) where

@@ -56,7 +56,7 @@ cut_none tiles id y = record {
 }
 
 -- one cut
-module _ (old new : Tiles) (id upper : ℕ) (y : ℤ) (from : (tile_at old id).area.ylo <ℤ y) (to : y <ℤ (tile_at old id).area.yhi) (cut : IsCutAcross id upper y old new) where
+module _ (old new : Tiles) (id lower upper : ℕ) (y : ℤ) (from : (tile_at old id).area.ylo <ℤ y) (to : y <ℤ (tile_at old id).area.yhi) (cut : IsCutAcross id lower upper y old new) where
   source : (k : ℕ) (s : Square) → Owns new k s → (j : ℕ) × Owns old j s × AreAsWide (tile_at old j) (tile_at new k)
   source k s owns = elim (cases_eq k upper) [
     | inl e ↦ (
@@ -69,7 +69,7 @@ module _ (old new : Tiles) (id upper : ℕ) (y : ℤ) (from : (tile_at old id).a
             xhi = ap (λ (v : ℕ). (tile_at new v).area.xhi) e ∙ ap (λ (r : Rect). r.xhi) cut.high;
           },
         ))
-    | inr n ↦ elim (cases_eq k id) [
+    | inr n ↦ elim (cases_eq k lower) [
       | inl e ↦ (
           let c = subst (λ (r : Rect). Covers r s) cut.low (subst (λ (v : ℕ). Owns new v s) e owns).covers in (
             id,
@@ -85,7 +85,10 @@ module _ (old new : Tiles) (id upper : ℕ) (y : ℤ) (from : (tile_at old id).a
   ]
 
   other : (j : ℕ) → IsTaken old j → (j ≡ id → ⊥) → AreAlike (tile_at old j) (tile_at new j)
-  other j taken n = cut.others j n (λ e. cut.free (subst (IsTaken old) e taken))
+  other j taken n = elim cut.free [
+    | inl kept ↦ cut.others j (λ e. n (e ∙ kept.0)) (λ e. kept.1 (subst (IsTaken old) e taken))
+    | inr kept ↦ cut.others j (λ e. kept.1 (subst (IsTaken old) e taken)) (λ e. n (e ∙ kept.0))
+  ]
 
   upright : (j : ℕ) (x h : ℤ) → Owns old j (square_at x h) → Owns old j (square_at x (h +ℤ pos 1)) → (h +ℤ pos 1 ≡ y → ⊥)
       → (k : ℕ) × Owns new k (square_at x h) × Owns new k (square_at x (h +ℤ pos 1))
@@ -95,9 +98,9 @@ module _ (old new : Tiles) (id upper : ℕ) (y : ℤ) (from : (tile_at old id).a
         let d = (subst (λ (v : ℕ). Owns old v (square_at x (h +ℤ pos 1))) e q).covers in
         by_lt_z (h +ℤ pos 1) y
         (λ less. (
-          id,
-          area_owns new id _ (square_at x h) cut.low (record { right_of_xlo = c.right_of_xlo; left_of_xhi = c.left_of_xhi; above_ylo = c.above_ylo; below_yhi = omega (arith, ints) }),
-          area_owns new id _ (square_at x (h +ℤ pos 1)) cut.low (record { right_of_xlo = d.right_of_xlo; left_of_xhi = d.left_of_xhi; above_ylo = d.above_ylo; below_yhi = less }),
+          lower,
+          area_owns new lower _ (square_at x h) cut.low (record { right_of_xlo = c.right_of_xlo; left_of_xhi = c.left_of_xhi; above_ylo = c.above_ylo; below_yhi = omega (arith, ints) }),
+          area_owns new lower _ (square_at x (h +ℤ pos 1)) cut.low (record { right_of_xlo = d.right_of_xlo; left_of_xhi = d.left_of_xhi; above_ylo = d.above_ylo; below_yhi = less }),
         ))
         (λ more. by_lt_z y (h +ℤ pos 1)
         (λ past. (
@@ -125,7 +128,7 @@ cut_from old new id part y to is = elim is [
     area = ap (λ (t : Tiles). (tile_at t part).area) whole.2 ∙ ap (λ (k : ℕ). (tile_at old k).area) whole.1 ∙ ap (λ (v : ℤ). record (tile_at old id).area { ylo = v }) whole.0;
     value = ap (λ (t : Tiles). (tile_at t part).value) whole.2 ∙ ap (λ (k : ℕ). (tile_at old k).value) whole.1;
   }
-  | inr some ↦ record { cut = cut_one old new id part y some.0 to some.1; area = some.1.high; value = some.1.high_value }
+  | inr some ↦ record { cut = cut_one old new id some.0 part y some.1 to some.2; area = some.2.high; value = some.2.high_value }
 ]
 
 -- A tile is cut below and above: what is left is some of its rows.

@@ -94,13 +94,15 @@ module _ (tiles others : Tiles) (areas : HaveSameAreas tiles others) where
       along = λ k c low high owns. let its = owns_back k _ owns in stitch_moves Below k (same k c low high its) (side.along k c low high its);
     }
 
-    lower_moves : IsLowerSide tiles area first id → ((k : ℕ) → (tile_at others k).right ≡ (tile_at tiles k).right) → IsLowerSide others area first id
+    lower_moves : IsLowerSide tiles area first id
+        → ((k : ℕ) (c : ℤ) → area.xlo ≤ℤ c → c <ℤ area.xhi → Owns tiles k (square_at c (area.ylo -ℤ pos 1)) → (tile_at others k).right ≡ (tile_at tiles k).right)
+        → IsLowerSide others area first id
     lower_moves side same = record {
       proper = side.proper;
       within = within_moves side.within;
       edge = ap (λ (r : Rect). r.ylo) (areas id) ∙ side.edge;
       leads = leads_moves first _ side.leads;
-      along = λ k c low high owns. stitch_moves Right k (same k) (side.along k c low high (owns_back k _ owns));
+      along = λ k c low high owns. let its = owns_back k _ owns in stitch_moves Right k (same k c low high its) (side.along k c low high its);
     }
 
     left_moves : IsLeftSide tiles area first id → ((k : ℕ) → (tile_at others k).above ≡ (tile_at tiles k).above) → IsLeftSide others area first id
@@ -134,13 +136,28 @@ right_apart tiles area first id k c partition side low high owns covers =
     let both = strangers tiles k id (square_at (area.xhi -ℤ pos 1) c) (square_at area.xhi c) partition (omega (arith, ints)) (omega (arith, ints)) owns in
     omega (arith, ints)
 
+-- a tile beside the lower side has no stitch to the right that leads into it
+lower_apart : (tiles : Tiles) (area : Rect) (first id k : ℕ) (c : ℤ) → IsPartition tiles → IsLowerSide tiles area first id → area.xlo ≤ℤ c → c <ℤ area.xhi
+    → Owns tiles k (square_at c (area.ylo -ℤ pos 1)) → Covers area (square_right (tile_at tiles k)) → ⊥
+lower_apart tiles area first id k c partition side low high owns covers =
+    let within = side.within in
+    let proper = side.proper in
+    let edge = side.edge in
+    let at = owns.covers in
+    let both = strangers tiles k id (square_at c area.ylo) (square_at c (area.ylo -ℤ pos 1)) partition (omega (arith, ints)) (omega (arith, ints)) owns in
+    omega (arith, ints)
+
 -- the left side, once the stitches from above are mended
 pub left_after_above : (area : Rect) (first id : ℕ) (one two : Tiles) → LeadTo Below area id one two → IsLeftSide one area first id → IsLeftSide two area first id
 left_after_above area first id one two down side = left_moves one two (same_areas Below area id one two down) area first id side (λ k. ap (λ (t : Tile). t.above) (down.rest k))
 
 -- the lower side, once the stitches from the right are mended
 pub below_after_right : (area : Rect) (first id : ℕ) (one two : Tiles) → LeadTo Left area id one two → IsLowerSide one area first id → IsLowerSide two area first id
-below_after_right area first id one two left side = lower_moves one two (same_areas Left area id one two left) area first id side (λ k. ap (λ (t : Tile). t.right) (left.rest k))
+below_after_right area first id one two left side = lower_moves one two (same_areas Left area id one two left) area first id side (λ k c low high owns. ap (λ (t : Tile). t.right) (left.rest k))
+
+-- the upper side, once the stitches from the left are mended
+pub above_after_left : (area : Rect) (first id : ℕ) (one two : Tiles) → LeadTo Right area id one two → IsUpperSide one area first id → IsUpperSide two area first id
+above_after_left area first id one two right side = upper_moves one two (same_areas Right area id one two right) area first id side (λ k c low high owns. ap (λ (t : Tile). t.left) (right.rest k))
 
 -- the upper end of a tile: first the stitches from above are mended, then those from the left, then those from the right
 module _ (area : Rect) (id : ℕ) (one two three : Tiles) (down : LeadTo Below area id one two) (right : LeadTo Right area id two three) where
@@ -215,3 +232,40 @@ module _ (area : Rect) (id : ℕ) (one two three : Tiles) (left : LeadTo Left ar
     outside Below k off =
         down.outside k (λ covers. off (covers_back one three areas_two Below area k covers)) ∙ ap (λ (t : Tile). t.below) (up.rest k) ∙ ap (λ (t : Tile). t.below) (left.rest k)
     outside Left k off = ap (λ (t : Tile). t.left) (down.rest k) ∙ ap (λ (t : Tile). t.left) (up.rest k) ∙ left.outside k off
+
+-- the left end: first the stitches from the left, then those from above, then those from below
+module _ (area : Rect) (id : ℕ) (one two three : Tiles) (right : LeadTo Right area id one two) (down : LeadTo Below area id two three) where
+  areas_left : HaveSameAreas one three
+  areas_left k = same_areas Below area id two three down k ∙ same_areas Right area id one two right k
+
+  pub below_after_above : (first : ℕ) → IsPartition one → IsLowerSide one area first id → IsLowerSide three area first id
+  below_after_above first partition side = lower_moves one three areas_left area first id side (λ k c low high owns.
+      ap (λ (t : Tile). t.right) (down.rest k) ∙ right.outside k (lower_apart one area first id k c partition side low high owns))
+
+  pub redirected_left : (four : Tiles) → LeadTo Above area id three four → ((k : ℕ) → IsTaken one k → Covers area (square_left (tile_at one k)) → (tile_at one k).left ≡ id)
+      → AreRedirected area id one four
+  redirected_left four up left = record {
+    alike = λ k. record {
+      area = same_areas Above area id three four up k ∙ areas_left k;
+      value = same_values Above area id three four up k ∙ same_values Below area id two three down k ∙ same_values Right area id one two right k;
+    };
+    inside = inside;
+    outside = outside;
+  } where
+    mid : HaveSameAreas one two
+    mid = same_areas Right area id one two right
+
+    inside : (side : Side) (k : ℕ) → IsTaken one k → Covers area (square_of side (tile_at one k)) → stitch_of side (tile_at four k) ≡ id
+    inside Above k taken covers = up.inside k (taken_moves one three areas_left k taken) (covers_moves one three areas_left Above area k covers)
+    inside Right k taken covers = ap (λ (t : Tile). t.right) (up.rest k) ∙ ap (λ (t : Tile). t.right) (down.rest k) ∙ right.inside k taken covers
+    inside Below k taken covers =
+        ap (λ (t : Tile). t.below) (up.rest k) ∙ down.inside k (taken_moves one two mid k taken) (covers_moves one two mid Below area k covers)
+    inside Left k taken covers = ap (λ (t : Tile). t.left) (up.rest k) ∙ ap (λ (t : Tile). t.left) (down.rest k) ∙ ap (λ (t : Tile). t.left) (right.rest k) ∙ left k taken covers
+
+    outside : (side : Side) (k : ℕ) → (Covers area (square_of side (tile_at one k)) → ⊥) → stitch_of side (tile_at four k) ≡ stitch_of side (tile_at one k)
+    outside Above k off =
+        up.outside k (λ covers. off (covers_back one three areas_left Above area k covers)) ∙ ap (λ (t : Tile). t.above) (down.rest k) ∙ ap (λ (t : Tile). t.above) (right.rest k)
+    outside Right k off = ap (λ (t : Tile). t.right) (up.rest k) ∙ ap (λ (t : Tile). t.right) (down.rest k) ∙ right.outside k off
+    outside Below k off =
+        ap (λ (t : Tile). t.below) (up.rest k) ∙ down.outside k (λ covers. off (covers_back one two mid Below area k covers)) ∙ ap (λ (t : Tile). t.below) (right.rest k)
+    outside Left k off = ap (λ (t : Tile). t.left) (up.rest k) ∙ ap (λ (t : Tile). t.left) (down.rest k) ∙ ap (λ (t : Tile). t.left) (right.rest k)

@@ -37,16 +37,19 @@ begun_after_cuts old new y from to cut at = record {
 }
 
 -- the tile of this number is cut at the height h
-module _ (old new : Tiles) (id upper : ℕ) (h : ℤ) (from : (tile_at old id).area.ylo <ℤ h) (to : h <ℤ (tile_at old id).area.yhi)
-    (cut : IsCutAcross id upper h old new) where
-  lower_owns : (s : Square) → Owns old id s → s.y <ℤ h → Owns new id s
+module _ (old new : Tiles) (id lower upper : ℕ) (h : ℤ) (from : (tile_at old id).area.ylo <ℤ h) (to : h <ℤ (tile_at old id).area.yhi)
+    (cut : IsCutAcross id lower upper h old new) where
+  lower_owns : (s : Square) → Owns old id s → s.y <ℤ h → Owns new lower s
   lower_owns s owns under = record { covers = subst (λ (r : Rect). Covers r s) (sym cut.low) (let c = owns.covers in omega (arith, ints)) }
 
   upper_owns : (s : Square) → Owns old id s → h ≤ℤ s.y → Owns new upper s
   upper_owns s owns over = record { covers = subst (λ (r : Rect). Covers r s) (sym cut.high) (let c = owns.covers in omega (arith, ints)) }
 
   other_alike : (k : ℕ) → IsTaken old k → k ≢ id → AreAlike (tile_at old k) (tile_at new k)
-  other_alike k taken apart = cut.others k apart (λ e. cut.free (subst (IsTaken old) e taken))
+  other_alike k taken apart = elim cut.free [
+    | inl kept ↦ cut.others k (λ e. apart (e ∙ kept.0)) (λ e. kept.1 (subst (IsTaken old) e taken))
+    | inr kept ↦ cut.others k (λ e. kept.1 (subst (IsTaken old) e taken)) (λ e. apart (e ∙ kept.0))
+  ]
 
   other_owns : (k : ℕ) (s : Square) → Owns old k s → k ≢ id → Owns new k s
   other_owns k s owns apart = record { covers = subst (λ (r : Rect). Covers r s) (sym (other_alike k (owner_taken old k s owns) apart).area) owns.covers }
@@ -62,7 +65,7 @@ module _ (old new : Tiles) (id upper : ℕ) (h : ℤ) (from : (tile_at old id).a
           let low = ap (λ (r : Rect). r.ylo) area in
           let high = ap (λ (r : Rect). r.yhi) area in
           (id, omega (arith, ints), ap (λ (v : ℕ). (tile_at new v).value) e ∙ cut.high_value, left, right, omega (arith, ints)))
-      | inr n ↦ elim (cases_eq k id) [
+      | inr n ↦ elim (cases_eq k lower) [
         | inl e ↦ (
             let c = subst (λ (r : Rect). Covers r s) cut.low (subst (λ (v : ℕ). Owns new v s) e owns).covers in
             let area = ap (λ (v : ℕ). (tile_at new v).area) e ∙ cut.low in
@@ -84,7 +87,7 @@ module _ (old new : Tiles) (id upper : ℕ) (h : ℤ) (from : (tile_at old id).a
       | inl e ↦ (
           let here = subst (λ (v : ℕ). Owns old v (square_at x y)) e p in
           let there = subst (λ (v : ℕ). Owns old v (square_at away y)) e q in
-          by_lt_z y h (λ less. (id, lower_owns _ here less, lower_owns _ there less)) (λ more. (upper, upper_owns _ here more, upper_owns _ there more)))
+          by_lt_z y h (λ less. (lower, lower_owns _ here less, lower_owns _ there less)) (λ more. (upper, upper_owns _ here more, upper_owns _ there more)))
       | inr n ↦ (j, other_owns j _ p n, other_owns j _ q n)
     ];
   }
@@ -94,7 +97,10 @@ module _ (old new : Tiles) (id upper : ℕ) (h : ℤ) (from : (tile_at old id).a
   still_taken k taken = elim (cases_eq k id) [
     | inl e ↦ (
         let was = (subst (IsTaken old) e taken).proper in
-        subst (IsTaken new) (sym e) (record { proper = subst IsProper (sym cut.low) (record { wide = was.wide; high = from }) }))
+        elim cut.free [
+          | inl kept ↦ subst (IsTaken new) (kept.0 ∙ sym e) (record { proper = subst IsProper (sym cut.low) (record { wide = was.wide; high = from }) })
+          | inr kept ↦ subst (IsTaken new) (kept.0 ∙ sym e) (record { proper = subst IsProper (sym cut.high) (record { wide = was.wide; high = to }) })
+        ])
     | inr n ↦ record { proper = subst IsProper (sym (other_alike k taken n).area) taken.proper }
   ]
 
@@ -106,7 +112,7 @@ module _ (old new : Tiles) (id upper : ℕ) (h : ℤ) (from : (tile_at old id).a
         let here = subst (λ (v : ℕ). Owns old v (square_at x y)) e p in
         let above = subst (λ (v : ℕ). Owns old v (square_at x (y +ℤ pos 1))) e q in
         by_lt_z y h
-        (λ less. (id, lower_owns _ here less, lower_owns _ above (omega (arith, ints))))
+        (λ less. (lower, lower_owns _ here less, lower_owns _ above (omega (arith, ints))))
         (λ more. (upper, upper_owns _ here more, upper_owns _ above (omega (arith, ints)))))
     | inr n ↦ (j, other_owns j _ p n, other_owns j _ q n)
   ]
@@ -157,23 +163,25 @@ module _ (area : Rect) (y x : ℤ) (old mid new : Tiles) (id part : ℕ) (before
     begins = ap (λ (t : Tiles). (tile_at t part).area.ylo) whole.2 ∙ ap (λ (v : ℕ). (tile_at mid v).area.ylo) whole.1 ∙ whole.0;
   }
   part_step (inr split) =
-      let under = split.0 in
+      let lower = split.0 in
+      let under = split.1 in
+      let cut = split.2 in
       let over = owns.covers.below_yhi in
       record {
-        cut = cut_once mid new id part y under over split.1;
+        cut = cut_once mid new id lower part y under over cut;
         nothing_else = record {
           others = λ k taken none.
               let was = before.others k taken none in
               let mid_taken : IsTaken mid k = record { proper = subst IsProper (sym was.area) taken.proper } in
-              let is = other_alike mid new id part y under over split.1 k mid_taken (λ e. none (crossed k was e under)) in
+              let is = other_alike mid new id lower part y under over cut k mid_taken (λ e. none (crossed k was e under)) in
               record { area = is.area ∙ was.area; value = is.value ∙ was.value };
-          stays = λ k taken. still_taken mid new id part y under over split.1 k (before.stays k taken);
+          stays = λ k taken. still_taken mid new id lower part y under over cut k (before.stays k taken);
           columns = λ j c h off p q.
               let was = before.columns j c h off p q in
-              cut_nowhere_else mid new id part y under over split.1 was.0 c h off was.1 was.2;
+              cut_nowhere_else mid new id lower part y under over cut was.0 c h off was.1 was.2;
         };
-        owns = upper_owns mid new id part y under over split.1 (square_at x y) owns (omega (arith, ints));
-        begins = ap (λ (r : Rect). r.ylo) split.1.high;
+        owns = upper_owns mid new id lower part y under over cut (square_at x y) owns (omega (arith, ints));
+        begins = ap (λ (r : Rect). r.ylo) cut.high;
       }
 
 -- up to the end of a tile that begins with the row

@@ -10,9 +10,9 @@ use Rattle.tile_plane.specs.declared.tiles.Tile.{Tile}
 use Rattle.tile_plane.specs.Tiles.{Tiles, tile_at, IsTaken, Owns, Leads, IsPartition, HasStitches, IsPut, value_at}
 use Rattle.tile_plane.specs.Walks.{square_at}
 use Rattle.tile_plane.specs.Cuts.{AreAlike, IsHandedOver, IsCutAcross, IsCutAlong}
-use Rattle.tile_plane.specs.Mends.{Above, Right, Below, Left, AreRedirected, IsUpperEnd, IsRightEnd}
+use Rattle.tile_plane.specs.Mends.{Above, Right, Below, Left, AreRedirected, IsUpperEnd, IsRightEnd, IsLeftEnd}
 use Rattle.tile_plane.proofs.TileLaws.{owner_taken}
-use Rattle.tile_plane.proofs.GivenLaws.{LeadsElsewhere, own_stitches, IsGiven, given_partition, upper_side, right_side, lower_side, left_side, up_into, right_into, last_partition, last_stitches, last_values}
+use Rattle.tile_plane.proofs.GivenLaws.{LeadsElsewhere, own_stitches, IsGiven, given_partition, upper_side, right_side, lower_side, left_side, up_into, right_into, left_into, last_partition, last_stitches, last_values}
 
 -- the tile of the first number has the rest now, and the second, which had no tile, the part
 pub record IsSplit (old new : Tiles) (id other : ℕ) (rest part : Tile) : Type 0 where
@@ -212,9 +212,9 @@ module _ {old mid new : Tiles} {id upper right left : ℕ} {y before : ℤ} {til
     pub across_same : AreSame (value_at old) (value_at last)
     across_same = split_values cut.partition across_split across_given across_redirected refl refl
 
-    pub across_cut : IsCutAcross id upper y old last
+    pub across_cut : IsCutAcross id id upper y old last
     across_cut = record {
-      free = cut.free;
+      free = inl (refl, cut.free);
       low = (across_redirected.alike id).area ∙ ap (λ (t : Tile). t.area) across_split.here;
       high = (across_redirected.alike upper).area ∙ ap (λ (t : Tile). t.area) across_split.there;
       low_value = (across_redirected.alike id).value ∙ ap (λ (t : Tile). t.value) across_split.here;
@@ -307,12 +307,102 @@ module _ {old mid new : Tiles} {id right above below : ℕ} {x before : ℤ} {ti
     pub along_same : AreSame (value_at old) (value_at last)
     along_same = split_values cut.partition along_split along_given along_redirected refl refl
 
-    pub along_cut : IsCutAlong id right x old last
+    pub along_cut : IsCutAlong id id right x old last
     along_cut = record {
-      free = cut.free;
+      free = inl (refl, cut.free);
       low = (along_redirected.alike id).area ∙ ap (λ (t : Tile). t.area) along_split.here;
       high = (along_redirected.alike right).area ∙ ap (λ (t : Tile). t.area) along_split.there;
       low_value = (along_redirected.alike id).value ∙ ap (λ (t : Tile). t.value) along_split.here;
       high_value = (along_redirected.alike right).value ∙ ap (λ (t : Tile). t.value) along_split.there;
       others = split_others cut.partition along_split along_given along_redirected;
+    }
+
+-- It is cut at x in the same way, but what was cut off is the left part.
+pub record IsCutOffLeft (old mid new : Tiles) (id left above below : ℕ) (x before : ℤ) (tile part rest : Tile) : Type 0 where
+  pub partition : IsPartition old
+  pub stitches : HasStitches old
+  pub taken : IsTaken old id
+  pub from : (tile_at old id).area.xlo <ℤ x
+  pub to : x <ℤ (tile_at old id).area.xhi
+  pub is : tile ≡ tile_at old id
+  pub is_part : part ≡ left_part tile x id above
+  pub is_rest : rest ≡ right_part tile x left below
+  pub free : IsTaken old left → ⊥
+  pub put_part : IsPut left part old mid
+  pub put_rest : IsPut id rest mid new
+  pub just_before : before ≡ x -ℤ pos 1
+  pub above_leads : Leads old above (square_at before (tile_at old id).area.yhi)
+  pub below_leads : Leads old below (square_at x ((tile_at old id).area.ylo -ℤ pos 1))
+
+module _ {old mid new : Tiles} {id left above below : ℕ} {x before : ℤ} {tile part rest : Tile} (cut : IsCutOffLeft old mid new id left above below x before tile part rest) where
+  off_part_is : part ≡ left_part (tile_at old id) x id above
+  off_part_is = cut.is_part ∙ ap (λ (t : Tile). left_part t x id above) cut.is
+
+  off_rest_is : rest ≡ right_part (tile_at old id) x left below
+  off_rest_is = cut.is_rest ∙ ap (λ (t : Tile). right_part t x left below) cut.is
+
+  off_split : IsSplit old new id left (right_part (tile_at old id) x left below) (left_part (tile_at old id) x id above)
+  off_split = let from = cut.from in let to = cut.to in
+      split_by_puts cut.taken cut.free (subst (λ (t : Tile). IsPut left t old mid) off_part_is cut.put_part)
+      (subst (λ (t : Tile). IsPut id t mid new) off_rest_is cut.put_rest)
+      (λ s covers off. by_lt_z s.x x (λ under. absurd (off (omega (arith, ints)))) (λ over. omega (arith, ints)))
+      (λ s covers. omega (arith, ints)) (λ s covers. omega (arith, ints)) (λ s p q. omega (arith, ints))
+
+  off_above : Leads old above (square_at (x -ℤ pos 1) (tile_at old id).area.yhi)
+  off_above = subst (λ (z : ℤ). Leads old above (square_at z (tile_at old id).area.yhi)) cut.just_before cut.above_leads
+
+  off_given : IsGiven (left_part (tile_at old id) x id above).area left old new
+  off_given = split_given cut.partition off_split cut.stitches
+      (let proper = cut.taken.proper in let from = cut.from in omega (arith, ints)) rest_leads part_leads
+    where
+      rest_leads : LeadsElsewhere (left_part (tile_at old id) x id above).area old (right_part (tile_at old id) x left below)
+      rest_leads Above off = cut.stitches.above id cut.taken
+      rest_leads Right off = cut.stitches.right id cut.taken
+      rest_leads Below off = cut.below_leads
+      rest_leads Left off = let proper = cut.taken.proper in let from = cut.from in let to = cut.to in absurd (off (omega (arith, ints)))
+
+      part_leads : LeadsElsewhere (left_part (tile_at old id) x id above).area old (left_part (tile_at old id) x id above)
+      part_leads Above off = off_above
+      part_leads Right off = λ inside. let proper = cut.taken.proper in let from = cut.from in let to = cut.to in omega (arith, ints)
+      part_leads Below off = cut.stitches.below id cut.taken
+      part_leads Left off = cut.stitches.left id cut.taken
+
+  pub off_new_partition : IsPartition new
+  off_new_partition = given_partition cut.partition off_given
+
+  -- what was cut off is the end that goes to the new number
+  pub off_end : IsLeftEnd new part left
+  off_end = subst (λ (t : Tile). IsLeftEnd new t left) (sym off_part_is) (record {
+    left = left_side cut.partition off_given _ (ap (λ (t : Tile). t.area.xlo) off_split.there) (cut.stitches.left id cut.taken);
+    above = upper_side cut.partition off_given _ (ap (λ (t : Tile). t.area.yhi) off_split.there) off_above;
+    below = lower_side cut.partition off_given _ (ap (λ (t : Tile). t.area.ylo) off_split.there) (cut.stitches.below id cut.taken);
+    right = λ k its covers. left_into cut.partition off_given k (ap (λ (t : Tile). t.area.xlo) off_split.there) its covers (λ w low high owns.
+        let rest_owns : Owns new id (square_at x w) = (
+        let from = cut.from in let to = cut.to in
+        record { covers = subst (λ (t : Tile). Covers t.area (square_at x w)) (sym off_split.here) (omega (arith, ints)) }) in
+        ap (λ (v : ℕ). (tile_at new v).left) (off_new_partition.one k id _ owns rest_owns) ∙ ap (λ (t : Tile). t.left) off_split.here);
+  })
+
+  -- once all stitches into it are redirected
+  module _ {last : Tiles} (all : AreRedirected part.area left new last) where
+    off_redirected : AreRedirected (left_part (tile_at old id) x id above).area left new last
+    off_redirected = subst (λ (t : Tile). AreRedirected t.area left new last) off_part_is all
+
+    pub off_partition : IsPartition last
+    off_partition = split_partition cut.partition off_split off_given off_redirected
+
+    pub off_stitches : HasStitches last
+    off_stitches = split_stitches cut.partition off_split off_given off_redirected
+
+    pub off_same : AreSame (value_at old) (value_at last)
+    off_same = split_values cut.partition off_split off_given off_redirected refl refl
+
+    pub off_cut : IsCutAlong id left id x old last
+    off_cut = record {
+      free = inr (refl, cut.free);
+      low = (off_redirected.alike left).area ∙ ap (λ (t : Tile). t.area) off_split.there;
+      high = (off_redirected.alike id).area ∙ ap (λ (t : Tile). t.area) off_split.here;
+      low_value = (off_redirected.alike left).value ∙ ap (λ (t : Tile). t.value) off_split.there;
+      high_value = (off_redirected.alike id).value ∙ ap (λ (t : Tile). t.value) off_split.here;
+      others = λ k n m. split_others cut.partition off_split off_given off_redirected k m n;
     }

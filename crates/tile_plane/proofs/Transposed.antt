@@ -104,14 +104,18 @@ module _ (old new : Tiles) where
   pub part_over : (id part : ℕ) (x : ℤ) → IsPartAfter id part x old new → IsPartFrom id part x (transposed old) (transposed new)
   part_over id part x (inl whole) = inl (ap (λ (r : Rect). r.ylo) (area_is old id) ∙ whole.0, whole.1, ap transposed whole.2)
   part_over id part x (inr split) = inr (
-    subst (λ (z : ℤ). z <ℤ x) (sym (ap (λ (r : Rect). r.ylo) (area_is old id))) split.0,
+    split.0,
+    subst (λ (z : ℤ). z <ℤ x) (sym (ap (λ (r : Rect). r.ylo) (area_is old id))) split.1,
     record {
-      free = λ taken. split.1.free (taken_back old part taken);
-      low = area_is new id ∙ ap swap_rect split.1.low ∙ ap (λ (r : Rect). record r { yhi = x }) (sym (area_is old id));
-      high = area_is new part ∙ ap swap_rect split.1.high ∙ ap (λ (r : Rect). record r { ylo = x }) (sym (area_is old id));
-      low_value = value_is new id ∙ split.1.low_value ∙ sym (value_is old id);
-      high_value = value_is new part ∙ split.1.high_value ∙ sym (value_is old id);
-      others = λ k n m. let alike = split.1.others k n m in record {
+      free = elim split.2.free [
+        | inl kept ↦ inl (kept.0, λ taken. kept.1 (taken_back old part taken))
+        | inr kept ↦ inr (kept.0, λ taken. kept.1 (taken_back old split.0 taken))
+      ];
+      low = area_is new split.0 ∙ ap swap_rect split.2.low ∙ ap (λ (r : Rect). record r { yhi = x }) (sym (area_is old id));
+      high = area_is new part ∙ ap swap_rect split.2.high ∙ ap (λ (r : Rect). record r { ylo = x }) (sym (area_is old id));
+      low_value = value_is new split.0 ∙ split.2.low_value ∙ sym (value_is old id);
+      high_value = value_is new part ∙ split.2.high_value ∙ sym (value_is old id);
+      others = λ k n m. let alike = split.2.others k n m in record {
         area = area_is new k ∙ ap swap_rect alike.area ∙ sym (area_is old k);
         value = value_is new k ∙ alike.value ∙ sym (value_is old k);
       };

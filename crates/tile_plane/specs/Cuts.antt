@@ -18,31 +18,38 @@ pub record AreAlike (old new : Tile) : Type 0 where
   pub area : new.area ≡ old.area
   pub value : new.value ≡ old.value
 
--- The tile of the first number is cut at y: it keeps the part below, and the second number, which had no tile, has the part above.
-pub record IsCutAcross (id upper : ℕ) (y : ℤ) (old new : Tiles) : Type 0 where
-  pub free : IsTaken old upper → ⊥
-  pub low : (tile_at new id).area ≡ record (tile_at old id).area { yhi = y }
-  pub high : (tile_at new upper).area ≡ record (tile_at old id).area { ylo = y }
-  pub low_value : (tile_at new id).value ≡ (tile_at old id).value
-  pub high_value : (tile_at new upper).value ≡ (tile_at old id).value
-  pub others : (k : ℕ) → k ≢ id → k ≢ upper → AreAlike (tile_at old k) (tile_at new k)
+-- Of two numbers one is that of a tile, and the other has no tile.
+abbrev pub OneIsFree : ℕ → ℕ → ℕ → Tiles → Type 0
+OneIsFree id a b tiles = ((a ≡ id) × (IsTaken tiles b → ⊥)) ⊎ ((b ≡ id) × (IsTaken tiles a → ⊥))
 
--- It is cut at x: it keeps the left part, and the second number has the right one.
-pub record IsCutAlong (id right : ℕ) (x : ℤ) (old new : Tiles) : Type 0 where
-  pub free : IsTaken old right → ⊥
-  pub low : (tile_at new id).area ≡ record (tile_at old id).area { xhi = x }
+-- The tile of the first number is cut at y: the second has the part below and the third the one above. One of them is the first, and the
+-- other had no tile.
+pub record IsCutAcross (id lower upper : ℕ) (y : ℤ) (old new : Tiles) : Type 0 where
+  pub free : OneIsFree id lower upper old
+  pub low : (tile_at new lower).area ≡ record (tile_at old id).area { yhi = y }
+  pub high : (tile_at new upper).area ≡ record (tile_at old id).area { ylo = y }
+  pub low_value : (tile_at new lower).value ≡ (tile_at old id).value
+  pub high_value : (tile_at new upper).value ≡ (tile_at old id).value
+  pub others : (k : ℕ) → k ≢ lower → k ≢ upper → AreAlike (tile_at old k) (tile_at new k)
+
+-- It is cut at x: the second number has the left part, and the third the right one.
+pub record IsCutAlong (id left right : ℕ) (x : ℤ) (old new : Tiles) : Type 0 where
+  pub free : OneIsFree id left right old
+  pub low : (tile_at new left).area ≡ record (tile_at old id).area { xhi = x }
   pub high : (tile_at new right).area ≡ record (tile_at old id).area { xlo = x }
-  pub low_value : (tile_at new id).value ≡ (tile_at old id).value
+  pub low_value : (tile_at new left).value ≡ (tile_at old id).value
   pub high_value : (tile_at new right).value ≡ (tile_at old id).value
-  pub others : (k : ℕ) → k ≢ id → k ≢ right → AreAlike (tile_at old k) (tile_at new k)
+  pub others : (k : ℕ) → k ≢ left → k ≢ right → AreAlike (tile_at old k) (tile_at new k)
 
 -- The second number has the part of the first tile from y on: it is the tile itself where this begins there, and else what was cut off.
 abbrev pub IsPartFrom : ℕ → ℕ → ℤ → Tiles → Tiles → Type 0
-IsPartFrom id part y old new = (((tile_at old id).area.ylo ≡ y) × (part ≡ id) × (new ≡ old)) ⊎ (((tile_at old id).area.ylo <ℤ y) × IsCutAcross id part y old new)
+IsPartFrom id part y old new = (((tile_at old id).area.ylo ≡ y) × (part ≡ id) × (new ≡ old))
+    ⊎ ((lower : ℕ) × ((tile_at old id).area.ylo <ℤ y) × IsCutAcross id lower part y old new)
 
 -- It has the part from x on.
 abbrev pub IsPartAfter : ℕ → ℕ → ℤ → Tiles → Tiles → Type 0
-IsPartAfter id part x old new = (((tile_at old id).area.xlo ≡ x) × (part ≡ id) × (new ≡ old)) ⊎ (((tile_at old id).area.xlo <ℤ x) × IsCutAlong id part x old new)
+IsPartAfter id part x old new = (((tile_at old id).area.xlo ≡ x) × (part ≡ id) × (new ≡ old))
+    ⊎ ((left : ℕ) × ((tile_at old id).area.xlo <ℤ x) × IsCutAlong id left part x old new)
 
 -- The second tile, which stands upon the first in the same columns, is joined to it.
 pub record IsJoinedUp (lower upper : ℕ) (old new : Tiles) : Type 0 where

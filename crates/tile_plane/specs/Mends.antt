@@ -99,3 +99,10 @@ pub record IsRightEnd (tiles : Tiles) (end : Tile) (id : ℕ) : Type 0 where
   pub below : IsLowerSide tiles end.area end.below id
   pub above : IsUpperSide tiles end.area end.above id
   pub left : (k : ℕ) → IsTaken tiles k → Covers end.area (square_right (tile_at tiles k)) → (tile_at tiles k).right ≡ id
+
+-- The same of the left end: those from the right lead to that tile.
+pub record IsLeftEnd (tiles : Tiles) (end : Tile) (id : ℕ) : Type 0 where
+  pub left : IsLeftSide tiles end.area end.left id
+  pub above : IsUpperSide tiles end.area end.above id
+  pub below : IsLowerSide tiles end.area end.below id
+  pub right : (k : ℕ) → IsTaken tiles k → Covers end.area (square_left (tile_at tiles k)) → (tile_at tiles k).left ≡ id

@@ -6,7 +6,7 @@ ghost use Rattle.tile_plane.specs.Tiles.{tile_at, IsTaken, IsPartition, HasStitc
 ghost use Rattle.tile_plane.specs.Cuts.{IsCutAcross, IsCutAlong, IsPartFrom, IsPartAfter};
 ghost use Rattle.tile_plane.specs.Tall.{AreCut, AreCutAt, NothingElseIsCut, AreCutAlong, AreCutAlongAt, NothingElseIsCutAlong};
 
-use crate::mends::{mend_right_end, mend_upper_end};
+use crate::mends::{mend_left_end, mend_right_end, mend_upper_end};
 use crate::stores::Store;
 use crate::tiles::Tile;
 use crate::walks::{above_at, below_at, find, left_at, right_at};
@@ -23,7 +23,7 @@ pub fn split_across(store: &mut Store, id: u32, y: i64) -> Result<u32, ArenaFaul
     ensures partition { OnOk result (IsPartition store.new) }
     ensures stitches { OnOk result (HasStitches store.new) }
     ensures same { OnOk result (AreSame (value_at store.old) (value_at store.new)) }
-    ensures cut { IfOk result (λ upper. IsCutAcross id upper y store.old store.new) }
+    ensures cut { IfOk result (λ upper. IsCutAcross id id upper y store.old store.new) }
     ensures refused { OnErr result (store.new ≡ store.old) }
 {
     let tile = store.get(id);
@@ -47,7 +47,7 @@ pub fn split_along(store: &mut Store, id: u32, x: i64) -> Result<u32, ArenaFault
     ensures partition { OnOk result (IsPartition store.new) }
     ensures stitches { OnOk result (HasStitches store.new) }
     ensures same { OnOk result (AreSame (value_at store.old) (value_at store.new)) }
-    ensures cut { IfOk result (λ right. IsCutAlong id right x store.old store.new) }
+    ensures cut { IfOk result (λ right. IsCutAlong id id right x store.old store.new) }
     ensures refused { OnErr result (store.new ≡ store.old) }
 {
     let tile = store.get(id);
@@ -59,6 +59,30 @@ pub fn split_along(store: &mut Store, id: u32, x: i64) -> Result<u32, ArenaFault
     store.put(id, rest);
     mend_right_end(store, &part, right);
     Ok(right)
+}
+
+/// Cuts a tile at x. It keeps the right part, and the left one is new.
+pub fn split_off_left(store: &mut Store, id: u32, x: i64) -> Result<u32, ArenaFault>
+    requires partition { IsPartition store.old }
+    requires stitches { HasStitches store.old }
+    requires taken { IsTaken store.old id }
+    requires from { (tile_at store.old id).area.xlo <ℤ x }
+    requires to { x <ℤ (tile_at store.old id).area.xhi }
+    ensures partition { OnOk result (IsPartition store.new) }
+    ensures stitches { OnOk result (HasStitches store.new) }
+    ensures same { OnOk result (AreSame (value_at store.old) (value_at store.new)) }
+    ensures cut { IfOk result (λ left. IsCutAlong id left id x store.old store.new) }
+    ensures refused { OnErr result (store.new ≡ store.old) }
+{
+    let tile = store.get(id);
+    let below = below_at(store, id, x);
+    let above = above_at(store, id, x - 1);
+    let part = left_part(&tile, x, id, above);
+    let left = store.insert(part)?;
+    let rest = right_part(&tile, x, left, below);
+    store.put(id, rest);
+    mend_left_end(store, &part, left);
+    Ok(left)
 }
 
 /// The part of a tile from y on, with these stitches where it is cut.
@@ -140,7 +164,8 @@ pub fn part_from(store: &mut Store, id: u32, y: i64) -> Result<u32, ArenaFault>
     Ok(id)
 }
 
-/// The part of a tile from x on, cut out of it where it begins before.
+/// The part of a tile from x on, cut out of it where it begins before. Of the two parts the narrower one is new, so a stitch that is
+/// mended leads to a tile at most half as wide as before.
 pub fn part_after(store: &mut Store, id: u32, x: i64) -> Result<u32, ArenaFault>
     requires partition { IsPartition store.old }
     requires stitches { HasStitches store.old }
@@ -152,11 +177,18 @@ pub fn part_after(store: &mut Store, id: u32, x: i64) -> Result<u32, ArenaFault>
     ensures same { OnOk result (AreSame (value_at store.old) (value_at store.new)) }
     ensures part { IfOk result (λ part. IsPartAfter id part x store.old store.new) }
 {
-    if store.get(id).area.xlo < x {
-        let part = split_along(store, id, x)?;
-        return Ok(part);
+    let area = store.get(id).area;
+    if x <= area.xlo {
+        return Ok(id);
     }
-    Ok(id)
+    let left = x - area.xlo;
+    let right = area.xhi - x;
+    if left < right {
+        let _left = split_off_left(store, id, x)?;
+        return Ok(id);
+    }
+    let part = split_along(store, id, x)?;
+    Ok(part)
 }
 
 /// Cuts the tiles that have squares on both sides of the height y and in the columns of the area.

@@ -1,6 +1,6 @@
 //! Stitches that lead to squares of an area, from the tiles around it.
 ghost use Rattle.tile_plane.specs.Tiles.{IsPartition};
-ghost use Rattle.tile_plane.specs.Mends.{Above, Right, Below, Left, LeadTo, AreRedirected, IsUpperSide, IsRightSide, IsLowerSide, IsLeftSide, IsUpperEnd, IsRightEnd};
+ghost use Rattle.tile_plane.specs.Mends.{Above, Right, Below, Left, LeadTo, AreRedirected, IsUpperSide, IsRightSide, IsLowerSide, IsLeftSide, IsUpperEnd, IsRightEnd, IsLeftEnd};
 
 use crate::stores::Store;
 use crate::tiles::Tile;
@@ -26,6 +26,17 @@ pub fn mend_right_end(store: &mut Store, end: &Tile, id: u32)
     mend_right(store, &end.area, end.right, id);
     mend_below(store, &end.area, end.below, id);
     mend_above(store, &end.area, end.above, id);
+}
+
+/// Leads all stitches into the left end of a tile to that tile. The end is given as a tile of its own.
+pub fn mend_left_end(store: &mut Store, end: &Tile, id: u32)
+    requires partition { IsPartition store.old }
+    requires end { IsLeftEnd store.old end.now id }
+    ensures { AreRedirected end.now.area id store.old store.new }
+{
+    mend_left(store, &end.area, end.left, id);
+    mend_above(store, &end.area, end.above, id);
+    mend_below(store, &end.area, end.below, id);
 }
 
 /// Leads the stitches of the tiles on the upper side of an area to a tile. The rightmost of them is the first.

@@ -78,6 +78,6 @@ returns c =
       partition = across_partition cut all;
       stitches = across_stitches cut all;
       same = across_same cut all;
-      cut = subst (λ (z : ℤ). IsCutAcross c.args.id c.in_ok-upper.upper z c.args.store.now c.mend_upper_end.new.store) same (across_cut cut all);
+      cut = subst (λ (z : ℤ). IsCutAcross c.args.id c.args.id c.in_ok-upper.upper z c.args.store.now c.mend_upper_end.new.store) same (across_cut cut all);
       refused = tt;
     }

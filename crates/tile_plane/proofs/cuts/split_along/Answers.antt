@@ -78,6 +78,6 @@ returns c =
       partition = along_partition cut all;
       stitches = along_stitches cut all;
       same = along_same cut all;
-      cut = subst (λ (z : ℤ). IsCutAlong c.args.id c.in_ok-right.right z c.args.store.now c.mend_right_end.new.store) same (along_cut cut all);
+      cut = subst (λ (z : ℤ). IsCutAlong c.args.id c.args.id c.in_ok-right.right z c.args.store.now c.mend_right_end.new.store) same (along_cut cut all);
       refused = tt;
     }
