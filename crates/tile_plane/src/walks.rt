@@ -1,5 +1,5 @@
 //! Walks from tile to tile along stitches.
-ghost use Rattle.std.specs.Prelude.{ℤ, pos, ◌-ℤ◌, ◌≤ℤ◌, ◌<ℤ◌};
+ghost use Rattle.std.specs.Prelude.{ℤ, pos, ◌-ℤ◌, ◌≤ℤ◌, ◌<ℤ◌, MatchOption};
 ghost use Rattle.geo_core.specs.Covering.{Covers};
 ghost use Rattle.geo_core.specs.Planes.{plane_range};
 ghost use Rattle.tile_plane.specs.Tiles.{tile_at, IsTaken, Owns, IsPartition, HasStitches, Leads};
@@ -87,7 +87,8 @@ pub fn left_at(store: &Store, id: u32, y: i64) -> u32
     next
 }
 
-/// The tile above a tile at x. Any tile where the range ends there.
+/// The tile above a tile at x. Any tile where the range ends there. Two walks go to it, one from either end of the upper side, so it is
+/// found soon where it is near one of them.
 pub fn above_at(store: &Store, id: u32, x: i64) -> u32
     requires partition { IsPartition store.now }
     requires stitches { HasStitches store.now }
@@ -100,14 +101,23 @@ pub fn above_at(store: &Store, id: u32, x: i64) -> u32
     if PLANE_EDGE <= tile.area.yhi {
         return id;
     }
+    let square = Square {
+        x,
+        y: tile.area.yhi,
+    };
+    let mut other = left_or_self(store, id);
     let mut next = tile.above;
     'leftward: while x < store.get(next).area.xlo {
+        let Some(step) = step_to(store, other, square) else {
+            return other;
+        };
+        other = step;
         next = store.get(next).left;
     }
     next
 }
 
-/// The tile below a tile at x. Any tile where the range ends there.
+/// The tile below a tile at x. Any tile where the range ends there. Two walks go to it, one from either end of the lower side.
 pub fn below_at(store: &Store, id: u32, x: i64) -> u32
     requires partition { IsPartition store.now }
     requires stitches { HasStitches store.now }
@@ -120,9 +130,70 @@ pub fn below_at(store: &Store, id: u32, x: i64) -> u32
     if tile.area.ylo <= -PLANE_EDGE {
         return id;
     }
+    let square = Square {
+        x,
+        y: tile.area.ylo - 1,
+    };
+    let mut other = right_or_self(store, id);
     let mut next = tile.below;
     'rightward: while store.get(next).area.xhi <= x {
+        let Some(step) = step_to(store, other, square) else {
+            return other;
+        };
+        other = step;
         next = store.get(next).right;
     }
     next
+}
+
+/// The tile to the left of a tile, or the tile itself where the range ends there.
+fn left_or_self(store: &Store, id: u32) -> u32
+    requires partition { IsPartition store.now }
+    requires stitches { HasStitches store.now }
+    requires taken { IsTaken store.now id }
+    ensures { IsTaken store.now result }
+{
+    let tile = store.get(id);
+    if tile.area.xlo <= -PLANE_EDGE {
+        return id;
+    }
+    tile.left
+}
+
+/// The tile to the right of a tile, or the tile itself where the range ends there.
+fn right_or_self(store: &Store, id: u32) -> u32
+    requires partition { IsPartition store.now }
+    requires stitches { HasStitches store.now }
+    requires taken { IsTaken store.now id }
+    ensures { IsTaken store.now result }
+{
+    let tile = store.get(id);
+    if PLANE_EDGE <= tile.area.xhi {
+        return id;
+    }
+    tile.right
+}
+
+/// One step from a tile towards a square, up or down first and then to a side. None where the tile has the square.
+fn step_to(store: &Store, id: u32, square: Square) -> Option<u32>
+    requires partition { IsPartition store.now }
+    requires stitches { HasStitches store.now }
+    requires taken { IsTaken store.now id }
+    requires inside { Covers plane_range square }
+    ensures { MatchOption result (Owns store.now id square) (IsTaken store.now) }
+{
+    let tile = store.get(id);
+    if tile.area.yhi <= square.y {
+        return Some(tile.above);
+    }
+    if square.y < tile.area.ylo {
+        return Some(tile.below);
+    }
+    if tile.area.xhi <= square.x {
+        return Some(tile.right);
+    }
+    if square.x < tile.area.xlo {
+        return Some(tile.left);
+    }
+    None
 }

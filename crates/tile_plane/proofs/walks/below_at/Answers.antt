@@ -12,8 +12,32 @@ rightward-init c =
     let x = to_z w64 (of_z w64 c.args.x) in
     let same : x ≡ c.args.x = to_z-of_z w64 c.args.x c.ranges.x in
     let bounds = c.requires in
-    rw c.get-tile.ensures (below_begins c.args.store.now c.args.id x c.requires.partition c.requires.stitches c.requires.taken (omega (arith, ints)) (omega (arith, ints))
-    (omega (arith, ints)))
+    record {
+      walk = rw c.get-tile.ensures (below_begins c.args.store.now c.args.id x c.requires.partition c.requires.stitches c.requires.taken (omega (arith, ints)) (omega (arith, ints))
+          (omega (arith, ints)));
+      other = c.right_or_self-other.ensures;
+    }
+
+pub step_to-requires-clause-inside : goal.step_to-requires-clause-inside
+step_to-requires-clause-inside c =
+    let end = ap (λ (t : Tile). t.area.ylo) c.get-tile.ensures in
+    let test = c.if-tile.false in
+    let x = to_z w64 (of_z w64 c.args.x) in
+    let same : x ≡ c.args.x = to_z-of_z w64 c.args.x c.ranges.x in
+    let bounds = c.requires in
+    let within = c.requires.partition.within c.args.id c.requires.taken in
+    let proper = c.requires.taken.proper in
+    omega (arith, ints)
+
+pub returns-in_default : goal.returns-in_default
+returns-in_default c =
+    let end = ap (λ (t : Tile). t.area.ylo) c.get-tile.ensures in
+    let test = c.if-tile.false in
+    let x = to_z w64 (of_z w64 c.args.x) in
+    let same : x ≡ c.args.x = to_z-of_z w64 c.args.x c.ranges.x in
+    let within = c.requires.partition.within c.args.id c.requires.taken in
+    let covers = c.in_default.ensures.covers in
+    λ inside. omega (arith, ints)
 
 pub rightward-preserved : goal.rightward-preserved
 rightward-preserved c =
@@ -26,8 +50,8 @@ rightward-preserved c =
     let goes_on = c.rightward-test.true in
     let past : (tile_at c.args.store.now c.rightward.next).area.xhi ≤ℤ x = omega (arith, ints) in
     let next = below_goes_on c.args.store.now c.args.id x c.requires.partition c.requires.stitches c.requires.taken (omega (arith, ints)) (omega (arith, ints))
-    (omega (arith, ints)) c.rightward.next c.rightward.invariant past in
-    rw c.get-next.ensures next
+    (omega (arith, ints)) c.rightward.next c.rightward.invariant.walk past in
+    record { walk = rw c.get-next.ensures next; other = c.in-Some.ensures }
 
 pub rightward-smaller : goal.rightward-smaller
 rightward-smaller c =
@@ -40,7 +64,7 @@ rightward-smaller c =
     let goes_on = c.rightward-test.true in
     let past : (tile_at c.args.store.now c.rightward.next).area.xhi ≤ℤ x = omega (arith, ints) in
     let nearer = below_nearer c.args.store.now c.args.id x c.requires.partition c.requires.stitches c.requires.taken (omega (arith, ints)) (omega (arith, ints))
-    (omega (arith, ints)) c.rightward.next c.rightward.invariant past in
+    (omega (arith, ints)) c.rightward.next c.rightward.invariant.walk past in
     rw c.get-next.ensures nearer
 
 pub returns : goal.returns
@@ -49,6 +73,6 @@ returns c =
     let x = to_z w64 (of_z w64 c.args.x) in
     let same : x ≡ c.args.x = to_z-of_z w64 c.args.x c.ranges.x in
     let test = c.rightward-test.false in
-    let way = c.rightward.invariant in
+    let way = c.rightward.invariant.walk in
     let covers = way.owns.covers in
     λ inside. omega (arith, ints)
