@@ -7,7 +7,7 @@ use Rattle.geo_core.specs.Areas.{LiesWithin}
 use Rattle.geo_core.specs.Covering.{Covers, IsProper}
 use Rattle.geo_core.specs.Planes.{plane_range, AreSame}
 use Rattle.tile_plane.specs.declared.tiles.Tile.{Tile}
-use Rattle.tile_plane.specs.Tiles.{Tiles, tile_at, IsTaken, Owns, Leads, IsPartition, HasStitches, square_above, square_right, square_left, value_at}
+use Rattle.tile_plane.specs.Tiles.{Tiles, tile_at, IsTaken, Owns, Leads, IsPartition, HasStitches, square_above, square_right, square_below, square_left, value_at}
 use Rattle.tile_plane.specs.Walks.{square_at}
 use Rattle.tile_plane.specs.Cuts.{IsHandedOver}
 use Rattle.tile_plane.specs.Mends.{Side, Above, Right, Below, Left, stitch_of, square_of, AreRedirected, IsUpperSide, IsRightSide, IsLowerSide, IsLeftSide}
@@ -138,6 +138,19 @@ module _ {part : Rect} {id : ℕ} {old new : Tiles} (partition : IsPartition old
       let end = ap (λ (v : ℕ). (tile_at new v).area.xlo) same in
       absurd (omega (arith, ints)))
       (λ over. after y (omega (arith, ints)) (omega (arith, ints)) (omega (arith, ints)))
+
+  -- one from the tile above
+  pub down_into : (k : ℕ) → (tile_at new id).area.ylo ≡ part.ylo → IsTaken new k → Covers part (square_below (tile_at new k))
+      → ((x : ℤ) → part.xlo ≤ℤ x → x <ℤ part.xhi → Owns new k (square_at x part.yhi) → (tile_at new k).below ≡ id) → (tile_at new k).below ≡ id
+  down_into k edge taken covers above =
+      let proper = taken.proper in
+      let x = (tile_at new k).area.xlo in
+      by_lt_z (tile_at new k).area.ylo part.yhi
+      (λ under.
+      let same = given.hand.taker k (square_at x (tile_at new k).area.ylo) (omega (arith, ints)) (omega (arith, ints)) in
+      let end = ap (λ (v : ℕ). (tile_at new v).area.ylo) same in
+      absurd (omega (arith, ints)))
+      (λ over. above x (omega (arith, ints)) (omega (arith, ints)) (omega (arith, ints)))
 
   -- all stitches to squares of the part are redirected to the holder
   module _ {last : Tiles} (redirected : AreRedirected part id new last) where

@@ -132,11 +132,11 @@ cut_from old new id part y to is = elim is [
 ]
 
 -- A tile is cut below and above: what is left is some of its rows.
-pub laid_cut : (old mid new : Tiles) (id part : ℕ) (y top : ℤ) → IsPartition new → IsTaken old id → (tile_at old id).area.ylo ≤ℤ y → y <ℤ top → top ≤ℤ (tile_at old id).area.yhi
+pub laid_cut : (old mid new : Tiles) (id part last : ℕ) (y top : ℤ) → IsPartition new → IsTaken old id → (tile_at old id).area.ylo ≤ℤ y → y <ℤ top → top ≤ℤ (tile_at old id).area.yhi
     → IsTileCut id y old mid → (tile_at mid part).area ≡ record (tile_at old id).area { ylo = y } → (tile_at mid part).value ≡ (tile_at old id).value
-    → IsTileCut part top mid new → (tile_at new part).area ≡ record (tile_at mid part).area { yhi = top } → (tile_at new part).value ≡ (tile_at mid part).value
-    → IsLaid (record (tile_at old id).area { ylo = y; yhi = top }) (tile_at old id).value part old new
-laid_cut old mid new id part y top partition taken from wide to low low_area low_value high high_area high_value =
+    → IsTileCut part top mid new → (tile_at new last).area ≡ record (tile_at mid part).area { yhi = top } → (tile_at new last).value ≡ (tile_at mid part).value
+    → IsLaid (record (tile_at old id).area { ylo = y; yhi = top }) (tile_at old id).value last old new
+laid_cut old mid new id part last y top partition taken from wide to low low_area low_value high high_area high_value =
     let area : Rect = record (tile_at old id).area { ylo = y; yhi = top } in
     let proper = taken.proper in
     let corner : Square = square_at area.xlo y in

@@ -159,6 +159,10 @@ below_after_right area first id one two left side = lower_moves one two (same_ar
 pub above_after_left : (area : Rect) (first id : ℕ) (one two : Tiles) → LeadTo Right area id one two → IsUpperSide one area first id → IsUpperSide two area first id
 above_after_left area first id one two right side = upper_moves one two (same_areas Right area id one two right) area first id side (λ k c low high owns. ap (λ (t : Tile). t.left) (right.rest k))
 
+-- the right side, once the stitches from the left are mended
+pub right_once_left : (area : Rect) (first id : ℕ) (one two : Tiles) → LeadTo Right area id one two → IsRightSide one area first id → IsRightSide two area first id
+right_once_left area first id one two right side = right_moves one two (same_areas Right area id one two right) area first id side (λ k c low high owns. ap (λ (t : Tile). t.below) (right.rest k))
+
 -- the upper end of a tile: first the stitches from above are mended, then those from the left, then those from the right
 module _ (area : Rect) (id : ℕ) (one two three : Tiles) (down : LeadTo Below area id one two) (right : LeadTo Right area id two three) where
   areas_three : HaveSameAreas one three
@@ -269,3 +273,40 @@ module _ (area : Rect) (id : ℕ) (one two three : Tiles) (right : LeadTo Right 
     outside Below k off =
         ap (λ (t : Tile). t.below) (up.rest k) ∙ down.outside k (λ covers. off (covers_back one two mid Below area k covers)) ∙ ap (λ (t : Tile). t.below) (right.rest k)
     outside Left k off = ap (λ (t : Tile). t.left) (up.rest k) ∙ ap (λ (t : Tile). t.left) (down.rest k) ∙ ap (λ (t : Tile). t.left) (right.rest k)
+
+-- the lower end: first the stitches from the left, then those from the right, then those from below
+module _ (area : Rect) (id : ℕ) (one two three : Tiles) (right : LeadTo Right area id one two) (left : LeadTo Left area id two three) where
+  areas_lower : HaveSameAreas one three
+  areas_lower k = same_areas Left area id two three left k ∙ same_areas Right area id one two right k
+
+  pub below_after_sides : (first : ℕ) → IsPartition one → IsLowerSide one area first id → IsLowerSide three area first id
+  below_after_sides first partition side = lower_moves one three areas_lower area first id side (λ k c low high owns.
+      ap (λ (t : Tile). t.right) (left.rest k) ∙ right.outside k (lower_apart one area first id k c partition side low high owns))
+
+  pub redirected_down : (four : Tiles) → LeadTo Above area id three four → ((k : ℕ) → IsTaken one k → Covers area (square_below (tile_at one k)) → (tile_at one k).below ≡ id)
+      → AreRedirected area id one four
+  redirected_down four up below = record {
+    alike = λ k. record {
+      area = same_areas Above area id three four up k ∙ areas_lower k;
+      value = same_values Above area id three four up k ∙ same_values Left area id two three left k ∙ same_values Right area id one two right k;
+    };
+    inside = inside;
+    outside = outside;
+  } where
+    mid : HaveSameAreas one two
+    mid = same_areas Right area id one two right
+
+    inside : (side : Side) (k : ℕ) → IsTaken one k → Covers area (square_of side (tile_at one k)) → stitch_of side (tile_at four k) ≡ id
+    inside Above k taken covers = up.inside k (taken_moves one three areas_lower k taken) (covers_moves one three areas_lower Above area k covers)
+    inside Right k taken covers = ap (λ (t : Tile). t.right) (up.rest k) ∙ ap (λ (t : Tile). t.right) (left.rest k) ∙ right.inside k taken covers
+    inside Below k taken covers = ap (λ (t : Tile). t.below) (up.rest k) ∙ ap (λ (t : Tile). t.below) (left.rest k) ∙ ap (λ (t : Tile). t.below) (right.rest k) ∙ below k taken covers
+    inside Left k taken covers =
+        ap (λ (t : Tile). t.left) (up.rest k) ∙ left.inside k (taken_moves one two mid k taken) (covers_moves one two mid Left area k covers)
+
+    outside : (side : Side) (k : ℕ) → (Covers area (square_of side (tile_at one k)) → ⊥) → stitch_of side (tile_at four k) ≡ stitch_of side (tile_at one k)
+    outside Above k off =
+        up.outside k (λ covers. off (covers_back one three areas_lower Above area k covers)) ∙ ap (λ (t : Tile). t.above) (left.rest k) ∙ ap (λ (t : Tile). t.above) (right.rest k)
+    outside Right k off = ap (λ (t : Tile). t.right) (up.rest k) ∙ ap (λ (t : Tile). t.right) (left.rest k) ∙ right.outside k off
+    outside Below k off = ap (λ (t : Tile). t.below) (up.rest k) ∙ ap (λ (t : Tile). t.below) (left.rest k) ∙ ap (λ (t : Tile). t.below) (right.rest k)
+    outside Left k off =
+        ap (λ (t : Tile). t.left) (up.rest k) ∙ left.outside k (λ covers. off (covers_back one two mid Left area k covers)) ∙ ap (λ (t : Tile). t.left) (right.rest k)

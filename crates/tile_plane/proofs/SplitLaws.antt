@@ -10,9 +10,9 @@ use Rattle.tile_plane.specs.declared.tiles.Tile.{Tile}
 use Rattle.tile_plane.specs.Tiles.{Tiles, tile_at, IsTaken, Owns, Leads, IsPartition, HasStitches, IsPut, value_at}
 use Rattle.tile_plane.specs.Walks.{square_at}
 use Rattle.tile_plane.specs.Cuts.{AreAlike, IsHandedOver, IsCutAcross, IsCutAlong}
-use Rattle.tile_plane.specs.Mends.{Above, Right, Below, Left, AreRedirected, IsUpperEnd, IsRightEnd, IsLeftEnd}
+use Rattle.tile_plane.specs.Mends.{Above, Right, Below, Left, AreRedirected, IsUpperEnd, IsLowerEnd, IsRightEnd, IsLeftEnd}
 use Rattle.tile_plane.proofs.TileLaws.{owner_taken}
-use Rattle.tile_plane.proofs.GivenLaws.{LeadsElsewhere, own_stitches, IsGiven, given_partition, upper_side, right_side, lower_side, left_side, up_into, right_into, left_into, last_partition, last_stitches, last_values}
+use Rattle.tile_plane.proofs.GivenLaws.{LeadsElsewhere, own_stitches, IsGiven, given_partition, upper_side, right_side, lower_side, left_side, up_into, down_into, right_into, left_into, last_partition, last_stitches, last_values}
 
 -- the tile of the first number has the rest now, and the second, which had no tile, the part
 pub record IsSplit (old new : Tiles) (id other : ℕ) (rest part : Tile) : Type 0 where
@@ -220,6 +220,96 @@ module _ {old mid new : Tiles} {id upper right left : ℕ} {y before : ℤ} {til
       low_value = (across_redirected.alike id).value ∙ ap (λ (t : Tile). t.value) across_split.here;
       high_value = (across_redirected.alike upper).value ∙ ap (λ (t : Tile). t.value) across_split.there;
       others = split_others cut.partition across_split across_given across_redirected;
+    }
+
+-- It is cut at y in the same way, but what was cut off is the lower part.
+pub record IsCutOffBelow (old mid new : Tiles) (id lower right left : ℕ) (y before : ℤ) (tile part rest : Tile) : Type 0 where
+  pub partition : IsPartition old
+  pub stitches : HasStitches old
+  pub taken : IsTaken old id
+  pub from : (tile_at old id).area.ylo <ℤ y
+  pub to : y <ℤ (tile_at old id).area.yhi
+  pub is : tile ≡ tile_at old id
+  pub is_part : part ≡ lower_part tile y id right
+  pub is_rest : rest ≡ upper_part tile y lower left
+  pub free : IsTaken old lower → ⊥
+  pub put_part : IsPut lower part old mid
+  pub put_rest : IsPut id rest mid new
+  pub just_before : before ≡ y -ℤ pos 1
+  pub right_leads : Leads old right (square_at (tile_at old id).area.xhi before)
+  pub left_leads : Leads old left (square_at ((tile_at old id).area.xlo -ℤ pos 1) y)
+
+module _ {old mid new : Tiles} {id lower right left : ℕ} {y before : ℤ} {tile part rest : Tile} (cut : IsCutOffBelow old mid new id lower right left y before tile part rest) where
+  under_part_is : part ≡ lower_part (tile_at old id) y id right
+  under_part_is = cut.is_part ∙ ap (λ (t : Tile). lower_part t y id right) cut.is
+
+  under_rest_is : rest ≡ upper_part (tile_at old id) y lower left
+  under_rest_is = cut.is_rest ∙ ap (λ (t : Tile). upper_part t y lower left) cut.is
+
+  under_split : IsSplit old new id lower (upper_part (tile_at old id) y lower left) (lower_part (tile_at old id) y id right)
+  under_split = let from = cut.from in let to = cut.to in
+      split_by_puts cut.taken cut.free (subst (λ (t : Tile). IsPut lower t old mid) under_part_is cut.put_part)
+      (subst (λ (t : Tile). IsPut id t mid new) under_rest_is cut.put_rest)
+      (λ s covers off. by_lt_z s.y y (λ under. absurd (off (omega (arith, ints)))) (λ over. omega (arith, ints)))
+      (λ s covers. omega (arith, ints)) (λ s covers. omega (arith, ints)) (λ s p q. omega (arith, ints))
+
+  under_right : Leads old right (square_at (tile_at old id).area.xhi (y -ℤ pos 1))
+  under_right = subst (λ (z : ℤ). Leads old right (square_at (tile_at old id).area.xhi z)) cut.just_before cut.right_leads
+
+  under_given : IsGiven (lower_part (tile_at old id) y id right).area lower old new
+  under_given = split_given cut.partition under_split cut.stitches
+      (let proper = cut.taken.proper in let from = cut.from in omega (arith, ints)) rest_leads part_leads
+    where
+      rest_leads : LeadsElsewhere (lower_part (tile_at old id) y id right).area old (upper_part (tile_at old id) y lower left)
+      rest_leads Above off = cut.stitches.above id cut.taken
+      rest_leads Right off = cut.stitches.right id cut.taken
+      rest_leads Below off = let proper = cut.taken.proper in let from = cut.from in let to = cut.to in absurd (off (omega (arith, ints)))
+      rest_leads Left off = cut.left_leads
+
+      part_leads : LeadsElsewhere (lower_part (tile_at old id) y id right).area old (lower_part (tile_at old id) y id right)
+      part_leads Above off = λ inside. let proper = cut.taken.proper in let from = cut.from in let to = cut.to in omega (arith, ints)
+      part_leads Right off = under_right
+      part_leads Below off = cut.stitches.below id cut.taken
+      part_leads Left off = cut.stitches.left id cut.taken
+
+  pub under_new_partition : IsPartition new
+  under_new_partition = given_partition cut.partition under_given
+
+  -- what was cut off is the end that goes to the new number
+  pub under_end : IsLowerEnd new part lower
+  under_end = subst (λ (t : Tile). IsLowerEnd new t lower) (sym under_part_is) (record {
+    left = left_side cut.partition under_given _ (ap (λ (t : Tile). t.area.xlo) under_split.there) (cut.stitches.left id cut.taken);
+    right = right_side cut.partition under_given _ (ap (λ (t : Tile). t.area.xhi) under_split.there) under_right;
+    below = lower_side cut.partition under_given _ (ap (λ (t : Tile). t.area.ylo) under_split.there) (cut.stitches.below id cut.taken);
+    above = λ k its covers. down_into cut.partition under_given k (ap (λ (t : Tile). t.area.ylo) under_split.there) its covers (λ w low high owns.
+        let rest_owns : Owns new id (square_at w y) = (
+        let from = cut.from in let to = cut.to in
+        record { covers = subst (λ (t : Tile). Covers t.area (square_at w y)) (sym under_split.here) (omega (arith, ints)) }) in
+        ap (λ (v : ℕ). (tile_at new v).below) (under_new_partition.one k id _ owns rest_owns) ∙ ap (λ (t : Tile). t.below) under_split.here);
+  })
+
+  -- once all stitches into it are redirected
+  module _ {last : Tiles} (all : AreRedirected part.area lower new last) where
+    under_redirected : AreRedirected (lower_part (tile_at old id) y id right).area lower new last
+    under_redirected = subst (λ (t : Tile). AreRedirected t.area lower new last) under_part_is all
+
+    pub under_partition : IsPartition last
+    under_partition = split_partition cut.partition under_split under_given under_redirected
+
+    pub under_stitches : HasStitches last
+    under_stitches = split_stitches cut.partition under_split under_given under_redirected
+
+    pub under_same : AreSame (value_at old) (value_at last)
+    under_same = split_values cut.partition under_split under_given under_redirected refl refl
+
+    pub under_cut : IsCutAcross id lower id y old last
+    under_cut = record {
+      free = inr (refl, cut.free);
+      low = (under_redirected.alike lower).area ∙ ap (λ (t : Tile). t.area) under_split.there;
+      high = (under_redirected.alike id).area ∙ ap (λ (t : Tile). t.area) under_split.here;
+      low_value = (under_redirected.alike lower).value ∙ ap (λ (t : Tile). t.value) under_split.there;
+      high_value = (under_redirected.alike id).value ∙ ap (λ (t : Tile). t.value) under_split.here;
+      others = λ k n m. split_others cut.partition under_split under_given under_redirected k m n;
     }
 
 -- the parts of a tile that is cut at x, with these stitches where it is cut

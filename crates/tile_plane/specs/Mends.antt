@@ -106,3 +106,10 @@ pub record IsLeftEnd (tiles : Tiles) (end : Tile) (id : ℕ) : Type 0 where
   pub above : IsUpperSide tiles end.area end.above id
   pub below : IsLowerSide tiles end.area end.below id
   pub right : (k : ℕ) → IsTaken tiles k → Covers end.area (square_left (tile_at tiles k)) → (tile_at tiles k).left ≡ id
+
+-- The same of the lower end: those from above lead to that tile.
+pub record IsLowerEnd (tiles : Tiles) (end : Tile) (id : ℕ) : Type 0 where
+  pub left : IsLeftSide tiles end.area end.left id
+  pub right : IsRightSide tiles end.area end.right id
+  pub below : IsLowerSide tiles end.area end.below id
+  pub above : (k : ℕ) → IsTaken tiles k → Covers end.area (square_below (tile_at tiles k)) → (tile_at tiles k).below ≡ id

@@ -6,7 +6,7 @@ ghost use Rattle.tile_plane.specs.Tiles.{tile_at, IsTaken, IsPartition, HasStitc
 ghost use Rattle.tile_plane.specs.Cuts.{IsCutAcross, IsCutAlong, IsPartFrom, IsPartAfter};
 ghost use Rattle.tile_plane.specs.Tall.{AreCut, AreCutAt, NothingElseIsCut, AreCutAlong, AreCutAlongAt, NothingElseIsCutAlong};
 
-use crate::mends::{mend_left_end, mend_right_end, mend_upper_end};
+use crate::mends::{mend_left_end, mend_lower_end, mend_right_end, mend_upper_end};
 use crate::stores::Store;
 use crate::tiles::Tile;
 use crate::walks::{above_at, below_at, find, left_at, right_at};
@@ -14,7 +14,7 @@ use geo_core::{Rect, Square};
 use tile_arena::ArenaFault;
 
 /// Cuts a tile at the height y. It keeps the lower part, and the upper one is new.
-pub fn split_across(store: &mut Store, id: u32, y: i64) -> Result<u32, ArenaFault>
+fn split_across(store: &mut Store, id: u32, y: i64) -> Result<u32, ArenaFault>
     requires partition { IsPartition store.old }
     requires stitches { HasStitches store.old }
     requires taken { IsTaken store.old id }
@@ -37,8 +37,56 @@ pub fn split_across(store: &mut Store, id: u32, y: i64) -> Result<u32, ArenaFaul
     Ok(upper)
 }
 
+/// Cuts a tile at the height y. It keeps the upper part, and the lower one is new.
+fn split_off_lower(store: &mut Store, id: u32, y: i64) -> Result<u32, ArenaFault>
+    requires partition { IsPartition store.old }
+    requires stitches { HasStitches store.old }
+    requires taken { IsTaken store.old id }
+    requires from { (tile_at store.old id).area.ylo <ℤ y }
+    requires to { y <ℤ (tile_at store.old id).area.yhi }
+    ensures partition { OnOk result (IsPartition store.new) }
+    ensures stitches { OnOk result (HasStitches store.new) }
+    ensures same { OnOk result (AreSame (value_at store.old) (value_at store.new)) }
+    ensures cut { IfOk result (λ lower. IsCutAcross id lower id y store.old store.new) }
+    ensures refused { OnErr result (store.new ≡ store.old) }
+{
+    let tile = store.get(id);
+    let left = left_at(store, id, y);
+    let right = right_at(store, id, y - 1);
+    let part = lower_part(&tile, y, id, right);
+    let lower = store.insert(part)?;
+    let rest = upper_part(&tile, y, lower, left);
+    store.put(id, rest);
+    mend_lower_end(store, &part, lower);
+    Ok(lower)
+}
+
+/// Cuts a tile at the height y. The result is the numbers of the lower and of the upper part. The one that is not as high is new, so a
+/// stitch that is mended leads to a tile at most half as high as before.
+pub fn cut_in_two(store: &mut Store, id: u32, y: i64) -> Result<(u32, u32), ArenaFault>
+    requires partition { IsPartition store.old }
+    requires stitches { HasStitches store.old }
+    requires taken { IsTaken store.old id }
+    requires from { (tile_at store.old id).area.ylo <ℤ y }
+    requires to { y <ℤ (tile_at store.old id).area.yhi }
+    ensures partition { OnOk result (IsPartition store.new) }
+    ensures stitches { OnOk result (HasStitches store.new) }
+    ensures same { OnOk result (AreSame (value_at store.old) (value_at store.new)) }
+    ensures cut { IfOk result (λ parts. IsCutAcross id parts.0 parts.1 y store.old store.new) }
+{
+    let area = store.get(id).area;
+    let below = y - area.ylo;
+    let above = area.yhi - y;
+    if below < above {
+        let lower = split_off_lower(store, id, y)?;
+        return Ok((lower, id));
+    }
+    let upper = split_across(store, id, y)?;
+    Ok((id, upper))
+}
+
 /// Cuts a tile at x. It keeps the left part, and the right one is new.
-pub fn split_along(store: &mut Store, id: u32, x: i64) -> Result<u32, ArenaFault>
+fn split_along(store: &mut Store, id: u32, x: i64) -> Result<u32, ArenaFault>
     requires partition { IsPartition store.old }
     requires stitches { HasStitches store.old }
     requires taken { IsTaken store.old id }
@@ -62,7 +110,7 @@ pub fn split_along(store: &mut Store, id: u32, x: i64) -> Result<u32, ArenaFault
 }
 
 /// Cuts a tile at x. It keeps the right part, and the left one is new.
-pub fn split_off_left(store: &mut Store, id: u32, x: i64) -> Result<u32, ArenaFault>
+fn split_off_left(store: &mut Store, id: u32, x: i64) -> Result<u32, ArenaFault>
     requires partition { IsPartition store.old }
     requires stitches { HasStitches store.old }
     requires taken { IsTaken store.old id }
@@ -158,8 +206,8 @@ pub fn part_from(store: &mut Store, id: u32, y: i64) -> Result<u32, ArenaFault>
     ensures part { IfOk result (λ part. IsPartFrom id part y store.old store.new) }
 {
     if store.get(id).area.ylo < y {
-        let part = split_across(store, id, y)?;
-        return Ok(part);
+        let parts = cut_in_two(store, id, y)?;
+        return Ok(parts.1);
     }
     Ok(id)
 }

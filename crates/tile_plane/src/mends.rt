@@ -1,6 +1,6 @@
 //! Stitches that lead to squares of an area, from the tiles around it.
 ghost use Rattle.tile_plane.specs.Tiles.{IsPartition};
-ghost use Rattle.tile_plane.specs.Mends.{Above, Right, Below, Left, LeadTo, AreRedirected, IsUpperSide, IsRightSide, IsLowerSide, IsLeftSide, IsUpperEnd, IsRightEnd, IsLeftEnd};
+ghost use Rattle.tile_plane.specs.Mends.{Above, Right, Below, Left, LeadTo, AreRedirected, IsUpperSide, IsRightSide, IsLowerSide, IsLeftSide, IsUpperEnd, IsLowerEnd, IsRightEnd, IsLeftEnd};
 
 use crate::stores::Store;
 use crate::tiles::Tile;
@@ -15,6 +15,17 @@ pub fn mend_upper_end(store: &mut Store, end: &Tile, id: u32)
     mend_above(store, &end.area, end.above, id);
     mend_left(store, &end.area, end.left, id);
     mend_right(store, &end.area, end.right, id);
+}
+
+/// Leads all stitches into the lower end of a tile to that tile. The end is given as a tile of its own.
+pub fn mend_lower_end(store: &mut Store, end: &Tile, id: u32)
+    requires partition { IsPartition store.old }
+    requires end { IsLowerEnd store.old end.now id }
+    ensures { AreRedirected end.now.area id store.old store.new }
+{
+    mend_left(store, &end.area, end.left, id);
+    mend_right(store, &end.area, end.right, id);
+    mend_below(store, &end.area, end.below, id);
 }
 
 /// Leads all stitches into the right end of a tile to that tile. The end is given as a tile of its own.

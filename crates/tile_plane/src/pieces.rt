@@ -9,15 +9,15 @@ ghost use Rattle.tile_plane.specs.Walks.{square_at};
 ghost use Rattle.tile_plane.specs.Tall.{AreStrips, AreGrown, IsWideAt};
 ghost use Rattle.tile_plane.specs.Bands.{IsTileCut, IsLaid, IsOfBand, IsLaidLeft, IsLaidRight, IsBandFree, IsBandLaid, AreHigh, band_of, IsOpenFrom, IsBanded, AreKept, AreColumnsTall};
 
-use crate::cuts::{cut_across, cut_along, part_from, split_across};
+use crate::cuts::{cut_across, cut_along, cut_in_two, part_from};
 use crate::joins::{join_column, join_right};
 use crate::stores::Store;
 use crate::walks::{above_at, find, left_at, right_at};
 use geo_core::{Piece, Rect};
 use tile_arena::ArenaFault;
 
-/// Cuts a tile at the height y, where it goes on above. It keeps the part below.
-fn cut_top(store: &mut Store, id: u32, y: i64) -> Result<(), ArenaFault>
+/// The part of a tile below the height y, cut out of it where it goes on above.
+fn cut_top(store: &mut Store, id: u32, y: i64) -> Result<u32, ArenaFault>
     requires partition { IsPartition store.old }
     requires stitches { HasStitches store.old }
     requires taken { IsTaken store.old id }
@@ -26,13 +26,14 @@ fn cut_top(store: &mut Store, id: u32, y: i64) -> Result<(), ArenaFault>
     ensures partition { OnOk result (IsPartition store.new) }
     ensures stitches { OnOk result (HasStitches store.new) }
     ensures cut { OnOk result (IsTileCut id y store.old store.new) }
-    ensures area { OnOk result ((tile_at store.new id).area ≡ record (tile_at store.old id).area { yhi = y }) }
-    ensures value { OnOk result ((tile_at store.new id).value ≡ (tile_at store.old id).value) }
+    ensures area { IfOk result (λ part. (tile_at store.new part).area ≡ record (tile_at store.old id).area { yhi = y }) }
+    ensures value { IfOk result (λ part. (tile_at store.new part).value ≡ (tile_at store.old id).value) }
 {
     if y < store.get(id).area.yhi {
-        let _upper = split_across(store, id, y)?;
+        let parts = cut_in_two(store, id, y)?;
+        return Ok(parts.0);
     }
-    Ok(())
+    Ok(id)
 }
 
 /// What a tile has of the rows of an area, cut out of it.
@@ -48,8 +49,8 @@ fn part_of(store: &mut Store, id: u32, rows: &Rect) -> Result<u32, ArenaFault>
     ensures laid { IfOk result (λ part. IsLaid (record (tile_at store.old id).area { ylo = rows.now.ylo; yhi = rows.now.yhi })
         (tile_at store.old id).value part store.old store.new) }
 {
-    let part = part_from(store, id, rows.ylo)?;
-    cut_top(store, part, rows.yhi)?;
+    let rest = part_from(store, id, rows.ylo)?;
+    let part = cut_top(store, rest, rows.yhi)?;
     Ok(part)
 }
 

@@ -9,8 +9,8 @@ returns-then-get-y-clause-part c =
     let same : to_z w64 (of_z w64 c.args.y) ≡ c.args.y = to_z-of_z w64 c.args.y c.ranges.y in
     let edge = ap (λ (t : Tile). t.area.ylo) c.get.ensures in
     let test = c.if-get-y.true in
-    let part = c.in_ok-part.part in
-    inr (c.args.id, omega (arith, ints), subst (λ (v : ℤ). IsCutAcross c.args.id c.args.id part v c.args.store.now c.split_across.new.store) same c.in_ok-part.ensures.cut)
+    let parts = c.in_ok-parts.parts in
+    inr (parts.0, omega (arith, ints), subst (λ (v : ℤ). IsCutAcross c.args.id parts.0 parts.1 v c.args.store.now c.cut_in_two.new.store) same c.in_ok-parts.ensures.cut)
 
 pub returns-clause-part : goal.returns-clause-part
 returns-clause-part c =

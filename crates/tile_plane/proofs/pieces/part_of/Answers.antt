@@ -13,14 +13,15 @@ returns-clause-laid c =
     let new = c.cut_top.new.store in
     let y = c.args.rows.now.ylo in
     let top = c.args.rows.now.yhi in
+    let rest = c.in_ok-rest.rest in
     let part = c.in_ok-part.part in
     let order = c.requires.high in
     let up = c.requires.to in
     let same_y : to_z w64 (of_z w64 y) ≡ y = to_z-of_z w64 y (search rules) in
     let same_top : to_z w64 (of_z w64 top) ≡ top = to_z-of_z w64 top (search rules) in
-    let is : IsPartFrom c.args.id part y old mid = subst (λ (v : ℤ). IsPartFrom c.args.id part v old mid) same_y c.in_ok-part.ensures.part in
-    let from : IsCutFrom c.args.id part y old mid = cut_from old mid c.args.id part y (omega (arith, ints)) is in
-    let ends = c.in_ok-cut_top.ensures in
-    let cut : IsTileCut part top mid new = subst (λ (v : ℤ). IsTileCut part v mid new) same_top ends.cut in
-    let area : (tile_at new part).area ≡ record (tile_at mid part).area { yhi = top } = subst (λ (v : ℤ). (tile_at new part).area ≡ record (tile_at mid part).area { yhi = v }) same_top ends.area in
-    laid_cut old mid new c.args.id part y top ends.partition c.requires.taken c.requires.from order up from.cut from.area from.value cut area ends.value
+    let is : IsPartFrom c.args.id rest y old mid = subst (λ (v : ℤ). IsPartFrom c.args.id rest v old mid) same_y c.in_ok-rest.ensures.part in
+    let from : IsCutFrom c.args.id rest y old mid = cut_from old mid c.args.id rest y (omega (arith, ints)) is in
+    let ends = c.in_ok-part.ensures in
+    let cut : IsTileCut rest top mid new = subst (λ (v : ℤ). IsTileCut rest v mid new) same_top ends.cut in
+    let area : (tile_at new part).area ≡ record (tile_at mid rest).area { yhi = top } = subst (λ (v : ℤ). (tile_at new part).area ≡ record (tile_at mid rest).area { yhi = v }) same_top ends.area in
+    laid_cut old mid new c.args.id rest part y top ends.partition c.requires.taken c.requires.from order up from.cut from.area from.value cut area ends.value
