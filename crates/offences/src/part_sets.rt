@@ -1,9 +1,9 @@
 //! The sets that parts have where the same tiles cover each square.
-ghost use Rattle.std.specs.Prelude.{◌≡◌, ◌<◌, ◌==◌, ◌++◌, ◌∷◌, [], All, AllPairs, length, map, IfOk, OnOk, if◌then◌else◌};
+ghost use Rattle.std.specs.Prelude.{◌≡◌, ◌<◌, ◌==◌, ◌++◌, ◌∷◌, [], All, AllPairs, length, map, OnOk, if◌then◌else◌};
 ghost use Rattle.offences.specs.PartSets.{AreInPartOrder, HaveSetsOf, all_sets};
 
 use crate::set_tiles::SetTile;
-use std::alloc::{AllocError, Global};
+use std::alloc::AllocError;
 use tech_model::PartSet;
 
 /// What a part has at a square.
@@ -23,19 +23,19 @@ fn push_material(sums: &mut Vec<PartSum>, sum: PartSum) -> Result<(), AllocError
     Ok(())
 }
 
-/// What each part has where these of the tiles stand, in the order of parts. The tiles are in that order, and so the members of one part
-/// stand in a row.
-pub fn part_sets(
-    alloc: Global,
+/// Lists what each part has where these of the tiles stand, in the order of parts, in the place of what the list had. The tiles are in that
+/// order, and so the members of one part stand in a row.
+pub fn list_part_sets(
     tiles: &[SetTile],
     members: &[usize],
-) -> Result<Vec<PartSum>, AllocError>
+    sums: &mut Vec<PartSum>,
+) -> Result<(), AllocError>
     requires within { All (λ member. member < length tiles.now) members.now }
     requires ordered { AreInPartOrder tiles.now }
     requires ascending { AllPairs ◌<◌ members.now }
-    ensures { IfOk result (λ sums. HaveSetsOf tiles.now members.now sums.items) }
+    ensures { OnOk result (HaveSetsOf tiles.now members.now sums.new.items) }
 {
-    let mut sums = Vec::new(alloc);
+    sums.clear();
     let mut sum = PartSum {
         part: 0,
         set: PartSet(0),
@@ -43,7 +43,7 @@ pub fn part_sets(
     for member in members {
         let tile = tiles[*member];
         if tile.part != sum.part {
-            push_material(&mut sums, sum)?;
+            push_material(sums, sum)?;
             sum = PartSum {
                 part: tile.part,
                 set: PartSet(0),
@@ -51,8 +51,8 @@ pub fn part_sets(
         }
         sum.set = PartSet(sum.set.0 | tile.set.0);
     }
-    push_material(&mut sums, sum)?;
-    Ok(sums)
+    push_material(sums, sum)?;
+    Ok(())
 }
 
 /// What all parts have together.

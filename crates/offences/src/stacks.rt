@@ -5,7 +5,7 @@ ghost use Rattle.rect_overlays.specs.Stacks.{AreStacks};
 ghost use Rattle.offences.specs.PartSets.{AreInPartOrder};
 ghost use Rattle.offences.specs.TypedStacks.{kind_of, has_kind, owner_of, StandsFor, StandForAll, StandForTiles, HasMembers};
 
-use crate::part_sets::{PartSum, all_sets, part_sets};
+use crate::part_sets::{PartSum, all_sets, list_part_sets};
 use crate::set_tiles::SetTile;
 use geo_core::{List, Rect};
 use rect_overlays::{Stack, overlay};
@@ -73,13 +73,14 @@ fn owner_of(raw: &RawTech, flat: Option<TypeId>, kinds: &[PartKind]) -> Option<P
     }
 }
 
-/// What the members of a stack make.
+/// What the members of a stack make. The list is for what the parts have, and is used again for the next stack.
 fn typed_stack_of(
     alloc: Global,
     tech: &Tech,
     tiles: &[SetTile],
     stack: Stack,
     plane: u8,
+    sums: &mut Vec<PartSum>,
 ) -> Result<TypedStack, AllocError>
     requires within { All (λ member. member < length tiles.now) stack.members.items }
     requires ordered { AreInPartOrder tiles.now }
@@ -87,7 +88,7 @@ fn typed_stack_of(
     ensures { IfOk result (StandsFor tech.now plane tiles.now stack) }
 {
     let Stack { area, members } = stack;
-    let sums = part_sets(alloc, tiles, members.as_slice())?;
+    list_part_sets(tiles, members.as_slice(), sums)?;
     let flat = tech.joined(plane, all_sets(sums.as_slice()));
     let kinds = kinds_of(alloc, tech, sums.as_slice(), plane)?;
     let owner = owner_of(tech.raw(), flat, kinds.as_slice());
@@ -119,9 +120,10 @@ fn typed_stacks_of(
     requires stacks { AreStacks (map (λ tile. tile.area) tiles.now) None stacks.items }
     ensures { IfOk result (λ typed_stacks. StandForAll tech.now plane tiles.now stacks.items typed_stacks.items) }
 {
+    let mut sums = Vec::new(alloc);
     let mut typed_stacks = Vec::with_capacity(alloc, stacks.len())?;
     for stack in stacks {
-        let typed_stack = typed_stack_of(alloc, tech, tiles, stack, plane)?;
+        let typed_stack = typed_stack_of(alloc, tech, tiles, stack, plane, &mut sums)?;
         typed_stacks.push(typed_stack)?;
     }
     Ok(typed_stacks)

@@ -4,11 +4,11 @@ use Rattle.offences.specs.declared.part_sets.PartSum.{PartSum}
 use Rattle.offences.specs.PartSets.{tile_at, HaveSetsOf}
 use Rattle.offences.proofs.SumLaws.{AreSumsUpTo, with_material, no_sums, next_part, same_part, all_summed}
 use Rattle.std.proofs.Common.{◌+◌, get_or, sym, subst}
-use Rattle.offences.proofs.part_sets.part_sets.Goals as goal
-use Rattle.offences.proofs.part_sets.part_sets.Goals.{then-tile-sum+in_ok-push_material, else-tile-sum}
+use Rattle.offences.proofs.part_sets.list_part_sets.Goals as goal
+use Rattle.offences.proofs.part_sets.list_part_sets.Goals.{then-tile-sum+in_ok-push_material, else-tile-sum}
 
 pub loop-member-init : goal.loop-member-init
-loop-member-init c = no_sums c.args.tiles.now c.args.members.now c.new-sums.result.items c.new-sums.ensures.items
+loop-member-init c = no_sums c.args.tiles.now c.args.members.now c.clear.new.self.items c.clear.ensures.items
 
 pub loop-member-preserved : goal.loop-member-preserved
 loop-member-preserved c =
