@@ -1,9 +1,9 @@
 -- A list of tiles that have only grown upward is as wide and as tall as before, and what a step up one column does.
-use Rattle.std.proofs.Common.{◌≡◌, inl, inr, ℕ, ℤ, pos, ◌+ℤ◌, ◌≤ℤ◌, ◌<ℤ◌, refl, sym, ◌∙◌, ap, subst, arith}
+use Rattle.std.proofs.Common.{◌≡◌, ◌≢◌, ◌⊎◌, inl, inr, ℕ, ℤ, pos, ◌+ℤ◌, ◌≤ℤ◌, ◌<ℤ◌, refl, sym, ◌∙◌, ap, subst, arith}
 use Rattle.std.proofs.lemmas.Bool.{cases_eq}
 use Rattle.std.proofs.lemmas.Int.{ints, by_lt_z}
 use Rattle.geo_core.specs.declared.squares.Rect.{Rect}
-use Rattle.geo_core.specs.Covering.{Covers}
+use Rattle.geo_core.specs.Covering.{Covers, IsProper}
 use Rattle.geo_core.specs.Planes.{AreSame}
 use Rattle.tile_plane.specs.Tiles.{Tiles, tile_at, IsTaken, Owns, IsPartition, HasStitches, value_at}
 use Rattle.tile_plane.specs.Walks.{square_at}
@@ -170,3 +170,28 @@ tall_begins tiles x from id partition owns =
           (record { covers = record { right_of_xlo = c.right_of_xlo; left_of_xhi = c.left_of_xhi; above_ylo = omega (arith, ints); below_yhi = omega (arith, ints) } })
           (record { covers = record { right_of_xlo = c.right_of_xlo; left_of_xhi = c.left_of_xhi; above_ylo = omega (arith, ints); below_yhi = omega (arith, ints) } });
     }
+
+-- the tile was passed before the walk came to this one, or is this one
+pub record IsBefore (tiles : Tiles) (before id : ℕ) : Type 0 where
+  pub taken : IsTaken tiles before
+  pub place : (before ≡ id) ⊎ ((tile_at tiles before).area.yhi ≤ℤ (tile_at tiles id).area.ylo)
+
+-- where the tile that the walk is at is joined, it stays
+pub before_joined : (old new : Tiles) (before id next : ℕ) → IsTaken old id → IsTaken new id → IsTaken old next
+    → (tile_at old next).area.ylo ≡ (tile_at old id).area.yhi → IsJoinedUp id next old new → IsBefore old before id → IsBefore new before id
+before_joined old new before id next id_taken still_taken next_taken meet join is = elim is.place [
+  | inl same ↦ record { taken = subst (IsTaken new) (sym same) still_taken; place = inl same }
+  | inr under ↦
+      let proper = id_taken.proper in
+      let more = next_taken.proper in
+      let not_id : before ≢ id = λ same.
+      let here : (tile_at old before).area.yhi ≡ (tile_at old id).area.yhi = ap (λ (k : ℕ). (tile_at old k).area.yhi) same in
+      omega (arith, ints, here) in
+      let not_next : before ≢ next = λ same.
+      let here : (tile_at old before).area.yhi ≡ (tile_at old next).area.yhi = ap (λ (k : ℕ). (tile_at old k).area.yhi) same in
+      omega (arith, ints, here) in
+      let alike = join.others before not_id not_next in
+      let top : (tile_at new before).area.yhi ≡ (tile_at old before).area.yhi = ap (λ (r : Rect). r.yhi) alike.area in
+      let low : (tile_at new id).area.ylo ≡ (tile_at old id).area.ylo = ap (λ (r : Rect). r.ylo) join.whole in
+      record { taken = record { proper = subst IsProper (sym alike.area) is.taken.proper }; place = inr (omega (arith, ints, top, low, under)) }
+]

@@ -99,7 +99,7 @@ fn may_join(lower: &Tile, upper: &Tile) -> bool
 }
 
 /// Joins the tiles of a column that meet at a height from `ylo` to `yhi` where they can be. The result is
-/// the tile of the column that has squares at `yhi`.
+/// the tile of the column that has squares just below `yhi`.
 pub fn join_column(store: &mut Store, x: i64, ylo: i64, yhi: i64, hint: u32) -> u32
     requires partition { IsPartition store.old }
     requires stitches { HasStitches store.old }
@@ -117,6 +117,7 @@ pub fn join_column(store: &mut Store, x: i64, ylo: i64, yhi: i64, hint: u32) -> 
     ensures tall { (y : ℤ) → ylo ≤ℤ (y +ℤ pos 1) → y <ℤ yhi → IsTallAt store.new x y }
 {
     let mut id = find(store, Square { x, y: ylo - 1 }, hint);
+    let mut before = id;
     'column: while store.get(id).area.yhi <= yhi {
         let next = above_at(store, id, x);
         let lower = store.get(id);
@@ -124,8 +125,22 @@ pub fn join_column(store: &mut Store, x: i64, ylo: i64, yhi: i64, hint: u32) -> 
         if may_join(&lower, &upper) {
             join_up(store, id, next);
         } else {
+            before = id;
             id = next;
         }
     }
-    id
+    below_or(store, id, yhi, before)
+}
+
+/// A tile where it has squares below a height, and else another.
+fn below_or(store: &Store, id: u32, y: i64, other: u32) -> u32
+    requires taken { IsTaken store.now id }
+    requires other_taken { IsTaken store.now other }
+    ensures { IsTaken store.now result }
+{
+    if store.get(id).area.ylo < y {
+        id
+    } else {
+        other
+    }
 }

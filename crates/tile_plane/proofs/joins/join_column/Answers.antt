@@ -1,4 +1,4 @@
-use Rattle.std.proofs.Common.{◌≡◌, ℤ, pos, ◌+ℤ◌, ◌-ℤ◌, ◌≤ℤ◌, w64, to_z, of_z, refl, sym, ◌∙◌, ap, subst, arith}
+use Rattle.std.proofs.Common.{◌≡◌, inl, inr, ℤ, pos, ◌+ℤ◌, ◌-ℤ◌, ◌≤ℤ◌, w64, to_z, of_z, refl, sym, ◌∙◌, ap, subst, arith}
 use Rattle.std.proofs.lemmas.Int.{ints, to_z-of_z}
 use Rattle.geo_core.specs.declared.squares.Rect.{Rect}
 use Rattle.tile_plane.specs.declared.tiles.Tile.{Tile}
@@ -8,7 +8,7 @@ use Rattle.tile_plane.specs.Tall.{IsTallAt, AreGrown}
 use Rattle.tile_plane.proofs.TileLaws.{owner_taken}
 use Rattle.tile_plane.proofs.SideLaws.{beside_above}
 use Rattle.tile_plane.proofs.WalkLaws.{extent_falls}
-use Rattle.tile_plane.proofs.KeepLaws.{AreJoining, IsTallBelow, grown_self, grown_then, join_grows, tall_begins, tall_on, tall_joined}
+use Rattle.tile_plane.proofs.KeepLaws.{AreJoining, IsTallBelow, grown_self, grown_then, join_grows, tall_begins, tall_on, tall_joined, before_joined}
 use Rattle.tile_plane.proofs.joins.join_column.Goals as goal
 
 pub column-init : goal.column-init
@@ -19,10 +19,12 @@ column-init c =
     let same_x : x ≡ c.args.x = to_z-of_z w64 c.args.x c.ranges.x in
     let same_y : to_z w64 (of_z w64 c.args.ylo) ≡ c.args.ylo = to_z-of_z w64 c.args.ylo c.ranges.ylo in
     let row : to_z w64 (of_z w64 from) ≡ from = omega (arith, ints) in
-    let owns : Owns c.args.store.now c.find-id.result (square_at x from) = subst (λ (v : ℤ). Owns c.args.store.now c.find-id.result (square_at x v)) row c.find-id.ensures in (
-      record { partition = c.requires.partition; stitches = c.requires.stitches; same = λ s. refl; grown = grown_self c.args.store.now },
-      tall_begins c.args.store.now x from c.find-id.result c.requires.partition owns,
-    )
+    let owns : Owns c.args.store.now c.find-id.result (square_at x from) = subst (λ (v : ℤ). Owns c.args.store.now c.find-id.result (square_at x v)) row c.find-id.ensures in
+    record {
+      joining = record { partition = c.requires.partition; stitches = c.requires.stitches; same = λ s. refl; grown = grown_self c.args.store.now };
+      below = tall_begins c.args.store.now x from c.find-id.result c.requires.partition owns;
+      before = record { taken = owner_taken c.args.store.now c.find-id.result _ owns; place = inl refl };
+    }
 
 pub get-upper-requires : goal.get-upper-requires
 get-upper-requires c =
@@ -31,8 +33,8 @@ get-upper-requires c =
     let next = c.above_at-next.result in
     let x = to_z w64 (of_z w64 c.args.x) in
     let same_x : x ≡ c.args.x = to_z-of_z w64 c.args.x c.ranges.x in
-    let joining : AreJoining c.args.store.now tiles = c.column.invariant.0 in
-    let below : IsTallBelow tiles x (to_z w64 (of_z w64 c.args.ylo) -ℤ pos 1) id = c.column.invariant.1 in
+    let joining : AreJoining c.args.store.now tiles = c.column.invariant.joining in
+    let below : IsTallBelow tiles x (to_z w64 (of_z w64 c.args.ylo) -ℤ pos 1) id = c.column.invariant.below in
     let edge = ap (λ (t : Tile). t.area.yhi) c.get.ensures in
     let test = c.column-test.true in
     let top : (tile_at tiles id).area.yhi ≤ℤ c.args.yhi = omega (arith, ints) in
@@ -50,8 +52,8 @@ join_up-requires-clause-other_taken c =
     let next = c.above_at-next.result in
     let x = to_z w64 (of_z w64 c.args.x) in
     let same_x : x ≡ c.args.x = to_z-of_z w64 c.args.x c.ranges.x in
-    let joining : AreJoining c.args.store.now tiles = c.column.invariant.0 in
-    let below : IsTallBelow tiles x (to_z w64 (of_z w64 c.args.ylo) -ℤ pos 1) id = c.column.invariant.1 in
+    let joining : AreJoining c.args.store.now tiles = c.column.invariant.joining in
+    let below : IsTallBelow tiles x (to_z w64 (of_z w64 c.args.ylo) -ℤ pos 1) id = c.column.invariant.below in
     let edge = ap (λ (t : Tile). t.area.yhi) c.get.ensures in
     let test = c.column-test.true in
     let top : (tile_at tiles id).area.yhi ≤ℤ c.args.yhi = omega (arith, ints) in
@@ -69,8 +71,8 @@ join_up-requires-clause-meet c =
     let next = c.above_at-next.result in
     let x = to_z w64 (of_z w64 c.args.x) in
     let same_x : x ≡ c.args.x = to_z-of_z w64 c.args.x c.ranges.x in
-    let joining : AreJoining c.args.store.now tiles = c.column.invariant.0 in
-    let below : IsTallBelow tiles x (to_z w64 (of_z w64 c.args.ylo) -ℤ pos 1) id = c.column.invariant.1 in
+    let joining : AreJoining c.args.store.now tiles = c.column.invariant.joining in
+    let below : IsTallBelow tiles x (to_z w64 (of_z w64 c.args.ylo) -ℤ pos 1) id = c.column.invariant.below in
     let edge = ap (λ (t : Tile). t.area.yhi) c.get.ensures in
     let test = c.column-test.true in
     let top : (tile_at tiles id).area.yhi ≤ℤ c.args.yhi = omega (arith, ints) in
@@ -88,8 +90,8 @@ column-preserved-then-may_join c =
     let next = c.above_at-next.result in
     let x = to_z w64 (of_z w64 c.args.x) in
     let same_x : x ≡ c.args.x = to_z-of_z w64 c.args.x c.ranges.x in
-    let joining : AreJoining c.args.store.now tiles = c.column.invariant.0 in
-    let below : IsTallBelow tiles x (to_z w64 (of_z w64 c.args.ylo) -ℤ pos 1) id = c.column.invariant.1 in
+    let joining : AreJoining c.args.store.now tiles = c.column.invariant.joining in
+    let below : IsTallBelow tiles x (to_z w64 (of_z w64 c.args.ylo) -ℤ pos 1) id = c.column.invariant.below in
     let edge = ap (λ (t : Tile). t.area.yhi) c.get.ensures in
     let test = c.column-test.true in
     let top : (tile_at tiles id).area.yhi ≤ℤ c.args.yhi = omega (arith, ints) in
@@ -106,15 +108,18 @@ column-preserved-then-may_join c =
     let value : (tile_at tiles next).value ≡ (tile_at tiles id).value = sym (ap (λ (t : Tile). t.value) q) ∙ sym yes.2 ∙ ap (λ (t : Tile). t.value) p in
     let joined = c.join_up.ensures.joined in
     let taken = owner_taken tiles next _ owns in
-    let grows : AreGrown tiles c.join_up.new.store = join_grows tiles c.join_up.new.store id next below.taken taken meet low high value joined in (
-      record {
+    let grows : AreGrown tiles c.join_up.new.store = join_grows tiles c.join_up.new.store id next below.taken taken meet low high value joined in
+    let still = tall_joined tiles c.join_up.new.store x _ id next c.join_up.ensures.partition grows below taken meet joined in
+    record {
+      joining = record {
         partition = c.join_up.ensures.partition;
         stitches = c.join_up.ensures.stitches;
         same = λ s. c.join_up.ensures.same s ∙ joining.same s;
         grown = grown_then c.args.store.now tiles c.join_up.new.store joining.grown grows;
-      },
-      tall_joined tiles c.join_up.new.store x _ id next c.join_up.ensures.partition grows below taken meet joined,
-    )
+      };
+      below = still;
+      before = before_joined tiles c.join_up.new.store c.column.before id next below.taken still.taken taken meet joined c.column.invariant.before;
+    }
 
 pub column-smaller-then-may_join : goal.column-smaller-then-may_join
 column-smaller-then-may_join c =
@@ -123,8 +128,8 @@ column-smaller-then-may_join c =
     let next = c.above_at-next.result in
     let x = to_z w64 (of_z w64 c.args.x) in
     let same_x : x ≡ c.args.x = to_z-of_z w64 c.args.x c.ranges.x in
-    let joining : AreJoining c.args.store.now tiles = c.column.invariant.0 in
-    let below : IsTallBelow tiles x (to_z w64 (of_z w64 c.args.ylo) -ℤ pos 1) id = c.column.invariant.1 in
+    let joining : AreJoining c.args.store.now tiles = c.column.invariant.joining in
+    let below : IsTallBelow tiles x (to_z w64 (of_z w64 c.args.ylo) -ℤ pos 1) id = c.column.invariant.below in
     let edge = ap (λ (t : Tile). t.area.yhi) c.get.ensures in
     let test = c.column-test.true in
     let top : (tile_at tiles id).area.yhi ≤ℤ c.args.yhi = omega (arith, ints) in
@@ -146,8 +151,8 @@ column-smaller c =
     let next = c.above_at-next.result in
     let x = to_z w64 (of_z w64 c.args.x) in
     let same_x : x ≡ c.args.x = to_z-of_z w64 c.args.x c.ranges.x in
-    let joining : AreJoining c.args.store.now tiles = c.column.invariant.0 in
-    let below : IsTallBelow tiles x (to_z w64 (of_z w64 c.args.ylo) -ℤ pos 1) id = c.column.invariant.1 in
+    let joining : AreJoining c.args.store.now tiles = c.column.invariant.joining in
+    let below : IsTallBelow tiles x (to_z w64 (of_z w64 c.args.ylo) -ℤ pos 1) id = c.column.invariant.below in
     let edge = ap (λ (t : Tile). t.area.yhi) c.get.ensures in
     let test = c.column-test.true in
     let top : (tile_at tiles id).area.yhi ≤ℤ c.args.yhi = omega (arith, ints) in
@@ -168,8 +173,8 @@ column-preserved c =
     let next = c.above_at-next.result in
     let x = to_z w64 (of_z w64 c.args.x) in
     let same_x : x ≡ c.args.x = to_z-of_z w64 c.args.x c.ranges.x in
-    let joining : AreJoining c.args.store.now tiles = c.column.invariant.0 in
-    let below : IsTallBelow tiles x (to_z w64 (of_z w64 c.args.ylo) -ℤ pos 1) id = c.column.invariant.1 in
+    let joining : AreJoining c.args.store.now tiles = c.column.invariant.joining in
+    let below : IsTallBelow tiles x (to_z w64 (of_z w64 c.args.ylo) -ℤ pos 1) id = c.column.invariant.below in
     let edge = ap (λ (t : Tile). t.area.yhi) c.get.ensures in
     let test = c.column-test.true in
     let top : (tile_at tiles id).area.yhi ≤ℤ c.args.yhi = omega (arith, ints) in
@@ -179,13 +184,15 @@ column-preserved c =
     let owns : Owns tiles next (square_at x (tile_at tiles id).area.yhi) = c.above_at-next.ensures (omega (arith, ints)) in
     let meet : (tile_at tiles next).area.ylo ≡ (tile_at tiles id).area.yhi = beside_above tiles id next x joining.partition below.taken below.low below.high owns in
     let p = c.get-lower.ensures in
-    let q = c.get-upper.ensures in (
-      joining,
-      tall_on tiles x _ id next joining.partition below owns meet (λ low high value. c.if-may_join.ensures.no refl
+    let q = c.get-upper.ensures in
+    record {
+      joining = joining;
+      below = tall_on tiles x _ id next joining.partition below owns meet (λ low high value. c.if-may_join.ensures.no refl
           (ap (λ (t : Tile). t.area.xlo) p ∙ low ∙ sym (ap (λ (t : Tile). t.area.xlo) q))
           (ap (λ (t : Tile). t.area.xhi) p ∙ high ∙ sym (ap (λ (t : Tile). t.area.xhi) q))
-          (ap (λ (t : Tile). t.value) p ∙ value ∙ sym (ap (λ (t : Tile). t.value) q))),
-    )
+          (ap (λ (t : Tile). t.value) p ∙ value ∙ sym (ap (λ (t : Tile). t.value) q)));
+      before = record { taken = below.taken; place = inr (omega (arith, ints, meet)) };
+    }
 
 pub returns-clause-tall : goal.returns-clause-tall
 returns-clause-tall c = λ y p q.
@@ -193,5 +200,5 @@ returns-clause-tall c = λ y p q.
     let same_y : to_z w64 (of_z w64 c.args.ylo) ≡ c.args.ylo = to_z-of_z w64 c.args.ylo c.ranges.ylo in
     let edge = ap (λ (t : Tile). t.area.yhi) c.get.ensures in
     let test = c.column-test.false in
-    let below = c.column.invariant.1 in
+    let below = c.column.invariant.below in
     subst (λ (v : ℤ). IsTallAt c.column.store v y) same_x (below.done y (omega (arith, ints)) (omega (arith, ints)))
