@@ -151,3 +151,37 @@ fn many_teeth_cross_a_strip(rt: HostRuntime) -> Result<(), Fail> {
     assert!(rt; crossings_are_listed(rt.alloc())?);
     Ok(())
 }
+
+/// So many wires cross a row of contacts.
+const WIRES: u16 = 25_000;
+
+/// Rectangles of two columns in these rows, one for each wire, each 8 from the next.
+fn spaced(alloc: Global, from: u8, ylo: i64, yhi: i64) -> Result<Vec<Rect>, AllocError> {
+    let mut found = Vec::new(alloc);
+    for wire in 0..WIRES {
+        let x = 8 * i64::from(wire) + i64::from(from);
+        found.push(rect([x, ylo, x + 2, yhi]))?;
+    }
+    Ok(found)
+}
+
+/// Sets a strip, contacts in it, and then wires that cross it between these, and lists the wires.
+fn wires_are_listed(alloc: Global) -> Result<bool, PlaneFault> {
+    let mut plane = TilePlane::new(alloc)?;
+    let wires = spaced(alloc, 0, 0, 6)?;
+    let contacts = spaced(alloc, 4, 2, 4)?;
+    let mut done = set(&mut plane, rect([0, 0, 8 * i64::from(WIRES), 6]), 1)?;
+    for contact in &contacts {
+        done = done && set(&mut plane, *contact, 2)?;
+    }
+    for wire in &wires {
+        done = done && set(&mut plane, *wire, 3)?;
+    }
+    Ok(done && has_strips(&plane, 3, wires.as_slice())?)
+}
+
+#[test]
+fn many_wires_cross_a_row_of_contacts(rt: HostRuntime) -> Result<(), Fail> {
+    assert!(rt; wires_are_listed(rt.alloc())?);
+    Ok(())
+}
