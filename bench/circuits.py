@@ -4,8 +4,8 @@
     bench/circuits.py [--trees 10000,100000,1000000] [--cells 5000,10000,20000] [--program PATH]
 
 A tree has as many records of nodes: leaves of 100 nodes, 100 of them in a row, and rows in the root; in `chains` every node is joined with the one of
-the next leaf by a merge. A cell is a comb of transistors, whose load is timed by itself and taken off. For each it prints seconds, peak megabytes, and the power of n by which
-time grew.
+the next leaf by a merge. A cell is a comb of transistors, whose load is timed by itself and taken off, or a row of them with taps between, which is loaded alone. For each it
+prints seconds, peak megabytes, and the power of n by which time grew.
 """
 import argparse
 import math
@@ -29,6 +29,7 @@ types
  active poly
  active diff
  active efet
+ active tap
 end
 compose
  compose efet poly diff
@@ -84,6 +85,16 @@ def comb(count, folder):
     (folder / "run.script").write_text("tech nm\nload comb\nsim comb\n")
 
 
+def row(count, folder):
+    """A cell of so many transistors as in the comb, with a tap in the diffusion between each two."""
+    (folder / "nm.tech").write_text(NM)
+    taps = "".join(f"rect {8 * k + 4} 2 {8 * k + 6} 4\n" for k in range(count))
+    wires = "".join(f"rect {8 * k} -2 {8 * k + 2} 8\n" for k in range(count))
+    (folder / "row.mag").write_text(
+        f"magic\ntech nm\ntimestamp 0\n<< diff >>\nrect 0 0 {8 * count} 6\n<< tap >>\n{taps}<< poly >>\n{wires}<< end >>\n")
+    (folder / "row.script").write_text("tech nm\nload row\n")
+
+
 def grown(before, size, seconds):
     return f"n^{math.log(seconds / before[1]) / math.log(size / before[0]):.2f}" if before and seconds > 0 and before[1] > 0 else ""
 
@@ -117,6 +128,14 @@ def main():
         print(f"{'load comb':>10} {size:>9} {load.seconds:>8.2f} {load.megabytes:>7.0f}  {grown(loaded, size, load.seconds)}", flush=True)
         print(f"{'sim comb':>10} {size:>9} {seconds:>8.2f} {run.megabytes:>7.0f}  {grown(before, size, seconds)}", flush=True)
         loaded, before = (size, load.seconds), (size, seconds)
+    before = None
+    for size in map(int, options.cells.split(",")):
+        with tempfile.TemporaryDirectory() as folder:
+            row(size, Path(folder))
+            load = timed([options.program], Path(folder) / "row.script", folder)
+        assert load.status == 0, load.status
+        print(f"{'load row':>10} {size:>9} {load.seconds:>8.2f} {load.megabytes:>7.0f}  {grown(before, size, load.seconds)}", flush=True)
+        before = (size, load.seconds)
 
 
 if __name__ == "__main__":
