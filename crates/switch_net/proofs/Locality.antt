@@ -11,18 +11,20 @@ use Rattle.switch_net.specs.Steady.{AllRootsAre, IsSteadyValue}
 use Rattle.switch_net.proofs.Paths.{NotOvercome, drop_not_overcome, drop_unblocked, unblocked-hop, unblocked-root}
 use Rattle.switch_net.proofs.Ranges.{strength_low, at_input, end_in_range, input_strength, input_stands}
 
--- two states agree on a part, on the inputs and on the gates of all switches that end in the part, and conducting switches lead from inputs or the part alone
+-- two states agree on a part, on the gates of all switches that end in the part, and on the inputs from which conducting switches lead to it, and
+-- conducting switches lead from inputs or the part alone
 pub record AgreeOn (net : Network) (s t : List Level) (V : ℕ → Type 0) : Type 0 where
   pub closed : (w : Switch) (a b : ℕ) → Contains net.switches w → Joins w a b → is_closed_or_unknown s w ≡ true → V b → V a ⊎ (is_input net a ≡ true)
   pub gates : (w : Switch) (a b : ℕ) → Contains net.switches w → Joins w a b → V b → state_of s w.gate ≡ state_of t w.gate
-  pub inputs : (v : ℕ) → is_input net v ≡ true → state_of s v ≡ state_of t v
+  pub inputs : (w : Switch) (a b : ℕ) → Contains net.switches w → Joins w a b → is_closed_or_unknown s w ≡ true → is_input net a ≡ true → V b
+      → state_of s a ≡ state_of t a
   pub nodes : (v : ℕ) → V v → state_of s v ≡ state_of t v
 
 pub other_way : (net : Network) (s t : List Level) (V : ℕ → Type 0) → AgreeOn net s t V → AgreeOn net t s V
 other_way net s t V g = record {
   closed = λ w a b c j o in_b. let e = g.gates w a b c j in_b in g.closed w a b c j (rw e o) in_b;
   gates = λ w a b c j in_b. sym (g.gates w a b c j in_b);
-  inputs = λ v e. sym (g.inputs v e);
+  inputs = λ w a b c j o input in_b. let e = g.gates w a b c j in_b in sym (g.inputs w a b c j (rw e o) input in_b);
   nodes = λ v e. sym (g.nodes v e);
 }
 
@@ -113,7 +115,7 @@ same net s t V sound g root (h ∷ p) i u in_v =
           let whole : IsSame net s t root [] = record {
             is_path = range;
             is_unblocked = unblocked-root net t root (input_stands net t sound root root_input);
-            same_root = g.inputs root root_input;
+            same_root = let one = g.inputs h.through (end_of root p) h.to i.1 i.2 i.3 input in_v in rw nil at one;
           } in
           rw nil whole)
     ] in

@@ -33,7 +33,7 @@ module _ (net : Network) (s : List Level) where
   along n a [] v i = v
   along n a (h ∷ p) v i = in_more n (end_of a p) h.to h.through (along n a p v i.0) i.1 i.2 i.3 i.4
 
-  turned : (w : Switch) (a b : ℕ) → Joins w a b → Joins w b a
+  pub turned : (w : Switch) (a b : ℕ) → Joins w a b → Joins w b a
   turned w a b (inl (p, q)) = inr (q, p)
   turned w a b (inr (p, q)) = inl (q, p)
 
@@ -65,7 +65,7 @@ module _ (net : Network) (sound : IsSound net) (s t : List Level) (step : IsStep
       | inl e ↦ sym e
       | inr ne ↦ absurd (none_seed b i (elim j [ inl x ↦ rw (← x.1) (seeds.right w c ne) | inr x ↦ rw (← x.1) (seeds.left w c ne) ]))
     ];
-    inputs = λ u e. (step.each u (input_in_range net sound u e)).input e;
+    inputs = λ w a b c j o e i. (step.each a (input_in_range net sound a e)).input e;
     nodes = λ u i. elim (level_cases (state_of s u) (state_of t u)) [ inl e ↦ sym e | inr ne ↦ absurd (none_seed u i (seeds.changed u ne)) ];
   }
 
