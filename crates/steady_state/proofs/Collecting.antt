@@ -1,5 +1,5 @@
 -- Marks.
-use Rattle.std.proofs.Common.{◌≡◌, ℕ, ◌+◌, ◌<◌, ◌≤◌, List, [], ◌∷◌, Bool, true, ◌⊎◌, inl, inr, refl, sym, ap, subst, arith, length, ◌∙◌}
+use Rattle.std.proofs.Common.{◌≡◌, ℕ, ◌+◌, ◌<◌, ◌≤◌, List, [], ◌∷◌, Bool, true, inl, inr, refl, sym, ap, subst, arith, length, ◌∙◌}
 use Rattle.std.proofs.Common.{slice_index, slice_index_or}
 use Rattle.std.specs.Prelude.{Contains}
 use Rattle.std.proofs.lemmas.Bool.{cases_eq}

@@ -4,3 +4,4 @@ pub mod Passes
 pub mod Collecting
 pub mod Moving
 pub mod Wires
+pub mod Resting

@@ -1,14 +1,17 @@
 -- Marked nodes.
 use Rattle.std.specs.Prelude.{◌≡◌, ℕ, ◌<◌, ◌≤◌, List, Bool, true, slice_index, slice_index_or, length}
+use Rattle.finite_sets.specs.Lists.{In}
 use Rattle.switch_net.specs.declared.node_set.NodeSet.{NodeSet}
 use Rattle.switch_net.specs.declared.switches.Level.{Level}
 use Rattle.switch_net.specs.declared.switches.Switch.{Switch}
 use Rattle.switch_net.specs.declared.terminals.Side.{Side}
+use Rattle.switch_net.specs.declared.terminals.Terminal.{Terminal}
+use Rattle.switch_net.specs.declared.terminals.Terminal.TheVariants.{Gate}
 use Rattle.switch_net.specs.Network.{Network}
 use Rattle.switch_net.specs.Path.{is_closed_or_unknown, state_of}
 use Rattle.switch_net.specs.Sets.{IsInside}
 use Rattle.switch_net.specs.Steady.{IsNextLevel}
-use Rattle.switch_net.specs.Terminals.{near_end, far_end}
+use Rattle.switch_net.specs.Terminals.{near_end, far_end, node_at}
 use Rattle.switch_net.specs.Vicinity.{IsStorage, IsInVicinity, IsReached}
 
 -- a state for each node
@@ -44,12 +47,24 @@ IsCovered net s side inside v =
 abbrev pub EndsInside : Network → List Bool → Switch → Type 0
 EndsInside net inside switch = (IsStorage net switch.left → IsInside inside switch.left) × (IsStorage net switch.right → IsInside inside switch.right)
 
+-- those of all switches are that have the node at the terminal
+abbrev pub AreMarkedAt : Network → List Bool → Terminal → ℕ → Type 0
+AreMarkedAt net inside terminal v = (k : ℕ) (d : Switch) → k < length net.switches → node_at terminal (slice_index_or net.switches k d) ≡ v →
+    EndsInside net inside (slice_index_or net.switches k d)
+
 -- those of all switches are whose gate is the node
 abbrev pub IsGated : Network → List Bool → ℕ → Type 0
-IsGated net inside v = (k : ℕ) (d : Switch) → k < length net.switches → (slice_index_or net.switches k d).gate ≡ v →
-    EndsInside net inside (slice_index_or net.switches k d)
+IsGated net inside v = AreMarkedAt net inside Gate v
+
+-- those of all switches are that have the node somewhere
+abbrev pub IsTouched : Network → List Bool → ℕ → Type 0
+IsTouched net inside v = (terminal : Terminal) → AreMarkedAt net inside terminal v
 
 -- a storage node in no vicinity of a marked node keeps its state in a step
 abbrev pub IsQuiet : Network → List Level → List Bool → Type 0
 IsQuiet net s inside =
     (v : ℕ) → IsStorage net v → ((m : ℕ) → IsInside inside m → IsInVicinity net s m v → ⊥) → IsNextLevel net s v (state_of s v)
+
+-- A step changes nothing but in vicinities of the ends of switches that have one of these nodes somewhere.
+abbrev pub IsRestedBut : Network → List Level → List ℕ → Type 0
+IsRestedBut net s nodes = (inside : List Bool) → ((v : ℕ) → In v nodes → IsTouched net inside v) → IsQuiet net s inside

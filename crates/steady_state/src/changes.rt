@@ -1,16 +1,16 @@
-//! What a step changed, and what may change in the next.
+//! What a step changed, and what may change in the next, or in the first step after inputs were set.
 
 ghost use Rattle.std.specs.Prelude.{◌≡◌, ◌≢◌, ◌<◌, ◌≤◌, ℕ, All, length, slice_index};
 ghost use Rattle.switch_net.specs.Path.{state_of};
 ghost use Rattle.switch_net.specs.Vicinity.{IsStorage};
 ghost use Rattle.steady_state.specs.Wired.{network_in, IsSwitchOf};
 ghost use Rattle.switch_net.specs.Sets.{IsInside, IsAmong};
-ghost use Rattle.steady_state.specs.Marked.{AreMarked, EndsInside, IsGated};
+ghost use Rattle.steady_state.specs.Marked.{AreMarked, AreMarkedAt, EndsInside, IsGated, IsTouched};
 
 use crate::adjacent::switches_at;
 use crate::marking::mark;
 use crate::wiring::Wiring;
-use switch_net::{Level, NodeSet, Switch, Terminal};
+use switch_net::{Level, NodeSet, Side, Switch, Terminal};
 
 /// Lists the nodes of the list whose states differ, and says how many those are.
 pub(crate) fn changes(order: &[u32], state: &[Level], next: &[Level], changed: &mut [u32]) -> usize
@@ -61,16 +61,16 @@ fn mark_ends(net: &Wiring<'_>, switch: &Switch, marks: &mut NodeSet)
     mark(net, switch.right, marks);
 }
 
-/// Marks the ends of the switches that a node gates.
-fn mark_gated(net: &Wiring<'_>, node: usize, marks: &mut NodeSet)
+/// Marks the ends of the switches that have a node at a terminal.
+fn mark_at(net: &Wiring<'_>, terminal: Terminal, node: usize, marks: &mut NodeSet)
     requires node { node < net.now.nodes }
     requires marks { AreMarked (network_in net.now) marks.old }
     ensures marks { AreMarked (network_in net.now) marks.new }
     ensures grown { (v : ℕ) → IsInside marks.old.inside v → IsInside marks.new.inside v }
-    ensures gated { IsGated (network_in net.now) marks.new.inside node }
+    ensures ends { AreMarkedAt (network_in net.now) marks.new.inside terminal node }
 {
-    let places = switches_at(net, Terminal::Gate, node);
-    'gated: for place in places {
+    let places = switches_at(net, terminal, node);
+    'switches: for place in places {
         let switch = net.switches[*place as usize];
         mark_ends(net, &switch, marks);
     }
@@ -89,6 +89,32 @@ pub(crate) fn mark_changed(net: &Wiring<'_>, changed: &[u32], marks: &mut NodeSe
 {
     'changed: for node in changed {
         mark(net, *node, marks);
-        mark_gated(net, *node as usize, marks);
+        mark_at(net, Terminal::Gate, *node as usize, marks);
+    }
+}
+
+/// Marks the ends of all switches that have a node somewhere.
+fn mark_touched(net: &Wiring<'_>, node: usize, marks: &mut NodeSet)
+    requires node { node < net.now.nodes }
+    requires marks { AreMarked (network_in net.now) marks.old }
+    ensures marks { AreMarked (network_in net.now) marks.new }
+    ensures grown { (v : ℕ) → IsInside marks.old.inside v → IsInside marks.new.inside v }
+    ensures touched { IsTouched (network_in net.now) marks.new.inside node }
+{
+    mark_at(net, Terminal::Gate, node, marks);
+    mark_at(net, Terminal::End(Side::Left), node, marks);
+    mark_at(net, Terminal::End(Side::Right), node, marks);
+}
+
+/// Marks what may change first where a network rests but for these nodes.
+pub(crate) fn mark_all_touched(net: &Wiring<'_>, nodes: &[u32], marks: &mut NodeSet)
+    requires nodes { All (λ v. v < net.now.nodes) nodes.now }
+    requires marks { AreMarked (network_in net.now) marks.old }
+    ensures marks { AreMarked (network_in net.now) marks.new }
+    ensures touched { (i : ℕ) → i < length nodes.now
+        → IsTouched (network_in net.now) marks.new.inside (slice_index nodes.now i) }
+{
+    'nodes: for node in nodes {
+        mark_touched(net, *node as usize, marks);
     }
 }

@@ -2,7 +2,8 @@
 //! later one at the vicinities of what changed: at the nodes that the step before changed, at both
 //! ends of the switches that these gate, at what closed or unknown switches join to them through
 //! nodes that store charge, and at the switches of all those. So a phase costs a walk over the
-//! network once, and then what its changes cost. It takes no memory.
+//! network once, and then what its changes cost. Where inputs alone were set since the network
+//! rested, the first step looks at what they lead to, and the walk is spared. It takes no memory.
 //!
 //! # How the proof goes
 //!
@@ -16,6 +17,8 @@
 //! the steady value: one where no unblocked path has a root in another state than one, and likewise
 //! zero. A step of the marked vicinities is a step of the network where all other nodes are quiet
 //! (`Collecting`, `Moving`), and after it the nodes are quiet that are in no vicinity of what changed.
+//! Where a network rests and an input is set, the nodes are quiet that are in no vicinity of the ends
+//! of switches at which the input stands (`Resting`).
 #![tactic(auto)]
 
 mod adjacent;
@@ -29,4 +32,4 @@ mod spreading;
 mod stepping;
 mod wiring;
 
-pub use settling::{Settled, settle, step, step_within};
+pub use settling::{Settled, settle, settle_from, step, step_within};

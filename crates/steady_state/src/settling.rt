@@ -1,15 +1,16 @@
 //! Steps and phases of a network.
 
-ghost use Rattle.std.specs.Prelude.{◌≡◌, ◌<◌, ℕ, All, IfOk, length};
+ghost use Rattle.std.specs.Prelude.{◌≡◌, ◌<◌, ℕ, All, IfOk, IfSome, length};
 ghost use Rattle.switch_net.specs.Arrays.{AreStrengthsFor};
 ghost use Rattle.switch_net.specs.Net.{network_of};
 ghost use Rattle.switch_net.specs.Path.{state_of};
 ghost use Rattle.switch_net.specs.Steady.{IsStep, IsSteadyValue};
 ghost use Rattle.switch_net.specs.Phase.{IsPhase};
 ghost use Rattle.switch_net.specs.Vicinity.{IsReached};
+ghost use Rattle.steady_state.specs.Marked.{AreMarked, IsQuiet, IsRestedBut, States};
 ghost use Rattle.steady_state.specs.Wired.{network_in};
 
-use crate::changes::{changes, commit, mark_changed};
+use crate::changes::{changes, commit, mark_all_touched, mark_changed};
 use crate::stepping::{clear_strengths, mark_afresh, step_all, step_marked, step_seeds};
 use crate::wiring::Wiring;
 use std::alloc::Global;
@@ -51,6 +52,25 @@ pub fn settle(net: &mut Net, state: &mut [Level], budget: u32) -> Settled
         result.done result.steps state.new }
     ensures net { network_of net.new ≡ network_of net.old }
 {
+    settle_from(net, state, None, budget)
+}
+
+/// Settles as `settle` does. Where some nodes are told, the network rests but for them: a step
+/// changes nothing that switches at which they stand do not lead to. The phase then costs what its
+/// changes cost, beside the copy of a byte or two for each node.
+pub fn settle_from(
+    net: &mut Net,
+    state: &mut [Level],
+    touched: Option<&[u32]>,
+    budget: u32,
+) -> Settled
+    requires state { length state.old ≡ net.old.nodes }
+    requires within { IfSome touched (λ nodes. All (λ v. v < net.old.nodes) nodes.now) }
+    requires rested { IfSome touched (λ nodes. IsRestedBut (network_of net.old) state.old nodes.now) }
+    ensures phase { IsPhase (network_of net.old) budget state.old
+        result.done result.steps state.new }
+    ensures net { network_of net.new ≡ network_of net.old }
+{
     let wiring = Wiring {
         nodes: net.nodes,
         switches: net.switches.items(),
@@ -58,6 +78,7 @@ pub fn settle(net: &mut Net, state: &mut [Level], budget: u32) -> Settled
         inputs: net.inputs.items(),
         adjacency: &net.work.adjacency,
     };
+    mark_first(&wiring, touched, &mut net.work.marks);
     take_steps(
         &wiring,
         state,
@@ -99,8 +120,25 @@ pub fn step_within(net: &mut Net, old: &[Level], new: &mut [Level], seeds: &[u32
     );
 }
 
-/// Takes steps until a step changes nothing, at most as many as the budget, whatever the arrays
-/// hold. A step after the first works on the vicinities alone in which something may change.
+/// Marks what may change in the first step: every node, or what these lead to.
+fn mark_first(net: &Wiring<'_>, touched: Option<&[u32]>, marks: &mut NodeSet)
+    requires fits { length marks.old.inside ≡ net.now.nodes }
+    requires within { IfSome touched (λ nodes. All (λ v. v < net.now.nodes) nodes.now) }
+    ensures marks { AreMarked (network_in net.now) marks.new }
+    ensures quiet { (s : States) → IfSome touched.entry (λ nodes. IsRestedBut (network_in net.now) s nodes.now)
+        → IsQuiet (network_in net.now) s marks.new.inside }
+{
+    match touched {
+        None => mark_afresh(net, marks),
+        Some(nodes) => {
+            marks.clear();
+            mark_all_touched(net, nodes, marks);
+        }
+    }
+}
+
+/// Takes steps until a step changes nothing, at most as many as the budget, whatever the other
+/// arrays hold. Each step works on the vicinities alone in which something may change.
 fn take_steps(
     net: &Wiring<'_>,
     state: &mut [Level],
@@ -111,7 +149,8 @@ fn take_steps(
     changed: &mut [u32],
 ) -> Settled
     requires state { length state.old ≡ net.now.nodes }
-    requires marks { length marks.old.inside ≡ net.now.nodes }
+    requires marks { AreMarked (network_in net.now) marks.old }
+    requires quiet { IsQuiet (network_in net.now) state.old marks.old.inside }
     requires strengths { AreStrengthsFor net.now.nodes strengths.old }
     requires next { length next.old ≡ net.now.nodes }
     requires changed { length changed.old ≡ net.now.nodes }
@@ -122,7 +161,6 @@ fn take_steps(
 {
     clear_strengths(strengths);
     next.copy_from_slice(state);
-    mark_afresh(net, marks);
     let mut steps = 0;
     'steps: loop {
         step_marked(net, state, marks, strengths, next);

@@ -3,10 +3,10 @@ use Rattle.switch_net.specs.declared.switches.Switch.{Switch}
 use Rattle.switch_net.specs.Sets.{IsInside}
 use Rattle.steady_state.specs.Marked.{AreMarked, EndsInside}
 use Rattle.steady_state.specs.Wired.{network_in}
-use Rattle.steady_state.proofs.changes.mark_gated.Given as goal
+use Rattle.steady_state.proofs.changes.mark_at.Given as goal
 
-abbrev pub invariant-gated : goal.invariant-gated
-invariant-gated l = record {
+abbrev pub invariant-switches : goal.invariant-switches
+invariant-switches l = record {
   marks : AreMarked (network_in l.net) l.marks;
   grown : (v : ℕ) → IsInside l.fn.marks.inside v → IsInside l.marks.inside v;
   ends : (i : ℕ) → i < l.place-index → (d : Switch) → EndsInside (network_in l.net) l.marks.inside

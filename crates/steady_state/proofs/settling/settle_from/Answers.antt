@@ -1,0 +1,15 @@
+use Rattle.std.proofs.Common.{◌≡◌, sym, subst}
+use Rattle.std.specs.Prelude.{IfSome}
+use Rattle.switch_net.specs.Net.{network_of}
+use Rattle.switch_net.specs.Network.{Network}
+use Rattle.steady_state.specs.Marked.{IsRestedBut}
+use Rattle.steady_state.proofs.settling.settle_from.Goals as goal
+
+pub take_steps-requires-clause-quiet : goal.take_steps-requires-clause-quiet
+take_steps-requires-clause-quiet c =
+    let net = c.args.net.now in
+    let wired : Network = record { nodes = net.nodes; switches = c.items.result.now; sizes = c.items-2.result.now; inputs = c.items-3.result.now } in
+    let same : network_of net ≡ wired =
+    λ i. record { nodes = net.nodes; switches = sym c.items.ensures i; sizes = sym c.items-2.ensures i; inputs = sym c.items-3.ensures i } in
+    c.mark_first.ensures.quiet c.args.state.now
+    (subst (λ (one : Network). IfSome c.args.touched (λ nodes. IsRestedBut one c.args.state.now nodes.now)) same c.requires.rested)
