@@ -4,3 +4,4 @@ pub mod SplitRuns
 pub mod NameSearch
 pub mod RailStates
 pub mod RunningLines
+pub mod RestingRuns

@@ -1,8 +1,10 @@
 -- Runs under way.
-use Rattle.std.specs.Prelude.{◌≡◌, ◌<◌, ℕ, List, ◌++◌, All}
+use Rattle.std.specs.Prelude.{◌≡◌, ◌<◌, ℕ, Bool, true, List, [], ◌∷◌, ◌++◌, All, Option, IfSome, IsSomeAnd, Vec}
+use Rattle.std.specs.Global.{Global}
 use Rattle.switch_net.specs.declared.network.Net.{Net}
 use Rattle.switch_net.specs.Net.{network_of}
 use Rattle.switch_net.specs.Network.{IsSize}
+use Rattle.steady_state.specs.Marked.{IsRestedBut}
 use Rattle.vector_files.specs.declared.files.VecLine.{VecLine}
 use Rattle.vector_files.specs.declared.files.VecLine.TheVariants.{Set, Free, Size, Phase, Show}
 use Rattle.vector_runs.specs.declared.progress.Progress.{Progress}
@@ -12,6 +14,15 @@ use Rattle.vector_runs.specs.Runs.{LineRuns, LinesRun, Standing}
 -- where a run on this network stands
 abbrev pub standing : Net → Progress → Standing
 standing net progress = record { net = network_of net; states = progress.states.items; phases = progress.phases }
+
+-- The network rests but for the inputs that were set since it did, where these are told.
+abbrev pub IsRested : Net → Progress → Type 0
+IsRested net progress = IfSome progress.touched
+    (λ nodes. All (λ v. v < net.nodes) nodes.items × IsRestedBut (network_of net) progress.states.items nodes.items)
+
+-- one input was set more
+abbrev pub AreTouchedAfter : Option (Vec ℕ Global) → Bool → ℕ → Vec ℕ Global → Type 0
+AreTouchedAfter touched was_input node nodes = (was_input ≡ true) × IsSomeAnd touched (λ before. nodes.items ≡ before.items ++ node ∷ [])
 
 -- the nodes of the line are among so many, and its size is one
 abbrev pub FitsNodes : ℕ → VecLine → Type 0

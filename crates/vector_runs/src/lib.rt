@@ -4,7 +4,8 @@
 //!
 //! Each line does what it says and adds its replies, which its own function ensures. Along the lines a run grows at its end by one line
 //! (`RunningLines`). Since no name has two nodes, power and ground are one node each or none, so the states in which the network begins
-//! follow from these two (`RailStates`, `NameSearch`). A fresh network has no other sizes and inputs than those, hence one that is made
+//! follow from these two (`RailStates`, `NameSearch`). After a settled phase the network rests, and where inputs alone are set then, it rests
+//! but for them (`RestingRuns`), so the next phase begins with what they lead to. A fresh network has no other sizes and inputs than those, hence one that is made
 //! fresh again is as it was.
 //!
 //! A run has one outcome since each line has one: a phase by the law of phases, which asks for a sound network with a state for each node,

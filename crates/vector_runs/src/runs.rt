@@ -81,6 +81,7 @@ fn run_from_start(
     let mut progress = Progress {
         states: starts(alloc, named)?,
         phases: 0,
+        touched: None,
     };
     progress.run_lines(
         alloc,
@@ -89,6 +90,10 @@ fn run_from_start(
         budget,
         replies,
     )?;
-    let Progress { states, phases: _ } = progress;
+    let Progress {
+        states,
+        phases: _,
+        touched: _,
+    } = progress;
     Ok(states)
 }

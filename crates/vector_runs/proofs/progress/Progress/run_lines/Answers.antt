@@ -12,6 +12,7 @@ loop-line-preserved c =
           (standing c.loop-line.net c.loop-line.self) (standing c.run_line.new.net c.run_line.new.self) c.args.replies.now.items
           c.loop-line.replies.items c.run_line.new.replies.items (omega arith) c.loop-line-item.is before.ran does.ran;
       states = does.states;
+      rested = does.rested;
       counted = omega (arith, does.counted);
       nodes = does.nodes ∙ before.nodes;
       switches = does.switches ∙ before.switches;

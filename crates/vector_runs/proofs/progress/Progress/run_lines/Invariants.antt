@@ -1,5 +1,5 @@
 use Rattle.std.proofs.Common.{◌≡◌, ◌≤◌, length, map, take}
-use Rattle.vector_runs.specs.Running.{RanLines, standing}
+use Rattle.vector_runs.specs.Running.{IsRested, RanLines, standing}
 use Rattle.vector_runs.proofs.progress.Progress.run_lines.Given as goal
 
 abbrev pub invariant-loop-line : goal.invariant-loop-line
@@ -7,6 +7,7 @@ invariant-loop-line l = record {
   ran : RanLines l.budget (standing l.fn.net l.fn.self) (map (λ line. line.1) (take l.line-index l.lines)) (standing l.net l.self)
       l.fn.replies.items l.replies.items;
   states : length l.self.states.items ≡ l.net.nodes;
+  rested : IsRested l.net l.self;
   counted : l.self.phases ≤ l.line-index;
   nodes : l.net.nodes ≡ l.fn.net.nodes;
   switches : l.net.switches ≡ l.fn.net.switches;
