@@ -128,6 +128,18 @@ def chains(switches, dice):
     return circuit, vectors
 
 
+def turns(switches, dice):
+    """The same chains; at each of 300 phases the input of one of them turns over."""
+    circuit, _ = chains(switches, dice)
+    levels = ["0"] * circuit.count
+    vectors = [("set", f"in_{k}", "0") for k in range(circuit.count)] + [("phase",)]
+    for _ in range(300):
+        k = dice.randrange(circuit.count)
+        levels[k] = "1" if levels[k] == "0" else "0"
+        vectors += [("set", f"in_{k}", levels[k]), ("phase",), ("show", f"c{CHAIN - 1}_{k}", levels[k])]
+    return circuit, vectors
+
+
 def adders(switches, dice):
     """Ripple-carry adders of 32 bits, with the carry and the sum of a bit in 28 switches; at each of 10 phases all add other numbers."""
     unit, vectors = Unit(), []
@@ -192,7 +204,7 @@ def latch(unit, name, clock, before):
     return out
 
 
-CIRCUITS = {"chains": chains, "adders": adders, "registers": registers}
+CIRCUITS = {"chains": chains, "turns": turns, "adders": adders, "registers": registers}
 
 
 # ---- runs
