@@ -3,7 +3,7 @@ ghost use Rattle.std.specs.Prelude.{ℤ, pos, ◌-ℤ◌, ◌≤ℤ◌, ◌<ℤ�
 ghost use Rattle.geo_core.specs.Covering.{Covers};
 ghost use Rattle.geo_core.specs.Planes.{plane_range};
 ghost use Rattle.tile_plane.specs.Tiles.{tile_at, IsTaken, Owns, IsPartition, HasStitches, Leads};
-ghost use Rattle.tile_plane.specs.Walks.{square_at};
+ghost use Rattle.tile_plane.specs.Walks.{square_at, HasRow};
 
 use crate::stores::Store;
 use geo_core::{PLANE_EDGE, Square};
@@ -16,7 +16,7 @@ pub fn find(store: &Store, square: Square, hint: u32) -> u32
     requires inside { Covers plane_range square }
     ensures { Owns store.now result square }
 {
-    let mut id = in_row(store, square.y, hint);
+    let mut id = in_row(store, square, hint);
     'rightward: while store.get(id).area.xhi <= square.x {
         id = right_at(store, id, square.y);
     }
@@ -26,25 +26,54 @@ pub fn find(store: &Store, square: Square, hint: u32) -> u32
     id
 }
 
-/// A tile that has squares at y, from any tile.
-fn in_row(store: &Store, y: i64, hint: u32) -> u32
+/// A tile that has squares in the row of the square, from any tile. The way to it keeps to the column of the square once it is there.
+fn in_row(store: &Store, square: Square, hint: u32) -> u32
     requires partition { IsPartition store.now }
     requires stitches { HasStitches store.now }
     requires taken { IsTaken store.now hint }
-    requires low { plane_range.ylo ≤ℤ y }
-    requires high { y <ℤ plane_range.yhi }
+    requires inside { Covers plane_range square }
     ensures taken { IsTaken store.now result }
-    ensures from { (tile_at store.now result).area.ylo ≤ℤ y }
-    ensures to { y <ℤ (tile_at store.now result).area.yhi }
+    ensures from { (tile_at store.now result).area.ylo ≤ℤ square.y }
+    ensures to { square.y <ℤ (tile_at store.now result).area.yhi }
 {
     let mut id = hint;
-    'upward: while store.get(id).area.yhi <= y {
-        id = store.get(id).above;
+    'upward: while store.get(id).area.yhi <= square.y {
+        id = above_near(store, id, square.x);
     }
-    'downward: while y < store.get(id).area.ylo {
-        id = store.get(id).below;
+    'downward: while square.y < store.get(id).area.ylo {
+        id = below_near(store, id, square.x);
     }
     id
+}
+
+/// The tile above a tile at x, or at its right end where x is none of its columns.
+fn above_near(store: &Store, id: u32, x: i64) -> u32
+    requires partition { IsPartition store.now }
+    requires stitches { HasStitches store.now }
+    requires taken { IsTaken store.now id }
+    requires inside { (tile_at store.now id).area.yhi <ℤ plane_range.yhi }
+    ensures { HasRow store.now result (tile_at store.now id).area.yhi }
+{
+    let tile = store.get(id);
+    if tile.area.xlo <= x && x < tile.area.xhi {
+        return above_at(store, id, x);
+    }
+    tile.above
+}
+
+/// The tile below a tile at x, or at its left end where x is none of its columns.
+fn below_near(store: &Store, id: u32, x: i64) -> u32
+    requires partition { IsPartition store.now }
+    requires stitches { HasStitches store.now }
+    requires taken { IsTaken store.now id }
+    requires inside { plane_range.ylo <ℤ (tile_at store.now id).area.ylo }
+    ensures { HasRow store.now result ((tile_at store.now id).area.ylo -ℤ pos 1) }
+{
+    let tile = store.get(id);
+    if tile.area.xlo <= x && x < tile.area.xhi {
+        return below_at(store, id, x);
+    }
+    tile.below
 }
 
 /// The tile to the right of a tile at y. Any tile where the range ends there.

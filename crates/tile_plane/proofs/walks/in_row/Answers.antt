@@ -1,55 +1,48 @@
-use Rattle.std.proofs.Common.{pos, ◌+ℤ◌, ◌≤ℤ◌, ◌≡◌, ◌<ℤ◌, w64, to_z, of_z, ap, arith}
+use Rattle.std.proofs.Common.{pos, ◌+ℤ◌, ◌≡◌, w64, to_z, of_z, ap, arith, rules}
 use Rattle.std.proofs.lemmas.Int.{ints, to_z-of_z}
 use Rattle.tile_plane.specs.declared.tiles.Tile.{Tile}
 use Rattle.tile_plane.specs.Tiles.{tile_at}
 use Rattle.tile_plane.proofs.TileLaws.{owner_taken}
-use Rattle.tile_plane.proofs.BesideLaws.{next_above, next_below}
 use Rattle.tile_plane.proofs.WalkLaws.{extent_falls, extent_falls_down}
 use Rattle.tile_plane.proofs.walks.in_row.Goals as goal
 
 pub upward-preserved : goal.upward-preserved
-upward-preserved c =
-    let edge = ap (λ (t : Tile). t.area.yhi) c.get.ensures in
-    let test = c.upward-test.true in
-    let y = to_z w64 (of_z w64 c.args.y) in
-    let same : y ≡ c.args.y = to_z-of_z w64 c.args.y c.ranges.y in
-    let past : (tile_at c.args.store.now c.upward.id).area.yhi ≤ℤ y = omega (arith, ints) in
-    let next = next_above c.args.store.now c.upward.id c.requires.partition c.requires.stitches c.upward.invariant (let inside = c.requires.high in omega (arith, ints)) in
-    rw c.get-id.ensures (owner_taken _ _ _ next)
+upward-preserved c = owner_taken _ _ _ c.above_near-id.ensures.owns
 
 pub upward-smaller : goal.upward-smaller
 upward-smaller c =
     let edge = ap (λ (t : Tile). t.area.yhi) c.get.ensures in
     let test = c.upward-test.true in
-    let y = to_z w64 (of_z w64 c.args.y) in
-    let same : y ≡ c.args.y = to_z-of_z w64 c.args.y c.ranges.y in
-    let past : (tile_at c.args.store.now c.upward.id).area.yhi ≤ℤ y = omega (arith, ints) in
-    let next = next_above c.args.store.now c.upward.id c.requires.partition c.requires.stitches c.upward.invariant (let inside = c.requires.high in omega (arith, ints)) in
-    let covers = next.covers in
-    rw c.get-id.ensures (extent_falls (tile_at c.args.store.now c.upward.id).area.yhi
-    (tile_at c.args.store.now (tile_at c.args.store.now c.upward.id).above).area.yhi (y +ℤ pos 1) (omega (arith, ints)) (omega (arith, ints)))
+    let y = to_z w64 (of_z w64 c.args.square.y) in
+    let same : y ≡ c.args.square.y = to_z-of_z w64 c.args.square.y (search rules) in
+    let covers = c.above_near-id.ensures.owns.covers in
+    extent_falls (tile_at c.args.store.now c.upward.id).area.yhi (tile_at c.args.store.now c.above_near-id.result).area.yhi (c.args.square.y +ℤ pos 1)
+    (omega (arith, ints)) (omega (arith, ints))
+
+pub below_near-id-requires-clause-inside : goal.below_near-id-requires-clause-inside
+below_near-id-requires-clause-inside c =
+    let edge = ap (λ (t : Tile). t.area.ylo) c.get-in-downward.ensures in
+    let test = c.downward-test.true in
+    let y = to_z w64 (of_z w64 c.args.square.y) in
+    let same : y ≡ c.args.square.y = to_z-of_z w64 c.args.square.y (search rules) in
+    let inside = c.requires.inside in
+    omega (arith, ints)
 
 pub downward-preserved : goal.downward-preserved
 downward-preserved c =
     let edge = ap (λ (t : Tile). t.area.ylo) c.get-in-downward.ensures in
     let test = c.downward-test.true in
-    let y = to_z w64 (of_z w64 c.args.y) in
-    let same : y ≡ c.args.y = to_z-of_z w64 c.args.y c.ranges.y in
-    let past : y <ℤ (tile_at c.args.store.now c.downward.id).area.ylo = omega (arith, ints) in
-    let next = next_below c.args.store.now c.downward.id c.requires.partition c.requires.stitches c.downward.invariant.taken
-    (let inside = c.requires.low in omega (arith, ints)) in
-    let covers = next.covers in
-    rw c.get-id-in-downward.ensures (record { taken = owner_taken _ _ _ next; over = omega (arith, ints) })
+    let y = to_z w64 (of_z w64 c.args.square.y) in
+    let same : y ≡ c.args.square.y = to_z-of_z w64 c.args.square.y (search rules) in
+    let covers = c.below_near-id.ensures.owns.covers in
+    record { taken = owner_taken _ _ _ c.below_near-id.ensures.owns; over = omega (arith, ints) }
 
 pub downward-smaller : goal.downward-smaller
 downward-smaller c =
     let edge = ap (λ (t : Tile). t.area.ylo) c.get-in-downward.ensures in
     let test = c.downward-test.true in
-    let y = to_z w64 (of_z w64 c.args.y) in
-    let same : y ≡ c.args.y = to_z-of_z w64 c.args.y c.ranges.y in
-    let past : y <ℤ (tile_at c.args.store.now c.downward.id).area.ylo = omega (arith, ints) in
-    let next = next_below c.args.store.now c.downward.id c.requires.partition c.requires.stitches c.downward.invariant.taken
-    (let inside = c.requires.low in omega (arith, ints)) in
-    let covers = next.covers in
-    rw c.get-id-in-downward.ensures (extent_falls_down y (tile_at c.args.store.now (tile_at c.args.store.now c.downward.id).below).area.ylo
-    (tile_at c.args.store.now c.downward.id).area.ylo (omega (arith, ints)) past)
+    let y = to_z w64 (of_z w64 c.args.square.y) in
+    let same : y ≡ c.args.square.y = to_z-of_z w64 c.args.square.y (search rules) in
+    let covers = c.below_near-id.ensures.owns.covers in
+    extent_falls_down c.args.square.y (tile_at c.args.store.now c.below_near-id.result).area.ylo (tile_at c.args.store.now c.downward.id).area.ylo
+    (omega (arith, ints)) (omega (arith, ints))

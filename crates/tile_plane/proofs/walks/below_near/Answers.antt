@@ -1,0 +1,26 @@
+use Rattle.std.proofs.Common.{◌≡◌, w64, to_z, of_z, ap, arith}
+use Rattle.std.proofs.lemmas.Int.{ints, to_z-of_z}
+use Rattle.tile_plane.specs.declared.tiles.Tile.{Tile}
+use Rattle.tile_plane.specs.Tiles.{tile_at}
+use Rattle.tile_plane.proofs.BesideLaws.{next_below}
+use Rattle.tile_plane.proofs.walks.below_near.Goals as goal
+
+pub returns-then-x-tile : goal.returns-then-x-tile
+returns-then-x-tile c =
+    let left = ap (λ (t : Tile). t.area.xlo) c.get-tile.ensures in
+    let right = ap (λ (t : Tile). t.area.xhi) c.get-tile.ensures in
+    let x = to_z w64 (of_z w64 c.args.x) in
+    let same : x ≡ c.args.x = to_z-of_z w64 c.args.x c.ranges.x in
+    let from = c.if-tile-x.true in
+    let to = c.if-x-tile.true in
+    let bounds = c.requires in
+    let within = c.requires.partition.within c.args.id c.requires.taken in
+    let proper = c.requires.taken.proper in
+    record { x = x; owns = c.below_at.ensures (omega (arith, ints)) }
+
+pub returns : goal.returns
+returns c =
+    record {
+      x = (tile_at c.args.store.now c.args.id).area.xlo;
+      owns = rw c.get-tile.ensures (next_below c.args.store.now c.args.id c.requires.partition c.requires.stitches c.requires.taken c.requires.inside);
+    }
