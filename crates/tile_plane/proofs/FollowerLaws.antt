@@ -1,5 +1,9 @@
 -- The tiles on the left side of an area, from below, and the followers of a tile, from above.
-use Rattle.std.proofs.Common.{◌≡◌, ◌⊎◌, inl, inr, ℕ, ◌<◌, ℤ, pos, ◌-ℤ◌, ◌≤ℤ◌, ◌<ℤ◌, List, [], ◌∷◌, ◌++◌, sym, ◌∙◌, ap, subst, arith}
+use Rattle.std.proofs.Common.{◌≡◌, ◌⊎◌, inl, inr, ℕ, ◌<◌, ℤ, pos, ◌-ℤ◌, ◌≤ℤ◌, ◌<ℤ◌, Option, Some, None, List, [], ◌∷◌, ◌++◌, sym, ◌∙◌, ap, subst, arith}
+use Rattle.std.specs.Prelude.{All}
+use Rattle.std.specs.Borrow.{Bor}
+use Rattle.std.specs.Option.{unwrap_or, option_copied}
+use Rattle.std.specs.Slice.{IsItemAt}
 use Rattle.std.proofs.lemmas.Int.{ints, clamps, by_lt_z}
 use Rattle.std.proofs.lemmas.List.{append-nil, append_assoc}
 use Rattle.finite_sets.specs.Lists.{In, Lists}
@@ -33,6 +37,12 @@ lists_push P Q xs y lists weaker has new cases = (
 
 pub lists_same : (P Q : ℕ → Type 0) (xs : List ℕ) → Lists P xs → ((x : ℕ) → P x → Q x) → ((x : ℕ) → Q x → P x) → Lists Q xs
 lists_same P Q xs lists there back = (lists.0, (λ x q. lists.1 x (back x q)), λ x i. there x (lists.2 x i))
+
+-- what is read at a place of a list of tiles is a tile, and so is what stands for it where the list ends before
+pub hint_taken : (tiles : Tiles) (hints : List ℕ) (place : ℕ) (found : Option (Bor ℕ)) (other : ℕ) → All (IsTaken tiles) hints → IsItemAt hints place found
+    → IsTaken tiles other → IsTaken tiles (unwrap_or (option_copied found) other)
+hint_taken tiles hints place None other all is taken = taken
+hint_taken tiles hints place (Some id) other all is taken = subst (IsTaken tiles) (sym is.1) (all place id.now is.3.0)
 
 -- what is near lies within the plane
 pub near_within : (area : Rect) → IsNear area → LiesWithin area plane_range

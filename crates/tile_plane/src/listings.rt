@@ -11,8 +11,8 @@ ghost use Rattle.tile_plane.specs.Listings.{Meets, IsOnSide, IsFollower, AddsAll
 ghost use Rattle.tile_plane.specs.Tiles.{value_at, IsTaken, Owns, IsPartition, HasStitches};
 
 use crate::stores::Store;
-use crate::walks::{above_at, find};
-use geo_core::{Piece, Rect};
+use crate::walks::find;
+use geo_core::{Piece, Rect, Square};
 use std::alloc::{AllocError, Global};
 
 /// The parts in the area of all tiles of values other than 0 that meet it, in the order of strips.
@@ -30,13 +30,14 @@ pub fn tiles_in(
 {
     let first = find(store, area.corner(), hint);
     let mut parts = Vec::new(alloc);
-    push_parts(alloc, &mut parts, store, area, first)?;
+    let mut hints = Vec::new(alloc);
+    push_parts(alloc, &mut parts, &mut hints, store, area, first)?;
     parts.retain(|part| part.value != 0);
     parts.sort_unstable_by_key(|part| (part.area.ylo, part.area.xlo));
     Ok(parts)
 }
 
-/// The parts of all tiles in each of the areas, those of value 0 too.
+/// The parts of all tiles in each of the areas, those of value 0 too. The tiles of an area are sought from those of the one before.
 pub fn pieces_in(
     alloc: Global,
     store: &Store,
@@ -51,10 +52,11 @@ pub fn pieces_in(
     ensures { IfOk result (λ pieces. ArePiecesIn (value_at store.now) areas.now pieces.items) }
 {
     let mut pieces = Vec::new(alloc);
+    let mut hints = Vec::new(alloc);
     let mut first = hint;
     for area in areas {
         first = find(store, area.corner(), first);
-        push_parts(alloc, &mut pieces, store, area, first)?;
+        push_parts(alloc, &mut pieces, &mut hints, store, area, first)?;
     }
     Ok(pieces)
 }
@@ -100,21 +102,23 @@ pub fn box_of(store: &Store) -> Option<Rect>
     found
 }
 
-/// The tiles that meet the area, each once. The first is that of the area's corner.
+/// The tiles that meet the area, each once. The first is that of the area's corner. They are found sooner from a list of tiles near them.
 fn tiles_meeting(
     alloc: Global,
     store: &Store,
     area: &Rect,
     first: u32,
+    hints: &[u32],
 ) -> Result<Vec<u32>, AllocError>
     requires partition { IsPartition store.now }
     requires stitches { HasStitches store.now }
     requires near { IsNear area.now }
     requires proper { IsProper area.now }
     requires first { Owns store.now first (corner_of area.now) }
+    requires hints { All (IsTaken store.now) hints.now }
     ensures { IfOk result (λ found. Lists (Meets store.now area.now) found.items) }
 {
-    let mut found = left_side(alloc, store, area, first)?;
+    let mut found = left_side(alloc, store, area, first, hints)?;
     let mut index = 0;
     while index < found.len() {
         let id = found[index];
@@ -124,20 +128,33 @@ fn tiles_meeting(
     Ok(found)
 }
 
-/// The tiles that have squares of the first column of the area, from below. The first is that of the area's corner.
-fn left_side(alloc: Global, store: &Store, area: &Rect, first: u32) -> Result<Vec<u32>, AllocError>
+/// The tiles that have squares of the first column of the area, from below. The first is that of the area's corner. Each other is sought
+/// from the tile that has its place among the hints.
+fn left_side(
+    alloc: Global,
+    store: &Store,
+    area: &Rect,
+    first: u32,
+    hints: &[u32],
+) -> Result<Vec<u32>, AllocError>
     requires partition { IsPartition store.now }
     requires stitches { HasStitches store.now }
     requires near { IsNear area.now }
     requires proper { IsProper area.now }
     requires first { Owns store.now first (corner_of area.now) }
+    requires hints { All (IsTaken store.now) hints.now }
     ensures { IfOk result (λ side. Lists (IsOnSide store.now area.now) side.items) }
 {
     let mut side = Vec::new(alloc);
     let mut id = first;
     side.push(id)?;
-    while store.get(id).area.yhi < area.yhi {
-        id = above_at(store, id, area.xlo);
+    'upward: while store.get(id).area.yhi < area.yhi {
+        let square = Square {
+            x: area.xlo,
+            y: store.get(id).area.yhi,
+        };
+        let hint = hints.get(side.len()).copied().unwrap_or(id);
+        id = find(store, square, hint);
         side.push(id)?;
     }
     Ok(side)
@@ -174,10 +191,12 @@ fn push_followers(
     Ok(())
 }
 
-/// Adds the parts in the area of all tiles that meet it. Where one tile has all of the area, no list of tiles is made.
+/// Adds the parts in the area of all tiles that meet it. These become the hints. Where one tile has all of the area, no list of tiles is
+/// made.
 fn push_parts(
     alloc: Global,
     parts: &mut Vec<Piece>,
+    hints: &mut Vec<u32>,
     store: &Store,
     area: &Rect,
     first: u32,
@@ -187,17 +206,20 @@ fn push_parts(
     requires near { IsNear area.now }
     requires proper { IsProper area.now }
     requires first { Owns store.now first (corner_of area.now) }
-    ensures { OnOk result (AddsParts store.now area.now parts.old.items parts.new.items) }
+    requires hints { All (IsTaken store.now) hints.old.items }
+    ensures parts { OnOk result (AddsParts store.now area.now parts.old.items parts.new.items) }
+    ensures hints { OnOk result (All (IsTaken store.now) hints.new.items) }
 {
     let corner = store.get(first).area;
     if area.xhi <= corner.xhi && area.yhi <= corner.yhi {
         parts.push(part_in(store, area, first))?;
         return Ok(());
     }
-    let ids = tiles_meeting(alloc, store, area, first)?;
+    let ids = tiles_meeting(alloc, store, area, first, hints.as_slice())?;
     for id in &ids {
         parts.push(part_in(store, area, *id))?;
     }
+    *hints = ids;
     Ok(())
 }
 

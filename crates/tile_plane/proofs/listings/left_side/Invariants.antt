@@ -4,8 +4,8 @@ use Rattle.tile_plane.specs.Tiles.{tile_at}
 use Rattle.tile_plane.proofs.FollowerLaws.{IsSideUpTo}
 use Rattle.tile_plane.proofs.listings.left_side.Given as goal
 
-abbrev pub invariant-loop-id : goal.invariant-loop-id
-invariant-loop-id l = IsSideUpTo l.store l.area l.side.items l.id
+abbrev pub invariant-upward : goal.invariant-upward
+invariant-upward l = IsSideUpTo l.store l.area l.side.items l.id
 
-abbrev pub decreases-loop-id : goal.decreases-loop-id
-decreases-loop-id l = extent (tile_at l.store l.id).area.yhi l.area.yhi
+abbrev pub decreases-upward : goal.decreases-upward
+decreases-upward l = extent (tile_at l.store l.id).area.yhi l.area.yhi

@@ -1,8 +1,9 @@
-use Rattle.std.proofs.Common.{sym, subst}
+use Rattle.std.proofs.Common.{sym, subst, arith, rules}
+use Rattle.std.specs.Prelude.{All}
 use Rattle.std.proofs.lemmas.List.{get_or_default}
 use Rattle.geo_core.specs.Covering.{Covers}
 use Rattle.geo_core.specs.Planes.{plane_range}
-use Rattle.tile_plane.specs.Tiles.{value_at}
+use Rattle.tile_plane.specs.Tiles.{value_at, IsTaken}
 use Rattle.tile_plane.proofs.TileLaws.{owner_taken}
 use Rattle.tile_plane.proofs.PartLaws.{corner_in_plane, pieces_go_on, pieces_end}
 use Rattle.tile_plane.proofs.listings.pieces_in.Goals as goal
@@ -13,6 +14,13 @@ find-first-requires-clause-inside c =
     subst (Covers plane_range) (sym c.corner.ensures)
     (corner_in_plane _ (c.requires.near c.loop-area.area-index _ below) (c.requires.proper c.loop-area.area-index _ below))
 
+pub loop-area-init : goal.loop-area-init
+loop-area-init c = (
+  c.requires.taken,
+  subst (All (IsTaken c.args.store.now)) (sym c.new-hints.ensures.items) (λ k d below. absurd (omega arith)),
+  search rules,
+)
+
 pub loop-area-preserved : goal.loop-area-preserved
 loop-area-preserved c =
     let tiles = c.args.store.now in
@@ -20,11 +28,12 @@ loop-area-preserved c =
     let index = c.loop-area.area-index in
     let below = c.loop-area-test.true in (
       owner_taken tiles c.find-first.result _ c.find-first.ensures,
+      c.in_ok-push_parts.ensures.hints,
       pieces_go_on tiles c.requires.plane areas index _ c.loop-area.pieces.items c.push_parts.new.parts.items below (get_or_default areas index _ _ below)
-          (c.requires.near index _ below) c.requires.apart c.loop-area.invariant.1 c.in_ok-push_parts.ensures,
+          (c.requires.near index _ below) c.requires.apart c.loop-area.invariant.2 c.in_ok-push_parts.ensures.parts,
     )
 
 pub returns : goal.returns
 returns c =
     pieces_end (value_at c.args.store.now) c.args.areas.now c.loop-area.area-index c.loop-area.pieces.items c.loop-area-test.false c.requires.near
-    c.loop-area.invariant.1
+    c.loop-area.invariant.2

@@ -1,8 +1,10 @@
--- The areas before the index have their pieces.
+-- The areas before the index have their pieces, and the hints are tiles.
 use Rattle.std.proofs.Common.{take}
+use Rattle.std.specs.Prelude.{All}
 use Rattle.tile_plane.specs.Tiles.{value_at, IsTaken}
 use Rattle.tile_plane.proofs.PartLaws.{ArePiecesSoFar}
 use Rattle.tile_plane.proofs.listings.pieces_in.Given as goal
 
 abbrev pub invariant-loop-area : goal.invariant-loop-area
-invariant-loop-area l = IsTaken l.store l.first × ArePiecesSoFar (value_at l.store) (take l.area-index l.areas) l.pieces.items
+invariant-loop-area l = IsTaken l.store l.first × All (IsTaken l.store) l.hints.items
+    × ArePiecesSoFar (value_at l.store) (take l.area-index l.areas) l.pieces.items

@@ -3,11 +3,12 @@ use Rattle.std.proofs.lemmas.Int.{ints, to_z-of_z}
 use Rattle.std.proofs.lemmas.List.{take_all}
 use Rattle.finite_sets.specs.Lists.{In}
 use Rattle.finite_sets.proofs.Members.{In-get_or}
+use Rattle.finite_sets.proofs.Searches.{All-from_In}
 use Rattle.geo_core.specs.Areas.{corner_of}
 use Rattle.geo_core.specs.declared.squares.Piece.{Piece}
 use Rattle.tile_plane.specs.declared.tiles.Tile.{Tile}
 use Rattle.tile_plane.specs.Listings.{part_in}
-use Rattle.tile_plane.specs.Tiles.{tile_at}
+use Rattle.tile_plane.specs.Tiles.{tile_at, IsTaken}
 use Rattle.tile_plane.proofs.TileLaws.{owner_taken}
 use Rattle.tile_plane.proofs.PartLaws.{alone_listed, one_more_part}
 use Rattle.tile_plane.proofs.listings.push_parts.Goals as goal
@@ -39,8 +40,8 @@ loop-id-preserved c =
     ∙ ap (λ (p : Piece). c.loop-id.parts.items ++ p ∷ []) c.part_in-in-loop-id.ensures
     ∙ one_more_part c.args.parts.now.items c.loop-id.parts.items all (part_in tiles area) index 0 (omega arith) c.loop-id.invariant
 
-pub returns-then-area-corner-2 : goal.returns-then-area-corner-2
-returns-then-area-corner-2 c =
+pub returns-then-area-corner-2-clause-parts : goal.returns-then-area-corner-2-clause-parts
+returns-then-area-corner-2-clause-parts c =
     let tiles = c.args.store.now in
     let area = c.args.area.now in
     let near = c.requires.near in
@@ -58,8 +59,8 @@ returns-then-area-corner-2 c =
       joined = c.in_ok-push.ensures.items ∙ ap (λ (p : Piece). c.args.parts.now.items ++ p ∷ []) c.part_in.ensures;
     }
 
-pub returns : goal.returns
-returns c =
+pub returns-clause-parts : goal.returns-clause-parts
+returns-clause-parts c =
     let tiles = c.args.store.now in
     let area = c.args.area.now in
     let ids = c.in_ok-ids.ids.items in
@@ -71,3 +72,8 @@ returns c =
       lists = c.in_ok-ids.ensures;
       joined = c.loop-id.invariant ∙ ap (λ (v : List ℕ). c.args.parts.now.items ++ map (part_in tiles area) v) all;
     }
+
+pub returns-clause-hints : goal.returns-clause-hints
+returns-clause-hints c =
+    let tiles = c.args.store.now in
+    All-from_In (IsTaken tiles) c.in_ok-ids.ids.items (λ id there. let meets = c.in_ok-ids.ensures.2 id there in owner_taken tiles id meets.square meets.owns)

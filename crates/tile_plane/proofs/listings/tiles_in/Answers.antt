@@ -1,5 +1,5 @@
 use Rattle.std.proofs.Common.{◌≡◌, ◌≢◌, Bool, true, not, ◌==◌, List, ◌++◌, map, filter, sym, ◌∙◌, ap, subst, arith, rules}
-use Rattle.std.specs.Prelude.{IsPermutation}
+use Rattle.std.specs.Prelude.{All, IsPermutation}
 use Rattle.std.proofs.lemmas.List.Elements.{filter_from_retain}
 use Rattle.std.proofs.lemmas.List.Sorted.{answers_always}
 use Rattle.geo_core.specs.declared.squares.Piece.{Piece}
@@ -7,6 +7,7 @@ use Rattle.geo_core.specs.Covering.{Covers}
 use Rattle.geo_core.specs.Planes.{plane_range}
 use Rattle.geo_core.proofs.CornerLaws.{corner_key}
 use Rattle.tile_plane.specs.Listings.{part_in}
+use Rattle.tile_plane.specs.Tiles.{IsTaken}
 use Rattle.tile_plane.proofs.PartLaws.{corner_in_plane, tiles_listed}
 use Rattle.tile_plane.proofs.listings.tiles_in.Goals as goal
 
@@ -23,11 +24,14 @@ pass piece material = grind arith
 pub find-first-requires-clause-inside : goal.find-first-requires-clause-inside
 find-first-requires-clause-inside c = subst (Covers plane_range) (sym c.corner.ensures) (corner_in_plane c.args.area.now c.requires.near c.requires.proper)
 
+pub push_parts-requires-clause-hints : goal.push_parts-requires-clause-hints
+push_parts-requires-clause-hints c = subst (All (IsTaken c.args.store.now)) (sym c.new-hints.ensures.items) (λ k d below. absurd (omega arith))
+
 pub returns : goal.returns
 returns c =
     let tiles = c.args.store.now in
     let area = c.args.area.now in
-    let adds = c.in_ok-push_parts.ensures in
+    let adds = c.in_ok-push_parts.ensures.parts in
     let parts = map (part_in tiles area) adds.ids in
     let all : c.push_parts.new.parts.items ≡ parts = adds.joined ∙ ap (λ (v : List Piece). v ++ parts) c.new-parts.ensures.items in
     let kept : c.retain.new.self.items ≡ filter has_value c.push_parts.new.parts.items = filter_from_retain _ has_value
