@@ -31,22 +31,22 @@ abbrev pub forks : Coverage → ℕ
 forks (Even row) = 0
 forks (Cut' p at least most left right) = suc (forks left + forks right)
 
-lt_true : (x y : ℤ) → x <ℤ y → int_lt x y ≡ true
+pub lt_true : (x y : ℤ) → x <ℤ y → int_lt x y ≡ true
 lt_true x y h = grind (arith, ints)
 
-lt_false : (x y : ℤ) → y ≤ℤ x → int_lt x y ≡ false
+pub lt_false : (x y : ℤ) → y ≤ℤ x → int_lt x y ≡ false
 lt_false x y h = grind (arith, ints)
 
-le_true : (x y : ℤ) → x ≤ℤ y → int_le x y ≡ true
+pub le_true : (x y : ℤ) → x ≤ℤ y → int_le x y ≡ true
 le_true x y h = grind (arith, ints)
 
-le_false : (x y : ℤ) → y <ℤ x → int_le x y ≡ false
+pub le_false : (x y : ℤ) → y <ℤ x → int_le x y ≡ false
 le_false x y h = grind (arith, ints)
 
-from_lt_true : (x y : ℤ) → int_lt x y ≡ true → x <ℤ y
+pub from_lt_true : (x y : ℤ) → int_lt x y ≡ true → x <ℤ y
 from_lt_true x y h = grind (arith, ints)
 
-from_lt_false : (x y : ℤ) → int_lt x y ≡ false → y ≤ℤ x
+pub from_lt_false : (x y : ℤ) → int_lt x y ≡ false → y ≤ℤ x
 from_lt_false x y h = grind (arith, ints)
 
 -- no column is covered less far than the least says
@@ -73,25 +73,25 @@ module _ (p : Box (Unit {0}) Global) (at least most : ℤ) (left right : Coverag
   until_right h = ap (λ v. int_max least (cond v (until left x) (until right x))) (lt_false x at h)
 
 -- a bound that is cut to one side says the same of the columns there
-before_on_left : (to : Option ℤ) (at x : ℤ) → x <ℤ at → is_before (end_before to at) x ≡ is_before to x
+pub before_on_left : (to : Option ℤ) (at x : ℤ) → x <ℤ at → is_before (end_before to at) x ≡ is_before to x
 before_on_left None at x h = refl
 before_on_left (Some to) at x h = elim (cases_Bool (int_lt to at)) [
   | inl t ↦ ap (λ v. is_before (cond v (Some to) None) x) t
   | inr t ↦ ap (λ v. is_before (cond v (Some to) None) x) t ∙ sym (let far = from_lt_false to at t in lt_true x to (omega (arith, ints, far)))
 ]
 
-from_on_right : (from : Option ℤ) (at x : ℤ) → at ≤ℤ x → is_from (begin_after from at) x ≡ is_from from x
+pub from_on_right : (from : Option ℤ) (at x : ℤ) → at ≤ℤ x → is_from (begin_after from at) x ≡ is_from from x
 from_on_right None at x h = refl
 from_on_right (Some from) at x h = elim (cases_Bool (int_lt at from)) [
   | inl t ↦ ap (λ v. is_from (cond v (Some from) None) x) t
   | inr t ↦ ap (λ v. is_from (cond v (Some from) None) x) t ∙ sym (let far = from_lt_false at from t in le_true from x (omega (arith, ints, far)))
 ]
 
-not_from : (from : Option ℤ) (at x : ℤ) → begins_before from at ≡ false → x <ℤ at → is_from from x ≡ false
+pub not_from : (from : Option ℤ) (at x : ℤ) → begins_before from at ≡ false → x <ℤ at → is_from from x ≡ false
 not_from None at x e h = cc
 not_from (Some from) at x e h = let far = from_lt_false from at e in le_false from x (omega (arith, ints, far))
 
-not_before : (to : Option ℤ) (at x : ℤ) → ends_after to at ≡ false → at ≤ℤ x → is_before to x ≡ false
+pub not_before : (to : Option ℤ) (at x : ℤ) → ends_after to at ≡ false → at ≤ℤ x → is_before to x ≡ false
 not_before None at x e h = cc
 not_before (Some to) at x e h = let far = from_lt_false at to e in lt_false x to (omega (arith, ints, far))
 
@@ -119,7 +119,7 @@ right_raised from to top at old new h = record {
   topped = h.topped;
 }
 
-and_false : (b : Bool) → (b && false) ≡ false
+pub and_false : (b : Bool) → (b && false) ≡ false
 and_false true = refl
 and_false false = refl
 

@@ -27,6 +27,19 @@ IsProper-has_square area test = record { wide = grind (arith, ints); high = grin
 pub has_square-IsProper : (area : Rect) → IsProper area → has_square area ≡ true
 has_square-IsProper area proper = grind (arith, ints)
 
+-- what lies within an area covers no square outside it
+pub within_covers : (core area : Rect) (square : Square) → LiesWithin core area → Covers core square → Covers area square
+within_covers core area square w c =
+    let w0 : area.xlo ≤ℤ core.xlo = w.right_of_xlo in
+    let w1 : area.ylo ≤ℤ core.ylo = w.above_ylo in
+    let w2 : core.xhi ≤ℤ area.xhi = w.left_of_xhi in
+    let w3 : core.yhi ≤ℤ area.yhi = w.below_yhi in
+    let left : core.xlo ≤ℤ square.x = c.right_of_xlo in
+    let right : square.x <ℤ core.xhi = c.left_of_xhi in
+    let low : core.ylo ≤ℤ square.y = c.above_ylo in
+    let high : square.y <ℤ core.yhi = c.below_yhi in
+    record { right_of_xlo = omega (arith, ints); left_of_xhi = omega (arith, ints); above_ylo = omega (arith, ints); below_yhi = omega (arith, ints) }
+
 -- a square of the common part lies in the first rectangle
 pub covers_first : (a b : Rect) (square : Square) → Covers (common_rect a b) square → Covers a square
 covers_first a b square c =

@@ -9,7 +9,7 @@ use Rattle.geo_core.specs.declared.squares.Rect.{Rect}
 use Rattle.geo_core.specs.declared.transforms.Transform.{Transform}
 use Rattle.geo_core.specs.Orientation.{orient_then, orient_inverse}
 use Rattle.geo_core.specs.Covering.{Covers}
-use Rattle.geo_core.specs.Images.{point_x, point_y, turns_x, turns_y, image, rect_image, composed, identity, inverted, CentreGoesTo}
+use Rattle.geo_core.specs.Images.{point_x, point_y, turns_x, turns_y, image, rect_image, composed, inverted, CentreGoesTo}
 use Rattle.geo_core.specs.Neighbours.{AreEdgeNeighbours}
 use Rattle.geo_core.proofs.SquareLaws.{square_is, rect_is}
 

@@ -1,8 +1,7 @@
 -- Edge neighbours as a relation and as a list of four squares.
-use Rattle.std.proofs.Common.{◌≡◌, ◌⊎◌, inl, inr, arith, refl, sym, ℤ}
-use Rattle.std.proofs.lemmas.Int.{ints}
+use Rattle.std.proofs.Common.{inl, inr, refl, sym}
 use Rattle.geo_core.specs.declared.squares.Square.{Square}
-use Rattle.geo_core.specs.Neighbours.{AreEdgeNeighbours, right_of, left_of, above, below}
+use Rattle.geo_core.specs.Neighbours.{AreEdgeNeighbours, right_of, above}
 
 -- neighbours are neighbours of each other
 pub AreEdgeNeighbours-sym : (a b : Square) → AreEdgeNeighbours a b → AreEdgeNeighbours b a

@@ -1,12 +1,12 @@
 -- The runs of a row as they are taken out and put in.
-use Rattle.std.proofs.Common.{◌≡◌, ◌⊎◌, inl, inr, ℤ, ◌≤ℤ◌, ◌<ℤ◌, false, List, Some, None, sym, ◌∙◌, ap, subst, arith}
+use Rattle.std.proofs.Common.{◌≡◌, ◌⊎◌, inl, inr, ℤ, ◌≤ℤ◌, ◌<ℤ◌, ◌+ℤ◌, pos, true, false, List, Some, None, cond, sym, ◌∙◌, ap, subst, arith}
 use Rattle.std.specs.Ordering.{is_lt, is_eq, is_gt, int_cmp}
 use Rattle.std.specs.Int.{int_max, int_min}
 use Rattle.std.proofs.lemmas.Int.{ints, clamps, by_lt_z}
 use Rattle.finite_sets.specs.Lists.{In}
 use Rattle.geo_core.specs.declared.bars.Bar.{Bar}
 use Rattle.geo_core.specs.declared.row_runs.Run.{Run}
-use Rattle.geo_core.specs.RowRuns.{Row, IsInRow, AreRuns, bar_of, IsWritten, Changes, IsTaken, IsLastRun, Touches, LiesClear, IsPlaced, IsCovered, IsUncovered}
+use Rattle.geo_core.specs.RowRuns.{Row, IsInRow, AreRuns, bar_of, IsWritten, Changes, IsTaken, IsLastRun, Touches, without, LiesClear, IsPlaced, IsCovered, IsUncovered}
 
 -- not greater
 pub from_not_gt : (a b : ℤ) → is_gt (int_cmp a b) ≡ false → a ≤ℤ b
@@ -64,6 +64,63 @@ pub record IsWithout (start : ℤ) (old new : Row) : Type 0 where
 pub without_fewer : (start : ℤ) (old new : Row) → IsWithout start old new → (a : ℤ) (run : Run) → new a ≡ Some run → old a ≡ Some run
 without_fewer start old new w a r e = sym (w.others a (λ same. none_begins new a start r e w.none same)) ∙ e
 
+-- each run but that one is still there
+still_there : (start a : ℤ) (run r : Run) (old new : Row) → IsWithout start old new → old start ≡ Some run → old a ≡ Some r
+    → (new a ≡ Some r) ⊎ ((start ≡ a) × (run ≡ r))
+still_there start a run r old new w begins e = by_lt_z a start
+    (λ less. inl (w.others a (λ same. omega (arith, ints, same, less)) ∙ e))
+    (λ not_less. by_lt_z start a
+    (λ more. inl (w.others a (λ same. omega (arith, ints, same, more)) ∙ e))
+    (λ not_more. let same : start ≡ a = omega (arith, ints, not_less, not_more) in inr (same, same_run old start a run r begins e same)))
+
+same_is_eq : (a : ℤ) → is_eq (int_cmp a a) ≡ true
+same_is_eq a = grind (arith, ints)
+
+-- the row without a run has the others
+pub is_without : (start : ℤ) (row : Row) → IsWithout start row (without start row)
+is_without start row = record {
+  none = ap (λ same. cond same None (row start)) (same_is_eq start);
+  others = λ a other. ap (λ same. cond same None (row a)) (not_eq start a other);
+}
+
+-- of two runs that are not one, one ends before the other begins
+beside : (row : Row) (a b : ℤ) (r s : Run) → AreRuns row → row a ≡ Some r → row b ≡ Some s → (a ≡ b) ⊎ ((r.to <ℤ b) ⊎ (s.to <ℤ a))
+beside row a b r s runs e f = by_lt_z a b
+    (λ less. inr (inl (runs.apart a b r s e f less)))
+    (λ not_less. by_lt_z b a
+    (λ more. inr (inr (runs.apart b a s r f e more)))
+    (λ not_more. inl (omega (arith, ints, not_less, not_more))))
+
+-- no run has the column where a run ends
+ends_there : (row : Row) (start : ℤ) (run : Run) → AreRuns row → row start ≡ Some run → IsInRow row run.to → ⊥
+ends_there row start run runs begins h =
+    let after = h.after in let before = h.before in let long = runs.long start run begins in elim (beside row h.from start h.run run runs h.begins begins) [
+      | inl same ↦ (let one : h.run.to ≡ run.to = ap (λ v. v.to) (same_run row h.from start h.run run h.begins begins same) in omega (arith, ints, one, before))
+      | inr (inl k) ↦ omega (arith, ints, k, before, long)
+      | inr (inr k) ↦ omega (arith, ints, k, after)
+    ]
+
+-- a run that has all the columns is taken out alone
+pub taken_alone : (from to start : ℤ) (run : Run) (old : Row) → AreRuns old → old start ≡ Some run → start ≤ℤ from → from ≤ℤ to → to ≤ℤ run.to
+    → IsTaken from to start run.to old (without start old)
+taken_alone from to start run old runs begins no_later order no_sooner = let w = is_without start old in record {
+  first = no_later;
+  last = no_sooner;
+  rest = λ a r e. let o = without_fewer start old (without start old) w a r e in (
+    o,
+    elim (beside old a start r run runs o begins) [
+      | inl same ↦ absurd (none_begins (without start old) a start r e w.none same)
+      | inr apart ↦ apart
+    ],
+  );
+  gone = λ a r e. elim (still_there start a run r old (without start old) w begins e) [
+    | inl k ↦ inl k
+    | inr s ↦ inr (omega (arith, ints, s.0), (let one : run.to ≡ r.to = ap (λ v. v.to) s.1 in omega (arith, ints, one)))
+  ];
+  on_left = λ x after before. record { from = start; run = run; begins = begins; after = after; before = omega (arith, ints) };
+  on_right = λ x after before. record { from = start; run = run; begins = begins; after = omega (arith, ints); before = before };
+}
+
 -- how far the taking out has come
 pub record IsTaking (from to left right : ℤ) (old new : Row) : Type 0 where
   pub first : left ≤ℤ from
@@ -85,13 +142,10 @@ taking_more from to left right start run old mid new h t w =
       last = omega (arith, ints, clamps, last);
       rest = λ a r e. h.rest a r (sym (w.others a (λ same. none_begins new a start r e w.none same)) ∙ e);
       gone = λ a r e. elim (h.gone a r e) [
-        | inl m ↦ by_lt_z a start
-            (λ less. inl (w.others a (λ same. omega (arith, ints, same, less)) ∙ m))
-            (λ not_less. by_lt_z start a
-            (λ more. inl (w.others a (λ same. omega (arith, ints, same, more)) ∙ m))
-            (λ not_more. let same : a ≡ start = omega (arith, ints, not_less, not_more) in
-            let one : r.to ≡ run.to = ap (λ v. v.to) (same_run mid a start r run m t.begins same) in
-            inr (omega (arith, ints, clamps, same), omega (arith, ints, clamps, one))))
+        | inl m ↦ elim (still_there start a run r mid new w t.begins m) [
+          | inl k ↦ inl k
+          | inr s ↦ inr (omega (arith, ints, clamps, s.0), (let one : run.to ≡ r.to = ap (λ v. v.to) s.1 in omega (arith, ints, clamps, one)))
+        ]
         | inr g ↦ inr (omega (arith, ints, clamps, g.0), omega (arith, ints, clamps, g.1))
       ];
       left_run = by_lt_z start left
@@ -179,13 +233,10 @@ pub changes_taken : (y start : ℤ) (run : Run) (mid new : Row) (before after : 
     → ((bar : Bar) → In bar after → In bar before ⊎ ((run.since <ℤ y) × (bar_of start run y ≡ bar))) → Changes y mid new before after
 changes_taken y start run mid new before after begins w keeps ends adds = record {
   fresh = λ a r e. inl (sym (w.others a (λ same. none_begins new a start r e w.none same)) ∙ e);
-  ended = λ a r e. by_lt_z a start
-      (λ less. inl (w.others a (λ same. omega (arith, ints, same, less)) ∙ e))
-      (λ not_less. by_lt_z start a
-      (λ more. inl (w.others a (λ same. omega (arith, ints, same, more)) ∙ e))
-      (λ not_more. let same : start ≡ a = omega (arith, ints, not_less, not_more) in
-      let one : run ≡ r = same_run mid start a run r begins e same in
-      inr (subst (λ v. In (bar_of v r y) after ⊎ (y ≤ℤ r.since)) same (subst (λ v. In (bar_of start v y) after ⊎ (y ≤ℤ v.since)) one ends))));
+  ended = λ a r e. elim (still_there start a run r mid new w begins e) [
+    | inl k ↦ inl k
+    | inr s ↦ inr (subst (λ v. In (bar_of v r y) after ⊎ (y ≤ℤ r.since)) s.0 (subst (λ v. In (bar_of start v y) after ⊎ (y ≤ℤ v.since)) s.1 ends))
+  ];
   kept = keeps;
   written = λ bar i. elim (adds bar i) [ inl k ↦ inl k | inr k ↦ inr (record { from = start; run = run; begins = begins; high = k.0; is = k.1 }) ];
 }
@@ -236,6 +287,14 @@ placed from to y run old new long runs clear run_to run_since begins others =
         | inr p ↦ absurd (let q = o.0 in let t = p.0 in omega (arith, ints, q, t, less))
       ]
     ]
+
+-- a run is put in instead of the one that begins there
+pub replaced : (from to y : ℤ) (run : Run) (old new : Row) → from <ℤ to → AreRuns old → LiesClear from to (without from old) → run.to ≡ to
+    → run.since ≡ y → new from ≡ Some run → ((a : ℤ) → (a ≡ from → ⊥) → new a ≡ old a) → IsPlaced from to y (without from old) new
+replaced from to y run old new long runs clear run_to run_since begins others =
+    let w = is_without from old in
+    placed from to y run (without from old) new long (fewer_runs old (without from old) (without_fewer from old (without from old) w) runs) clear
+    run_to run_since begins (λ a other. others a other ∙ sym (w.others a other))
 
 -- what is put in at a row changes it as it may
 pub changes_placed : (from to y : ℤ) (old new : Row) (bars : List Bar) → IsPlaced from to y old new → Changes y old new bars bars
@@ -323,6 +382,64 @@ module _ (from to left right : ℤ) (old mid : Row) (t : IsTaken from to left ri
         | inl k ↦ omega (arith, ints, k, before', first, f)
         | inr k ↦ omega (arith, ints, k, after', last, l)
       ]
+
+-- a run is made longer from its end on: the runs that begin after it are taken out, and then it is put in as it is now
+module _ (to left right start : ℤ) (run : Run) (old mid : Row) (runs : AreRuns old) (begins : old start ≡ Some run)
+    (t : IsTaken (run.to +ℤ pos 1) to left right old mid) (order : run.to ≤ℤ to) where
+  begins_after : run.to <ℤ left
+  begins_after = by_lt_z run.to left (λ less. less)
+      (λ not_less. absurd (ends_there old start run runs begins (t.on_left run.to not_less (omega (arith, ints)))))
+
+  unmoved : mid start ≡ Some run
+  unmoved = elim (t.gone start run begins) [
+    | inl m ↦ m
+    | inr g ↦ absurd (let long = runs.long start run begins in let first = g.0 in let no = begins_after in omega (arith, ints, first, long, no))
+  ]
+
+  pub taken_longer : IsTaken run.to to start right old (without start mid)
+  taken_longer = let w = is_without start mid in let long = runs.long start run begins in let last = t.last in record {
+    first = omega (arith, ints, long);
+    last = last;
+    rest = λ a r e. let o = t.rest a r (without_fewer start mid (without start mid) w a r e) in (
+      o.0,
+      elim (beside old a start r run runs o.0 begins) [
+        | inl same ↦ absurd (none_begins (without start mid) a start r e w.none same)
+        | inr (inl k) ↦ inl k
+        | inr (inr k) ↦ elim o.1 [
+          | inl h ↦ absurd (let f = t.first in let l = runs.long a r o.0 in omega (arith, ints, k, h, f, l))
+          | inr h ↦ inr h
+        ]
+      ],
+    );
+    gone = λ a r e. elim (t.gone a r e) [
+      | inl m ↦ elim (still_there start a run r mid (without start mid) w unmoved m) [
+        | inl k ↦ inl k
+        | inr s ↦ inr (omega (arith, ints, s.0), (let one : run.to ≡ r.to = ap (λ v. v.to) s.1 in omega (arith, ints, one, order, last)))
+      ]
+      | inr g ↦ inr (let no = begins_after in (omega (arith, ints, g.0, no, long), g.1))
+    ];
+    on_left = λ x first before. record { from = start; run = run; begins = begins; after = first; before = before };
+    on_right = t.on_right;
+  }
+
+  pub longer : (y : ℤ) (new : Row) (before now : List Bar) → run.since ≡ y → Changes y old mid before now → IsPlaced start right y (without start mid) new
+      → IsCovered run.to to y old new before now
+  longer y new before now since c p = covered run.to to start right old (without start mid) taken_longer y new before now
+      (changes_both y old mid (without start mid) before now now c (changes_taken y start run mid (without start mid) now now unmoved
+      (is_without start mid) (λ bar i. i) (inr (omega (arith, ints, since))) (λ bar i. inl i))) p
+
+-- columns that a run has already need not come to it
+pub covered_from : (from to y start : ℤ) (run : Run) (old new : Row) (before after : List Bar) → old start ≡ Some run → start ≤ℤ from → from ≤ℤ run.to
+    → IsCovered run.to to y old new before after → IsCovered from to y old new before after
+covered_from from to y start run old new before after begins first last h = record {
+  apart = h.apart;
+  changes = h.changes;
+  kept = h.kept;
+  added = λ x left right. by_lt_z x run.to
+      (λ inside. h.kept x (record { from = start; run = run; begins = begins; after = omega (arith, ints, first, left); before = inside }))
+      (λ beyond. h.added x beyond right);
+  only = λ x i. elim (h.only x i) [ inl o ↦ inl o | inr o ↦ inr (omega (arith, ints, o.0, last), o.1) ];
+}
 
 -- nothing changes where there are no columns to be taken out
 pub uncovered_before : (from to y : ℤ) (row : Row) (bars : List Bar) → AreRuns row → to ≤ℤ from → IsUncovered from to y row row bars bars

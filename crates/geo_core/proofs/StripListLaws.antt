@@ -17,7 +17,7 @@ use Rattle.geo_core.specs.declared.squares.Square.{Square}
 use Rattle.geo_core.specs.declared.squares.Rect.{Rect}
 use Rattle.geo_core.specs.declared.bars.Bar.{Bar}
 use Rattle.geo_core.specs.declared.strip_lists.Strip.{Strip}
-use Rattle.geo_core.specs.Bars.{bar_cmp, strip_cmp, joined, strip_of, rect_of}
+use Rattle.geo_core.specs.Bars.{bar_cmp, strip_cmp, joined, strip_of, rect_of, AreStripsOf}
 use Rattle.geo_core.specs.Strips.{IsStrip, IsStrips, IsInUnion, StandsBefore, StripsAreUnique}
 use Rattle.geo_core.specs.Sweeping.{AreRunBars}
 use Rattle.geo_core.proofs.JoinLaws.{AreJoined, joined-are}
@@ -116,7 +116,7 @@ module _ (S : Square → Type 0) (columns : List Bar) (are : AreColumns S column
   }
 
 -- from bars that are runs of a set to its strips
-pub strips_found : (S : Square → Type 0) (bars upright columns : List Bar) (strips ordered : List Strip) (areas : List Rect)
+strips_found : (S : Square → Type 0) (bars upright columns : List Bar) (strips ordered : List Strip) (areas : List Rect)
     → AreRunBars S bars → IsPermutation bars upright → IsSorted bar_cmp upright → columns ≡ joined upright
     → strips ≡ map strip_of columns → IsPermutation strips ordered → IsSorted strip_cmp ordered → areas ≡ map rect_of ordered
     → IsStrips S areas
@@ -127,6 +127,11 @@ strips_found S bars upright columns strips ordered areas are upright_moved uprig
     (joined-are upright (bars_in_order upright upright_sorted) (λ bar i. are.long bar (there bar i))) in
     let made = columns_from_bars S bars upright columns are there back join in
     subst (IsStrips S) (sym e-areas) (sorted_columns S columns made ordered (subst (λ v. IsPermutation v ordered) e-strips ordered_moved) ordered_sorted)
+
+-- the same, of a list that bars make
+pub strips_of_bars : (S : Square → Type 0) (bars : List Bar) (areas : List Rect) → AreRunBars S bars → AreStripsOf bars areas → IsStrips S areas
+strips_of_bars S bars areas runs a = strips_found S bars a.upright (joined a.upright) (map strip_of (joined a.upright)) a.ordered areas runs
+    a.upright_moved a.upright_sorted refl refl a.ordered_moved a.ordered_sorted a.are
 
 -- no rectangle stands before itself
 pub StandsBefore-irreflexive : (a : Rect) → StandsBefore a a → ⊥

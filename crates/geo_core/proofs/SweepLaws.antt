@@ -1,5 +1,5 @@
 -- The sweep keeps track of what rectangles cover, row by row.
-use Rattle.std.proofs.Common.{◌≡◌, ◌⊎◌, inl, inr, ℕ, zero, suc, ◌+◌, ◌<◌, ℤ, pos, ◌-ℤ◌, ◌≤ℤ◌, ◌<ℤ◌, true, false, cond, List, [], ◌∷◌, ◌++◌}
+use Rattle.std.proofs.Common.{◌≡◌, ◌⊎◌, inl, inr, ℕ, zero, suc, ◌+◌, ◌<◌, ℤ, pos, ◌-ℤ◌, ◌≤ℤ◌, ◌<ℤ◌, Bool, true, false, cond, List, [], ◌∷◌, ◌++◌}
 use Rattle.std.proofs.Common.{length, length-drop, take, drop, drop-cons, add-one, get_or, Some, None, refl, sym, ◌∙◌, ap, subst, arith}
 use Rattle.std.specs.Prelude.{◌&&◌, ◌^◌, neg_ℤ, int_le, int_lt}
 use Rattle.std.specs.Int.{int_max}
@@ -94,7 +94,7 @@ module _ (S : Square → Type 0) where
       → y <ℤ bar.to → IsRun S bar.low bar.high y
   written_runs h row found bar b w = subst (λ (v : Bar). (y : ℤ) → v.from ≤ℤ y → y <ℤ v.to → IsRun S v.low v.high y) w.is (b.standing w.from w.run w.begins)
 
-  booked_changed : (h : ℤ) (row row' : Row) (found found' : List Bar) → AreBooked h row found → Changes h row row' found found' → AreBooked h row' found'
+  pub booked_changed : (h : ℤ) (row row' : Row) (found found' : List Bar) → AreBooked h row found → Changes h row row' found found' → AreBooked h row' found'
   booked_changed h row row' found found' b c = record {
     since = λ a r e. elim (c.fresh a r e) [ inl o ↦ b.since a r o | inr s ↦ omega (arith, ints, s) ];
     standing = λ a r e y from to. elim (c.fresh a r e) [ inl o ↦ b.standing a r o y from to | inr s ↦ absurd (omega (arith, ints, s, from, to)) ];
@@ -133,7 +133,7 @@ module _ (S : Square → Type 0) where
         let one : i.run.to ≡ run.to = ap (λ r. r.to) (same_run row i.from a i.run run i.begins begins same) in omega (arith, ints, one, before))));
   }
 
-  booked_advanced : (h h' : ℤ) (row : Row) (found : List Bar) → h ≤ℤ h' → AreRuns row → IsSteady h h' row → AreBooked h row found → AreBooked h' row found
+  pub booked_advanced : (h h' : ℤ) (row : Row) (found : List Bar) → h ≤ℤ h' → AreRuns row → IsSteady h h' row → AreBooked h row found → AreBooked h' row found
   booked_advanced h h' row found order apart steady b = record {
     since = λ a r e. (let early = b.since a r e in omega (arith, ints, early, order));
     standing = λ a r e y from to. by_lt_z y h
@@ -612,17 +612,24 @@ swept_begins areas (e ∷ rest) lowest row until are empty lows = record {
     coming f (inr k) = let found = In-index f rest k in subst (λ (v : Event). e.row ≤ℤ v.row) (found.1.1 e)
         (are.ordered 0 (suc found.0) e (omega arith) (let a = found.1.0 in omega (arith, a)))
 
--- the sides of an event
-pub from_in_sides : (events : List Event) (e : Event) → In e events → In e.from (sides_of events)
-from_in_sides [] e i = i
-from_in_sides (f ∷ rest) e (inl is) = inl (ap (λ v. v.from) is)
-from_in_sides (f ∷ rest) e (inr k) = inr (inr (from_in_sides rest e k))
+in_first : (f : Event) (rest : List Event) (x : ℤ) → f.ends ≡ false → In x (f.from ∷ f.to ∷ sides_of rest) → In x (sides_of (f ∷ rest))
+in_first f rest x begins i = subst (λ v. In x (cond v (sides_of rest) (f.from ∷ f.to ∷ sides_of rest))) (sym begins) i
+
+in_rest : (ends : Bool) (f : Event) (rest : List Event) (x : ℤ) → In x (sides_of rest) → In x (cond ends (sides_of rest) (f.from ∷ f.to ∷ sides_of rest))
+in_rest true f rest x i = i
+in_rest false f rest x i = inr (inr i)
+
+-- a rectangle that begins has its sides among them
+pub from_in_sides : (events : List Event) (e : Event) → In e events → e.ends ≡ false → In e.from (sides_of events)
+from_in_sides [] e i begins = i
+from_in_sides (f ∷ rest) e (inl is) begins = in_first f rest e.from (ap (λ v. v.ends) is ∙ begins) (inl (ap (λ v. v.from) is))
+from_in_sides (f ∷ rest) e (inr k) begins = in_rest f.ends f rest e.from (from_in_sides rest e k begins)
 
 -- and so is where it ends
-pub to_in_sides : (events : List Event) (e : Event) → In e events → In e.to (sides_of events)
-to_in_sides [] e i = i
-to_in_sides (f ∷ rest) e (inl is) = inr (inl (ap (λ v. v.to) is))
-to_in_sides (f ∷ rest) e (inr k) = inr (inr (to_in_sides rest e k))
+pub to_in_sides : (events : List Event) (e : Event) → In e events → e.ends ≡ false → In e.to (sides_of events)
+to_in_sides [] e i begins = i
+to_in_sides (f ∷ rest) e (inl is) begins = in_first f rest e.to (ap (λ v. v.ends) is ∙ begins) (inr (inl (ap (λ v. v.to) is)))
+to_in_sides (f ∷ rest) e (inr k) begins = in_rest f.ends f rest e.to (to_in_sides rest e k begins)
 
 -- a beginning has columns
 pub begin_long : (areas : List Rect) (events : List Event) (e : Event) → AreEvents areas events → In e events → e.ends ≡ false → e.from <ℤ e.to
@@ -633,13 +640,13 @@ begin_long areas events e are i no_end =
     let wide = b.proper.wide in
     omega (arith, ints, left, right, wide)
 
--- the sweep before the event at place i: its coverage is cut at all sides
+-- the sweep before the event at place i: its coverage is cut at the sides of all rectangles that begin
 pub record IsUnderWay (areas : List Rect) (events : List Event) (i : ℕ) (lowest : ℤ) (sweep : Sweep) : Type 0 where
   pub are : AreEvents areas events
   pub swept : IsSwept areas (take i events) (drop i events) lowest (row_of sweep) (until sweep.coverage) sweep.found.items
   pub topped : IsTopped sweep.coverage
-  pub from_cut : (e : Event) → In e events → IsCut sweep.coverage e.from
-  pub to_cut : (e : Event) → In e events → IsCut sweep.coverage e.to
+  pub from_cut : (e : Event) → In e events → e.ends ≡ false → IsCut sweep.coverage e.from
+  pub to_cut : (e : Event) → In e events → e.ends ≡ false → IsCut sweep.coverage e.to
 
 module _ (areas : List Rect) (events : List Event) (i : ℕ) (lowest : ℤ) (old new : Sweep) (u : IsUnderWay areas events i lowest old)
     (below : i < length events) (d : Event) where
@@ -649,8 +656,8 @@ module _ (areas : List Rect) (events : List Event) (i : ℕ) (lowest : ℤ) (old
     swept = begun_at areas events u.are i below d lowest (row_of old) (row_of new) (until old.coverage) old.found.items new.found.items u.swept
         (until new.coverage) no_end b.covered b.raised.rows;
     topped = b.raised.topped;
-    from_cut = λ e k. b.raised.cuts e.from (u.from_cut e k);
-    to_cut = λ e k. b.raised.cuts e.to (u.to_cut e k);
+    from_cut = λ e k begins. b.raised.cuts e.from (u.from_cut e k begins);
+    to_cut = λ e k begins. b.raised.cuts e.to (u.to_cut e k begins);
   }
 
   pub ended_under_way : (get_or events i d).ends ≡ true → lowest ≤ℤ (get_or events i d).row → RectsEnd (get_or events i d) old new
@@ -664,6 +671,6 @@ module _ (areas : List Rect) (events : List Event) (i : ℕ) (lowest : ℤ) (old
         are = u.are;
         swept = subst (λ c. IsSwept areas (take (i + 1) events) (drop (i + 1) events) lowest (row_of new) (until c) new.found.items) (sym e.same) swept;
         topped = subst IsTopped (sym e.same) u.topped;
-        from_cut = λ f k. subst (λ c. IsCut c f.from) (sym e.same) (u.from_cut f k);
-        to_cut = λ f k. subst (λ c. IsCut c f.to) (sym e.same) (u.to_cut f k);
+        from_cut = λ f k begins. subst (λ c. IsCut c f.from) (sym e.same) (u.from_cut f k begins);
+        to_cut = λ f k begins. subst (λ c. IsCut c f.to) (sym e.same) (u.to_cut f k begins);
       }

@@ -1,5 +1,5 @@
 -- Bars: stretches of parallel lines, and how bars that touch are joined.
-use Rattle.std.specs.Prelude.{Bool, ◌&&◌, int_le, if◌then◌else◌, List, [], ◌∷◌}
+use Rattle.std.specs.Prelude.{◌≡◌, Bool, ◌&&◌, int_le, if◌then◌else◌, List, [], ◌∷◌, map, IsPermutation, IsSorted}
 use Rattle.std.specs.Int.{int_max}
 use Rattle.std.specs.Ordering.{int_eq, int_cmp, ordering_then}
 use Rattle.geo_core.specs.declared.squares.Rect.{Rect}
@@ -40,3 +40,13 @@ rect_of strip = record { xlo = strip.xlo; ylo = strip.ylo; xhi = strip.xhi; yhi 
 -- Strips are in the order of their lowest rows, and from left to right in one row.
 abbrev pub strip_cmp : Strip → Strip → Ordering
 strip_cmp a b = ordering_then (int_cmp a.ylo b.ylo) (ordering_then (int_cmp a.xlo b.xlo) (ordering_then (int_cmp a.xhi b.xhi) (int_cmp a.yhi b.yhi)))
+
+-- The areas are what the bars make as strips: each bar joined with those that it meets, in order.
+pub record AreStripsOf (bars : List Bar) (areas : List Rect) : Type 0 where
+  pub upright : List Bar
+  pub upright_moved : IsPermutation bars upright
+  pub upright_sorted : IsSorted bar_cmp upright
+  pub ordered : List Strip
+  pub ordered_moved : IsPermutation (map strip_of (joined upright)) ordered
+  pub ordered_sorted : IsSorted strip_cmp ordered
+  pub are : areas ≡ map rect_of ordered

@@ -1,5 +1,5 @@
--- Which squares a rectangle covers.
-use Rattle.std.specs.Prelude.{Bool, ◌&&◌, int_le, int_lt, ◌≤ℤ◌, ◌<ℤ◌}
+-- Which squares a rectangle covers, or those of a list.
+use Rattle.std.specs.Prelude.{◌≡◌, ◌≢◌, ℕ, Bool, ◌&&◌, int_le, int_lt, ◌≤ℤ◌, ◌<ℤ◌, List, slice_get, Some}
 use Rattle.geo_core.specs.declared.squares.Square.{Square}
 use Rattle.geo_core.specs.declared.squares.Rect.{Rect}
 
@@ -19,3 +19,17 @@ is_covered area square =
 pub record IsProper (area : Rect) : Type 0 where
   pub wide : area.xlo <ℤ area.xhi
   pub high : area.ylo <ℤ area.yhi
+
+-- The rectangle with this index in the list covers the square.
+pub record CoversAt (rects : List Rect) (index : ℕ) (square : Square) : Type 0 where
+  pub area : Rect
+  pub there : slice_get rects index ≡ Some area
+  pub covers : Covers area square
+
+-- Two rectangles of the list cover the square. Two equal ones at different places are two.
+pub record IsInTwo (rects : List Rect) (square : Square) : Type 0 where
+  pub first : ℕ
+  pub second : ℕ
+  pub differ : first ≢ second
+  pub in_first : CoversAt rects first square
+  pub in_second : CoversAt rects second square

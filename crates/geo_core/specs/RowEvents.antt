@@ -1,5 +1,5 @@
 -- What happens at the rows where rectangles begin and end.
-use Rattle.std.specs.Prelude.{◌≡◌, ℤ, ◌≤ℤ◌, ◌<ℤ◌, true, false, List, [], ◌∷◌, AllPairs}
+use Rattle.std.specs.Prelude.{◌≡◌, ℤ, ◌≤ℤ◌, ◌<ℤ◌, true, false, cond, List, [], ◌∷◌, AllPairs}
 use Rattle.std.specs.Ordering.{int_cmp, bool_cmp, ordering_then}
 use Rattle.std.specs.declared.cmp.Ordering.{Ordering}
 use Rattle.finite_sets.specs.Lists.{In}
@@ -53,7 +53,7 @@ pub record AreEvents (areas : List Rect) (events : List Event) : Type 0 where
   pub ended : (area : Rect) (x : ℤ) → In area areas → IsProper area → area.xlo ≤ℤ x → x <ℤ area.xhi → HaveEnd events x area.yhi
   pub ordered : AllPairs IsAtNoLaterRow events
 
--- the columns where events begin and end
+-- the columns where rectangles that begin have their sides
 abbrev pub sides_of : List Event → List ℤ
 sides_of [] = []
-sides_of (event ∷ rest) = event.from ∷ event.to ∷ sides_of rest
+sides_of (event ∷ rest) = cond event.ends (sides_of rest) (event.from ∷ event.to ∷ sides_of rest)

@@ -1,5 +1,6 @@
 -- The runs of a row, and how they change from one row to the next.
-use Rattle.std.specs.Prelude.{◌≡◌, ◌⊎◌, ℤ, ◌≤ℤ◌, ◌<ℤ◌, Option, Some, List}
+use Rattle.std.specs.Prelude.{◌≡◌, ◌⊎◌, ℤ, ◌≤ℤ◌, ◌<ℤ◌, Option, Some, None, List, cond}
+use Rattle.std.specs.Ordering.{is_eq, int_cmp}
 use Rattle.finite_sets.specs.Lists.{In}
 use Rattle.geo_core.specs.declared.bars.Bar.{Bar}
 use Rattle.geo_core.specs.declared.row_runs.Run.{Run}
@@ -60,6 +61,10 @@ pub record Touches (row : Row) (from to start : ℤ) (run : Run) : Type 0 where
   pub begins : row start ≡ Some run
   pub no_later : start ≤ℤ to
   pub no_sooner : from ≤ℤ run.to
+
+-- the runs without the one that begins at the column
+abbrev pub without : ℤ → Row → Row
+without start row a = cond (is_eq (int_cmp start a)) None (row a)
 
 -- no run meets or touches the columns
 abbrev pub LiesClear : ℤ → ℤ → Row → Type 0

@@ -2,9 +2,9 @@
 ghost use Rattle.std.specs.Prelude.{◌≡◌, ℤ, ◌≤ℤ◌, ◌<ℤ◌, AllPairs, IfOk, OnOk};
 ghost use Rattle.std.specs.Int.{int_max, int_min};
 ghost use Rattle.finite_sets.specs.Lists.{In};
-ghost use Rattle.geo_core.specs.Coverage.{until, least_of, most_of, IsTopped, IsCut, IsCutAt, IsRaised, begins_before};
-ghost use Rattle.geo_core.specs.Coverage.{ends_after, begin_after, end_before, AddsColumns, IsGap};
+ghost use Rattle.geo_core.specs.Coverage.{until, least_of, most_of, IsTopped, IsCut, IsCutAt, IsRaised, AddsColumns, IsGap};
 
+use crate::column_bounds::{begin_after, begins_before, end_before, ends_after};
 use std::alloc::{AllocError, Global};
 
 /// A range of columns, those from `from` on and below `to`.
@@ -157,44 +157,6 @@ fn refresh(fork: &mut Fork)
     let most = fork.left.most().max(fork.right.most());
     fork.least = fork.least.max(least);
     fork.most = fork.most.max(most);
-}
-
-fn begins_before(from: Option<i64>, at: i64) -> bool
-    ensures { result ≡ begins_before from at }
-{
-    match from {
-        Some(from) => from < at,
-        None => true,
-    }
-}
-
-fn ends_after(to: Option<i64>, at: i64) -> bool
-    ensures { result ≡ ends_after to at }
-{
-    match to {
-        Some(to) => at < to,
-        None => true,
-    }
-}
-
-/// The bound, if it is beyond `at`.
-fn begin_after(from: Option<i64>, at: i64) -> Option<i64>
-    ensures { result ≡ begin_after from at }
-{
-    match from {
-        Some(from) if at < from => Some(from),
-        _ => None,
-    }
-}
-
-/// The bound, if it is before `at`.
-fn end_before(to: Option<i64>, at: i64) -> Option<i64>
-    ensures { result ≡ end_before to at }
-{
-    match to {
-        Some(to) if to < at => Some(to),
-        _ => None,
-    }
 }
 
 /// Adds a range, which goes on where the last one ended, or is one more.

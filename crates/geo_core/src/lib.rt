@@ -16,6 +16,7 @@
 #![tactic(auto)]
 
 mod bars;
+pub mod column_bounds;
 mod coverage;
 mod faults;
 mod grids;
@@ -25,12 +26,13 @@ mod names;
 mod orients;
 mod planes;
 mod row_events;
-mod row_runs;
+pub mod row_runs;
 mod squares;
 mod strip_lists;
 mod sweeping;
 mod transforms;
 
+pub use bars::Bar;
 pub use faults::GeoFault;
 pub use grids::Grid;
 pub use limits::{
@@ -41,5 +43,5 @@ pub use names::Name;
 pub use orients::Orient;
 pub use planes::{Plane, PlaneFault};
 pub use squares::{Piece, Rect, Square};
-pub use strip_lists::{SquareSet, strips, strips_are_unique};
+pub use strip_lists::{SquareSet, strips, strips_are_unique, strips_of_runs};
 pub use transforms::Transform;

@@ -20,7 +20,7 @@ pub struct Event {
 }
 
 /// The beginnings of rectangles.
-fn begins(alloc: Global, rects: &[Rect]) -> Result<Vec<Event>, AllocError>
+pub fn begins(alloc: Global, rects: &[Rect]) -> Result<Vec<Event>, AllocError>
     ensures { IfOk result (λ found. found.items ≡ map begin_of (filter has_square rects.now)) }
 {
     rects
@@ -80,19 +80,21 @@ pub fn events(alloc: Global, rects: &[Rect]) -> Result<Vec<Event>, AllocError>
     Ok(found)
 }
 
-/// The columns where events begin and end.
+/// The columns where rectangles that begin have their sides.
 fn all_sides(alloc: Global, events: &[Event]) -> Result<Vec<i64>, AllocError>
     ensures { IfOk result (λ found. found.items ≡ sides_of events.now) }
 {
     let mut found = Vec::new(alloc);
     for event in events {
-        found.push(event.from)?;
-        found.push(event.to)?;
+        if !event.ends {
+            found.push(event.from)?;
+            found.push(event.to)?;
+        }
     }
     Ok(found)
 }
 
-/// The columns where events begin and end, in order.
+/// The columns where rectangles that begin have their sides, in order.
 pub fn sides(alloc: Global, events: &[Event]) -> Result<Vec<i64>, AllocError>
     ensures all { IfOk result (λ found. (x : ℤ) → In x (sides_of events.now) → In x found.items) }
     ensures ordered { IfOk result (λ found. AllPairs ◌≤ℤ◌ found.items) }

@@ -1,11 +1,11 @@
 //! The runs of a row, from the row to the next one.
-ghost use Rattle.std.specs.Prelude.{◌≡◌, ◌⊎◌, ℤ, ◌≤ℤ◌, ◌<ℤ◌, Some, IfSome, IfNone, IfOk, OnOk, IsTrue};
+ghost use Rattle.std.specs.Prelude.{◌≡◌, ◌⊎◌, ℤ, ◌≤ℤ◌, ◌<ℤ◌, Some, IfSome, IfNone, IfOk, OnOk};
 ghost use Rattle.std.specs.Ordering.{int_cmp};
 ghost use Rattle.std.specs.BTreeMap.{get};
 ghost use Rattle.finite_sets.specs.Lists.{In};
 ghost use Rattle.geo_core.specs.declared.bars.Bar.{Bar as IsBar};
 ghost use Rattle.geo_core.specs.declared.row_runs.Run.{Run as IsRun};
-ghost use Rattle.geo_core.specs.RowRuns.{AreRuns, IsInRow, bar_of, IsLastRun, Touches, IsTaken, Changes, LiesClear, IsPlaced, IsCovered, IsUncovered};
+ghost use Rattle.geo_core.specs.RowRuns.{AreRuns, bar_of, IsLastRun, Touches, IsTaken, Changes, without, LiesClear, IsPlaced, IsCovered, IsUncovered};
 
 use crate::bars::Bar;
 use std::alloc::AllocError;
@@ -40,16 +40,6 @@ fn touching_run(runs: &BTreeMap<i64, Run>, from: i64, to: i64) -> Option<(i64, R
         return None;
     }
     Some((start, run))
-}
-
-/// Whether one run has all the columns from `from` on and before `to`.
-fn has_run_over(runs: &BTreeMap<i64, Run>, from: i64, to: i64) -> bool
-    ensures { IsTrue result → (x : ℤ) → from ≤ℤ x → x <ℤ to → IsInRow (get int_cmp runs.now) x }
-{
-    match last_run(runs, from) {
-        Some((_, run)) => to <= run.to,
-        None => false,
-    }
 }
 
 /// Writes a run that ends at the row, if it has rows.
@@ -107,6 +97,38 @@ fn place(runs: &mut BTreeMap<i64, Run>, from: i64, to: i64, row: i64) -> Result<
     Ok(())
 }
 
+/// Puts in a run, which has columns, instead of the one that begins there.
+fn replace(runs: &mut BTreeMap<i64, Run>, from: i64, to: i64, row: i64) -> Result<(), AllocError>
+    requires long { from <ℤ to }
+    requires apart { AreRuns (get int_cmp runs.old) }
+    requires clear { LiesClear from to (without from (get int_cmp runs.old)) }
+    ensures { OnOk result (IsPlaced from to row (without from (get int_cmp runs.old)) (get int_cmp runs.new)) }
+{
+    runs.insert(from, Run { to, since: row })?;
+    Ok(())
+}
+
+/// From this row on a run that was begun at the row has the columns from its end on and before `to` too.
+fn lengthen(
+    runs: &mut BTreeMap<i64, Run>,
+    start: i64,
+    run: Run,
+    to: i64,
+    row: i64,
+    found: &mut Vec<Bar>,
+) -> Result<(), AllocError>
+    requires begins { get int_cmp runs.old start ≡ Some run }
+    requires since { run.since ≡ row }
+    requires before { run.to <ℤ to }
+    requires apart { AreRuns (get int_cmp runs.old) }
+    ensures { OnOk result (IsCovered run.to to row (get int_cmp runs.old) (get int_cmp runs.new) found.old.items found.new.items) }
+{
+    // The run itself does not touch the columns from `run.to + 1` on, so it is not taken out.
+    let (_, right) = take(runs, run.to + 1, to, row, found)?;
+    replace(runs, start, right, row)?;
+    Ok(())
+}
+
 /// From this row on the columns from `from` on and before `to` are in runs.
 pub fn cover(
     runs: &mut BTreeMap<i64, Run>,
@@ -119,11 +141,39 @@ pub fn cover(
     requires apart { AreRuns (get int_cmp runs.old) }
     ensures { OnOk result (IsCovered from to row (get int_cmp runs.old) (get int_cmp runs.new) found.old.items found.new.items) }
 {
-    if has_run_over(runs, from, to) {
-        return Ok(());
+    if let Some((start, run)) = last_run(runs, from) {
+        if to <= run.to {
+            return Ok(());
+        }
+        if from <= run.to && run.since == row {
+            return lengthen(runs, start, run, to, row, found);
+        }
     }
     let (left, right) = take(runs, from, to, row, found)?;
     place(runs, left, right, row)?;
+    Ok(())
+}
+
+/// From this row on the columns from `from` on and before `to` are not in the run, which begins before them.
+fn split(
+    runs: &mut BTreeMap<i64, Run>,
+    start: i64,
+    run: Run,
+    from: i64,
+    to: i64,
+    row: i64,
+    found: &mut Vec<Bar>,
+) -> Result<(), AllocError>
+    requires begins { get int_cmp runs.old start ≡ Some run }
+    requires before { start <ℤ from }
+    requires long { from <ℤ to }
+    requires after { to ≤ℤ run.to }
+    requires apart { AreRuns (get int_cmp runs.old) }
+    ensures { OnOk result (IsUncovered from to row (get int_cmp runs.old) (get int_cmp runs.new) found.old.items found.new.items) }
+{
+    write(found, start, run, row)?;
+    replace(runs, start, from, row)?;
+    place(runs, to, run.to, row)?;
     Ok(())
 }
 
@@ -140,6 +190,11 @@ pub fn uncover(
 {
     if to <= from {
         return Ok(());
+    }
+    if let Some((start, run)) = last_run(runs, from) {
+        if start < from && to <= run.to {
+            return split(runs, start, run, from, to, row, found);
+        }
     }
     let (left, right) = take(runs, from, to, row, found)?;
     place(runs, left, from, row)?;

@@ -1,7 +1,7 @@
 //! The strips of what rectangles cover.
 ghost use Rattle.std.specs.Prelude.{◌≡◌, IfOk, map, IsPermutation, IsSorted};
 ghost use Rattle.geo_core.specs.declared.squares.Square.{Square as OneSquare};
-ghost use Rattle.geo_core.specs.Bars.{strip_of, rect_of, strip_cmp};
+ghost use Rattle.geo_core.specs.Bars.{strip_of, rect_of, strip_cmp, AreStripsOf};
 ghost use Rattle.geo_core.specs.Strips.{IsStrips, IsInUnion, StripsAreUnique};
 
 use crate::bars::{Bar, join, sorted};
@@ -34,7 +34,15 @@ pub fn strips_are_unique<S: SquareSet>()
 pub fn strips(alloc: Global, rects: &[Rect]) -> Result<Vec<Rect>, GeoFault>
     ensures { IfOk result (λ found. IsStrips (IsInUnion rects.now) found.items) }
 {
-    let upright = sorted(runs(alloc, rects)?);
+    let runs = runs(alloc, rects)?;
+    Ok(strips_of_runs(alloc, runs)?)
+}
+
+/// The strips of the set whose runs the bars are: of the columns that each is in and the rows from its first to its last.
+pub fn strips_of_runs(alloc: Global, runs: Vec<Bar>) -> Result<Vec<Rect>, AllocError>
+    ensures { IfOk result (λ found. AreStripsOf runs.items found.items) }
+{
+    let upright = sorted(runs);
     let columns = join(alloc, upright.as_slice())?;
     let ordered = in_order(strips_of(alloc, columns.as_slice())?);
     Ok(rects_of(alloc, ordered.as_slice())?)

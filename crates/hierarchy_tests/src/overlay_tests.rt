@@ -5,24 +5,20 @@ use rect_overlays::{Stack, overlay};
 use std::alloc::{AllocError, Global};
 use std::test::Fail;
 
-/// Rectangles and how many of them are enough at a square, and areas that lie apart, each with the places of the rectangles that
-/// cover it. No other square is covered.
+/// Rectangles, and areas that lie apart, each with the places of the rectangles that cover it. No other square is covered.
 struct Row {
     rects: &'static [Bounds],
-    enough: Option<usize>,
     covered: &'static [(Bounds, &'static [usize])],
 }
 
 const ROWS: &[Row] = &[
     Row {
         rects: &[],
-        enough: None,
         covered: &[],
     },
     // Two have a corner in common.
     Row {
         rects: &[[0, 0, 2, 2], [1, 1, 3, 3]],
-        enough: None,
         covered: &[
             ([0, 0, 2, 1], &[0]),
             ([0, 1, 1, 2], &[0]),
@@ -34,13 +30,11 @@ const ROWS: &[Row] = &[
     // Those without a square count as places alone.
     Row {
         rects: &[[1, -1, 1, 3], [0, 0, 2, 1], [3, 3, -1, -1]],
-        enough: None,
         covered: &[([0, 0, 2, 1], &[1])],
     },
     // One lies inside the other.
     Row {
         rects: &[[1, 1, 2, 2], [0, 0, 3, 3]],
-        enough: None,
         covered: &[
             ([0, 0, 3, 1], &[1]),
             ([0, 1, 1, 2], &[1]),
@@ -52,13 +46,11 @@ const ROWS: &[Row] = &[
     // Equal ones.
     Row {
         rects: &[[0, 0, 2, 1], [0, 0, 2, 1]],
-        enough: None,
         covered: &[([0, 0, 2, 1], &[0, 1])],
     },
     // As wide as numbers are.
     Row {
         rects: &[[i64::MIN, 0, i64::MAX, 1], [0, i64::MIN, 1, i64::MAX]],
-        enough: None,
         covered: &[
             ([-2, 0, 0, 1], &[0]),
             ([0, 0, 1, 1], &[0, 1]),
@@ -67,21 +59,37 @@ const ROWS: &[Row] = &[
             ([0, 1, 1, 5], &[1]),
         ],
     },
-    // Two of three equal ones are enough.
+    // Three equal ones, and three of which each lies over the next.
     Row {
         rects: &[[0, 0, 1, 2], [0, 0, 1, 2], [0, 0, 1, 2]],
-        enough: Some(2),
         covered: &[([0, 0, 1, 2], &[0, 1, 2])],
     },
-    // Where one alone lies, one is all that there are.
     Row {
         rects: &[[0, 0, 2, 1], [1, 0, 4, 1], [1, 0, 3, 1]],
-        enough: Some(2),
         covered: &[
             ([0, 0, 1, 1], &[0]),
             ([1, 0, 2, 1], &[0, 1, 2]),
             ([2, 0, 3, 1], &[1, 2]),
             ([3, 0, 4, 1], &[1]),
+        ],
+    },
+    // Some that lie apart, beside two that don't.
+    Row {
+        rects: &[
+            [-2, -2, -1, -1],
+            [3, -2, 5, 0],
+            [0, 0, 2, 2],
+            [1, 1, 3, 2],
+            [-2, 3, 5, 4],
+        ],
+        covered: &[
+            ([-2, -2, -1, -1], &[0]),
+            ([3, -2, 5, 0], &[1]),
+            ([0, 0, 2, 1], &[2]),
+            ([0, 1, 1, 2], &[2]),
+            ([1, 1, 2, 2], &[2, 3]),
+            ([2, 1, 3, 2], &[3]),
+            ([-2, 3, 5, 4], &[4]),
         ],
     },
 ];
@@ -100,26 +108,13 @@ fn covering(row: &Row, x: i64, y: i64) -> &'static [usize] {
     &[]
 }
 
-/// Whether the members are these, or enough of these.
-fn are_right(members: &[usize], covering: &[usize], enough: Option<usize>) -> bool {
-    let Some(enough) = enough else {
-        return members == covering;
-    };
-    for member in members {
-        if !covering.contains(member) {
-            return false;
-        }
-    }
-    members.len() >= enough || members.len() == covering.len()
-}
-
 /// Whether the square lies in one stack with the right members, or in none if no rectangle covers it.
 fn is_right_at(stacks: &[Stack], row: &Row, x: i64, y: i64) -> bool {
     let covering = covering(row, x, y);
     let mut is_found = false;
     for stack in stacks {
         if covers(&stack.area, x, y) {
-            if is_found || !are_right(stack.members.as_slice(), covering, row.enough) {
+            if is_found || stack.members.as_slice() != covering {
                 return false;
             }
             is_found = true;
@@ -131,7 +126,7 @@ fn is_right_at(stacks: &[Stack], row: &Row, x: i64, y: i64) -> bool {
 /// Whether the overlay of the row's rectangles says the right of each square nearby.
 fn is_right(alloc: Global, row: &Row) -> Result<bool, AllocError> {
     let rects = rects(alloc, row.rects)?;
-    let stacks = overlay(alloc, rects.as_slice(), row.enough)?;
+    let stacks = overlay(alloc, rects.as_slice())?;
     for y in -2..5 {
         for x in -2..5 {
             if !is_right_at(stacks.as_slice(), row, x, y) {

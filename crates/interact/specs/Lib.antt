@@ -1,2 +1,4 @@
 pub mod NearBoxes
-pub mod Sharing
+pub mod Counts
+pub mod Edges
+pub mod Sweeps

@@ -1,13 +1,12 @@
 //! The areas in which boxes are near each other.
-ghost use Rattle.std.specs.Prelude.{◌≡◌, IfOk, All, filter, map};
+ghost use Rattle.std.specs.Prelude.{◌≡◌, IfOk, All, map};
 ghost use Rattle.geo_core.specs.declared.squares.Rect.{Rect as OneRect};
 ghost use Rattle.geo_core.specs.Areas.{widened, LiesWithin};
 ghost use Rattle.geo_core.specs.Strips.{IsStrips};
 ghost use Rattle.interact.specs.NearBoxes.{IsNearBox, IsShared};
-ghost use Rattle.interact.specs.Sharing.{is_shared};
 
-use geo_core::{GeoFault, Rect, strips};
-use rect_overlays::{Stack, overlay};
+use crate::sweep::shared_runs;
+use geo_core::{Rect, strips_of_runs};
 use std::alloc::{AllocError, Global};
 
 /// The strips of the squares that lie in two of the boxes, each grown by one on every side. Two equal boxes are two.
@@ -21,12 +20,8 @@ pub fn areas(alloc: Global, boxes: &[Rect]) -> Result<Vec<Rect>, AllocError>
         → All (λ area. LiesWithin area around) areas.items) }
 {
     let widened = widened_boxes(alloc, boxes)?;
-    let stacks = overlay(alloc, widened.as_slice(), Some(2))?;
-    let shared = shared_areas(alloc, stacks.as_slice())?;
-    match strips(alloc, shared.as_slice()) {
-        Ok(areas) => Ok(areas),
-        Err(GeoFault::Memory) => Err(AllocError),
-    }
+    let runs = shared_runs(alloc, widened.as_slice())?;
+    strips_of_runs(alloc, runs)
 }
 
 /// The boxes, each grown by one on every side.
@@ -34,20 +29,9 @@ fn widened_boxes(alloc: Global, boxes: &[Rect]) -> Result<Vec<Rect>, AllocError>
     requires { All IsNearBox boxes.now }
     ensures { IfOk result (λ found. found.items ≡ map widened boxes.now) }
 {
-    let mut found = Vec::new(alloc);
+    let mut found = Vec::with_capacity(alloc, boxes.len())?;
     for area in boxes {
         found.push(area.widened())?;
     }
     Ok(found)
-}
-
-/// The areas of the stacks that two rectangles or more cover.
-fn shared_areas(alloc: Global, stacks: &[Stack]) -> Result<Vec<Rect>, AllocError>
-    ensures { IfOk result (λ areas. areas.items ≡ map (λ stack. stack.area) (filter is_shared stacks.now)) }
-{
-    stacks
-        .iter()
-        .filter(|stack| stack.members.len() >= 2)
-        .map(|stack| stack.area)
-        .collect(alloc)
 }

@@ -25,7 +25,7 @@ use Rattle.offences.proofs.TileLaws.{HasTile, part_bit, part_kept}
 use Rattle.offences.proofs.UnionLaws.{same_sets}
 
 -- the piece of a stack has its members, and those cover it
-members_of_stack : (raw : RawTech) (plane : ℕ) (tiles : List SetTile) (stack : Stack) → IsStack (tile_areas tiles) None stack → (typed_stack : TypedStack)
+members_of_stack : (raw : RawTech) (plane : ℕ) (tiles : List SetTile) (stack : Stack) → IsStack (tile_areas tiles) stack → (typed_stack : TypedStack)
     → StandsFor raw plane tiles stack typed_stack → HasMembers tiles typed_stack
 members_of_stack raw plane tiles stack is typed_stack stands =
     let same : typed_stack.members ≡ stack.members.items = stands.members in
@@ -35,14 +35,12 @@ members_of_stack raw plane tiles stack is typed_stack stands =
       within = λ member h. All_In (λ (m : ℕ). m < length tiles) stack.members.items member (members_within tiles stack is) (subst (In member) same h);
       cover = λ member h square covers. (covers_tile tiles member square
           (is.members member (subst (In member) same h) square (subst (λ (r : Rect). Covers r square) stands.area covers))).1;
-      all = λ member square below covers inside. subst (In member) (sym same) (elim is.others [
-        | inl enough ↦ absurd enough
-        | inr others ↦ others member square (subst (λ (r : Rect). Covers r square) stands.area covers) (covers_at tiles member square below inside)
-      ]);
+      all = λ member square below covers inside. subst (In member) (sym same)
+          (is.others member square (subst (λ (r : Rect). Covers r square) stands.area covers) (covers_at tiles member square below inside));
     }
 
 -- and so has each piece of the stacks
-pub have_members : (raw : RawTech) (plane : ℕ) (tiles : List SetTile) (stacks : List Stack) → AreStacks (tile_areas tiles) None stacks
+pub have_members : (raw : RawTech) (plane : ℕ) (tiles : List SetTile) (stacks : List Stack) → AreStacks (tile_areas tiles) stacks
     → (typed_stacks : List TypedStack) → StandForAll raw plane tiles stacks typed_stacks → All (HasMembers tiles) typed_stacks
 have_members raw plane tiles stacks are typed_stacks stand = All-from_In (HasMembers tiles) typed_stacks (λ typed_stack h.
     let of = stand.each typed_stack h in

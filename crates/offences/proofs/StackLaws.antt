@@ -15,7 +15,8 @@ use Rattle.geo_core.specs.Areas.{AreDisjoint, corner_of}
 use Rattle.geo_core.specs.Covering.{Covers}
 use Rattle.geo_core.proofs.CornerLaws.{corner_covers}
 use Rattle.rect_overlays.specs.declared.stacks.Stack.{Stack}
-use Rattle.rect_overlays.specs.Stacks.{CoversAt, IsStack}
+use Rattle.geo_core.specs.Covering.{CoversAt}
+use Rattle.rect_overlays.specs.Stacks.{IsStack}
 use Rattle.tech_model.specs.declared.raw.RawTech.{RawTech}
 use Rattle.offences.specs.declared.set_tiles.SetTile.{SetTile}
 use Rattle.offences.specs.declared.stacks.TypedStack.{TypedStack}
@@ -74,14 +75,14 @@ covers_at tiles place square below covers = record {
 }
 
 -- the members of a stack are places of tiles
-pub members_within : (tiles : List SetTile) (stack : Stack) → IsStack (tile_areas tiles) None stack
+pub members_within : (tiles : List SetTile) (stack : Stack) → IsStack (tile_areas tiles) stack
     → All (λ member. member < length tiles) stack.members.items
 members_within tiles stack is = All-from_In (λ member. member < length tiles) stack.members.items
     (λ member h. (covers_tile tiles member (corner_of stack.area)
     (is.members member h (corner_of stack.area) (corner_covers stack.area (corner_of stack.area) is.proper refl refl))).0)
 
 -- a stack has a member
-pub some_member : (tiles : List SetTile) (stack : Stack) → IsStack (tile_areas tiles) None stack → (member : ℕ) × In member stack.members.items
+pub some_member : (tiles : List SetTile) (stack : Stack) → IsStack (tile_areas tiles) stack → (member : ℕ) × In member stack.members.items
 some_member tiles stack is = go stack.members.items is.some
   where
     go : (members : List ℕ) → members ≢ [] → (member : ℕ) × In member members

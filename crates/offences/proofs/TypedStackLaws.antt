@@ -72,16 +72,13 @@ joined-space : (raw : RawTech) (plane set : ℕ) → joined raw plane set ≡ So
 joined-space raw plane set e = sym (joined-found raw plane set 0 e).0
 
 module _ (raw : RawTech) (plane : ℕ) (tiles : List SetTile) where
-  module _ (stack : Stack) (is : IsStack (tile_areas tiles) None stack) where
+  module _ (stack : Stack) (is : IsStack (tile_areas tiles) stack) where
     -- a tile that covers a square of the stack is a member
     tile_is_member : (tile : SetTile) (square : Square) → Covers stack.area square → In tile tiles → Covers tile.area square
         → (member : ℕ) × (In member stack.members.items × (tile_at tiles member ≡ tile))
     tile_is_member tile square covers h inside =
         let at = tile_covers tiles tile square h inside in
-        elim is.others [
-          | inl enough ↦ absurd enough
-          | inr others ↦ (at.0, (others at.0 square covers at.1.1, at.1.0))
-        ]
+        (at.0, (is.others at.0 square covers at.1.1, at.1.0))
 
     -- the tile of a member covers each square of the stack
     member_covers : (member : ℕ) → In member stack.members.items → (square : Square) → Covers stack.area square
@@ -200,7 +197,7 @@ module _ (raw : RawTech) (plane : ℕ) (tiles : List SetTile) where
               owner = stands.owner;
             }
 
-  module _ (stacks : List Stack) (are : AreStacks (tile_areas tiles) None stacks) (typed_stacks : List TypedStack)
+  module _ (stacks : List Stack) (are : AreStacks (tile_areas tiles) stacks) (typed_stacks : List TypedStack)
       (stand : StandForAll raw plane tiles stacks typed_stacks)
       (count : ℕ) (of_parts : AreTilesOfParts count tiles) (types : HaveTypes raw (tile_parts tiles plane count)) where
     -- outside of the pieces no part has anything

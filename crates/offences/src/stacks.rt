@@ -1,5 +1,5 @@
 //! Pieces of a plane on whose squares each part has one type.
-ghost use Rattle.std.specs.Prelude.{◌≡◌, ◌<◌, ◌==◌, All, AllPairs, None, find, length, map, IfOk};
+ghost use Rattle.std.specs.Prelude.{◌≡◌, ◌<◌, ◌==◌, All, AllPairs, find, length, map, IfOk};
 ghost use Rattle.geo_core.specs.Areas.{IsNear};
 ghost use Rattle.rect_overlays.specs.Stacks.{AreStacks};
 ghost use Rattle.offences.specs.PartSets.{AreInPartOrder};
@@ -117,7 +117,7 @@ fn typed_stacks_of(
     plane: u8,
 ) -> Result<Vec<TypedStack>, AllocError>
     requires ordered { AreInPartOrder tiles.now }
-    requires stacks { AreStacks (map (λ tile. tile.area) tiles.now) None stacks.items }
+    requires stacks { AreStacks (map (λ tile. tile.area) tiles.now) stacks.items }
     ensures { IfOk result (λ typed_stacks. StandForAll tech.now plane tiles.now stacks.items typed_stacks.items) }
 {
     let mut sums = Vec::new(alloc);
@@ -145,6 +145,6 @@ pub fn typed_stacks(
     ensures members { IfOk result (λ typed_stacks. All (HasMembers tiles.now) typed_stacks.items) }
 {
     let areas = tile_areas(alloc, tiles)?;
-    let stacks = overlay(alloc, areas.as_slice(), None)?;
+    let stacks = overlay(alloc, areas.as_slice())?;
     typed_stacks_of(alloc, tech, tiles, stacks, plane)
 }

@@ -8,7 +8,7 @@ use Rattle.std.proofs.lemmas.List.{length-append}
 use Rattle.std.proofs.lemmas.List.Elements.{filter-append}
 use Rattle.std.proofs.lemmas.List.FromFn.{length-range_with_len, get_or-range_with_len}
 use Rattle.finite_sets.specs.Lists.{In}
-use Rattle.finite_sets.proofs.Members.{In-append_left, In-push, In-index}
+use Rattle.finite_sets.proofs.Members.{In-append_left, In-push, In-index, In-map}
 use Rattle.finite_sets.proofs.Pairs.{Pairwise, AllPairs-from_Pairwise, Pairwise-from_AllPairs, Pairwise-push}
 use Rattle.finite_sets.proofs.Searches.{find-In, find-passes, find-none}
 use Rattle.geo_core.specs.declared.squares.Rect.{Rect}
@@ -29,6 +29,11 @@ Pairwise-front {X} R (x ∷ xs) y h =
 -- and without the one at the end
 pub AllPairs-front : {X : Type 0} (R : X → X → Type 0) (xs : List X) (y : X) → AllPairs R (xs ++ y ∷ []) → AllPairs R xs × ((x : X) → In x xs → R x y)
 AllPairs-front R xs y h = let p = Pairwise-front R xs y (Pairwise-from_AllPairs R (xs ++ y ∷ []) h) in (AllPairs-from_Pairwise R xs p.0, p.1)
+
+-- what holds of any two images holds of any two things
+pub Pairwise-unmap : {X Y : Type 0} (f : X → Y) (R : Y → Y → Type 0) (xs : List X) → Pairwise R (map f xs) → Pairwise (λ a b. R (f a) (f b)) xs
+Pairwise-unmap f R [] h = tt
+Pairwise-unmap f R (x ∷ xs) h = ((λ y i. h.0 (f y) (In-map f y xs i)), Pairwise-unmap f R xs h.1)
 
 -- one more number in a row
 pub range_more : (a n : ℕ) → range_with_len a (suc n) ≡ range_with_len a n ++ (a + n) ∷ []

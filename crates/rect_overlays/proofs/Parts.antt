@@ -12,12 +12,12 @@ use Rattle.geo_core.specs.declared.squares.Rect.{Rect}
 use Rattle.geo_core.specs.Areas.{common_rect, joined_rect, AreDisjoint, LiesWithin}
 use Rattle.geo_core.specs.Covering.{Covers, IsProper}
 use Rattle.geo_core.proofs.CornerLaws.{corner_covers}
-use Rattle.geo_core.proofs.CoveringLaws.{IsProper-has_square, has_square-IsProper, covers_first, covers_second, covers_both}
+use Rattle.geo_core.proofs.CoveringLaws.{IsProper-has_square, has_square-IsProper, covers_first, covers_second, covers_both, within_covers}
 use Rattle.geo_core.proofs.CoveringLaws.{covers_joined_left, covers_joined_right, joined_within}
 use Rattle.rect_contacts.specs.Rects.{no_rect, rect_at}
 use Rattle.rect_overlays.specs.declared.regions.Part.{Part}
 use Rattle.rect_overlays.specs.Regions.{Region, meets, meets_at, turned_over, IsHull, IsGathered, IsPart, AddsPart, Knows, IsRegion}
-use Rattle.rect_overlays.specs.Stacks.{CoversAt}
+use Rattle.geo_core.specs.Covering.{CoversAt}
 use Rattle.rect_overlays.proofs.Lists.{AllPairs-push, kept_more, some-In}
 
 -- a rectangle that covers a square has one
@@ -28,19 +28,6 @@ covers_is_proper area square c =
     let low : area.ylo ≤ℤ square.y = c.above_ylo in
     let high : square.y <ℤ area.yhi = c.below_yhi in
     record { wide = omega (arith, ints); high = omega (arith, ints) }
-
--- what lies within an area covers no square outside it
-pub within_covers : (core area : Rect) (square : Square) → LiesWithin core area → Covers core square → Covers area square
-within_covers core area square w c =
-    let w0 : area.xlo ≤ℤ core.xlo = w.right_of_xlo in
-    let w1 : area.ylo ≤ℤ core.ylo = w.above_ylo in
-    let w2 : core.xhi ≤ℤ area.xhi = w.left_of_xhi in
-    let w3 : core.yhi ≤ℤ area.yhi = w.below_yhi in
-    let left : core.xlo ≤ℤ square.x = c.right_of_xlo in
-    let right : square.x <ℤ core.xhi = c.left_of_xhi in
-    let low : core.ylo ≤ℤ square.y = c.above_ylo in
-    let high : square.y <ℤ core.yhi = c.below_yhi in
-    record { right_of_xlo = omega (arith, ints); left_of_xhi = omega (arith, ints); above_ylo = omega (arith, ints); below_yhi = omega (arith, ints) }
 
 -- the common part goes nowhere past the second rectangle
 pub common_within : (a b : Rect) → LiesWithin (common_rect a b) b

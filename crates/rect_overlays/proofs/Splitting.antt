@@ -1,9 +1,8 @@
 -- The stacks and the regions stay apart and have all that is covered, as a region is made a stack or cut in two.
-use Rattle.std.proofs.Common.{◌≡◌, ◌⊎◌, inl, inr, ℕ, ◌<◌, List, [], ◌∷◌, ◌++◌, length, refl, sym, subst, arith}
-use Rattle.std.specs.Prelude.{AllPairs, Option}
-use Rattle.std.proofs.lemmas.List.Kept.{AllPairs-filter}
+use Rattle.std.proofs.Common.{◌≡◌, ◌≢◌, ◌⊎◌, inl, inr, ℕ, ◌<◌, List, [], ◌∷◌, ◌++◌, refl, sym, subst, arith}
+use Rattle.std.specs.Prelude.{AllPairs}
 use Rattle.finite_sets.specs.Lists.{In}
-use Rattle.finite_sets.proofs.Members.{In-append_left, In-push, In-push_cases, In-filter, In-filter_source, In-filter_passes}
+use Rattle.finite_sets.proofs.Members.{In-append_left, In-push, In-push_cases}
 use Rattle.geo_core.specs.declared.squares.Square.{Square}
 use Rattle.geo_core.specs.declared.squares.Rect.{Rect}
 use Rattle.geo_core.specs.Areas.{AreDisjoint}
@@ -12,41 +11,32 @@ use Rattle.rect_contacts.specs.Rects.{rect_at}
 use Rattle.rect_overlays.specs.declared.cuts.Cut.{Cut}
 use Rattle.rect_overlays.specs.declared.stacks.Stack.{Stack}
 use Rattle.rect_overlays.specs.Cuts.{low_half, high_half, IsInside}
-use Rattle.rect_overlays.specs.Regions.{Region, goes_round_at, IsPart, AddsPart, IsRegion, IsWhole}
+use Rattle.rect_overlays.specs.Regions.{Region, IsPart, AddsPart, IsRegion, IsWhole}
 use Rattle.rect_overlays.specs.Splits.{IsMade, AddsHalves, IsSplit}
-use Rattle.rect_overlays.specs.Stacks.{AreEnough, CoversAt, IsStack, AreStacks}
+use Rattle.geo_core.specs.Covering.{CoversAt}
+use Rattle.rect_overlays.specs.Stacks.{IsStack, AreStacks}
 use Rattle.rect_overlays.proofs.Halves.{round_covers, low_covers, high_covers, in_one_half, halves_are_apart}
-use Rattle.rect_overlays.proofs.Lists.{AllPairs-push, AllPairs-front, In-some, length-some, some-In}
+use Rattle.rect_overlays.proofs.Lists.{AllPairs-push, AllPairs-front}
 use Rattle.rect_overlays.proofs.Parts.{covered_at, rect_at_covers, part_is_region, knows_inside, part_covers}
 use Rattle.rect_overlays.proofs.Parts.{adds_cases, adds_keeps, adds_covers, adds_apart}
 
 -- what is made of a region is a stack
-pub made_is_stack : (rects : List Rect) (enough : Option ℕ) (region : Region) (stack : Stack) → IsRegion rects region
-    → IsMade rects enough region stack → IsStack rects enough stack
-made_is_stack rects enough region stack is made =
-    let test = goes_round_at rects region.area in record {
-      proper = subst IsProper (sym made.area) is.proper;
-      some = elim made.done [
-        | inl e ↦ length-some stack.members.items (subst (λ (v : List ℕ). 0 < length v) (sym made.members) e.1)
-        | inr all ↦ (let one = some-In region.members is.some in
-            In-some one.0 stack.members.items (subst (In one.0) (sym made.members) (In-filter test one.0 region.members one.1 (all one.0 one.1))))
-      ];
-      members = λ index i square c.
-          let kept = subst (In index) made.members i in
-          covered_at rects index square (is.knows.each index (In-filter_source test index region.members kept))
-          (round_covers region.area (rect_at rects index) square (In-filter_passes test index region.members kept)
-          (subst (λ (r : Rect). Covers r square) made.area c));
-      ordered = subst (AllPairs ◌<◌) (sym made.members) (AllPairs-filter ◌<◌ test region.members is.knows.ordered);
-      others = elim made.done [
-        | inl e ↦ inl (subst (λ (v : List ℕ). AreEnough enough (length v)) (sym made.members) e.0)
-        | inr all ↦ inr (λ index square c at.
-            let known = is.knows.every index square at (subst (λ (r : Rect). Covers r square) made.area c) in
-            subst (In index) (sym made.members) (In-filter test index region.members known (all index known)))
-      ];
-    }
+pub made_is_stack : (rects : List Rect) (region : Region) (stack : Stack) → IsRegion rects region
+    → IsMade rects region stack → IsStack rects stack
+made_is_stack rects region stack is made = record {
+  proper = subst IsProper (sym made.area) is.proper;
+  some = subst (λ (v : List ℕ). v ≢ []) (sym made.members) is.some;
+  members = λ index i square c.
+      let member = subst (In index) made.members i in
+      covered_at rects index square (is.knows.each index member)
+      (round_covers region.area (rect_at rects index) square (made.around index member) (subst (λ (r : Rect). Covers r square) made.area c));
+  ordered = subst (AllPairs ◌<◌) (sym made.members) is.knows.ordered;
+  others = λ index square c at.
+      subst (In index) (sym made.members) (is.knows.every index square at (subst (λ (r : Rect). Covers r square) made.area c));
+}
 
-module _ (rects : List Rect) (enough : Option ℕ) (rest : List Region) (region : Region) (stacks : List Stack)
-    (split : IsSplit rects enough (rest ++ region ∷ []) stacks) where
+module _ (rects : List Rect) (rest : List Region) (region : Region) (stacks : List Stack)
+    (split : IsSplit rects (rest ++ region ∷ []) stacks) where
   -- the last region is one
   pub last_is_region : IsRegion rects region
   last_is_region = split.each_region region (In-push rest region)
@@ -55,13 +45,13 @@ module _ (rects : List Rect) (enough : Option ℕ) (rest : List Region) (region 
   earlier other i = In-append_left other rest (region ∷ []) i
 
   -- it is made a stack
-  pub finish_keeps : (stack : Stack) → IsMade rects enough region stack → IsSplit rects enough rest (stacks ++ stack ∷ [])
+  pub finish_keeps : (stack : Stack) → IsMade rects region stack → IsSplit rects rest (stacks ++ stack ∷ [])
   finish_keeps stack made =
       let front = AllPairs-front (λ (a b : Region). AreDisjoint a.area b.area) rest region split.regions_apart in record {
         each_region = λ other i. split.each_region other (earlier other i);
         each_stack = λ other i. elim (In-push_cases other stacks stack i) [
           | inl j ↦ split.each_stack other j
-          | inr e ↦ subst (IsStack rects enough) e (made_is_stack rects enough region stack last_is_region made)
+          | inr e ↦ subst (IsStack rects) e (made_is_stack rects region stack last_is_region made)
         ];
         regions_apart = front.0;
         stacks_apart = AllPairs-push (λ (a b : Stack). AreDisjoint a.area b.area) stacks stack split.stacks_apart
@@ -152,7 +142,7 @@ module _ (rects : List Rect) (enough : Option ℕ) (rest : List Region) (region 
           | inr h ↦ adds_covers rects region.members (high_half region.area cut) between after high index known square covers h
         ]
 
-    halves_keep : IsSplit rects enough after stacks
+    halves_keep : IsSplit rects after stacks
     halves_keep = record {
       each_region = λ other i. elim (cases other i) [
         | inl j ↦ split.each_region other (earlier other j)
@@ -177,15 +167,15 @@ module _ (rects : List Rect) (enough : Option ℕ) (rest : List Region) (region 
 
   -- or cut in two
   pub cut_keeps : (cut : Cut) (after : List Region) → IsInside region.area cut → AddsHalves rects region cut rest after
-      → IsSplit rects enough after stacks
+      → IsSplit rects after stacks
   cut_keeps cut after inside halves = halves_keep cut inside halves.0 after halves.1.0 halves.1.1
 
 -- at first there are no stacks
-pub split_begins : (rects : List Rect) (enough : Option ℕ) (regions : List Region) → IsWhole rects regions → IsSplit rects enough regions []
-split_begins rects enough regions (inl (region, is)) =
+pub split_begins : (rects : List Rect) (regions : List Region) → IsWhole rects regions → IsSplit rects regions []
+split_begins rects regions (inl (region, is)) =
     let listed : In region (region ∷ []) = inl refl in
     let only : (other : Region) → In other (region ∷ []) → region ≡ other = λ other i. elim i [ inl e ↦ e | inr none ↦ absurd none ] in
-    subst (λ (v : List Region). IsSplit rects enough v []) (sym is.1) (record {
+    subst (λ (v : List Region). IsSplit rects v []) (sym is.1) (record {
       each_region = λ other i. subst (IsRegion rects) (only other i) is.0;
       each_stack = λ stack i. absurd i;
       regions_apart = λ i j d less below. absurd (omega arith);
@@ -193,7 +183,7 @@ split_begins rects enough regions (inl (region, is)) =
       between = λ stack other i j. absurd i;
       every = λ index square at. inr (region, (listed, is.2 index square at));
     })
-split_begins rects enough regions (inr (none, nothing)) = subst (λ (v : List Region). IsSplit rects enough v []) (sym none) (record {
+split_begins rects regions (inr (none, nothing)) = subst (λ (v : List Region). IsSplit rects v []) (sym none) (record {
   each_region = λ other i. absurd i;
   each_stack = λ stack i. absurd i;
   regions_apart = λ i j d less below. absurd (omega arith);
@@ -203,8 +193,8 @@ split_begins rects enough regions (inr (none, nothing)) = subst (λ (v : List Re
 })
 
 -- and in the end no regions
-pub split_ends : (rects : List Rect) (enough : Option ℕ) (stacks : List Stack) → IsSplit rects enough [] stacks → AreStacks rects enough stacks
-split_ends rects enough stacks split = record {
+pub split_ends : (rects : List Rect) (stacks : List Stack) → IsSplit rects [] stacks → AreStacks rects stacks
+split_ends rects stacks split = record {
   each = split.each_stack;
   apart = split.stacks_apart;
   every = λ index square at. elim (split.every index square at) [ inl found ↦ found | inr none ↦ absurd none.1.0 ];

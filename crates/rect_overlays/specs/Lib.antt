@@ -2,3 +2,4 @@ pub mod Stacks
 pub mod Cuts
 pub mod Regions
 pub mod Splits
+pub mod Singles

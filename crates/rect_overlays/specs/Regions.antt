@@ -1,5 +1,5 @@
 -- Areas that are to be made stacks or cut, and the rectangles that have squares in them.
-use Rattle.std.specs.Prelude.{◌≡◌, ◌≢◌, ◌⊎◌, ◌&&◌, ◌++◌, ℕ, ◌<◌, Bool, true, int_le, List, [], ◌∷◌, length, map, filter, AllPairs, Option}
+use Rattle.std.specs.Prelude.{◌≡◌, ◌≢◌, ◌⊎◌, ◌&&◌, ◌++◌, ℕ, ◌<◌, Bool, true, int_le, List, [], ◌∷◌, length, map, filter, AllPairs}
 use Rattle.std.specs.List.{flat_map}
 use Rattle.finite_sets.specs.Lists.{In}
 use Rattle.geo_core.specs.declared.squares.Square.{Square}
@@ -10,7 +10,7 @@ use Rattle.rect_contacts.specs.Rects.{rect_at}
 use Rattle.rect_overlays.specs.declared.regions.Part.{Part}
 use Rattle.rect_overlays.specs.declared.regions.Regions.{Regions}
 use Rattle.rect_overlays.specs.declared.regions.Span.{Span}
-use Rattle.rect_overlays.specs.Stacks.{AreEnough, CoversAt}
+use Rattle.geo_core.specs.Covering.{CoversAt}
 
 -- An area, and the indices of the rectangles of a list that have squares in it.
 pub record Region : Type 0 where
@@ -48,11 +48,6 @@ AllMeet rects area members = (member : ℕ) → In member members → meets_at r
 -- each goes round the area
 abbrev pub AllGoRound : List Rect → Rect → List ℕ → Type 0
 AllGoRound rects area members = (member : ℕ) → In member members → goes_round_at rects area member ≡ true
-
--- So many go round the area as are enough, and some do.
-abbrev pub AreEnoughAround : List Rect → Rect → List ℕ → Option ℕ → Type 0
-AreEnoughAround rects area members enough =
-    AreEnough enough (length (filter (goes_round_at rects area) members)) × (0 < length (filter (goes_round_at rects area) members))
 
 -- the rectangle with each side where the one across was
 abbrev pub turned_over : Rect → Rect

@@ -1,5 +1,5 @@
 -- Regions that are made stacks or cut in two, until none is left.
-use Rattle.std.specs.Prelude.{◌≡◌, ◌⊎◌, ℕ, Option, List, filter, AllPairs}
+use Rattle.std.specs.Prelude.{◌≡◌, ◌⊎◌, ℕ, List, AllPairs}
 use Rattle.finite_sets.specs.Lists.{In}
 use Rattle.geo_core.specs.declared.squares.Square.{Square}
 use Rattle.geo_core.specs.declared.squares.Rect.{Rect}
@@ -9,14 +9,15 @@ use Rattle.rect_overlays.specs.declared.cuts.Cut.{Cut}
 use Rattle.rect_overlays.specs.declared.regions.Regions.{Regions}
 use Rattle.rect_overlays.specs.declared.stacks.Stack.{Stack}
 use Rattle.rect_overlays.specs.Cuts.{low_half, high_half}
-use Rattle.rect_overlays.specs.Regions.{Region, goes_round_at, AllGoRound, AreEnoughAround, AddsPart, Holds, IsRegion}
-use Rattle.rect_overlays.specs.Stacks.{CoversAt, IsStack}
+use Rattle.rect_overlays.specs.Regions.{Region, AllGoRound, AddsPart, Holds, IsRegion}
+use Rattle.geo_core.specs.Covering.{CoversAt}
+use Rattle.rect_overlays.specs.Stacks.{IsStack}
 
--- The stack has the area of the region, and the members that go round it: enough of them and some, or all that the region has.
-pub record IsMade (rects : List Rect) (enough : Option ℕ) (region : Region) (stack : Stack) : Type 0 where
+-- The stack has the area of the region and its members, which all go round it.
+pub record IsMade (rects : List Rect) (region : Region) (stack : Stack) : Type 0 where
   pub area : stack.area ≡ region.area
-  pub members : stack.members.items ≡ filter (goes_round_at rects region.area) region.members
-  pub done : AreEnoughAround rects region.area region.members enough ⊎ AllGoRound rects region.area region.members
+  pub members : stack.members.items ≡ region.members
+  pub around : AllGoRound rects region.area region.members
 
 -- What is in the two halves of the region is added to a list of regions.
 abbrev pub AddsHalves : List Rect → Region → Cut → List Region → List Region → Type 0
@@ -31,9 +32,9 @@ CutsInTwo rects region cut before after =
     (held : List Region) → Holds before held → (held' : List Region) × (Holds after held' × AddsHalves rects region cut held held')
 
 -- The stacks and the regions lie apart and have each square that some rectangle covers.
-pub record IsSplit (rects : List Rect) (enough : Option ℕ) (regions : List Region) (stacks : List Stack) : Type 0 where
+pub record IsSplit (rects : List Rect) (regions : List Region) (stacks : List Stack) : Type 0 where
   pub each_region : (region : Region) → In region regions → IsRegion rects region
-  pub each_stack : (stack : Stack) → In stack stacks → IsStack rects enough stack
+  pub each_stack : (stack : Stack) → In stack stacks → IsStack rects stack
   pub regions_apart : AllPairs (λ a b. AreDisjoint a.area b.area) regions
   pub stacks_apart : AllPairs (λ a b. AreDisjoint a.area b.area) stacks
   pub between : (stack : Stack) (region : Region) → In stack stacks → In region regions → AreDisjoint stack.area region.area
@@ -41,5 +42,5 @@ pub record IsSplit (rects : List Rect) (enough : Option ℕ) (regions : List Reg
       → ((stack : Stack) × (In stack stacks × Covers stack.area square)) ⊎ ((region : Region) × (In region regions × Covers region.area square))
 
 -- The stacks and the regions that are kept are such a split.
-abbrev pub IsSplitWith : List Rect → Option ℕ → Regions → List Stack → Type 0
-IsSplitWith rects enough regions stacks = (held : List Region) × (Holds regions held × IsSplit rects enough held stacks)
+abbrev pub IsSplitWith : List Rect → Regions → List Stack → Type 0
+IsSplitWith rects regions stacks = (held : List Region) × (Holds regions held × IsSplit rects held stacks)

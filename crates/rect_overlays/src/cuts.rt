@@ -1,7 +1,7 @@
 //! Where an area is cut in two.
 ghost use Rattle.std.specs.Prelude.{◌≡◌, ◌≤◌, ◌<◌, ◌⊎◌, All, IfSome, IfNone, find, filter, length, not, true, false};
 ghost use Rattle.rect_overlays.specs.Cuts.{low_half, high_half, is_inside, is_past_low, is_past_high, IsInside};
-ghost use Rattle.rect_overlays.specs.Regions.{meets, goes_round, goes_round_at, has_columns, has_rows, AllMeet, AllGoRound, AreEnoughAround};
+ghost use Rattle.rect_overlays.specs.Regions.{meets, goes_round, goes_round_at, has_columns, has_rows, AllMeet, AllGoRound};
 
 use geo_core::Rect;
 
@@ -115,22 +115,14 @@ fn has_rows(area: &Rect, rect: &Rect) -> bool
     rect.ylo <= area.ylo && area.yhi <= rect.yhi
 }
 
-/// Where the area is to be cut, unless as many of its members as are enough go round it, or all of them.
-pub fn next_cut(
-    rects: &[Rect],
-    area: &Rect,
-    members: &[usize],
-    enough: Option<usize>,
-) -> Option<Cut>
+/// Where the area is to be cut, unless all of its members go round it.
+pub fn next_cut(rects: &[Rect], area: &Rect, members: &[usize]) -> Option<Cut>
     requires within { All (λ member. member < length rects.now) members.now }
     requires meet { AllMeet rects.now area.now members.now }
     ensures some { IfSome result (IsInside area.now) }
-    ensures none { IfNone result (AreEnoughAround rects.now area.now members.now enough ⊎ AllGoRound rects.now area.now members.now) }
+    ensures none { IfNone result (AllGoRound rects.now area.now members.now) }
 {
     let partial = first_partial(rects, area, members)?;
-    if are_enough(rects, area, members, enough) {
-        return None;
-    }
     Some(best_cut(rects, area, members, &rects[partial]))
 }
 
@@ -143,31 +135,6 @@ fn first_partial(rects: &[Rect], area: &Rect, members: &[usize]) -> Option<usize
         .iter()
         .copied()
         .find(|member| !goes_round(area, &rects[*member]))
-}
-
-/// Whether some members go round the area, and so many as are enough.
-fn are_enough(rects: &[Rect], area: &Rect, members: &[usize], enough: Option<usize>) -> bool
-    requires { All (λ member. member < length rects.now) members.now }
-    ensures { result ≡ true → AreEnoughAround rects.now area.now members.now enough }
-{
-    match enough {
-        None => false,
-        Some(least) => {
-            let least = least.max(1);
-            least <= members.len() && least <= count_around(rects, area, members)
-        }
-    }
-}
-
-/// How many members go round the area.
-fn count_around(rects: &[Rect], area: &Rect, members: &[usize]) -> usize
-    requires { All (λ member. member < length rects.now) members.now }
-    ensures { result ≡ length (filter (goes_round_at rects.now area.now) members.now) }
-{
-    members
-        .iter()
-        .filter(|member| goes_round(area, &rects[**member]))
-        .count()
 }
 
 /// A side of a member that cuts the area: of those of a sample that which leaves few members in each half and few in both.

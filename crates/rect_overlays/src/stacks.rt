@@ -8,6 +8,7 @@ ghost use Rattle.rect_overlays.specs.Stacks.{AreStacks};
 
 use crate::cuts::{Cut, goes_round, next_cut};
 use crate::regions::{Part, Regions, move_last};
+use crate::singles::{lie_apart, push_singles};
 use geo_core::Rect;
 use std::alloc::{AllocError, Global};
 
@@ -16,7 +17,7 @@ use std::alloc::{AllocError, Global};
 pub struct Stack {
     /// The squares of the piece.
     pub area: Rect,
-    /// The indices in the list of the rectangles that cover it, in order: of all of them, unless these were enough.
+    /// The indices in the list of the rectangles that cover it, in order.
     pub members: Vec<usize>,
 }
 
@@ -28,15 +29,11 @@ struct Halves {
 }
 
 /// The pieces of what the rectangles cover, in no order that callers may count on: they lie apart, each is covered whole by its members, and
-/// no other rectangle covers a square of it. A piece that `enough` rectangles cover is not cut further: other rectangles may cover some of it.
+/// no other rectangle covers a square of it.
 ///
 /// The rectangles may overlap, and one without a square adds nothing. Want of memory alone refuses.
-pub fn overlay(
-    alloc: Global,
-    rects: &[Rect],
-    enough: Option<usize>,
-) -> Result<Vec<Stack>, AllocError>
-    ensures { IfOk result (λ stacks. AreStacks rects.now enough stacks.items) }
+pub fn overlay(alloc: Global, rects: &[Rect]) -> Result<Vec<Stack>, AllocError>
+    ensures { IfOk result (λ stacks. AreStacks rects.now stacks.items) }
 {
     let mut regions = Regions::around(alloc, rects)?;
     let mut taken = Vec::new(alloc);
@@ -48,9 +45,13 @@ pub fn overlay(
     while let Some(span) = regions.spans.pop() {
         move_last(&mut regions.members, span.count, &mut taken)?;
         let members = taken.as_slice();
-        match next_cut(rects, &span.area, members, enough) {
+        if lie_apart(rects, members) {
+            push_singles(alloc, rects, &span.area, members, &mut stacks)?;
+            continue;
+        }
+        match next_cut(rects, &span.area, members) {
             Some(cut) => cut_in_two(rects, &span.area, members, &cut, &mut halves, &mut regions)?,
-            None => stacks.push(stack_of(alloc, rects, &span.area, members)?)?,
+            None => stacks.push(stack_of(alloc, &span.area, members)?)?,
         }
     }
     Ok(stacks)
@@ -105,24 +106,13 @@ fn gather(
     Ok(())
 }
 
-/// The area and the members that go round it.
-fn stack_of(
-    alloc: Global,
-    rects: &[Rect],
-    area: &Rect,
-    members: &[usize],
-) -> Result<Stack, AllocError>
-    requires { All (λ member. member < length rects.now) members.now }
+/// The area with the members, which go round it.
+fn stack_of(alloc: Global, area: &Rect, members: &[usize]) -> Result<Stack, AllocError>
     ensures area { IfOk result (λ stack. stack.area ≡ area.now) }
-    ensures members { IfOk result (λ stack. stack.members.items ≡ filter (goes_round_at rects.now area.now) members.now) }
+    ensures members { IfOk result (λ stack. stack.members.items ≡ members.now) }
 {
-    let around = members
-        .iter()
-        .copied()
-        .filter(|member| goes_round(area, &rects[*member]))
-        .collect(alloc)?;
     Ok(Stack {
         area: *area,
-        members: around,
+        members: Vec::from_slice(alloc, members)?,
     })
 }

@@ -29,8 +29,8 @@ loop-event-init c =
       swept = rw c.new-2.ensures.items (swept_begins c.args.rects.now items _ (get int_cmp c.new.result) (until coverage) are
           (λ a. ap (λ v. lookup (is_at (int_cmp a)) v) c.new.ensures.empty) c.in_ok-uncovered.ensures.rows);
       topped = c.in_ok-uncovered.ensures.topped;
-      from_cut = λ e i. cuts e.from (from_in_sides items e i);
-      to_cut = λ e i. cuts e.to (to_in_sides items e i);
+      from_cut = λ e i begins. cuts e.from (from_in_sides items e i begins);
+      to_cut = λ e i begins. cuts e.to (to_in_sides items e i begins);
     }
 
 pub begin-requires-clause-long : goal.begin-requires-clause-long
@@ -40,10 +40,11 @@ begin-requires-clause-long c =
 
 pub begin-requires-clause-from_cut : goal.begin-requires-clause-from_cut
 begin-requires-clause-from_cut c = c.loop-event.invariant.from_cut _ (In-get_or c.deref-event-items.result.now c.loop-event.event-index _
-    c.loop-event-test.true)
+    c.loop-event-test.true) c.if-event.false
 
 pub begin-requires-clause-to_cut : goal.begin-requires-clause-to_cut
-begin-requires-clause-to_cut c = c.loop-event.invariant.to_cut _ (In-get_or c.deref-event-items.result.now c.loop-event.event-index _ c.loop-event-test.true)
+begin-requires-clause-to_cut c = c.loop-event.invariant.to_cut _ (In-get_or c.deref-event-items.result.now c.loop-event.event-index _
+    c.loop-event-test.true) c.if-event.false
 
 pub loop-event-preserved : goal.loop-event-preserved
 loop-event-preserved c =

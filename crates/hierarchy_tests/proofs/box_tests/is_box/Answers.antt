@@ -2,8 +2,8 @@ use Rattle.std.proofs.Common.{arith}
 use Rattle.std.proofs.lemmas.Int.{ints}
 use Rattle.hierarchy_tests.proofs.box_tests.is_box.Goals as goal
 
-pub returns-then-area-lt1000 : goal.returns-then-area-lt1000
-returns-then-area-lt1000 c = λ t. record {
+pub returns-then-area-lt-EDGE : goal.returns-then-area-lt-EDGE
+returns-then-area-lt-EDGE c = λ t. record {
   wide = grind (arith, ints);
   high = grind (arith, ints);
   near = record {

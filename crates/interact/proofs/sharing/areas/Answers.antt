@@ -1,17 +1,30 @@
-use Rattle.std.proofs.Common.{◌∙◌, ap}
-use Rattle.interact.proofs.Sharings.{shared_areas, strips_are_shared, strips_lie_within}
+-- The runs of what two of the grown boxes cover make its strips.
+use Rattle.std.proofs.Common.{List, ◌∙◌, subst}
+use Rattle.std.specs.Prelude.{All}
+use Rattle.std.proofs.lemmas.Result.{IfOk-weaker}
+use Rattle.geo_core.specs.declared.squares.Rect.{Rect}
+use Rattle.geo_core.specs.Areas.{widened, LiesWithin}
+use Rattle.geo_core.specs.Covering.{IsInTwo}
+use Rattle.geo_core.specs.Bars.{AreStripsOf}
+use Rattle.geo_core.specs.Strips.{IsStrips}
+use Rattle.geo_core.specs.Sweeping.{AreRunBars}
+use Rattle.geo_core.proofs.StripListLaws.{strips_of_bars}
+use Rattle.interact.specs.NearBoxes.{IsShared}
+use Rattle.interact.proofs.Sharings.{strips_lie_within}
 use Rattle.interact.proofs.sharing.areas.Goals as goal
 
-pub returns-in-Ok-clause-strips : goal.returns-in-Ok-clause-strips
-returns-in-Ok-clause-strips c =
-    strips_are_shared c.args.boxes.now c.as_slice.result.now c.in_ok-stacks.stacks.items c.as_slice-3.result.now c.in-Ok.areas.items
-    (c.as_slice.ensures.value ∙ c.in_ok-widened.ensures)
-    (c.as_slice-3.ensures.value ∙ c.in_ok-shared.ensures ∙ ap shared_areas c.as_slice-2.ensures.value) c.in_ok-stacks.ensures c.in-Ok.ensures
+pub returns-clause-strips : goal.returns-clause-strips
+returns-clause-strips c =
+    let boxes = c.args.boxes.now in
+    let bars = c.in_ok-runs.runs.items in
+    let grown = c.as_slice.ensures.value ∙ c.in_ok-widened.ensures in
+    let runs = subst (λ (rects : List Rect). AreRunBars (IsInTwo rects) bars) grown c.in_ok-runs.ensures in
+    IfOk-weaker c.strips_of_runs.result (λ found. AreStripsOf bars found.items) (λ found. IsStrips (IsShared boxes) found.items)
+    (λ found made. strips_of_bars (IsShared boxes) bars found.items runs made) c.strips_of_runs.ensures
 
-pub returns-in-Ok-clause-within : goal.returns-in-Ok-clause-within
-returns-in-Ok-clause-within c around all =
-    strips_lie_within c.args.boxes.now c.in-Ok.areas.items around
-    (strips_are_shared c.args.boxes.now c.as_slice.result.now c.in_ok-stacks.stacks.items c.as_slice-3.result.now c.in-Ok.areas.items
-    (c.as_slice.ensures.value ∙ c.in_ok-widened.ensures)
-    (c.as_slice-3.ensures.value ∙ c.in_ok-shared.ensures ∙ ap shared_areas c.as_slice-2.ensures.value) c.in_ok-stacks.ensures c.in-Ok.ensures)
-    all
+pub returns-clause-within : goal.returns-clause-within
+returns-clause-within c =
+    let boxes = c.args.boxes.now in
+    IfOk-weaker c.strips_of_runs.result (λ found. IsStrips (IsShared boxes) found.items)
+    (λ found. (around : Rect) → All (λ area. LiesWithin (widened area) around) boxes → All (λ area. LiesWithin area around) found.items)
+    (λ found strips around all. strips_lie_within boxes found.items around strips all) (returns-clause-strips c)

@@ -14,7 +14,7 @@ pub typed_stacks_of-requires-clause-stacks : goal.typed_stacks_of-requires-claus
 typed_stacks_of-requires-clause-stacks c =
     let tiles = c.args.tiles.now in
     let areas : c.as_slice.result.now ≡ tile_areas tiles = c.as_slice.ensures.value ∙ c.in_ok-areas.ensures in
-    subst (λ (r : List Rect). AreStacks r None c.in_ok-stacks.stacks.items) areas c.in_ok-stacks.ensures
+    subst (λ (r : List Rect). AreStacks r c.in_ok-stacks.stacks.items) areas c.in_ok-stacks.ensures
 
 pub returns-clause-stand : goal.returns-clause-stand
 returns-clause-stand c =
@@ -23,7 +23,7 @@ returns-clause-stand c =
     let tiles = c.args.tiles.now in
     let stacks = c.in_ok-stacks.stacks.items in
     let areas : c.as_slice.result.now ≡ tile_areas tiles = c.as_slice.ensures.value ∙ c.in_ok-areas.ensures in
-    let are : AreStacks (tile_areas tiles) None stacks = subst (λ (r : List Rect). AreStacks r None stacks) areas c.in_ok-stacks.ensures in
+    let are : AreStacks (tile_areas tiles) stacks = subst (λ (r : List Rect). AreStacks r stacks) areas c.in_ok-stacks.ensures in
     IfOk-weaker c.typed_stacks_of.result (λ typed_stacks. StandForAll raw plane tiles stacks typed_stacks.items)
     (λ typed_stacks. StandForTiles raw plane tiles typed_stacks.items)
     (λ (typed_stacks : Vec TypedStack Global) stand count of_parts types.
@@ -37,7 +37,7 @@ returns-clause-members c =
     let tiles = c.args.tiles.now in
     let stacks = c.in_ok-stacks.stacks.items in
     let areas : c.as_slice.result.now ≡ tile_areas tiles = c.as_slice.ensures.value ∙ c.in_ok-areas.ensures in
-    let are : AreStacks (tile_areas tiles) None stacks = subst (λ (r : List Rect). AreStacks r None stacks) areas c.in_ok-stacks.ensures in
+    let are : AreStacks (tile_areas tiles) stacks = subst (λ (r : List Rect). AreStacks r stacks) areas c.in_ok-stacks.ensures in
     IfOk-weaker c.typed_stacks_of.result (λ typed_stacks. StandForAll raw plane tiles stacks typed_stacks.items)
     (λ typed_stacks. All (HasMembers tiles) typed_stacks.items)
     (λ (typed_stacks : Vec TypedStack Global) stand. have_members raw plane tiles stacks are typed_stacks.items stand)

@@ -1,7 +1,7 @@
-use Rattle.std.proofs.Common.{◌∙◌, ◌<◌, length, not, sym, inr, subst, rules}
-use Rattle.std.specs.Prelude.{Option, IfNone, ◌⊎◌}
+use Rattle.std.proofs.Common.{◌∙◌, ◌<◌, length, not, sym, subst, rules}
+use Rattle.std.specs.Prelude.{Option, IfNone}
 use Rattle.rect_overlays.specs.declared.cuts.Cut.{Cut}
-use Rattle.rect_overlays.specs.Regions.{goes_round_at, AllGoRound, AreEnoughAround}
+use Rattle.rect_overlays.specs.Regions.{goes_round_at, AllGoRound}
 use Rattle.rect_overlays.proofs.Lists.{all_go_round, found_below, found_meets, found_is_partial}
 use Rattle.rect_overlays.proofs.cuts.next_cut.Goals as goal
 
@@ -10,8 +10,8 @@ returns-in_err-partial-clause-none c =
     let rects = c.args.rects.now in
     let area = c.args.area.now in
     let members = c.args.members.now in
-    subst (λ (cut : Option Cut). IfNone cut (AreEnoughAround rects area members c.args.enough ⊎ AllGoRound rects area members))
-    (sym c.from_residual.ensures) (inr (all_go_round rects area members (sym c.first_partial.ensures ∙ c.in_err-partial.was)))
+    subst (λ (cut : Option Cut). IfNone cut (AllGoRound rects area members)) (sym c.from_residual.ensures)
+    (all_go_round rects area members (sym c.first_partial.ensures ∙ c.in_err-partial.was))
 
 pub bounds-rects-partial : goal.bounds-rects-partial
 bounds-rects-partial c =

@@ -1,0 +1,78 @@
+-- How many rectangles cover a square is the sum of what the edges below it and at it gain.
+use Rattle.std.proofs.Common.{◌≡◌, ℤ, pos, ◌+ℤ◌, ◌-ℤ◌, cond, List, [], ◌∷◌, filter, refl, sym, ◌∙◌, ap, arith}
+use Rattle.std.specs.Prelude.{◌&&◌, int_le, int_lt, IsPermutation}
+use Rattle.std.specs.List.{flat_map, sum_by}
+use Rattle.std.proofs.lemmas.Int.{ints}
+use Rattle.std.proofs.lemmas.List.Sorted.{sum_by-IsPermutation}
+use Rattle.std.proofs.lemmas.List.Sums.{sum_by-cons}
+use borrow.Author.Differences.{up, down}
+use Rattle.finite_sets.specs.Total.{sum_on, one_if}
+use Rattle.finite_sets.proofs.Sums.{sum_on-append, sum_on-same, sum_on-filter, sum_on-zero}
+use Rattle.geo_core.specs.declared.squares.Rect.{Rect}
+use Rattle.geo_core.specs.Areas.{has_square}
+use Rattle.geo_core.specs.Covering.{is_covered}
+use Rattle.geo_core.proofs.SweepLaws.{at}
+use Rattle.interact.specs.declared.edges.Edge.{Edge}
+use Rattle.interact.specs.Edges.{edges_of, gain_of, AreEdges}
+use Rattle.interact.proofs.CoveringCounts.{covering}
+
+-- how many rectangles more cover the column from the edge on
+abbrev pub gain_at : ℤ → Edge → ℤ
+gain_at x edge = cond (int_le edge.from x && int_lt x edge.to) (gain_of edge) (pos 0)
+
+-- the same, of edges that are at the row or at earlier ones
+abbrev pub gain_until : ℤ → ℤ → Edge → ℤ
+gain_until x y edge = cond (int_le edge.row y) (gain_at x edge) (pos 0)
+
+-- a sum is that of what is above zero without that of what is below it
+sum_parts : {X : Type 0} (w : X → ℤ) (xs : List X) → sum_on w xs ≡ pos (sum_by (λ x. up (w x)) xs) -ℤ pos (sum_by (λ x. down (w x)) xs)
+sum_parts w [] = omega (arith, ints)
+sum_parts w (x ∷ xs) =
+    let rest = sum_parts w xs in
+    let a = sum_by-cons (λ y. up (w y)) x xs in
+    let b = sum_by-cons (λ y. down (w y)) x xs in
+    omega (arith, ints, rest, a, b)
+
+-- a sum is the same in any order
+sum_on-permutation : {X : Type 0} (w : X → ℤ) (xs ys : List X) → IsPermutation xs ys → sum_on w ys ≡ sum_on w xs
+sum_on-permutation w xs ys moved =
+    let a = sum_by-IsPermutation (λ x. up (w x)) xs ys moved in
+    let b = sum_by-IsPermutation (λ x. down (w x)) xs ys moved in
+    sum_parts w ys ∙ ap (λ n. pos n -ℤ pos (sum_by (λ x. down (w x)) ys)) a
+    ∙ ap (λ n. pos (sum_by (λ x. up (w x)) xs) -ℤ pos n) b ∙ sym (sum_parts w xs)
+
+-- a sum over the lists that things make
+sum_on-flat_map : {X Y : Type 0} (f : X → List Y) (w : Y → ℤ) (xs : List X) → sum_on w (flat_map f xs) ≡ sum_on (λ x. sum_on w (f x)) xs
+sum_on-flat_map f w [] = refl
+sum_on-flat_map f w (x ∷ xs) = sum_on-append w (f x) (flat_map f xs) ∙ ap (λ z. sum_on w (f x) +ℤ z) (sum_on-flat_map f w xs)
+
+-- the sum over the edges of rectangles that have squares
+sum_on-edges : (areas : List Rect) (edges : List Edge) (w : Edge → ℤ) → AreEdges areas edges
+    → sum_on w edges ≡ sum_on (λ area. cond (has_square area) (sum_on w (edges_of area)) (pos 0)) areas
+sum_on-edges areas edges w are =
+    sum_on-permutation w (flat_map edges_of (filter has_square areas)) edges are.moved
+    ∙ sum_on-flat_map edges_of w (filter has_square areas)
+    ∙ sum_on-filter has_square (λ area. sum_on w (edges_of area)) areas
+
+-- a rectangle covers a square if it has begun and has not ended
+gains_of_one : (area : Rect) (x y : ℤ)
+    → cond (has_square area) (sum_on (gain_until x y) (edges_of area)) (pos 0) ≡ one_if (is_covered area (at x y))
+gains_of_one area x y = grind (arith, ints)
+
+-- of each rectangle's two edges one gains what the other loses
+none_of_one : (area : Rect) (x : ℤ) → cond (has_square area) (sum_on (gain_at x) (edges_of area)) (pos 0) ≡ pos 0
+none_of_one area x = grind (arith, ints)
+
+-- so many rectangles cover a square as its edges gain
+pub gains_cover : (areas : List Rect) (edges : List Edge) (x y : ℤ) → AreEdges areas edges → sum_on (gain_until x y) edges ≡ covering areas (at x y)
+gains_cover areas edges x y are =
+    sum_on-edges areas edges (gain_until x y) are
+    ∙ sum_on-same (λ area. cond (has_square area) (sum_on (gain_until x y) (edges_of area)) (pos 0)) (λ area. one_if (is_covered area (at x y))) areas
+    (λ area i. gains_of_one area x y)
+
+-- all edges together gain nothing
+pub gains_end : (areas : List Rect) (edges : List Edge) (x : ℤ) → AreEdges areas edges → sum_on (gain_at x) edges ≡ pos 0
+gains_end areas edges x are =
+    sum_on-edges areas edges (gain_at x) are
+    ∙ sum_on-same (λ area. cond (has_square area) (sum_on (gain_at x) (edges_of area)) (pos 0)) (λ area. pos 0) areas (λ area i. none_of_one area x)
+    ∙ sum_on-zero areas

@@ -1,0 +1,13 @@
+use Rattle.std.proofs.Common.{◌≡◌, take, filter}
+use Rattle.std.specs.Prelude.{All}
+use Rattle.std.specs.List.{flat_map}
+use Rattle.geo_core.specs.Areas.{has_square}
+use Rattle.interact.specs.Edges.{edges_of, IsOf64Bits}
+use Rattle.interact.proofs.edges.both_edges.Given as goal
+
+-- the edges of the rectangles so far
+abbrev pub invariant-loop-rect : goal.invariant-loop-rect
+invariant-loop-rect l = record {
+  edges : l.found.items ≡ flat_map edges_of (filter has_square (take l.rect-index l.rects));
+  fit : All IsOf64Bits l.found.items;
+}

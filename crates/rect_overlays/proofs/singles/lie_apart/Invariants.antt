@@ -1,0 +1,7 @@
+use Rattle.std.proofs.Common.{take}
+use Rattle.rect_overlays.specs.Singles.{AreApart}
+use Rattle.rect_overlays.proofs.singles.lie_apart.Given as goal
+
+-- the members so far lie apart
+abbrev pub invariant-loop-index : goal.invariant-loop-index
+invariant-loop-index l = AreApart l.rects (take l.index l.members)
