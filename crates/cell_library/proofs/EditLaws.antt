@@ -10,7 +10,7 @@ use Rattle.cell_tree.specs.declared.use_tables.UseBody.{UseBody}
 use Rattle.cell_tree.specs.Sizes.{CellState}
 use Rattle.cell_tree.specs.Trees.{Tree, IsLawfulTree, IsEdited, cell_at}
 use Rattle.cell_library.specs.Contents.{Held, held_at, no_held, IsRepainted}
-use Rattle.cell_library.specs.Libraries.{LibraryParts, IsLawfulLibrary, IsLawfulHeld, IsLawfulScale, HasUseIds, IsNextEdit, IsSame, cells_seen, uses_in, seen}
+use Rattle.cell_library.specs.Libraries.{LibraryParts, IsLawfulLibrary, IsLawfulHeld, IsLawfulScale, HasUseIds, IsSame, cells_seen, uses_in, seen}
 use Rattle.cell_library.specs.Limits.{AreStatesOf}
 use Rattle.cell_library.specs.OwnBoxes.{OwnBoxIs}
 use Rattle.cell_library.specs.Seen.{cell_view, cell_views}
@@ -111,11 +111,6 @@ refused_lawful library contents tree cell lawful below repainted still =
       tree = lawful.tree;
     } in
     kept_lawful (record { tech = library.tech; scale = library.scale; contents = contents; tree = library.tree }) contents tree now refl still
-
--- the edit is the next one
-pub edit_next : (library : LibraryParts) (contents : List Held) (tree : Tree) (cell : ℕ) (state : CellState) → IsEdited library.tree tree cell state
-    → IsNextEdit library (record { tech = library.tech; scale = library.scale; contents = contents; tree = tree }) cell
-edit_next library contents tree cell state edited = record { edits = edited.edits; stamps = edited.stamps }
 
 -- a library of which the cells are seen to be these
 pub seen_cells : (library : LibraryParts) (contents : List Held) (tree : Tree) (cells : List CellView) → cells_seen contents tree ≡ cells

@@ -48,14 +48,6 @@ pub none_has : (uses : List (List ℕ × UseBody)) (id : List ℕ) → has_id us
 none_has uses id none k has =
     true≢false (sym (has_there uses k id has.entry.1 (has.stands ∙ (λ i. Some (has.same i, has.entry.1)))) ∙ none)
 
--- a use has the id, where it is found
-pub use_found : (uses : List (List ℕ × UseBody)) (k : ℕ) (id : List ℕ) (entry : List ℕ × UseBody) → HasIdAt uses k id → slice_get uses k ≡ Some entry
-    → slice_get uses k ≡ Some (id, entry.1)
-use_found uses k id entry has is =
-    let both : Some entry ≡ Some has.entry = sym is ∙ has.stands in
-    let same : entry ≡ has.entry = cc in
-    is ∙ (λ i. Some ((ap (λ (e : List ℕ × UseBody). e.0) same ∙ has.same) i, entry.1))
-
 -- where no use has the id, none is changed
 unchanged : (change : UseBody → UseBody) (id : List ℕ) (uses : List (List ℕ × UseBody)) → (In id (map (λ e. e.0) uses) → ⊥) → with_use_changed change id uses ≡ uses
 unchanged change id [] none = refl

@@ -167,7 +167,8 @@ impl UseTrees {
     }
 
     /// The spots of the elements of the cell at a spot that may meet an area, which is given in the coordinates of that cell. The parts of the
-    /// elements rise by this step, and the first has the next part after that of the spot. Want of memory alone refuses.
+    /// elements rise by this step, and the first has the next part after that of the spot. Want of memory alone refuses. Of a cell without
+    /// uses nothing is found out.
     pub fn spots_below(
         &mut self,
         alloc: Global,
@@ -184,6 +185,9 @@ impl UseTrees {
         ensures found { IfOk result (λ found. AreSiftedBy (IsApart tree.now.sizes spot.now.to_top back) (spots_under tree.now part_step spot.now)
             found.items) }
     {
+        if tree.use_count(spot.cell.0) == 0 {
+            return Ok(Vec::new(alloc));
+        }
         self.enter(alloc, tree, spot.cell)?;
         match self.entries.get(&spot.cell.0) {
             Some(uses) => uses.spots_below(alloc, tree, spot, part_step, back),

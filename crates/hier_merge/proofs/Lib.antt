@@ -1,5 +1,6 @@
 pub mod CoveringTileLaws
 pub mod FoundPieces
+pub mod JoinedPieces
 pub mod MeetingBoxes
 pub mod MeetingOffences
 pub mod MeetingPieceLaws
@@ -11,6 +12,7 @@ pub mod PartTypes
 pub mod PlanePieceLaws
 pub mod PlaneStrips
 pub mod PlaneTiles
+pub mod SeamLaws
 pub mod SortedTiles
 pub mod VisitLaws
 pub mod WorkLaws

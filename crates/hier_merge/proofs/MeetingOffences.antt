@@ -16,13 +16,14 @@ use Rattle.layout_trees.specs.CellTrees.CellTree.{cell_tree}
 use Rattle.layout_trees.specs.FlatSets.{parts_in, IsTyped}
 use Rattle.interact.specs.NearBoxes.{IsShared}
 use Rattle.offences.specs.Offences.{HaveTypes, Offends, OffendsOn, SetLayout, joined_at}
-use Rattle.offences.specs.SetTiles.{tile_part, tile_parts}
+use Rattle.offences.specs.SetTiles.{tile_part}
 use Rattle.hierarchy_model.specs.CleanCells.{IsClean, IsCleanBelow}
 use Rattle.hierarchy_model.specs.Restrictions.{IsRestriction}
 use Rattle.hierarchy_model.proofs.MeetingLaws.{meetings_decide, none_offends, offences_on_plane, AreAlikeAt}
 use Rattle.cell_library.specs.declared.part_tiles.PartTile.{PartTile}
 use Rattle.cell_library.specs.PartTiles.{set_of_tiles}
 use Rattle.hier_merge.specs.MeetingTiles.{AreMeetingTiles}
+use Rattle.hier_merge.specs.PlanePieces.{parts_of_plane}
 use Rattle.hier_merge.specs.StripLists.{AreStripsByPlane}
 use Rattle.hier_merge.specs.Visits.{tiles_on, AreOfParts}
 use Rattle.hier_merge.proofs.MeetingBoxes.{meetings_held, parts_of_tiles, visits_restrict}
@@ -33,10 +34,6 @@ use Rattle.hier_merge.proofs.PlaneStrips.{no_strips, nothing_there, strips_of_sa
 use Rattle.hier_merge.proofs.PlaneTiles.{nothing_off_plane, set_on_plane}
 
 -- ---- the parts of one plane
-
--- the parts that the tiles of a plane make
-abbrev pub parts_of_plane : RawTech → List PartTile → ℕ → ℕ → List SetLayout
-parts_of_plane raw tiles count plane = tile_parts (tiles_on raw plane tiles) plane count
 
 -- on a plane its tiles make of the parts what all tiles make of them
 alike_on_plane : (raw : RawTech) (tiles : List PartTile) (count plane : ℕ) (place : Place) → place.plane ≡ plane

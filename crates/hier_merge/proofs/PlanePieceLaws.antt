@@ -26,56 +26,58 @@ use Rattle.hier_merge.proofs.PlaneTiles.{set_on_plane}
 
 -- ---- one plane more
 
-pub pieces_more : (raw : RawTech) (tiles : List PartTile) (plane count last start : ℕ) (old new : Pieces) → last ≡ plane + count
-    → start ≡ tiles_before tiles last
-    → ArePiecesFrom raw tiles plane count old.starts.items old.stacks.items old.offending.items → AddsPlane raw tiles last start old new
-    → ArePiecesFrom raw tiles plane (suc count) new.starts.items new.stacks.items new.offending.items
-pieces_more raw tiles plane count last start old new at begins are adds =
-    rw (adds.starts, adds.stacks, adds.offending)
-    (go plane count old.starts.items old.stacks.items old.offending.items at are)
-  where
-    strips_of : List (ℕ × Rect)
-    strips_of = map (λ (area : Rect). (last, area)) adds.strips
-
-    go : (p n : ℕ) (starts : List ℕ) (stacks : List PlaneStack) (offending : List (ℕ × Rect)) → last ≡ p + n
-        → ArePiecesFrom raw tiles p n starts stacks offending
-        → ArePiecesFrom raw tiles p (suc n) (starts ++ start ∷ []) (stacks ++ map (plane_stack last) adds.found) (offending ++ strips_of)
-    go p zero starts stacks offending here (no_starts, no_stacks, no_strips) =
-        let same : last ≡ p = omega (arith, here) in (
-          adds.found,
-          adds.strips,
-          [],
-          [],
-          [],
-          subst (λ (q : ℕ). HasPlanePieces raw tiles q adds.found adds.strips) same adds.has,
-          ap (λ (xs : List ℕ). xs ++ start ∷ []) no_starts ∙ ap (λ (n : ℕ). n ∷ []) (begins ∙ ap (tiles_before tiles) same),
-          ap (λ (xs : List PlaneStack). xs ++ map (plane_stack last) adds.found) no_stacks
-              ∙ ap (λ (q : ℕ). map (plane_stack q) adds.found) same
-              ∙ sym (append-nil (map (plane_stack p) adds.found)),
-          ap (λ (xs : List (ℕ × Rect)). xs ++ strips_of) no_strips
-              ∙ ap (λ (q : ℕ). map (λ (area : Rect). (q, area)) adds.strips) same
-              ∙ sym (append-nil (map (λ (area : Rect). (p, area)) adds.strips)),
-          (refl, refl, refl),
-        )
-    go p (suc n) starts stacks offending here (found, strips, later, others, more, has, starts_are, stacks_are, strips_are, rest) = (
+-- pieces of one plane more, which are found behind those of the planes before
+pub plane_added : (raw : RawTech) (tiles : List PartTile) (last start : ℕ) (found : List TypedStack) (strips : List Rect)
+    → HasPlanePieces raw tiles last found strips → start ≡ tiles_before tiles last
+    → (plane count : ℕ) (starts : List ℕ) (stacks : List PlaneStack) (offending : List (ℕ × Rect)) → last ≡ plane + count
+    → ArePiecesFrom raw tiles plane count starts stacks offending
+    → ArePiecesFrom raw tiles plane (suc count) (starts ++ start ∷ []) (stacks ++ map (plane_stack last) found)
+    (offending ++ map (λ (area : Rect). (last, area)) strips)
+plane_added raw tiles last start found strips has begins plane zero starts stacks offending here (no_starts, no_stacks, no_strips) =
+    let same : last ≡ plane = omega (arith, here) in (
       found,
       strips,
-      later ++ start ∷ [],
-      others ++ map (plane_stack last) adds.found,
-      more ++ strips_of,
-      has,
-      ap (λ (xs : List ℕ). xs ++ start ∷ []) starts_are,
-      ap (λ (xs : List PlaneStack). xs ++ map (plane_stack last) adds.found) stacks_are
-          ∙ append_assoc (map (plane_stack p) found) others (map (plane_stack last) adds.found),
-      ap (λ (xs : List (ℕ × Rect)). xs ++ strips_of) strips_are
-          ∙ append_assoc (map (λ (area : Rect). (p, area)) strips) more strips_of,
-      go (suc p) n later others more (omega (arith, here)) rest,
+      [],
+      [],
+      [],
+      subst (λ (q : ℕ). HasPlanePieces raw tiles q found strips) same has,
+      ap (λ (xs : List ℕ). xs ++ start ∷ []) no_starts ∙ ap (λ (n : ℕ). n ∷ []) (begins ∙ ap (tiles_before tiles) same),
+      ap (λ (xs : List PlaneStack). xs ++ map (plane_stack last) found) no_stacks
+          ∙ ap (λ (q : ℕ). map (plane_stack q) found) same
+          ∙ sym (append-nil (map (plane_stack plane) found)),
+      ap (λ (xs : List (ℕ × Rect)). xs ++ map (λ (area : Rect). (last, area)) strips) no_strips
+          ∙ ap (λ (q : ℕ). map (λ (area : Rect). (q, area)) strips) same
+          ∙ sym (append-nil (map (λ (area : Rect). (plane, area)) strips)),
+      (refl, refl, refl),
     )
+plane_added raw tiles last start found strips has begins plane (suc count) starts stacks offending here
+    (first, others, later, rest, more, first_has, starts_are, stacks_are, strips_are, from_next) = (
+      first,
+      others,
+      later ++ start ∷ [],
+      rest ++ map (plane_stack last) found,
+      more ++ map (λ (area : Rect). (last, area)) strips,
+      first_has,
+      ap (λ (xs : List ℕ). xs ++ start ∷ []) starts_are,
+      ap (λ (xs : List PlaneStack). xs ++ map (plane_stack last) found) stacks_are
+          ∙ append_assoc (map (plane_stack plane) first) rest (map (plane_stack last) found),
+      ap (λ (xs : List (ℕ × Rect)). xs ++ map (λ (area : Rect). (last, area)) strips) strips_are
+          ∙ append_assoc (map (λ (area : Rect). (plane, area)) others) more (map (λ (area : Rect). (last, area)) strips),
+      plane_added raw tiles last start found strips has begins (suc plane) count later rest more (omega (arith, here)) from_next,
+    )
+
+-- the same of the lists that are kept
+pub pieces_more : (raw : RawTech) (tiles : List PartTile) (count start : ℕ) (old new : Pieces) → start ≡ tiles_before tiles count
+    → ArePiecesFrom raw tiles 0 count old.starts.items old.stacks.items old.offending.items → AddsPlane raw tiles count start old new
+    → ArePiecesFrom raw tiles 0 (suc count) new.starts.items new.stacks.items new.offending.items
+pieces_more raw tiles count start old new begins are adds =
+    rw (adds.starts, adds.stacks, adds.offending)
+    (plane_added raw tiles count start adds.found adds.strips adds.has begins 0 count old.starts.items old.stacks.items old.offending.items (omega arith) are)
 
 -- ---- what all tiles make
 
 -- lists of parts that are alike at a place have one union there
-union_made : (make other : ℕ → SetLayout) (positions : List ℕ) (place : Place) → ((k : ℕ) → make k place ≡ other k place)
+pub union_made : (make other : ℕ → SetLayout) (positions : List ℕ) (place : Place) → ((k : ℕ) → make k place ≡ other k place)
     → union_of (map make positions) place ≡ union_of (map other positions) place
 union_made make other [] place same = refl
 union_made make other (k ∷ positions) place same =

@@ -19,7 +19,7 @@ use Rattle.cell_library.specs.PartTiles.{set_from, set_of_tiles}
 use Rattle.hier_merge.specs.Visits.{AreOfParts, set_tile, tiles_on}
 
 -- each tile of the plane is one of the tiles
-from_tiles : (raw : RawTech) (plane : ℕ) (tiles : List PartTile) (found : SetTile) → In found (tiles_on raw plane tiles)
+pub from_tiles : (raw : RawTech) (plane : ℕ) (tiles : List PartTile) (found : SetTile) → In found (tiles_on raw plane tiles)
     → (tile : PartTile) × (In tile tiles × (set_tile raw tile ≡ found))
 from_tiles raw plane [] found among = absurd among
 from_tiles raw plane (tile ∷ tiles) found among =

@@ -171,12 +171,6 @@ next_begins raw (tile ∷ tiles) plane =
       ]
     ]
 
--- past all planes there is no tile left
-pub all_before : (tiles : List PartTile) (plane : ℕ) → ((tile : PartTile) → In tile tiles → tile.plane < plane) → tiles_before tiles plane ≡ length tiles
-all_before [] plane below = refl
-all_before (tile ∷ tiles) plane below =
-    before_less tile tiles plane (below tile (inl refl)) ∙ ap suc (all_before tiles plane (λ other among. below other (inr among)))
-
 -- The tile with the number is the one that the plane has at the place.
 pub record IsTileOn (raw : RawTech) (tiles : List PartTile) (plane place : ℕ) : Type 0 where
   pub tile : PartTile

@@ -5,3 +5,4 @@ pub mod MeetingTiles
 pub mod UncleanCells
 pub mod MeetingPieces
 pub mod PlanePieces
+pub mod Seams

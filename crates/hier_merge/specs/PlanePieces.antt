@@ -20,6 +20,10 @@ IsNoLaterTile a b = (a.plane < b.plane) ⊎ ((a.plane ≡ b.plane) × (a.part �
 abbrev pub AreByPlane : List PartTile → Type 0
 AreByPlane tiles = AllPairs IsNoLaterTile tiles
 
+-- the parts that the tiles of a plane make
+abbrev pub parts_of_plane : RawTech → List PartTile → ℕ → ℕ → List SetLayout
+parts_of_plane raw tiles count plane = tile_parts (tiles_on raw plane tiles) plane count
+
 -- The tiles are of so many parts, and what they make of these on each plane has types.
 pub record HaveTypedParts (raw : RawTech) (tiles : List PartTile) : Type 0 where
   pub count : ℕ

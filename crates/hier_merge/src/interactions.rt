@@ -1,7 +1,7 @@
 //! Where the parts of a cell interact, and the tiles that they have there.
-ghost use Rattle.std.specs.Prelude.{◌≡◌, ◌≤◌, ◌+◌, ◌++◌, ◌<◌, ℕ, All, IfOk, length};
+ghost use Rattle.std.specs.Prelude.{◌≡◌, ◌≤◌, ◌+◌, ◌++◌, ◌<◌, ◌⊎◌, ◌∷◌, [], ℕ, All, AllPairs, IfOk, OnOk, length};
 ghost use Rattle.std.specs.Option.{option_to_list};
-ghost use Rattle.geo_core.specs.Areas.{IsNear};
+ghost use Rattle.geo_core.specs.Areas.{AreDisjoint, IsNear};
 ghost use Rattle.layout_trees.specs.FlatSets.{parts_in};
 ghost use Rattle.cell_tree.specs.Hulls.{IsLawfulBox};
 ghost use Rattle.cell_library.specs.Libraries.{seen};
@@ -9,6 +9,7 @@ ghost use Rattle.cell_library.specs.LayoutTrees.{tree_at};
 ghost use Rattle.cell_library.specs.ElementBoxes.{HoldParts};
 ghost use Rattle.hier_merge.specs.Interactions.{ArePartBoxes, IsWork, IsWorkOver};
 ghost use Rattle.hier_merge.specs.MeetingTiles.{AreMeetingTiles};
+ghost use Rattle.hier_merge.specs.Seams.{AreSeams};
 ghost use Rattle.hier_merge.specs.Visits.{AreVisits};
 
 use cell_library::{PartTile, Reader};
@@ -18,6 +19,18 @@ use interact::areas;
 use std::alloc::{AllocError, Global};
 use std::sync::ledger::Ledger;
 use step_count::Steps;
+
+/// At least so many tiles lie between two seams.
+const GROUP: usize = 256;
+
+/// The tiles that visits of areas hand out.
+#[derive(Drop)]
+pub struct VisitedTiles {
+    pub tiles: Vec<PartTile>,
+    /// Places in the list, none before an earlier one. Where the areas lie apart, no tile before such a place shares a square with a tile
+    /// behind it.
+    pub seams: Vec<usize>,
+}
 
 /// The boxes of the cell's parts that have one: of its own paint, for which the cell is opened, and of its elements.
 pub fn part_boxes<L: Ledger>(
@@ -51,45 +64,62 @@ fn all_boxes(alloc: Global, own: Option<Rect>, elements: &[Rect]) -> Result<Vec<
     Ok(boxes)
 }
 
-/// The tiles that visits of the areas hand out, one after another, for a step each. Want of memory alone refuses.
+// Adds the place where the tiles end so far as a seam, if there are enough of them behind the last one.
+fn add_seam(seams: &mut Vec<usize>, end: usize) -> Result<(), AllocError>
+    ensures { OnOk result ((seams.new.items ≡ seams.old.items) ⊎ (seams.new.items ≡ seams.old.items ++ end ∷ [])) }
+{
+    let last = seams.last().copied().unwrap_or(0);
+    if end.saturating_sub(last) >= GROUP {
+        seams.push(end)?;
+    }
+    Ok(())
+}
+
+/// The tiles that visits of the areas hand out, one after another, for a step each, with seams if the areas lie apart. Want of memory
+/// alone refuses.
 pub fn visit_all<L: Ledger>(
     alloc: Global,
     library: &Reader<'_>,
     cell: CellKey,
     areas: &[Rect],
     steps: &mut Steps<L>,
-) -> Result<Vec<PartTile>, AllocError>
+) -> Result<VisitedTiles, AllocError>
     requires cell { cell.0 < length library.now.contents }
     requires near { All IsNear areas.now }
-    ensures tiles { IfOk result (λ tiles. AreVisits library.now.tech (tree_at (seen library.now) cell.0) areas.now tiles.items) }
-    ensures counted { IfOk result (λ tiles. steps.new ≡ steps.old + length tiles.items) }
+    ensures tiles { IfOk result (λ found. AreVisits library.now.tech (tree_at (seen library.now) cell.0) areas.now found.tiles.items) }
+    ensures seams { IfOk result (λ found. AllPairs AreDisjoint areas.now → AreSeams found.tiles.items found.seams.items) }
+    ensures counted { IfOk result (λ found. steps.new ≡ steps.old + length found.tiles.items) }
     ensures steps { (work : ℕ) → IsWorkOver (tree_at (seen library.now) cell.0) areas.now work → steps.new ≤ steps.old + work }
 {
     let mut visitor = library.visitor();
     let mut tiles = Vec::new(alloc);
+    let mut seams = Vec::new(alloc);
     for area in areas {
         let found = visitor.visit(cell, *area, steps)?;
         tiles.extend_from_slice(found.as_slice())?;
+        add_seam(&mut seams, tiles.len())?;
     }
-    Ok(tiles)
+    Ok(VisitedTiles { tiles, seams })
 }
 
-/// The tiles of the parts of the cell where the parts interact, for a step each, and a step for its paint. Want of memory alone refuses.
+/// The tiles of the parts of the cell where the parts interact, for a step each, and a step for its paint, with seams. Want of memory alone
+/// refuses.
 pub fn meeting_tiles<L: Ledger>(
     alloc: Global,
     library: &Reader<'_>,
     cell: CellKey,
     steps: &mut Steps<L>,
-) -> Result<Vec<PartTile>, AllocError>
+) -> Result<VisitedTiles, AllocError>
     requires { cell.0 < length library.now.contents }
-    ensures tiles { IfOk result (λ tiles. AreMeetingTiles library.now.tech (tree_at (seen library.now) cell.0) tiles.items) }
-    ensures counted { IfOk result (λ tiles. steps.new ≡ steps.old + (length tiles.items + 1)) }
-    ensures work { IfOk result (λ tiles. IsWork (seen library.now) cell.0 (length tiles.items)) }
+    ensures tiles { IfOk result (λ found. AreMeetingTiles library.now.tech (tree_at (seen library.now) cell.0) found.tiles.items) }
+    ensures seams { IfOk result (λ found. AreSeams found.tiles.items found.seams.items) }
+    ensures counted { IfOk result (λ found. steps.new ≡ steps.old + (length found.tiles.items + 1)) }
+    ensures work { IfOk result (λ found. IsWork (seen library.now) cell.0 (length found.tiles.items)) }
     ensures steps { (work : ℕ) → IsWork (seen library.now) cell.0 work → steps.new ≤ steps.old + (work + 1) }
 {
     library.lawful();
     let boxes = part_boxes(alloc, library, cell, steps)?;
     let areas = areas(alloc, boxes.as_slice())?;
-    let tiles = visit_all(alloc, library, cell, areas.as_slice(), steps)?;
-    Ok(tiles)
+    let found = visit_all(alloc, library, cell, areas.as_slice(), steps)?;
+    Ok(found)
 }

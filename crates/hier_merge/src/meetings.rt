@@ -9,12 +9,12 @@ ghost use Rattle.hier_merge.specs.PlanePieces.{AddsPlane, AreByPlane, ArePlanePi
 ghost use Rattle.hier_merge.specs.UncleanCells.{AreOffendingOf, IsCleanCell};
 
 use crate::faults::HierFault;
-use crate::interactions::meeting_tiles;
-use crate::plane_tiles::tiles_on;
+use crate::interactions::{VisitedTiles, meeting_tiles};
+use crate::plane_pieces::{PlanePieces, add_strips, plane_pieces};
 use cell_library::{PartTile, Reader};
 use ext_model::CellKey;
 use geo_core::Rect;
-use offences::{OffenceFault, PlaneStack, TypedStack, offending_stacks, typed_stacks};
+use offences::{OffenceFault, PlaneStack, TypedStack};
 use std::alloc::{AllocError, Global};
 use std::sync::ledger::Ledger;
 use step_count::Steps;
@@ -61,8 +61,8 @@ pub fn meeting_of<L: Ledger>(
 {
     library.lawful();
     library.typed(cell);
-    let mut tiles = meeting_tiles(alloc, library, cell, steps)?;
-    sort_tiles(&mut tiles);
+    let VisitedTiles { mut tiles, .. } = meeting_tiles(alloc, library, cell, steps)?;
+    sort_tiles(&mut tiles)?;
     let Pieces {
         starts,
         stacks,
@@ -76,12 +76,13 @@ pub fn meeting_of<L: Ledger>(
     })
 }
 
-// Puts the tiles in the order of planes, and those of a plane in the order of parts.
-fn sort_tiles(tiles: &mut Vec<PartTile>)
+// Puts the tiles in the order of planes, and those of a plane in the order of parts. Their keys are sorted, and each tile is moved once.
+fn sort_tiles(tiles: &mut Vec<PartTile>) -> Result<(), AllocError>
     ensures moved { IsPermutation tiles.old.items tiles.new.items }
-    ensures sorted { AreByPlane tiles.new.items }
+    ensures sorted { OnOk result (AreByPlane tiles.new.items) }
 {
-    tiles.sort_unstable_by_key(|tile| (tile.plane, tile.part));
+    tiles.sort_by_cached_key(|tile| (tile.plane, tile.part))?;
+    Ok(())
 }
 
 // The pieces that the tiles make, plane by plane.
@@ -119,11 +120,13 @@ fn add_plane(
     ensures next { IfOk result (λ next. next ≡ tiles_before tiles.now (plane + 1)) }
     ensures added { OnOk result (AddsPlane tech.now tiles.now plane start pieces.old pieces.new) }
 {
-    let here = tiles_on(alloc, tech, tiles, plane)?;
-    let found = typed_stacks(alloc, tech, here.as_slice(), plane)?;
-    let strips = offending_stacks(alloc, tech, found.as_slice())?;
-    add_found(pieces, plane, start, found, strips.as_slice())?;
-    Ok(start + here.len())
+    let PlanePieces {
+        tiles: count,
+        stacks,
+        offending,
+    } = plane_pieces(alloc, tech, tiles, plane)?;
+    add_found(pieces, plane, start, stacks, offending.as_slice())?;
+    Ok(start + count)
 }
 
 // Adds what was found of a plane.
@@ -143,16 +146,6 @@ fn add_found(
     add_stacks(&mut pieces.stacks, plane, found)
 }
 
-// Adds the strips of a plane.
-fn add_strips(found: &mut Vec<(u8, Rect)>, plane: u8, strips: &[Rect]) -> Result<(), AllocError>
-    ensures { OnOk result (found.new.items ≡ found.old.items ++ map (λ area. (plane, area)) strips.now) }
-{
-    for area in strips {
-        found.push((plane, *area))?;
-    }
-    Ok(())
-}
-
 // Adds the pieces of a plane.
 fn add_stacks(
     stacks: &mut Vec<PlaneStack>,
@@ -161,6 +154,7 @@ fn add_stacks(
 ) -> Result<(), AllocError>
     ensures { OnOk result (stacks.new.items ≡ stacks.old.items ++ map (plane_stack plane) found.items) }
 {
+    stacks.reserve(found.len())?;
     for stack in found {
         stacks.push(PlaneStack { plane, stack })?;
     }

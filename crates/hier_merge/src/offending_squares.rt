@@ -7,17 +7,23 @@ ghost use Rattle.hierarchy_model.specs.Laws.{KeepsWhatItHas};
 ghost use Rattle.cell_library.specs.Libraries.{seen};
 ghost use Rattle.cell_library.specs.LayoutTrees.{tree_at};
 ghost use Rattle.hier_merge.specs.Interactions.{IsWork};
+ghost use Rattle.hier_merge.specs.PlanePieces.{HaveTypedParts, parts_of_plane};
+ghost use Rattle.hier_merge.specs.Seams.{AreSeams};
 ghost use Rattle.hier_merge.specs.StripLists.{AreStripsByPlane};
 
 use crate::faults::HierFault;
-use crate::meetings::{Meeting, meeting_of};
-use cell_library::Reader;
+use crate::interactions::{VisitedTiles, meeting_tiles};
+use crate::plane_pieces::add_strips;
+use crate::plane_strips::plane_strips;
+use cell_library::{PartTile, Reader};
 use ext_model::CellKey;
 use geo_core::Rect;
 use hierarchy_model::clean_cells_keep_what_they_have;
+use offences::OffenceFault;
 use std::alloc::Global;
 use std::sync::ledger::Ledger;
 use step_count::Steps;
+use tech_model::Tech;
 
 /// The strips of the squares of the cell that offend, by plane. All cells below the cell are clean.
 ///
@@ -40,11 +46,27 @@ pub fn offending_of<L: Ledger>(
     library.lawful();
     library.typed(cell);
     clean_cells_keep_what_they_have(library.tech());
-    let Meeting {
-        tiles: _,
-        starts: _,
-        stacks: _,
-        offending,
-    } = meeting_of(alloc, library, cell, steps)?;
-    Ok(offending)
+    let VisitedTiles { tiles, seams } = meeting_tiles(alloc, library, cell, steps)?;
+    Ok(offending_by_plane(alloc, library.tech(), tiles.as_slice(), seams.as_slice())?)
+}
+
+// The strips of what offends of the parts that the tiles make, plane by plane. The pieces of a plane are dropped before the next.
+fn offending_by_plane(
+    alloc: Global,
+    tech: &Tech,
+    tiles: &[PartTile],
+    seams: &[usize],
+) -> Result<Vec<(u8, Rect)>, OffenceFault>
+    requires typed { HaveTypedParts tech.now tiles.now }
+    requires seams { AreSeams tiles.now seams.now }
+    ensures { IfOk result (λ found. (typed : HaveTypedParts tech.now tiles.now) → AreStripsByPlane
+        (λ plane. OffendsOn tech.now (parts_of_plane tech.now tiles.now typed.count plane) plane) (length tech.now.planes) found.items) }
+{
+    let mut found = Vec::new(alloc);
+    for plane in 0..tech.raw().planes.items().len() {
+        let plane = plane as u8;
+        let strips = plane_strips(alloc, tech, tiles, seams, plane)?;
+        add_strips(&mut found, plane, strips.as_slice())?;
+    }
+    Ok(found)
 }

@@ -16,7 +16,7 @@ pub fn tiles_on(
 ) -> Result<Vec<SetTile>, AllocError>
     ensures { IfOk result (λ found. found.items ≡ tiles_on tech.now plane tiles.now) }
 {
-    let mut found = Vec::new(alloc);
+    let mut found = Vec::with_capacity(alloc, tiles.len())?;
     for tile in tiles {
         if tile.plane == plane {
             found.push(set_tile(tech, tile))?;

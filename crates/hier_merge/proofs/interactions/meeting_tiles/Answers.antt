@@ -1,7 +1,7 @@
 use Rattle.std.proofs.Common.{List, sym, subst, arith}
-use Rattle.std.specs.Prelude.{All}
+use Rattle.std.specs.Prelude.{All, AllPairs}
 use Rattle.geo_core.specs.declared.squares.Rect.{Rect}
-use Rattle.geo_core.specs.Areas.{IsNear}
+use Rattle.geo_core.specs.Areas.{AreDisjoint, IsNear}
 use Rattle.geo_core.specs.Strips.{IsStrips}
 use Rattle.interact.specs.NearBoxes.{IsShared}
 use Rattle.cell_tree.specs.Hulls.{IsLawfulBox}
@@ -9,6 +9,7 @@ use Rattle.cell_library.specs.LayoutTrees.{tree_at}
 use Rattle.cell_library.specs.Libraries.{seen}
 use Rattle.hier_merge.specs.Visits.{AreVisits}
 use Rattle.hier_merge.proofs.NearAreas.{areas_are_near, strips_are_proper}
+use Rattle.hier_merge.proofs.SeamLaws.{strips_apart}
 use Rattle.hier_merge.proofs.WorkLaws.{visited_work, within_work}
 use Rattle.hier_merge.proofs.interactions.meeting_tiles.Goals as goal
 
@@ -20,8 +21,8 @@ visit_all-requires-clause-near g c =
     (strips_are_proper (IsShared c.as_slice.result.now) c.in_ok-areas.areas.items c.in_ok-areas.ensures.strips)
     c.in_ok-areas.ensures.within)
 
-pub returns-in_err-tiles-clause-steps : goal.returns-in_err-tiles-clause-steps
-returns-in_err-tiles-clause-steps g c work is =
+pub returns-in_err-found-clause-steps : goal.returns-in_err-found-clause-steps
+returns-in_err-found-clause-steps g c work is =
     let bound =
     within_work c.args.library.now c.lawful.ensures c.args.cell.0 c.in_ok-boxes.boxes.items c.as_slice.result.now c.in_ok-areas.areas.items
     c.as_slice-2.result.now c.part_boxes.new.steps c.visit_all.new.steps c.in_ok-boxes.ensures.boxes c.as_slice.ensures.value
@@ -42,9 +43,14 @@ returns-clause-tiles g c =
           (subst (All IsLawfulBox) (sym c.as_slice.ensures.value) c.in_ok-boxes.ensures.lawful)
           (strips_are_proper (IsShared c.as_slice.result.now) areas c.in_ok-areas.ensures.strips)
           c.in_ok-areas.ensures.within;
-      visits = subst (λ (a : List Rect). AreVisits library.tech (tree_at (seen library) c.args.cell.0) a c.in_ok-tiles.tiles.items)
-          c.as_slice-2.ensures.value c.in_ok-tiles.ensures.tiles;
+      visits = subst (λ (a : List Rect). AreVisits library.tech (tree_at (seen library) c.args.cell.0) a c.in_ok-found.found.tiles.items)
+          c.as_slice-2.ensures.value c.in_ok-found.ensures.tiles;
     }
+
+pub returns-clause-seams : goal.returns-clause-seams
+returns-clause-seams g c =
+    c.in_ok-found.ensures.seams (subst (AllPairs AreDisjoint) (sym c.as_slice-2.ensures.value)
+    (strips_apart (IsShared c.as_slice.result.now) c.in_ok-areas.areas.items c.in_ok-areas.ensures.strips))
 
 pub returns-clause-steps : goal.returns-clause-steps
 returns-clause-steps g c work is =
@@ -56,11 +62,11 @@ returns-clause-steps g c work is =
 
 pub returns-clause-counted : goal.returns-clause-counted
 returns-clause-counted g c =
-    let counted = c.in_ok-tiles.ensures.counted in
+    let counted = c.in_ok-found.ensures.counted in
     omega (arith, counted, c.part_boxes.ensures.step)
 
 pub returns-clause-work : goal.returns-clause-work
 returns-clause-work g c =
     visited_work c.args.library.now c.lawful.ensures c.args.cell.0 c.in_ok-boxes.boxes.items c.as_slice.result.now c.in_ok-areas.areas.items
-    c.as_slice-2.result.now c.in_ok-tiles.tiles.items c.in_ok-boxes.ensures.boxes c.as_slice.ensures.value c.in_ok-areas.ensures.strips
-    c.as_slice-2.ensures.value c.in_ok-tiles.ensures.tiles
+    c.as_slice-2.result.now c.in_ok-found.found.tiles.items c.in_ok-boxes.ensures.boxes c.as_slice.ensures.value c.in_ok-areas.ensures.strips
+    c.as_slice-2.ensures.value c.in_ok-found.ensures.tiles

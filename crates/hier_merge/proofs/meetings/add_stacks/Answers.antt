@@ -12,7 +12,7 @@ loop-stack-init c =
     record {
       rest = gives.0;
       count = omega (arith, gives.1, ap (λ (l : List TypedStack). length l) gives.0, c.args.found.ok.0);
-      added = sym (append-nil c.args.stacks.now.items);
+      added = c.in_ok-reserve.ensures.items ∙ sym (append-nil c.args.stacks.now.items);
     }
 
 pub loop-stack-preserved : goal.loop-stack-preserved

@@ -17,10 +17,10 @@ pieces_of-requires-clause-typed g c =
     subst (λ (raw : RawTech). HaveTypedParts raw c.as_slice.result.now) (sym c.tech.ensures)
     (subst (HaveTypedParts library.tech) (sym c.as_slice.ensures.value)
     (typed_parts library.tech tree c.lawful.ensures.well_formed c.lawful.ensures.rules c.typed.ensures c.requires.clean
-    c.in_ok-tiles.tiles.items c.sort_tiles.new.tiles.items c.in_ok-tiles.ensures.tiles c.sort_tiles.ensures.moved))
+    c.in_ok-tiles.field-0.tiles.items c.sort_tiles.new.tiles.items c.in_ok-tiles.ensures.tiles c.in_ok-sort_tiles.ensures.moved))
 
 pub pieces_of-requires-clause-sorted : goal.pieces_of-requires-clause-sorted
-pieces_of-requires-clause-sorted g c = subst AreByPlane (sym c.as_slice.ensures.value) c.sort_tiles.ensures.sorted
+pieces_of-requires-clause-sorted g c = subst AreByPlane (sym c.as_slice.ensures.value) c.in_ok-sort_tiles.ensures.sorted
 
 pub returns-clause-pieces : goal.returns-clause-pieces
 returns-clause-pieces g c =
@@ -32,9 +32,9 @@ returns-clause-pieces g c =
     subst (λ (raw : RawTech). ArePlanePieces raw tiles (length raw.planes) pieces) c.tech.ensures
     (subst (λ (t : List PartTile). ArePlanePieces c.tech.result.now t (length c.tech.result.now.planes) pieces) c.as_slice.ensures.value
     c.in_ok-starts.ensures) in
-    are_meeting_pieces library.tech tree c.lawful.ensures.well_formed c.lawful.ensures.rules c.typed.ensures c.requires.clean c.in_ok-tiles.tiles.items
-    tiles c.in_ok-tiles.ensures.tiles c.sort_tiles.ensures.moved pieces.starts.items pieces.stacks.items pieces.offending.items found
-    c.sort_tiles.ensures.sorted
+    are_meeting_pieces library.tech tree c.lawful.ensures.well_formed c.lawful.ensures.rules c.typed.ensures c.requires.clean c.in_ok-tiles.field-0.tiles.items
+    tiles c.in_ok-tiles.ensures.tiles c.in_ok-sort_tiles.ensures.moved pieces.starts.items pieces.stacks.items pieces.offending.items found
+    c.in_ok-sort_tiles.ensures.sorted
 
 pub returns-clause-squares : goal.returns-clause-squares
 returns-clause-squares g c =
@@ -46,9 +46,9 @@ returns-clause-squares g c =
     subst (λ (raw : RawTech). ArePlanePieces raw tiles (length raw.planes) pieces) c.tech.ensures
     (subst (λ (t : List PartTile). ArePlanePieces c.tech.result.now t (length c.tech.result.now.planes) pieces) c.as_slice.ensures.value
     c.in_ok-starts.ensures) in
-    offending_strips library.tech tree c.lawful.ensures.well_formed c.lawful.ensures.rules c.typed.ensures c.requires.clean c.in_ok-tiles.tiles.items
-    tiles c.in_ok-tiles.ensures.tiles c.sort_tiles.ensures.moved pieces.starts.items pieces.stacks.items pieces.offending.items found
-    c.sort_tiles.ensures.sorted
+    offending_strips library.tech tree c.lawful.ensures.well_formed c.lawful.ensures.rules c.typed.ensures c.requires.clean c.in_ok-tiles.field-0.tiles.items
+    tiles c.in_ok-tiles.ensures.tiles c.in_ok-sort_tiles.ensures.moved pieces.starts.items pieces.stacks.items pieces.offending.items found
+    c.in_ok-sort_tiles.ensures.sorted
 
 pub returns-clause-clean : goal.returns-clause-clean
 returns-clause-clean g c =
@@ -58,9 +58,9 @@ returns-clause-clean g c =
 pub returns-clause-counted : goal.returns-clause-counted
 returns-clause-counted g c =
     let counted = c.in_ok-tiles.ensures.counted in
-    omega (arith, counted, length_permutation c.in_ok-tiles.tiles.items c.sort_tiles.new.tiles.items c.sort_tiles.ensures.moved)
+    omega (arith, counted, length_permutation c.in_ok-tiles.field-0.tiles.items c.sort_tiles.new.tiles.items c.in_ok-sort_tiles.ensures.moved)
 
 pub returns-clause-work : goal.returns-clause-work
 returns-clause-work g c =
     subst (IsWork (seen c.args.library.now) c.args.cell.0)
-    (sym (length_permutation c.in_ok-tiles.tiles.items c.sort_tiles.new.tiles.items c.sort_tiles.ensures.moved)) c.in_ok-tiles.ensures.work
+    (sym (length_permutation c.in_ok-tiles.field-0.tiles.items c.sort_tiles.new.tiles.items c.in_ok-sort_tiles.ensures.moved)) c.in_ok-tiles.ensures.work

@@ -21,7 +21,7 @@ loop-plane-preserved c =
     record {
       are = subst (λ (count : ℕ). ArePiecesFrom raw c.args.tiles.now 0 count c.add_plane.new.pieces.starts.items c.add_plane.new.pieces.stacks.items
           c.add_plane.new.pieces.offending.items) next
-          (pieces_more raw c.args.tiles.now 0 plane plane c.loop-plane.start c.loop-plane.pieces c.add_plane.new.pieces (omega arith) c.loop-plane.invariant.begins
+          (pieces_more raw c.args.tiles.now plane c.loop-plane.start c.loop-plane.pieces c.add_plane.new.pieces c.loop-plane.invariant.begins
           c.loop-plane.invariant.are c.in_ok-start.ensures.added);
       begins = c.in_ok-start.ensures.next;
     }

@@ -1,5 +1,5 @@
 use Rattle.std.proofs.Common.{◌≡◌, ◌++◌, map, drop}
-use Rattle.hier_merge.proofs.meetings.add_strips.Given as goal
+use Rattle.hier_merge.proofs.plane_pieces.add_strips.Given as goal
 
 abbrev pub invariant-loop-area : goal.invariant-loop-area
 invariant-loop-area l =

@@ -1,0 +1,9 @@
+use Rattle.offences.specs.Offences.{OffendsOn}
+use Rattle.hier_merge.specs.PlanePieces.{HaveTypedParts, parts_of_plane}
+use Rattle.hier_merge.specs.StripLists.{AreStripsByPlane}
+use Rattle.hier_merge.proofs.offending_squares.offending_by_plane.Given as goal
+
+-- the strips so far are those of the planes so far
+abbrev pub invariant-loop-plane : goal.invariant-loop-plane
+invariant-loop-plane l = (typed : HaveTypedParts l.tech l.tiles) → AreStripsByPlane
+    (λ plane. OffendsOn l.tech (parts_of_plane l.tech l.tiles typed.count plane) plane) l.plane l.found.items
