@@ -71,10 +71,6 @@ depth-some : (f : ℕ → Size) (cell : CellState) → 0 < (size_of f cell).dept
 unfolding size_of
 depth-some f cell = omega arith
 
--- what stands above a user of a cell stands above the cell
-pub above_user : (cells : List CellState) (low user up : ℕ) → Uses cells user low → IsAbove cells user up → IsAbove cells low up
-above_user cells low user up uses above = go uses above
-
 -- and what uses a cell above stands above
 pub user_above : (cells : List CellState) (low up user : ℕ) → IsAbove cells low up → Uses cells user up → IsAbove cells low user
 user_above cells low up user stay uses = go uses stay

@@ -1,8 +1,8 @@
 -- What a search for the cells above a cell begins with, and what it leaves.
-use Rattle.std.proofs.Common.{◌≡◌, inl, inr, ℕ, ◌-◌, ◌<◌, ◌≤◌, Bool, true, false, List, [], ◌∷◌, length, get_or, slice_index_or, slice_get, Some, refl, ap, subst, ◌∙◌, arith}
+use Rattle.std.proofs.Common.{◌≡◌, inl, inr, ℕ, ◌-◌, ◌<◌, ◌≤◌, Bool, true, false, List, [], ◌∷◌, length, get_or, slice_index_or, slice_get, Some, ap, subst, ◌∙◌, arith}
 use Rattle.std.specs.Option.{option_map}
 use Rattle.std.proofs.lemmas.List.{length-map}
-use Rattle.std.proofs.lemmas.Option.{slice_get_within, slice_get-map, slice_get_read, slice_get-get_or}
+use Rattle.std.proofs.lemmas.Option.{slice_get_within, slice_get-map, slice_get-get_or}
 use Rattle.finite_sets.specs.Chain.{stay, go}
 use Rattle.cell_tree.specs.declared.cells.TreeCell.{TreeCell}
 use Rattle.cell_tree.specs.declared.sizes.Dimension.TheVariants.{Depth}
@@ -13,11 +13,6 @@ use Rattle.cell_tree.specs.Books.{ListsAbove, AreLawful}
 use Rattle.cell_tree.proofs.AboveLaws.{above_iff}
 use Rattle.cell_tree.proofs.EditLaws.{user_is_deeper}
 use Rattle.cell_tree.proofs.TryLaws.{IsOrder}
-
--- what contracts see of the cell at a position
-pub state_at : (cells : List TreeCell) (key : ℕ) (cell : TreeCell) → key < length cells → cell ≡ get_or cells key cell → slice_get (states cells) key ≡ Some (state_of cell)
-state_at cells key cell within is =
-    slice_get-map state_of cells key ∙ ap (option_map state_of) (slice_get_read cells (length cells) key cell refl within is)
 
 -- the same, as it is read
 pub state_read : (cells : List TreeCell) (key : ℕ) (d : TreeCell) → key < length cells → slice_get (states cells) key ≡ Some (state_of (get_or cells key d))

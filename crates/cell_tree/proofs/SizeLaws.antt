@@ -47,11 +47,6 @@ alike_within Depth a b same within = subst (λ n. n ≤ MOST_DEPTH) same within
 alike_within Elements a b same within = subst (λ n. n ≤ MOST_ELEMENTS_BELOW) same within
 alike_within Hull a b same within = subst IsHullInRange same within
 
--- the children of these uses are alike in two lists of sizes
-AlikeBelow : Dimension → (ℕ → Size) → (ℕ → Size) → List (List ℕ × UseBody) → Type 0
-AlikeBelow dimension f g uses =
-    (k : ℕ) (entry : List ℕ × UseBody) → slice_get uses k ≡ Some entry → AreAlike dimension (f entry.1.child.0) (g entry.1.child.0)
-
 depth_below-alike : (f g : ℕ → Size) (uses : List (List ℕ × UseBody))
     → ((k : ℕ) (entry : List ℕ × UseBody) → slice_get uses k ≡ Some entry → (f entry.1.child.0).depth ≡ (g entry.1.child.0).depth) → depth_below f uses ≡ depth_below g uses
 depth_below-alike f g [] same = refl
@@ -213,10 +208,6 @@ grown-next dimension f size uses from k entry low is =
     ap (λ n. grown dimension f size (take n (drop from uses))) (let e : k + 1 - from ≡ suc (k - from) = omega arith in e)
     ∙ ap (grown dimension f size) (take-get (drop from uses) (k - from) entry at)
     ∙ grown-append dimension f size (take (k - from) (drop from uses)) (entry ∷ [])
-
--- a size that grew by no use
-pub grown-none : (dimension : Dimension) (f : ℕ → Size) (size : Size) (uses : List (List ℕ × UseBody)) (from : ℕ) → size ≡ grown dimension f size (take (from - from) (drop from uses))
-grown-none dimension f size uses from = ap (λ n. grown dimension f size (take n (drop from uses))) (let e : 0 ≡ from - from = omega arith in e)
 
 -- and by all of them
 pub grown-all : (dimension : Dimension) (f : ℕ → Size) (size : Size) (uses : List (List ℕ × UseBody)) (n : ℕ) → n ≡ length uses → grown dimension f size (take (n - 0) uses) ≡ grown dimension f size uses

@@ -1,5 +1,5 @@
 -- Tables of uses: what a look-up by an id finds, and what an edit of the map makes of the uses.
-use Rattle.std.proofs.Common.{◌≡◌, inl, inr, ℕ, zero, suc, Bool, true, eqb, true≢false, List, [], ◌∷◌, ◌++◌, take, drop, map, Some, None, refl, sym, ap, subst, ◌∙◌, Vec, Global}
+use Rattle.std.proofs.Common.{◌≡◌, inl, inr, ℕ, zero, suc, true, eqb, true≢false, List, [], ◌∷◌, ◌++◌, take, drop, map, Some, None, refl, sym, ap, subst, ◌∙◌, Vec, Global}
 use Rattle.std.specs.Prelude.{slice_get, remove, Result, Ok, Err, IsOk, OnOk, OnErr, IfErr}
 use Rattle.std.specs.Option.{option_map}
 use Rattle.std.specs.Cmp.Lexicographic.{pointwise, bytes_decides}
@@ -10,13 +10,6 @@ use Rattle.std.proofs.lemmas.Option.{same_Some, slice_get-map, none-some}
 use Rattle.std.proofs.lemmas.List.{map-append, take-map, drop-map}
 use Rattle.cell_tree.specs.declared.use_tables.UseBody.{UseBody}
 use Rattle.cell_tree.specs.Uses.{HasIdAt, with_use_at}
-
--- an entry of the map, as contracts see it
-abbrev pub bare : Vec ℕ Global × UseBody → List ℕ × UseBody
-bare entry = (entry.0.items, entry.1)
-
-abbrev is_id : List ℕ → Vec ℕ Global → Bool
-is_id id key = pointwise eqb id key.items
 
 -- where the clause of a value holds and there is one, what it says
 pub on_ok : {A E : Type 0} (r : Result A E) (P : Type 0) → IsOk r → OnOk r P → P

@@ -8,7 +8,7 @@ use Rattle.indexmap.proofs.CallerLemmas.{Contains-insert_key}
 use Rattle.cell_tree.specs.declared.cells.TreeCell.{TreeCell}
 use Rattle.cell_tree.specs.declared.use_tables.UseBody.{UseBody}
 use Rattle.cell_tree.specs.Sizes.{CellState}
-use Rattle.cell_tree.specs.Cells.{states, users_of, Uses, KnowUsers}
+use Rattle.cell_tree.specs.Cells.{states, users_of, Uses}
 use Rattle.cell_tree.specs.Above.{IsUserOf}
 use Rattle.cell_tree.specs.Trees.{cell_at}
 use Rattle.cell_tree.specs.Trials.{AreLawfulCells}

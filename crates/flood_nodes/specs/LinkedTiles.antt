@@ -1,15 +1,13 @@
 -- Links between tiles.
-use Rattle.std.specs.Prelude.{◌↔◌, length, slice_index, All, ◌≡◌, ◌≢◌, ◌⊎◌, ℕ, pos, ◌<ℤ◌, Bool, IsTrue, List, slice_get, Some}
+use Rattle.std.specs.Prelude.{◌↔◌, slice_index, ◌≡◌, ◌≢◌, ◌⊎◌, ℕ, pos, ◌<ℤ◌, Bool, IsTrue, List, slice_get, Some}
 use Rattle.finite_sets.specs.Chain.{EitherWay}
 use Rattle.geo_core.specs.declared.squares.Square.{Square}
 use Rattle.geo_core.specs.Covering.{Covers}
 use Rattle.rect_contacts.specs.Contacts.{shared_length}
-use Rattle.partition.specs.Divides.{Divides, IsPair}
 use Rattle.layout_model.specs.Places.{Place}
 use Rattle.layout_model.specs.Layouts.{Layout}
 use Rattle.layout_model.specs.Links.{AreOneNode}
-use Rattle.layout_model.specs.Laws.{ConnectsBothWays}
-use Rattle.layout_model.specs.RegionTiles.{LiesIn, AreLayoutTiles}
+use Rattle.layout_model.specs.RegionTiles.{LiesIn}
 use Rattle.layout_model.specs.declared.region_tiles.RegionTile.{RegionTile}
 
 -- A square of both rectangles.
@@ -48,11 +46,3 @@ pub record JoinTiles (connects : ℕ → ℕ → Bool) (tiles : List RegionTile)
 abbrev pub NumbersNodes : (ℕ → ℕ → Bool) → Layout → List RegionTile → List ℕ → Type 0
 NumbersNodes connects layout tiles numbers =
     (i j : ℕ) (a b : Place) → LiesIn tiles i a → LiesIn tiles j b → (slice_index numbers i ≡ slice_index numbers j) ↔ AreOneNode connects layout a b
-
--- The law: labels of the classes of linked tiles number the nodes.
-abbrev pub LinkedTilesAreNodes : Type 0
-LinkedTilesAreNodes =
-    (connects : ℕ → ℕ → Bool) (layout : Layout) (tiles : List RegionTile) → AreLayoutTiles layout tiles → ConnectsBothWays connects
-    → All (λ tile. IsTrue (connects tile.kind.0 tile.kind.0)) tiles
-    → (pairs : List (ℕ × ℕ)) → JoinTiles connects tiles (IsPair pairs) → (labels : List ℕ) → length labels ≡ length tiles → Divides labels (IsPair pairs)
-    → NumbersNodes connects layout tiles labels

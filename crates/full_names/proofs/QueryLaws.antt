@@ -233,9 +233,3 @@ module _ (names : FullNames) (are : AreNames names) where
           ap (λ (l : List (List ℕ)). slice_get l place) (one_list list is)
           ∙ slice_get-append_left (global_texts globals) (local_names names) place name spot.stands
           ∙ ap Some (sym (full_name-marked element.ext (lawful_of number element stands) name global_named (ids_of element) marked))
-
--- names of one record with one spot are one name
-pub same_spot : (names : FullNames) (cell : ℕ) (name other : List ℕ) (spot : Spot) → IsSpotOf names cell name spot → IsSpotOf names cell other spot
-    → name ≡ other
-same_spot names cell name other (Local own) one two = same_Some name other (sym one.stands ∙ two.stands)
-same_spot names cell name other (Global place) one two = same_Some name other (sym one.stands ∙ two.stands)

@@ -97,10 +97,6 @@ groups_more members sums place =
       last true = refl
       last false = refl
 
-pub groups_none : (members : List Member) (sums : List MeetingSum) (nothing : MeetingSum) (merges : List MergeRec) → merges ≡ []
-    → AddsMerges nothing (groups_before members sums 0) [] merges
-groups_none members sums nothing merges none = record { are = λ classes is_nothing. none }
-
 -- behind the merges of the groups before stand those of the group that begins here
 pub groups_added : (members : List Member) (sums : List MeetingSum) (nothing : MeetingSum) (place : ℕ) (merges later : List MergeRec)
     → is_first members place ≡ true → AddsMerges nothing (group_at members sums place ∷ []) merges later

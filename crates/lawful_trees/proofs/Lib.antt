@@ -1,8 +1,6 @@
 pub mod ElementForms
 pub mod ElementPlaces
 pub mod LibraryElements
-mod NodeSizes
-mod LawfulFets
 pub mod OwnParts
 pub mod NearPlaces
 pub mod TreePaths

@@ -35,10 +35,10 @@ use Rattle.cell_nodes.specs.NodeRecords.{AreNodeRecords, IsNodeRecord}
 use Rattle.cell_nodes.proofs.NodePlaces.{material_along}
 use Rattle.own_records.specs.FetRecords.{AreFetRecords, IsNodeBefore, IsOfNode}
 use Rattle.own_records.specs.OwnRecords.{class_values}
-use Rattle.lawful_trees.proofs.LawfulFets.{fet_is_lawful}
+use Rattle.own_record_laws.proofs.LawfulFets.{fet_is_lawful}
 use Rattle.own_record_laws.proofs.NameForms.{type_word, name_form}
 use Rattle.own_record_laws.proofs.NamesDiffer.{names_differ}
-use Rattle.lawful_trees.proofs.NodeSizes.{measure_from, near_place, paint_x, paint_y, capacitance_small, record_measures}
+use Rattle.own_record_laws.proofs.NodeSizes.{measure_from, near_place, paint_x, paint_y, capacitance_small, record_measures}
 use Rattle.own_record_laws.proofs.PreferredNames.{recorded, in_some, goes_by}
 
 -- a record has no more values than a technology may have classes

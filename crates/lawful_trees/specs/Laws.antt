@@ -1,5 +1,5 @@
 -- The law of the records of a library's cells, as a statement.
-use Rattle.std.specs.Prelude.{◌<◌, ℕ, length}
+use Rattle.std.specs.Prelude.{ℕ}
 use Rattle.ext_model.specs.declared.records.CellExt.{CellExt}
 use Rattle.ext_model.specs.Lawful.{IsLawful}
 use Rattle.hierarchy_model.specs.CleanCells.{IsClean}

@@ -4,7 +4,7 @@
 //! # How the proof goes
 //!
 //! The material of a cell lies in its hull, and so within the range of paint, on the planes of the technology (`NearPlaces`). So the nodes
-//! and the transistors of the own layout are lawful as in a record without uses (`OwnParts`, over `NodeSizes` and `LawfulFets`).
+//! and the transistors of the own layout are lawful as in a record without uses (`OwnParts`, over laws of `own_record_laws`).
 //!
 //! An id, and what stands behind it in the name of an element of an array, has bytes of words and no slash (`ElementForms`). A grid of a
 //! lawful use has at most a million elements whose separations are below 2^27, so it displaces them by less than 2^47, and the use by less

@@ -1,4 +1,3 @@
 pub mod Families
 pub mod NodeLaws
-pub mod PaintLaws
 pub mod PlaceLaws

@@ -1,12 +1,10 @@
 -- Links lead both ways, and a layout has one list of nodes.
-use Rattle.std.proofs.Common.{◌≡◌, ◌⊎◌, ℕ, ℤ, Bool, true, List, [], ◌∷◌, inl, inr, refl, sym, subst, ap, ◌∙◌, rules, IsTrue}
-use Rattle.finite_sets.specs.Chain.{Chain}
+use Rattle.std.proofs.Common.{◌≡◌, ℕ, ℤ, Bool, List, [], ◌∷◌, inl, inr, refl, sym, subst, ap, ◌∙◌}
 use Rattle.finite_sets.specs.Lists.{In}
-use Rattle.finite_sets.specs.Least.{IsLeast}
-use Rattle.finite_sets.proofs.Chains.{Chain-back, Chain-append}
+use Rattle.finite_sets.proofs.Chains.{Chain-back}
 use Rattle.finite_sets.proofs.Totals.{Total-unique}
-use Rattle.layout_model.specs.Places.{Place, IsBefore, IsNoLater}
-use Rattle.layout_model.specs.Layouts.{Layout, IsMaterial}
+use Rattle.layout_model.specs.Places.{Place, IsBefore}
+use Rattle.layout_model.specs.Layouts.{Layout}
 use Rattle.layout_model.specs.Links.{AreLinked, AreOneNode}
 use Rattle.layout_model.specs.Measures.{area_at, perimeter_at}
 use Rattle.layout_model.specs.Technologies.{Class, Technology}

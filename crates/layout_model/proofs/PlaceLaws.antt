@@ -1,7 +1,5 @@
 -- Neighbours and the order of places.
-use Rattle.std.proofs.Common.{◌≡◌, ◌≢◌, ◌<◌, ◌⊎◌, ℕ, inl, inr, arith, refl, sym, subst, ◌∙◌, rules}
-use Rattle.geo_core.specs.declared.squares.Square.{Square}
-use Rattle.geo_core.specs.SquareOrder.{ComesBefore}
+use Rattle.std.proofs.Common.{◌≡◌, ◌<◌, inl, inr, arith, sym, subst, ◌∙◌}
 use Rattle.geo_core.proofs.NeighbourLaws.{AreEdgeNeighbours-sym}
 use Rattle.geo_core.proofs.SquareOrderLaws.{ComesBefore-irreflexive, ComesBefore-trans}
 use Rattle.layout_model.specs.Places.{Place, AreNeighbours, AreStacked, IsBefore, IsNoLater}

@@ -2,7 +2,7 @@
 use Rattle.std.specs.Prelude.{◌≡◌, ◌≢◌, ℕ, if◌then◌else◌, IsTrue, Option, Some, None}
 use Rattle.geo_core.specs.declared.squares.Square.{Square}
 use Rattle.geo_core.specs.declared.squares.Rect.{Rect}
-use Rattle.geo_core.specs.Covering.{Covers, is_covered}
+use Rattle.geo_core.specs.Covering.{is_covered}
 use Rattle.tech_model.specs.declared.raw.RawTech.{RawTech}
 use Rattle.tech_model.specs.Types.{is_type, plane_of}
 use Rattle.layout_model.specs.Places.{Place}
@@ -24,10 +24,6 @@ seen_in area kinds place = if is_covered area place.square then or_space (kinds 
 -- Each type that stands somewhere is the technology's, and of its plane.
 abbrev pub AreTypesOf : RawTech → Kinds → Type 0
 AreTypesOf raw kinds = (plane : ℕ) (square : Square) (kind : ℕ) → kinds plane square ≡ Some kind → kind ≢ 0 → IsTrue (is_type raw kind) × (plane_of raw kind ≡ plane)
-
--- The area holds all material.
-abbrev pub HoldsAll : Rect → Kinds → Type 0
-HoldsAll area kinds = (plane : ℕ) (square : Square) (kind : ℕ) → kinds plane square ≡ Some kind → kind ≢ 0 → Covers area square
 
 -- Each type of the layout is the technology's, and of its plane.
 abbrev pub HasTypesOf : RawTech → Layout → Type 0

@@ -1,5 +1,5 @@
 -- Layouts: which tile type stands at each place. Type 0 is space.
-use Rattle.std.specs.Prelude.{◌≢◌, ◌==◌, ◌&&◌, not, ℕ, Bool, if◌then◌else◌, List, [], ◌∷◌}
+use Rattle.std.specs.Prelude.{◌≢◌, ◌==◌, ℕ, if◌then◌else◌, List, [], ◌∷◌}
 use Rattle.geo_core.specs.declared.squares.Square.{Square}
 use Rattle.geo_core.specs.declared.squares.Piece.{Piece}
 use Rattle.geo_core.specs.Covering.{is_covered}
@@ -12,14 +12,6 @@ Layout = Place → ℕ
 -- Something other than space stands at the place.
 abbrev pub IsMaterial : Layout → Place → Type 0
 IsMaterial layout place = layout place ≢ 0
-
--- the test of a tile type that is not space
-abbrev pub is_material : ℕ → Bool
-is_material kind = not (kind == 0)
-
--- Each type connects to itself alone, and space to nothing.
-abbrev pub same_material : ℕ → ℕ → Bool
-same_material a b = is_material a && a == b
 
 -- What stands at a square when each piece in order has put its value on the squares that it covers, in the place of what was there.
 abbrev pub painted_over : ℕ → List Piece → Square → ℕ

@@ -17,13 +17,6 @@ use Rattle.mag_text.specs.declared.written.WrittenUse.{WrittenUse}
 use Rattle.mag_text.specs.CellTexts.{IsWrittenUse, AreWrittenUses}
 use Rattle.mag_text.specs.WrittenTexts.{IsLayered}
 
--- a library with a cell has a scale
-pub some_scale : (library : LibraryParts) (cell : ℕ) → IsLawfulLibrary library → cell < length library.contents → library.scale ≡ None → ⊥
-some_scale library cell lawful below none =
-    let empty : length library.contents ≡ 0 =
-    subst (λ (scale : Option (ℕ × ℕ)). IsLawfulScale scale (length library.contents)) none lawful.scale in
-    omega arith
-
 -- the labels of a cell are lawful
 pub labels_lawful : (library : LibraryParts) (cell : ℕ) → IsLawfulLibrary library → cell < length library.contents
     → All (IsLabel library.tech) (view_at (seen library) cell).labels

@@ -38,8 +38,3 @@ state_of_nothing session is = ap (λ (e : Option Edited). option_map edited_stat
 pub both_ok : {X E : Type 0} (result : Result X E) (P Q R : X → Type 0) → ((x : X) → P x → Q x → R x) → IfOk result P → IfOk result Q → IfOk result R
 both_ok (Ok x) P Q R gives one other = gives x one other
 both_ok (Err e) P Q R gives one other = tt
-
--- what holds, holds of a value where there is one
-pub ok_given : {X E : Type 0} (result : Result X E) (P : Type 0) → P → IfOk result (λ x. P)
-ok_given (Ok x) P holds = holds
-ok_given (Err e) P holds = tt

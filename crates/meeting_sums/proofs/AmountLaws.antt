@@ -61,13 +61,6 @@ for_group-add key group a b = by_cases (eqb key group)
     by_cases true = refl
     by_cases false = omega (arith, ints)
 
-pub for_group-zero : (key group : ℕ) → for_group key group (pos 0) ≡ pos 0
-for_group-zero key group = by_cases (eqb key group)
-  where
-    by_cases : (p : Bool) → cond p (pos 0) (pos 0) ≡ pos 0
-    by_cases true = refl
-    by_cases false = refl
-
 pub for_group-minus : (key group : ℕ) (a : ℤ) → for_group key group (pos 0 -ℤ a) ≡ pos 0 -ℤ for_group key group a
 for_group-minus key group a = by_cases (eqb key group)
   where
@@ -75,13 +68,7 @@ for_group-minus key group a = by_cases (eqb key group)
     by_cases true = refl
     by_cases false = refl
 
--- where nothing was before, the sums are the values, and the keys are these
-pub adds_all : (Key : ℕ → Type 0) (value : ℕ → ℤ) (new : List Amount) → AddAmounts Key value [] new → (key : ℕ) → sum_of key new ≡ value key
-adds_all Key value new adds key = adds.sums key ∙ first (value key)
-  where
-    first : (n : ℤ) → pos 0 +ℤ n ≡ n
-    first n = omega (arith, ints)
-
+-- where nothing was before, the keys are those of what was added
 pub keys_all : (Key : ℕ → Type 0) (value : ℕ → ℤ) (new : List Amount) (count : ℕ) → AddAmounts Key value [] new → ((key : ℕ) → Key key → key < count)
     → All (λ amount. amount.key < count) new
 keys_all Key value new count adds below = All-from_In (λ (a : Amount). a.key < count) new (λ amount i. elim (adds.keys amount i) [

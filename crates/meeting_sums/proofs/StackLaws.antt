@@ -58,10 +58,6 @@ read_near stacks i piece below is spread =
       below,
     ))))
 
-pub read_ordered : (stacks : List PlaneStack) (i : ℕ) (piece : PlaneStack) → i < length stacks → piece ≡ get_or stacks i piece
-    → All (λ piece. AreByPart piece.stack.kinds) stacks → AreByPart piece.stack.kinds
-read_ordered stacks i piece below is ordered = subst (λ (p : PlaneStack). AreByPart p.stack.kinds) (sym is) (ordered i piece below)
-
 -- sizes are not negative
 product_not_negative : (w h : ℤ) → pos 0 ≤ℤ w → pos 0 ≤ℤ h → pos 0 ≤ℤ (w *ℤ h)
 product_not_negative (pos m) (pos n) p q = omega (arith, ints)

@@ -63,15 +63,6 @@ contacts_of_same tiles others contacts same listed = Lists-iff (IsTileContact ti
     })
     listed
 
--- tiles have the contacts that they have with numbers
-pub contacts_of_numbered : (tiles numbered : List RegionTile) (labels : List ℕ) (contacts : List Contact) → AreRenumbered tiles labels numbered
-    → Lists (IsTileContact numbered) contacts → Lists (IsTileContact tiles) contacts
-contacts_of_numbered tiles numbered labels contacts are listed = contacts_of_same numbered tiles contacts (record {
-  so_many = sym are.so_many;
-  planes = λ k below. let many = are.so_many in ap (λ (t : RegionTile). t.plane) (sym (are.each k (omega (arith, below, many))));
-  areas = λ k below. let many = are.so_many in ap (λ (t : RegionTile). t.area) (sym (are.each k (omega (arith, below, many))));
-}) listed
-
 -- Each place of a tile passes as the tile does, and each place that passes lies in a tile.
 pub record IsTest (tiles : List RegionTile) (of : ℕ → Bool) (here : Place → Bool) : Type 0 where
   pub inside : (index : ℕ) (place : Place) → LiesIn tiles index place → here place ≡ of index

@@ -2,11 +2,6 @@
 use Rattle.std.proofs.Common.{inl, inr, ℕ, ◌≤◌, arith}
 use Rattle.outside_io.specs.Counts.{Rose}
 
--- a count that stays 0 never rose
-pub no_Rose-zero : Rose 0 0 → ⊥
-no_Rose-zero (inl rise) = omega arith
-no_Rose-zero (inr last) = omega (arith, last)
-
 -- what rose in a call rose in all calls up to a later one
 pub Rose-later : (first before now : ℕ) → first ≤ before → Rose first before → before ≤ now → Rose first now
 Rose-later first before now from (inl rise) to = inl (omega arith)

@@ -1,9 +1,9 @@
 -- Files: what a name has after a file is put under a name.
-use Rattle.std.proofs.Common.{◌≡◌, ◌≢◌, ℕ, List, [], ◌∷◌, map, Option, Bool, true, false, cond, refl, sym, ap, subst, ◌∙◌, ◌&&◌, T}
-use Rattle.std.specs.Prelude.{Some, None}
-use Rattle.std.specs.Ordering.{nat_cmp, eq_by_cmp, is_eq, is_lt}
+use Rattle.std.proofs.Common.{◌≡◌, ℕ, List, [], ◌∷◌, map, Bool, true, cond, refl, sym, ap, subst, ◌∙◌, ◌&&◌, T}
+use Rattle.std.specs.Prelude.{Some}
+use Rattle.std.specs.Ordering.{nat_cmp, eq_by_cmp, is_lt}
 use Rattle.std.specs.declared.cmp.Ordering.{Ordering}
-use Rattle.std.specs.declared.cmp.Ordering.TheVariants.{Less, Equal, Greater}
+use Rattle.std.specs.declared.cmp.Ordering.TheVariants.{Less}
 use Rattle.std.specs.Cmp.{eq_by_cmp_equiv}
 use Rattle.std.specs.Cmp.Lexicographic.{slice_cmp, nat_list_cmp_total}
 use Rattle.std.specs.FinMap as finmap
@@ -12,15 +12,11 @@ use Rattle.std.specs.List.{AllByRecursion}
 use Rattle.std.specs.List.Sorted.{IsStrictlySortedBy}
 use Rattle.std.specs.BTreeMap.{is_at}
 use Rattle.std.specs.Map.{lookup}
-use Rattle.outside_io.specs.Files.{Files, no_files, bytes_of, names_of, with_file, told_with_file, SameElsewhere, ToldSameElsewhere}
+use Rattle.outside_io.specs.Files.{Files, bytes_of, names_of, with_file}
 
 -- names tie only where they are one
 names_apart : finmap.IsAntisymmetric (slice_cmp nat_cmp)
 names_apart = finmap.slice_cmp-IsAntisymmetric finmap.nat_cmp-IsAntisymmetric
-
--- where there are no files no name has bytes
-pub bytes_of-no_files : (name : List ℕ) → bytes_of no_files name ≡ None
-bytes_of-no_files = finmap.get-empty (slice_cmp nat_cmp)
 
 -- two shelves whose names have the same bytes are the same
 pub same_files : (old new : Files) → ((name : List ℕ) → bytes_of old name ≡ bytes_of new name) → old ≡ new
@@ -30,10 +26,6 @@ same_files = finmap.same_map nat_list_cmp_total names_apart
 pub bytes_of-with_file : (files : Files) (name bytes other : List ℕ)
     → bytes_of (with_file files name bytes) other ≡ cond (eq_by_cmp (slice_cmp nat_cmp) other name) (Some bytes) (bytes_of files other)
 bytes_of-with_file files name bytes other = finmap.get-insert nat_list_cmp_total files name bytes other
-
--- after a file was put, its name has its bytes
-pub bytes_of-with_file_same : (files : Files) (name bytes : List ℕ) → bytes_of (with_file files name bytes) name ≡ Some bytes
-bytes_of-with_file_same files name bytes = bytes_of-with_file files name bytes name ∙ ap (λ (b : Bool). cond b (Some bytes) (bytes_of files name)) ((eq_by_cmp_equiv nat_list_cmp_total).refl name)
 
 find-lookup : (name : List ℕ) (entries : List (List ℕ × List ℕ)) → find (slice_cmp nat_cmp) name entries ≡ lookup (is_at (slice_cmp nat_cmp name)) entries
 find-lookup name [] = refl
@@ -77,31 +69,3 @@ names_of-from_entries entries order =
     let same : ◌≡◌ {A = Files} (finmap.from_entries entries) (finmap.from_sorted entries) =
     same_files _ _ (λ q. finmap.get-from_entries nat_list_cmp_total entries q ∙ sym (finmap.get-from_sorted (slice_cmp nat_cmp) entries q rising)) in
     ap names_of same ∙ ap (map (λ e. e.0)) (finmap.entries-from_sorted (slice_cmp nat_cmp) entries rising)
-
--- names that the order ties are one
-tied_names : (r : Ordering) (one other : List ℕ) → slice_cmp nat_cmp one other ≡ r → is_eq r ≡ true → one ≡ other
-tied_names Less one other e tied = cc
-tied_names Equal one other e tied = names_apart one other e
-tied_names Greater one other e tied = cc
-
--- after a file was put, each other name has the bytes that it had
-pub bytes_of-with_file_other : (files : Files) (name bytes other : List ℕ) → other ≢ name → bytes_of (with_file files name bytes) other ≡ bytes_of files other
-bytes_of-with_file_other files name bytes other apart = bytes_of-with_file files name bytes other
-    ∙ elim (eq_by_cmp (slice_cmp nat_cmp) other name) as (λ b. eq_by_cmp (slice_cmp nat_cmp) other name ≡ b → cond b (Some bytes) (bytes_of files other) ≡ bytes_of files other) [
-      | true ↦ λ tied. absurd (apart (tied_names _ other name refl tied))
-      | false ↦ λ _. refl
-    ] refl
-
--- a store changes one name alone
-pub SameElsewhere-with_file : (files : Files) (name bytes : List ℕ) → SameElsewhere name files (with_file files name bytes)
-SameElsewhere-with_file files name bytes other apart = bytes_of-with_file_other files name bytes other apart
-
--- the same of what a shelf tells
-pub ToldSameElsewhere-with_file : (told : Option Files) (name bytes : List ℕ) → ToldSameElsewhere name told (told_with_file told name bytes)
-ToldSameElsewhere-with_file None name bytes = tt
-ToldSameElsewhere-with_file (Some files) name bytes = SameElsewhere-with_file files name bytes
-
--- files that stay the same stay so for all names but one
-pub ToldSameElsewhere-refl : (told : Option Files) (name : List ℕ) → ToldSameElsewhere name told told
-ToldSameElsewhere-refl None name = tt
-ToldSameElsewhere-refl (Some files) name = λ _ _. refl

@@ -1,24 +1,9 @@
 -- ToldBytes bytes with others before or after them.
-use Rattle.std.proofs.Common.{◌≡◌, ℕ, ◌+◌, ◌≤◌, List, [], ◌++◌, take, drop, refl, sym, ap, ◌∙◌, append_assoc, append-nil, length, arith}
+use Rattle.std.proofs.Common.{◌≡◌, ℕ, ◌+◌, ◌≤◌, List, ◌++◌, take, drop, refl, sym, ap, ◌∙◌, append_assoc, length, arith}
 use Rattle.std.proofs.lemmas.List.{take-append-drop, take-take, drop-take}
 use Rattle.std.proofs.lemmas.Grind.{common_steps}
 use Rattle.std.specs.Prelude.{Some, None}
-use Rattle.outside_io.specs.ToldBytes.{AppendsPrefix, ToldBytes, with_front, with_back}
-
--- no bytes before the told ones change nothing
-pub with_front-nil : (told : ToldBytes) → with_front [] told ≡ told
-with_front-nil None = refl
-with_front-nil (Some bytes) = refl
-
--- bytes before bytes are bytes one after the other
-pub with_front-with_front : (xs ys : List ℕ) (told : ToldBytes) → with_front xs (with_front ys told) ≡ with_front (xs ++ ys) told
-with_front-with_front xs ys None = refl
-with_front-with_front xs ys (Some rest) = ap (λ (b : List ℕ). Some b) (sym (append_assoc xs ys rest))
-
--- no bytes behind the told ones change nothing
-pub with_back-nil : (told : ToldBytes) → with_back told [] ≡ told
-with_back-nil None = refl
-with_back-nil (Some bytes) = ap (λ (b : List ℕ). Some b) (append-nil bytes)
+use Rattle.outside_io.specs.ToldBytes.{ToldBytes, with_back}
 
 -- bytes behind bytes are bytes one after the other
 pub with_back-with_back : (told : ToldBytes) (xs ys : List ℕ) → with_back (with_back told xs) ys ≡ with_back told (xs ++ ys)
@@ -52,7 +37,3 @@ handed_out bytes filled buf taken count filled_is within =
     let front : take count (filled ++ drop count buf) ≡ filled = grind (arith, common_steps) in
     let back : drop count (drop taken bytes) ≡ drop (taken + count) bytes = grind (arith, common_steps) in
     cc
-
--- nothing appended yet
-pub AppendsPrefix-refl : (told : ToldBytes) (bytes : List ℕ) → AppendsPrefix told told bytes
-AppendsPrefix-refl told bytes = (0, sym (with_back-nil told))

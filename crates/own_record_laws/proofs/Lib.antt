@@ -5,13 +5,13 @@ mod FlatNames
 mod SameNodes
 pub mod PreferredNames
 mod SameTerminals
-mod SameFets
+pub mod SameFets
 pub mod SomeEdges
 mod OwnMeanings
 pub mod NameForms
-mod NodeSizes
+pub mod NodeSizes
 pub mod NodesByName
 pub mod FetSizes
 pub mod NamesDiffer
-mod LawfulFets
+pub mod LawfulFets
 mod OwnLawful

@@ -1,15 +1,13 @@
 -- Sums over contacts are sums over pairs of places.
 use Rattle.std.proofs.Common.{◌≡◌, ℕ, ◌<◌, ◌≤◌, ℤ, pos, ◌+ℤ◌, ◌*ℤ◌, ◌≤ℤ◌, ◌<ℤ◌, Bool, true, false, cond, ◌&&◌, List}
 use Rattle.std.proofs.Common.{[], ◌∷◌, inl, inr, map, filter, length, get_or, refl, sym, ◌∙◌, ap, subst, arith}
-use Rattle.std.specs.Prelude.{All, nat_lt, int_lt}
+use Rattle.std.specs.Prelude.{nat_lt, int_lt}
 use Rattle.std.specs.List.{range_with_len}
 use Rattle.std.proofs.Math.IntN.{*ℤ-zero}
 use Rattle.std.proofs.lemmas.Bool.{cases_eq, cases_lt, false≢true}
 use Rattle.std.proofs.lemmas.Bool.Decides.{nat_tests}
 use Rattle.std.proofs.lemmas.Int.{ints}
 use Rattle.std.proofs.lemmas.List.FromFn.{length-range_with_len, get_or-range_with_len}
-use Rattle.geo_core.specs.declared.squares.Rect.{Rect}
-use Rattle.geo_core.specs.Covering.{IsProper}
 use Rattle.finite_sets.specs.Lists.{In, Lists}
 use Rattle.finite_sets.specs.Total.{sum_on}
 use Rattle.finite_sets.specs.Range.{pairs_of}
@@ -19,7 +17,7 @@ use Rattle.finite_sets.proofs.Distincts.{Distinct-map, Distinct-filter, Distinct
 use Rattle.finite_sets.proofs.Sums.{sum_on-append, sum_on-map, sum_on-same, sum_on-add, sum_on-swap, sum_on-filter, sum_on-same_things}
 use Rattle.finite_sets.proofs.Ranges.{Lists-pairs_of}
 use Rattle.rect_contacts.specs.declared.contacts.Contact.{Contact}
-use Rattle.rect_contacts.specs.Rects.{rect_at, places_of}
+use Rattle.rect_contacts.specs.Rects.{rect_at}
 use Rattle.rect_contacts.specs.Contacts.{shared_length, IsSharedEdge}
 use Rattle.rect_contacts.specs.EdgeLaws.{ContactsCountBothWays}
 use Rattle.rect_contacts.proofs.Counting.{distributes_right}
@@ -42,10 +40,6 @@ Lists-below n =
           let a = get_or-range_with_len 0 n r.0 0 (omega (arith, long, r.1.0)) in
           omega (arith, long, r.1.0, a, r.1.1 0)),
     )
-
--- the places of a list
-pub Lists-places_of : (rects : List Rect) → Lists (λ k. k < length rects) (places_of rects)
-Lists-places_of rects = Lists-below (length rects)
 
 -- a sum over pairs is a sum over the first of sums over the second
 pub sum_on-nested : {X Y : Type 0} (w : X × Y → ℤ) (xs : List X) (ys : List Y) → sum_on w (pairs_of xs ys) ≡ sum_on (λ x. sum_on (λ y. w (x, y)) ys) xs

@@ -2,9 +2,9 @@
 use Rattle.std.proofs.Common.{append_assoc, false, ◌≡◌, ◌⊎◌, inl, inr, ℕ, ℤ, ◌≤ℤ◌, ◌<ℤ◌, List, [], ◌∷◌, ◌++◌, map, Some, sym, ◌∙◌, ap, arith}
 use Rattle.std.specs.Ordering.{is_gt, is_eq, int_cmp}
 use Rattle.std.proofs.lemmas.Int.{ints, by_lt_z}
-use Rattle.std.proofs.lemmas.List.{map-append, append-nil}
+use Rattle.std.proofs.lemmas.List.{map-append}
 use Rattle.finite_sets.specs.Lists.{Lists}
-use Rattle.finite_sets.proofs.Listings.{Lists-none, Lists-one, Lists-append, Lists-iff}
+use Rattle.finite_sets.proofs.Listings.{Lists-one, Lists-append, Lists-iff}
 use Rattle.rect_contacts.specs.declared.actives.Active.{Active}
 use Rattle.rect_contacts.specs.declared.events.Event.{Event}
 use Rattle.rect_contacts.specs.Events.{pair_of}
@@ -49,15 +49,6 @@ pub record FindsMet (event : Event) (row : Row) (x : ℤ) (before after : List (
   pub met : Lists (IsMetUpTo event row x) owners
   pub added : after ≡ before ++ map (pair_of event) owners
   pub begun : event.from ≤ℤ x
-
--- none ends before the event's rectangle begins
-pub finds_none : (event : Event) (row : Row) (pairs : List (ℕ × ℕ)) → FindsMet event row event.from pairs pairs
-finds_none event row pairs = record {
-  owners = [];
-  met = Lists-none (IsMetUpTo event row event.from) (λ owner m. let ends = m.met.ends in let up_to = m.up_to in omega (arith, ints, ends, up_to));
-  added = sym (append-nil pairs);
-  begun = omega (arith, ints);
-}
 
 module _ (event : Event) (row : Row) (x to : ℤ) (active : Active) (is : IsFirstPast row x to active) where
   split_met : (owner : ℕ) → active.from <ℤ event.to → IsMetUpTo event row to owner → IsMetUpTo event row x owner ⊎ (active.owner ≡ owner)

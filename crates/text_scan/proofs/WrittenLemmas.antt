@@ -40,12 +40,6 @@ text_of-append [] more = refl
 text_of-append (line ∷ lines) more =
     ap (λ rest. line ++ 10 ∷ rest) (text_of-append lines more) ∙ sym (append_assoc line (10 ∷ text_of lines) (text_of more))
 
--- one more word, behind a blank
-pub line_of-push : (first : List ℕ) (words : List (List ℕ)) (word : List ℕ) → line_of (first ∷ (words ++ word ∷ [])) ≡ line_of (first ∷ words) ++ 32 ∷ word
-line_of-push first [] word = refl
-line_of-push first (next ∷ words) word =
-    ap (λ rest. first ++ 32 ∷ rest) (line_of-push next words word) ∙ sym (append_assoc first (32 ∷ line_of (next ∷ words)) (32 ∷ word))
-
 -- a byte that ends no line
 abbrev IsPlain : ℕ → Type 0
 IsPlain byte = (is_line_feed byte ≡ false) × (eqb byte 13 ≡ false)

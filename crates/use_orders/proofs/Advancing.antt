@@ -14,9 +14,6 @@ use Rattle.use_orders.proofs.Listed.{listed_by-push}
 use Rattle.use_orders.proofs.Visiting.{Visits-append}
 use Rattle.use_orders.proofs.UnderWay.{not_both, under_way_further}
 
-pub advances_none : (children : List (List ℕ)) (first : ℕ) (s : WalkState) → Advances children first s s
-advances_none children first s calm = (calm, λ after k. k)
-
 pub advances_then : (children : List (List ℕ)) (first : ℕ) (a b c : WalkState) → Advances children first a b → Advances children first b c
     → Advances children first a c
 advances_then children first a b c p q calm = let later = q calm in let earlier = p later.0 in (earlier.0, λ after k. earlier.1 after (later.1 after k))

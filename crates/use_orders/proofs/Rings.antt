@@ -252,18 +252,6 @@ module _ (children users : List (List ℕ)) (first : ℕ) (order : List ℕ) (wa
       ];
     }
 
--- nothing was searched yet
-pub searched_none : (children users : List (List ℕ)) (first : ℕ) (order : List ℕ) (s : WalkState) → IsAtRest users first s → IsThorough users first s
-    → s.order ≡ []
-    → IsSearched children users first order (length order) s None
-searched_none children users first order s rest t none = record {
-  rest = rest;
-  thorough = t;
-  done = λ i from lt. absurd (omega arith);
-  own = tt;
-  covers = λ c h own. absurd (let P : List ℕ → Type 0 = λ z. In c z in let k : ⊥ = subst P none h in k);
-}
-
 -- all was searched
 pub searched_all : (children users : List (List ℕ)) (first : ℕ) (order : List ℕ) (s : WalkState) (least : Option ℕ) → IsWalkOrder children first order
     → IsSearched children users first order 0 s least

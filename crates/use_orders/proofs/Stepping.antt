@@ -16,21 +16,9 @@ use Rattle.use_orders.specs.Walks.{WalkState, walk_mark, listed_by, cells_of, wi
 use Rattle.use_orders.specs.Walks.{IsWalking, IsAtRest, IsLater, Continues, LeadsToOpen, HasCycle, HasVisited, work_left}
 use Rattle.use_orders.proofs.UnderWay.{under_way_listed, under_way_further, under_way_followed, reached_listed}
 use Rattle.use_orders.proofs.UnderWay.{reached_met, reached_followed, next_is_used, cycle_followed, noted}
-use Rattle.use_orders.proofs.Advancing.{advances_none, advances_then, advances_listed, advances_followed, visits_met}
+use Rattle.use_orders.proofs.Advancing.{advances_then, advances_listed, advances_followed, visits_met}
 use Rattle.use_orders.proofs.Thorough.{met_listed, met_kept, met_met, met_cases, thorough_listed, thorough_followed, thorough_met}
 use Rattle.use_orders.proofs.Working.{less_listed, less_followed}
-
-pub later_same : (children : List (List ℕ)) (first : ℕ) (s : WalkState) → IsWalking children first s → IsLater children first s s
-later_same children first s u = record {
-  under_way = u;
-  advances = advances_none children first s;
-  reached = λ root r. r;
-  cyclic = λ root r e. inl e;
-  met = λ c m. m;
-  grows = ([], sym (append-nil s.order));
-  source = λ root r c h. inl h;
-  thorough = λ t. t;
-}
 
 pub later_then : (children : List (List ℕ)) (first : ℕ) (a b c : WalkState) → IsLater children first a b → IsLater children first b c
     → IsLater children first a c

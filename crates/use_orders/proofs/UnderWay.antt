@@ -28,9 +28,6 @@ new_from_mark children first s c u free = elim (cases_lt c first) [ inl lt ↦ a
 pub new_from_open : (children : List (List ℕ)) (first : ℕ) (s : WalkState) (c : ℕ) → IsWalking children first s → walk_mark s.marks c ≡ Open → first ≤ c
 new_from_open children first s c u e = new_from_mark children first s c u (λ l. not_both s.marks c e l)
 
-pub new_from_unmet : (children : List (List ℕ)) (first : ℕ) (s : WalkState) (c : ℕ) → IsWalking children first s → walk_mark s.marks c ≡ Unmet → first ≤ c
-new_from_unmet children first s c u e = new_from_mark children first s c u (λ l. let f = sym e ∙ l in cc)
-
 -- the present cell is listed
 pub under_way_listed : (children : List (List ℕ)) (first : ℕ) (at : OpenCell) (s : WalkState) → IsWalking children first (with_open at s)
     → IsWalking children first (after_listing at.cell s)

@@ -1,5 +1,5 @@
 -- The users of cells.
-use Rattle.std.proofs.Common.{◌≡◌, ◌≢◌, ℕ, zero, suc, ◌+◌, ◌<◌, ◌≤◌, List, [], ◌∷◌, ◌++◌}
+use Rattle.std.proofs.Common.{◌≡◌, ◌≢◌, ℕ, ◌+◌, ◌<◌, ◌≤◌, List, [], ◌∷◌, ◌++◌}
 use Rattle.std.proofs.Common.{◌⊎◌, inl, inr, refl, sym, ap, subst, arith, length, slice_index, slice_set, ◌∙◌}
 use Rattle.std.proofs.Common.{slice_index_or, get_or-set_same, get_or-set_other}
 use Rattle.std.specs.Global.{Global}
@@ -9,15 +9,7 @@ use Rattle.std.proofs.lemmas.List.{length-set, length-map, map-set, get_or-map}
 use Rattle.finite_sets.specs.Lists.{In}
 use Rattle.finite_sets.proofs.Members.{In-append_left, In-push, In-push_cases, In-get_or, In-index}
 use Rattle.use_orders.specs.Uses.{used_by, UsesNewCell, AreCells}
-use Rattle.use_orders.specs.Searches.{AreUsers, lists_of}
-use Rattle.use_orders.proofs.Rings.{has_use}
-
--- one more empty list leaves all empty
-pub empty_push : (lists : List (List ℕ)) → ((c : ℕ) → used_by lists c ≡ []) → (c : ℕ) → used_by (lists ++ [] ∷ []) c ≡ []
-empty_push [] old zero = refl
-empty_push [] old (suc c) = refl
-empty_push (x ∷ xs) old zero = old 0
-empty_push (x ∷ xs) old (suc c) = empty_push xs (λ d. old (suc d)) c
+use Rattle.use_orders.specs.Searches.{lists_of}
 
 -- The first so many uses of a cell were added to the users of their children.
 pub record AreAdded (children : List (List ℕ)) (first parent place : ℕ) (old now : List (List ℕ)) : Type 0 where
@@ -104,14 +96,6 @@ pub record AreUsersBelow (children : List (List ℕ)) (first upto : ℕ) (users 
   pub there : (parent child : ℕ) → parent < upto → UsesNewCell children first parent child → In parent (used_by users child)
   pub back : (parent child : ℕ) → In parent (used_by users child) → UsesNewCell children first parent child
 
-pub users_none : (children : List (List ℕ)) (first : ℕ) (users : List (List ℕ)) → length users ≡ length children → ((c : ℕ) → used_by users c ≡ [])
-    → AreUsersBelow children first first users
-users_none children first users fits none = record {
-  fits = fits;
-  there = λ parent child lt step. absurd (omega (arith, step.0, lt));
-  back = λ parent child h. absurd (let k : In parent [] = rw (none child) at h in k);
-}
-
 pub users_more : (children : List (List ℕ)) (first parent : ℕ) (users next : List (List ℕ)) → AreUsersBelow children first parent users
     → length next ≡ length users → ((user c : ℕ) → In user (used_by users c) → In user (used_by next c))
     → ((child : ℕ) → UsesNewCell children first parent child → In parent (used_by next child))
@@ -151,12 +135,3 @@ pub child_fits : (children : List (List ℕ)) (first parent place child : ℕ) (
 child_fits children first parent place child old now cells fits is lt a =
     let c = cells parent (slice_index (used_by children parent) place) (In-get_or (used_by children parent) place 0 lt) in
     omega (arith, c, is, fits, a.fits, length-lists_of old, length-lists_of now)
-
--- all parents were gone through
-pub users_all : (children : List (List ℕ)) (first upto : ℕ) (users : List (List ℕ)) → length children ≤ upto → AreUsersBelow children first upto users
-    → AreUsers children first users
-users_all children first upto users all u = record {
-  fits = u.fits;
-  there = λ parent child step. u.there parent child (omega (arith, has_use children parent child step.2, all)) step;
-  back = u.back;
-}

@@ -40,11 +40,6 @@ steps_of : (id : List ℕ) (grid : Option Grid) → map step_in (use_elements id
 steps_of id None = refl
 steps_of id (Some grid) = map-map step_in (array_element id) (elements_of grid)
 
--- a use has as many records as elements
-pub length-records_of_use : (name id : List ℕ) (used : UseBody) → length (records_of_use name id used) ≡ length (displacements used.grid)
-length-records_of_use name id used =
-    length-map (use_elements id used.grid) (element_record name used.placed) ∙ length-use_elements id used.grid
-
 -- what has the n-th name and stands at the n-th transform is the n-th element
 pub record_there : (name id : List ℕ) (used : UseBody) (n : ℕ) (own : List ℕ) (placed : Transform) (six : List ℤ) (cell : List ℕ)
     → cell ≡ name → HasNameAt id used.grid n own → StandsAt used n placed → six ≡ six_of placed
