@@ -56,7 +56,17 @@ def stacked(count):
     return lines + ["new chip", "place tile t " + IDENTITY, "array t 0 %d 3 0 %d 3" % (2 * side - 1, 2 * side - 1), "squares chip"]
 
 
-SCRIPTS = {"chip": chip, "rows": rows, "apart": apart, "routed": routed, "stacked": stacked}
+def crossed(count):
+    """Wide cells, each over the nine on either side of it, across tall ones, with paint at their ends alone."""
+    half = count // 2
+    lines = ["new wide", "paint metal 0 0 2 2", "paint metal %d 8 %d 10" % (4 * half - 2, 4 * half)]
+    lines += ["new tall", "paint metal 0 0 2 2", "paint metal 0 %d 2 %d" % (half + 8, half + 10), "new chip"]
+    lines += ["place wide w " + IDENTITY, "array w 0 0 0 0 %d 1" % (half - 1)]
+    lines += ["place tall t " + IDENTITY, "array t 0 %d 4 0 0 0" % (half - 1)]
+    return lines + ["squares chip"]
+
+
+SCRIPTS = {"chip": chip, "rows": rows, "apart": apart, "routed": routed, "stacked": stacked, "crossed": crossed}
 
 
 def timed(program, script, folder):
