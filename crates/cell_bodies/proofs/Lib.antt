@@ -1,3 +1,2 @@
 pub mod BlankLaws
 pub mod GridLaws
-pub mod OrientationLaws

@@ -1,14 +1,10 @@
 -- The forms of the numbers of a cell: where its uses and its labels stand, and its scale.
 use Rattle.std.specs.Prelude.{◌&&◌, ◌*◌, ◌^◌, nat_le, ℕ, ℤ, pos, neg_ℤ, int_le, int_lt, Bool, false, List, [], ◌∷◌}
-use Rattle.std.specs.List.{list_any}
-use Rattle.std.specs.Ordering.{int_eq}
 use Rattle.geo_core.specs.declared.grids.Grid.{Grid}
 use Rattle.geo_core.specs.declared.limits.TheConstants.{MOST_ELEMENTS}
-use Rattle.geo_core.specs.declared.orients.Orient.{Orient}
-use Rattle.geo_core.specs.declared.orients.Orient.TheVariants.{R0, R90, R180, R270, Mx, My, Mx90, My90}
 use Rattle.geo_core.specs.declared.squares.Rect.{Rect}
 use Rattle.geo_core.specs.Elements.{indices}
-use Rattle.geo_core.specs.Orientation.{matrix}
+use Rattle.geo_core.specs.Orientation.{is_orientation}
 use Rattle.cell_paint.specs.Painting.{is_in_range}
 use Rattle.cell_bodies.specs.declared.limits.TheConstants.{DISPLACEMENT_EDGE, LAST_POSITION, LARGEST_SCALE}
 
@@ -37,18 +33,6 @@ are_elements xlo xhi ylo yhi = are_indices xlo xhi ylo yhi && are_few_elements x
 -- a grid that a use may have
 abbrev pub is_grid : Grid → Bool
 is_grid grid = are_elements grid.xlo grid.xhi grid.ylo grid.yhi && are_displacements grid.xsep grid.ysep
-
-abbrev pub all_orients : List Orient
-all_orients = R0 ∷ R90 ∷ R180 ∷ R270 ∷ Mx ∷ My ∷ Mx90 ∷ My90 ∷ []
-
--- the orientation has these factors
-abbrev pub has_factors : ℤ → ℤ → ℤ → ℤ → Orient → Bool
-has_factors a b d e orient =
-    int_eq a (matrix orient).a && int_eq b (matrix orient).b && int_eq d (matrix orient).d && int_eq e (matrix orient).e
-
--- one of the eight orientations has these factors
-unfoldable pub is_orientation : ℤ → ℤ → ℤ → ℤ → Bool
-is_orientation a b d e = list_any (has_factors a b d e) all_orients
 
 -- six numbers by which a use may stand: an orientation and two displacements
 abbrev pub is_placing : List ℤ → Bool

@@ -1,7 +1,8 @@
 //! What a cell has.
 
 use cell_paint::CellPaint;
-use geo_core::{Grid, List, Name};
+use geo_core::Grid;
+use names_lists::{List, Name};
 use tech_model::Label;
 
 /// A use of a cell, its child, in another one: the child's name, the id of the use, where it stands, and the grid where it stands in

@@ -6,13 +6,13 @@ ghost use Rattle.geo_core.specs.Elements.{indices, IsLawful};
 ghost use Rattle.cell_bodies.specs.Words.{is_use_id_byte, is_use_id, is_text_byte, begins_with_blank, ends_with_blank, is_label_text};
 ghost use Rattle.cell_bodies.specs.Words.{without_first_blanks, without_last_blanks, without_outer_blanks};
 ghost use Rattle.cell_bodies.specs.Numbers.{is_displacement, are_displacements, is_index, are_indices, are_few_elements, are_elements, is_grid};
-ghost use Rattle.cell_bodies.specs.Numbers.{is_orientation, is_position};
+ghost use Rattle.cell_bodies.specs.Numbers.{is_position};
 ghost use Rattle.cell_paint.specs.Painting.{is_in_range};
 ghost use Rattle.cell_bodies.specs.Numbers.{has_sides, is_label_area, is_scale_number};
 
 use crate::limits::{DISPLACEMENT_EDGE, LARGEST_SCALE, LAST_POSITION, LONGEST_USE_ID};
 use cell_paint::is_coordinate;
-use geo_core::{Grid, MOST_ELEMENTS, Rect, Transform};
+use geo_core::{Grid, MOST_ELEMENTS, Rect};
 use tech_model::LONGEST_LABEL;
 
 fn is_use_id_byte(byte: u8) -> bool
@@ -158,16 +158,6 @@ pub fn is_grid(grid: &Grid) -> bool
     ensures { result ≡ is_grid grid.now }
 {
     are_elements(grid.xlo, grid.xhi, grid.ylo, grid.yhi) && are_displacements(grid.xsep, grid.ysep)
-}
-
-/// Whether one of the eight orientations has these factors.
-pub fn is_orientation(a: i64, b: i64, d: i64, e: i64) -> bool
-    ensures { result ≡ is_orientation a b d e }
-{
-    match Transform::of_six([a, b, 0, d, e, 0]) {
-        Some(_) => true,
-        None => false,
-    }
 }
 
 /// Whether a number is that of a position.

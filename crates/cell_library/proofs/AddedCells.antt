@@ -7,13 +7,12 @@ use Rattle.std.proofs.lemmas.List.{length-map, map-append}
 use Rattle.std.proofs.lemmas.List.Elements.{All-append}
 use Rattle.std.proofs.lemmas.Option.{slice_get_within, get_or_from_slice_get}
 use Rattle.finite_sets.specs.Lists.{In, Distinct}
-use Rattle.geo_core.specs.declared.limits.Limit.TheVariants.{Depth as DepthLimit, Elements as ElementsLimit}
 use Rattle.tech_model.specs.declared.raw.RawTech.{RawTech}
 use Rattle.cell_bodies.specs.declared.bodies.CellBody.{CellBody}
 use Rattle.cell_bodies.specs.Bodies.{IsBody}
 use Rattle.cell_bodies.specs.Words.{is_use_id}
 use Rattle.cell_tree.specs.declared.faults.TreeFault.{TreeFault}
-use Rattle.cell_tree.specs.declared.faults.TreeFault.TheVariants.{Cycle as Crossing, TooMany as TooManyOf, OutOfRange as TooFar, Memory as NoMemory}
+use Rattle.cell_tree.specs.declared.faults.TreeFault.TheVariants.{Cycle as Crossing, TooManyUses, Passed, Memory as NoMemory}
 use Rattle.cell_tree.specs.declared.sizes.Dimension.{Dimension}
 use Rattle.cell_tree.specs.declared.sizes.Dimension.TheVariants.{Depth, Elements, Hull}
 use Rattle.cell_tree.specs.declared.sizes.Size.{Size}
@@ -23,6 +22,8 @@ use Rattle.cell_tree.specs.Additions.{MayAllCome, MayCome, children_of}
 use Rattle.cell_tree.specs.Sizes.{CellState, size_at, size_of, AreSizes, IsWithin}
 use Rattle.cell_tree.specs.Trees.{Tree, IsLawfulTree}
 use Rattle.cell_tree.specs.Trials.{ComesBefore}
+use Rattle.cell_tree.proofs.SizeLaws.{child_is_lower}
+use Rattle.cell_tree.proofs.ArrivalLaws.{above_as_deep}
 use Rattle.cell_library.specs.declared.faults.LibFault.{LibFault}
 use Rattle.cell_library.specs.declared.faults.LibFault.TheVariants.{Cycle, Memory}
 use Rattle.cell_library.specs.AddedCells.{AreCellsAdded, AreFitFor, HasNearLabels, TreeRefusesAll, contents_with, held_from, names_in, new_views}
@@ -39,8 +40,8 @@ use Rattle.cell_library.proofs.ArrivingCells.{All-map, views_kept}
 use Rattle.cell_library.proofs.EditLaws.{uses_long}
 use Rattle.cell_library.proofs.FaultLaws.{first_of_or, not_first, not_full}
 use Rattle.cell_library.proofs.LimitLaws.{never_past, states_unique}
-use Rattle.cell_library.proofs.SizeLaws.{HaveChildren, depth_falls, one_size, tree_children}
-use Rattle.cell_library.proofs.UseEdits.{above_seen, seen_above, rises, state_of_view, view_of_state}
+use Rattle.cell_library.proofs.SizeLaws.{HaveChildren, one_size, tree_children}
+use Rattle.cell_library.proofs.UseEdits.{above_seen, seen_above, state_of_view, view_of_state}
 use Rattle.cell_library.proofs.ViewLaws.{length-states, names_seen}
 
 -- ---- lists of cells
@@ -130,10 +131,10 @@ below_seen view states are cell below =
 none_below_itself : (cells : List CellState) (sizes : List Size) → AreSizes cells sizes → (cell : ℕ) → TreeBelowItself cells cell → ⊥
 none_below_itself cells sizes right cell below =
     let used = below.used in
-    let falls = depth_falls (size_at sizes) used.cell used.k used.entry used.stands in
+    let falls = child_is_lower (size_at sizes) used.cell used.k used.entry used.stands in
     let user : (size_at sizes cell).depth ≡ (size_of (size_at sizes) used.cell).depth = ap (λ (s : Size). s.depth) (right cell used.cell used.is) in
     let child : (size_at sizes used.entry.1.child.0).depth ≡ (size_at sizes below.child).depth = ap (λ (k : ℕ). (size_at sizes k).depth) used.child in
-    let up = rises cells sizes right cell below.child below.above in
+    let up = above_as_deep cells sizes right cell below.child below.above in
     absurd (omega arith)
 
 -- ---- limits
@@ -322,11 +323,11 @@ module _ (library : LibraryParts) (lawful : IsLawfulLibrary library) (cells : Li
           },
           told_is ∙ ap (λ (name : List ℕ). Cycle name) (name_seen key),
         ))
-    tree_refuses_all (TooManyOf DepthLimit) refuses told told_is = inr (inr (no_cycle Depth refuses, inl (limit_passed Depth refuses, told_is)))
-    tree_refuses_all (TooManyOf ElementsLimit) refuses told told_is =
+    tree_refuses_all (Passed Depth) refuses told told_is = inr (inr (no_cycle Depth refuses, inl (limit_passed Depth refuses, told_is)))
+    tree_refuses_all (Passed Elements) refuses told told_is =
         inr (inr (no_cycle Elements refuses, inr (limit_kept Elements Depth tt refuses, inl (limit_passed Elements refuses, told_is))))
-    tree_refuses_all (TooManyOf _) refuses told told_is = absurd refuses
-    tree_refuses_all TooFar refuses told told_is =
+    tree_refuses_all TooManyUses refuses told told_is = absurd refuses
+    tree_refuses_all (Passed Hull) refuses told told_is =
         inr (inr (
           no_cycle Hull refuses,
           inr (limit_kept Hull Depth tt refuses, inr (limit_kept Hull Elements tt refuses, inl (limit_passed Hull refuses, told_is))),

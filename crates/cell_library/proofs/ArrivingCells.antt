@@ -10,6 +10,7 @@ use Rattle.std.proofs.lemmas.List.{length-map, map-append, take_more, length-tak
 use Rattle.std.proofs.lemmas.List.{get_or-drop, get_or_default}
 use Rattle.std.proofs.lemmas.List.Elements.{All-push}
 use Rattle.std.proofs.lemmas.Slice.Eq.{bytes_eq-Decides}
+use Rattle.std.proofs.lemmas.Simd.{map-map}
 use Rattle.finite_sets.specs.Lists.{In, Distinct}
 use Rattle.finite_sets.proofs.Distincts.{Distinct-append_apart}
 use Rattle.cell_bodies.specs.declared.bodies.CellBody.{CellBody}
@@ -26,7 +27,6 @@ use Rattle.cell_library.specs.Limits.{AreStatesOf}
 use Rattle.cell_library.specs.OwnBoxes.{OwnBoxIs}
 use Rattle.cell_library.specs.Seen.{cell_view, cell_views}
 use Rattle.cell_library.specs.Views.{CellView}
-use Rattle.cell_library.proofs.ContentLaws.{map-map}
 use Rattle.cell_library.proofs.ViewLaws.{one_more_seen, states_more, length-states, length-cell_views}
 
 -- ---- contents that come
@@ -86,7 +86,7 @@ pub views_are_new : (old new : List Held) (cells : List (List ℕ × CellBody)) 
 views_are_new old new cells all_uses new_is uses_is =
     let all = contents_with old cells in
     (λ i. views_from (new_is i) (length old) (uses_is i))
-    ∙ (λ i. cell_views (rest_new old cells i) (map-map (λ (cell : List ℕ × CellBody). cell.1.uses) (kept_uses all) cells i))
+    ∙ (λ i. cell_views (rest_new old cells i) (map-map (kept_uses all) (λ (cell : List ℕ × CellBody). cell.1.uses) cells i))
     ∙ views_kept (names_in all) cells
 
 -- the contents and the uses of cells that fit are fit for the tree

@@ -1,31 +1,32 @@
 -- The uses of a cell that comes, as a library has them.
-use Rattle.std.proofs.Common.{◌≡◌, ◌<◌, ℕ, zero, suc, true, false, Bool, List, [], ◌∷◌, length, map, Option, refl, sym, ap}
+use Rattle.std.proofs.Common.{◌≡◌, ◌<◌, ℕ, zero, suc, true, List, [], ◌∷◌, length, map, Option, refl, sym, ap}
 use Rattle.std.proofs.Common.{subst, ◌∙◌, arith, inl, inr, true≢false}
-use Rattle.std.specs.Prelude.{Some, None, IfSome, IsTrue, All, ℤ, slice_get, find, unwrap_or}
-use Rattle.std.specs.List.{position_or_len, list_any}
-use Rattle.std.specs.Option.{option_map}
+use Rattle.std.specs.Prelude.{Some, None, IfSome, IsTrue, All, ℤ, slice_get, unwrap_or}
+use Rattle.std.specs.List.{position_or_len}
+use Rattle.std.specs.Option.{is_some, option_map}
 use Rattle.std.specs.Str.{bytes_eq}
 use Rattle.std.proofs.lemmas.Bool.{cases_Bool, and_parts}
 use Rattle.std.proofs.lemmas.Int.{ints}
 use Rattle.std.proofs.lemmas.List.{length-map}
 use Rattle.std.proofs.lemmas.Slice.Eq.{bytes_eq-Decides}
 use Rattle.finite_sets.specs.Lists.{In, Distinct}
+use Rattle.finite_sets.proofs.Searches.{All-In}
 use Rattle.tech_model.specs.declared.raw.Label.{Label}
 use Rattle.tech_model.specs.declared.raw.TypeRec.{TypeRec}
-use Rattle.tech_model.proofs.WellFormedLaws.{All_In}
 use Rattle.geo_core.specs.declared.grids.Grid.{Grid}
 use Rattle.geo_core.specs.declared.orients.Orient.{Orient}
 use Rattle.geo_core.specs.declared.squares.Rect.{Rect}
 use Rattle.geo_core.specs.declared.transforms.Transform.{Transform}
 use Rattle.geo_core.specs.Areas.{LiesWithin}
 use Rattle.geo_core.specs.Images.{identity}
+use Rattle.geo_core.specs.Orientation.{orient_of, is_orientation}
 use Rattle.layout_model.specs.Layouts.{Layout}
 use Rattle.cell_paint.specs.Painting.{is_in_range, paint_range}
 use Rattle.cell_paint.specs.Paints.{IsSoundPaint}
 use Rattle.cell_bodies.specs.declared.bodies.CellUse.{CellUse}
 use Rattle.cell_bodies.specs.Bodies.{IsUse, ids_of}
-use Rattle.cell_bodies.specs.Numbers.{all_orients, are_displacements, are_elements, has_factors, has_sides, is_displacement}
-use Rattle.cell_bodies.specs.Numbers.{is_grid, is_label_area, is_orientation, is_placing}
+use Rattle.cell_bodies.specs.Numbers.{are_displacements, are_elements, has_sides, is_displacement}
+use Rattle.cell_bodies.specs.Numbers.{is_grid, is_label_area, is_placing}
 use Rattle.cell_bodies.proofs.GridLaws.{IsLawful-is_grid}
 use Rattle.cell_tree.specs.declared.use_tables.UseBody.{UseBody}
 use Rattle.cell_tree.specs.Additions.{MayCome}
@@ -61,13 +62,6 @@ never_lost name contents there none = name_is_new name contents none there
 
 -- ---- six numbers
 
-some_passes : (test : Orient → Bool) (orients : List Orient) → find test orients ≡ None → list_any test orients ≡ false
-some_passes test [] none = refl
-some_passes test (orient ∷ orients) none = elim (cases_Bool (test orient)) [
-  | inl passes ↦ (let found : Some orient ≡ None = rw passes at none in absurd (cc))
-  | inr fails ↦ (let rest : find test orients ≡ None = rw fails at none in rw fails (some_passes test orients rest))
-]
-
 -- what holds of the transform of six numbers by which a use may stand
 record IsPlacingOf (six : List ℤ) (placed : Transform) : Type 0 where
   is : transform_of six ≡ Some placed
@@ -86,11 +80,11 @@ placing_is (a ∷ b ∷ c ∷ d ∷ e ∷ []) is = absurd (cc)
 placing_is (a ∷ b ∷ c ∷ d ∷ e ∷ f ∷ []) is =
     let both = and_parts (are_displacements c f) (is_orientation a b d e) is in
     let near = and_parts (is_displacement c) (is_displacement f) both.0 in
-    by (find (has_factors a b d e) all_orients) refl near.0 near.1 both.1
+    by (orient_of a b d e) refl near.0 near.1 both.1
   where
-    by : (found : Option Orient) → find (has_factors a b d e) all_orients ≡ found → is_displacement c ≡ true → is_displacement f ≡ true
-        → list_any (has_factors a b d e) all_orients ≡ true → (placed : Transform) × IsPlacingOf (a ∷ b ∷ c ∷ d ∷ e ∷ f ∷ []) placed
-    by None none c_is f_is some = absurd (true≢false (sym some ∙ some_passes (has_factors a b d e) all_orients none))
+    by : (found : Option Orient) → orient_of a b d e ≡ found → is_displacement c ≡ true → is_displacement f ≡ true
+        → is_some (orient_of a b d e) ≡ true → (placed : Transform) × IsPlacingOf (a ∷ b ∷ c ∷ d ∷ e ∷ f ∷ []) placed
+    by None none c_is f_is some = absurd (true≢false (sym some ∙ ap is_some none))
     by (Some orient) found c_is f_is some = (
       record { orient = orient; dx = c; dy = f },
       record { is = ap (λ (o : Option Orient). option_map (λ (r : Orient). record { orient = r; dx = c; dy = f }) o) found; dx = c_is; dy = f_is },
@@ -138,8 +132,8 @@ uses_below names uses among k entry is =
     let there = use_there names uses k entry is in
     let used = there.0 in
     subst (λ (e : List ℕ × UseBody). IsLawfulUse e.1 × (e.1.child.0 < length names)) there.1.1 (
-      use_is_lawful names used (All_In IsUse uses used among.each there.1.0),
-      position_below used.cell names (All_In (λ (u : CellUse). In u.cell names) uses used among.children there.1.0),
+      use_is_lawful names used (All-In IsUse uses used among.each there.1.0),
+      position_below used.cell names (All-In (λ (u : CellUse). In u.cell names) uses used among.children there.1.0),
     )
 
 -- the own box of a cell that comes is lawful
@@ -154,7 +148,7 @@ new_box kinds own labels (Some box) is sound near other same =
     let holds : HoldsOwn own labels paint_range = record {
       material = sound.range;
       labels_within = λ label among.
-          let right = All_In (λ (l : Label). IsTrue (is_label_area l.area)) labels label near among in
+          let right = All-In (λ (l : Label). IsTrue (is_label_area l.area)) labels label near among in
           within label.area (and_parts (has_sides label.area) (is_in_range label.area) right).1;
     } in
     let within_range : LiesWithin box paint_range = is.least paint_range holds in

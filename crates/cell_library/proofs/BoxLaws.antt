@@ -1,14 +1,14 @@
 -- How the box of what a cell has of its own changes with its paint and its labels.
 use Rattle.std.proofs.Common.{◌≡◌, ◌⊎◌, List, [], ◌∷◌, ◌++◌, Option, refl, ap, subst, arith, inl, inr}
 use Rattle.std.specs.Prelude.{Some, None, IsNone, IfSome, ◌↔◌, pos, ◌-ℤ◌}
-use Rattle.std.proofs.lemmas.Int.{ints, clamps}
+use Rattle.std.proofs.lemmas.Int.{ints}
 use Rattle.finite_sets.specs.Lists.{In}
 use Rattle.finite_sets.proofs.Members.{In-append_left, In-push_cases, In-push}
 use Rattle.geo_core.specs.declared.squares.Square.{Square}
 use Rattle.geo_core.specs.declared.squares.Rect.{Rect}
 use Rattle.geo_core.specs.Areas.{LiesWithin, joined_rect}
 use Rattle.geo_core.specs.Covering.{Covers, IsProper}
-use Rattle.geo_core.proofs.CoveringLaws.{joined_within}
+use Rattle.geo_core.proofs.CoveringLaws.{joined_within, within_trans, within_antisym, within_joined_first, within_joined_second, within_covers}
 use Rattle.tech_model.specs.declared.raw.Label.{Label}
 use Rattle.layout_model.specs.Places.{Place}
 use Rattle.layout_model.specs.Layouts.{Layout, IsMaterial}
@@ -17,39 +17,6 @@ use Rattle.cell_tree.specs.Hulls.{IsInside}
 use Rattle.cell_library.specs.OwnBoxes.{HoldsOwn, IsOwnBox, OwnBoxIs, box_with}
 
 -- ---- rectangles
-
--- each of two rectangles lies within the one that goes round both
-joined_left : (a b : Rect) → LiesWithin a (joined_rect a b)
-joined_left a b = record {
-  right_of_xlo = omega (arith, ints, clamps);
-  above_ylo = omega (arith, ints, clamps);
-  left_of_xhi = omega (arith, ints, clamps);
-  below_yhi = omega (arith, ints, clamps);
-}
-
-joined_right : (a b : Rect) → LiesWithin b (joined_rect a b)
-joined_right a b = record {
-  right_of_xlo = omega (arith, ints, clamps);
-  above_ylo = omega (arith, ints, clamps);
-  left_of_xhi = omega (arith, ints, clamps);
-  below_yhi = omega (arith, ints, clamps);
-}
-
--- what lies within what lies within a rectangle lies within it
-pub within_trans : (a b c : Rect) → LiesWithin a b → LiesWithin b c → LiesWithin a c
-within_trans a b c one two = omega (arith, ints)
-
--- rectangles that lie within each other are one
-pub within_both : (a b : Rect) → LiesWithin a b → LiesWithin b a → a ≡ b
-within_both a b one two =
-    let xlo : a.xlo ≡ b.xlo = omega (arith, ints) in
-    let ylo : a.ylo ≡ b.ylo = omega (arith, ints) in
-    let xhi : a.xhi ≡ b.xhi = omega (arith, ints) in
-    let yhi : a.yhi ≡ b.yhi = omega (arith, ints) in
-    λ i. record { xlo = xlo i; ylo = ylo i; xhi = xhi i; yhi = yhi i }
-
-covers_larger : (core area : Rect) (square : Square) → LiesWithin core area → Covers core square → Covers area square
-covers_larger core area square within covers = omega (arith, ints)
 
 -- a rectangle whose squares an area covers lies within it
 pub filled_within : (core area : Rect) → IsProper core → ((square : Square) → Covers core square → Covers area square) → LiesWithin core area
@@ -63,7 +30,7 @@ filled_within core area proper each =
 
 holds_larger : (own : Layout) (labels : List Label) (core area : Rect) → LiesWithin core area → HoldsOwn own labels core → HoldsOwn own labels area
 holds_larger own labels core area within holds = record {
-  material = λ place is. covers_larger core area place.square within (holds.material place is);
+  material = λ place is. within_covers core area place.square within (holds.material place is);
   labels_within = λ label is. within_trans label.area core area (holds.labels_within label is) within;
 }
 
@@ -73,11 +40,11 @@ old_within own labels None area none = record {
   material = λ place is. absurd (none (inl (place, is)));
   labels_within = λ label is. absurd (none (inr (label, is)));
 }
-old_within own labels (Some box) area is = holds_larger own labels box (joined_rect box area) (joined_left box area) is.holds
+old_within own labels (Some box) area is = holds_larger own labels box (joined_rect box area) (within_joined_first box area) is.holds
 
 area_within : (box : Option Rect) (area : Rect) → LiesWithin area (box_with box area)
 area_within None area = omega (arith, ints)
-area_within (Some box) area = joined_right box area
+area_within (Some box) area = within_joined_second box area
 
 with_least : (own : Layout) (labels : List Label) (box : Option Rect) (area other : Rect) → OwnBoxIs own labels box → HoldsOwn own labels other → LiesWithin area other
     → LiesWithin (box_with box area) other
@@ -92,7 +59,7 @@ own_box_unique own labels None None one two = refl
 own_box_unique own labels None (Some b) none is = absurd (none is.some)
 own_box_unique own labels (Some a) None is none = absurd (none is.some)
 own_box_unique own labels (Some a) (Some b) one two =
-    ap (λ (box : Rect). Some box) (within_both a b (one.least b two.holds) (two.least a one.holds))
+    ap (λ (box : Rect). Some box) (within_antisym a b (one.least b two.holds) (two.least a one.holds))
 
 -- ---- what is added
 
@@ -110,7 +77,7 @@ filled_box own painted labels box area is proper keeps fills only =
       some = inl (first.0, first.1.0);
       holds = record {
         material = λ place material. elim (only place material) [
-          | inl inside ↦ covers_larger area (box_with box area) place.square (area_within box area) inside
+          | inl inside ↦ within_covers area (box_with box area) place.square (area_within box area) inside
           | inr before ↦ old.material place before
         ];
         labels_within = old.labels_within;

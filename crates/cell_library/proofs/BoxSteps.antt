@@ -5,7 +5,7 @@ use Rattle.std.specs.Str.{bytes_eq}
 use Rattle.std.proofs.lemmas.Int.{ints, clamps}
 use Rattle.std.proofs.lemmas.Bool.{and_parts}
 use Rattle.finite_sets.proofs.Members.{In-filter_source}
-use Rattle.finite_sets.proofs.Searches.{All-from_In}
+use Rattle.finite_sets.proofs.Searches.{All-from_In, All-In}
 use Rattle.geo_core.specs.declared.squares.Rect.{Rect}
 use Rattle.geo_core.specs.Areas.{LiesWithin}
 use Rattle.geo_core.specs.Covering.{Covers}
@@ -13,24 +13,24 @@ use Rattle.tech_model.specs.declared.raw.Label.{Label}
 use Rattle.tech_model.specs.declared.raw.RawTech.{RawTech}
 use Rattle.tech_model.specs.declared.raw.TypeRec.{TypeRec}
 use Rattle.tech_model.specs.WellFormed.{IsWellFormed}
-use Rattle.tech_model.proofs.WellFormedLaws.{All_In}
 use Rattle.layout_model.specs.Layouts.{Layout}
 use Rattle.cell_paint.specs.Painting.{with_erased}
 use Rattle.cell_paint.specs.Paints.{layout_of, KeepsTypes, IsSoundPaint}
 use Rattle.cell_bodies.specs.Bodies.{IsLabel}
 use Rattle.cell_bodies.specs.Numbers.{has_sides}
 use Rattle.cell_tree.specs.declared.faults.TreeFault.{TreeFault}
-use Rattle.cell_tree.specs.declared.faults.TreeFault.TheVariants.{Cycle, TooMany, OutOfRange, Memory}
-use Rattle.cell_tree.specs.declared.sizes.Dimension.TheVariants.{Hull}
+use Rattle.cell_tree.specs.declared.faults.TreeFault.TheVariants.{Cycle, TooManyUses, Passed, Memory}
+use Rattle.cell_tree.specs.declared.sizes.Dimension.TheVariants.{Depth, Elements, Hull}
 use Rattle.cell_tree.specs.Hulls.{IsInside, IsLawfulBox}
 use Rattle.cell_tree.specs.Trees.{Tree, IsLawfulTree, IsLawfulOwn, RefusesBox, WouldPass, WouldKeepWithin, cell_at, with_own}
+use Rattle.cell_tree.proofs.WholeLaws.{cell_is}
 use Rattle.cell_library.specs.Contents.{Held, held_at, without_labels, IsRepainted}
 use Rattle.cell_library.specs.Libraries.{IsLawfulHeld}
 use Rattle.cell_library.specs.OwnBoxes.{OwnBoxIs, IsOwnBox, box_with}
 use Rattle.cell_library.proofs.BoxLaws.{fewer_inside}
 use Rattle.cell_library.proofs.MaterialLaws.{erased_only}
 use Rattle.cell_library.proofs.OwnEdits.{put_there}
-use Rattle.cell_library.proofs.SizeLaws.{tree_children, children_of_changed, cell_there, fits_or_passes}
+use Rattle.cell_library.proofs.SizeLaws.{tree_children, children_of_changed, fits_or_passes}
 
 -- a box that takes an area in is lawful
 pub box_with_lawful : (old : Option Rect) (area : Rect) → IsLawfulOwn old → IsLawfulBox area → IsLawfulBox (box_with old area)
@@ -50,7 +50,7 @@ box_with_lawful (Some box) area old lawful =
 
 -- the box of a cell of the tree is lawful
 pub own_lawful : (tree : Tree) (cell : ℕ) → IsLawfulTree tree → cell < length tree.cells → IsLawfulOwn (cell_at tree.cells cell).own
-own_lawful tree cell lawful below = (lawful.each cell (cell_at tree.cells cell) (cell_there tree.cells cell below)).own
+own_lawful tree cell lawful below = (lawful.each cell (cell_at tree.cells cell) (cell_is tree.cells cell below)).own
 
 -- one box alone is lawful where it is
 pub some_lawful : (box : Rect) → IsLawfulBox box → IsLawfulOwn (Some box)
@@ -59,9 +59,11 @@ some_lawful box lawful other is = let same : box ≡ other = cc in subst IsLawfu
 -- what refuses a box is the limit of hulls
 pub box_passes : (tree : Tree) (cell : ℕ) (own : Option Rect) (fault : TreeFault) → RefusesBox tree cell own fault
     → WouldPass Hull tree cell (with_own (cell_at tree.cells cell) own)
-box_passes tree cell own OutOfRange passes = passes
+box_passes tree cell own (Passed Hull) passes = passes
 box_passes tree cell own (Cycle key) none = absurd none
-box_passes tree cell own (TooMany limit) none = absurd none
+box_passes tree cell own TooManyUses none = absurd none
+box_passes tree cell own (Passed Depth) none = absurd none
+box_passes tree cell own (Passed Elements) none = absurd none
 box_passes tree cell own Memory none = absurd none
 
 -- a box that fits isn't refused
@@ -70,7 +72,7 @@ pub box_fits : (tree : Tree) (cell : ℕ) (own : Option Rect) (fault : TreeFault
 box_fits tree cell own fault lawful below keeps refuses =
     fits_or_passes tree cell (with_own (cell_at tree.cells cell) own) Hull
     (children_of_changed tree.cells cell (with_own (cell_at tree.cells cell) own) (tree_children tree lawful)
-    (λ k entry is. tree_children tree lawful cell (cell_at tree.cells cell) (cell_there tree.cells cell below) k entry is))
+    (λ k entry is. tree_children tree lawful cell (cell_at tree.cells cell) (cell_is tree.cells cell below) k entry is))
     keeps (box_passes tree cell own fault refuses)
 
 -- ---- boxes of what is left
@@ -85,7 +87,7 @@ own_box_wide own labels box is upright = elim is.some [
   | inl material ↦ (let covers : Covers box material.0.square = is.holds.material material.0 material.1 in (omega (arith, ints), omega (arith, ints)))
   | inr label ↦ (
       let within : LiesWithin label.0.area box = is.holds.labels_within label.0 label.1 in
-      let turned = sides label.0.area (All_In (λ (l : Label). IsTrue (has_sides l.area)) labels label.0 upright label.1) in
+      let turned = sides label.0.area (All-In (λ (l : Label). IsTrue (has_sides l.area)) labels label.0 upright label.1) in
       let wide : label.0.area.xlo ≤ℤ label.0.area.xhi = turned.0 in
       let high : label.0.area.ylo ≤ℤ label.0.area.yhi = turned.1 in
       (omega (arith, ints), omega (arith, ints)))
@@ -153,7 +155,7 @@ left_upright text old new cell below unlabelled upright =
     let P : Label → Type 0 = λ label. IsTrue (has_sides label.area) in
     subst (λ (h : Held). All P h.labels) (sym (put_there old new cell (without_labels held text) below unlabelled))
     (All-from_In P (without_labels held text).labels (λ label among.
-    All_In P held.labels label upright (In-filter_source (λ l. not (bytes_eq l.text text)) label held.labels among)))
+    All-In P held.labels label upright (In-filter_source (λ l. not (bytes_eq l.text text)) label held.labels among)))
 
 pub erased_upright : (raw : RawTech) (layer : ℕ) (area : Rect) (old new : List Held) (cell : ℕ) → cell < length old → IsRepainted old new cell (with_erased raw layer area)
     → All (λ label. IsTrue (has_sides label.area)) (held_at old cell).labels → All (λ label. IsTrue (has_sides label.area)) (held_at new cell).labels

@@ -8,6 +8,7 @@ use Rattle.std.proofs.lemmas.List.{append-nil, drop_all, get_or_past}
 use Rattle.finite_sets.specs.Lists.{In}
 use Rattle.finite_sets.proofs.Members.{In-append_cases, In-append_right, In-map_source}
 use Rattle.finite_sets.proofs.Searches.{All-from_In}
+use Rattle.finite_sets.proofs.Places.{drop-slice_get}
 use Rattle.geo_core.specs.declared.orients.Orient.{Orient}
 use Rattle.geo_core.specs.declared.orients.Orient.TheVariants.{R0}
 use Rattle.geo_core.specs.declared.squares.Rect.{Rect}
@@ -22,13 +23,14 @@ use Rattle.cell_tree.specs.Sizes.{AreSizes, CellState, IsHullInRange, hulls_belo
 use Rattle.cell_tree.specs.Trees.{IsLawfulTree, Tree, cell_at}
 use Rattle.cell_tree.specs.Uses.{displacements}
 use Rattle.cell_tree.proofs.HullLaws.{inside_all}
+use Rattle.cell_tree.proofs.SizeLaws.{child_is_lower}
+use Rattle.cell_tree.proofs.WholeLaws.{cell_is}
 use Rattle.cell_library.specs.ElementBoxes.{AreElementBoxes}
 use Rattle.cell_library.specs.Libraries.{IsLawfulLibrary, LibraryParts, cells_seen, seen, uses_in}
 use Rattle.cell_library.specs.Limits.{HullIs}
 use Rattle.cell_library.specs.Views.{CellView, no_cell, view_at}
-use Rattle.cell_library.proofs.ElementCounts.{drop_at}
 use Rattle.cell_library.proofs.LimitLaws.{states_unique}
-use Rattle.cell_library.proofs.SizeLaws.{cell_there, depth_falls, hulls_same, one_size, some_depth, tree_children}
+use Rattle.cell_library.proofs.SizeLaws.{hulls_same, one_size, some_depth, tree_children}
 use Rattle.cell_library.proofs.UseEdits.{cell_below, child_below, uses_here}
 use Rattle.cell_library.proofs.ViewLaws.{length-cell_views}
 
@@ -134,7 +136,7 @@ module _ (tree : Tree) (lawful : IsLawfulTree tree) where
       → (size_at tree.sizes key).hull ≡
       round_all (option_to_list (cell_at tree.cells key).own ++ hulls_below (size_at tree.sizes) (cell_at tree.cells key).uses)
   round key below =
-      ap (λ (size : Size). size.hull) (lawful.sizes.right key (cell_at tree.cells key) (cell_there tree.cells key below))
+      ap (λ (size : Size). size.hull) (lawful.sizes.right key (cell_at tree.cells key) (cell_is tree.cells key below))
       ∙ hull_is (size_at tree.sizes) (cell_at tree.cells key)
 
   upright_to : (n key : ℕ) → key < length tree.cells → (size_at tree.sizes key).depth ≤ n → (hull : Rect)
@@ -143,11 +145,11 @@ module _ (tree : Tree) (lawful : IsLawfulTree tree) where
       let cell = cell_at tree.cells key in
       let some = some_depth (size_at tree.sizes) cell in
       let here : (size_at tree.sizes key).depth ≡ (size_of (size_at tree.sizes) cell).depth =
-      ap (λ (size : Size). size.depth) (lawful.sizes.right key cell (cell_there tree.cells key below)) in
+      ap (λ (size : Size). size.depth) (lawful.sizes.right key cell (cell_is tree.cells key below)) in
       absurd (omega arith)
   upright_to (suc n) key below deep hull is =
       let cell = cell_at tree.cells key in
-      let there = cell_there tree.cells key below in
+      let there = cell_is tree.cells key below in
       let here : (size_at tree.sizes key).depth ≡ (size_of (size_at tree.sizes) cell).depth =
       ap (λ (size : Size). size.depth) (lawful.sizes.right key cell there) in
       upright_round (option_to_list cell.own ++ hulls_below (size_at tree.sizes) cell.uses)
@@ -155,7 +157,7 @@ module _ (tree : Tree) (lawful : IsLawfulTree tree) where
         | inl own ↦ let box_is = (lawful.each key cell there).own box (own_source cell.own box own) in (box_is.wide, box_is.high)
         | inr under ↦
             let from = below_source (size_at tree.sizes) cell.uses box under in
-            let falls = depth_falls (size_at tree.sizes) cell from.k from.entry from.stands in
+            let falls = child_is_lower (size_at tree.sizes) cell from.k from.entry from.stands in
             let child : from.entry.1.child.0 < length tree.cells = tree_children tree lawful key cell there from.k from.entry from.stands in
             subst IsUpright from.is
             (upright_element from.entry.1 from.hull from.step (upright_to n from.entry.1.child.0 child (omega arith) from.hull from.has))
@@ -169,7 +171,7 @@ module _ (tree : Tree) (lawful : IsLawfulTree tree) where
       All-from_In IsLawfulBox (hulls_below (size_at tree.sizes) cell.uses) (λ box stands.
       let from = below_source (size_at tree.sizes) cell.uses box stands in
       let child : from.entry.1.child.0 < length tree.cells =
-      tree_children tree lawful key cell (cell_there tree.cells key below) from.k from.entry from.stands in
+      tree_children tree lawful key cell (cell_is tree.cells key below) from.k from.entry from.stands in
       let up : IsUpright box =
       subst IsUpright from.is
       (upright_element from.entry.1 from.hull from.step
@@ -241,7 +243,7 @@ pub boxes_on : (sizes : ℕ → Size) (uses : List (List ℕ × UseBody)) (k : �
 boxes_on sizes uses k id body so_far after all at is next =
     ap (λ (boxes : List Rect). boxes ++ hulls_below sizes (drop (k + 1) uses)) next
     ∙ append_assoc so_far (element_hulls body (sizes body.child.0).hull) (hulls_below sizes (drop (k + 1) uses))
-    ∙ ap (λ (boxes : List Rect). so_far ++ boxes) (sym (ap (hulls_below sizes) (drop_at uses k (id, body) at))) ∙ is
+    ∙ ap (λ (boxes : List Rect). so_far ++ boxes) (sym (ap (hulls_below sizes) (drop-slice_get uses k (id, body) at))) ∙ is
 
 -- the boxes of all
 pub boxes_all : (sizes : ℕ → Size) (uses : List (List ℕ × UseBody)) (k : ℕ) (so_far all : List Rect) → length uses ≤ k

@@ -8,6 +8,7 @@ use Rattle.std.specs.declared.alloc.Global.{Global}
 use Rattle.indexmap.specs.IndexMap.{set_value_at}
 use Rattle.std.proofs.lemmas.Bool.{cases_Bool, ltb-false}
 use Rattle.std.proofs.lemmas.List.{length-map, map-set, map-append, take-map, set-get_or}
+use Rattle.std.proofs.lemmas.Simd.{map-map}
 use Rattle.indexmap.specs.IndexMap.{insert_entry}
 use Rattle.tech_model.specs.declared.raw.Label.{Label}
 use Rattle.layout_model.specs.Places.{Place}
@@ -28,17 +29,12 @@ position-map f test xs =
     ap (λ (k : ℕ). cond (nat_lt k (length (map f xs))) (Some k) None) (position_or_len-map f test xs)
     ∙ ap (λ (n : ℕ). cond (nat_lt (position_or_len (λ x. test (f x)) xs) n) (Some (position_or_len (λ x. test (f x)) xs)) None) (length-map xs f)
 
--- a map of a map
-pub map-map : {X Y Z : Type 0} (f : X → Y) (g : Y → Z) (xs : List X) → map g (map f xs) ≡ map (λ x. g (f x)) xs
-map-map f g [] = refl
-map-map f g (x ∷ xs) = ap (λ ys. g (f x) ∷ ys) (map-map f g xs)
-
 -- a cell is found where its key is
 pub found_by_key : (entries : List (Vec ℕ Global × Content)) (name : List ℕ) → AreUnderNames entries
     → position (λ key. bytes_eq name key.items) (keys_of entries) ≡ position_of name (held_in entries)
 found_by_key entries name under =
     sym (position-map (λ (key : Vec ℕ Global). key.items) (bytes_eq name) (keys_of entries)) ∙ ap (position (bytes_eq name)) under
-    ∙ ap (position (bytes_eq name)) (sym (map-map held_of (λ (held : Held). held.name) (values_of entries)))
+    ∙ ap (position (bytes_eq name)) (sym (map-map (λ (held : Held). held.name) held_of (values_of entries)))
 
 -- ---- the content at a place
 
@@ -180,10 +176,10 @@ pub under_names_first : (entries : List (Vec ℕ Global × Content)) (count : �
 under_names_first entries count under =
     let key : Vec ℕ Global × Content → List ℕ = λ entry. entry.0.items in
     let name : Vec ℕ Global × Content → List ℕ = λ entry. entry.1.name in
-    map-map (λ (e : Vec ℕ Global × Content). e.0) (λ (k : Vec ℕ Global). k.items) (take count entries) ∙ sym (take-map key count entries)
-    ∙ ap (take count) (sym (map-map (λ (e : Vec ℕ Global × Content). e.0) (λ (k : Vec ℕ Global). k.items) entries) ∙ under
-    ∙ map-map (λ (e : Vec ℕ Global × Content). e.1) (λ (c : Content). c.name) entries)
-    ∙ take-map name count entries ∙ sym (map-map (λ (e : Vec ℕ Global × Content). e.1) (λ (c : Content). c.name) (take count entries))
+    map-map (λ (k : Vec ℕ Global). k.items) (λ (e : Vec ℕ Global × Content). e.0) (take count entries) ∙ sym (take-map key count entries)
+    ∙ ap (take count) (sym (map-map (λ (k : Vec ℕ Global). k.items) (λ (e : Vec ℕ Global × Content). e.0) entries) ∙ under
+    ∙ map-map (λ (c : Content). c.name) (λ (e : Vec ℕ Global × Content). e.1) entries)
+    ∙ take-map name count entries ∙ sym (map-map (λ (c : Content). c.name) (λ (e : Vec ℕ Global × Content). e.1) (take count entries))
 
 -- and they are seen as the first
 pub held_first : (entries : List (Vec ℕ Global × Content)) (count : ℕ) → held_in (take count entries) ≡ take count (held_in entries)

@@ -2,8 +2,7 @@
 use Rattle.std.proofs.Common.{◌≡◌, ◌+◌, ◌*◌, ◌<◌, ◌≤◌, ℕ, suc, ℤ, List, [], ◌∷◌, length, drop, sym, ap, subst, ◌∙◌, refl, arith}
 use Rattle.std.specs.Prelude.{Some, slice_get}
 use Rattle.std.proofs.Math.Nat.{mul-le-mul_left}
-use Rattle.std.proofs.lemmas.List.{drop_more}
-use Rattle.std.proofs.lemmas.Option.{slice_get_within, get_or_from_slice_get}
+use Rattle.finite_sets.proofs.Places.{drop-slice_get}
 use Rattle.geo_core.specs.declared.transforms.Transform.{Transform}
 use Rattle.tech_model.specs.declared.raw.RawTech.{RawTech}
 use Rattle.layout_trees.specs.CellTrees.{CellTree, Elements as TreeElements}
@@ -15,23 +14,19 @@ use Rattle.cell_tree.specs.declared.use_tables.UseBody.{UseBody}
 use Rattle.cell_tree.specs.Sizes.{CellState, elements_below, size_at, size_of}
 use Rattle.cell_tree.specs.Trees.{cell_at}
 use Rattle.cell_tree.specs.Uses.{displacements, IsLawfulUse}
+use Rattle.cell_tree.proofs.WholeLaws.{cell_is}
 use Rattle.cell_library.specs.LayoutTrees.{elements_at, elements_from, tree_to}
 use Rattle.cell_library.specs.Libraries.{LibraryParts, IsLawfulLibrary, seen}
 use Rattle.cell_library.specs.PartCounts.{element_count}
 use Rattle.cell_library.specs.Views.{LibraryView, view_at}
-use Rattle.cell_library.proofs.SizeLaws.{cell_there}
 use Rattle.cell_library.proofs.UseEdits.{cell_below, child_below, uses_here}
 
 -- ---- uses one by one
 
--- the rest of a list from a place on begins with what stands there
-pub drop_at : {X : Type 0} (xs : List X) (k : ℕ) (x : X) → slice_get xs k ≡ Some x → drop k xs ≡ x ∷ drop (k + 1) xs
-drop_at xs k x is = drop_more xs k x (slice_get_within xs k x is) ∙ ap (λ y. y ∷ drop (k + 1) xs) (get_or_from_slice_get xs k x x is)
-
 -- the elements of the uses from one on are its own and those of the later ones
 pub count_on : (uses : List (List ℕ × UseBody)) (k : ℕ) (id : List ℕ) (body : UseBody) → slice_get uses k ≡ Some (id, body)
     → element_count (drop k uses) ≡ length (displacements body.grid) + element_count (drop (k + 1) uses)
-count_on uses k id body is = ap element_count (drop_at uses k (id, body) is)
+count_on uses k id body is = ap element_count (drop-slice_get uses k (id, body) is)
 
 -- ---- no more elements than the limit
 
@@ -54,7 +49,7 @@ module _ (library : LibraryParts) (lawful : IsLawfulLibrary library) where
   elements_at_least key below =
       let state = cell_at library.tree.cells key in
       let is : (size_at library.tree.sizes key).elements ≡ suc (elements_below (size_at library.tree.sizes) state.uses) =
-      ap (λ (size : Size). size.elements) (lawful.tree.sizes.right key state (cell_there library.tree.cells key below))
+      ap (λ (size : Size). size.elements) (lawful.tree.sizes.right key state (cell_is library.tree.cells key below))
       ∙ elements_are (size_at library.tree.sizes) state in
       omega arith
 
@@ -65,7 +60,7 @@ module _ (library : LibraryParts) (lawful : IsLawfulLibrary library) where
       let sizes = size_at library.tree.sizes in
       let within : (size_at library.tree.sizes cell).elements ≤ MOST_ELEMENTS_BELOW = lawful.tree.sizes.within Elements cell in
       let is : (size_at library.tree.sizes cell).elements ≡ suc (elements_below (size_at library.tree.sizes) state.uses) =
-      ap (λ (size : Size). size.elements) (lawful.tree.sizes.right cell state (cell_there library.tree.cells cell
+      ap (λ (size : Size). size.elements) (lawful.tree.sizes.right cell state (cell_is library.tree.cells cell
       (cell_below library lawful cell below)))
       ∙ elements_are (size_at library.tree.sizes) state in
       let fewer : element_count state.uses ≤ elements_below (size_at library.tree.sizes) state.uses =
@@ -82,7 +77,7 @@ module _ (library : LibraryParts) (lawful : IsLawfulLibrary library) where
       ap (λ (uses : List (List ℕ × UseBody)). slice_get uses k) (sym (uses_here library lawful cell below)) ∙ is in
       let told =
       lawful.tree.cells.uses cell (cell_at library.tree.cells cell)
-      (cell_there library.tree.cells cell (cell_below library lawful cell below)) k (id, body) there in
+      (cell_is library.tree.cells cell (cell_below library lawful cell below)) k (id, body) there in
       let many = lawful.so_many in
       let child : body.child.0 < length library.tree.cells = told.1 in
       (told.0, omega arith)

@@ -1,10 +1,9 @@
 -- The elements of grids one by one: how far each is displaced, and the boxes of those so far.
-use Rattle.std.proofs.Common.{◌≡◌, ℕ, suc, ◌+◌, ◌*◌, ◌/◌, ◌%◌, ◌≤◌, ℤ, pos, negsuc, neg_ℤ}
+use Rattle.std.proofs.Common.{◌≡◌, ℕ, ◌+◌, ◌*◌, ◌/◌, ◌%◌, ◌≤◌, ℤ, pos, neg_ℤ}
 use Rattle.std.proofs.Common.{◌+ℤ◌, ◌*ℤ◌, ◌≤ℤ◌, ◌<ℤ◌, List, [], ◌∷◌, ◌++◌, length, map, take, append_assoc}
 use Rattle.std.proofs.Common.{to_z, of_z, w64, FitsSigned, refl, sym, ap, subst, ◌∙◌, arith}
 use Rattle.std.specs.Prelude.{None, Option, Some, slice_get}
 use Rattle.std.specs.Option.{option_map}
-use Rattle.std.proofs.Math.Nat.{mul-le-mul_right}
 use Rattle.std.proofs.lemmas.Int.{ints, to_z-of_z}
 use Rattle.std.proofs.lemmas.List.{length-map, map-append, take_all, take_more}
 use Rattle.std.proofs.lemmas.Option.{get_or_from_slice_get, same_Some, slice_get-map, slice_get_within}
@@ -20,24 +19,13 @@ use Rattle.cell_tree.specs.declared.limits.TheConstants.{SPREAD_EDGE}
 use Rattle.cell_tree.specs.declared.use_tables.UseBody.{UseBody}
 use Rattle.cell_tree.specs.Hulls.{IsPaintable, displaced, element_hulls}
 use Rattle.cell_tree.specs.Uses.{IsLawfulGrid, IsShift, displacements}
+use Rattle.cell_tree.proofs.SpreadLaws.{product_low, product_high}
 
 -- a number on its way through 64 bits
 abbrev pub kept : ℤ → ℤ
 kept z = to_z w64 (of_z w64 z)
 
 -- ---- how far elements are displaced
-
-product_low : (n : ℕ) (s : ℤ) → n ≤ MOST_ELEMENTS → IsShift s → neg_ℤ SPREAD_EDGE ≤ℤ (pos n *ℤ s)
-product_low n (pos a) few shift = omega (arith, ints)
-product_low n (negsuc a) few shift =
-    let more : n * suc a ≤ MOST_ELEMENTS * suc a = mul-le-mul_right (suc a) few in
-    let small : suc a ≤ 134217716 = omega (arith, ints, shift.low) in omega (arith, ints, more, small)
-
-product_high : (n : ℕ) (s : ℤ) → n ≤ MOST_ELEMENTS → IsShift s → (pos n *ℤ s) ≤ℤ SPREAD_EDGE
-product_high n (pos a) few shift =
-    let more : n * a ≤ MOST_ELEMENTS * a = mul-le-mul_right a few in
-    let small : a ≤ 134217716 = omega (arith, ints, shift.high) in omega (arith, ints, more, small)
-product_high n (negsuc a) few shift = omega (arith, ints)
 
 -- The displacement goes no farther than elements are spread.
 pub record IsNearStep (z : ℤ) : Type 0 where

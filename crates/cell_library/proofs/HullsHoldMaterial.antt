@@ -29,6 +29,7 @@ use Rattle.cell_tree.specs.Hulls.{displaced, element_hulls, round_all, IsInside}
 use Rattle.cell_tree.specs.Sizes.{CellState, AreSizes, hulls_below, size_at, size_of}
 use Rattle.cell_tree.specs.Trees.{cell_at}
 use Rattle.cell_tree.proofs.HullLaws.{inside_all}
+use Rattle.cell_tree.proofs.WholeLaws.{cell_is}
 use Rattle.layout_trees.specs.CellTrees.{CellTree, Elements, place_back}
 use Rattle.layout_trees.specs.CellTrees.CellTree.{cell_tree}
 use Rattle.layout_trees.specs.CellTrees.Elements.{no_elements, element_and}
@@ -39,7 +40,6 @@ use Rattle.cell_library.specs.MaterialBelow.{HasMaterial, HasMaterialBelow}
 use Rattle.cell_library.specs.OwnBoxes.{OwnBoxIs}
 use Rattle.cell_library.specs.Views.{CellView, LibraryView, no_cell, view_at}
 use Rattle.layout_trees.proofs.SetUnions.{union_some}
-use Rattle.cell_library.proofs.SizeLaws.{cell_there}
 use Rattle.cell_library.proofs.ViewLaws.{length-states, state_there}
 
 -- ---- elements
@@ -112,7 +112,7 @@ unfolding size_of
 hull_from sizes states cell area square right below stands covers =
     let found = covered_by_all (option_to_list (cell_at states cell).own ++ hulls_below (size_at sizes)
     (cell_at states cell).uses) area square stands covers in
-    (found.0, ap (λ (size : Size). size.hull) (right cell (cell_at states cell) (cell_there states cell below)) ∙ found.1, found.2)
+    (found.0, ap (λ (size : Size). size.hull) (right cell (cell_at states cell) (cell_is states cell below)) ∙ found.1, found.2)
 
 own_in_hull : (view : LibraryView) (states : List CellState) (sizes : List Size) (cell : ℕ) (place : Place) → AreStatesOf view.cells states
     → AreSizes states sizes → IsMaterial (view_at view cell).own place

@@ -28,12 +28,12 @@ uses_seen library lawful cell below =
     ∙ uses_at library.tree.cells cell (omega (arith, lawful.so_many, below))
 
 -- a state is there
-state_is : (library : LibraryParts) → IsLawfulLibrary library → (cell : ℕ) → cell < length library.contents
+pub state_is : (library : LibraryParts) → IsLawfulLibrary library → (cell : ℕ) → cell < length library.contents
     → slice_get library.tree.cells cell ≡ Some (cell_at library.tree.cells cell)
 state_is library lawful cell below = slice_get-get_or library.tree.cells cell empty_cell (omega (arith, lawful.so_many, below))
 
 -- the depth of a cell is one more than that of what it uses
-depth_is : (library : LibraryParts) → IsLawfulLibrary library → (cell : ℕ) → cell < length library.contents
+pub depth_is : (library : LibraryParts) → IsLawfulLibrary library → (cell : ℕ) → cell < length library.contents
     → (size_at library.tree.sizes cell).depth ≡ suc (depth_below (size_at library.tree.sizes) (view_at (seen library) cell).uses)
 unfolding size_of
 depth_is library lawful cell below =

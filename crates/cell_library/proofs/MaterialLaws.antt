@@ -8,7 +8,7 @@ use Rattle.std.proofs.lemmas.Bool.{cases_Bool, cases_lt, true≢false, eq-eqb, e
 use Rattle.std.proofs.lemmas.Nat.Bits.{bit_at-zero, bit_at_and, same_from_bits}
 use Rattle.finite_sets.specs.Lists.{In}
 use Rattle.finite_sets.proofs.Members.{In-index, In-get_or}
-use Rattle.finite_sets.proofs.Searches.{find-In, find-none}
+use Rattle.finite_sets.proofs.Searches.{find-In, find-none, All-In}
 use Rattle.geo_core.specs.declared.squares.Square.{Square}
 use Rattle.geo_core.specs.declared.squares.Rect.{Rect}
 use Rattle.geo_core.specs.Covering.{Covers, is_covered}
@@ -25,7 +25,7 @@ use Rattle.tech_model.specs.declared.columns.Brush.TheVariants.{Paint as PaintBr
 use Rattle.tech_model.specs.Columns.{brushed_column, painted_column, erased_column}
 use Rattle.tech_model.specs.ColumnForms.{IsOnPlane, IsColumn}
 use Rattle.tech_model.proofs.JoinedLaws.{joined-found, joined-type}
-use Rattle.tech_model.proofs.WellFormedLaws.{All_In, layer_well_formed, type_bounds}
+use Rattle.tech_model.proofs.WellFormedLaws.{layer_well_formed, type_bounds}
 use Rattle.tech_model.proofs.SetLaws.{bit_cases, or_bit_right, mark_part_bit, mark_layer, set_not_empty}
 use Rattle.tech_model.proofs.MarkLaws.{mark_of-contact, residue_set}
 use Rattle.tech_model.proofs.ColumnLaws.{changed, kept_cases, kept_is_column, bit_type, brushed_is_column}
@@ -36,6 +36,7 @@ use Rattle.cell_paint.specs.Painting.{place_at, column_at, with_paint, with_eras
 use Rattle.cell_paint.specs.Paints.{KeepsTypes}
 use Rattle.cell_paint.proofs.ColumnsLaws.{column_type}
 use Rattle.cell_paint.proofs.PaintLaws.{type_past_column, changed_inside, changed_outside}
+use Rattle.cell_paint.proofs.AgainLaws.{image_type}
 
 -- ---- one contact's mark
 
@@ -48,7 +49,7 @@ unmarked_material raw layer plane old w own below many contact on is = elim (cas
       let type = bit_type raw plane old.0 contact.bit on (mark_part_bit (parts_of raw old.0) contact.bit part) in
       let at = mark_layer raw layer old.0 contact type.0 (mark_part_bit (parts_of raw old.0) contact.bit part) in
       let image_in : In (type_number old.0) (images_of raw layer) = subst (λ (l : ℕ). In (type_number old.0) (images_of raw l)) at (w.is_image old.0 type.0) in
-      let marked = All_In (λ (t : TypeId). IsMarked raw contact.bit t.0) (images_of raw layer) (type_number old.0) contact.images image_in in
+      let marked = All-In (λ (t : TypeId). IsMarked raw contact.bit t.0) (images_of raw layer) (type_number old.0) contact.images image_in in
       let left = residue_set raw layer old.0 contact many marked in
       let found : joined raw plane (without (parts_of raw old.0) (2 ^ contact.bit)) ≡ Some marked.residue =
       ap (joined raw plane) left ∙ ap (λ (p : ℕ). joined raw p (parts_of raw marked.residue)) (sym (marked.residue_plane ∙ type.1))
@@ -131,11 +132,6 @@ painted_option raw plane old image (Some t) is w type = λ space.
 painted_material : (raw : RawTech) (plane : ℕ) (image old : TypeId) → IsWellFormed raw → IsTrue (is_type raw image.0) → (painted_by raw plane image old).0 ≢ 0
 painted_material raw plane image old w type =
     painted_option raw plane old.0 image.0 (joined raw plane (bit_or (parts_of raw old.0) (parts_of raw image.0))) refl w type
-
--- the images of a layer are types
-image_type : (raw : RawTech) (layer : ℕ) (image : TypeId) → IsWellFormed raw → layer < length raw.layers → In image (images_of raw layer) → IsTrue (is_type raw image.0)
-image_type raw layer image w below is =
-    All_In (λ (t : TypeId). IsTrue (is_type raw t.0)) (images_of raw layer) image (layer_well_formed raw layer w below).images is
 
 painted_where : (raw : RawTech) (layer plane : ℕ) (old : TypeId) (o : Option TypeId) → image_on raw layer plane ≡ o → IsWellFormed raw → layer < length raw.layers
     → old.0 ≢ 0 → (where_image (painted_by raw plane) o old).0 ≢ 0

@@ -9,22 +9,24 @@ use Rattle.std.proofs.lemmas.List.{length-set, get_or-set_same}
 use Rattle.std.proofs.lemmas.Option.{slice_get-get_or}
 use Rattle.std.proofs.lemmas.Slice.Eq.{bytes_eq-Decides}
 use Rattle.finite_sets.specs.Lists.{In, Distinct}
-use Rattle.finite_sets.proofs.Searches.{All-from_In}
-use Rattle.tech_model.proofs.WellFormedLaws.{All_In}
+use Rattle.finite_sets.proofs.Searches.{All-from_In, All-In}
+use Rattle.finite_sets.proofs.Places.{slice_get-set_other}
 use Rattle.geo_core.specs.declared.grids.Grid.{Grid}
-use Rattle.geo_core.specs.declared.limits.Limit.TheVariants.{Elements as ElementsLimit, Edits}
 use Rattle.geo_core.specs.declared.transforms.Transform.{Transform}
 use Rattle.cell_bodies.specs.Words.{is_use_id}
 use Rattle.cell_tree.specs.declared.faults.TreeFault.{TreeFault}
-use Rattle.cell_tree.specs.declared.faults.TreeFault.TheVariants.{Cycle as Crossing, TooMany as TooManyOf, OutOfRange as TooFar, Memory as NoMemory}
-use Rattle.cell_tree.specs.declared.sizes.Dimension.TheVariants.{Elements, Hull}
+use Rattle.cell_tree.specs.declared.faults.TreeFault.TheVariants.{Cycle as Crossing, TooManyUses, Passed, Memory as NoMemory}
+use Rattle.cell_tree.specs.declared.sizes.Dimension.TheVariants.{Depth, Elements, Hull}
 use Rattle.cell_tree.specs.declared.sizes.Size.{Size}
 use Rattle.cell_tree.specs.declared.use_tables.UseBody.{UseBody}
 use Rattle.cell_tree.specs.Uses.{moved_at, displacements}
 use Rattle.cell_tree.specs.Sizes.{CellState, AreSizes, size_at, size_of, elements_below, IsWithin}
 use Rattle.cell_tree.specs.Trees.{Tree, IsLawfulTree, RefusesMove, WouldPass, cell_at, with_moved}
+use Rattle.cell_tree.proofs.SizeLaws.{elements_below-alike, child_is_lower}
+use Rattle.cell_tree.proofs.WholeLaws.{cell_is}
 use Rattle.cell_library.specs.declared.faults.LibFault.{LibFault}
 use Rattle.cell_library.specs.declared.faults.LibFault.TheVariants.{OutOfRange, NoUse, TooMany}
+use Rattle.cell_library.specs.declared.limits.LibraryLimit.TheVariants.{Elements as ElementsLimit, Edits}
 use Rattle.cell_library.specs.declared.limits.TheConstants.{MOST_EDITS}
 use Rattle.cell_library.specs.CellEdits.{of_tree, IsArrayedIn, GridIsRefused, IsMovedIn, ShiftIsRefused, HasUseAt}
 use Rattle.cell_library.specs.Edits.{with_grid, moved, moved_use, with_use_changed}
@@ -34,7 +36,7 @@ use Rattle.cell_library.specs.Refusals.{FirstOf, NothingElse, EditIsRefused, Arr
 use Rattle.cell_library.specs.Views.{CellView, view_at}
 use Rattle.cell_library.proofs.FaultLaws.{first_of_map, not_first, not_full}
 use Rattle.cell_library.proofs.LimitLaws.{never_past, would_go_past, none_before}
-use Rattle.cell_library.proofs.SizeLaws.{HaveChildren, tree_children, children_of_changed, depth_falls, some_depth, cell_there, slice_get-set_other, past_last}
+use Rattle.cell_library.proofs.SizeLaws.{HaveChildren, tree_children, children_of_changed, some_depth, past_last}
 use Rattle.cell_library.proofs.SizeLaws.{none_within}
 use Rattle.cell_library.proofs.UseEdits.{uses_here, ids_differ, ids_here, child_below, cell_below, uses_edit_seen, uses_edit_lawful, uses_states}
 use Rattle.cell_library.proofs.UseLists.{has_there, changed_use, use_in, id_same}
@@ -91,13 +93,6 @@ one_passes test id (first ∷ rest) (suc k) used differ is =
 
 -- ---- a move changes no number of elements
 
-elements_alike : (s t : ℕ → Size) (uses : List (List ℕ × UseBody))
-    → ((k : ℕ) (entry : List ℕ × UseBody) → slice_get uses k ≡ Some entry → (s entry.1.child.0).elements ≡ (t entry.1.child.0).elements)
-    → elements_below s uses ≡ elements_below t uses
-elements_alike s t [] alike = refl
-elements_alike s t (entry ∷ rest) alike =
-    λ i. length (displacements entry.1.grid) * alike 0 entry refl i + elements_alike s t rest (λ k other is. alike (suc k) other is) i
-
 elements_moved : (s : ℕ → Size) (uses : List (List ℕ × UseBody)) (k : ℕ) (id : List ℕ) (used : UseBody) (placed : Transform) → slice_get uses k ≡ Some (id, used)
     → elements_below s (moved_at uses k placed used.grid) ≡ elements_below s uses
 elements_moved s [] k id used placed is = absurd (cc)
@@ -117,22 +112,22 @@ elements_stay_to : (cells : List CellState) (changed k : ℕ) (id : List ℕ) (u
     → (n key : ℕ) → key < length cells → (size_at a key).depth ≤ n → (size_at a key).elements ≡ (size_at b key).elements
 elements_stay_to cells changed k id used placed a b children there is a_right b_right zero key below deep =
     let some = some_depth (size_at a) (cell_at cells key) in
-    let here : (size_at a key).depth ≡ (size_of (size_at a) (cell_at cells key)).depth = ap (λ (s : Size). s.depth) (a_right key (cell_at cells key) (cell_there cells key below)) in
+    let here : (size_at a key).depth ≡ (size_of (size_at a) (cell_at cells key)).depth = ap (λ (s : Size). s.depth) (a_right key (cell_at cells key) (cell_is cells key below)) in
     absurd (omega arith)
 elements_stay_to cells changed k id used placed a b children there is a_right b_right (suc n) key below deep =
     let state : CellState = with_moved (cell_at cells changed) k placed used.grid in
     let cell : CellState = cell_at cells key in
-    let old = a_right key cell (cell_there cells key below) in
+    let old = a_right key cell (cell_is cells key below) in
     let here : (size_at a key).depth ≡ (size_of (size_at a) cell).depth = ap (λ (s : Size). s.depth) old in
     let same : elements_below (size_at a) cell.uses ≡ elements_below (size_at b) cell.uses =
-    elements_alike (size_at a) (size_at b) cell.uses (λ j entry at.
-    let falls = depth_falls (size_at a) cell j entry at in
+    elements_below-alike (size_at a) (size_at b) cell.uses (λ j entry at.
+    let falls = child_is_lower (size_at a) cell j entry at in
     elements_stay_to cells changed k id used placed a b children there is a_right b_right n entry.1.child.0
-    (children key cell (cell_there cells key below) j entry at) (omega arith)) in
+    (children key cell (cell_is cells key below) j entry at) (omega arith)) in
     ap (λ (s : Size). s.elements) old ∙ elements_of (size_at a) cell ∙ ap suc same ∙ elim (cases_eq key changed) [
       | inr apart ↦
           sym (elements_of (size_at b) cell)
-          ∙ ap (λ (s : Size). s.elements) (sym (b_right key cell (slice_get-set_other cells changed key state cell apart (cell_there cells key below))))
+          ∙ ap (λ (s : Size). s.elements) (sym (b_right key cell (slice_get-set_other cells changed key state apart ∙ (cell_is cells key below))))
       | inl one ↦
           let long : length (slice_set cells changed state) ≡ length cells = length-set cells changed state in
           let put : slice_get (slice_set cells changed state) key ≡ Some state =
@@ -171,7 +166,7 @@ module _ (library : LibraryParts) (lawful : IsLawfulLibrary library) (cell : ℕ
       let P : List ℕ × UseBody → Type 0 = λ entry. IsTrue (is_use_id entry.0) in
       All-from_In P (moved_at (cell_at library.tree.cells cell).uses k placed grid) (λ entry entry_in.
       let old = moved_in (cell_at library.tree.cells cell).uses k placed grid entry entry_in in
-      subst (λ (n : List ℕ). IsTrue (is_use_id n)) old.1.1 (All_In P (cell_at library.tree.cells cell).uses old.0 (ids_here library lawful cell below) old.1.0))
+      subst (λ (n : List ℕ). IsTrue (is_use_id n)) old.1.1 (All-In P (cell_at library.tree.cells cell).uses old.0 (ids_here library lawful cell below) old.1.0))
 
   has_here : (k : ℕ) (used : UseBody) → HasUseAt (cell_at library.tree.cells cell) id k used → has_id (view_at (seen library) cell).uses id ≡ true
   has_here k used has =
@@ -209,10 +204,11 @@ module _ (library : LibraryParts) (lawful : IsLawfulLibrary library) (cell : ℕ
         (FirstOf (GoesPast Hull (with_grid (seen library) cell id grid)) OutOfRange NothingElse) told
     tree_refuses_grid k used has NoMemory refuses told is = absurd refuses
     tree_refuses_grid k used has (Crossing key) refuses told is = absurd refuses
-    tree_refuses_grid k used has (TooManyOf ElementsLimit) refuses told is =
+    tree_refuses_grid k used has (Passed Elements) refuses told is =
         inl (would_go_past _ library.tree cell (with_moved (cell_at library.tree.cells cell) k used.placed (Some grid)) Elements (grid_states k used has) refuses, is)
-    tree_refuses_grid k used has (TooManyOf _) refuses told is = absurd refuses
-    tree_refuses_grid k used has TooFar refuses told is =
+    tree_refuses_grid k used has TooManyUses refuses told is = absurd refuses
+    tree_refuses_grid k used has (Passed Depth) refuses told is = absurd refuses
+    tree_refuses_grid k used has (Passed Hull) refuses told is =
         let state = with_moved (cell_at library.tree.cells cell) k used.placed (Some grid) in
         inr (
           none_before _ library.tree cell state Hull Elements lawful.tree (moved_children k used.placed (Some grid)) (grid_states k used has) tt refuses,
@@ -275,10 +271,11 @@ module _ (library : LibraryParts) (lawful : IsLawfulLibrary library) (cell : ℕ
         → FirstOf (GoesPast Hull (moved (seen library) cell id dx dy)) OutOfRange NothingElse told
     tree_refuses_move k used has NoMemory refuses told is = absurd refuses
     tree_refuses_move k used has (Crossing key) refuses told is = absurd refuses
-    tree_refuses_move k used has (TooManyOf ElementsLimit) refuses told is =
+    tree_refuses_move k used has (Passed Elements) refuses told is =
         absurd (never_more library.tree cell k id used (moved_use dx dy used).placed lawful.tree (cell_below library lawful cell below) has.is refuses)
-    tree_refuses_move k used has (TooManyOf _) refuses told is = absurd refuses
-    tree_refuses_move k used has TooFar refuses told is =
+    tree_refuses_move k used has TooManyUses refuses told is = absurd refuses
+    tree_refuses_move k used has (Passed Depth) refuses told is = absurd refuses
+    tree_refuses_move k used has (Passed Hull) refuses told is =
         inl (would_go_past _ library.tree cell (with_moved (cell_at library.tree.cells cell) k (moved_use dx dy used).placed used.grid) Hull (move_states k used has) refuses, is)
 
     far_true : (b : Bool) → b ≡ false → IsTrue (not b)

@@ -11,7 +11,6 @@ use Rattle.std.proofs.lemmas.Slice.Eq.{bytes_eq-Decides}
 use Rattle.finite_sets.specs.Lists.{In, Distinct}
 use Rattle.finite_sets.proofs.Distincts.{Distinct-push}
 use Rattle.text_scan.specs.PlainNames.{is_plain_name}
-use Rattle.geo_core.specs.declared.limits.Limit.TheVariants.{Cells}
 use Rattle.layout_model.specs.Places.{Place}
 use Rattle.layout_model.specs.Layouts.{Layout}
 use Rattle.cell_paint.specs.Paints.{layout_of}
@@ -19,6 +18,7 @@ use Rattle.cell_tree.specs.Sizes.{CellState}
 use Rattle.cell_tree.specs.Trees.{Tree, IsLawfulTree, empty_cell as empty_state}
 use Rattle.cell_library.specs.declared.faults.LibFault.{LibFault}
 use Rattle.cell_library.specs.declared.faults.LibFault.TheVariants.{CellExists, TooMany}
+use Rattle.cell_library.specs.declared.limits.LibraryLimit.TheVariants.{Cells}
 use Rattle.cell_library.specs.declared.limits.TheConstants.{MOST_CELLS}
 use Rattle.cell_library.specs.CellEdits.{IsCellAdded}
 use Rattle.cell_library.specs.Contents.{Held, position_of}

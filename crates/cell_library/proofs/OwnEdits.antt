@@ -6,8 +6,7 @@ use Rattle.std.proofs.lemmas.Bool.{and_from}
 use Rattle.std.proofs.lemmas.List.{get_or-set_same}
 use Rattle.std.proofs.lemmas.List.Elements.{All-push}
 use Rattle.finite_sets.proofs.Members.{In-filter_source}
-use Rattle.finite_sets.proofs.Searches.{All-from_In}
-use Rattle.tech_model.proofs.WellFormedLaws.{All_In}
+use Rattle.finite_sets.proofs.Searches.{All-from_In, All-In}
 use Rattle.geo_core.specs.declared.squares.Rect.{Rect}
 use Rattle.tech_model.specs.declared.raw.Label.{Label}
 use Rattle.layout_model.specs.Layouts.{Layout}
@@ -178,7 +177,7 @@ module _ (library : LibraryParts) (lawful : IsLawfulLibrary library) (cell : ℕ
           kinds = held.kinds;
           planes = held.planes;
           labels = All-from_In (IsLabel library.tech) (filter test (held_at library.contents cell).labels) (λ label label_in.
-              All_In (IsLabel library.tech) (held_at library.contents cell).labels label held.labels
+              All-In (IsLabel library.tech) (held_at library.contents cell).labels label held.labels
               (In-filter_source test label (held_at library.contents cell).labels label_in));
         })
         (lawful.ids cell empty_state (omega arith))

@@ -4,6 +4,7 @@ use Rattle.std.specs.Prelude.{Some, slice_get}
 use Rattle.std.proofs.lemmas.Bool.{cases_lt}
 use Rattle.finite_sets.specs.Lists.{In}
 use Rattle.finite_sets.proofs.Members.{In-append_cases, In-map_source}
+use Rattle.finite_sets.proofs.Places.{In-slice_get}
 use Rattle.geo_core.specs.declared.squares.Rect.{Rect}
 use Rattle.geo_core.specs.Covering.{Covers}
 use Rattle.tech_model.specs.declared.raw.RawTech.{RawTech}
@@ -119,11 +120,6 @@ parts_have_boxes boxes parts j k first second held apart has too = elim (cases_l
 ]
 
 -- ---- tiles of parts
-
-In-slice_get : {X : Type 0} (xs : List X) (k : ℕ) (x : X) → slice_get xs k ≡ Some x → In x xs
-In-slice_get [] k x is = absurd (cc)
-In-slice_get (y ∷ ys) zero x is = inl (cc)
-In-slice_get (y ∷ ys) (suc k) x is = inr (In-slice_get ys k x is)
 
 stands_in_part : (raw : RawTech) (part : ℕ) (elements : Elements) (standing : Standing) → In standing (standings_from part elements)
     → standing.part < part + length (element_parts raw elements)

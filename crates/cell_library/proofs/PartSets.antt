@@ -3,9 +3,10 @@ use Rattle.std.proofs.Common.{◌≡◌, ◌≢◌, ◌+◌, ◌<◌, ℕ, zero,
 use Rattle.std.proofs.Common.{◌∙◌, arith, inl, inr}
 use Rattle.std.specs.Prelude.{slice_get, slice_index_or, ◌==◌, ◌&&◌, if◌then◌else◌}
 use Rattle.std.specs.Int.{bit_at}
-use Rattle.std.proofs.lemmas.Bool.{cases_Bool, cases_eq, eq-eqb, eqb-true}
+use Rattle.std.proofs.lemmas.Bool.{cases_Bool, cases_eq, eq-eqb, eqb-true, and_parts}
 use Rattle.std.proofs.lemmas.Nat.Bits.{bit_at-zero, bit_at_or, bit_at-lt, same_from_bits}
 use Rattle.finite_sets.specs.Lists.{In, Lists}
+use Rattle.finite_sets.proofs.Places.{In-slice_get}
 use Rattle.geo_core.specs.declared.squares.Rect.{Rect}
 use Rattle.geo_core.specs.declared.transforms.Transform.{Transform}
 use Rattle.geo_core.specs.Covering.{Covers, is_covered}
@@ -27,7 +28,7 @@ use Rattle.cell_library.specs.VisitedTiles.{placed_cells, placed_below, AddsTile
 use Rattle.cell_library.proofs.PlacedCells.{standings_placed}
 use Rattle.cell_library.proofs.PlacedRects.{back_on, identity_back, then_identity}
 use Rattle.layout_trees.proofs.SetUnions.{union_none, none_union, union_assoc}
-use Rattle.cell_library.proofs.ToldTiles.{cut_type, In-get}
+use Rattle.cell_library.proofs.ToldTiles.{cut_type}
 
 -- ---- part tiles
 
@@ -253,10 +254,6 @@ test_passed : (test : Bool) (set i : ℕ) → bit_at (cond test set 0) i ≡ 1 �
 test_passed true set i bit = (refl, bit)
 test_passed false set i bit = absurd (let none = bit_at-zero i in omega arith)
 
-both_passed : (a b : Bool) → (a && b) ≡ true → (a ≡ true) × (b ≡ true)
-both_passed true b is = (refl, is)
-both_passed false b is = absurd (cc)
-
 -- what a tile has of a part at a place
 record TileHas (raw : RawTech) (part : ℕ) (tile : PartTile) (place : Place) (i : ℕ) : Type 0 where
   part_is : tile.part ≡ part
@@ -268,8 +265,8 @@ tile_has : (raw : RawTech) (part : ℕ) (tile : PartTile) (place : Place) (i : �
     → TileHas raw part tile place i
 tile_has raw part tile place i bit =
     let passed = test_passed (tile.part == part && place.plane == tile.plane && is_covered tile.area place.square) (parts_of raw tile.kind.0) i bit in
-    let outer = both_passed (tile.part == part && place.plane == tile.plane) (is_covered tile.area place.square) passed.0 in
-    let inner = both_passed (tile.part == part) (place.plane == tile.plane) outer.0 in
+    let outer = and_parts (tile.part == part && place.plane == tile.plane) (is_covered tile.area place.square) passed.0 in
+    let inner = and_parts (tile.part == part) (place.plane == tile.plane) outer.0 in
     record {
       part_is = eqb-true tile.part part inner.0;
       plane_is = eqb-true place.plane tile.plane inner.1;
@@ -302,7 +299,7 @@ tiles_to_cells raw cells first area tiles part place i told bit =
     let has = tile_has raw part found.0 place i found.2 in
     let is = told.each found.0 found.1 in
     let type = type_there is.standing area found.0 place is.cut has.covers has.plane_is in
-    bit_in_cells raw cells part place i is.standing (In-get cells is.k is.standing is.there)
+    bit_in_cells raw cells part place i is.standing (In-slice_get cells is.k is.standing is.there)
     (ap (λ (n : ℕ). bit_at n i) (chosen_same is.standing.part part (parts_of raw (is.standing.own.layout (place_back is.standing.placed place)))
     (sym is.cut.part ∙ has.part_is))
     ∙ ap (λ (t : ℕ). bit_at (parts_of raw t) i) type ∙ has.bit)

@@ -14,6 +14,8 @@ use Rattle.cell_tree.specs.declared.use_tables.UseBody.{UseBody}
 use Rattle.cell_tree.specs.Uses.{displacements}
 use Rattle.cell_tree.specs.Sizes.{CellState, AreSizes, size_at, size_of, elements_below}
 use Rattle.cell_tree.specs.Trees.{cell_at}
+use Rattle.cell_tree.proofs.SizeLaws.{child_is_lower}
+use Rattle.cell_tree.proofs.WholeLaws.{cell_is}
 use Rattle.layout_trees.specs.CellTrees.{CellTree, Elements, Standing, under, place_back, standings, standings_from}
 use Rattle.layout_trees.specs.CellTrees.CellTree.{cell_tree}
 use Rattle.layout_trees.specs.CellTrees.Elements.{no_elements, element_and}
@@ -24,7 +26,7 @@ use Rattle.cell_library.specs.Views.{LibraryView, view_at}
 use Rattle.cell_library.specs.VisitedTiles.{placed_cells, placed_below, HasThere, AreOutside}
 use Rattle.cell_library.proofs.HullsHoldMaterial.{hull_holds_material, state_uses}
 use Rattle.cell_library.proofs.PlacedRects.{back_on, composed_assoc, identity_then, then_identity}
-use Rattle.cell_library.proofs.SizeLaws.{HaveChildren, cell_there, depth_falls, some_depth}
+use Rattle.cell_library.proofs.SizeLaws.{HaveChildren, some_depth}
 
 -- ---- material
 
@@ -110,16 +112,16 @@ pub cells_counted : (view : LibraryView) (states : List CellState) (sizes : List
     → cells_in (tree_to view depth cell) ≡ (size_at sizes cell).elements
 cells_counted view states sizes are right children zero cell below deep =
     let state = cell_at states cell in
-    let there = cell_there states cell below in
+    let there = cell_is states cell below in
     let size : size_at sizes cell ≡ size_of (size_at sizes) state = right cell state there in
     let depths : (size_at sizes cell).depth ≡ (size_of (size_at sizes) state).depth = ap (λ (s : Size). s.depth) size in
     sym (ap (λ (s : Size). s.elements) size ∙ size_elements (size_at sizes) state
     ∙ ap suc (no_uses state.uses (λ k entry is.
     let child = children cell state there k entry is in
-    let falls = depth_falls (size_at sizes) state k entry is in
+    let falls = child_is_lower (size_at sizes) state k entry is in
     let some = some_depth (size_at sizes) (cell_at states entry.1.child.0) in
     let its : (size_at sizes entry.1.child.0).depth ≡ (size_of (size_at sizes) (cell_at states entry.1.child.0)).depth =
-    ap (λ (s : Size). s.depth) (right entry.1.child.0 (cell_at states entry.1.child.0) (cell_there states entry.1.child.0 child)) in
+    ap (λ (s : Size). s.depth) (right entry.1.child.0 (cell_at states entry.1.child.0) (cell_is states entry.1.child.0 child)) in
     omega (arith, falls, some, its, depths, deep))))
   where
     no_uses : (uses : List (List ℕ × UseBody)) → ((k : ℕ) (entry : List ℕ × UseBody) → slice_get uses k ≡ Some entry → ⊥)
@@ -128,14 +130,14 @@ cells_counted view states sizes are right children zero cell below deep =
     no_uses (entry ∷ rest) none = absurd (none 0 entry refl)
 cells_counted view states sizes are right children (suc depth) cell below deep =
     let state = cell_at states cell in
-    let there = cell_there states cell below in
+    let there = cell_is states cell below in
     let size : size_at sizes cell ≡ size_of (size_at sizes) state = right cell state there in
     let depths : (size_at sizes cell).depth ≡ (size_of (size_at sizes) state).depth = ap (λ (s : Size). s.depth) size in
     let uses : state.uses ≡ (view_at view cell).uses = state_uses view.cells states cell are below in
     let counted : cells_below (elements_from (tree_to view depth) state.uses) ≡ elements_below (size_at sizes) state.uses =
     cells_below-from (tree_to view depth) (size_at sizes) state.uses (λ k entry is.
     let child = children cell state there k entry is in
-    let falls = depth_falls (size_at sizes) state k entry is in
+    let falls = child_is_lower (size_at sizes) state k entry is in
     cells_counted view states sizes are right children depth entry.1.child.0 child (omega (arith, falls, depths, deep))) in
     ap (λ (u : List (List ℕ × UseBody)). suc (cells_below (elements_from (tree_to view depth) u))) (sym uses)
     ∙ ap suc counted ∙ sym (ap (λ (s : Size). s.elements) size ∙ size_elements (size_at sizes) state)

@@ -1,5 +1,5 @@
 -- Sizes of cells: cells have one list of sizes, and the size of a cell rests on those below it alone.
-use Rattle.std.proofs.Common.{◌≡◌, ◌≢◌, ◌+◌, ◌<◌, ◌≤◌, ℕ, zero, suc, max, List, [], ◌∷◌, ◌++◌, length, get_or, refl, sym, ap, subst, ◌∙◌, arith, inl}
+use Rattle.std.proofs.Common.{◌≡◌, ◌+◌, ◌<◌, ◌≤◌, ℕ, zero, suc, max, List, [], ◌∷◌, ◌++◌, length, get_or, refl, sym, ap, subst, ◌∙◌, arith, inl}
 use Rattle.std.proofs.Common.{inr}
 use Rattle.std.specs.Prelude.{Some, slice_get, slice_set, ◌*◌}
 use Rattle.std.specs.Option.{option_to_list}
@@ -8,6 +8,7 @@ use Rattle.std.proofs.lemmas.List.{length-set, get_or_past, get_or-set_same, get
 use Rattle.std.proofs.lemmas.Option.{slice_get-get_or, slice_get_within, get_or_from_slice_get}
 use Rattle.finite_sets.specs.Chain.{stay}
 use Rattle.finite_sets.proofs.Chains.{Chain-push}
+use Rattle.finite_sets.proofs.Places.{slice_get-set_other}
 use Rattle.cell_tree.specs.declared.sizes.Dimension.{Dimension}
 use Rattle.cell_tree.specs.declared.sizes.Dimension.TheVariants.{Depth, Elements, Hull}
 use Rattle.cell_tree.specs.declared.sizes.Size.{Size}
@@ -16,7 +17,9 @@ use Rattle.cell_tree.specs.Uses.{displacements}
 use Rattle.cell_tree.specs.Hulls.{element_hulls, round_all}
 use Rattle.cell_tree.specs.Sizes.{CellState, size_at, no_size, size_of, hulls_below, elements_below, depth_below, AreSizes, IsWithin}
 use Rattle.cell_tree.specs.Cells.{IsAbove}
-use Rattle.cell_tree.specs.Trees.{cell_at, empty_cell, Tree, IsLawfulTree, WouldPass, WouldKeepWithin}
+use Rattle.cell_tree.specs.Trees.{cell_at, Tree, IsLawfulTree, WouldPass, WouldKeepWithin}
+use Rattle.cell_tree.proofs.SizeLaws.{child_is_lower}
+use Rattle.cell_tree.proofs.WholeLaws.{cell_is}
 
 -- ---- what the size of a cell rests on
 
@@ -51,21 +54,6 @@ size_same s t cell agree = λ i. record {
   depth = suc (depth_same s t cell.uses agree i);
 }
 
-child_depth : (s : ℕ → Size) (uses : List (List ℕ × UseBody)) (k : ℕ) (entry : List ℕ × UseBody) → slice_get uses k ≡ Some entry
-    → (s entry.1.child.0).depth ≤ depth_below s uses
-child_depth s [] k entry is = absurd (cc)
-child_depth s (first ∷ rest) zero entry is =
-    let same : first ≡ entry = cc in
-    let here : (s first.1.child.0).depth ≡ (s entry.1.child.0).depth = ap (λ (e : List ℕ × UseBody). (s e.1.child.0).depth) same in
-    omega arith
-child_depth s (first ∷ rest) (suc k) entry is = let later = child_depth s rest k entry is in omega arith
-
--- a child is less deep than its parent
-pub depth_falls : (s : ℕ → Size) (cell : CellState) (k : ℕ) (entry : List ℕ × UseBody) → slice_get cell.uses k ≡ Some entry
-    → (s entry.1.child.0).depth < (size_of s cell).depth
-unfolding size_of
-depth_falls s cell k entry is = let below = child_depth s cell.uses k entry is in omega arith
-
 -- each cell has some depth
 pub some_depth : (s : ℕ → Size) (cell : CellState) → 1 ≤ (size_of s cell).depth
 unfolding size_of
@@ -79,10 +67,6 @@ pub record IsCommon (cells others : List CellState) (P : ℕ → Type 0) : Type 
       → P entry.1.child.0 × (entry.1.child.0 < length cells)
   pub same : (key : ℕ) (cell : CellState) → slice_get cells key ≡ Some cell → P key → slice_get others key ≡ Some cell
 
--- the cell at a position in the list
-pub cell_there : (cells : List CellState) (key : ℕ) → key < length cells → slice_get cells key ≡ Some (cell_at cells key)
-cell_there cells key below = slice_get-get_or cells key empty_cell below
-
 sizes_agree_to : (cells others : List CellState) (a b : List Size) (P : ℕ → Type 0) → AreSizes cells a → AreSizes others b → IsCommon cells others P
     → (n key : ℕ) (cell : CellState) → slice_get cells key ≡ Some cell → P key → (size_at a key).depth ≤ n → size_at a key ≡ size_at b key
 sizes_agree_to cells others a b P a_right b_right common zero key cell is has deep =
@@ -93,9 +77,9 @@ sizes_agree_to cells others a b P a_right b_right common (suc n) key cell is has
     a_right key cell is
     ∙ size_same (size_at a) (size_at b) cell (λ k entry at.
     let child = common.closed key cell is has k entry at in
-    let falls = depth_falls (size_at a) cell k entry at in
+    let falls = child_is_lower (size_at a) cell k entry at in
     let here : (size_at a key).depth ≡ (size_of (size_at a) cell).depth = ap (λ (s : Size). s.depth) (a_right key cell is) in
-    sizes_agree_to cells others a b P a_right b_right common n entry.1.child.0 (cell_at cells entry.1.child.0) (cell_there cells entry.1.child.0 child.1) child.0
+    sizes_agree_to cells others a b P a_right b_right common n entry.1.child.0 (cell_at cells entry.1.child.0) (cell_is cells entry.1.child.0 child.1) child.0
     (omega arith))
     ∙ sym (b_right key cell (common.same key cell is has))
 
@@ -103,7 +87,7 @@ sizes_agree_to cells others a b P a_right b_right common (suc n) key cell is has
 pub sizes_agree : (cells others : List CellState) (a b : List Size) (P : ℕ → Type 0) → AreSizes cells a → AreSizes others b → IsCommon cells others P
     → (key : ℕ) → key < length cells → P key → size_at a key ≡ size_at b key
 sizes_agree cells others a b P a_right b_right common key below has =
-    sizes_agree_to cells others a b P a_right b_right common (size_at a key).depth key (cell_at cells key) (cell_there cells key below) has (omega arith)
+    sizes_agree_to cells others a b P a_right b_right common (size_at a key).depth key (cell_at cells key) (cell_is cells key below) has (omega arith)
 
 -- the children of all uses are cells of the list
 abbrev pub HaveChildren : List CellState → Type 0
@@ -120,14 +104,6 @@ one_size cells a b children a_right b_right key below =
 
 -- ---- one cell changed
 
--- another place of a list stays
-pub slice_get-set_other : {X : Type 0} (xs : List X) (i k : ℕ) (x y : X) → k ≢ i → slice_get xs k ≡ Some y → slice_get (slice_set xs i x) k ≡ Some y
-slice_get-set_other [] i k x y apart is = absurd (cc)
-slice_get-set_other (z ∷ zs) zero zero x y apart is = absurd (apart refl)
-slice_get-set_other (z ∷ zs) (suc i) zero x y apart is = is
-slice_get-set_other (z ∷ zs) zero (suc k) x y apart is = is
-slice_get-set_other (z ∷ zs) (suc i) (suc k) x y apart is = slice_get-set_other zs i k x y (λ same. apart (ap suc same)) is
-
 -- the size of a cell that does not stand above the changed one stays
 pub others_stay : (cells : List CellState) (changed : ℕ) (state : CellState) (a b : List Size) → HaveChildren cells → AreSizes cells a
     → AreSizes (slice_set cells changed state) b → (key : ℕ) → key < length cells → (IsAbove cells changed key → ⊥) → size_at a key ≡ size_at b key
@@ -138,7 +114,7 @@ others_stay cells changed state a b children a_right b_right key below apart =
         λ above. has (Chain-push above (record { cell = cell; is = is; k = k; entry = entry; stands = at; child = refl })),
         children key cell is k entry at,
       );
-      same = λ key cell is has. slice_get-set_other cells changed key state cell (λ here. has (subst (IsAbove cells changed) (sym here) stay)) is;
+      same = λ key cell is has. slice_get-set_other cells changed key state (λ here. has (subst (IsAbove cells changed) (sym here) stay)) ∙ is;
     }) key below apart
 
 -- the children of all uses are cells, where one cell changed and its children are

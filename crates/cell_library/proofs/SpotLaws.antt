@@ -2,7 +2,7 @@
 use Rattle.std.proofs.Common.{◌≡◌, ◌+◌, ◌*◌, ℕ, zero, suc, ℤ, List, [], ◌∷◌, ◌++◌, length, take, drop, refl, sym, ap, subst, ◌∙◌, arith, inl, inr}
 use Rattle.std.proofs.Common.{append_assoc}
 use Rattle.std.specs.Prelude.{Some, slice_get}
-use Rattle.std.proofs.lemmas.List.{length-append}
+use Rattle.std.proofs.lemmas.List.{length-append, append-nil, drop_all}
 use Rattle.finite_sets.specs.Lists.{In}
 use Rattle.finite_sets.proofs.Members.{In-append_cases}
 use Rattle.geo_core.specs.declared.squares.Rect.{Rect}
@@ -23,19 +23,11 @@ use Rattle.cell_library.proofs.ToldTiles.{adds_none, adds_both}
 
 -- ---- lists
 
-append_none : {X : Type 0} (xs : List X) → xs ++ [] ≡ xs
-append_none [] = refl
-append_none (x ∷ xs) = ap (λ ys. x ∷ ys) (append_none xs)
-
 -- what is left of a list from a place on, where something stands there
 pub drop-get : {X : Type 0} (xs : List X) (i : ℕ) (x : X) → slice_get xs i ≡ Some x → drop i xs ≡ x ∷ drop (suc i) xs
 drop-get [] i x is = absurd (cc)
 drop-get (y ∷ ys) zero x is = ap (λ z. z ∷ ys) (let e : y ≡ x = cc in e)
 drop-get (y ∷ ys) (suc i) x is = drop-get ys i x is
-
-drop_all : {X : Type 0} (xs : List X) → drop (length xs) xs ≡ []
-drop_all [] = refl
-drop_all (x ∷ xs) = drop_all xs
 
 -- ---- what is kept
 
@@ -70,7 +62,7 @@ sifted_in P (first ∷ all) kept spot (inr (others, same, is)) stands = elim (su
 
 -- no spots were added to those of none
 pub spots_none : (P : Spot → Type 0) (old : List Spot) → AddsSpots P [] old old
-spots_none P old = record { kept = []; is = sym (append_none old); sifted = refl }
+spots_none P old = record { kept = []; is = sym (append-nil old); sifted = refl }
 
 -- spots were added twice
 pub spots_both : (P : Spot → Type 0) (all more old mid new : List Spot) → AddsSpots P all old mid → AddsSpots P more mid new
@@ -87,7 +79,7 @@ spots_one P spot old new is = record { kept = spot ∷ []; is = is; sifted = inr
 
 -- spots that can be dropped were
 pub spots_dropped : (P : Spot → Type 0) (all old : List Spot) → ((spot : Spot) → In spot all → P spot) → AddsSpots P all old old
-spots_dropped P all old each = record { kept = []; is = sym (append_none old); sifted = dropped all each }
+spots_dropped P all old each = record { kept = []; is = sym (append-nil old); sifted = dropped all each }
   where
     dropped : (all : List Spot) → ((spot : Spot) → In spot all → P spot) → AreSiftedBy P all []
     dropped [] each = refl
@@ -276,7 +268,7 @@ spots_from-more step sizes outer (first ∷ uses) zero entry part number is =
     let same : first ≡ entry = cc in
     let parts : part ≡ part + 0 * step = omega arith in
     let numbers : number ≡ number + 0 = omega arith in
-    append_none (spots_at step (sizes first.1.child.0).elements outer first.1 (displacements first.1.grid) part number)
+    append-nil (spots_at step (sizes first.1.child.0).elements outer first.1 (displacements first.1.grid) part number)
     ∙ (λ i. spots_at step (sizes (same i).1.child.0).elements outer (same i).1 (displacements (same i).1.grid) (parts i) (numbers i))
 spots_from-more step sizes outer (first ∷ uses) (suc k) entry part number is =
     let n = length (displacements first.1.grid) in
@@ -319,7 +311,7 @@ told_next trees area own first all kept i j next old mid now told after is numbe
     let long : length ((own ∷ before) ++ between) ≡ suc (length before) + length between = length-append (own ∷ before) between in
     let cells : ((own ∷ before) ++ between) ++ here ≡ own ∷ cells_at trees (told.done ++ found.skipped ++ next ∷ []) =
     ap (λ (xs : List Standing). own ∷ (xs ++ here)) (sym (cells_at-append trees told.done found.skipped))
-    ∙ ap (λ (xs : List Standing). own ∷ (cells_at trees (told.done ++ found.skipped) ++ xs)) (sym (append_none here))
+    ∙ ap (λ (xs : List Standing). own ∷ (cells_at trees (told.done ++ found.skipped) ++ xs)) (sym (append-nil here))
     ∙ ap (λ (xs : List Standing). own ∷ xs) (sym (cells_at-append trees (told.done ++ found.skipped) (next ∷ []))) in
     record {
       done = told.done ++ found.skipped ++ next ∷ [];
@@ -339,7 +331,7 @@ pub told_end : (trees : ℕ → CellTree) (area : Rect) (own : Standing) (first 
 told_end trees area own first all kept i old now told end =
     let before = cells_at trees told.done in
     let after = cells_at trees told.rest in
-    let none : drop i kept ≡ [] = ap (λ (n : ℕ). drop n kept) end ∙ drop_all kept in
+    let none : drop i kept ≡ [] = ap (λ (n : ℕ). drop n kept) end ∙ drop_all (length kept) kept (omega arith) in
     let outside = none_kept trees area told.rest (subst (AreSifted trees area told.rest) none told.left) in
     let cells : (own ∷ before) ++ after ≡ own ∷ cells_at trees all =
     ap (λ (xs : List Standing). own ∷ xs) (sym (cells_at-append trees told.done told.rest) ∙ ap (cells_at trees) (sym told.is)) in

@@ -1,17 +1,18 @@
 -- Lists of the tiles of standing cells.
-use Rattle.std.proofs.Common.{◌≡◌, ◌⊎◌, ◌+◌, ℕ, zero, suc, List, [], ◌∷◌, ◌++◌, length, Some, refl, sym, ap, subst, ◌∙◌, arith, inl, inr}
+use Rattle.std.proofs.Common.{◌≡◌, ◌+◌, ℕ, List, [], ◌++◌, length, refl, sym, ap, subst, ◌∙◌, arith, inl, inr}
 use Rattle.std.proofs.Common.{append_assoc}
 use Rattle.std.specs.Prelude.{slice_get}
-use Rattle.std.proofs.lemmas.Int.{ints}
 use Rattle.std.proofs.lemmas.Option.{slice_get_within}
+use Rattle.std.proofs.lemmas.List.{append-nil}
 use Rattle.finite_sets.specs.Lists.{In}
 use Rattle.finite_sets.proofs.Members.{In-append_left, In-append_right, In-append_cases}
 use Rattle.finite_sets.proofs.Distincts.{Distinct-append}
+use Rattle.finite_sets.proofs.Places.{In-slice_get, slice_get-append_left, slice_get-append_right, slice_get-append_cases}
 use Rattle.geo_core.specs.declared.squares.Square.{Square}
 use Rattle.geo_core.specs.declared.squares.Rect.{Rect}
-use Rattle.geo_core.specs.Covering.{Covers, IsProper}
+use Rattle.geo_core.specs.Covering.{Covers}
 use Rattle.geo_core.specs.Images.{image, inverted, rect_image}
-use Rattle.geo_core.proofs.CoveringLaws.{covers_first, covers_second}
+use Rattle.geo_core.proofs.CoveringLaws.{covers_first, covers_second, corner_covered}
 use Rattle.geo_core.proofs.ImageLaws.{image-forth, rect_image-covered}
 use Rattle.geo_core.proofs.StripSets.{strip_within}
 use Rattle.layout_model.specs.Places.{Place}
@@ -20,34 +21,6 @@ use Rattle.cell_library.specs.declared.part_tiles.PartTile.{PartTile}
 use Rattle.cell_library.specs.VisitedTiles.{IsCutOf, HasThere, AreTold, AddsTiles, AreOutside}
 
 -- ---- places in lists
-
--- a place of the first of two lists
-pub get-append_left : {X : Type 0} (xs ys : List X) (k : ℕ) (x : X) → slice_get xs k ≡ Some x → slice_get (xs ++ ys) k ≡ Some x
-get-append_left [] ys k x is = absurd (cc)
-get-append_left (y ∷ xs) ys zero x is = is
-get-append_left (y ∷ xs) ys (suc k) x is = get-append_left xs ys k x is
-
--- a place of the second
-pub get-append_right : {X : Type 0} (xs ys : List X) (k : ℕ) (x : X) → slice_get ys k ≡ Some x → slice_get (xs ++ ys) (length xs + k) ≡ Some x
-get-append_right [] ys k x is = ap (slice_get ys) (let e : 0 + k ≡ k = omega arith in e) ∙ is
-get-append_right (y ∷ xs) ys k x is = ap (slice_get (y ∷ (xs ++ ys))) (let e : suc (length xs) + k ≡ suc (length xs + k) =
-    omega arith in e) ∙ get-append_right xs ys k x is
-
--- a place of both lists is one of either
-pub get-append_cases : {X : Type 0} (xs ys : List X) (k : ℕ) (x : X) → slice_get (xs ++ ys) k ≡ Some x
-    → (slice_get xs k ≡ Some x) ⊎ ((j : ℕ) × (slice_get ys j ≡ Some x) × (k ≡ length xs + j))
-get-append_cases [] ys k x is = inr (k, is, omega arith)
-get-append_cases (y ∷ xs) ys zero x is = inl is
-get-append_cases (y ∷ xs) ys (suc k) x is = elim (get-append_cases xs ys k x is) [
-  | inl first ↦ inl first
-  | inr second ↦ (let same : k ≡ length xs + second.0 = second.2 in inr (second.0, second.1, omega arith))
-]
-
--- what stands at a place of a list stands in it
-pub In-get : {X : Type 0} (xs : List X) (k : ℕ) (x : X) → slice_get xs k ≡ Some x → In x xs
-In-get [] k x is = absurd (cc)
-In-get (y ∷ ys) zero x is = inl (cc)
-In-get (y ∷ ys) (suc k) x is = inr (In-get ys k x is)
 
 -- ---- squares of tiles
 
@@ -62,14 +35,6 @@ cut_type standing area tile square is covers =
     rect_image-covered standing.placed is.strip back (subst (Covers (rect_image standing.placed is.strip)) (sym
     (image-forth standing.placed square)) in_image) in
     strip_within (λ s. standing.own.layout (record { plane = tile.plane; square = s }) ≡ tile.kind.0) is.strip is.is_strip back.x back.y in_strip
-
-corner_covered : (area : Rect) → IsProper area → Covers area (record { x = area.xlo; y = area.ylo })
-corner_covered area proper = record {
-  right_of_xlo = omega (arith, ints);
-  left_of_xhi = proper.wide;
-  above_ylo = omega (arith, ints);
-  below_yhi = proper.high;
-}
 
 -- a tile of a standing cell tells of a place in the area where the cell has something
 pub cut_has_place : (standing : Standing) (area : Rect) (tile : PartTile) → IsCutOf standing area tile
@@ -92,8 +57,8 @@ told_none cells first area outside = record {
   each = λ tile none. absurd none;
   every = λ tile is.
       let place = cut_has_place is.standing area tile is.cut in
-      outside is.standing (In-get cells is.k is.standing is.there) place.0 place.1 place.2;
-  whole = λ k standing there place covers has. absurd (outside standing (In-get cells k standing there) place covers has);
+      outside is.standing (In-slice_get cells is.k is.standing is.there) place.0 place.1 place.2;
+  whole = λ k standing there place covers has. absurd (outside standing (In-slice_get cells k standing there) place covers has);
 }
 
 -- the tiles of two lists of standing cells, one after the other
@@ -110,7 +75,7 @@ told_append cells others first next area tiles more one after two = record {
   each = λ tile is. elim (In-append_cases tile tiles more is) [
     | inl a ↦ (
         let p = one.each tile a in
-        record { k = p.k; at = p.at; standing = p.standing; there = get-append_left cells others p.k p.standing p.there; cut = p.cut })
+        record { k = p.k; at = p.at; standing = p.standing; there = slice_get-append_left cells others p.k p.standing p.there; cut = p.cut })
     | inr b ↦ (
         let q = two.each tile b in
         let q_at = q.at in
@@ -118,25 +83,24 @@ told_append cells others first next area tiles more one after two = record {
           k = length cells + q.k;
           at = omega (arith, q_at, after);
           standing = q.standing;
-          there = get-append_right cells others q.k q.standing q.there;
+          there = slice_get-append_right cells others q.k (length cells + q.k) refl ∙ q.there;
           cut = q.cut;
         })
   ];
-  every = λ tile is. elim (get-append_cases cells others is.k is.standing is.there) [
+  every = λ tile is. elim (slice_get-append_cases cells others is.k is.standing is.there) [
     | inl a ↦ In-append_left tile tiles more (one.every tile (record { k = is.k; at = is.at; standing = is.standing; there = a; cut = is.cut }))
     | inr b ↦ (
         let is_at = is.at in
-        let same = b.2 in
+        let same = b.1 in
         In-append_right tile tiles more (two.every tile (record {
           k = b.0;
           at = omega (arith, is_at, after, same);
           standing = is.standing;
-          there =
-              b.1;
+          there = b.2;
           cut = is.cut;
         })))
   ];
-  whole = λ k standing there place covers has. elim (get-append_cases cells others k standing there) [
+  whole = λ k standing there place covers has. elim (slice_get-append_cases cells others k standing there) [
     | inl a ↦ (
         let found = one.whole k standing a place covers has in
         record {
@@ -144,13 +108,12 @@ told_append cells others first next area tiles more one after two = record {
           is_in = In-append_left found.tile tiles more found.is_in;
           at = found.at;
           plane = found.plane;
-          covers =
-              found.covers;
+          covers = found.covers;
         })
     | inr b ↦ (
-        let found = two.whole b.0 standing b.1 place covers has in
+        let found = two.whole b.0 standing b.2 place covers has in
         let found_at = found.at in
-        let same = b.2 in
+        let same = b.1 in
         record {
           tile = found.tile;
           is_in = In-append_right found.tile tiles more found.is_in;
@@ -164,11 +127,7 @@ told_append cells others first next area tiles more one after two = record {
 -- no tiles were added
 pub adds_none : (cells : List Standing) (first : ℕ) (area : Rect) (tiles : List PartTile) → AreOutside area cells
     → AddsTiles cells first area tiles tiles
-adds_none cells first area tiles outside = record { tiles = []; is = sym (append_none tiles); told = told_none cells first area outside }
-  where
-    append_none : (xs : List PartTile) → xs ++ [] ≡ xs
-    append_none [] = refl
-    append_none (x ∷ xs) = ap (λ ys. x ∷ ys) (append_none xs)
+adds_none cells first area tiles outside = record { tiles = []; is = sym (append-nil tiles); told = told_none cells first area outside }
 
 -- tiles were added twice
 pub adds_both : (cells others : List Standing) (first next : ℕ) (area : Rect) (old mid new : List PartTile) → AddsTiles cells first area old mid

@@ -9,17 +9,15 @@ use Rattle.std.proofs.lemmas.List.{set-get_or, length-set, get_or-set_same}
 use Rattle.std.proofs.lemmas.Option.{slice_get-get_or}
 use Rattle.std.proofs.lemmas.List.Elements.{All-push}
 use Rattle.finite_sets.specs.Lists.{Distinct}
-use Rattle.finite_sets.specs.Chain.{stay, go}
 use Rattle.finite_sets.proofs.Chains.{Chain-weaker}
 use Rattle.finite_sets.proofs.Members.{In-filter_source}
-use Rattle.finite_sets.proofs.Searches.{All-from_In}
-use Rattle.tech_model.proofs.WellFormedLaws.{All_In}
-use Rattle.geo_core.specs.declared.limits.Limit.TheVariants.{Uses as UsesLimit, Depth as DepthLimit, Elements as ElementsLimit}
+use Rattle.finite_sets.proofs.Searches.{All-from_In, All-In}
+use Rattle.finite_sets.proofs.Places.{slice_get-append_left, slice_get-push_new, slice_get-set_other}
 use Rattle.geo_core.specs.declared.transforms.Transform.{Transform}
 use Rattle.cell_paint.specs.Paints.{layout_of}
 use Rattle.cell_bodies.specs.Words.{is_use_id}
 use Rattle.cell_tree.specs.declared.faults.TreeFault.{TreeFault}
-use Rattle.cell_tree.specs.declared.faults.TreeFault.TheVariants.{Cycle as Crossing, TooMany as TooManyOf, OutOfRange as TooFar, Memory as NoMemory}
+use Rattle.cell_tree.specs.declared.faults.TreeFault.TheVariants.{Cycle as Crossing, TooManyUses, Passed, Memory as NoMemory}
 use Rattle.cell_tree.specs.declared.limits.TheConstants.{MOST_USES}
 use Rattle.cell_tree.specs.declared.sizes.Dimension.TheVariants.{Depth, Elements, Hull}
 use Rattle.cell_tree.specs.declared.sizes.Size.{Size}
@@ -27,8 +25,12 @@ use Rattle.cell_tree.specs.declared.use_tables.UseBody.{UseBody}
 use Rattle.cell_tree.specs.Cells.{Uses, IsAbove}
 use Rattle.cell_tree.specs.Sizes.{CellState, size_at, size_of, AreSizes}
 use Rattle.cell_tree.specs.Trees.{Tree, IsLawfulTree, IsEdited, RefusesUse, cell_at, with_placed, without_use}
+use Rattle.cell_tree.proofs.SizeLaws.{child_is_lower}
+use Rattle.cell_tree.proofs.ArrivalLaws.{above_as_deep}
+use Rattle.cell_tree.proofs.WholeLaws.{cell_is}
 use Rattle.cell_library.specs.declared.faults.LibFault.{LibFault}
 use Rattle.cell_library.specs.declared.faults.LibFault.TheVariants.{OutOfRange, NoUse, Cycle, TooMany, Memory}
+use Rattle.cell_library.specs.declared.limits.LibraryLimit.TheVariants.{Uses as UsesLimit, Depth as DepthLimit, Elements as ElementsLimit}
 use Rattle.cell_library.specs.CellEdits.{of_tree, TreeRefusesUse, IsPlacedIn, IsDeletedIn}
 use Rattle.cell_library.specs.Contents.{held_at, no_held}
 use Rattle.cell_library.specs.Edits.{placed, transform_of, single_use}
@@ -43,7 +45,7 @@ use Rattle.cell_library.proofs.EditLaws.{edit_seen, edit_lawful, seen_cells}
 use Rattle.cell_library.proofs.FaultLaws.{first_of_or, not_first, not_full}
 use Rattle.cell_library.proofs.LimitLaws.{never_past, would_go_past, none_before}
 use Rattle.cell_library.proofs.PaintEdits.{held_lawful, own_is, states_after}
-use Rattle.cell_library.proofs.SizeLaws.{HaveChildren, tree_children, children_of_changed, depth_falls, cell_there, slice_get-set_other}
+use Rattle.cell_library.proofs.SizeLaws.{HaveChildren, tree_children, children_of_changed}
 use Rattle.cell_library.proofs.UseLists.{has_there, removed_use}
 use Rattle.cell_library.proofs.ViewLaws.{cell_viewed, uses_at}
 
@@ -107,12 +109,12 @@ module _ (library : LibraryParts) (lawful : IsLawfulLibrary library) (cell : ℕ
 
   -- their ids differ
   pub ids_differ : Distinct (map (λ e. e.0) (cell_at library.tree.cells cell).uses)
-  ids_differ = (lawful.tree.each cell (cell_at library.tree.cells cell) (cell_there library.tree.cells cell cell_below)).ids
+  ids_differ = (lawful.tree.each cell (cell_at library.tree.cells cell) (cell_is library.tree.cells cell cell_below)).ids
 
   -- their children are cells
   pub child_below : (k : ℕ) (entry : List ℕ × UseBody) → slice_get (cell_at library.tree.cells cell).uses k ≡ Some entry → entry.1.child.0 < length library.tree.cells
   child_below k entry is =
-      tree_children library.tree lawful.tree cell (cell_at library.tree.cells cell) (cell_there library.tree.cells cell cell_below) k entry is
+      tree_children library.tree lawful.tree cell (cell_at library.tree.cells cell) (cell_is library.tree.cells cell cell_below) k entry is
 
   same_contents : library.contents ≡ set library.contents cell (held_at library.contents cell)
   same_contents = sym (set-get_or library.contents cell no_held)
@@ -167,7 +169,7 @@ module _ (library : LibraryParts) (lawful : IsLawfulLibrary library) (cell : ℕ
         let P : List ℕ × UseBody → Type 0 = λ entry. IsTrue (is_use_id entry.0) in
         uses_edit_lawful tree (without_use (cell_at library.tree.cells cell) done.k) done.edited tree_lawful refl
         (subst (All P) (sym gone) (All-from_In P (filter test (cell_at library.tree.cells cell).uses) (λ entry entry_in.
-        All_In P (cell_at library.tree.cells cell).uses entry ids_here (In-filter_source test entry (cell_at library.tree.cells cell).uses entry_in))))
+        All-In P (cell_at library.tree.cells cell).uses entry ids_here (In-filter_source test entry (cell_at library.tree.cells cell).uses entry_in))))
 
     pub deleted_unrefused : (fault : LibFault) → EditIsRefused (edits_of library) (DeleteIsRefused (seen library) cell id) fault → ⊥
     deleted_unrefused fault =
@@ -229,11 +231,11 @@ module _ (library : LibraryParts) (lawful : IsLawfulLibrary library) (cell : ℕ
             told_is ∙ ap (λ (k : ℕ). Cycle (held_at library.contents k).name) refuses.0
                 ∙ ap (λ (view : CellView). Cycle view.name) (sym (cell_viewed library.contents (uses_in library.tree.cells) child child_there)),
           ))
-      tree_refuses transform is (TooManyOf UsesLimit) refuses told told_is =
+      tree_refuses transform is TooManyUses refuses told told_is =
           let many : MOST_USES ≤ length (view_at (seen library) cell).uses =
           (let long = ap length uses_here in let at = refuses.1 in omega arith) in
           inr (inr (λ above. refuses.0 (seen_above (seen library) library.tree.cells lawful.boxes cell child above), inl (many, told_is)))
-      tree_refuses transform is (TooManyOf DepthLimit) refuses told told_is =
+      tree_refuses transform is (Passed Depth) refuses told told_is =
           let few : MOST_USES ≤ length (view_at (seen library) cell).uses → ⊥ = λ many. (let long = ap length uses_here in let at = refuses.few in absurd (omega arith)) in
           inr (inr (
             λ above. refuses.free (seen_above (seen library) library.tree.cells lawful.boxes cell child above),
@@ -245,7 +247,7 @@ module _ (library : LibraryParts) (lawful : IsLawfulLibrary library) (cell : ℕ
               ),
             ),
           ))
-      tree_refuses transform is (TooManyOf ElementsLimit) refuses told told_is =
+      tree_refuses transform is (Passed Elements) refuses told told_is =
           let few : MOST_USES ≤ length (view_at (seen library) cell).uses → ⊥ = λ many. (let long = ap length uses_here in let at = refuses.few in absurd (omega arith)) in
           let state = with_placed (cell_at library.tree.cells cell) id (single_use child transform) in
           inr (inr (
@@ -258,8 +260,7 @@ module _ (library : LibraryParts) (lawful : IsLawfulLibrary library) (cell : ℕ
               ),
             ),
           ))
-      tree_refuses transform is (TooManyOf _) refuses told told_is = absurd refuses
-      tree_refuses transform is TooFar refuses told told_is =
+      tree_refuses transform is (Passed Hull) refuses told told_is =
           let few : MOST_USES ≤ length (view_at (seen library) cell).uses → ⊥ = λ many. (let long = ap length uses_here in let at = refuses.few in absurd (omega arith)) in
           let state = with_placed (cell_at library.tree.cells cell) id (single_use child transform) in
           inr (inr (
@@ -278,33 +279,13 @@ module _ (library : LibraryParts) (lawful : IsLawfulLibrary library) (cell : ℕ
 
 -- ---- new uses make no cycle
 
--- the depth rises along a chain of uses
-pub rises : (cells : List CellState) (sizes : List Size) → AreSizes cells sizes → (lower upper : ℕ) → IsAbove cells lower upper
-    → (size_at sizes lower).depth ≤ (size_at sizes upper).depth
-rises cells sizes right lower upper stay = omega arith
-rises cells sizes right lower upper (go {b = b} used rest) =
-    let falls = depth_falls (size_at sizes) used.cell used.k used.entry used.stands in
-    let user : (size_at sizes b).depth ≡ (size_of (size_at sizes) used.cell).depth = ap (λ (s : Size). s.depth) (right b used.cell used.is) in
-    let child : (size_at sizes used.entry.1.child.0).depth ≡ (size_at sizes lower).depth = ap (λ (k : ℕ). (size_at sizes k).depth) used.child in
-    let later = rises cells sizes right b upper rest in
-    omega arith
-
-get-append : {X : Type 0} (xs ys : List X) (k : ℕ) (x : X) → slice_get xs k ≡ Some x → slice_get (xs ++ ys) k ≡ Some x
-get-append [] ys k x is = absurd (cc)
-get-append (z ∷ zs) ys zero x is = is
-get-append (z ∷ zs) ys (suc k) x is = get-append zs ys k x is
-
-get-last : {X : Type 0} (xs : List X) (x : X) → slice_get (xs ++ x ∷ []) (length xs) ≡ Some x
-get-last [] x = refl
-get-last (z ∷ zs) x = get-last zs x
-
 -- what stood above stands above when the cell has one more use
 still_above : (cells : List CellState) (cell : ℕ) (entry : List ℕ × UseBody) (lower upper : ℕ) → cell < length cells → IsAbove cells lower upper
     → IsAbove (slice_set cells cell (record (cell_at cells cell) { uses = (cell_at cells cell).uses ++ entry ∷ [] })) lower upper
 still_above cells cell entry lower upper below above = Chain-weaker (λ a b (used : Uses cells b a). elim (cases_eq b cell) [
   | inr apart ↦ (record {
     cell = used.cell;
-    is = slice_get-set_other cells cell b (record (cell_at cells cell) { uses = (cell_at cells cell).uses ++ entry ∷ [] }) used.cell apart used.is;
+    is = slice_get-set_other cells cell b (record (cell_at cells cell) { uses = (cell_at cells cell).uses ++ entry ∷ [] }) apart ∙ used.is;
     k = used.k;
     entry = used.entry;
     stands = used.stands;
@@ -312,7 +293,7 @@ still_above cells cell entry lower upper below above = Chain-weaker (λ a b (use
   })
   | inl same ↦ (
       let after : CellState = record (cell_at cells cell) { uses = (cell_at cells cell).uses ++ entry ∷ [] } in
-      let there : Some used.cell ≡ Some (cell_at cells cell) = sym used.is ∙ ap (slice_get cells) same ∙ cell_there cells cell below in
+      let there : Some used.cell ≡ Some (cell_at cells cell) = sym used.is ∙ ap (slice_get cells) same ∙ cell_is cells cell below in
       let was : used.cell ≡ cell_at cells cell = cc in
       let long : length (slice_set cells cell after) ≡ length cells = length-set cells cell after in
       record {
@@ -321,7 +302,7 @@ still_above cells cell entry lower upper below above = Chain-weaker (λ a b (use
             ∙ ap (λ (c : CellState). Some c) (get_or-set_same cells cell after after below);
         k = used.k;
         entry = used.entry;
-        stands = get-append (cell_at cells cell).uses (entry ∷ []) used.k used.entry (ap (λ (c : CellState). slice_get c.uses used.k) (sym was) ∙ used.stands);
+        stands = slice_get-append_left (cell_at cells cell).uses (entry ∷ []) used.k used.entry (ap (λ (c : CellState). slice_get c.uses used.k) (sym was) ∙ used.stands);
         child = used.child;
       })
 ]) above
@@ -336,9 +317,9 @@ free_before cells after sizes cell child id transform below is right above =
     let there : slice_get after cell ≡ Some state =
     ap (λ (cs : List CellState). slice_get cs cell) is ∙ slice_get-get_or (slice_set cells cell state) cell state (omega arith)
     ∙ ap (λ (c : CellState). Some c) (get_or-set_same cells cell state state below) in
-    let up = rises after sizes right cell child
+    let up = above_as_deep after sizes right cell child
     (subst (λ (cs : List CellState). IsAbove cs cell child) (sym is) (still_above cells cell entry cell child below above)) in
-    let down = depth_falls (size_at sizes) state (length (cell_at cells cell).uses) entry (get-last (cell_at cells cell).uses entry) in
+    let down = child_is_lower (size_at sizes) state (length (cell_at cells cell).uses) entry (slice_get-push_new (cell_at cells cell).uses entry) in
     let size : (size_at sizes cell).depth ≡ (size_of (size_at sizes) state).depth = ap (λ (s : Size). s.depth) (right cell state there) in
     omega arith
 

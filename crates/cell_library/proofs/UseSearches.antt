@@ -13,7 +13,7 @@ use Rattle.geo_core.specs.declared.transforms.Transform.{Transform}
 use Rattle.geo_core.specs.Areas.{common_rect}
 use Rattle.geo_core.specs.Covering.{Covers, IsProper}
 use Rattle.geo_core.specs.Images.{image, inverted, rect_image}
-use Rattle.geo_core.proofs.CoveringLaws.{covers_both}
+use Rattle.geo_core.proofs.CoveringLaws.{covers_both, covers_is_proper}
 use Rattle.geo_core.proofs.ImageLaws.{image-back}
 use Rattle.layout_model.specs.Places.{Place}
 use Rattle.cell_tree.specs.declared.limits.TheConstants.{MOST_ELEMENTS_BELOW}
@@ -38,7 +38,6 @@ use Rattle.cell_library.proofs.PlacedRects.{back_on}
 use Rattle.cell_library.proofs.SpotLaws.{spots_dropped}
 use Rattle.cell_library.proofs.UseSums.{place_of, place_room, spot_at_in, spots_next, use_known, HasRoomAt, IsUseAt}
 use Rattle.cell_library.proofs.UseTreeLaws.{entry_box}
-use Rattle.cell_library.proofs.VisitLaws.{covered_is_proper}
 
 -- ---- one use
 
@@ -65,7 +64,7 @@ use_apart sizes from used back missed spot stands hull is square in_hull in_back
     let among : In element hulls = In-element_hulls used (size_at sizes used.child.0).hull hull found.displaced child step_in in
     let round = covered_by_all hulls element square among in_element in
     let box : use_box sizes used ≡ round.0 = ap (λ (o : Option Rect). unwrap_or o NO_BOX) round.1 in
-    missed (covered_is_proper (common_rect (use_box sizes used) back) square (covers_both (use_box sizes used) back square
+    missed (covers_is_proper (common_rect (use_box sizes used) back) square (covers_both (use_box sizes used) back square
     (subst (λ (r : Rect). Covers r square) (sym box) round.2) in_back))
 
 -- ---- use by use

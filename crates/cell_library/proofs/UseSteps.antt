@@ -1,11 +1,7 @@
 -- Steps of edits of uses.
 use Rattle.std.proofs.Common.{◌≡◌, ◌≢◌, ◌<◌, ◌&&◌, ℕ, true, List, [], ◌∷◌, length, Option, refl, sym, ap, ◌∙◌, arith}
-use Rattle.std.specs.Prelude.{Some, None, IfSome, IfNone, ℤ, pos, neg_ℤ, ◌+ℤ◌, ◌≤ℤ◌, ◌<ℤ◌, ◌^◌, find}
+use Rattle.std.specs.Prelude.{Some, None, IfSome, IfNone, ℤ, pos, neg_ℤ, ◌+ℤ◌, ◌≤ℤ◌, ◌<ℤ◌, ◌^◌}
 use Rattle.std.specs.Option.{option_map}
-use Rattle.std.specs.Ordering.{int_eq}
-use Rattle.std.proofs.lemmas.Bool.Decides.{Decides-int_eq}
-use Rattle.finite_sets.proofs.Searches.{find-passes}
-use Rattle.geo_core.specs.Orientation.{matrix}
 use Rattle.std.proofs.lemmas.Int.{ints, to_z-of_z}
 use mir.Val.{SFits, of_z, to_z}
 use mir.Syntax.{w64}
@@ -15,15 +11,17 @@ use Rattle.geo_core.specs.declared.orients.Orient.{Orient}
 use Rattle.geo_core.specs.declared.orients.Orient.TheVariants.{R0, R90, R180, R270, Mx, My, Mx90, My90}
 use Rattle.geo_core.specs.declared.transforms.Transform.{Transform}
 use Rattle.geo_core.specs.Images.{six_of}
-use Rattle.cell_bodies.specs.Numbers.{is_displacement, is_index, has_factors, all_orients}
+use Rattle.geo_core.specs.Orientation.{orient_of}
+use Rattle.geo_core.proofs.OrientationLaws.{six_of-orient_of}
+use Rattle.cell_bodies.specs.Numbers.{is_displacement, is_index}
 use Rattle.cell_tree.specs.declared.use_tables.UseBody.{UseBody}
 use Rattle.cell_tree.specs.Uses.{HasIdAt, IsShift, IsLawfulUse}
 use Rattle.cell_tree.specs.Sizes.{CellState}
 use Rattle.cell_tree.specs.Trees.{Tree, IsLawfulTree, cell_at}
+use Rattle.cell_tree.proofs.WholeLaws.{cell_is}
 use Rattle.cell_library.specs.CellEdits.{HasUseAt}
 use Rattle.cell_library.specs.Edits.{transform_of, single_use}
 use Rattle.cell_library.specs.Refusals.{has_id, are_displacements}
-use Rattle.cell_library.proofs.SizeLaws.{cell_there}
 use Rattle.cell_library.proofs.UseLists.{has_there}
 
 -- a displacement that a use may have is one that the tree takes
@@ -34,7 +32,7 @@ shift_of z is = record { low = grind (arith, ints); high = grind (arith, ints) }
 pub use_lawful : (tree : Tree) (cell : ℕ) (id : List ℕ) (k : ℕ) (used : UseBody) → IsLawfulTree tree → cell < length tree.cells
     → HasUseAt (cell_at tree.cells cell) id k used → IsLawfulUse used
 use_lawful tree cell id k used lawful below has =
-    (lawful.cells.uses cell (cell_at tree.cells cell) (cell_there tree.cells cell below) k (id, used) has.is).0
+    (lawful.cells.uses cell (cell_at tree.cells cell) (cell_is tree.cells cell below) k (id, used) has.is).0
 
 -- and stands among the uses
 pub use_within : (cell : CellState) (id : List ℕ) (k : ℕ) (used : UseBody) → HasUseAt cell id k used → k < length cell.uses
@@ -74,26 +72,12 @@ single_lawful child six t is near =
 
 -- ---- six numbers of no transform
 
-has_same : (a b d e : ℤ) (orient : Orient) → has_factors a b d e orient ≡ true → (c f : ℤ)
-    → six_of (record { orient = orient; dx = c; dy = f }) ≡ a ∷ b ∷ c ∷ d ∷ e ∷ f ∷ []
-has_same a b d e orient is c f =
-    let m = matrix orient in
-    let first = and_parts (int_eq a m.a && int_eq b m.b && int_eq d m.d) (int_eq e m.e) is in
-    let second = and_parts (int_eq a m.a && int_eq b m.b) (int_eq d m.d) first.0 in
-    let third = and_parts (int_eq a m.a) (int_eq b m.b) second.0 in
-    let a_is = sym ((Decides-int_eq a m.a).0 third.0) in
-    let b_is = sym ((Decides-int_eq b m.b).0 third.1) in
-    let d_is = sym ((Decides-int_eq d m.d).0 second.1) in
-    let e_is = sym ((Decides-int_eq e m.e).0 first.1) in
-    λ i. a_is i ∷ b_is i ∷ c ∷ d_is i ∷ e_is i ∷ f ∷ []
-
-some_orient : (a b c d e f : ℤ) (t : Transform) (o : Option Orient) → find (has_factors a b d e) all_orients ≡ o
+some_orient : (a b c d e f : ℤ) (t : Transform) (o : Option Orient) → orient_of a b d e ≡ o
     → option_map (λ orient. record { orient = orient; dx = c; dy = f }) o ≡ Some t → six_of t ≡ a ∷ b ∷ c ∷ d ∷ e ∷ f ∷ []
 some_orient a b c d e f t None found is = absurd (cc)
 some_orient a b c d e f t (Some orient) found is =
-    let passes = find-passes (has_factors a b d e) all_orients orient found in
     let same : record { orient = orient; dx = c; dy = f } ≡ t = cc in
-    ap six_of (sym same) ∙ has_same a b d e orient passes c f
+    ap six_of (sym same) ∙ six_of-orient_of a b c d e f orient found
 
 -- a transform is one of its six numbers
 transform_sound : (six : List ℤ) (t : Transform) → transform_of six ≡ Some t → six_of t ≡ six
@@ -103,7 +87,7 @@ transform_sound (a ∷ b ∷ []) t is = absurd (cc)
 transform_sound (a ∷ b ∷ c ∷ []) t is = absurd (cc)
 transform_sound (a ∷ b ∷ c ∷ d ∷ []) t is = absurd (cc)
 transform_sound (a ∷ b ∷ c ∷ d ∷ e ∷ []) t is = absurd (cc)
-transform_sound (a ∷ b ∷ c ∷ d ∷ e ∷ f ∷ []) t is = some_orient a b c d e f t (find (has_factors a b d e) all_orients) refl is
+transform_sound (a ∷ b ∷ c ∷ d ∷ e ∷ f ∷ []) t is = some_orient a b c d e f t (orient_of a b d e) refl is
 transform_sound (a ∷ b ∷ c ∷ d ∷ e ∷ f ∷ g ∷ more) t is = absurd (cc)
 
 none_found_by : (six : List ℤ) (o : Option Transform) → transform_of six ≡ o → ((t : Transform) → six_of t ≢ six) → None ≡ transform_of six

@@ -14,7 +14,8 @@ use Rattle.cell_tree.specs.declared.use_tables.UseBody.{UseBody}
 use Rattle.cell_tree.specs.Sizes.{size_at, size_of, elements_below}
 use Rattle.cell_tree.specs.Trees.{Tree, IsLawfulTree, cell_at}
 use Rattle.cell_tree.specs.Uses.{displacements, IsLawfulUse}
-use Rattle.cell_tree.proofs.SizeLaws.{body_at}
+use Rattle.cell_tree.proofs.SizeLaws.{body_at, child_is_lower}
+use Rattle.cell_tree.proofs.WholeLaws.{cell_is}
 use Rattle.cell_library.specs.declared.spots.Spot.{Spot}
 use Rattle.cell_library.specs.declared.spots.UsePlace.{UsePlace}
 use Rattle.cell_library.specs.LayoutTrees.{element_transform}
@@ -23,7 +24,6 @@ use Rattle.cell_library.specs.UsePlaces.{HasRoomBelow, spots_before, spots_of_us
 use Rattle.cell_library.specs.UseTrees.{place_at, start_at, start_behind}
 use Rattle.cell_library.proofs.GridSpots.{element_moves, room_below, room_for_less}
 use Rattle.cell_library.proofs.PlacedCells.{size_elements}
-use Rattle.cell_library.proofs.SizeLaws.{cell_there, depth_falls}
 use Rattle.cell_library.proofs.SpotLaws.{spots_from-more, spots_both}
 
 -- ---- sums over uses
@@ -92,12 +92,12 @@ pub use_known : (tree : Tree) (cell k : ℕ) (used : UseBody) → IsLawfulTree t
     → option_map (λ (entry : List ℕ × UseBody). entry.1) (slice_get (cell_at tree.cells cell).uses k) ≡ Some used → IsUseAt tree cell k used
 use_known tree cell k used lawful below is =
     let body = body_at (cell_at tree.cells cell).uses k used is in
-    let known = lawful.cells.uses cell (cell_at tree.cells cell) (cell_there tree.cells cell below) k (body.0, used) body.1 in
+    let known = lawful.cells.uses cell (cell_at tree.cells cell) (cell_is tree.cells cell below) k (body.0, used) body.1 in
     record { id = body.0; there = body.1; lawful = known.0; child = known.1 }
 
 some_elements : (tree : Tree) (cell : ℕ) → IsLawfulTree tree → cell < length tree.cells → 1 ≤ (size_at tree.sizes cell).elements
 some_elements tree cell lawful below =
-    let size = ap (λ (s : Size). s.elements) (lawful.sizes.right cell (cell_at tree.cells cell) (cell_there tree.cells cell below)) in
+    let size = ap (λ (s : Size). s.elements) (lawful.sizes.right cell (cell_at tree.cells cell) (cell_is tree.cells cell below)) in
     let some = size_elements (size_at tree.sizes) (cell_at tree.cells cell) in
     omega (arith, size, some)
 
@@ -105,14 +105,14 @@ some_elements tree cell lawful below =
 pub elements_are : (tree : Tree) (cell : ℕ) → IsLawfulTree tree → cell < length tree.cells
     → (size_at tree.sizes cell).elements ≡ suc (elements_below (size_at tree.sizes) (cell_at tree.cells cell).uses)
 elements_are tree cell lawful below =
-    ap (λ (s : Size). s.elements) (lawful.sizes.right cell (cell_at tree.cells cell) (cell_there tree.cells cell below))
+    ap (λ (s : Size). s.elements) (lawful.sizes.right cell (cell_at tree.cells cell) (cell_is tree.cells cell below))
     ∙ size_elements (size_at tree.sizes) (cell_at tree.cells cell)
 
 own_few : (tree : Tree) (cell : ℕ) → IsLawfulTree tree → cell < length tree.cells
     → own_elements (cell_at tree.cells cell).uses ≤ elements_below (size_at tree.sizes) (cell_at tree.cells cell).uses
 own_few tree cell lawful below =
     own_below (size_at tree.sizes) (cell_at tree.cells cell).uses (λ k entry is.
-    some_elements tree entry.1.child.0 lawful (lawful.cells.uses cell (cell_at tree.cells cell) (cell_there tree.cells cell below) k entry is).1)
+    some_elements tree entry.1.child.0 lawful (lawful.cells.uses cell (cell_at tree.cells cell) (cell_is tree.cells cell below) k entry is).1)
 
 -- ---- where the elements of uses begin
 
@@ -291,9 +291,9 @@ below_can_be_visited tree levels step spot below lawful can stands =
     let uses = (cell_at tree.cells spot.cell.0).uses in
     let found = spot_from_in step (size_at tree.sizes) spot.to_top uses (spot.part + step) (spot.element + 1) below stands in
     let child = found.entry.1.child.0 in
-    let here = cell_there tree.cells spot.cell.0 can.cell in
+    let here = cell_is tree.cells spot.cell.0 can.cell in
     let known = lawful.cells.uses spot.cell.0 (cell_at tree.cells spot.cell.0) here found.k found.entry found.is in
-    let falls = depth_falls (size_at tree.sizes) (cell_at tree.cells spot.cell.0) found.k found.entry found.is in
+    let falls = child_is_lower (size_at tree.sizes) (cell_at tree.cells spot.cell.0) found.k found.entry found.is in
     let depths : (size_at tree.sizes spot.cell.0).depth ≡ (size_of (size_at tree.sizes) (cell_at tree.cells spot.cell.0)).depth =
     ap (λ (s : Size). s.depth) (lawful.sizes.right spot.cell.0 (cell_at tree.cells spot.cell.0) here) in
     let cell = found.cell in

@@ -2,11 +2,11 @@
 use Rattle.std.proofs.Common.{◌≡◌, ℕ, suc, ◌+◌, ◌<◌, List, [], ◌∷◌, ◌++◌, ◌⊎◌, length, map, take, inl, inr, Some, sym, ap, subst, ◌∙◌, arith}
 use Rattle.std.specs.Prelude.{slice_get}
 use Rattle.std.proofs.lemmas.List.{length-append}
+use Rattle.finite_sets.proofs.Places.{slice_get-append_front, slice_get-push_new}
 use Rattle.geo_core.specs.declared.squares.Rect.{Rect}
 use Rattle.cell_tree.specs.declared.use_tables.UseBody.{UseBody}
 use Rattle.cell_tree.specs.Sizes.{size_at}
 use Rattle.cell_tree.specs.Trees.{Tree, cell_at}
-use Rattle.cell_tree.proofs.AddLaws.{get_before, get_end}
 use Rattle.cell_library.specs.declared.use_trees.UseStart.{UseStart}
 use Rattle.cell_library.specs.UseTrees.{start_at, start_behind, use_box}
 use Rattle.cell_library.proofs.GridSteps.{images_on}
@@ -39,12 +39,12 @@ first_more tree cell k next used boxes new_boxes starts new_starts start behind 
       starts_are = λ j less. elim (last_or_before k j less) [
         | inl before ↦
             ap (λ (xs : List UseStart). slice_get xs j) more_starts
-            ∙ get_before starts start j (let c = first.count in omega (arith, c, before))
+            ∙ slice_get-append_front starts (start ∷ []) j (let c = first.count in omega (arith, c, before))
             ∙ first.starts_are j before
         | inr last ↦
             ap (λ (xs : List UseStart). slice_get xs j) more_starts
             ∙ ap (slice_get (starts ++ start ∷ [])) (last ∙ sym first.count)
-            ∙ get_end starts start
+            ∙ slice_get-push_new starts start
             ∙ ap (λ (s : UseStart). Some s) first.start_is
             ∙ ap (λ (n : ℕ). Some (start_at sizes uses n)) (sym last)
       ];

@@ -12,7 +12,7 @@ use Rattle.cell_library.specs.Limits.{AreStatesOf}
 use Rattle.cell_library.specs.OwnBoxes.{OwnBoxIs}
 use Rattle.cell_library.specs.Views.{CellView, changed_at, names_of, no_cell}
 use Rattle.cell_library.specs.Seen.{cell_view, cell_views}
-use Rattle.cell_library.specs.Libraries.{uses_in}
+use Rattle.cell_library.specs.Libraries.{uses_in, LibraryParts, seen}
 
 -- uses of cells, each with its id
 abbrev UseLists : Type 0
@@ -75,7 +75,11 @@ length-cell_views [] uses = refl
 length-cell_views (held ∷ contents) [] = ap suc (length-cell_views contents [])
 length-cell_views (held ∷ contents) (of_cell ∷ uses) = ap suc (length-cell_views contents uses)
 
--- their names are those of the contents
+-- as many cells are seen as there are
+pub count_seen : (library : LibraryParts) → length (seen library).cells ≡ length library.contents
+count_seen library = length-cell_views library.contents (uses_in library.tree.cells)
+
+-- the names of the cells are those of the contents
 pub names_seen : (contents : List Held) (uses : UseLists) → names_of (cell_views contents uses) ≡ map (λ held. held.name) contents
 names_seen [] uses = refl
 names_seen (held ∷ contents) [] = ap (λ names. held.name ∷ names) (names_seen contents [])

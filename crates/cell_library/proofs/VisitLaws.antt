@@ -10,7 +10,7 @@ use Rattle.geo_core.specs.declared.transforms.Transform.{Transform}
 use Rattle.geo_core.specs.Areas.{common_rect, IsNear, LiesWithin}
 use Rattle.geo_core.specs.Covering.{Covers, IsProper}
 use Rattle.geo_core.specs.Images.{identity, image, inverted, rect_image}
-use Rattle.geo_core.proofs.CoveringLaws.{covers_both}
+use Rattle.geo_core.proofs.CoveringLaws.{covers_both, covers_is_proper}
 use Rattle.geo_core.proofs.ImageLaws.{transform_of, image-forth}
 use Rattle.layout_model.specs.Layouts.{IsMaterial}
 use Rattle.layout_model.specs.Places.{Place}
@@ -22,6 +22,8 @@ use Rattle.cell_tree.specs.declared.use_tables.UseBody.{UseBody}
 use Rattle.cell_tree.specs.Hulls.{SpansInRange}
 use Rattle.cell_tree.specs.Sizes.{IsHullInRange, size_at, size_of}
 use Rattle.cell_tree.specs.Trees.{Tree, IsLawfulTree, cell_at}
+use Rattle.cell_tree.proofs.SizeLaws.{child_is_lower}
+use Rattle.cell_tree.proofs.WholeLaws.{cell_is}
 use Rattle.layout_trees.specs.CellTrees.{Standing, place_back}
 use Rattle.cell_library.specs.declared.part_tiles.PartTile.{PartTile}
 use Rattle.cell_library.specs.declared.spots.Spot.{Spot}
@@ -37,18 +39,9 @@ use Rattle.cell_library.proofs.HullsHoldMaterial.{hull_holds_material, state_use
 use Rattle.cell_library.proofs.OwnTiles.{HullHoldsOwn}
 use Rattle.cell_library.proofs.PlacedCells.{cells_counted, outside_hull}
 use Rattle.cell_library.proofs.PlacedRects.{covers_back}
-use Rattle.cell_library.proofs.SizeLaws.{cell_there, depth_falls, tree_children}
+use Rattle.cell_library.proofs.SizeLaws.{tree_children}
 use Rattle.cell_library.proofs.SpotLaws.{below_from, numbered_from, sifted_weaken, told_end}
 use Rattle.cell_library.proofs.ToldTiles.{adds_none}
-
--- what covers a square has one
-pub covered_is_proper : (area : Rect) (square : Square) → Covers area square → IsProper area
-covered_is_proper area square covers =
-    let p : area.xlo ≤ℤ square.x = covers.right_of_xlo in
-    let q : square.x <ℤ area.xhi = covers.left_of_xhi in
-    let r : area.ylo ≤ℤ square.y = covers.above_ylo in
-    let s : square.y <ℤ area.yhi = covers.below_yhi in
-    record { wide = omega (arith, ints); high = omega (arith, ints) }
 
 -- where the hull of a cell does not meet the area, nothing is told
 pub visit_none : (library : LibraryParts) (levels step : ℕ) (spot : Spot) (area : Rect) (tiles : List PartTile) → IsLawfulLibrary library
@@ -60,7 +53,7 @@ visit_none library levels step spot area tiles lawful none =
     spot.to_top area
     (λ hull place is covers in_area.
     let square = (place_back spot.to_top place).square in
-    none hull is (covered_is_proper (common_rect (rect_image (inverted spot.to_top) area) hull) square
+    none hull is (covers_is_proper (common_rect (rect_image (inverted spot.to_top) area) hull) square
     (covers_both (rect_image (inverted spot.to_top) area) hull square (covers_back spot.to_top area place in_area) covers))))
 
 -- a cell without levels below it has its own tiles alone
@@ -97,7 +90,7 @@ pub visit_numbered : (library : LibraryParts) (levels step : ℕ) (spot : Spot) 
 visit_numbered library levels step spot lawful can =
     let tree = library.tree in
     let uses = (cell_at tree.cells spot.cell.0).uses in
-    let here = cell_there tree.cells spot.cell.0 can.cell in
+    let here = cell_is tree.cells spot.cell.0 can.cell in
     let depths : (size_at tree.sizes spot.cell.0).depth ≡ (size_of (size_at tree.sizes) (cell_at tree.cells spot.cell.0)).depth =
     ap (λ (s : Size). s.depth) (lawful.tree.sizes.right spot.cell.0 (cell_at tree.cells spot.cell.0) here) in
     let deep = can.deep in
@@ -105,7 +98,7 @@ visit_numbered library levels step spot lawful can =
     omega arith in e)
     (numbered_from (tree_to (seen library) levels) step (size_at tree.sizes) spot.to_top uses (spot.part + step) (spot.element + 1) (λ k entry is.
     let child = (lawful.tree.cells.uses spot.cell.0 (cell_at tree.cells spot.cell.0) here k entry is).1 in
-    let falls = depth_falls (size_at tree.sizes) (cell_at tree.cells spot.cell.0) k entry is in
+    let falls = child_is_lower (size_at tree.sizes) (cell_at tree.cells spot.cell.0) k entry is in
     cells_counted (seen library) tree.cells tree.sizes lawful.boxes lawful.tree.sizes.right
     (tree_children tree lawful.tree) levels entry.1.child.0 child
     (omega (arith, falls, depths, deep))))

@@ -5,7 +5,6 @@ use Rattle.std.specs.Option.{option_or}
 use Rattle.std.specs.Str.{bytes_eq}
 use Rattle.finite_sets.specs.Lists.{In, Distinct}
 use Rattle.text_scan.specs.PlainNames.{is_plain_name}
-use Rattle.geo_core.specs.declared.limits.Limit.TheVariants.{Depth, Elements}
 use Rattle.geo_core.specs.Images.{identity}
 use Rattle.cell_paint.specs.Paints.{layout_of}
 use Rattle.cell_tree.specs.declared.limits.TheConstants.{MOST_USES}
@@ -17,6 +16,7 @@ use Rattle.cell_bodies.specs.declared.bodies.CellUse.{CellUse}
 use Rattle.cell_bodies.specs.Bodies.{IsBody}
 use Rattle.cell_library.specs.declared.faults.LibFault.{LibFault}
 use Rattle.cell_library.specs.declared.faults.LibFault.TheVariants.{OutOfRange, Cycle, TooMany}
+use Rattle.cell_library.specs.declared.limits.LibraryLimit.TheVariants.{Depth, Elements}
 use Rattle.cell_library.specs.declared.limits.TheConstants.{MOST_CELLS}
 use Rattle.cell_library.specs.Views.{CellView, LibraryView, names_of, view_at}
 use Rattle.cell_library.specs.Edits.{transform_of}

@@ -1,7 +1,6 @@
 -- What edits do to the parts of a library.
 use Rattle.std.specs.Prelude.{◌≡◌, ◌<◌, ◌&&◌, ℕ, ℤ, true, false, List, ◌++◌, ◌∷◌, [], length, Option, Some, None, unwrap_or, slice_get, slice_set}
 use Rattle.geo_core.specs.declared.grids.Grid.{Grid}
-use Rattle.geo_core.specs.declared.limits.Limit.TheVariants.{Elements}
 use Rattle.geo_core.specs.declared.squares.Rect.{Rect}
 use Rattle.geo_core.specs.declared.transforms.Transform.{Transform}
 use Rattle.geo_core.specs.Areas.{has_square}
@@ -12,13 +11,14 @@ use Rattle.cell_paint.specs.Painting.{with_paint, with_erased, is_in_range}
 use Rattle.cell_paint.specs.Paints.{Paint, layout_of}
 use Rattle.cell_bodies.specs.Numbers.{has_sides, is_displacement, are_few_elements}
 use Rattle.cell_tree.specs.declared.faults.TreeFault.{TreeFault}
-use Rattle.cell_tree.specs.declared.faults.TreeFault.TheVariants.{Cycle as Crossing, TooMany as TooManyOf, OutOfRange as TooFar, Memory as NoMemory}
-use Rattle.cell_tree.specs.declared.sizes.Dimension.TheVariants.{Hull}
+use Rattle.cell_tree.specs.declared.faults.TreeFault.TheVariants.{Cycle as Crossing, TooManyUses, Passed, Memory as NoMemory}
+use Rattle.cell_tree.specs.declared.sizes.Dimension.TheVariants.{Depth as DepthOf, Elements as ElementsOf, Hull}
 use Rattle.cell_tree.specs.declared.use_tables.UseBody.{UseBody}
 use Rattle.cell_tree.specs.Sizes.{CellState}
 use Rattle.cell_tree.specs.Trees.{Tree, IsAdded, IsEdited, WouldPass, RefusesUse, RefusesMove, cell_at, with_own, with_placed, with_moved, without_use}
 use Rattle.cell_library.specs.declared.faults.LibFault.{LibFault}
 use Rattle.cell_library.specs.declared.faults.LibFault.TheVariants.{OutOfRange, Cycle, TooMany, Memory}
+use Rattle.cell_library.specs.declared.limits.LibraryLimit.TheVariants.{Uses, Depth, Elements}
 use Rattle.cell_library.specs.declared.limits.TheConstants.{MOST_CELLS, MOST_EDITS}
 use Rattle.cell_library.specs.Contents.{Held, held_at, position_of, with_label, without_labels, IsRepainted}
 use Rattle.cell_library.specs.Edits.{transform_of, single_use, moved_use}
@@ -73,8 +73,10 @@ pub record IsUnlabelledIn (text : List ℕ) (cell : ℕ) (old new : List Held) (
 -- the fault of the tree, as a fault of the library
 abbrev pub of_tree : List Held → TreeFault → LibFault
 of_tree contents (Crossing key) = Cycle (held_at contents key).name
-of_tree contents (TooManyOf limit) = TooMany limit
-of_tree contents TooFar = OutOfRange
+of_tree contents TooManyUses = TooMany Uses
+of_tree contents (Passed DepthOf) = TooMany Depth
+of_tree contents (Passed ElementsOf) = TooMany Elements
+of_tree contents (Passed Hull) = OutOfRange
 of_tree contents NoMemory = Memory
 
 -- the tree refuses the use, which has the transform of the six numbers

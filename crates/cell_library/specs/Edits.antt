@@ -1,14 +1,14 @@
 -- What each edit makes of a library.
-use Rattle.std.specs.Prelude.{not, ℕ, ℤ, ◌+ℤ◌, if◌then◌else◌, List, [], ◌∷◌, ◌++◌, map, filter, find, Option, Some, None, unwrap_or}
+use Rattle.std.specs.Prelude.{not, ℕ, ℤ, ◌+ℤ◌, if◌then◌else◌, List, [], ◌∷◌, ◌++◌, map, filter, Option, Some, None, unwrap_or}
 use Rattle.std.specs.Option.{option_map, option_map_or}
 use Rattle.std.specs.Str.{bytes_eq}
 use Rattle.geo_core.specs.declared.grids.Grid.{Grid}
 use Rattle.geo_core.specs.declared.squares.Rect.{Rect}
 use Rattle.geo_core.specs.declared.transforms.Transform.{Transform}
+use Rattle.geo_core.specs.Orientation.{orient_of}
 use Rattle.tech_model.specs.declared.raw.Label.{Label}
 use Rattle.cell_paint.specs.Painting.{with_paint, with_erased}
 use Rattle.cell_tree.specs.declared.use_tables.UseBody.{UseBody}
-use Rattle.cell_bodies.specs.Numbers.{all_orients, has_factors}
 use Rattle.cell_library.specs.Views.{CellView, LibraryView, with_cell_changed}
 
 -- ---- a new cell
@@ -46,7 +46,7 @@ unlabelled view cell text =
 -- The transform of six numbers a b c d e f, where a b d e are the factors of an orientation: x' = a*x + b*y + c and y' = d*x + e*y + f.
 abbrev pub transform_of : List ℤ → Option Transform
 transform_of (a ∷ b ∷ c ∷ d ∷ e ∷ f ∷ []) =
-    option_map (λ orient. record { orient = orient; dx = c; dy = f }) (find (has_factors a b d e) all_orients)
+    option_map (λ orient. record { orient = orient; dx = c; dy = f }) (orient_of a b d e)
 transform_of _ = None
 
 -- a use of a child, one element of it, at the transform

@@ -3,7 +3,6 @@ use Rattle.std.specs.Prelude.{◌≡◌, ◌⊎◌, ◌≤◌, not, ℕ, ℤ, po
 use Rattle.std.specs.List.{list_any}
 use Rattle.std.specs.Str.{bytes_eq}
 use Rattle.geo_core.specs.declared.grids.Grid.{Grid}
-use Rattle.geo_core.specs.declared.limits.Limit.TheVariants.{Cells, Uses, Depth, Elements, Edits}
 use Rattle.geo_core.specs.declared.squares.Rect.{Rect}
 use Rattle.geo_core.specs.Areas.{has_square}
 use Rattle.tech_model.specs.declared.raw.Label.{Label}
@@ -17,6 +16,7 @@ use Rattle.cell_bodies.specs.Numbers.{has_sides, is_displacement, are_few_elemen
 use Rattle.cell_library.specs.declared.faults.LibFault.{LibFault}
 use Rattle.cell_library.specs.declared.faults.LibFault.TheVariants.{CellExists, EmptyRect, OutOfRange, BadTransform, NoUse, UseExists, Cycle, NoLabel, TooMany}
 use Rattle.cell_library.specs.declared.faults.LibFault.TheVariants.{Memory}
+use Rattle.cell_library.specs.declared.limits.LibraryLimit.TheVariants.{Cells, Uses, Depth, Elements, Edits}
 use Rattle.cell_library.specs.declared.limits.TheConstants.{MOST_CELLS, MOST_EDITS}
 use Rattle.cell_library.specs.Views.{CellView, LibraryView, cell_named, view_at}
 use Rattle.cell_library.specs.Edits.{painted, erased, labelled, placed, transform_of, with_grid, moved, moved_use}

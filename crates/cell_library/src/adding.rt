@@ -9,11 +9,11 @@ ghost use Rattle.cell_library.specs.Refusals.{EditIsRefused, FirstOf, NothingEls
 
 use crate::contents::{Content, Contents};
 use crate::faults::LibFault;
-use crate::limits::{MOST_CELLS, MOST_EDITS};
+use crate::limits::{LibraryLimit, MOST_CELLS, MOST_EDITS};
 use cell_paint::CellPaint;
 use cell_tree::CellTree;
 use ext_model::CellKey;
-use geo_core::{Limit, Name};
+use names_lists::Name;
 use std::alloc::{AllocError, Global};
 use tech_model::Tech;
 
@@ -23,16 +23,16 @@ fn check_new(contents: &Contents, tree: &CellTree, name: &Name) -> Result<(), Li
     ensures unknown { OnOk result (position_of name.now contents.now ≡ None) }
     ensures few { OnOk result (length contents.now < MOST_CELLS) }
     ensures fault { IfErr result (EditIsRefused tree.now.edits (FirstOf (IsSome (position_of name.now contents.now)) LibFault.CellExists
-        (FirstOf (MOST_CELLS ≤ length contents.now) (LibFault.TooMany Limit.Cells) NothingElse))) }
+        (FirstOf (MOST_CELLS ≤ length contents.now) (LibFault.TooMany LibraryLimit.Cells) NothingElse))) }
 {
     if tree.edits() == MOST_EDITS {
-        return Err(LibFault::TooMany(Limit::Edits));
+        return Err(LibFault::TooMany(LibraryLimit::Edits));
     }
     if contents.find(name.bytes()).is_some() {
         return Err(LibFault::CellExists);
     }
     if contents.len() >= MOST_CELLS {
-        return Err(LibFault::TooMany(Limit::Cells));
+        return Err(LibFault::TooMany(LibraryLimit::Cells));
     }
     Ok(())
 }
@@ -95,7 +95,7 @@ pub fn new_cell(
     ensures kept { OnErr result (contents.new ≡ contents.old) }
     ensures same { OnErr result (tree.new ≡ tree.old) }
     ensures fault { IfErr result (HasFaultOrLacksMemory (EditIsRefused tree.old.edits (FirstOf (IsSome (position_of name contents.old)) LibFault.CellExists
-        (FirstOf (MOST_CELLS ≤ length contents.old) (LibFault.TooMany Limit.Cells) NothingElse)))) }
+        (FirstOf (MOST_CELLS ≤ length contents.old) (LibFault.TooMany LibraryLimit.Cells) NothingElse)))) }
 {
     check_new(contents, tree, &name)?;
     let content = empty_content(alloc, tech, name)?;

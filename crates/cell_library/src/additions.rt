@@ -26,7 +26,8 @@ use crate::uses::{fault_of, transform_of};
 use cell_bodies::{CellBody, CellUse};
 use cell_tree::{CellTree, NewCell, UseBody};
 use ext_model::CellKey;
-use geo_core::{List, Name, Transform};
+use geo_core::Transform;
+use names_lists::{List, Name};
 use std::alloc::{AllocError, Global};
 
 // The position of the cell of this name, which is there.

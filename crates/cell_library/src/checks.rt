@@ -6,11 +6,11 @@ ghost use Rattle.cell_paint.specs.Painting.{is_in_range};
 ghost use Rattle.cell_library.specs.Refusals.{AreaIsRefused, EditIsRefused, LabelAreaIsRefused, NothingElse};
 
 use crate::faults::LibFault;
-use crate::limits::MOST_EDITS;
+use crate::limits::{LibraryLimit, MOST_EDITS};
 use cell_bodies::has_sides;
 use cell_paint::is_coordinate;
 use cell_tree::CellTree;
-use geo_core::{Limit, Rect};
+use geo_core::Rect;
 
 /// Refuses an edit where there were too many.
 pub fn check_edits(tree: &CellTree) -> Result<(), LibFault>
@@ -18,7 +18,7 @@ pub fn check_edits(tree: &CellTree) -> Result<(), LibFault>
     ensures fault { IfErr result (EditIsRefused tree.now.edits NothingElse) }
 {
     if tree.edits() == MOST_EDITS {
-        return Err(LibFault::TooMany(Limit::Edits));
+        return Err(LibFault::TooMany(LibraryLimit::Edits));
     }
     Ok(())
 }
@@ -41,7 +41,7 @@ pub fn check_area(tree: &CellTree, area: &Rect) -> Result<(), LibFault>
     ensures fault { IfErr result (EditIsRefused tree.now.edits (AreaIsRefused area.now NothingElse)) }
 {
     if tree.edits() == MOST_EDITS {
-        return Err(LibFault::TooMany(Limit::Edits));
+        return Err(LibFault::TooMany(LibraryLimit::Edits));
     }
     if !area.has_square() {
         return Err(LibFault::EmptyRect);
@@ -60,7 +60,7 @@ pub fn check_label(tree: &CellTree, area: &Rect) -> Result<(), LibFault>
     ensures fault { IfErr result (EditIsRefused tree.now.edits (LabelAreaIsRefused area.now NothingElse)) }
 {
     if tree.edits() == MOST_EDITS {
-        return Err(LibFault::TooMany(Limit::Edits));
+        return Err(LibFault::TooMany(LibraryLimit::Edits));
     }
     if !has_sides(area) {
         return Err(LibFault::EmptyRect);

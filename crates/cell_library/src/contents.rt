@@ -7,8 +7,9 @@ ghost use Rattle.cell_paint.specs.Paints.{layout_of, IsSoundPaint};
 ghost use Rattle.cell_paint.specs.Painting.{with_paint, with_erased, is_in_range};
 
 use cell_paint::{CellPaint, PaintFault};
-use geo_core::{Name, Rect};
+use geo_core::Rect;
 use indexmap::IndexMap;
+use names_lists::Name;
 use std::alloc::{AllocError, Global};
 use std::marker::Model;
 use tech_model::{Label, LayerId, Tech};

@@ -1,7 +1,8 @@
 //! Why a call of this crate is refused.
 
+use crate::limits::LibraryLimit;
 use cell_paint::PaintFault;
-use geo_core::{GeoFault, Limit, Name};
+use names_lists::Name;
 use std::alloc::AllocError;
 use thiserror::Error;
 
@@ -34,7 +35,7 @@ pub enum LibFault {
     NoLabel,
     /// There would be too many of these.
     #[error("too many")]
-    TooMany(Limit),
+    TooMany(LibraryLimit),
     /// There was not enough memory.
     #[error("out of memory")]
     Memory,
@@ -51,21 +52,9 @@ impl From<PaintFault> for LibFault {
         match refused {
             PaintFault::EmptyRect => LibFault::EmptyRect,
             PaintFault::OutOfRange => LibFault::OutOfRange,
-            PaintFault::TooManyTiles => LibFault::TooMany(Limit::Tiles),
+            PaintFault::TooManyTiles => LibFault::TooMany(LibraryLimit::Tiles),
             PaintFault::Memory => LibFault::Memory,
         }
-    }
-}
-
-/// The only fault of names is want of memory.
-impl From<GeoFault> for LibFault {
-    ghost use Rattle.std.specs.Prelude.{◌≡◌};
-    ghost use Rattle.cell_library.specs.declared.faults.LibFault.TheVariants.{Memory};
-
-    ghost from_gives = { λ _ fault. fault ≡ Memory };
-
-    fn from(_refused: GeoFault) -> LibFault {
-        LibFault::Memory
     }
 }
 

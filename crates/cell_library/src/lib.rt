@@ -40,6 +40,7 @@ mod element_boxes;
 mod faults;
 mod library;
 mod limits;
+mod opened;
 mod own_boxes;
 mod painting;
 mod part_tiles;
@@ -52,7 +53,8 @@ mod visitor;
 
 pub use faults::LibFault;
 pub use library::Library;
-pub use limits::{MOST_CELLS, MOST_EDITS};
+pub use limits::{LibraryLimit, MOST_CELLS, MOST_EDITS};
+pub use opened::Opened;
 pub use part_tiles::PartTile;
 pub use reader::Reader;
 pub use visitor::Visitor;

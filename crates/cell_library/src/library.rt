@@ -19,6 +19,7 @@ use crate::adding::new_cell;
 use crate::additions::add_cells;
 use crate::contents::Contents;
 use crate::faults::LibFault;
+use crate::opened::Opened;
 use crate::painting::{erase_cell, label_cell, paint_cell, unlabel_cell};
 use crate::reader::Reader;
 use crate::uses::{delete_use, move_use, place_array, place_use};
@@ -26,9 +27,11 @@ use cell_bodies::CellBody;
 use cell_paint::CellPaint;
 use cell_tree::{CellTree, UseBody};
 use ext_model::CellKey;
-use geo_core::{Grid, Name, Rect};
+use geo_core::{Grid, Rect};
+use names_lists::Name;
 use std::alloc::{AllocError, Global};
 use std::marker::Model;
+use std::sync::ledger::{Blank, Ledger};
 use tech_model::{Label, LayerId, Tech};
 
 /// Cells in order of arrival, each with its paint, its labels and its uses of other cells, over one technology.
@@ -439,6 +442,16 @@ impl Library {
         let done = delete_use(&mut self.tree, cell.0, id);
         self.tree.lawful();
         done
+    }
+
+    /// A count of nothing opened, in the ledger that the blank stands for.
+    pub fn count<L: Ledger>(&self, blank: Blank) -> Opened<L>
+        requires name { blank.name ≡ L.name }
+        requires parts { blank.parts ≡ L.parts }
+        requires some_part { 0 < blank.parts }
+        ensures { result ≡ 0 }
+    {
+        Opened::new(blank)
     }
 
     /// A reader of this library.

@@ -21,16 +21,17 @@ ghost use Rattle.cell_library.specs.Views.{cell_named, view_at};
 
 use crate::element_boxes::{boxes_of, element_count};
 use crate::library::Library;
+use crate::opened::Opened;
 use crate::part_tiles::PartTile;
 use crate::visitor::Visitor;
 use cell_paint::CellPaint;
 use cell_tree::UseBody;
 use ext_model::CellKey;
-use geo_core::{Name, Rect};
+use geo_core::Rect;
+use names_lists::Name;
 use std::alloc::AllocError;
 use std::marker::Model;
 use std::sync::ledger::Ledger;
-use step_count::Steps;
 use tech_model::{Label, Tech};
 
 /// A reader of a library: it tells what the library does, but hands out a cell's paint for a step alone.
@@ -155,7 +156,7 @@ impl<'a> Reader<'a> {
     }
 
     /// The cell's own paint, for one step.
-    pub fn open<L: Ledger>(&self, cell: CellKey, steps: &mut Steps<L>) -> &CellPaint
+    pub fn open<L: Ledger>(&self, cell: CellKey, steps: &mut Opened<L>) -> &CellPaint
         requires { cell.0 < length self.now.contents }
         ensures own { layout_of result.now ≡ (view_at (seen self.now) cell.0).own }
         ensures kinds { result.now.kinds ≡ self.now.tech.types }
@@ -230,7 +231,7 @@ impl<'a> Reader<'a> {
         &self,
         cell: CellKey,
         area: Rect,
-        steps: &mut Steps<L>,
+        steps: &mut Opened<L>,
     ) -> Result<Vec<PartTile>, AllocError>
         requires cell { cell.0 < length self.now.contents }
         requires near { IsNear area }

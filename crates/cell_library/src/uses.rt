@@ -13,11 +13,12 @@ ghost use Rattle.cell_library.specs.Refusals.{PlacingIsRefused};
 
 use crate::contents::Contents;
 use crate::faults::LibFault;
-use crate::limits::MOST_EDITS;
+use crate::limits::{LibraryLimit, MOST_EDITS};
 use cell_bodies::{are_few_elements, is_displacement};
-use cell_tree::{CellTree, TreeFault, UseBody};
+use cell_tree::{CellTree, Dimension, TreeFault, UseBody};
 use ext_model::CellKey;
-use geo_core::{Grid, Limit, Name, Transform};
+use geo_core::{Grid, Transform};
+use names_lists::Name;
 use std::alloc::Global;
 
 // Whether the cell has a use of the id.
@@ -63,7 +64,7 @@ fn new_transform(
     ensures fault { IfErr result (EditIsRefused tree.now.edits (PlacingIsRefused (cell_at tree.now.cells cell).uses id.now six NothingElse)) }
 {
     if tree.edits() == MOST_EDITS {
-        return Err(LibFault::TooMany(Limit::Edits));
+        return Err(LibFault::TooMany(LibraryLimit::Edits));
     }
     if has_use(tree, cell, id) {
         return Err(LibFault::UseExists);
@@ -94,8 +95,10 @@ pub fn fault_of(alloc: Global, contents: &Contents, refused: TreeFault) -> LibFa
             Ok(name) => LibFault::Cycle(name),
             Err(_) => LibFault::Memory,
         },
-        TreeFault::TooMany(limit) => LibFault::TooMany(limit),
-        TreeFault::OutOfRange => LibFault::OutOfRange,
+        TreeFault::TooManyUses => LibFault::TooMany(LibraryLimit::Uses),
+        TreeFault::Passed(Dimension::Depth) => LibFault::TooMany(LibraryLimit::Depth),
+        TreeFault::Passed(Dimension::Elements) => LibFault::TooMany(LibraryLimit::Elements),
+        TreeFault::Passed(Dimension::Hull) => LibFault::OutOfRange,
         TreeFault::Memory => LibFault::Memory,
     }
 }
@@ -141,7 +144,7 @@ fn find_use(tree: &CellTree, cell: usize, id: &[u8]) -> Result<(usize, UseBody),
     ensures fault { IfErr result (EditIsRefused tree.now.edits (FirstOf (has_id (cell_at tree.now.cells cell).uses id.now ≡ false) LibFault.NoUse NothingElse)) }
 {
     if tree.edits() == MOST_EDITS {
-        return Err(LibFault::TooMany(Limit::Edits));
+        return Err(LibFault::TooMany(LibraryLimit::Edits));
     }
     tree.lawful();
     let Some(k) = tree.find_use(cell, id) else {
@@ -173,8 +176,10 @@ fn set_use(
 {
     match tree.set_use(cell, k, placed, grid) {
         Ok(()) => Ok(()),
-        Err(TreeFault::TooMany(limit)) => Err(LibFault::TooMany(limit)),
-        Err(TreeFault::OutOfRange) => Err(LibFault::OutOfRange),
+        Err(TreeFault::Passed(Dimension::Elements)) => {
+            Err(LibFault::TooMany(LibraryLimit::Elements))
+        }
+        Err(TreeFault::Passed(Dimension::Hull)) => Err(LibFault::OutOfRange),
         Err(_) => unreachable!(),
     }
 }
@@ -195,13 +200,13 @@ fn check_grid(grid: &Grid) -> Result<(), LibFault>
     ensures near { OnOk result ((is_displacement grid.now.xsep && is_displacement grid.now.ysep) ≡ true) }
     ensures few { OnOk result (are_few_elements grid.now.xlo grid.now.xhi grid.now.ylo grid.now.yhi ≡ true) }
     ensures fault { IfErr result (FirstOf ((is_displacement grid.now.xsep && is_displacement grid.now.ysep) ≡ false) LibFault.OutOfRange
-        (FirstOf (are_few_elements grid.now.xlo grid.now.xhi grid.now.ylo grid.now.yhi ≡ false) (LibFault.TooMany Limit.Elements) NothingElse)) }
+        (FirstOf (are_few_elements grid.now.xlo grid.now.xhi grid.now.ylo grid.now.yhi ≡ false) (LibFault.TooMany LibraryLimit.Elements) NothingElse)) }
 {
     if !has_near_elements(grid) {
         return Err(LibFault::OutOfRange);
     }
     if !are_few_elements(grid.xlo, grid.xhi, grid.ylo, grid.yhi) {
-        return Err(LibFault::TooMany(Limit::Elements));
+        return Err(LibFault::TooMany(LibraryLimit::Elements));
     }
     Ok(())
 }
@@ -228,7 +233,7 @@ fn set_grid(
     ensures done { OnOk result (IsEdited tree.old tree.new cell (with_moved (cell_at tree.old.cells cell) k placed (Some grid))) }
     ensures same { OnErr result (tree.new ≡ tree.old) }
     ensures fault { IfErr result (FirstOf ((is_displacement grid.xsep && is_displacement grid.ysep) ≡ false) LibFault.OutOfRange
-        (FirstOf (are_few_elements grid.xlo grid.xhi grid.ylo grid.yhi ≡ false) (LibFault.TooMany Limit.Elements)
+        (FirstOf (are_few_elements grid.xlo grid.xhi grid.ylo grid.yhi ≡ false) (LibFault.TooMany LibraryLimit.Elements)
         (TreeRefusesMove tree.old cell k placed (Some grid)))) }
 {
     check_grid(&grid)?;

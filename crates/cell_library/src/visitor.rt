@@ -8,6 +8,7 @@ ghost use Rattle.cell_library.specs.LayoutTrees.{tree_at};
 ghost use Rattle.cell_library.specs.PartTiles.{set_of_part, set_of_tiles, IsPartTileIn};
 
 use crate::library::Library;
+use crate::opened::Opened;
 use crate::part_tiles::PartTile;
 use crate::use_trees::UseTrees;
 use crate::visiting::visit_cell;
@@ -16,7 +17,6 @@ use geo_core::Rect;
 use std::alloc::AllocError;
 use std::marker::Model;
 use std::sync::ledger::Ledger;
-use step_count::Steps;
 
 /// A visitor of a library: it hands out the tiles of areas of its cells. Contracts see it as its library.
 ///
@@ -63,7 +63,7 @@ impl<'a> Visitor<'a> {
         &mut self,
         cell: CellKey,
         area: Rect,
-        steps: &mut Steps<L>,
+        steps: &mut Opened<L>,
     ) -> Result<Vec<PartTile>, AllocError>
         requires cell { cell.0 < length self.old.contents }
         requires near { IsNear area }

@@ -3,6 +3,8 @@ use Rattle.std.proofs.Common.{◌≡◌, ◌+◌, ◌<◌, inl, inr, ℕ, List, 
 use Rattle.std.specs.Prelude.{IsSome}
 use Rattle.std.proofs.lemmas.List.{length-map}
 use Rattle.outside_io.specs.Files.{Files}
+use Rattle.session_model.specs.FileTrees.{All as AllRead, Stopped, StopsAt, fetched_by}
+use Rattle.session_model.proofs.FileTreeLaws.{file_refused}
 use Rattle.cell_bodies.specs.declared.bodies.CellBody.{CellBody}
 use Rattle.cell_library.specs.Additions.{kept_cell, names_with, with_all}
 use Rattle.cell_library.specs.Libraries.{LibraryParts, seen, edits_of, uses_in}
@@ -13,8 +15,7 @@ use Rattle.cell_loading.specs.declared.loading.Loaded.{Loaded}
 use Rattle.cell_loading.specs.declared.loading.Loaded.TheVariants as loaded
 use Rattle.cell_loading.specs.Arrivals.{Arrives}
 use Rattle.cell_loading.specs.Loads.{AreRead, LoadGives, LoadIsRefused}
-use Rattle.cell_loading.specs.Readings.{All as AllRead, Stopped, fetched_by}
-use Rattle.cell_loading.specs.Walks.{StopsAt}
+use Rattle.cell_loading.specs.Readings.{cell_files}
 
 -- there are more cells than before
 pub more_cells : (old new : LibraryParts) (cells : List (List ℕ × CellBody)) → 0 < length cells → seen new ≡ with_all (seen old) cells
@@ -33,7 +34,7 @@ pub arrived : (files : Files) (old new : LibraryParts) (root : List ℕ) (bodies
 arrived files old new root bodies (loaded.Cells count) unknown read came = (
   came.edits,
   (
-    fetched_by (AllRead read.read),
+    fetched_by (cell_files (seen old)) (AllRead read.read),
     record {
       new = unknown;
       bodies = bodies;
@@ -46,7 +47,7 @@ arrived files old new root bodies (loaded.Cells count) unknown read came = (
   ),
 )
 arrived files old new root bodies (loaded.Refused told) unknown read stay = (
-  fetched_by (AllRead read.read),
+  fetched_by (cell_files (seen old)) (AllRead read.read),
   inr (
     unknown,
     inr (record {
@@ -62,9 +63,9 @@ arrived files old new root bodies (loaded.Refused told) unknown read stay = (
 
 -- a file that is refused refuses the load
 pub file_refuses : (files : Files) (old : LibraryParts) (root : List ℕ) (told : LoadFault) → (IsSome (cell_named (seen old) root) → ⊥)
-    → StopsAt files (seen old) [] (root ∷ []) told
+    → StopsAt (cell_files (seen old)) files [] (root ∷ []) told
     → (fetched : List (List ℕ)) × LoadIsRefused files (seen old) (edits_of old) root fetched told
 file_refuses files old root told unknown stops = (
-  fetched_by (Stopped stops.read_before stops.name told),
-  inr (unknown, inl (record { read = stops.read_before; name = stops.name; stops = stops.stops; fetched_are = refl })),
+  fetched_by (cell_files (seen old)) (Stopped stops.read_before stops.name told),
+  inr (unknown, inl (file_refused (cell_files (seen old)) files root told stops)),
 )

@@ -4,6 +4,11 @@ use Rattle.std.specs.Prelude.{Some, Result, Ok, Err, IfOk, OnOk}
 use Rattle.std.specs.List.{list_any}
 use Rattle.std.specs.Str.{bytes_eq}
 use Rattle.outside_io.specs.Files.{Files}
+use Rattle.session_model.specs.declared.stops.Stop.{Stop}
+use Rattle.session_model.specs.declared.stops.Stop.TheVariants.{Refused, Halted}
+use Rattle.session_model.specs.FileTrees.{Reads, StopsAt}
+use Rattle.session_model.specs.Stops.{IfRefused}
+use Rattle.session_model.proofs.FileTreeLaws.{goes_by, goes_past, goes_to_end, stops_here as file_stops}
 use Rattle.tech_model.specs.declared.raw.RawTech.{RawTech}
 use Rattle.cell_bodies.specs.declared.bodies.CellBody.{CellBody}
 use Rattle.cell_bodies.specs.declared.bodies.CellUse.{CellUse}
@@ -12,14 +17,11 @@ use Rattle.cell_library.specs.Views.{LibraryView, names_of}
 use Rattle.mag_text.specs.Drafts.{Draft}
 use Rattle.mag_text.specs.MagTexts.{HasAllOf, mag_in}
 use Rattle.cell_loading.specs.declared.faults.LoadFault.{LoadFault}
-use Rattle.cell_loading.specs.declared.stops.Stop.{Stop}
-use Rattle.cell_loading.specs.declared.stops.Stop.TheVariants.{Refused, Halted}
 use Rattle.cell_loading.specs.CellFiles.{ReadCell, draft_gives, file_gives, read_gives, is_known, names_read, scale_of_first}
 use Rattle.cell_loading.specs.Loads.{AreBodiesOf, AreRead}
 use Rattle.cell_loading.specs.ReadCells.{children_of, is_among, names_in}
-use Rattle.cell_loading.specs.Readings.{All as AllRead, Stopped, Reads, children_said, end, opened, passed, stop}
-use Rattle.cell_loading.specs.Stops.{IfRefused}
-use Rattle.cell_loading.specs.Walks.{GoesOn, StopsAt}
+use Rattle.cell_loading.specs.Readings.{cell_files, children_said, with_name}
+use Rattle.cell_loading.specs.Walks.{GoesOnToBodies}
 
 abbrev Cells : Type 0
 Cells = List (List ℕ × CellBody)
@@ -62,21 +64,21 @@ known_same view read cells name are =
 -- nowhere
 pub goes_on_here : (files : Files) (view : LibraryView) (read : List ReadCell) (cells : Cells) (left after : List (List ℕ))
     → AreBodiesOf view.tech read cells
-    → left ≡ after → GoesOn files view read left cells after
+    → left ≡ after → GoesOnToBodies files view read left cells after
 goes_on_here files view read cells left after are same = record {
   read_after = read;
   are_bodies = are;
-  leads = λ reading. subst (λ (names : List (List ℕ)). Reads files view read names reading) (sym same);
+  leads = λ reading. subst (λ (names : List (List ℕ)). Reads (cell_files view) files read names reading) (sym same);
 }
 
 -- over a name that some cell has
 pub goes_on_past : (files : Files) (view : LibraryView) (read : List ReadCell) (cells : Cells) (name : List ℕ) (left after : List (List ℕ))
-    → AreBodiesOf view.tech read cells → left ≡ name ∷ after → is_among view cells name ≡ true → GoesOn files view read left cells after
+    → AreBodiesOf view.tech read cells → left ≡ name ∷ after → is_among view cells name ≡ true → GoesOnToBodies files view read left cells after
 goes_on_past files view read cells name left after are is known = record {
   read_after = read;
   are_bodies = are;
-  leads = λ reading rest. subst (λ (names : List (List ℕ)). Reads files view read names reading) (sym is)
-      (passed (known_same view read cells name are ∙ known) rest);
+  leads = λ reading rest. subst (λ (names : List (List ℕ)). Reads (cell_files view) files read names reading) (sym is)
+      (goes_past (cell_files view) files read name after (known_same view read cells name are ∙ known) reading rest);
 }
 
 -- by a file that was read
@@ -84,19 +86,20 @@ pub goes_on_by : (files : Files) (view : LibraryView) (read : List ReadCell) (ce
     (draft : Draft)
     (body : CellBody) → AreBodiesOf view.tech read cells → is_among view cells name ≡ false → file_gives files view read name ≡ Ok draft
     → HasAllOf view.tech draft body → after ≡ children_of body.uses ++ left
-    → GoesOn files view read (name ∷ left) (cells ++ (name, body) ∷ []) after
+    → GoesOnToBodies files view read (name ∷ left) (cells ++ (name, body) ∷ []) after
 goes_on_by files view read cells name left after draft body are new gives has is = record {
   read_after = read ++ (name, draft) ∷ [];
   are_bodies = one_more view.tech read cells name draft body are has;
   leads = λ reading rest.
       let said : after ≡ children_said draft ++ left = is ∙ ap (λ (uses : List CellUse). children_of uses ++ left) has.uses_are in
-      opened (known_same view read cells name are ∙ new) gives
-      (subst (λ (names : List (List ℕ)). Reads files view (read ++ (name, draft) ∷ []) names reading) said rest);
+      goes_by (cell_files view) files read name (name, draft) left (known_same view read cells name are ∙ new) (ap (with_name name) gives) reading
+      (subst (λ (names : List (List ℕ)). Reads (cell_files view) files (read ++ (name, draft) ∷ []) names reading) said rest);
 }
 
 -- and then on
 pub goes_on_then : (files : Files) (view : LibraryView) (read : List ReadCell) (left middle after : List (List ℕ)) (some more : Cells)
-    → (here : GoesOn files view read left some middle) → GoesOn files view here.read_after middle more after → GoesOn files view read left more after
+    → (here : GoesOnToBodies files view read left some middle) → GoesOnToBodies files view here.read_after middle more after
+    → GoesOnToBodies files view read left more after
 goes_on_then files view read left middle after some more here on =
     record { read_after = on.read_after; are_bodies = on.are_bodies; leads = λ reading rest. here.leads reading (on.leads reading rest) }
 
@@ -105,26 +108,20 @@ goes_on_then files view read left middle after some more here on =
 -- the file is refused
 pub stops_here : (files : Files) (view : LibraryView) (read : List ReadCell) (cells : Cells) (name : List ℕ) (left : List (List ℕ)) (told : LoadFault)
     → AreBodiesOf view.tech read cells → is_among view cells name ≡ false → file_gives files view read name ≡ Err told
-    → StopsAt files view read (name ∷ left) told
+    → StopsAt (cell_files view) files read (name ∷ left) told
 stops_here files view read cells name left told are new gives =
-    record { read_before = read; name = name; stops = stop (known_same view read cells name are ∙ new) gives }
-
--- on the way
-pub stops_later : (files : Files) (view : LibraryView) (read : List ReadCell) (left middle : List (List ℕ)) (some : Cells) (told : LoadFault)
-    → (here : GoesOn files view read left some middle) → StopsAt files view here.read_after middle told → StopsAt files view read left told
-stops_later files view read left middle some told here on =
-    record { read_before = on.read_before; name = on.name; stops = here.leads (Stopped on.read_before on.name told) on.stops }
+    file_stops (cell_files view) files read name left told (known_same view read cells name are ∙ new) (ap (with_name name) gives)
 
 -- nothing is left
-pub all_read : (files : Files) (view : LibraryView) (root : List ℕ) (cells : Cells) → GoesOn files view [] (root ∷ []) cells []
+pub all_read : (files : Files) (view : LibraryView) (root : List ℕ) (cells : Cells) → GoesOnToBodies files view [] (root ∷ []) cells []
     → AreRead files view root cells
 all_read files view root cells here =
-    record { read = here.read_after; reads = here.leads (AllRead here.read_after) end; are_bodies = here.are_bodies }
+    record { read = here.read_after; reads = goes_to_end (cell_files view) files [] here.read_after (root ∷ []) here.leads; are_bodies = here.are_bodies }
 
 -- ---- one file
 
 -- what is given where the text has no fault of its own
-pub body_given : (view : LibraryView) (read : List ReadCell) (file text : List ℕ) (draft : Draft) (body : CellBody) (result : Result CellBody Stop)
+pub body_given : (view : LibraryView) (read : List ReadCell) (file text : List ℕ) (draft : Draft) (body : CellBody) (result : Result CellBody (Stop LoadFault))
     → mag_in view.tech text ≡ Ok draft → HasAllOf view.tech draft body → IfOk result (λ kept. kept ≡ body)
     → OnOk result (draft_gives view read file text draft ≡ Ok draft)
     → IfOk result (λ kept. (said : Draft) × (read_gives view read file text (mag_in view.tech text) ≡ Ok said) × HasAllOf view.tech said kept)
@@ -133,7 +130,7 @@ body_given view read file text draft body (Ok kept) reads has same gives =
 body_given view read file text draft body (Err told) reads has same gives = tt
 
 -- what is told
-pub body_refused : (view : LibraryView) (read : List ReadCell) (file text : List ℕ) (draft : Draft) (result : Result CellBody Stop)
+pub body_refused : (view : LibraryView) (read : List ReadCell) (file text : List ℕ) (draft : Draft) (result : Result CellBody (Stop LoadFault))
     → mag_in view.tech text ≡ Ok draft → IfRefused result (λ told. draft_gives view read file text draft ≡ Err told)
     → IfRefused result (λ told. read_gives view read file text (mag_in view.tech text) ≡ Err told)
 body_refused view read file text draft (Ok kept) reads gives = tt

@@ -1,7 +1,7 @@
 -- A cell that was read comes to the walk, and a step over a name that some cell has.
 use Rattle.std.proofs.Common.{◌≡◌, ◌⊎◌, inl, inr, ◌<◌, ◌≤◌, ◌+◌, ℕ, Bool, true, false}
 use Rattle.std.proofs.Common.{List, [], ◌∷◌, ◌++◌, length, length-append, sym, ap, subst, ◌∙◌, arith}
-use Rattle.std.specs.Prelude.{◌==◌, IsTrue, Result, Ok, Err, OnOk}
+use Rattle.std.specs.Prelude.{◌==◌, IsTrue, Ok}
 use Rattle.std.proofs.lemmas.Bool.{eqb-true}
 use Rattle.std.proofs.lemmas.List.{length-map, nil_from_length}
 use Rattle.std.proofs.lemmas.List.Elements.{All-push, All-same}
@@ -15,15 +15,11 @@ use Rattle.cell_library.specs.Libraries.{IsLawfulLibrary, LibraryParts, seen}
 use Rattle.cell_library.specs.Views.{LibraryView}
 use Rattle.mag_text.specs.Drafts.{Draft}
 use Rattle.mag_text.specs.MagTexts.{HasAllOf}
-use Rattle.cell_loading.specs.declared.faults.LoadFault.{LoadFault}
-use Rattle.cell_loading.specs.declared.stops.Stop.{Stop}
-use Rattle.cell_loading.specs.declared.stops.Stop.TheVariants.{Refused, Halted}
 use Rattle.cell_loading.specs.declared.walks.Frame.{Frame}
 use Rattle.cell_loading.specs.CellFiles.{ReadCell, file_gives}
 use Rattle.cell_loading.specs.Loads.{AreBodiesOf, AreRead}
 use Rattle.cell_loading.specs.ReadCells.{children_of, is_among}
-use Rattle.cell_loading.specs.Stops.{IfRefusal}
-use Rattle.cell_loading.specs.Walks.{names_left, AreFrames, AreSoFar, GoesOn, MayFollow}
+use Rattle.cell_loading.specs.Walks.{names_left, AreFrames, AreSoFar, GoesOnToBodies, MayFollow}
 use Rattle.cell_loading.proofs.LeftLaws.{names_left-read, AreFrames-more}
 use Rattle.cell_loading.proofs.ReadingLaws.{all_read, goes_on_by, goes_on_here, goes_on_past}
 use Rattle.cell_loading.proofs.SoFarLaws.{so_far_end, so_far_passed, so_far_read, so_far_start}
@@ -34,20 +30,6 @@ Cells = List (List ℕ × CellBody)
 -- the frame of a cell that comes
 abbrev pub new_frame : Cells → Frame
 new_frame cells = record { cell = length cells; next = 0 }
-
--- what holds of an Ok since two things do
-pub ok_by_two : {T E P Q R : Type 0} (result : Result T E) → (P → Q → R) → OnOk result P → OnOk result Q → OnOk result R
-ok_by_two (Ok value) gives one two = gives one two
-ok_by_two (Err error) gives one two = tt
-
--- what holds of a refusal since another thing does
-pub refusal_weaker : (stop : Stop) (P Q : LoadFault → Type 0) → ((told : LoadFault) → P told → Q told) → IfRefusal stop P → IfRefusal stop Q
-refusal_weaker (Refused told) P Q gives holds = gives told holds
-refusal_weaker (Halted halt) P Q gives holds = tt
-
--- the fault of a refusal
-pub refusal_told : (stop : Stop) (fault : LoadFault) (P : LoadFault → Type 0) → stop ≡ Refused fault → IfRefusal stop P → P fault
-refusal_told stop fault P is holds = subst (λ (s : Stop). IfRefusal s P) is holds
 
 module _ (view : LibraryView) (cells : Cells) (frames : List Frame) (name : List ℕ) (body : CellBody) (cells_after : Cells)
     (frames_after : List Frame) (cells_are : cells_after ≡ cells ++ (name, body) ∷ []) (frames_are : frames_after ≡ frames ++ new_frame cells ∷ [])
@@ -86,9 +68,9 @@ module _ (view : LibraryView) (cells : Cells) (frames : List Frame) (name : List
 
   pub read_goes_on : (files : Files) (read : List ReadCell) (draft : Draft) → AreBodiesOf view.tech read cells → is_among view cells name ≡ false
       → file_gives files view read name ≡ Ok draft → HasAllOf view.tech draft body
-      → GoesOn files view read (name ∷ names_left cells frames) cells_after (names_left cells_after frames_after)
+      → GoesOnToBodies files view read (name ∷ names_left cells frames) cells_after (names_left cells_after frames_after)
   read_goes_on files read draft bodies new gives has =
-      subst (λ (c : Cells). GoesOn files view read (name ∷ names_left cells frames) c (names_left cells_after frames_after)) (sym cells_are)
+      subst (λ (c : Cells). GoesOnToBodies files view read (name ∷ names_left cells frames) c (names_left cells_after frames_after)) (sym cells_are)
       (goes_on_by files view read cells name (names_left cells frames) (names_left cells_after frames_after) draft body bodies new gives has
       read_left)
 
@@ -101,7 +83,7 @@ stepped_so_far view cells left after (inr past) are = so_far_passed view cells p
 
 pub stepped_goes_on : (files : Files) (view : LibraryView) (read : List ReadCell) (cells : Cells) (left after : List (List ℕ))
     → (left ≡ after) ⊎ ((name : List ℕ) × (left ≡ name ∷ after) × (is_among view cells name ≡ true)) → AreBodiesOf view.tech read cells
-    → GoesOn files view read left cells after
+    → GoesOnToBodies files view read left cells after
 stepped_goes_on files view read cells left after (inl same) are = goes_on_here files view read cells left after are same
 stepped_goes_on files view read cells left after (inr past) are = goes_on_past files view read cells past.0 left after are past.1 past.2
 
@@ -130,6 +112,6 @@ all_came view cells bodies left none is are some =
     subst (CanBeAdded view) (sym is) (so_far_end view cells (subst (AreSoFar view cells) none are) some)
 
 pub all_are_read : (files : Files) (view : LibraryView) (root : List ℕ) (cells bodies : Cells) (left : List (List ℕ)) → left ≡ [] → bodies ≡ cells
-    → GoesOn files view [] (root ∷ []) cells left → AreRead files view root bodies
+    → GoesOnToBodies files view [] (root ∷ []) cells left → AreRead files view root bodies
 all_are_read files view root cells bodies left none is here =
-    subst (AreRead files view root) (sym is) (all_read files view root cells (subst (GoesOn files view [] (root ∷ []) cells) none here))
+    subst (AreRead files view root) (sym is) (all_read files view root cells (subst (GoesOnToBodies files view [] (root ∷ []) cells) none here))

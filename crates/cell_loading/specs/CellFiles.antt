@@ -4,12 +4,12 @@ use Rattle.std.specs.Prelude.{Result, Ok, Err}
 use Rattle.std.specs.List.{list_any}
 use Rattle.std.specs.Option.{option_or}
 use Rattle.std.specs.Str.{bytes_eq}
-use Rattle.geo_core.specs.declared.limits.Limit.TheVariants.{Cells, Uses}
 use Rattle.text_form.specs.declared.reading.At.{At}
 use Rattle.outside_io.specs.Files.{Files}
 use Rattle.session_model.specs.declared.fetching.FetchFault.{FetchFault}
 use Rattle.session_model.specs.Fetches.{text_in}
 use Rattle.cell_tree.specs.declared.limits.TheConstants.{MOST_USES}
+use Rattle.cell_library.specs.declared.limits.LibraryLimit.TheVariants.{Cells, Uses}
 use Rattle.cell_library.specs.declared.limits.TheConstants.{MOST_CELLS}
 use Rattle.cell_library.specs.Views.{LibraryView, names_of}
 use Rattle.mag_text.specs.declared.faults.MagFault.{MagFault}

@@ -3,5 +3,4 @@ pub mod CellFiles
 pub mod Loads
 pub mod ReadCells
 pub mod Readings
-pub mod Stops
 pub mod Walks

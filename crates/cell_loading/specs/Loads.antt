@@ -6,6 +6,7 @@ use Rattle.session_model.specs.declared.report.LineKind.TheVariants.{Refusal}
 use Rattle.session_model.specs.declared.report.Cause.{Cause}
 use Rattle.session_model.specs.declared.report.Cause.TheVariants.{Inside}
 use Rattle.session_model.specs.Fetches.{cause_of_fault}
+use Rattle.session_model.specs.FileTrees.{All, FileIsRefused, Reads, fetched_by}
 use Rattle.tech_model.specs.declared.raw.RawTech.{RawTech}
 use Rattle.cell_bodies.specs.declared.bodies.CellBody.{CellBody}
 use Rattle.cell_library.specs.declared.faults.LibFault.{LibFault}
@@ -20,7 +21,7 @@ use Rattle.cell_loading.specs.declared.faults.LoadFault.TheVariants as fault
 use Rattle.cell_loading.specs.declared.loading.Loaded.{Loaded}
 use Rattle.cell_loading.specs.declared.loading.Loaded.TheVariants as loaded
 use Rattle.cell_loading.specs.CellFiles.{ReadCell}
-use Rattle.cell_loading.specs.Readings.{All, Stopped, Reads, fetched_by}
+use Rattle.cell_loading.specs.Readings.{cell_files}
 
 -- Each body has the name of a cell that was read, and what its text says: its paint is that of the rectangles, painted in order.
 abbrev pub AreBodiesOf : RawTech → List ReadCell → List (List ℕ × CellBody) → Type 0
@@ -32,7 +33,7 @@ AreBodiesOf raw (cell ∷ read) (body ∷ bodies) = (body.0 ≡ cell.0) × HasAl
 -- All files below the root were read, and these are the bodies of their cells.
 pub record AreRead (files : Files) (view : LibraryView) (root : List ℕ) (bodies : List (List ℕ × CellBody)) : Type 0 where
   pub read : List ReadCell
-  pub reads : Reads files view [] (root ∷ []) (All read)
+  pub reads : Reads (cell_files view) files [] (root ∷ []) (All read)
   pub are_bodies : AreBodiesOf view.tech read bodies
 
 -- The cells of the files came to the library, in the order in which the files were read.
@@ -43,7 +44,7 @@ pub record IsLoaded (files : Files) (view after : LibraryView) (edits : ℕ) (ro
   pub may_come : (refused : LibFault) → EditIsRefused edits (AddAllIsRefused view bodies) refused → ⊥
   pub after_is : after ≡ with_all view bodies
   pub count_is : count ≡ length bodies
-  pub fetched_are : fetched ≡ fetched_by (All are_read.read)
+  pub fetched_are : fetched ≡ fetched_by (cell_files view) (All are_read.read)
 
 -- the fault of a load for which a library refuses the cells; no other refuses cells that come
 abbrev pub end_fault : LibFault → LoadFault
@@ -52,13 +53,6 @@ end_fault (library.Cycle name) = fault.Cycle name
 end_fault (library.TooMany limit) = fault.TooMany limit
 end_fault _ = fault.Memory
 
--- a file is refused: it is not there or too long, or its text has a fault, or another scale, or too much
-pub record FileIsRefused (files : Files) (view : LibraryView) (root : List ℕ) (fetched : List (List ℕ)) (told : LoadFault) : Type 0 where
-  pub read : List ReadCell
-  pub name : List ℕ
-  pub stops : Reads files view [] (root ∷ []) (Stopped read name told)
-  pub fetched_are : fetched ≡ fetched_by (Stopped read name told)
-
 -- all files were read, and the library refuses their cells
 pub record CellsAreRefused (files : Files) (view : LibraryView) (edits : ℕ) (root : List ℕ) (fetched : List (List ℕ)) (told : LoadFault) : Type 0 where
   pub bodies : List (List ℕ × CellBody)
@@ -66,14 +60,15 @@ pub record CellsAreRefused (files : Files) (view : LibraryView) (edits : ℕ) (r
   pub refused : LibFault
   pub is_refused : EditIsRefused edits (AddAllIsRefused view bodies) refused
   pub is : told ≡ end_fault refused
-  pub fetched_are : fetched ≡ fetched_by (All are_read.read)
+  pub fetched_are : fetched ≡ fetched_by (cell_files view) (All are_read.read)
 
--- What refuses a load: there is a cell of the name; or the first file that is refused; or else the cells as a whole.
+-- What refuses a load: there is a cell of the name; or the first file that is refused, since it is not there or too long, or its text has a
+-- fault, or another scale, or too much; or else the cells as a whole.
 abbrev pub LoadIsRefused : Files → LibraryView → ℕ → List ℕ → List (List ℕ) → LoadFault → Type 0
 LoadIsRefused files view edits root fetched told =
     (IsSome (cell_named view root) × (told ≡ fault.CellExists root) × (fetched ≡ []))
     ⊎ ((IsSome (cell_named view root) → ⊥)
-    × (FileIsRefused files view root fetched told ⊎ CellsAreRefused files view edits root fetched told))
+    × (FileIsRefused (cell_files view) files root fetched told ⊎ CellsAreRefused files view edits root fetched told))
 
 -- What a load answers is so, and a refused one changed nothing.
 abbrev pub LoadGives : Files → LibraryParts → LibraryParts → List ℕ → Loaded → Type 0

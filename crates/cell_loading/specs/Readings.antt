@@ -1,35 +1,27 @@
--- In which order a load reads the files of cells.
-use Rattle.std.specs.Prelude.{◌≡◌, ℕ, true, false, List, [], ◌∷◌, ◌++◌, map, Ok, Err}
-use Rattle.outside_io.specs.Files.{Files}
+-- The files of cells as a kind of files that lead to others.
+use Rattle.std.specs.Prelude.{ℕ, List, map, Result, Ok, Err}
+use Rattle.session_model.specs.FileTrees.{FileKind}
 use Rattle.cell_library.specs.Views.{LibraryView}
 use Rattle.mag_text.specs.Drafts.{Draft}
 use Rattle.cell_loading.specs.declared.faults.LoadFault.{LoadFault}
-use Rattle.cell_loading.specs.CellFiles.{ReadCell, cell_file, file_gives, is_known, names_read}
+use Rattle.cell_loading.specs.CellFiles.{ReadCell, cell_file, file_gives, is_known}
 
 -- the cells that a text uses, in the order of its uses
 abbrev pub children_said : Draft → List (List ℕ)
 children_said draft = map (λ used. used.cell) draft.uses
 
--- What reading came to: all cells, in the order in which they were read; or those before the one whose file is refused, that one, and why.
-pub data Reading : Type 0 where
-  All : List ReadCell → Reading
-  Stopped : List ReadCell → List ℕ → LoadFault → Reading
+-- what a file gives, with the name of its cell
+abbrev pub with_name : List ℕ → Result Draft LoadFault → Result ReadCell LoadFault
+with_name name (Ok draft) = Ok (name, draft)
+with_name name (Err told) = Err told
 
--- Where these cells were read and those of these names are to be read next, in their order, reading comes to this. A name that the library
--- has or that was read is passed over. What a text uses is read before the names that stood behind its own: depth first, in the order of
--- uses, each name once.
-pub data Reads (files : Files) (view : LibraryView) : List ReadCell → List (List ℕ) → Reading → Type 0 where
-  end : {read : List ReadCell} → Reads files view read [] (All read)
-  passed : {read : List ReadCell} {name : List ℕ} {names : List (List ℕ)} {reading : Reading}
-      → is_known view read name ≡ true → Reads files view read names reading → Reads files view read (name ∷ names) reading
-  opened : {read : List ReadCell} {name : List ℕ} {names : List (List ℕ)} {reading : Reading} {draft : Draft}
-      → is_known view read name ≡ false → file_gives files view read name ≡ Ok draft
-      → Reads files view (read ++ (name, draft) ∷ []) (children_said draft ++ names) reading → Reads files view read (name ∷ names) reading
-  stop : {read : List ReadCell} {name : List ℕ} {names : List (List ℕ)} {fault : LoadFault}
-      → is_known view read name ≡ false → file_gives files view read name ≡ Err fault
-      → Reads files view read (name ∷ names) (Stopped read name fault)
-
--- the files that reading asked for, in their order
-abbrev pub fetched_by : Reading → List (List ℕ)
-fetched_by (All read) = map cell_file (names_read read)
-fetched_by (Stopped read name fault) = map cell_file (names_read read) ++ cell_file name ∷ []
+-- The files of cells that come to this library. A cell that the library has or that was read is passed over, and a text leads to the cells
+-- that it uses.
+abbrev pub cell_files : LibraryView → FileKind ReadCell LoadFault
+cell_files view = record {
+  file = cell_file;
+  is_known = is_known view;
+  gives = λ files read name. with_name name (file_gives files view read name);
+  name = λ cell. cell.0;
+  leads_to = λ cell. children_said cell.1;
+}

@@ -4,20 +4,20 @@ use Rattle.std.specs.Option.{option_or}
 use Rattle.finite_sets.specs.Lists.{In, Distinct}
 use Rattle.text_scan.specs.PlainNames.{is_plain_name}
 use Rattle.outside_io.specs.Files.{Files}
+use Rattle.session_model.specs.FileTrees.{GoesOn}
 use Rattle.cell_tree.specs.declared.limits.TheConstants.{MOST_USES}
 use Rattle.cell_bodies.specs.declared.bodies.CellBody.{CellBody}
 use Rattle.cell_bodies.specs.Bodies.{IsBody}
 use Rattle.cell_library.specs.declared.limits.TheConstants.{MOST_CELLS}
 use Rattle.cell_library.specs.Additions.{first_scale, names_with}
 use Rattle.cell_library.specs.Views.{LibraryView}
-use Rattle.cell_loading.specs.declared.faults.LoadFault.{LoadFault}
 use Rattle.cell_loading.specs.declared.walks.Frame.{Frame}
 use Rattle.cell_loading.specs.declared.walks.Next.{Next}
 use Rattle.cell_loading.specs.declared.walks.Next.TheVariants as next
 use Rattle.cell_loading.specs.CellFiles.{ReadCell, has_scale}
 use Rattle.cell_loading.specs.Loads.{AreBodiesOf}
 use Rattle.cell_loading.specs.ReadCells.{children_of, is_among, uses_at}
-use Rattle.cell_loading.specs.Readings.{Reading, Reads, Stopped}
+use Rattle.cell_loading.specs.Readings.{cell_files}
 
 -- the names that a cell uses and that were not taken yet
 abbrev pub rest_of : List (List ℕ × CellBody) → Frame → List (List ℕ)
@@ -67,14 +67,8 @@ pub record AreSoFar (view : LibraryView) (cells : List (List ℕ × CellBody)) (
   pub left_plain : All (λ name. IsTrue (is_plain_name name)) left
 
 -- Reading went on from these cells, and names that are left, to those, whose bodies these are: what it comes to from there, it comes to from here.
-pub record GoesOn (files : Files) (view : LibraryView) (read : List ReadCell) (left : List (List ℕ))
+pub record GoesOnToBodies (files : Files) (view : LibraryView) (read : List ReadCell) (left : List (List ℕ))
     (cells : List (List ℕ × CellBody)) (left_after : List (List ℕ)) : Type 0 where
   pub read_after : List ReadCell
   pub are_bodies : AreBodiesOf view.tech read_after cells
-  pub leads : (reading : Reading) → Reads files view read_after left_after reading → Reads files view read left reading
-
--- Reading from here stops at a file that is refused.
-pub record StopsAt (files : Files) (view : LibraryView) (read : List ReadCell) (left : List (List ℕ)) (told : LoadFault) : Type 0 where
-  pub read_before : List ReadCell
-  pub name : List ℕ
-  pub stops : Reads files view read left (Stopped read_before name told)
+  pub leads : GoesOn (cell_files view) files read left read_after left_after

@@ -3,27 +3,26 @@ ghost use Rattle.std.specs.Prelude.{◌≡◌, ◌≢◌, ◌+◌, nat_le, lengt
 ghost use Rattle.std.specs.Option.{option_or};
 ghost use Rattle.outside_io.specs.Files.{Files};
 ghost use Rattle.session_model.specs.Causes.{HasCauses};
+ghost use Rattle.session_model.specs.Stops.{answer_of, kinds_of_told, ComesFromInside, IfRefused};
 ghost use Rattle.cell_library.specs.Additions.{first_scale};
 ghost use Rattle.cell_library.specs.Libraries.{seen};
 ghost use Rattle.cell_bodies.specs.Bodies.{IsBody};
 ghost use Rattle.mag_text.specs.Drafts.{Draft};
 ghost use Rattle.mag_text.specs.MagTexts.{HasAllOf, mag_in};
 ghost use Rattle.cell_loading.specs.CellFiles.{cell_file, draft_gives, file_gives, has_scale, read_gives, scale_of_first, ReadCell};
-ghost use Rattle.cell_loading.specs.Loads.{AreBodiesOf};
+ghost use Rattle.cell_loading.specs.Loads.{AreBodiesOf, cause_of_load};
 ghost use Rattle.cell_loading.specs.ReadCells.{is_among};
-ghost use Rattle.cell_loading.specs.Stops.{answer_of, kinds_of_told, ComesFromInside, IfRefused};
 ghost use Rattle.cell_loading.specs.Walks.{MayFollow};
 
 use crate::faults::LoadFault;
 use crate::read_cells::ReadCells;
-use crate::stops::Stop;
 use cell_bodies::CellBody;
-use cell_library::{Library, MOST_CELLS};
+use cell_library::{Library, LibraryLimit, MOST_CELLS};
 use cell_tree::MOST_USES;
-use geo_core::{Limit, Name};
 use mag_text::{MagAt, MagFault, read_mag, scale_line};
+use names_lists::Name;
 use outside_io::Shelf;
-use session_model::{Fetched, Halt, fetch_text};
+use session_model::{Fetched, Halt, Stop, fetch_text};
 use std::alloc::Global;
 
 /// Whether a cell of the library, or one that was read, has the name.
@@ -41,7 +40,7 @@ pub fn read_cell_file<F: Shelf>(
     shelf: &mut F,
     cells: &ReadCells,
     name: &Name,
-) -> Result<CellBody, Stop>
+) -> Result<CellBody, Stop<LoadFault>>
     ensures read { (files : Files) (read : List ReadCell) → F.files shelf.old ≡ Some files → AreBodiesOf library.now.tech read cells.now →
         IfOk result (λ body. (draft : Draft) × (file_gives files (seen library.now) read name.now ≡ Ok draft) × HasAllOf library.now.tech draft
         body) }
@@ -49,7 +48,7 @@ pub fn read_cell_file<F: Shelf>(
         IfRefused result (λ told. file_gives files (seen library.now) read name.now ≡ Err told) }
     ensures follows { IfOk result (MayFollow (seen library.now) cells.now) }
     ensures files { F.files shelf.new ≡ F.files shelf.old }
-    ensures causes { HasCauses F.Shelf shelf.old shelf.new kinds_of_told (answer_of result) }
+    ensures causes { HasCauses F.Shelf shelf.old shelf.new (kinds_of_told cause_of_load) (answer_of result) }
 {
     let file = cell_file(alloc, name)?;
     match fetch_text(alloc, shelf, &file) {
@@ -60,9 +59,9 @@ pub fn read_cell_file<F: Shelf>(
 }
 
 // The name of the file of a cell.
-fn cell_file(alloc: Global, name: &Name) -> Result<Name, Stop>
+fn cell_file(alloc: Global, name: &Name) -> Result<Name, Stop<LoadFault>>
     ensures file { IfOk result (λ file. file ≡ cell_file name.now) }
-    ensures inside { ComesFromInside result }
+    ensures inside { ComesFromInside cause_of_load result }
     ensures unrefused { IfRefused result (λ _. ⊥) }
 {
     let mut bytes = Vec::from_slice(alloc, name.bytes())?;
@@ -77,13 +76,13 @@ fn read_body(
     cells: &ReadCells,
     file: Name,
     text: &[u8],
-) -> Result<CellBody, Stop>
+) -> Result<CellBody, Stop<LoadFault>>
     ensures read { (read : List ReadCell) → AreBodiesOf library.now.tech read cells.now → IfOk result (λ body. (draft : Draft)
         × (read_gives (seen library.now) read file text.now (mag_in library.now.tech text.now) ≡ Ok draft) × HasAllOf library.now.tech draft body) }
     ensures refused { (read : List ReadCell) → AreBodiesOf library.now.tech read cells.now →
         IfRefused result (λ told. read_gives (seen library.now) read file text.now (mag_in library.now.tech text.now) ≡ Err told) }
     ensures follows { IfOk result (MayFollow (seen library.now) cells.now) }
-    ensures inside { ComesFromInside result }
+    ensures inside { ComesFromInside cause_of_load result }
 {
     match read_mag(alloc, library.tech(), text) {
         Ok(body) => check_body(library, cells, file, text, body),
@@ -92,7 +91,7 @@ fn read_body(
 }
 
 // Why the text of this file isn't read.
-fn unread(file: Name, at: MagAt) -> Stop
+fn unread(file: Name, at: MagAt) -> Stop<LoadFault>
     ensures halted { at.fault ≡ MagFault.Memory → result ≡ Stop.Halted Halt.Memory }
     ensures refused { at.fault ≢ MagFault.Memory → result ≡ Stop.Refused (LoadFault.Mag file at) }
 {
@@ -109,7 +108,7 @@ fn check_body(
     file: Name,
     text: &[u8],
     body: CellBody,
-) -> Result<CellBody, Stop>
+) -> Result<CellBody, Stop<LoadFault>>
     requires { IsBody library.now.tech body }
     ensures same { IfOk result (λ kept. kept ≡ body) }
     ensures read { (read : List ReadCell) (draft : Draft) → scale_of_first read ≡ first_scale cells.now → length read ≡ length cells.now
@@ -118,16 +117,16 @@ fn check_body(
         → body.uses ≡ draft.uses → body.scale ≡ draft.scale → IfRefused result (λ told. draft_gives
         (seen library.now) read file text.now draft ≡ Err told) }
     ensures follows { IfOk result (MayFollow (seen library.now) cells.now) }
-    ensures inside { ComesFromInside result }
+    ensures inside { ComesFromInside cause_of_load result }
 {
     if !has_scale(asked_scale(library, cells), body.scale) {
         return Err(Stop::Refused(LoadFault::Scale(file, scale_line(text))));
     }
     if body.uses.items().len() > MOST_USES {
-        return Err(Stop::Refused(LoadFault::TooMany(Limit::Uses)));
+        return Err(Stop::Refused(LoadFault::TooMany(LibraryLimit::Uses)));
     }
     if is_full(library, cells) {
-        return Err(Stop::Refused(LoadFault::TooMany(Limit::Cells)));
+        return Err(Stop::Refused(LoadFault::TooMany(LibraryLimit::Cells)));
     }
     Ok(body)
 }

@@ -1,7 +1,8 @@
 //! Why a load is refused.
 
-use geo_core::{Limit, Name};
+use cell_library::LibraryLimit;
 use mag_text::MagAt;
+use names_lists::Name;
 use session_model::FetchFault;
 use thiserror::Error;
 
@@ -28,7 +29,7 @@ pub enum LoadFault {
     OutOfRange,
     /// There would be too many of these.
     #[error("too many")]
-    TooMany(Limit),
+    TooMany(LibraryLimit),
     /// There was not enough memory.
     #[error("out of memory")]
     Memory,

@@ -1,6 +1,7 @@
 //! Loading cells from files into a library.
 //!
-//! `CellFiles` says what the file of one cell gives, `Readings` in which order files are read, and `Loads` what a load makes of the library.
+//! `CellFiles` says what the file of one cell gives, `Readings` to which other files it leads (they are read in the order of `FileTrees` of
+//! `session_model`), and `Loads` what a load makes of the library.
 //!
 //! # How the proof goes
 //!
@@ -16,7 +17,6 @@ mod cell_files;
 mod faults;
 mod loading;
 mod read_cells;
-mod stops;
 mod walks;
 
 pub use faults::LoadFault;

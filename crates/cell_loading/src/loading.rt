@@ -3,22 +3,22 @@ ghost use Rattle.std.specs.Prelude.{◌≡◌, [], ◌∷◌, false, Some, IfOk,
 ghost use Rattle.text_scan.specs.PlainNames.{is_plain_name};
 ghost use Rattle.outside_io.specs.Files.{Files};
 ghost use Rattle.session_model.specs.Causes.{HasCauses};
+ghost use Rattle.session_model.specs.FileTrees.{StopsAt};
+ghost use Rattle.session_model.specs.Stops.{answer_of, kinds_of_told, IfRefused};
 ghost use Rattle.cell_library.specs.Additions.{CanBeAdded};
 ghost use Rattle.cell_library.specs.Libraries.{IsSame, seen};
 ghost use Rattle.cell_loading.specs.Arrivals.{ArriveWithStamps, Arrives};
-ghost use Rattle.cell_loading.specs.Loads.{end_fault, AreRead, HasMoreIfLoaded, KeepsIfRefused, LoadGives, kinds_of_loaded};
+ghost use Rattle.cell_loading.specs.Loads.{end_fault, AreRead, HasMoreIfLoaded, KeepsIfRefused, LoadGives, cause_of_load, kinds_of_loaded};
 ghost use Rattle.cell_loading.specs.ReadCells.{is_among};
-ghost use Rattle.cell_loading.specs.Stops.{answer_of, kinds_of_told, IfRefused};
-ghost use Rattle.cell_loading.specs.Walks.{StopsAt};
+ghost use Rattle.cell_loading.specs.Readings.{cell_files};
 
 use crate::faults::LoadFault;
-use crate::stops::Stop;
 use crate::walks::Walk;
 use cell_bodies::CellBody;
 use cell_library::{LibFault, Library};
-use geo_core::Name;
+use names_lists::Name;
 use outside_io::Shelf;
-use session_model::Halt;
+use session_model::{Halt, Stop};
 use std::alloc::Global;
 
 /// What a load answers.
@@ -63,14 +63,14 @@ fn read_below<F: Shelf>(
     library: &Library,
     shelf: &mut F,
     root: &Name,
-) -> Result<Vec<(Name, CellBody)>, Stop>
+) -> Result<Vec<(Name, CellBody)>, Stop<LoadFault>>
     requires root { IsTrue (is_plain_name root.now) }
     requires new { is_among (seen library.now) [] root.now ≡ false }
     ensures read { (files : Files) → F.files shelf.old ≡ Some files → IfOk result (λ cells. AreRead files (seen library.now) root.now cells.items) }
-    ensures refused { (files : Files) → F.files shelf.old ≡ Some files → IfRefused result (StopsAt files (seen library.now) [] (root.now ∷ [])) }
+    ensures refused { (files : Files) → F.files shelf.old ≡ Some files → IfRefused result (StopsAt (cell_files (seen library.now)) files [] (root.now ∷ [])) }
     ensures addable { IfOk result (λ cells. CanBeAdded (seen library.now) cells.items) }
     ensures files { F.files shelf.new ≡ F.files shelf.old }
-    ensures causes { HasCauses F.Shelf shelf.old shelf.new kinds_of_told (answer_of result) }
+    ensures causes { HasCauses F.Shelf shelf.old shelf.new (kinds_of_told cause_of_load) (answer_of result) }
 {
     library.lawful();
     let mut walk = Walk::new(alloc);

@@ -6,7 +6,7 @@ ghost use Rattle.cell_library.specs.Additions.{first_scale};
 ghost use Rattle.cell_loading.specs.ReadCells.{names_in, uses_at};
 
 use cell_bodies::{CellBody, CellUse};
-use geo_core::Name;
+use names_lists::Name;
 use std::alloc::{AllocError, Global};
 use std::collections::HashSet;
 use std::marker::Model;

@@ -2,22 +2,25 @@
 ghost use Rattle.std.specs.Prelude.{◌≡◌, ◌<◌, ◌≤◌, ◌+◌, [], ◌∷◌, ◌++◌, false, length, List, Some, IfOk, IfSome, OnOk};
 ghost use Rattle.outside_io.specs.Files.{Files};
 ghost use Rattle.session_model.specs.Causes.{HasCauses};
+ghost use Rattle.session_model.specs.FileTrees.{StopsAt};
+ghost use Rattle.session_model.specs.Stops.{answer_of, kinds_of_told, ComesFromInside, IfRefused};
 ghost use Rattle.cell_tree.specs.declared.limits.TheConstants.{MOST_USES};
 ghost use Rattle.cell_library.specs.Libraries.{seen};
 ghost use Rattle.cell_loading.specs.CellFiles.{ReadCell};
-ghost use Rattle.cell_loading.specs.Loads.{AreBodiesOf};
+ghost use Rattle.cell_loading.specs.Loads.{AreBodiesOf, cause_of_load};
 ghost use Rattle.cell_loading.specs.ReadCells.{is_among};
-ghost use Rattle.cell_loading.specs.Stops.{answer_of, kinds_of_told, ComesFromInside, IfRefused};
-ghost use Rattle.cell_loading.specs.Walks.{names_left, rest_of, work_left, AreFrames, AreSoFar, GoesOn, StopsAt, Takes, TakesFrom};
+ghost use Rattle.cell_loading.specs.Readings.{cell_files};
+ghost use Rattle.cell_loading.specs.Walks.{names_left, rest_of, work_left, AreFrames, AreSoFar, GoesOnToBodies, Takes, TakesFrom};
 
 use crate::cell_files::{is_known, read_cell_file};
+use crate::faults::LoadFault;
 use crate::read_cells::ReadCells;
-use crate::stops::Stop;
 use cell_bodies::CellBody;
 use cell_library::Library;
-use geo_core::{GeoFault, Name};
+use names_lists::Name;
 use outside_io::Shelf;
-use std::alloc::Global;
+use session_model::Stop;
+use std::alloc::{AllocError, Global};
 
 /// A cell that was read, by its position, and the next of its uses.
 #[derive(Clone, Copy, Debug, PartialEq, Eq)]
@@ -51,7 +54,7 @@ fn take_use(
     library: &Library,
     cells: &ReadCells,
     frame: &mut Frame,
-) -> Result<Next, GeoFault>
+) -> Result<Next, AllocError>
     requires { frame.old.cell < length cells.now }
     ensures taken { IfOk result (TakesFrom (seen library.now) cells.now (rest_of cells.now frame.old) (rest_of cells.now frame.new)) }
     ensures same { frame.new.cell ≡ frame.old.cell }
@@ -81,7 +84,7 @@ impl Walk {
     }
 
     // Takes the next name that is left, and gives it where no cell has it. Where the uses of the top frame were all taken, that frame goes.
-    fn advance(&mut self, alloc: Global, library: &Library) -> Result<Option<Name>, Stop>
+    fn advance(&mut self, alloc: Global, library: &Library) -> Result<Option<Name>, Stop<LoadFault>>
         requires frames { AreFrames (length self.old.cells) self.old.frames.items }
         requires some { 0 < length self.old.frames.items }
         ensures cells { self.new.cells ≡ self.old.cells }
@@ -91,7 +94,7 @@ impl Walk {
         ensures less { OnOk result (length (names_left self.old.cells self.new.frames.items) + length self.new.frames.items
             < length (names_left self.old.cells self.old.frames.items) + length self.old.frames.items) }
         ensures fewer { IfOk result (λ taken. IfSome taken (λ _. length self.new.frames.items ≡ length self.old.frames.items)) }
-        ensures inside { ComesFromInside result }
+        ensures inside { ComesFromInside cause_of_load result }
         ensures unrefused { IfRefused result (λ _. ⊥) }
     {
         let Some(mut frame) = self.frames.pop() else {
@@ -111,10 +114,10 @@ impl Walk {
     }
 
     // Adds a cell that was read, none of whose uses was taken yet.
-    fn add(&mut self, name: Name, body: CellBody) -> Result<(), Stop>
+    fn add(&mut self, name: Name, body: CellBody) -> Result<(), Stop<LoadFault>>
         ensures cells { OnOk result (self.new.cells ≡ self.old.cells ++ (name, body) ∷ []) }
         ensures frames { OnOk result (self.new.frames.items ≡ self.old.frames.items ++ (record { cell = length self.old.cells; next = 0 }) ∷ []) }
-        ensures inside { ComesFromInside result }
+        ensures inside { ComesFromInside cause_of_load result }
         ensures unrefused { IfRefused result (λ _. ⊥) }
     {
         let cell = self.cells.len();
@@ -130,7 +133,7 @@ impl Walk {
         library: &Library,
         shelf: &mut F,
         name: Name,
-    ) -> Result<(), Stop>
+    ) -> Result<(), Stop<LoadFault>>
         requires so_far { AreSoFar (seen library.now) self.old.cells (name ∷ names_left self.old.cells self.old.frames.items) }
         requires new { is_among (seen library.now) self.old.cells name ≡ false }
         requires frames { AreFrames (length self.old.cells) self.old.frames.items }
@@ -141,12 +144,12 @@ impl Walk {
         ensures few { OnOk result (length (names_left self.new.cells self.new.frames.items)
             ≤ length (names_left self.old.cells self.old.frames.items) + MOST_USES) }
         ensures goes_on { (files : Files) (read : List ReadCell) → F.files shelf.old ≡ Some files → AreBodiesOf library.now.tech read self.old.cells →
-            OnOk result (GoesOn files (seen library.now) read (name ∷ names_left self.old.cells self.old.frames.items)
+            OnOk result (GoesOnToBodies files (seen library.now) read (name ∷ names_left self.old.cells self.old.frames.items)
             self.new.cells (names_left self.new.cells self.new.frames.items)) }
         ensures stops { (files : Files) (read : List ReadCell) → F.files shelf.old ≡ Some files → AreBodiesOf library.now.tech read self.old.cells →
-            IfRefused result (StopsAt files (seen library.now) read (name ∷ names_left self.old.cells self.old.frames.items)) }
+            IfRefused result (StopsAt (cell_files (seen library.now)) files read (name ∷ names_left self.old.cells self.old.frames.items)) }
         ensures files { F.files shelf.new ≡ F.files shelf.old }
-        ensures causes { HasCauses F.Shelf shelf.old shelf.new kinds_of_told (answer_of result) }
+        ensures causes { HasCauses F.Shelf shelf.old shelf.new (kinds_of_told cause_of_load) (answer_of result) }
     {
         match read_cell_file(alloc, library, shelf, &self.cells, &name) {
             Ok(body) => self.add(name, body),
@@ -160,7 +163,7 @@ impl Walk {
         alloc: Global,
         library: &Library,
         shelf: &mut F,
-    ) -> Result<(), Stop>
+    ) -> Result<(), Stop<LoadFault>>
         requires so_far { AreSoFar (seen library.now) self.old.cells (names_left self.old.cells self.old.frames.items) }
         requires frames { AreFrames (length self.old.cells) self.old.frames.items }
         requires some { 0 < length self.old.frames.items }
@@ -169,12 +172,12 @@ impl Walk {
         ensures kept { OnOk result (length self.old.cells ≤ length self.new.cells) }
         ensures less { OnOk result (work_left self.new.cells self.new.frames.items < work_left self.old.cells self.old.frames.items) }
         ensures goes_on { (files : Files) (read : List ReadCell) → F.files shelf.old ≡ Some files → AreBodiesOf library.now.tech read self.old.cells →
-            OnOk result (GoesOn files (seen library.now) read (names_left self.old.cells self.old.frames.items)
+            OnOk result (GoesOnToBodies files (seen library.now) read (names_left self.old.cells self.old.frames.items)
             self.new.cells (names_left self.new.cells self.new.frames.items)) }
         ensures stops { (files : Files) (read : List ReadCell) → F.files shelf.old ≡ Some files → AreBodiesOf library.now.tech read self.old.cells →
-            IfRefused result (StopsAt files (seen library.now) read (names_left self.old.cells self.old.frames.items)) }
+            IfRefused result (StopsAt (cell_files (seen library.now)) files read (names_left self.old.cells self.old.frames.items)) }
         ensures files { F.files shelf.new ≡ F.files shelf.old }
-        ensures causes { HasCauses F.Shelf shelf.old shelf.new kinds_of_told (answer_of result) }
+        ensures causes { HasCauses F.Shelf shelf.old shelf.new (kinds_of_told cause_of_load) (answer_of result) }
     {
         match self.advance(alloc, library)? {
             Some(name) => self.read(alloc, library, shelf, name),

@@ -21,9 +21,9 @@ use crate::records::record_of;
 use cell_paint::{CellPaint, PAINT_RANGE};
 use ext_model::NodeRec;
 use flood_nodes::{Regions, regions};
-use geo_core::{List, Name};
 use measures::{MeasureRow, Measures, measure_tiles};
 use names::{NamedNode, name_nodes};
+use names_lists::{List, Name};
 use std::alloc::{AllocError, Global};
 use tech_model::{Label, Tech};
 
@@ -57,9 +57,7 @@ fn regions_of(alloc: Global, tech: &Tech, paint: &CellPaint) -> Result<Regions, 
     // The proof takes from these calls that the technology is well formed and the paint sound.
     let _ = tech.raw();
     let _ = paint.box_of();
-    let Ok(found) = regions(alloc, tech, paint, PAINT_RANGE) else {
-        return Err(AllocError);
-    };
+    let found = regions(alloc, tech, paint, PAINT_RANGE)?;
     Ok(found)
 }
 

@@ -7,24 +7,10 @@ ghost use Rattle.cell_nodes.specs.Records.{IsRecordOf};
 
 use crate::capacitances::capacitance_of;
 use ext_model::NodeRec;
-use geo_core::{List, Name};
 use names::NamedNode;
+use names_lists::{List, Name};
 use std::alloc::{AllocError, Global};
 use tech_model::Tech;
-
-/// An equal name.
-fn copy(alloc: Global, name: &Name) -> Result<Name, AllocError>
-    ensures { IfOk result (λ copy. copy ≡ name.now) }
-{
-    name.copy(alloc).map_err(|_| AllocError)
-}
-
-/// A name of these bytes.
-fn name_of(alloc: Global, bytes: &[u8]) -> Result<Name, AllocError>
-    ensures { IfOk result (λ name. name ≡ bytes.now) }
-{
-    Name::of(alloc, bytes).map_err(|_| AllocError)
-}
 
 /// Equal names.
 fn copies(alloc: Global, names: &[Name]) -> Result<Vec<Name>, AllocError>
@@ -32,7 +18,7 @@ fn copies(alloc: Global, names: &[Name]) -> Result<Vec<Name>, AllocError>
 {
     let mut copies = Vec::with_capacity(alloc, names.len())?;
     for name in names {
-        copies.push(copy(alloc, name)?)?;
+        copies.push(name.copy(alloc)?)?;
     }
     Ok(copies)
 }
@@ -43,7 +29,7 @@ fn names_of(alloc: Global, names: &[Name]) -> Result<(Name, Vec<Name>), AllocErr
     ensures { IfOk result (λ made. made.0 ∷ made.1.items ≡ names.now) }
 {
     match names {
-        [first, others @ ..] => Ok((copy(alloc, first)?, copies(alloc, others)?)),
+        [first, others @ ..] => Ok((first.copy(alloc)?, copies(alloc, others)?)),
         [] => Err(AllocError),
     }
 }
@@ -62,7 +48,7 @@ pub fn record_of(
     ensures { IfOk result (λ made. IsRecordOf tech.now node.now measures.now made) }
 {
     let (name, aliases) = names_of(alloc, node.names.items())?;
-    let kind = name_of(alloc, tech.word(node.kind))?;
+    let kind = Name::of(alloc, tech.word(node.kind))?;
     let measured = Vec::from_slice(alloc, measures)?;
     Ok(NodeRec {
         name,

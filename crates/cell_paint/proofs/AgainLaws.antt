@@ -1,19 +1,18 @@
 -- Painting a layer twice: the second time changes nothing.
-use Rattle.std.proofs.Common.{◌≡◌, ◌≢◌, ◌+◌, ◌^◌, ◌%◌, ◌<◌, ◌≤◌, ℕ, zero, suc, true, Bool, Option, List, [], ◌∷◌, length, take, fold, bit_and, bit_or, max, min, refl, sym, ap}
+use Rattle.std.proofs.Common.{◌≡◌, ◌≢◌, ◌+◌, ◌^◌, ◌%◌, ◌<◌, ◌≤◌, ℕ, zero, suc, true, Option, List, [], ◌∷◌, length, take, fold, bit_and, bit_or, max, min, refl, sym, ap}
 use Rattle.std.proofs.Common.{subst, ◌∙◌, arith, inl, inr}
 use Rattle.std.specs.Prelude.{Some, None, IsTrue, nat_lt, unwrap_or}
 use Rattle.std.specs.List.{list_all}
 use Rattle.std.specs.Int.{bit_at}
 use Rattle.std.proofs.Math.Seq.{take-length}
-use Rattle.std.proofs.lemmas.Bool.{cases_Bool, cases_eq, and_from, ltb-true, true≢false, eqb-true, eq-eqb}
-use Rattle.std.proofs.lemmas.List.Sums.{fold_more}
+use Rattle.std.proofs.lemmas.Bool.{cases_Bool, cases_eq, ltb-true, true≢false, eqb-true, eq-eqb}
 use Rattle.std.proofs.lemmas.Nat.Bits.{bit_at-zero, bit_at_and, bit_at_or, bit_at_xor, bit_at-lt, bit_at-pow_other, same_from_bits}
 use Rattle.finite_sets.specs.Lists.{In}
-use Rattle.finite_sets.proofs.Searches.{find-In, find-passes, find-none}
+use Rattle.finite_sets.proofs.Searches.{find-In, find-passes, find-none, All-In, list_all-from_In}
 use Rattle.tech_model.specs.declared.raw.TypeId.{TypeId}
 use Rattle.tech_model.specs.declared.raw.LayerRec.{LayerRec}
 use Rattle.tech_model.specs.declared.raw.RawTech.{RawTech}
-use Rattle.tech_model.specs.Types.{is_type, type_number, no_layer, plane_of, parts_of, images_of, is_on, image_on, joined, is_subset, without}
+use Rattle.tech_model.specs.Types.{is_type, type_number, plane_of, parts_of, images_of, is_on, image_on, joined, is_subset, without}
 use Rattle.tech_model.specs.WellFormed.{IsWellFormed, IsContact, IsMarked}
 use Rattle.tech_model.specs.Rules.{HaveOwnSets}
 use Rattle.tech_model.specs.declared.columns.Brush.TheVariants.{Paint as PaintBrush}
@@ -21,12 +20,13 @@ use Rattle.tech_model.specs.Columns.{painted_by, where_image, on_planes_from, ma
 use Rattle.tech_model.specs.Columns.{brushed_column, painted_column}
 use Rattle.tech_model.specs.ColumnForms.{IsOnPlane, IsColumn, HasWholeContacts}
 use Rattle.tech_model.proofs.JoinedLaws.{joined-found, joined-type}
-use Rattle.tech_model.proofs.WellFormedLaws.{All_In, layer_well_formed}
+use Rattle.tech_model.proofs.WellFormedLaws.{layer_well_formed}
 use Rattle.tech_model.proofs.SetLaws.{bit_cases, or_bit_right, mark_part, mark_part_bit, image_mark, mark_layer, set_not_empty}
 use Rattle.tech_model.proofs.MarkLaws.{mark_of-contact, residue_set}
 use Rattle.tech_model.proofs.ColumnLaws.{changed, kept_is_column, bit_type, brushed_is_column}
 use Rattle.tech_model.proofs.WithinLaws.{one_image}
 use Rattle.tech_model.proofs.WholeLaws.{unmarked_keeps, marks_kept-whole}
+use Rattle.tech_model.proofs.LocalLaws.{marks_step}
 
 -- what paint of a layer does on a plane
 abbrev pub paint : RawTech → ℕ → ℕ → TypeId → TypeId
@@ -35,12 +35,6 @@ paint raw layer plane old = where_image (painted_by raw plane) (image_on raw lay
 -- the column after the marks of the first n layers were looked at
 abbrev marks_of_first : RawTech → List TypeId → ℕ → List TypeId
 marks_of_first raw column n = fold (λ (kept : List TypeId) (layer : LayerRec). layer_mark_kept raw layer.images kept) column (take n raw.layers)
-
-marks_step : (raw : RawTech) (column : List TypeId) (n : ℕ) → suc n ≤ length raw.layers
-    → marks_of_first raw column (suc n) ≡ layer_mark_kept raw (images_of raw n) (marks_of_first raw column n)
-marks_step raw column n below =
-    let next : suc n ≡ n + 1 = omega arith in
-    ap (marks_of_first raw column) next ∙ fold_more (λ (kept : List TypeId) (layer : LayerRec). layer_mark_kept raw layer.images kept) column raw.layers n no_layer (omega arith)
 
 -- ---- columns on which a change does nothing
 
@@ -79,14 +73,10 @@ pub changed_at : (f : ℕ → TypeId → TypeId) (column : List TypeId) (k : ℕ
 changed_at f column k below =
     let same : 0 + k ≡ k = omega arith in changed_from_at f 0 column k below ∙ ap (λ (n : ℕ). (f n (type_number (type_on column k))).0) same
 
-list_all-from : {X : Type 0} (p : X → Bool) (xs : List X) → ((x : X) → In x xs → p x ≡ true) → list_all p xs ≡ true
-list_all-from p [] each = refl
-list_all-from p (x ∷ xs) each = and_from (p x) (list_all p xs) (each x (inl refl)) (list_all-from p xs (λ y later. each y (inr later)))
-
 -- an image of a layer is a type of the technology
 pub image_type : (raw : RawTech) (layer : ℕ) (image : TypeId) → IsWellFormed raw → layer < length raw.layers → In image (images_of raw layer) → IsTrue (is_type raw image.0)
 image_type raw layer image w below is =
-    All_In (λ (t : TypeId). IsTrue (is_type raw t.0)) (images_of raw layer) image (layer_well_formed raw layer w below).images is
+    All-In (λ (t : TypeId). IsTrue (is_type raw t.0)) (images_of raw layer) image (layer_well_formed raw layer w below).images is
 
 -- ---- marks in a column whose contacts stand whole
 
@@ -96,7 +86,7 @@ everywhere_from : (raw : RawTech) (layer : ℕ) (column : List TypeId) → IsWel
     → ((image : TypeId) → In image (images_of raw layer) → bit_at (parts_of raw (type_on column (plane_of raw image.0))) contact.bit ≡ 1)
     → has_mark_everywhere raw (mark_of raw (images_of raw layer)) (images_of raw layer) column ≡ true
 everywhere_from raw layer column w below many contact each =
-    list_all-from (λ image. is_subset (mark_of raw (images_of raw layer)) (parts_of raw (type_on column (plane_of raw image.0)))) (images_of raw layer) (λ image image_in.
+    list_all-from_In (λ image. is_subset (mark_of raw (images_of raw layer)) (parts_of raw (type_on column (plane_of raw image.0)))) (images_of raw layer) (λ image image_in.
     subst (λ (mark : ℕ). is_subset mark (parts_of raw (type_on column (plane_of raw image.0))) ≡ true) (sym (mark_of-contact raw layer w below many contact))
     (mark_part (parts_of raw (type_on column (plane_of raw image.0))) contact.bit (each image image_in)))
 
@@ -179,7 +169,7 @@ unmarked_part raw layer plane k old w own below many contact other on bit = elim
       let type = bit_type raw plane old.0 contact.bit on (mark_part_bit (parts_of raw old.0) contact.bit part) in
       let at = mark_layer raw layer old.0 contact type.0 (mark_part_bit (parts_of raw old.0) contact.bit part) in
       let image_in : In (type_number old.0) (images_of raw layer) = subst (λ (l : ℕ). In (type_number old.0) (images_of raw l)) at (w.is_image old.0 type.0) in
-      let marked = All_In (λ (t : TypeId). IsMarked raw contact.bit t.0) (images_of raw layer) (type_number old.0) contact.images image_in in
+      let marked = All-In (λ (t : TypeId). IsMarked raw contact.bit t.0) (images_of raw layer) (type_number old.0) contact.images image_in in
       let left = residue_set raw layer old.0 contact many marked in
       let found : joined raw plane (without (parts_of raw old.0) (2 ^ contact.bit)) ≡ Some marked.residue =
       ap (joined raw plane) left ∙ ap (λ (p : ℕ). joined raw p (parts_of raw marked.residue)) (sym (marked.residue_plane ∙ type.1))

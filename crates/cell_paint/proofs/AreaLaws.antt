@@ -1,5 +1,5 @@
 -- Areas that paint may go over: what their strips are, and which squares they cover.
-use Rattle.std.proofs.Common.{◌≡◌, inl, inr, ℕ, ◌+◌, ◌<◌, pos, ◌-ℤ◌, ◌≤ℤ◌, ◌<ℤ◌, ℤ, true, false, Bool, ◌||◌, List, [], ◌∷◌, length, take, zero, suc, get_or, refl, sym, ◌∙◌, ap, subst, arith}
+use Rattle.std.proofs.Common.{◌≡◌, inl, inr, ℕ, ◌+◌, ◌<◌, pos, ◌-ℤ◌, ◌≤ℤ◌, ◌<ℤ◌, ℤ, true, false, ◌||◌, List, [], ◌∷◌, length, take, zero, suc, get_or, refl, sym, ◌∙◌, ap, subst, arith}
 use Rattle.std.specs.Prelude.{All, AllPairs, Option, Some, None}
 use Rattle.std.specs.List.{list_any}
 use Rattle.std.specs.Option.{option_or}
@@ -7,7 +7,7 @@ use Rattle.std.proofs.lemmas.Bool.{cases_Bool, true≢false}
 use Rattle.std.proofs.lemmas.Int.{ints}
 use Rattle.finite_sets.specs.Lists.{In}
 use Rattle.finite_sets.proofs.Members.{In-get_or}
-use Rattle.finite_sets.proofs.Searches.{list_any-In, option_or-none}
+use Rattle.finite_sets.proofs.Searches.{list_any-In, option_or-none, list_any-source}
 use Rattle.geo_core.specs.declared.squares.Square.{Square}
 use Rattle.geo_core.specs.declared.squares.Rect.{Rect}
 use Rattle.geo_core.specs.Areas.{AreDisjoint, IsNear, has_square}
@@ -21,18 +21,10 @@ use Rattle.cell_paint.specs.Painting.{is_in_range, is_in_some, paint_range, area
 
 -- ---- squares of a list of areas
 
--- some item passes where the test of a list does
-pub any_source : {X : Type 0} (test : X → Bool) (xs : List X) → list_any test xs ≡ true → (x : X) × (In x xs × (test x ≡ true))
-any_source test [] none = absurd (true≢false (sym none))
-any_source test (x ∷ xs) some = elim (cases_Bool (test x)) [
-  | inl passes ↦ (x, (inl refl, passes))
-  | inr fails ↦ let later = any_source test xs (rw fails at some) in (later.0, (inr later.1.0, later.1.1))
-]
-
 -- a square of the areas lies in one of them
 pub some_area : (areas : List Rect) (square : Square) → is_in_some areas square ≡ true → IsInUnion areas square
 some_area areas square is =
-    let found = any_source (λ (area : Rect). is_covered area square) areas is in (found.0, (found.1.0, Covers-is_covered found.0 square found.1.1))
+    let found = list_any-source (λ (area : Rect). is_covered area square) areas is in (found.0, (found.1.0, Covers-is_covered found.0 square found.1.1))
 
 -- a square that lies in one of the areas is one of theirs
 pub in_some : (areas : List Rect) (square : Square) → IsInUnion areas square → is_in_some areas square ≡ true

@@ -2,7 +2,6 @@
 use Rattle.std.proofs.Common.{◌≡◌, ◌≢◌, inl, inr, ℕ, ◌<◌, true, false, Bool, List, length, filter, get_or, refl, sym, ◌∙◌, ap, subst, arith, set, replicate, zero, suc, get_or-set_same, get_or-set_other}
 use Rattle.std.specs.Prelude.{All, Option, Some, None, not, if◌then◌else◌, slice_index_or}
 use Rattle.std.proofs.lemmas.Bool.{cases_Bool, cases_eq, ne_eqb}
-use Rattle.std.proofs.lemmas.Int.{ints}
 use Rattle.std.proofs.lemmas.List.{length-map, get_or-map, get_or_default}
 use Rattle.std.proofs.lemmas.List.Elements.{All-map, All-filter}
 use Rattle.std.proofs.lemmas.List.Kept.{AllPairs-filter}
@@ -13,8 +12,8 @@ use Rattle.geo_core.specs.declared.squares.Rect.{Rect}
 use Rattle.geo_core.specs.declared.squares.Piece.{Piece}
 use Rattle.geo_core.specs.Areas.{AreDisjoint, IsNear, corner_of}
 use Rattle.geo_core.specs.Covering.{Covers, IsProper}
+use Rattle.geo_core.proofs.CoveringLaws.{corner_covered, within_covers}
 use Rattle.tech_model.specs.declared.raw.TypeId.{TypeId}
-use Rattle.tile_plane.proofs.PartLaws.{covers_within}
 use Rattle.tile_plane.specs.Listings.{ArePiecesIn}
 use Rattle.layout_model.specs.Layouts.{Layout}
 use Rattle.cell_paint.specs.Changes.{kind_after, AreKnown, changed_piece, is_changed, changed_pieces}
@@ -22,10 +21,6 @@ use Rattle.cell_paint.specs.Painting.{kinds_on, with_columns_where, is_in_some}
 use Rattle.cell_paint.specs.Paints.{PlaneValue, number_on, no_plane, layout_on}
 use Rattle.cell_paint.specs.Settings.{IsSettable, AreChanges}
 use Rattle.cell_paint.proofs.AreaLaws.{some_area, in_some}
-
--- a rectangle with a square covers its corner
-corner_covered : (area : Rect) → IsProper area → Covers area (corner_of area)
-corner_covered area proper = record { right_of_xlo = omega (arith, ints); left_of_xhi = proper.wide; above_ylo = omega (arith, ints); below_yhi = proper.high }
 
 -- each piece has the value of its lower left square
 pub corners_even : (values : Square → ℕ) (areas : List Rect) (pieces : List Piece) → ArePiecesIn values areas pieces
@@ -96,7 +91,7 @@ module _ (change : List TypeId → List TypeId) (layout : Layout) (plane : ℕ)
   -- they are squares of the areas
   piece_inside : (piece : Piece) → In piece pieces → (square : Square) → Covers piece.area square → is_in_some areas square ≡ true
   piece_inside piece i square covers =
-      let is = are.each piece i in in_some areas square (is.area, (is.in_list, covers_within piece.area is.area square is.within covers))
+      let is = are.each piece i in in_some areas square (is.area, (is.in_list, within_covers piece.area is.area square is.within covers))
 
   -- ---- the pieces that change
 

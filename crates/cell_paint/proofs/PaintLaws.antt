@@ -6,7 +6,7 @@ use Rattle.std.specs.List.{list_any}
 use Rattle.std.specs.declared.alloc.Global.{Global}
 use Rattle.std.proofs.lemmas.Bool.{cases_Bool, cases_eq, cases_lt, true≢false}
 use Rattle.std.proofs.lemmas.List.{get_or_past, get_or_push, get_or_append_left}
-use Rattle.finite_sets.proofs.Searches.{list_any-In}
+use Rattle.finite_sets.proofs.Searches.{list_any-In, list_any-source}
 use Rattle.geo_core.specs.declared.squares.Square.{Square}
 use Rattle.geo_core.specs.declared.squares.Rect.{Rect}
 use Rattle.geo_core.specs.declared.squares.Piece.{Piece}
@@ -33,7 +33,6 @@ use Rattle.cell_paint.specs.Painting.{place_at, kinds_on, column_at, with_column
 use Rattle.cell_paint.specs.Paints.{PlaneValue, layout_on, AreCellPlanes}
 use Rattle.cell_paint.specs.Settings.{pieces_for, AreSettable, AreAllSet, AreChanges, AreAllChanges}
 use Rattle.cell_paint.proofs.AgainLaws.{painted_column-again}
-use Rattle.cell_paint.proofs.AreaLaws.{any_source}
 use Rattle.cell_paint.proofs.ColumnsLaws.{column_type}
 use Rattle.cell_paint.proofs.PlaneLaws.{space_past}
 
@@ -189,7 +188,7 @@ changed_on_plane old new after pieces changes are square = elim (cases_eq (new s
   | inr differ ↦ (let there = changes.whole square differ in are.set there.0 there.1 square there.2 ∙ sym (changes.right there.0 there.1 square there.2))
   | inl same ↦ elim (cases_Bool (list_any (λ (piece : Piece). is_covered piece.area square) pieces)) [
     | inl some ↦
-        let there = any_source (λ (piece : Piece). is_covered piece.area square) pieces some in
+        let there = list_any-source (λ (piece : Piece). is_covered piece.area square) pieces some in
         let covers = Covers-is_covered there.0.area square there.1.1 in
         are.set there.0 there.1.0 square covers ∙ sym (changes.right there.0 there.1.0 square covers)
     | inr none ↦

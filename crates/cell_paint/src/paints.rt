@@ -18,10 +18,12 @@ use crate::brushes::Stroke;
 use crate::changes::changes_on;
 use crate::faults::PaintFault;
 use crate::planes::{PaintPlane, box_of, commit_all, kind_at, reserve_all};
-use geo_core::{List, PAINT_EDGE, Piece, Plane, Rect, Square, strips};
+use geo_core::{PAINT_EDGE, Piece, Plane, Rect, Square};
+use geo_strips::strips;
+use names_lists::List;
 use std::alloc::{AllocError, Global};
 use std::marker::Model;
-use tech_model::{Brush, LayerId, Layers, Tech, TechFault, TypeId, TypeRec};
+use tech_model::{Brush, LayerId, Layers, Tech, TypeId, TypeRec};
 use tile_plane::TilePlane;
 
 /// All squares that may have paint.
@@ -247,14 +249,15 @@ impl Layers for CellPaint {
         alloc: Global,
         plane: u8,
         area: Rect,
-    ) -> Result<Vec<(Rect, TypeId)>, TechFault> {
+    ) -> Result<Vec<(Rect, TypeId)>, AllocError> {
         let Some(plane) = self.planes.get(usize::from(plane)) else {
             return Ok(Vec::new(alloc));
         };
         let Ok(tiles) = plane.tiles_in(area) else {
-            return Err(TechFault::Memory);
+            return Err(AllocError);
         };
-        Ok(with_types(alloc, tiles.as_slice())?)
+        let found = with_types(alloc, tiles.as_slice())?;
+        Ok(found)
     }
 }
 
@@ -314,9 +317,7 @@ fn strips_of(alloc: Global, areas: &[Rect]) -> Result<Vec<Rect>, PaintFault>
     ensures same { IfOk result (λ found. (square : OneSquare) → is_in_some found.items square ≡ is_in_some areas.now square) }
     ensures memory { IsOkUnless result PaintFault.Memory }
 {
-    let Ok(found) = strips(alloc, areas) else {
-        return Err(PaintFault::Memory);
-    };
+    let found = strips(alloc, areas)?;
     Ok(found)
 }
 

@@ -23,10 +23,8 @@ use Rattle.finite_sets.specs.Lists.{In, Distinct}
 use Rattle.finite_sets.specs.Total.{sum_on}
 use Rattle.finite_sets.proofs.Members.{In-map, In-map_source, In-filter_source, Contains-from_In, In-from_Contains}
 use Rattle.finite_sets.proofs.Pairs.{Pairwise}
-use Rattle.finite_sets.proofs.Searches.{list_any-In}
+use Rattle.finite_sets.proofs.Searches.{list_any-In, All-In, list_any-source}
 use Rattle.finite_sets.proofs.Sums.{sum_on-push, sum_on-nothing}
-use Rattle.tech_model.proofs.WellFormedLaws.{All_In}
-use Rattle.flood_nodes.proofs.Renumbering.{found_by}
 use Rattle.flood_nodes.proofs.StackLaws.{same_from_test}
 use Rattle.cell_records.specs.Joined.{is_to, length_in, length_told, AreJoined}
 
@@ -164,7 +162,7 @@ pub part_fits : (numbers : List ℕ) (ts : List (ℕ × ℤ)) (i : ℕ) (d : ℕ
     → FitsSigned w128 (sum_on (length_in numbers (slice_index numbers (get_or ts i d).0)) (take i ts) +ℤ (get_or ts i d).1)
 part_fits numbers ts i d inside some few =
     let number = slice_index numbers (get_or ts i d).0 in
-    let bounds = part_bounds (is_to numbers number) ts (i + 1) (λ u among. All_In (λ (v : ℕ × ℤ). pos 0 <ℤ v.1) ts u some among) in
+    let bounds = part_bounds (is_to numbers number) ts (i + 1) (λ u among. All-In (λ (v : ℕ × ℤ). pos 0 <ℤ v.1) ts u some among) in
     let more = part_more numbers ts i d inside in
     omega (arith, ints, bounds.0, bounds.1, more, few)
 
@@ -203,8 +201,8 @@ pub joined_below : (numbers : List ℕ) (ts joined : List (ℕ × ℤ)) (n : ℕ
     → All (λ number. number < n) numbers → (t : ℕ × ℤ) → In t joined → t.0 < n
 joined_below numbers ts joined n are regions below t among =
     let told = told_some numbers ts t.0 t.1 (are.sound t.0 t.1 among) in
-    let source = found_by (is_to numbers t.0) ts told.0 in
-    let region = All_In (λ (u : ℕ × ℤ). u.0 < length numbers) ts source.0 regions source.1.0 in
+    let source = list_any-source (is_to numbers t.0) ts told.0 in
+    let region = All-In (λ (u : ℕ × ℤ). u.0 < length numbers) ts source.0 regions source.1.0 in
     subst (λ (m : ℕ). m < n) (same_from_test (slice_index numbers source.0.0) t.0 source.1.1) (below source.0.0 0 region)
 
 -- ---- keys

@@ -6,10 +6,10 @@ ghost use Rattle.tech_model.specs.ChannelRoles.{is_channel};
 ghost use Rattle.cell_records.specs.FetsOfRegions.{name_at, term_of, AreRecordsOfFets, IsRecordOfFet, IsSmallFet};
 
 use crate::joining::joined;
-use crate::node_names::{copy, name_at};
+use crate::node_names::name_at;
 use ext_model::{FetRec, NodeRec, TermRec};
 use fet_regions::Fet;
-use geo_core::List;
+use names_lists::List;
 use std::alloc::{AllocError, Global};
 use tech_model::{FetRule, RawTech, TypeId};
 
@@ -85,12 +85,12 @@ fn fet_record(
         length: gate_length(fet),
     };
     Ok(FetRec {
-        kind: copy(alloc, &rule.name)?,
+        kind: rule.name.copy(alloc)?,
         x: fet.point.x,
         y: fet.point.y,
         area: fet.area,
         perimeter: fet.perimeter,
-        substrate: copy(alloc, &rule.substrate)?,
+        substrate: rule.substrate.copy(alloc)?,
         gate,
         terminals: List::of(terminals),
     })

@@ -8,12 +8,11 @@ ghost use Rattle.own_records.specs.OwnRecords.{IsOwnRecord, class_values};
 ghost use Rattle.cell_records.specs.Exts.{IsExtOf};
 
 use crate::fet_records::fet_records;
-use crate::node_names::copy;
 use cell_nodes::{CellRegions, cell_regions};
 use cell_paint::CellPaint;
 use ext_model::{CellExt, FetRec, NodeRec};
 use fet_regions::fets;
-use geo_core::{List, Name};
+use names_lists::{List, Name};
 use own_record_laws::own_records_are_lawful;
 use std::alloc::{AllocError, Global};
 use tech_model::{Label, RawTech, Tech};
@@ -47,8 +46,8 @@ fn ext_of(
     ensures { IfOk result (IsExtOf raw.now name.now nodes fets.items) }
 {
     Ok(CellExt {
-        cell: copy(alloc, name)?,
-        tech: copy(alloc, &raw.name)?,
+        cell: name.copy(alloc)?,
+        tech: raw.name.copy(alloc)?,
         classes: List::of(class_values(alloc, raw)?),
         uses: List::of(Vec::new(alloc)),
         nodes,

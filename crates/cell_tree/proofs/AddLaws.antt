@@ -1,9 +1,10 @@
 -- A whole tree stays whole where an empty cell comes at the end.
-use Rattle.std.proofs.Common.{◌≡◌, ◌⊎◌, inl, inr, ℕ, zero, suc, ◌<◌, ◌≤◌, List, [], ◌∷◌, ◌++◌, length, slice_get, Some, None, refl, sym, ap, subst, ◌∙◌, arith, Contains}
+use Rattle.std.proofs.Common.{◌≡◌, inl, inr, ℕ, suc, ◌<◌, ◌≤◌, List, [], ◌∷◌, ◌++◌, length, slice_get, Some, None, refl, sym, ap, subst, ◌∙◌, arith, Contains}
 use Rattle.std.specs.Option.{option_map_or}
 use Rattle.std.proofs.lemmas.Bool.{cases_eq, cases_lt}
 use Rattle.std.proofs.lemmas.List.{length-append, get_or_append_left, get_or_at, get_or_past, map_push}
-use Rattle.std.proofs.lemmas.Option.{same_Some, slice_get_within, slice_get_past}
+use Rattle.std.proofs.lemmas.Option.{slice_get_within, slice_get_past}
+use Rattle.finite_sets.proofs.Places.{slice_get-push_cases, slice_get-append_left, slice_get-append_front, slice_get-push_new}
 use Rattle.cell_tree.specs.declared.cells.TreeCell.{TreeCell}
 use Rattle.cell_tree.specs.declared.limits.TheConstants.{MOST_USES}
 use Rattle.cell_tree.specs.declared.size_books.SizeBook.{SizeBook}
@@ -17,26 +18,6 @@ use Rattle.cell_tree.specs.Books.{IsReady}
 use Rattle.cell_tree.specs.Whole.{IsWhole}
 use Rattle.cell_tree.proofs.SizeLaws.{size_of-same}
 use Rattle.cell_tree.proofs.FindLaws.{length-states}
-
-pub get_push : {X : Type 0} (xs : List X) (y e : X) (k : ℕ) → slice_get (xs ++ y ∷ []) k ≡ Some e → (slice_get xs k ≡ Some e) ⊎ ((k ≡ length xs) × (y ≡ e))
-get_push [] y e zero is = inr (refl, same_Some y e is)
-get_push [] y e (suc k) is = absurd (cc)
-get_push (x ∷ xs) y e zero is = inl is
-get_push (x ∷ xs) y e (suc k) is = elim (get_push xs y e k is) [ inl old ↦ inl old | inr new ↦ inr (ap suc new.0, new.1) ]
-
-pub get_more : {X : Type 0} (xs : List X) (y e : X) (k : ℕ) → slice_get xs k ≡ Some e → slice_get (xs ++ y ∷ []) k ≡ Some e
-get_more [] y e k is = absurd (cc)
-get_more (x ∷ xs) y e zero is = is
-get_more (x ∷ xs) y e (suc k) is = get_more xs y e k is
-
-pub get_before : {X : Type 0} (xs : List X) (y : X) (k : ℕ) → k < length xs → slice_get (xs ++ y ∷ []) k ≡ slice_get xs k
-get_before [] y k within = absurd (omega (arith, within))
-get_before (x ∷ xs) y zero within = refl
-get_before (x ∷ xs) y (suc k) within = get_before xs y k (omega (arith, within))
-
-pub get_end : {X : Type 0} (xs : List X) (y : X) → slice_get (xs ++ y ∷ []) (length xs) ≡ Some y
-get_end [] y = refl
-get_end (x ∷ xs) y = get_end xs y
 
 empty_size : (f : ℕ → Size) → size_of f empty_cell ≡ own_size None
 unfolding size_of
@@ -65,7 +46,7 @@ module _ (cells : List TreeCell) (book book' : SizeBook) (whole : IsWhole cells 
   each : (P : CellState → Type 0) → P empty_cell → ((key : ℕ) (cell : CellState) → slice_get (states cells) key ≡ Some cell → P cell)
       → (key : ℕ) (cell : CellState) → slice_get (states (cells ++ new ∷ [])) key ≡ Some cell → P cell
   each P last old key cell is =
-      elim (get_push (states cells) empty_cell cell key (sym (ap (λ s. slice_get s key) are) ∙ is)) [
+      elim (slice_get-push_cases (states cells) empty_cell cell key (sym (ap (λ s. slice_get s key) are) ∙ is)) [
         | inl before ↦ old key cell before
         | inr here ↦ subst P here.1 last
       ]
@@ -79,7 +60,7 @@ module _ (cells : List TreeCell) (book book' : SizeBook) (whole : IsWhole cells 
 
   right : (key : ℕ) (cell : CellState) → slice_get (states (cells ++ new ∷ [])) key ≡ Some cell → size_at book'.sizes.items key ≡ size_of (size_at book'.sizes.items) cell
   right key cell is =
-      elim (get_push (states cells) empty_cell cell key (sym (ap (λ s. slice_get s key) are) ∙ is)) [
+      elim (slice_get-push_cases (states cells) empty_cell cell key (sym (ap (λ s. slice_get s key) are) ∙ is)) [
         | inl before ↦
             old_size key (slice_get_within (states cells) key cell before) ∙ whole.lawful.sizes.right key cell before
             ∙ size_of-same (size_at book.sizes.items) (size_at book'.sizes.items) cell (λ k entry stands. sym (old_size entry.1.child.0 (whole.lawful.cells.uses key cell before k entry stands).1))
@@ -111,11 +92,11 @@ module _ (cells : List TreeCell) (book book' : SizeBook) (whole : IsWhole cells 
       ]
 
   old_users : (key : ℕ) → key < length cells → users_of (cells ++ new ∷ []) key ≡ users_of cells key
-  old_users key before = ap (λ o. option_map_or (λ (cell : TreeCell). cell.users.keys) o []) (get_before cells new key before)
+  old_users key before = ap (λ o. option_map_or (λ (cell : TreeCell). cell.users.keys) o []) (slice_get-append_front cells (new ∷ []) key before)
 
   old_user : (key user : ℕ) → Uses (states (cells ++ new ∷ [])) user key → Uses (states cells) user key
   old_user key user uses =
-      elim (get_push (states cells) empty_cell uses.cell user (sym (ap (λ s. slice_get s user) are) ∙ uses.is)) [
+      elim (slice_get-push_cases (states cells) empty_cell uses.cell user (sym (ap (λ s. slice_get s user) are) ∙ uses.is)) [
         | inl before ↦ record { cell = uses.cell; is = before; k = uses.k; entry = uses.entry; stands = uses.stands; child = uses.child }
         | inr here ↦ absurd (let e : slice_get empty_cell.uses uses.k ≡ Some uses.entry = ap (λ (c : CellState). slice_get c.uses uses.k) here.1 ∙ uses.stands in cc)
       ]
@@ -132,11 +113,11 @@ module _ (cells : List TreeCell) (book book' : SizeBook) (whole : IsWhole cells 
         none = λ key user knows. elim (cases_lt key (length cells)) [
           | inl before ↦
               let old = whole.users.none key user (subst (λ ks. Contains ks user) (old_users key before) knows) in
-              record { cell = old.cell; is = ap (λ s. slice_get s user) are ∙ get_more (states cells) empty_cell old.cell user old.is; k = old.k; entry = old.entry; stands = old.stands; child = old.child }
+              record { cell = old.cell; is = ap (λ s. slice_get s user) are ∙ slice_get-append_left (states cells) (empty_cell ∷ []) user old.cell old.is; k = old.k; entry = old.entry; stands = old.stands; child = old.child }
           | inr after ↦ absurd (elim (cases_eq key (length cells)) [
             | inl here ↦
                 let none = subst (λ ks. Contains ks user)
-                (ap (users_of (cells ++ new ∷ [])) here ∙ ap (λ o. option_map_or (λ (cell : TreeCell). cell.users.keys) o []) (get_end cells new) ∙ alone) knows in
+                (ap (users_of (cells ++ new ∷ [])) here ∙ ap (λ o. option_map_or (λ (cell : TreeCell). cell.users.keys) o []) (slice_get-push_new cells new) ∙ alone) knows in
                 omega (arith, none.1)
             | inr beyond ↦
                 let none = subst (λ ks. Contains ks user)

@@ -26,7 +26,8 @@ deeper cells sizes right user low uses =
     (subst (λ (s : Size). (size_at sizes uses.entry.1.child.0).depth < s.depth) (sym (right user uses.cell uses.is))
     (child_is_lower (size_at sizes) uses.cell uses.k uses.entry uses.stands))
 
-above_as_deep : (cells : List CellState) (sizes : List Size) → AreSizes cells sizes → (low up : ℕ) → IsAbove cells low up → (size_at sizes low).depth ≤ (size_at sizes up).depth
+-- a cell is at most as deep as one that it is at or below
+pub above_as_deep : (cells : List CellState) (sizes : List Size) → AreSizes cells sizes → (low up : ℕ) → IsAbove cells low up → (size_at sizes low).depth ≤ (size_at sizes up).depth
 above_as_deep cells sizes right low up stay = omega arith
 above_as_deep cells sizes right low up (go {b = user} uses rest) = omega (arith, deeper cells sizes right user low uses, above_as_deep cells sizes right user up rest)
 

@@ -4,11 +4,11 @@ use Rattle.std.specs.Option.{option_map_or}
 use Rattle.std.proofs.lemmas.Bool.{cases_eq}
 use Rattle.std.proofs.lemmas.List.{map-set, set-get_or, get_or-map}
 use Rattle.std.proofs.lemmas.Option.{slice_get-get_or}
+use Rattle.finite_sets.proofs.Places.{slice_get-set_same, slice_get-set_other}
 use Rattle.cell_tree.specs.declared.cells.TreeCell.{TreeCell}
 use Rattle.cell_tree.specs.Sizes.{CellState}
 use Rattle.cell_tree.specs.Cells.{state_of, states}
 use Rattle.cell_tree.specs.Trees.{cell_at, empty_cell}
-use Rattle.cell_tree.proofs.EditLaws.{slice_get-set_same, slice_get-set_other}
 
 module _ (cells : List TreeCell) (key : ℕ) (d : TreeCell) (within : key < length cells) where
   -- the cell as contracts see it

@@ -1,11 +1,12 @@
 -- A whole tree to which cells come at the end: it stays whole, and where they are refused and go again, it is as before.
-use Rattle.std.proofs.Common.{◌≡◌, ◌⊎◌, inl, inr, ℕ, zero, suc, ◌+◌, ◌-◌, ◌<◌, ◌≤◌, List, [], ◌∷◌, ◌++◌, length, map, take, replicate, slice_get, Some, refl, sym, ap, subst, ◌∙◌, arith, Contains}
+use Rattle.std.proofs.Common.{◌≡◌, inl, inr, ℕ, zero, suc, ◌+◌, ◌-◌, ◌<◌, ◌≤◌, List, [], ◌∷◌, ◌++◌, length, map, take, replicate, slice_get, Some, refl, sym, ap, subst, ◌∙◌, arith, Contains}
 use Rattle.std.specs.Option.{option_map_or}
 use Rattle.std.specs.Prelude.{All}
 use Rattle.std.proofs.lemmas.Bool.{cases_lt}
 use Rattle.std.proofs.lemmas.List.{length-append, length-replicate, length-take-le, get_or_append_left, get_or-append_right, get_or-replicate, get_or_past, take-map, take_at}
-use Rattle.std.proofs.lemmas.Option.{slice_get_within, slice_get_past, get_or_from_slice_get}
+use Rattle.std.proofs.lemmas.Option.{slice_get_within, slice_get_past}
 use Rattle.finite_sets.specs.Chain.Chain.{stay, go}
+use Rattle.finite_sets.proofs.Places.{slice_get-append_front, All-slice_get, slice_get-append_cases}
 use Rattle.cell_tree.specs.declared.cells.TreeCell.{TreeCell}
 use Rattle.cell_tree.specs.declared.limits.TheConstants.{MOST_USES}
 use Rattle.cell_tree.specs.declared.size_books.SizeBook.{SizeBook}
@@ -24,16 +25,6 @@ use Rattle.cell_tree.proofs.EditLaws.{user_is_deeper}
 use Rattle.cell_tree.proofs.FindLaws.{length-states}
 use Rattle.cell_tree.proofs.SizeLaws.{alike_refl}
 
-get_append : {X : Type 0} (xs ys : List X) (k : ℕ) (x : X) → slice_get (xs ++ ys) k ≡ Some x → (slice_get xs k ≡ Some x) ⊎ ((j : ℕ) × (slice_get ys j ≡ Some x))
-get_append [] ys k x is = inr (k, is)
-get_append (z ∷ xs) ys zero x is = inl is
-get_append (z ∷ xs) ys (suc k) x is = get_append xs ys k x is
-
-get_front : {X : Type 0} (xs ys : List X) (k : ℕ) → k < length xs → slice_get (xs ++ ys) k ≡ slice_get xs k
-get_front [] ys k low = absurd (omega (arith, low))
-get_front (x ∷ xs) ys zero low = refl
-get_front (x ∷ xs) ys (suc k) low = get_front xs ys k (omega (arith, low))
-
 get_take : {X : Type 0} (xs : List X) (n k : ℕ) → k < n → slice_get (take n xs) k ≡ slice_get xs k
 get_take [] zero k low = absurd (omega (arith, low))
 get_take [] (suc n) k low = refl
@@ -45,9 +36,6 @@ all_same : {X Y : Type 0} (xs : List X) (y : Y) → map (λ _. y) xs ≡ replica
 all_same [] y = refl
 all_same (x ∷ xs) y = ap (λ ys. y ∷ ys) (all_same xs y)
 
-all_get : {X : Type 0} (P : X → Type 0) (xs : List X) (k : ℕ) (x : X) → All P xs → slice_get xs k ≡ Some x → P x
-all_get P xs k x all is = subst P (get_or_from_slice_get xs k x x is) (all k x (slice_get_within xs k x is))
-
 module _ (cells : List TreeCell) (book : SizeBook) (whole : IsWhole cells book) (more all : List CellState) (may : MayAllCome (tree_of cells book) more)
     (are : all ≡ states cells ++ more) where
   count : length all ≡ length (states cells) + length more
@@ -56,9 +44,9 @@ module _ (cells : List TreeCell) (book : SizeBook) (whole : IsWhole cells book) 
   each : (P : CellState → Type 0) → ((key : ℕ) (cell : CellState) → slice_get (states cells) key ≡ Some cell → P cell) → ((cell : CellState) → MayCome (length (states cells ++ more)) cell → P cell)
       → (key : ℕ) (cell : CellState) → slice_get all key ≡ Some cell → P cell
   each P old new key cell is =
-      elim (get_append (states cells) more key cell (ap (λ (s : List CellState). slice_get s key) (sym are) ∙ is)) [
+      elim (slice_get-append_cases (states cells) more key cell (ap (λ (s : List CellState). slice_get s key) (sym are) ∙ is)) [
         | inl was ↦ old key cell was
-        | inr comes ↦ new cell (all_get (MayCome (length (states cells ++ more))) more comes.0 cell may comes.1)
+        | inr comes ↦ new cell (All-slice_get (MayCome (length (states cells ++ more))) more comes.0 cell may comes.2)
       ]
 
   -- all the cells are lawful
@@ -72,7 +60,7 @@ module _ (cells : List TreeCell) (book : SizeBook) (whole : IsWhole cells book) 
       }
 
   front : (key : ℕ) → key < length (states cells) → slice_get all key ≡ slice_get (states cells) key
-  front key low = ap (λ (s : List CellState). slice_get s key) are ∙ get_front (states cells) more key low
+  front key low = ap (λ (s : List CellState). slice_get s key) are ∙ slice_get-append_front (states cells) more key low
 
   old_uses : (user key : ℕ) → user < length (states cells) → Uses all user key → Uses (states cells) user key
   old_uses user key low uses = record { cell = uses.cell; is = sym (front user low) ∙ uses.is; k = uses.k; entry = uses.entry; stands = uses.stands; child = uses.child }
@@ -196,7 +184,7 @@ module _ (cells new : List TreeCell) (book book' : SizeBook) (whole : IsWhole ce
   new_uses user key uses =
       record {
         cell = uses.cell;
-        is = ap (λ (s : List CellState). slice_get s user) behind.is ∙ get_front (states cells) behind.more user (slice_get_within (states cells) user uses.cell uses.is) ∙ uses.is;
+        is = ap (λ (s : List CellState). slice_get s user) behind.is ∙ slice_get-append_front (states cells) behind.more user (slice_get_within (states cells) user uses.cell uses.is) ∙ uses.is;
         k = uses.k;
         entry = uses.entry;
         stands = uses.stands;
@@ -207,7 +195,7 @@ module _ (cells new : List TreeCell) (book book' : SizeBook) (whole : IsWhole ce
   old_of_new user key low uses =
       record {
         cell = uses.cell;
-        is = sym (ap (λ (s : List CellState). slice_get s user) behind.is ∙ get_front (states cells) behind.more user (omega (arith, low, is, length-states cells))) ∙ uses.is;
+        is = sym (ap (λ (s : List CellState). slice_get s user) behind.is ∙ slice_get-append_front (states cells) behind.more user (omega (arith, low, is, length-states cells))) ∙ uses.is;
         k = uses.k;
         entry = uses.entry;
         stands = uses.stands;

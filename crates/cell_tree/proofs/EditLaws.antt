@@ -4,6 +4,7 @@ use Rattle.std.proofs.lemmas.Bool.{cases_eq, cases_lt}
 use Rattle.std.proofs.lemmas.List.{get_or_past}
 use Rattle.std.proofs.lemmas.Option.{same_Some, slice_get_within, slice_get-get_or}
 use Rattle.finite_sets.specs.Chain.{stay, go}
+use Rattle.finite_sets.proofs.Places.{slice_get-set_same, slice_get-set_other}
 use Rattle.cell_tree.specs.declared.sizes.Dimension.{Dimension}
 use Rattle.cell_tree.specs.declared.sizes.Dimension.TheVariants.{Depth, Elements, Hull}
 use Rattle.cell_tree.specs.declared.sizes.Size.{Size}
@@ -15,18 +16,6 @@ use Rattle.cell_tree.specs.Trials.{IsTried, AreLawfulCells, AreLawfulSizes}
 use Rattle.cell_tree.proofs.HullLaws.{inside_refl}
 use Rattle.cell_tree.proofs.SizeLaws.{size_of-same, child_is_lower}
 use Rattle.cell_tree.proofs.ShrinkLaws.{IsSmaller, IsUpright, AreAmong, among_all, size_of-smaller, smaller_within}
-
-pub slice_get-set_same : {X : Type 0} (xs : List X) (k : ℕ) (x : X) → k < length xs → slice_get (slice_set xs k x) k ≡ Some x
-slice_get-set_same [] k x within = absurd (omega (arith, within))
-slice_get-set_same (y ∷ ys) zero x within = refl
-slice_get-set_same (y ∷ ys) (suc k) x within = slice_get-set_same ys k x (omega (arith, within))
-
-pub slice_get-set_other : {X : Type 0} (xs : List X) (k j : ℕ) (x : X) → j ≢ k → slice_get (slice_set xs k x) j ≡ slice_get xs j
-slice_get-set_other [] k j x apart = refl
-slice_get-set_other (y ∷ ys) zero zero x apart = absurd (apart refl)
-slice_get-set_other (y ∷ ys) zero (suc j) x apart = refl
-slice_get-set_other (y ∷ ys) (suc k) zero x apart = refl
-slice_get-set_other (y ∷ ys) (suc k) (suc j) x apart = slice_get-set_other ys k j x (λ same. apart (ap suc same))
 
 choose : {P Q : Type 0} → P ⊎ Q → Size → Size → Size
 choose (inl p) a b = a

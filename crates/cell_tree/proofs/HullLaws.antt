@@ -1,15 +1,16 @@
 -- The smallest rectangles round lists of rectangles, and round the elements of a grid.
-use Rattle.std.proofs.Common.{◌≡◌, inl, inr, ℕ, zero, suc, ◌+◌, ◌*◌, ◌<◌, ◌≤◌, Bool, true, false, cond, ℤ, pos, negsuc, ◌+ℤ◌, ◌-ℤ◌, ◌*ℤ◌, ◌≤ℤ◌}
+use Rattle.std.proofs.Common.{◌≡◌, inl, inr, ℕ, suc, ◌+◌, ◌*◌, ◌<◌, ◌≤◌, Bool, true, false, cond, ℤ, pos, negsuc, ◌+ℤ◌, ◌-ℤ◌, ◌*ℤ◌, ◌≤ℤ◌}
 use Rattle.std.proofs.Common.{List, [], ◌∷◌, ◌++◌, map, Option, Some, None, refl, sym, ap, subst, ◌∙◌, arith}
 use Rattle.std.proofs.lemmas.Int.{ints, clamps}
 use Rattle.std.proofs.Math.Nat.{mul-le-mul_right}
-use Rattle.std.specs.Prelude.{int_lt, slice_get}
+use Rattle.std.specs.Prelude.{int_lt}
 use Rattle.std.specs.Int.{int_min, int_max}
 use Rattle.std.specs.Int.RustNames.{unsigned_abs}
 use Rattle.finite_sets.specs.Lists.{In}
 use Rattle.finite_sets.specs.Range.{integer_range, pairs_of, IsBetween}
 use Rattle.finite_sets.proofs.Members.{In-map, In-map_source}
 use Rattle.finite_sets.proofs.Ranges.{Lists-rectangle}
+use Rattle.finite_sets.proofs.Places.{In-slice_get}
 use Rattle.geo_core.specs.declared.grids.Grid.{Grid}
 use Rattle.geo_core.specs.declared.orients.Orient.{Orient}
 use Rattle.geo_core.specs.declared.orients.Orient.TheVariants.{R0}
@@ -19,7 +20,7 @@ use Rattle.geo_core.specs.Areas.{joined_rect, LiesWithin}
 use Rattle.geo_core.specs.Elements.{element_of, elements_of}
 use Rattle.geo_core.specs.Images.{rect_image}
 use Rattle.geo_core.proofs.SquareLaws.{rect_is}
-use Rattle.geo_core.proofs.CoveringLaws.{joined_within}
+use Rattle.geo_core.proofs.CoveringLaws.{joined_within, within_trans, within_antisym, within_joined_first, within_joined_second}
 use Rattle.geo_core.proofs.ImageLaws.{transform_of}
 use Rattle.geo_core.proofs.ElementLaws.{columns, rows, elements_of-at}
 use Rattle.cell_tree.specs.declared.use_tables.UseBody.{UseBody}
@@ -28,38 +29,6 @@ use Rattle.cell_tree.specs.Hulls.{displaced, element_hulls, round_both, round_al
 
 within_refl : (a : Rect) → LiesWithin a a
 within_refl a = record { right_of_xlo = omega (arith, ints); above_ylo = omega (arith, ints); left_of_xhi = omega (arith, ints); below_yhi = omega (arith, ints) }
-
-pub within_trans : (a b c : Rect) → LiesWithin a b → LiesWithin b c → LiesWithin a c
-within_trans a b c p q =
-    let p0 : b.xlo ≤ℤ a.xlo = p.right_of_xlo in
-    let p1 : b.ylo ≤ℤ a.ylo = p.above_ylo in
-    let p2 : a.xhi ≤ℤ b.xhi = p.left_of_xhi in
-    let p3 : a.yhi ≤ℤ b.yhi = p.below_yhi in
-    let q0 : c.xlo ≤ℤ b.xlo = q.right_of_xlo in
-    let q1 : c.ylo ≤ℤ b.ylo = q.above_ylo in
-    let q2 : b.xhi ≤ℤ c.xhi = q.left_of_xhi in
-    let q3 : b.yhi ≤ℤ c.yhi = q.below_yhi in
-    record { right_of_xlo = omega (arith, ints); above_ylo = omega (arith, ints); left_of_xhi = omega (arith, ints); below_yhi = omega (arith, ints) }
-
-within_antisym : (a b : Rect) → LiesWithin a b → LiesWithin b a → a ≡ b
-within_antisym a b p q =
-    let p0 : b.xlo ≤ℤ a.xlo = p.right_of_xlo in
-    let p1 : b.ylo ≤ℤ a.ylo = p.above_ylo in
-    let p2 : a.xhi ≤ℤ b.xhi = p.left_of_xhi in
-    let p3 : a.yhi ≤ℤ b.yhi = p.below_yhi in
-    let q0 : a.xlo ≤ℤ b.xlo = q.right_of_xlo in
-    let q1 : a.ylo ≤ℤ b.ylo = q.above_ylo in
-    let q2 : b.xhi ≤ℤ a.xhi = q.left_of_xhi in
-    let q3 : b.yhi ≤ℤ a.yhi = q.below_yhi in
-    rect_is a b (omega (arith, ints)) (omega (arith, ints)) (omega (arith, ints)) (omega (arith, ints))
-
-within_left : (a b : Rect) → LiesWithin a (joined_rect a b)
-within_left a b =
-    record { right_of_xlo = omega (arith, ints, clamps); above_ylo = omega (arith, ints, clamps); left_of_xhi = omega (arith, ints, clamps); below_yhi = omega (arith, ints, clamps) }
-
-within_right : (a b : Rect) → LiesWithin b (joined_rect a b)
-within_right a b =
-    record { right_of_xlo = omega (arith, ints, clamps); above_ylo = omega (arith, ints, clamps); left_of_xhi = omega (arith, ints, clamps); below_yhi = omega (arith, ints, clamps) }
 
 -- what lies inside a box lies inside each box round it
 pub inside_trans : (a b c : Option Rect) → IsInside a b → IsInside b c → IsInside a c
@@ -84,13 +53,13 @@ inside_antisym (Some a) (Some b) p q = ap Some (within_antisym a b p q)
 pub inside_left : (a b : Option Rect) → IsInside a (round_both a b)
 inside_left None b = tt
 inside_left (Some a) None = within_refl a
-inside_left (Some a) (Some b) = within_left a b
+inside_left (Some a) (Some b) = within_joined_first a b
 
 -- and round the second
 pub inside_right : (a b : Option Rect) → IsInside b (round_both a b)
 inside_right a None = tt
 inside_right None (Some b) = within_refl b
-inside_right (Some a) (Some b) = within_right a b
+inside_right (Some a) (Some b) = within_joined_second a b
 
 -- and lies inside each box that goes round both
 pub inside_both : (a b c : Option Rect) → IsInside a c → IsInside b c → IsInside (round_both a b) c
@@ -216,11 +185,6 @@ highest m s = by (int_lt (pos 0) (pos m *ℤ s))
     by : (b : Bool) → Farthest m s (cond b (pos m *ℤ s) (pos 0))
     by true = record { index = m; below = omega arith; goes = refl }
     by false = record { index = 0; below = omega arith; goes = none_of s }
-
-In-slice_get : {X : Type 0} (xs : List X) (k : ℕ) (x : X) → slice_get xs k ≡ Some x → In x xs
-In-slice_get [] k x is = absurd (cc)
-In-slice_get (y ∷ ys) zero x is = inl (cc)
-In-slice_get (y ∷ ys) (suc k) x is = inr (In-slice_get ys k x is)
 
 -- where an element of a grid is displaced to
 step_at : Grid → ℕ → ℕ → ℤ × ℤ

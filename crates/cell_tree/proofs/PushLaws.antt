@@ -5,6 +5,7 @@ use Rattle.std.proofs.lemmas.Bool.{cases_eq, cases_lt}
 use Rattle.std.proofs.lemmas.List.{append-nil, append_assoc, length-append, map_push}
 use Rattle.std.proofs.lemmas.Option.{slice_get_within, slice_get_past}
 use Rattle.finite_sets.specs.Lists.{In}
+use Rattle.finite_sets.proofs.Places.{slice_get-push_cases, slice_get-append_left, slice_get-append_front, slice_get-push_new}
 use Rattle.cell_tree.specs.declared.cells.TreeCell.{TreeCell}
 use Rattle.cell_tree.specs.declared.use_tables.UseBody.{UseBody}
 use Rattle.cell_tree.specs.Uses.{HasIdAt}
@@ -12,7 +13,6 @@ use Rattle.cell_tree.specs.Sizes.{CellState}
 use Rattle.cell_tree.specs.Cells.{state_of, states, users_of, Uses, KnowUsers}
 use Rattle.cell_tree.specs.Above.{IsUserOf}
 use Rattle.cell_tree.specs.Arrivals.{AreBehind, HaveOwnIds, IsKeptAs}
-use Rattle.cell_tree.proofs.AddLaws.{get_push, get_more, get_before, get_end}
 use Rattle.cell_tree.proofs.FindLaws.{length-states}
 
 stands_later : (xs ys : List (List ℕ × UseBody)) (x : List ℕ × UseBody) → In x.0 (map (λ entry. entry.0) (xs ++ x ∷ ys))
@@ -57,11 +57,11 @@ module _ (old now : List TreeCell) (kept : TreeCell) (cell : CellState) (behind 
   old_user : (key user : ℕ) → IsUserOf (now ++ kept ∷ []) key user → IsUserOf now key user
   old_user key user has =
       elim (cases_lt key (length now)) [
-        | inl before ↦ subst (λ ks. Contains ks user) (ap (λ o. option_map_or (λ (c : TreeCell). c.users.keys) o []) (get_before now kept key before)) has
+        | inl before ↦ subst (λ ks. Contains ks user) (ap (λ o. option_map_or (λ (c : TreeCell). c.users.keys) o []) (slice_get-append_front now (kept ∷ []) key before)) has
         | inr after ↦ absurd (elim (cases_eq key (length now)) [
           | inl here ↦
               let none = subst (λ ks. Contains ks user)
-              (ap (users_of (now ++ kept ∷ [])) here ∙ ap (λ o. option_map_or (λ (c : TreeCell). c.users.keys) o []) (get_end now kept) ∙ is.unused) has in
+              (ap (users_of (now ++ kept ∷ [])) here ∙ ap (λ o. option_map_or (λ (c : TreeCell). c.users.keys) o []) (slice_get-push_new now kept) ∙ is.unused) has in
               omega (arith, none.1)
           | inr beyond ↦ no_users (now ++ kept ∷ []) key user (omega (arith, after, beyond, length-append now (kept ∷ []))) has
         ])
@@ -70,13 +70,13 @@ module _ (old now : List TreeCell) (kept : TreeCell) (cell : CellState) (behind 
   new_user : (key user : ℕ) → IsUserOf now key user → IsUserOf (now ++ kept ∷ []) key user
   new_user key user has =
       elim (cases_lt key (length now)) [
-        | inl before ↦ subst (λ ks. Contains ks user) (sym (ap (λ o. option_map_or (λ (c : TreeCell). c.users.keys) o []) (get_before now kept key before))) has
+        | inl before ↦ subst (λ ks. Contains ks user) (sym (ap (λ o. option_map_or (λ (c : TreeCell). c.users.keys) o []) (slice_get-append_front now (kept ∷ []) key before))) has
         | inr after ↦ absurd (no_users now key user (omega (arith, after)) has)
       ]
 
   old_uses : (user key : ℕ) → user < length old → Uses (states (now ++ kept ∷ [])) user key → Uses (states now) user key
   old_uses user key low uses =
-      elim (get_push (states now) cell uses.cell user (sym (ap (λ s. slice_get s user) are) ∙ uses.is)) [
+      elim (slice_get-push_cases (states now) cell uses.cell user (sym (ap (λ s. slice_get s user) are) ∙ uses.is)) [
         | inl before ↦ record { cell = uses.cell; is = before; k = uses.k; entry = uses.entry; stands = uses.stands; child = uses.child }
         | inr here ↦ absurd (omega (arith, here.0, low, long, length-states now))
       ]
@@ -85,7 +85,7 @@ module _ (old now : List TreeCell) (kept : TreeCell) (cell : CellState) (behind 
   new_uses user key uses =
       record {
         cell = uses.cell;
-        is = ap (λ s. slice_get s user) are ∙ get_more (states now) cell uses.cell user uses.is;
+        is = ap (λ s. slice_get s user) are ∙ slice_get-append_left (states now) (cell ∷ []) user uses.cell uses.is;
         k = uses.k;
         entry = uses.entry;
         stands = uses.stands;

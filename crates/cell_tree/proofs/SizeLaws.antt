@@ -54,7 +54,8 @@ depth_below-alike f g (entry ∷ rest) same =
     ap (λ n. max n (depth_below f rest)) (same 0 entry refl)
     ∙ ap (max (g entry.1.child.0).depth) (depth_below-alike f g rest (λ k other is. same (suc k) other is))
 
-elements_below-alike : (f g : ℕ → Size) (uses : List (List ℕ × UseBody))
+-- uses whose cells have as many elements have as many
+pub elements_below-alike : (f g : ℕ → Size) (uses : List (List ℕ × UseBody))
     → ((k : ℕ) (entry : List ℕ × UseBody) → slice_get uses k ≡ Some entry → (f entry.1.child.0).elements ≡ (g entry.1.child.0).elements) → elements_below f uses ≡ elements_below g uses
 elements_below-alike f g [] same = refl
 elements_below-alike f g (entry ∷ rest) same =

@@ -18,13 +18,15 @@ use Rattle.cell_tree.specs.Hulls.{IsPaintable, SpansInRange, way_of, spread_area
 abbrev pub kept : ℤ → ℤ
 kept z = to_z w64 (of_z w64 z)
 
-product_low : (n : ℕ) (s : ℤ) → n ≤ MOST_ELEMENTS → IsShift s → neg_ℤ SPREAD_EDGE ≤ℤ (pos n *ℤ s)
+-- so many steps of a shift lead no further down than a spread may
+pub product_low : (n : ℕ) (s : ℤ) → n ≤ MOST_ELEMENTS → IsShift s → neg_ℤ SPREAD_EDGE ≤ℤ (pos n *ℤ s)
 product_low n (pos a) few shift = omega (arith, ints)
 product_low n (negsuc a) few shift =
     let more : n * suc a ≤ MOST_ELEMENTS * suc a = mul-le-mul_right (suc a) few in
     let small : suc a ≤ 134217716 = omega (arith, ints, shift.low) in omega (arith, ints, more, small)
 
-product_high : (n : ℕ) (s : ℤ) → n ≤ MOST_ELEMENTS → IsShift s → (pos n *ℤ s) ≤ℤ SPREAD_EDGE
+-- so many steps of a shift lead no further up than a spread may
+pub product_high : (n : ℕ) (s : ℤ) → n ≤ MOST_ELEMENTS → IsShift s → (pos n *ℤ s) ≤ℤ SPREAD_EDGE
 product_high n (pos a) few shift =
     let more : n * a ≤ MOST_ELEMENTS * a = mul-le-mul_right a few in
     let small : a ≤ 134217716 = omega (arith, ints, shift.high) in omega (arith, ints, more, small)

@@ -9,6 +9,7 @@ use Rattle.cell_tree.specs.declared.size_books.SizeBook.{SizeBook}
 use Rattle.cell_tree.specs.declared.use_tables.UseBody.{UseBody}
 use Rattle.cell_tree.specs.Uses.{HasChild, HasIdAt, IsLawfulUse, with_use_at, moved_at}
 use Rattle.ext_model.specs.declared.tables.CellKey.{CellKey}
+use Rattle.cell_tree.specs.declared.faults.TreeFault.TheVariants.{Passed}
 use Rattle.cell_tree.specs.declared.sizes.Dimension.{Dimension}
 use Rattle.cell_tree.specs.declared.sizes.Dimension.TheVariants.{Depth, Elements, Hull}
 use Rattle.cell_tree.specs.declared.sizes.Size.{Size}
@@ -17,7 +18,7 @@ use Rattle.cell_tree.specs.Trials.{IsTried, PassesFirst}
 use Rattle.cell_tree.specs.Books.{IsReady, SaysTheSame}
 use Rattle.cell_tree.specs.Edits.{AreUsersKept}
 use Rattle.cell_tree.specs.Cells.{state_of, states, Uses, IsAbove}
-use Rattle.cell_tree.specs.Trees.{cell_at, with_placed, with_use_set, with_uses, without_use, fault_of, IsLawfulTree, RefusesMove, RefusesUse, WouldPass}
+use Rattle.cell_tree.specs.Trees.{cell_at, with_placed, with_use_set, with_uses, without_use, IsLawfulTree, RefusesMove, RefusesUse, WouldPass}
 use Rattle.cell_tree.specs.Whole.{tree_of, IsWhole}
 use Rattle.cell_tree.proofs.EditLaws.{child_is_not_above}
 use Rattle.cell_tree.proofs.FindLaws.{length-states}
@@ -243,7 +244,7 @@ moved_depth f cell k used id body is same = ap suc (depth_set f cell.uses k used
 pub moved_refused : (cells : List TreeCell) (book : SizeBook) (whole : IsWhole cells book) (changed : ℕ) (inside : changed < length cells) (k : ℕ) (used : UseBody) (id : List ℕ) (body : UseBody)
     → slice_get (cell_at (states cells) changed).uses k ≡ Some (id, body) → used.child ≡ body.child → IsLawfulUse used → (dimension : Dimension)
     → ((tried : List Size) → IsTried (states cells) book.sizes.items tried changed (size_of (size_at book.sizes.items) (with_use_set (cell_at (states cells) changed) k used)) → PassesFirst dimension (states cells) changed tried)
-    → RefusesMove (tree_of cells book) changed k used.placed used.grid (fault_of dimension)
+    → RefusesMove (tree_of cells book) changed k used.placed used.grid (Passed dimension)
 moved_refused cells book whole changed inside k used id body is same lawful Depth passes =
     never_passes cells book whole changed inside Depth _
     (omega (
@@ -263,13 +264,9 @@ pub placed_refused : (cells : List TreeCell) (book : SizeBook) (whole : IsWhole 
     → IsLawfulUse used → used.child.0 < length cells → (IsAbove (states cells) changed used.child.0 → ⊥)
     → length (cell_at (states cells) changed).uses < MOST_USES → ((k : ℕ) → HasIdAt (cell_at (states cells) changed).uses k id → ⊥) → (dimension : Dimension)
     → ((tried : List Size) → IsTried (states cells) book.sizes.items tried changed (size_of (size_at book.sizes.items) (with_placed (cell_at (states cells) changed) id used)) → PassesFirst dimension (states cells) changed tried)
-    → RefusesUse (tree_of cells book) changed id used (fault_of dimension)
-placed_refused cells book whole changed inside id used lawful child free few new Depth passes =
-    record { free = free; few = few; passes = would_pass cells book changed _ whole inside (placed_lawful cells book whole changed inside id used lawful child free few new) Depth passes }
-placed_refused cells book whole changed inside id used lawful child free few new Elements passes =
-    record { free = free; few = few; passes = would_pass cells book changed _ whole inside (placed_lawful cells book whole changed inside id used lawful child free few new) Elements passes }
-placed_refused cells book whole changed inside id used lawful child free few new Hull passes =
-    record { free = free; few = few; passes = would_pass cells book changed _ whole inside (placed_lawful cells book whole changed inside id used lawful child free few new) Hull passes }
+    → RefusesUse (tree_of cells book) changed id used (Passed dimension)
+placed_refused cells book whole changed inside id used lawful child free few new dimension passes =
+    record { free = free; few = few; passes = would_pass cells book changed _ whole inside (placed_lawful cells book whole changed inside id used lawful child free few new) dimension passes }
 
 -- the size of a cell with one more use
 pub placed_size : (cells : List TreeCell) (book : SizeBook) (whole : IsWhole cells book) (changed : ℕ) (inside : changed < length cells) (id : List ℕ) (used : UseBody)

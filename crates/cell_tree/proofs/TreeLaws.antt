@@ -2,6 +2,7 @@
 use Rattle.std.proofs.Common.{◌≡◌, ◌≢◌, ◌↔◌, ◌<◌, ℕ, List, length, slice_set, slice_get, Option, Some, None, refl, ap, sym, subst, ◌∙◌, arith}
 use Rattle.geo_core.specs.declared.squares.Rect.{Rect}
 use Rattle.cell_tree.specs.declared.cells.TreeCell.{TreeCell}
+use Rattle.cell_tree.specs.declared.faults.TreeFault.TheVariants.{Passed}
 use Rattle.cell_tree.specs.declared.size_books.SizeBook.{SizeBook}
 use Rattle.cell_tree.specs.declared.sizes.Dimension.{Dimension}
 use Rattle.cell_tree.specs.declared.sizes.Dimension.TheVariants.{Depth, Elements, Hull}
@@ -11,16 +12,17 @@ use Rattle.cell_tree.specs.Hulls.{IsInside}
 use Rattle.cell_tree.specs.Sizes.{CellState, size_at, size_of, IsWithin}
 use Rattle.cell_tree.specs.Cells.{states, users_of}
 use Rattle.cell_tree.specs.Trials.{IsTried, FitsIn, PassesFirst}
-use Rattle.cell_tree.specs.Trees.{cell_at, with_own, fault_of, IsLawfulOwn, IsEdited, RefusesBox}
+use Rattle.cell_tree.specs.Trees.{cell_at, with_own, IsLawfulOwn, IsEdited, RefusesBox}
 use Rattle.cell_tree.specs.Books.{IsReady, IsBooked}
 use Rattle.cell_tree.specs.Whole.{tree_of, IsWhole}
 use Rattle.cell_tree.specs.Edits.{AreUsersKept, AreUsersBut}
 use Rattle.cell_tree.proofs.SizeLaws.{size_is}
 use Rattle.cell_tree.proofs.ShrinkLaws.{IsUpright, IsSmaller, AreAmong}
-use Rattle.cell_tree.proofs.EditLaws.{child_is_not_above, shrunk_within, smaller_keeps, tried_exists, slice_get-set_same}
+use Rattle.cell_tree.proofs.EditLaws.{child_is_not_above, shrunk_within, smaller_keeps, tried_exists}
 use Rattle.cell_tree.proofs.DecideLaws.{above_or_not}
 use Rattle.std.proofs.lemmas.List.{length-set}
 use Rattle.std.proofs.lemmas.Option.{same_Some}
+use Rattle.finite_sets.proofs.Places.{slice_get-set_same}
 use Rattle.cell_tree.proofs.FindLaws.{length-states}
 use Rattle.cell_tree.proofs.WholeLaws.{IsLawfulState, cell_is, kept_users, changed_users, whole_again, would_pass}
 
@@ -81,7 +83,7 @@ module _ (cells : List TreeCell) (book : SizeBook) (whole : IsWhole cells book) 
   -- what another own box passes first is the range
   pub own_refused : (own : Option Rect) → IsLawfulOwn own → (dimension : Dimension)
       → ((tried : List Size) → IsTried (states cells) book.sizes.items tried changed (size_of (size_at book.sizes.items) (with_own (cell_at (states cells) changed) own)) → PassesFirst dimension (states cells) changed tried)
-      → RefusesBox (tree_of cells book) changed own (fault_of dimension)
+      → RefusesBox (tree_of cells book) changed own (Passed dimension)
   own_refused own lawful Hull passes = would_pass cells book changed _ whole inside (own_lawful own lawful) Hull passes
   own_refused own lawful Depth passes =
       never_passes Depth _ (omega (arith, own_depth (size_at book.sizes.items) (cell_at (states cells) changed) own, ap (λ (s : Size). s.depth) (whole.lawful.sizes.right changed _ was))) passes

@@ -3,6 +3,7 @@ use Rattle.std.proofs.Common.{◌≡◌, ◌≢◌, ◌↔◌, inl, inr, ℕ, �
 use Rattle.std.proofs.lemmas.Bool.{cases_eq}
 use Rattle.std.proofs.lemmas.List.{length-set}
 use Rattle.std.proofs.lemmas.Option.{same_Some, slice_get-get_or}
+use Rattle.finite_sets.proofs.Places.{slice_get-set_same, slice_get-set_other}
 use Rattle.cell_tree.specs.declared.cells.TreeCell.{TreeCell}
 use Rattle.cell_tree.specs.declared.limits.TheConstants.{MOST_USES}
 use Rattle.cell_tree.specs.declared.size_books.SizeBook.{SizeBook}
@@ -18,7 +19,7 @@ use Rattle.cell_tree.specs.Trees.{stamp_at, empty_cell, cell_at, IsLawfulCell, I
 use Rattle.cell_tree.specs.Books.{IsReady, AreLawful, IsBooked}
 use Rattle.cell_tree.specs.Whole.{tree_of, IsWhole}
 use Rattle.cell_tree.specs.Edits.{AreUsersKept, AreUsersBut}
-use Rattle.cell_tree.proofs.EditLaws.{slice_get-set_same, slice_get-set_other, tried_is_right, tried_exists}
+use Rattle.cell_tree.proofs.EditLaws.{tried_is_right, tried_exists}
 use Rattle.cell_tree.proofs.DecideLaws.{above_or_not}
 use Rattle.cell_tree.proofs.FindLaws.{length-states}
 

@@ -1,12 +1,10 @@
 -- Cells that come all at once, which of them refuse that, and the uses of cells as a graph.
 use Rattle.std.specs.Prelude.{◌≡◌, ◌<◌, ◌≤◌, ℕ, suc, List, ◌++◌, length, map, All}
-use Rattle.geo_core.specs.declared.limits.Limit.TheVariants.{Depth as DepthLimit, Elements as ElementsLimit}
 use Rattle.cell_tree.specs.declared.faults.TreeFault.{TreeFault}
-use Rattle.cell_tree.specs.declared.faults.TreeFault.TheVariants.{Cycle, TooMany, OutOfRange, Memory}
+use Rattle.cell_tree.specs.declared.faults.TreeFault.TheVariants.{Cycle, Passed, Memory}
 use Rattle.cell_tree.specs.declared.limits.TheConstants.{MOST_USES}
 use Rattle.cell_tree.specs.declared.new_cells.NewCell.{NewCell}
 use Rattle.cell_tree.specs.declared.sizes.Dimension.{Dimension}
-use Rattle.cell_tree.specs.declared.sizes.Dimension.TheVariants.{Depth, Elements, Hull}
 use Rattle.cell_tree.specs.declared.sizes.Size.{Size}
 use Rattle.cell_tree.specs.Cells.{Uses, IsAbove}
 use Rattle.cell_tree.specs.Sizes.{CellState, size_at, AreSizes, AreUsesBelow, IsWithin}
@@ -68,8 +66,6 @@ pub record PassesWithAll (dimension : Dimension) (cells : List CellState) : Type
 -- what refuses that these cells come; want of memory may always
 abbrev pub RefusesAll : Tree → List CellState → TreeFault → Type 0
 RefusesAll tree more (Cycle cell) = IsFirstBelowItself (tree.cells ++ more) cell
-RefusesAll tree more (TooMany DepthLimit) = PassesWithAll Depth (tree.cells ++ more)
-RefusesAll tree more (TooMany ElementsLimit) = PassesWithAll Elements (tree.cells ++ more)
-RefusesAll tree more OutOfRange = PassesWithAll Hull (tree.cells ++ more)
+RefusesAll tree more (Passed dimension) = PassesWithAll dimension (tree.cells ++ more)
 RefusesAll tree more Memory = Unit {0}
 RefusesAll tree more _ = ⊥

@@ -2,13 +2,11 @@
 -- which users are known meanwhile.
 use Rattle.std.specs.Prelude.{◌≡◌, ◌≢◌, ◌⊎◌, ◌↔◌, ℕ, suc, ◌-◌, ◌<◌, ◌≤◌, List, [], ◌++◌, length, map, replicate, Some, slice_get, vec_capacity}
 use Rattle.finite_sets.specs.Lists.{Distinct}
-use Rattle.geo_core.specs.declared.limits.Limit.TheVariants.{Depth as DepthLimit, Elements as ElementsLimit}
 use Rattle.cell_tree.specs.declared.cells.TreeCell.{TreeCell}
 use Rattle.cell_tree.specs.declared.faults.TreeFault.{TreeFault}
-use Rattle.cell_tree.specs.declared.faults.TreeFault.TheVariants.{Cycle, TooMany, OutOfRange, Memory}
+use Rattle.cell_tree.specs.declared.faults.TreeFault.TheVariants.{Cycle, Passed, Memory}
 use Rattle.cell_tree.specs.declared.size_books.SizeBook.{SizeBook}
 use Rattle.cell_tree.specs.declared.sizes.Dimension.{Dimension}
-use Rattle.cell_tree.specs.declared.sizes.Dimension.TheVariants.{Depth, Elements, Hull}
 use Rattle.cell_tree.specs.declared.sizes.Size.{Size}
 use Rattle.cell_tree.specs.declared.use_tables.UseBody.{UseBody}
 use Rattle.cell_tree.specs.Sizes.{CellState, size_at, size_of, IsWithin, AreAlike, AreSizes}
@@ -115,9 +113,7 @@ RefusesOrder cells _ = ⊥
 
 -- what refuses sizes of the cells; want of memory may always
 abbrev pub RefusesSizes : List CellState → TreeFault → Type 0
-RefusesSizes cells (TooMany DepthLimit) = PassesWithAll Depth cells
-RefusesSizes cells (TooMany ElementsLimit) = PassesWithAll Elements cells
-RefusesSizes cells OutOfRange = PassesWithAll Hull cells
+RefusesSizes cells (Passed dimension) = PassesWithAll dimension cells
 RefusesSizes cells Memory = Unit {0}
 RefusesSizes cells _ = ⊥
 

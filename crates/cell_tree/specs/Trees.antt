@@ -1,15 +1,14 @@
 -- Trees of cells: which are lawful, what an edit changes, and what refuses one.
 use Rattle.std.specs.Prelude.{◌≡◌, ℕ, suc, ◌<◌, ◌≤◌, List, [], ◌∷◌, ◌++◌, length, map, remove, Option, Some, None, slice_get, slice_set, slice_index_or}
-use Rattle.geo_core.specs.declared.limits.Limit.TheVariants.{Uses as UsesLimit, Depth as DepthLimit, Elements as ElementsLimit}
 use Rattle.geo_core.specs.declared.squares.Rect.{Rect}
 use Rattle.geo_core.specs.declared.grids.Grid.{Grid}
 use Rattle.geo_core.specs.declared.transforms.Transform.{Transform}
 use Rattle.finite_sets.specs.Lists.{Distinct}
 use Rattle.cell_tree.specs.declared.faults.TreeFault.{TreeFault}
-use Rattle.cell_tree.specs.declared.faults.TreeFault.TheVariants.{Cycle, TooMany, OutOfRange, Memory}
+use Rattle.cell_tree.specs.declared.faults.TreeFault.TheVariants.{Cycle, TooManyUses, Passed, Memory}
 use Rattle.cell_tree.specs.declared.limits.TheConstants.{MOST_USES}
 use Rattle.cell_tree.specs.declared.sizes.Dimension.{Dimension}
-use Rattle.cell_tree.specs.declared.sizes.Dimension.TheVariants.{Depth, Elements, Hull}
+use Rattle.cell_tree.specs.declared.sizes.Dimension.TheVariants.{Elements, Hull}
 use Rattle.cell_tree.specs.declared.sizes.Size.{Size}
 use Rattle.cell_tree.specs.declared.use_tables.UseBody.{UseBody}
 use Rattle.cell_tree.specs.Uses.{moved_at, with_use_at}
@@ -116,13 +115,13 @@ IsLawfulOwn own = (box : Rect) → own ≡ Some box → IsLawfulBox box
 
 -- what refuses another own box
 abbrev pub RefusesBox : Tree → ℕ → Option Rect → TreeFault → Type 0
-RefusesBox tree cell own OutOfRange = WouldPass Hull tree cell (with_own (cell_at tree.cells cell) own)
+RefusesBox tree cell own (Passed Hull) = WouldPass Hull tree cell (with_own (cell_at tree.cells cell) own)
 RefusesBox tree cell own _ = ⊥
 
 -- what refuses that a use is placed otherwise
 abbrev pub RefusesMove : Tree → ℕ → ℕ → Transform → Option Grid → TreeFault → Type 0
-RefusesMove tree cell k placed grid (TooMany ElementsLimit) = WouldPass Elements tree cell (with_moved (cell_at tree.cells cell) k placed grid)
-RefusesMove tree cell k placed grid OutOfRange = WouldPass Hull tree cell (with_moved (cell_at tree.cells cell) k placed grid)
+RefusesMove tree cell k placed grid (Passed Elements) = WouldPass Elements tree cell (with_moved (cell_at tree.cells cell) k placed grid)
+RefusesMove tree cell k placed grid (Passed Hull) = WouldPass Hull tree cell (with_moved (cell_at tree.cells cell) k placed grid)
 RefusesMove tree cell k placed grid _ = ⊥
 
 -- A use of the child makes no cycle: the child is neither the cell nor one above it.
@@ -138,19 +137,10 @@ pub record RefusesGrowth (tree : Tree) (cell : ℕ) (id : List ℕ) (used : UseB
 -- what refuses one more use; want of memory may always
 abbrev pub RefusesUse : Tree → ℕ → List ℕ → UseBody → TreeFault → Type 0
 RefusesUse tree cell id used (Cycle key) = (key ≡ used.child.0) × IsAbove tree.cells cell used.child.0
-RefusesUse tree cell id used (TooMany UsesLimit) = IsFree tree cell used × (length (cell_at tree.cells cell).uses ≡ MOST_USES)
-RefusesUse tree cell id used (TooMany DepthLimit) = RefusesGrowth tree cell id used Depth
-RefusesUse tree cell id used (TooMany ElementsLimit) = RefusesGrowth tree cell id used Elements
-RefusesUse tree cell id used OutOfRange = RefusesGrowth tree cell id used Hull
+RefusesUse tree cell id used TooManyUses = IsFree tree cell used × (length (cell_at tree.cells cell).uses ≡ MOST_USES)
+RefusesUse tree cell id used (Passed dimension) = RefusesGrowth tree cell id used dimension
 RefusesUse tree cell id used Memory = Unit {0}
-RefusesUse tree cell id used _ = ⊥
 
 -- the cell with other uses
 abbrev pub with_uses : CellState → List (List ℕ × UseBody) → CellState
 with_uses cell uses = record cell { uses = uses }
-
--- what refuses an edit that would pass the limit of this dimension
-abbrev pub fault_of : Dimension → TreeFault
-fault_of Depth = TooMany DepthLimit
-fault_of Elements = TooMany ElementsLimit
-fault_of Hull = OutOfRange

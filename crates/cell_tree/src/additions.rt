@@ -12,7 +12,7 @@ ghost use Rattle.cell_tree.specs.Arrivals.{KnowUsersFrom, KnowUsersTo, MayBeSize
 use crate::arrivals::{NewOrder, new_order};
 use crate::cells::TreeCell;
 use crate::edits::{push_user, remove_user, reserve_user};
-use crate::faults::{TreeFault, fault_of};
+use crate::faults::TreeFault;
 use crate::new_cells::NewCell;
 use crate::size_books::SizeBook;
 use crate::use_tables::UseTable;
@@ -158,7 +158,7 @@ fn settle(cells: &mut [TreeCell], book: &mut SizeBook, new: &NewOrder) -> Result
         Ok(()) => Ok(()),
         Err(dimension) => {
             forget_all(cells, new.first);
-            Err(fault_of(dimension))
+            Err(TreeFault::Passed(dimension))
         }
     }
 }

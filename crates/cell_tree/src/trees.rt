@@ -14,7 +14,7 @@ ghost use Rattle.cell_tree.specs.Trees.{IsAdded, IsEdited, IsFree, IsLawfulOwn, 
 use crate::additions::add_all;
 use crate::cells::TreeCell;
 use crate::edits::{add_use, drop_use, reserve_use, set_body, set_own};
-use crate::faults::{TreeFault, fault_of};
+use crate::faults::TreeFault;
 use crate::graphs::CellGraph;
 use crate::limits::MOST_USES;
 use crate::new_cells::NewCell;
@@ -22,7 +22,7 @@ use crate::resizes::{size_with_box, size_with_placed, size_with_use};
 use crate::size_books::SizeBook;
 use crate::use_tables::{UseBody, UseTable};
 use ext_model::CellKey;
-use geo_core::{Grid, Limit, Rect, Transform};
+use geo_core::{Grid, Rect, Transform};
 use indexmap::IndexSet;
 use std::alloc::{AllocError, Global};
 use std::marker::Model;
@@ -185,8 +185,8 @@ impl CellTree {
     ///
     /// # Errors
     ///
-    /// `Cycle` with the position that the first cell would have that stands below itself; else `TooMany(Depth)`, `TooMany(Elements)` or
-    /// `OutOfRange`, the first whose limit some cell would pass; and `Memory`. Nothing is changed then.
+    /// `Cycle` with the position that the first cell would have that stands below itself; else `Passed` with the first dimension whose
+    /// limit some cell would pass; and `Memory`. Nothing is changed then.
     pub fn add_all(&mut self, cells: Vec<NewCell>) -> Result<(), TreeFault>
         requires cells { MayAllCome self.old (new_states cells.items) }
         requires edits { self.old.edits < u64.MAX }
@@ -208,7 +208,7 @@ impl CellTree {
     ///
     /// # Errors
     ///
-    /// `OutOfRange` alone, where the hull of some cell would leave the range of paint.
+    /// `Passed(Hull)` alone, where the hull of some cell would leave the range of paint.
     pub fn fits_box(&mut self, cell: usize, own: Option<Rect>) -> Result<(), TreeFault>
         requires within { cell < length self.old.cells }
         requires lawful { IsLawfulOwn own }
@@ -220,7 +220,7 @@ impl CellTree {
         let fits = self.book.fits(self.cells.as_slice(), cell, &size);
         match fits {
             Ok(()) => Ok(()),
-            Err(dimension) => Err(fault_of(dimension)),
+            Err(dimension) => Err(TreeFault::Passed(dimension)),
         }
     }
 
@@ -228,7 +228,7 @@ impl CellTree {
     ///
     /// # Errors
     ///
-    /// `OutOfRange` alone, where the hull of some cell would leave the range of paint. Nothing is changed then.
+    /// `Passed(Hull)` alone, where the hull of some cell would leave the range of paint. Nothing is changed then.
     pub fn set_box(&mut self, cell: usize, own: Option<Rect>) -> Result<(), TreeFault>
         requires within { cell < length self.old.cells }
         requires lawful { IsLawfulOwn own }
@@ -240,7 +240,7 @@ impl CellTree {
         let size = size_with_box(self.cells.as_slice(), self.book.sizes.as_slice(), cell, own);
         match self.book.grow(self.cells.as_slice(), cell, &size) {
             Ok(()) => {}
-            Err(dimension) => return Err(fault_of(dimension)),
+            Err(dimension) => return Err(TreeFault::Passed(dimension)),
         }
         set_own(self.cells.as_mut_slice(), cell, own);
         Ok(())
@@ -267,9 +267,9 @@ impl CellTree {
     ///
     /// # Errors
     ///
-    /// `Cycle` with the child's position where the child is the cell or has it below; else `TooMany(Uses)` where the cell has
-    /// `MOST_USES` uses; else `TooMany(Depth)`, `TooMany(Elements)` or `OutOfRange`, the first of the limits of depth, of elements and of
-    /// hulls that the cell or one above it would pass; and `Memory`. Nothing is changed then.
+    /// `Cycle` with the child's position where the child is the cell or has it below; else `TooManyUses` where the cell has
+    /// `MOST_USES` uses; else `Passed` with the first dimension whose limit the cell or one above it would pass; and `Memory`. Nothing is
+    /// changed then.
     pub fn place(&mut self, cell: usize, id: Vec<u8>, used: UseBody) -> Result<(), TreeFault>
         requires within { cell < length self.old.cells }
         requires new { (k : ℕ) → HasIdAt (cell_at self.old.cells cell).uses k id.items → ⊥ }
@@ -286,7 +286,7 @@ impl CellTree {
         }
         self.lawful();
         if self.use_count(cell) >= MOST_USES {
-            return Err(TreeFault::TooMany(Limit::Uses));
+            return Err(TreeFault::TooManyUses);
         }
         self.place_free(cell, id, used)
     }
@@ -295,8 +295,7 @@ impl CellTree {
     ///
     /// # Errors
     ///
-    /// `TooMany(Elements)` or `OutOfRange`, the first of the limits of elements and of hulls that the cell or one above it would pass.
-    /// Nothing is changed then.
+    /// `Passed(Elements)` or `Passed(Hull)`, the first whose limit the cell or one above it would pass. Nothing is changed then.
     pub fn set_use(
         &mut self,
         cell: usize,
@@ -329,7 +328,7 @@ impl CellTree {
         );
         match self.book.grow(self.cells.as_slice(), cell, &size) {
             Ok(()) => {}
-            Err(dimension) => return Err(fault_of(dimension)),
+            Err(dimension) => return Err(TreeFault::Passed(dimension)),
         }
         set_body(self.cells.as_mut_slice(), cell, k, used);
         Ok(())
@@ -391,7 +390,7 @@ impl CellTree {
         );
         match self.book.grow(self.cells.as_slice(), cell, &size) {
             Ok(()) => {}
-            Err(dimension) => return Err(fault_of(dimension)),
+            Err(dimension) => return Err(TreeFault::Passed(dimension)),
         }
         add_use(self.cells.as_mut_slice(), cell, id, used);
         Ok(())

@@ -4,13 +4,13 @@ use Rattle.std.proofs.Common.{subst, inl, inr, arith}
 use Rattle.std.proofs.lemmas.Int.{ints}
 use Rattle.std.specs.Prelude.{◌≢◌, ◌+ℤ◌, ◌-ℤ◌, ◌≤ℤ◌, All, IsTrue, Option, Some, None, sum_by}
 use Rattle.std.specs.Int.RustNames.{unsigned_abs}
-use Rattle.std.specs.List.{flat_map}
 use Rattle.std.specs.Str.{bytes_eq}
 use Rattle.std.proofs.lemmas.List.Sums.{sum_by-cons}
 use Rattle.finite_sets.specs.Lists.{In}
 use Rattle.finite_sets.specs.Total.{sum_on}
-use Rattle.finite_sets.proofs.Members.{In-append_cases, In-map_source}
-use Rattle.finite_sets.proofs.Searches.{All-from_In, find-In}
+use Rattle.finite_sets.proofs.Members.{In-map_source}
+use Rattle.finite_sets.proofs.Searches.{All-from_In, find-In, All-In}
+use Rattle.finite_sets.proofs.Images.{In-flat_map_source}
 use Rattle.ext_model.specs.declared.limits.TheConstants.{LENGTHS_EDGE}
 use Rattle.ext_model.specs.declared.records.CellExt.{CellExt}
 use Rattle.ext_model.specs.declared.records.FetRec.{FetRec}
@@ -24,14 +24,6 @@ use Rattle.circuit_model.specs.FlatFets.{AreFlatFets, IsFlatFet, fets_in, fets_o
 use Rattle.sim_records.specs.SimRecords.{HasLetterAndLengths}
 use Rattle.circuit_laws.specs.CircuitLaws.{FlatTransistorsHaveLetterAndLengths}
 
--- what is in an image of lists is in one of them
-In-flat_map : {X Y : Type 0} (f : X → List Y) (y : Y) (xs : List X) → In y (flat_map f xs) → (x : X) × (In x xs × In y (f x))
-In-flat_map f y [] absent = absurd absent
-In-flat_map f y (x ∷ xs) within = elim (In-append_cases y (f x) (flat_map f xs) within) [
-  | inl here ↦ (x, (inl refl, here))
-  | inr later ↦ let rest = In-flat_map f y xs later in (rest.0, (inr rest.1.0, rest.1.1))
-]
-
 -- what holds of the record of an element and of all records holds of the record of each element at and below it
 below : (P : CellExt → Type 0) (levels : ℕ) (exts : List CellExt) (uses : List UseRec) (ext : CellExt) → P ext
     → ((one : CellExt) → In one exts → P one) → (element : Element) → In element (elements_below levels exts uses ext) → P element.ext
@@ -40,7 +32,7 @@ below P zero exts uses ext here each element absent = absurd absent
 below P (suc levels) exts uses ext here each element (inl same) = subst (λ (e : Element). P e.ext) same here
 below P (suc levels) exts uses ext here each element (inr later) =
     let under : UseRec → List Element = λ used. of_option (elements_below levels exts (uses ++ used ∷ [])) (ext_of exts used.cell) in
-    let found = In-flat_map under element ext.uses later in
+    let found = In-flat_map_source under element ext.uses later in
     step found.0 (ext_of exts found.0.cell) (λ child is. each child (find-In (λ one. bytes_eq one.cell found.0.cell) exts child is))
     (λ child holds. below P levels exts (uses ++ found.0 ∷ []) child holds each element) found.1.1
   where
@@ -111,12 +103,6 @@ flat_fet nodes element fet flat lawful is = record {
         let all = lawful.lengths in
         omega (arith, small, all)
 
--- what holds of all of a list holds of what is in it
-All-In : {X : Type 0} (P : X → Type 0) (xs : List X) → All P xs → (x : X) → In x xs → P x
-All-In P [] all x absent = absurd absent
-All-In P (y ∷ ys) all x (inl same) = subst P same (all 0 y (omega (arith)))
-All-In P (y ∷ ys) all x (inr later) = All-In P ys (λ k d below. all (suc k) d (omega (arith, below))) x later
-
 pub flat_transistors_have_letter_and_lengths : FlatTransistorsHaveLetterAndLengths
 flat_transistors_have_letter_and_lengths exts root circuit records is =
     All-from_In HasLetterAndLengths circuit.fets each
@@ -124,10 +110,10 @@ flat_transistors_have_letter_and_lengths exts root circuit records is =
     each : (flat : FetRec) → In flat circuit.fets → HasLetterAndLengths flat
     each flat within =
         let one = is_of_one circuit.nodes (fets_of (elements_of exts is.top)) circuit.fets is.meaning.fets flat within in
-        let source = In-flat_map fets_in one.0 (elements_of exts is.top) one.1.0 in
+        let source = In-flat_map_source fets_in one.0 (elements_of exts is.top) one.1.0 in
         let pair = In-map_source (λ fet. (source.0, fet)) one.0 source.0.ext.fets source.1.1 in
-        let lawful = below IsLawful _ exts [] is.top (All-In IsLawful exts records.lawful is.top (find-In (λ ext. bytes_eq ext.cell root) exts is.top is.found))
-        (λ ext there. All-In IsLawful exts records.lawful ext there) source.0 source.1.0 in
-        let fet_lawful = All-In (IsLawfulFet source.0.ext) source.0.ext.fets lawful.fets pair.0 pair.1.0 in
+        let lawful = below IsLawful _ exts [] is.top (All-In IsLawful exts is.top records.lawful (find-In (λ ext. bytes_eq ext.cell root) exts is.top is.found))
+        (λ ext there. All-In IsLawful exts ext records.lawful there) source.0 source.1.0 in
+        let fet_lawful = All-In (IsLawfulFet source.0.ext) source.0.ext.fets pair.0 lawful.fets pair.1.0 in
         let flat_is = subst (λ (p : Element × FetRec). IsFlatFet circuit.nodes p.0 p.1 flat) (sym pair.1.1) one.1.1 in
         flat_fet circuit.nodes source.0 pair.0 flat fet_lawful flat_is

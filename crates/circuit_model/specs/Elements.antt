@@ -6,10 +6,11 @@ use Rattle.std.specs.List.{flat_map}
 use Rattle.std.specs.Str.{bytes_eq}
 use Rattle.finite_sets.specs.Lists.{Distinct}
 use Rattle.geo_core.specs.declared.orients.Orient.{Orient}
-use Rattle.geo_core.specs.declared.orients.Orient.TheVariants.{R0, R90, R180, R270, Mx, My, Mx90, My90}
+use Rattle.geo_core.specs.declared.orients.Orient.TheVariants.{R0}
 use Rattle.geo_core.specs.declared.transforms.Transform.{Transform}
 use Rattle.geo_core.specs.declared.squares.Square.{Square}
 use Rattle.geo_core.specs.Images.{image, six_of}
+use Rattle.geo_core.specs.Orientation.{all_orients}
 use Rattle.ext_model.specs.declared.records.UseRec.{UseRec}
 use Rattle.ext_model.specs.declared.records.CellExt.{CellExt}
 use Rattle.ext_model.specs.Lawful.{IsLawful}
@@ -49,9 +50,6 @@ elements_below (suc levels) exts uses ext =
 -- the elements of a tree: the root without uses, and all below it
 abbrev pub elements_of : List CellExt → CellExt → List Element
 elements_of exts root = elements_below LONGEST_CHAIN exts [] root
-
-abbrev pub all_orients : List Orient
-all_orients = R0 ∷ R90 ∷ R180 ∷ R270 ∷ Mx ∷ My ∷ Mx90 ∷ My90 ∷ []
 
 -- the orientation with the displacements of the six numbers
 abbrev pub with_shift : List ℤ → Orient → Transform

@@ -1,8 +1,9 @@
 -- The full names of a tree of records, and which of them are of one node.
-use Rattle.std.specs.Prelude.{◌≡◌, ◌⊎◌, ℕ, List, [], ◌∷◌, map}
+use Rattle.std.specs.Prelude.{◌≡◌, ◌⊎◌, ℕ, List, map}
 use Rattle.std.specs.declared.cmp.Ordering.TheVariants.{Less}
 use Rattle.finite_sets.specs.Lists.{In}
 use Rattle.finite_sets.specs.Chain.{Chain, EitherWay}
+use Rattle.finite_sets.specs.Order.{IsInOrder}
 use Rattle.ext_model.specs.declared.records.NodeRec.{NodeRec}
 use Rattle.ext_model.specs.declared.records.MergeRec.{MergeRec}
 use Rattle.ext_model.specs.NameOrder.{name_cmp}
@@ -47,6 +48,4 @@ AreOneNode elements = Chain (EitherWay (AreLinked elements))
 
 -- each name stands before the next in the name order
 abbrev pub AreInNameOrder : List (List ℕ) → Type 0
-AreInNameOrder [] = Unit {0}
-AreInNameOrder (name ∷ []) = Unit {0}
-AreInNameOrder (name ∷ next ∷ names) = (name_cmp name next ≡ Less) × AreInNameOrder (next ∷ names)
+AreInNameOrder names = IsInOrder (λ name next. name_cmp name next ≡ Less) names

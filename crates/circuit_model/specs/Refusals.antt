@@ -3,8 +3,7 @@ use Rattle.std.specs.Prelude.{◌≡◌, ℕ, zero, suc, max, Bool, false, ◌==
 use Rattle.std.specs.List.{flat_map, list_any}
 use Rattle.std.specs.Option.{option_or}
 use Rattle.std.specs.Str.{bytes_eq}
-use Rattle.geo_core.specs.declared.limits.Limit.{Limit}
-use Rattle.geo_core.specs.declared.limits.Limit.TheVariants.{Depth, Elements, Nodes, Names, Merges}
+use Rattle.finite_sets.specs.First.{first_some}
 use Rattle.ext_model.specs.declared.names.TheConstants.{SLASH}
 use Rattle.ext_model.specs.declared.records.MergeRec.{MergeRec}
 use Rattle.ext_model.specs.declared.records.CellExt.{CellExt}
@@ -13,6 +12,8 @@ use Rattle.ext_model.specs.NodeNames.{slashes_in}
 use Rattle.ext_model.specs.RecordNames.{node_names}
 use Rattle.circuit_model.specs.declared.faults.FlatFault.{FlatFault}
 use Rattle.circuit_model.specs.declared.faults.FlatFault.TheVariants.{NoCell, Cycle, TooMany, Classes, NoPath}
+use Rattle.circuit_model.specs.declared.limits.CircuitLimit.{CircuitLimit}
+use Rattle.circuit_model.specs.declared.limits.CircuitLimit.TheVariants.{Depth, Elements, Nodes, Names, Merges}
 use Rattle.circuit_model.specs.declared.limits.TheConstants.{LONGEST_CHAIN, MOST_FLAT_ELEMENTS, MOST_NODES, MOST_NAME_BYTES, MOST_MERGES}
 use Rattle.circuit_model.specs.Elements.{Element, ext_of, elements_of}
 use Rattle.circuit_model.specs.FullNames.{full_names}
@@ -21,8 +22,7 @@ use Rattle.circuit_model.specs.Circuits.{IsMeaning}
 
 -- the first fault of the things of a list, in their order
 abbrev pub first_fault : {X : Type 0} → (X → Option FlatFault) → List X → Option FlatFault
-first_fault fault_of [] = None
-first_fault fault_of (x ∷ xs) = option_or (fault_of x) (first_fault fault_of xs)
+first_fault fault_of xs = first_some fault_of xs
 
 -- Depth first through the uses: the first whose cell has no record, or is one of the open cells, those that the use is itself at or
 -- below. The number bounds how many more cells are opened.
@@ -74,7 +74,7 @@ abbrev pub merge_count : List Element → ℕ
 merge_count elements = sum_by (λ element. length element.ext.merges) elements
 
 -- the fault where a number is past its limit
-abbrev pub past : ℕ → Limit → ℕ → Option FlatFault
+abbrev pub past : ℕ → CircuitLimit → ℕ → Option FlatFault
 past most limit number = if nat_lt most number then Some (TooMany limit) else None
 
 -- the first number that is past its limit

@@ -1,6 +1,7 @@
 //! Why records mean no circuit.
 
-use geo_core::{GeoFault, Limit, Name};
+use crate::limits::CircuitLimit;
+use names_lists::Name;
 use std::alloc::{AllocError, AllocFailed};
 use thiserror::Error;
 
@@ -15,7 +16,7 @@ pub enum FlatFault {
     Cycle(Name),
     /// A number is past its limit.
     #[error("too many")]
-    TooMany(Limit),
+    TooMany(CircuitLimit),
     /// The record of this cell has another number of classes than the root's.
     #[error("classes")]
     Classes(Name),
@@ -45,17 +46,6 @@ impl<T: Drop> From<AllocFailed<T>> for FlatFault {
     ghost from_gives = { λ _ fault. fault ≡ Memory };
 
     fn from(_error: AllocFailed<T>) -> FlatFault {
-        FlatFault::Memory
-    }
-}
-
-impl From<GeoFault> for FlatFault {
-    ghost use Rattle.std.specs.Prelude.{◌≡◌};
-    ghost use Rattle.circuit_model.specs.declared.faults.FlatFault.TheVariants.{Memory};
-
-    ghost from_gives = { λ _ fault. fault ≡ Memory };
-
-    fn from(_error: GeoFault) -> FlatFault {
         FlatFault::Memory
     }
 }

@@ -8,4 +8,6 @@ mod faults;
 mod limits;
 
 pub use faults::FlatFault;
-pub use limits::{LONGEST_CHAIN, MOST_FLAT_ELEMENTS, MOST_MERGES, MOST_NAME_BYTES, MOST_NODES};
+pub use limits::{
+    CircuitLimit, LONGEST_CHAIN, MOST_FLAT_ELEMENTS, MOST_MERGES, MOST_NAME_BYTES, MOST_NODES,
+};

@@ -1,5 +1,20 @@
 //! How much a tree of records may have. Clauses read the limits by their names.
 
+/// What a tree of records may have too many of.
+#[derive(Clone, Copy, Debug, PartialEq, Eq)]
+pub enum CircuitLimit {
+    /// Cells in a chain of uses.
+    Depth,
+    /// Elements below the root, itself counted.
+    Elements,
+    /// Records of nodes of all elements.
+    Nodes,
+    /// Bytes of the full names of all nodes.
+    Names,
+    /// Records of merges of all elements.
+    Merges,
+}
+
 /// How many cells a chain of uses may have, the root among them.
 pub const LONGEST_CHAIN: usize = 64;
 

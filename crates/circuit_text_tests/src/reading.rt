@@ -1,7 +1,7 @@
 // Texts that are read, and written again, or refused at a line.
 use ext_reading::{ExtReadFault, LONGEST_READ_TEXT, read_ext};
 use ext_text::write_ext;
-use geo_core::Name;
+use names_lists::Name;
 use std::alloc::Global;
 use std::test::Fail;
 

@@ -1,6 +1,6 @@
 // Records and circuits of const tables.
 use ext_model::{CellExt, Circuit, FetRec, MergeRec, NodeRec, TermRec, UseRec};
-use geo_core::{List, Name};
+use names_lists::{List, Name};
 use std::alloc::Global;
 use std::test::Fail;
 

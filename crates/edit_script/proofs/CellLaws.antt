@@ -11,10 +11,10 @@ use Rattle.tech_model.specs.declared.raw.RawTech.{RawTech}
 use Rattle.tech_model.specs.Types.{has_name, layer_named, layer_number}
 use Rattle.cell_library.specs.declared.faults.LibFault.{LibFault}
 use Rattle.cell_library.specs.Edits.{with_new_cell}
-use Rattle.cell_library.specs.Libraries.{LibraryParts, IsNextCell, edits_of, seen, uses_in}
+use Rattle.cell_library.specs.Libraries.{LibraryParts, IsNextCell, edits_of, seen}
 use Rattle.cell_library.specs.Refusals.{EditIsRefused, NewCellIsRefused}
 use Rattle.cell_library.specs.Views.{CellView, LibraryView, cell_named, names_of}
-use Rattle.cell_library.proofs.ViewLaws.{length-cell_views}
+use Rattle.cell_library.proofs.ViewLaws.{count_seen}
 use Rattle.script_lines.specs.declared.commands.Command.TheVariants as command
 use Rattle.edit_script.specs.declared.faults.EditFault.{EditFault}
 use Rattle.edit_script.specs.Editing.{editing_of}
@@ -22,10 +22,6 @@ use Rattle.edit_script.specs.Edits.{applied}
 use Rattle.edit_script.specs.Refusals.{ApplyIsRefused}
 
 -- ---- what words name
-
--- as many cells are seen as there are
-pub counted : (library : LibraryParts) → length (seen library).cells ≡ length library.contents
-counted library = length-cell_views library.contents (uses_in library.tree.cells)
 
 -- the position of a cell is below their number
 pub named_below : (view : LibraryView) (name : List ℕ) (cell : ℕ) → cell_named view name ≡ Some cell → cell < length view.cells
@@ -36,7 +32,7 @@ named_below view name cell named =
 -- a cell that is found is one of the library's
 pub found_there : (library : LibraryParts) (name : List ℕ) (key : CellKey) → cell_named (seen library) name ≡ Some key.0 →
     key.0 < length library.contents
-found_there library name key named = subst (λ (n : ℕ). key.0 < n) (counted library) (named_below (seen library) name key.0 named)
+found_there library name key named = subst (λ (n : ℕ). key.0 < n) (count_seen library) (named_below (seen library) name key.0 named)
 
 -- the number of a layer that is found
 pub layer_found : (found : Option ℕ) (layer : LayerId) → Some layer ≡ option_map layer_number found → found ≡ Some layer.0
@@ -60,7 +56,7 @@ pub new_made : (old new : LibraryParts) (before : Option CellKey) (name copied :
     × ((fault : EditFault) → ApplyIsRefused (editing_of old before) (command.New name) fault → ⊥)
 new_made old new before name copied key same accepts added last next =
     let view : seen new ≡ with_new_cell (seen old) name = added ∙ ap (with_new_cell (seen old)) same in
-    let place : key.0 ≡ length (seen old).cells = last ∙ sym (counted old) in (
+    let place : key.0 ≡ length (seen old).cells = last ∙ sym (count_seen old) in (
       λ i. record { library = view i; edits = next.edits i; current = Some (place i) },
       λ fault refused. accepts refused.fault (subst (λ (n : List ℕ). EditIsRefused (edits_of old) (NewCellIsRefused (seen old) n) refused.fault)
           (sym same)

@@ -11,14 +11,14 @@ use Rattle.ext_model.specs.declared.tables.CellKey.{CellKey}
 use Rattle.cell_library.specs.Edits.{empty_cell, erased, labelled, moved, painted, placed, transform_of, unlabelled, with_grid, without_use}
 use Rattle.cell_library.specs.Libraries.{LibraryParts}
 use Rattle.cell_library.specs.Views.{LibraryView, cell_named}
-use Rattle.cell_library.proofs.ViewLaws.{length-changed_at}
+use Rattle.cell_library.proofs.ViewLaws.{length-changed_at, count_seen}
 use Rattle.script_lines.specs.declared.commands.Command.{Command}
 use Rattle.script_lines.specs.declared.commands.Command.TheVariants as command
 use Rattle.edit_script.specs.declared.faults.EditFault.{EditFault}
 use Rattle.edit_script.specs.Answers.{Applies}
 use Rattle.edit_script.specs.Editing.{Editing, IsCurrent, editing_of}
 use Rattle.edit_script.specs.Edits.{applied, grid_of, in_current, label_layer, label_of, with_cell, with_label_layer, with_layer, with_six_as_grid}
-use Rattle.edit_script.proofs.CellLaws.{counted, named_below}
+use Rattle.edit_script.proofs.CellLaws.{named_below}
 
 -- the current cell, if there is one, is one of those that are seen
 abbrev HasCurrent : Editing → Type 0
@@ -85,11 +85,11 @@ applied_current editing _ is = is
 
 to_seen : (library : LibraryParts) (current : Option CellKey) → IsCurrent library current → HasCurrent (editing_of library current)
 to_seen library None is = tt
-to_seen library (Some key) is = subst (λ (n : ℕ). key.0 < n) (sym (counted library)) is
+to_seen library (Some key) is = subst (λ (n : ℕ). key.0 < n) (sym (count_seen library)) is
 
 from_seen : (library : LibraryParts) (current : Option CellKey) → HasCurrent (editing_of library current) → IsCurrent library current
 from_seen library None is = tt
-from_seen library (Some key) is = subst (λ (n : ℕ). key.0 < n) (counted library) is
+from_seen library (Some key) is = subst (λ (n : ℕ). key.0 < n) (count_seen library) is
 
 -- whatever comes of a command
 pub current_stays : {X : Type 0} (old : LibraryParts) (before : Option CellKey) (new : LibraryParts) (now : Option CellKey) (command : Command)
@@ -98,7 +98,7 @@ current_stays old before new now command (Ok done) is applies =
     from_seen new now (subst HasCurrent (sym applies.0) (applied_current (editing_of old before) command (to_seen old before is)))
 current_stays old before new now command (Err told) is applies =
     let cells : length old.contents ≡ length new.contents =
-    sym (counted old) ∙ ap (λ (view : LibraryView). length view.cells) (sym applies.1.seen) ∙ counted new in
+    sym (count_seen old) ∙ ap (λ (view : LibraryView). length view.cells) (sym applies.1.seen) ∙ count_seen new in
     subst (λ (current : Option CellKey). IsCurrent new current) (sym applies.2) (moved_to before is cells)
   where
     moved_to : (current : Option CellKey) → IsCurrent old current → length old.contents ≡ length new.contents → IsCurrent new current

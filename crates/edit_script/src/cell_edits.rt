@@ -8,7 +8,7 @@ use crate::faults::EditFault;
 use crate::lookups::{cell_called, with_word};
 use cell_library::Library;
 use ext_model::CellKey;
-use geo_core::Name;
+use names_lists::Name;
 use script_lines::Command;
 use std::alloc::Global;
 

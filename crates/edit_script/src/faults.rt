@@ -1,6 +1,8 @@
 //! Why a command that edits is refused.
 
-use geo_core::{GeoFault, Limit, Name};
+use cell_library::LibraryLimit;
+use names_lists::Name;
+use std::alloc::AllocError;
 use thiserror::Error;
 
 /// Why a command that edits is refused, with the word that is told of.
@@ -41,20 +43,19 @@ pub enum EditFault {
     NoLabel(Name),
     /// There would be too many of these.
     #[error("too many")]
-    TooMany(Limit),
+    TooMany(LibraryLimit),
     /// There was not enough memory.
     #[error("out of memory")]
     Memory,
 }
 
-/// The only fault of names is want of memory.
-impl From<GeoFault> for EditFault {
+impl From<AllocError> for EditFault {
     ghost use Rattle.std.specs.Prelude.{◌≡◌};
     ghost use Rattle.edit_script.specs.declared.faults.EditFault.TheVariants.{Memory};
 
     ghost from_gives = { λ _ fault. fault ≡ Memory };
 
-    fn from(_refused: GeoFault) -> EditFault {
+    fn from(_error: AllocError) -> EditFault {
         EditFault::Memory
     }
 }

@@ -10,12 +10,12 @@ ghost use Rattle.edit_script.specs.Refusals.{with_word};
 use crate::faults::EditFault;
 use cell_library::{LibFault, Library};
 use ext_model::CellKey;
-use geo_core::{GeoFault, Name};
-use std::alloc::Global;
+use names_lists::Name;
+use std::alloc::{AllocError, Global};
 use tech_model::LayerId;
 
 // The fault of a command for a fault of the library.
-fn worded(alloc: Global, word: &Name, fault: LibFault) -> Result<EditFault, GeoFault>
+fn worded(alloc: Global, word: &Name, fault: LibFault) -> Result<EditFault, AllocError>
     ensures { IfOk result (λ told. told ≡ with_word word.now fault) }
 {
     match fault {

@@ -12,7 +12,8 @@ use crate::faults::EditFault;
 use crate::lookups::{cell_called, told};
 use cell_library::Library;
 use ext_model::CellKey;
-use geo_core::{Grid, Name};
+use geo_core::Grid;
+use names_lists::Name;
 use script_lines::Command;
 use std::alloc::Global;
 

@@ -5,7 +5,8 @@ use Rattle.std.specs.Prelude.{slice_get}
 use Rattle.std.proofs.Math.Nat.{div-lt_iff_lt-mul}
 use Rattle.std.proofs.lemmas.Bool.{cases_lt}
 use Rattle.std.proofs.lemmas.List.{append-nil, append_assoc, take_all}
-use Rattle.std.proofs.lemmas.Option.{get_or_from_slice_get, same_Some, slice_get_cases, slice_get_within}
+use Rattle.std.proofs.lemmas.Option.{get_or_from_slice_get, same_Some, slice_get_within}
+use Rattle.finite_sets.proofs.Places.{slice_get-below}
 use Rattle.layout_trees.specs.CellTrees.{CellTree, Standing, standings, under}
 use Rattle.layout_trees.specs.CellTrees.CellTree.{cell_tree}
 use Rattle.cell_tree.specs.declared.limits.TheConstants.{MOST_ELEMENTS_BELOW}
@@ -29,10 +30,6 @@ use Rattle.element_paths.specs.UseStarts.{standing_below, start_of, AreStartsIn,
 use Rattle.element_paths.proofs.ElementLaws.{below_element, standing_before}
 use Rattle.element_paths.proofs.StartLaws.{below_next, ends_within, standing_of}
 use Rattle.element_paths.proofs.UseLaws.{before_in_uses, element_made, element_of_uses, standing_all}
-
--- something is at each place of a list
-there_is : {X : Type 0} (xs : List X) (k : ℕ) → k < length xs → (x : X) × (slice_get xs k ≡ Some x)
-there_is xs k within = elim (slice_get_cases xs k).1 [ inl there ↦ (there.0, there.2) | inr past ↦ absurd (omega (arith, within, past.0)) ]
 
 -- a cell stands at and below itself
 pub some_stand : (tree : CellTree) → 0 < length (standings tree)
@@ -161,7 +158,7 @@ module _ (library : LibraryParts) (lawful : IsLawfulLibrary library) (cell : ℕ
       let made : UseElement = record { name = name; step = named_so.displaced } in
       let same : length (standings (layouts_of (named entry.1.child.0))) ≡ size =
       ap (λ (tree : CellTree). length (standings tree)) (layouts_of_cell (seen library) entry.1.child.0) in
-      let found = there_is (standings (layouts_of (named entry.1.child.0))) rest (omega (arith, lower, same)) in
+      let found = slice_get-below (standings (layouts_of (named entry.1.child.0))) rest (omega (arith, lower, same)) in
       record {
         placed = element_transform entry.1.placed named_so.displaced;
         leads = subst (λ (p : ℕ). LeadsDown (named cell) element (p + n) rest (element_made named entry.1 made)) (sym position)

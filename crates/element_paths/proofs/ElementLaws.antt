@@ -1,13 +1,13 @@
 -- Elements one after another: which stands at a position, and where what stands below it stands in the cell above.
-use Rattle.std.proofs.Common.{◌≡◌, ℕ, zero, suc, ◌+◌, ◌*◌, List, [], ◌∷◌, ◌++◌, length, map, Some, ap, subst, ◌∙◌, arith}
+use Rattle.std.proofs.Common.{◌≡◌, ℕ, zero, suc, ◌+◌, ◌*◌, List, [], ◌∷◌, ◌++◌, length, map, Some, refl, ap, subst, ◌∙◌, arith}
 use Rattle.std.specs.Prelude.{slice_get}
 use Rattle.std.specs.Option.{option_map}
 use Rattle.std.proofs.lemmas.List.{length-map}
 use Rattle.std.proofs.lemmas.Option.{same_Some, slice_get-map}
+use Rattle.finite_sets.proofs.Places.{slice_get-append_left, slice_get-append_right}
 use Rattle.geo_core.specs.declared.transforms.Transform.{Transform}
 use Rattle.layout_trees.specs.CellTrees.{Standing, standings, standings_from, under}
 use Rattle.cell_library.specs.LayoutTrees.{element_transform}
-use Rattle.cell_library.proofs.ToldTiles.{get-append_left, get-append_right}
 use Rattle.named_trees.specs.NamedTrees.{NamedTree, NamedElements, layouts_below, layouts_of}
 use Rattle.named_trees.specs.NamedTrees.NamedElements.{no_more, element_then}
 use Rattle.library_trees.specs.ElementNames.{UseElement}
@@ -35,7 +35,7 @@ below_first part below others rest lower there =
     let moved : slice_get (map (under part below.placed) own) rest ≡ Some (under part below.placed lower) =
     slice_get-map (under part below.placed) own rest ∙ ap (option_map (under part below.placed)) there in
     ap (slice_get all) (let e : 0 + rest ≡ rest = omega arith in e)
-    ∙ get-append_left (map (under part below.placed) own) (standings_from (suc part) (layouts_below others)) rest
+    ∙ slice_get-append_left (map (under part below.placed) own) (standings_from (suc part) (layouts_below others)) rest
     (under part below.placed lower) moved
     ∙ ap (λ (n : ℕ). Some (under n below.placed lower)) (let e : part ≡ part + 0 = omega arith in e)
 
@@ -58,8 +58,8 @@ below_element (element_then id placed tree others) part (suc position) below res
     let place : (standing_in tree + standing_before others position) + rest ≡ length own + (standing_before others position + rest) =
     omega (arith, long) in
     ap (slice_get (own ++ later)) place
-    ∙ get-append_right own later (standing_before others position + rest) (under (suc part + position) below.placed lower)
-    (below_element others (suc part) position below rest lower is there)
+    ∙ slice_get-append_right own later (standing_before others position + rest) (length own + (standing_before others position + rest)) refl
+    ∙ (below_element others (suc part) position below rest lower is there)
     ∙ ap (λ (n : ℕ). Some (under n below.placed lower)) (let e : suc part + position ≡ part + suc position = omega arith in e)
 
 -- ---- the elements of one use, and others behind them

@@ -4,10 +4,10 @@ use Rattle.std.specs.Prelude.{slice_get}
 use Rattle.std.specs.List.Sorted.{IsNonDecreasingBy}
 use Rattle.std.proofs.lemmas.List.{length-append}
 use Rattle.std.proofs.lemmas.Option.{get_or_from_slice_get, same_Some, slice_get_cases, slice_get_within}
+use Rattle.finite_sets.proofs.Places.{slice_get-append_front, slice_get-push_new}
 use Rattle.layout_trees.specs.CellTrees.{CellTree, standings}
 use Rattle.cell_tree.specs.declared.use_tables.UseBody.{UseBody}
 use Rattle.cell_tree.specs.Uses.{displacements}
-use Rattle.cell_tree.proofs.AddLaws.{get_before, get_end}
 use Rattle.cell_tree.specs.declared.limits.TheConstants.{MOST_ELEMENTS_BELOW}
 use Rattle.cell_library.specs.LayoutTrees.{tree_at}
 use Rattle.cell_library.specs.Libraries.{LibraryParts, IsLawfulLibrary, seen}
@@ -109,10 +109,10 @@ module _ (trees : ℕ → CellTree) where
       record {
         few = omega (arith, long, within);
         each = λ k less. elim (last_or_before k (length starts) (omega (arith, less, long))) [
-          | inl before ↦ get_before starts start k before ∙ first.each k before
+          | inl before ↦ slice_get-append_front starts (start ∷ []) k before ∙ first.each k before
           | inr last ↦
               ap (slice_get (starts ++ start ∷ [])) last
-              ∙ get_end starts start
+              ∙ slice_get-push_new starts start
               ∙ ap (λ (s : UseStart). Some s) first.next
               ∙ ap (λ (n : ℕ). Some (start_of trees uses n)) (sym last)
         ];

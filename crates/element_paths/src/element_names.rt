@@ -5,7 +5,8 @@ ghost use Rattle.cell_tree.specs.Uses.{displacements, IsLawfulGrid};
 ghost use Rattle.library_trees.specs.ElementNames.{indexed_name};
 ghost use Rattle.element_paths.specs.UseStarts.{HasNameAt};
 
-use geo_core::{Grid, Name};
+use geo_core::Grid;
+use names_lists::Name;
 use std::alloc::{AllocError, Global};
 use text_scan::append_decimal;
 
@@ -24,9 +25,9 @@ pub fn element_name(
         Some(grid) => {
             let (i, j, _, _) = grid.element(n as u64);
             let text = indexed_text(alloc, id, i, j)?;
-            name_of(alloc, text.as_slice())
+            Name::of(alloc, text.as_slice())
         }
-        None => name_of(alloc, id),
+        None => Name::of(alloc, id),
     }
 }
 
@@ -41,14 +42,4 @@ fn indexed_text(alloc: Global, id: &[u8], i: i64, j: i64) -> Result<Vec<u8>, All
     append_decimal(&mut text, i128::from(j))?;
     text.push(b']')?;
     Ok(text)
-}
-
-// The name of these bytes.
-fn name_of(alloc: Global, bytes: &[u8]) -> Result<Name, AllocError>
-    ensures { IfOk result (λ name. name ≡ bytes.now) }
-{
-    match Name::of(alloc, bytes) {
-        Ok(name) => Ok(name),
-        Err(_) => Err(AllocError),
-    }
 }

@@ -1,7 +1,7 @@
 //! Steps from a cell to an element of it.
 
 use ext_model::CellKey;
-use geo_core::Name;
+use names_lists::Name;
 
 /// A step down to an element.
 #[derive(Debug, Drop)]

@@ -4,6 +4,7 @@ use Rattle.std.specs.List.{flat_map}
 use Rattle.std.proofs.lemmas.List.{append-nil}
 use Rattle.std.proofs.lemmas.Option.{slice_get-get_or}
 use Rattle.finite_sets.specs.Lists.{In}
+use Rattle.finite_sets.proofs.Images.{map-same}
 use Rattle.geo_core.specs.declared.squares.Square.{Square}
 use Rattle.geo_core.specs.Images.{image}
 use Rattle.geo_core.proofs.ImageLaws.{image-composed}
@@ -30,12 +31,6 @@ uses_along chain = map (λ link. link.used) chain
 -- the element along a chain from a record to which a path leads; the top stands in place of a record that isn't there
 abbrev pub element_on : CellExt → List CellExt → List UseRec → ℕ → List Link → Element
 element_on top exts path cell chain = record { uses = path ++ uses_along chain; ext = get_or exts (end_of cell chain) top }
-
-same_images : {X : Type 0} (f g : List Link → X) (chains : List (List Link)) → ((chain : List Link) → f chain ≡ g chain) → map f chains ≡ map g chains
-same_images f g [] same = refl
-same_images f g (c ∷ chains) same =
-    let first = same c in
-    let rest = same_images f g chains same in cc
 
 -- what stands behind uses and what stands behind their links
 parts : {X : Type 0} (of : UseRec → List X) (by : Link → List X) (number : ℕ) (uses : List UseRec) (row : List Branch) → length row ≡ length uses
@@ -68,9 +63,9 @@ module _ (exts : List CellExt) (branches : List (List Branch)) (order sizes : Li
       sym (forest.leads cell link fits h) ∙ slice_get-get_or exts link.branch.child top (forest.within link.branch.child child) in
       ap (of_option (elements_below levels exts (path ++ link.used ∷ []))) led
       ∙ elements_along levels link.branch.child (path ++ link.used ∷ []) child
-      ∙ same_images (element_on top exts (path ++ link.used ∷ []) link.branch.child) (λ chain. element_on top exts path cell (link ∷ chain))
+      ∙ map-same (element_on top exts (path ++ link.used ∷ []) link.branch.child) (λ chain. element_on top exts path cell (link ∷ chain))
       (chains_below levels links link.branch.child)
-      (λ chain. ap (λ z. record { uses = z; ext = get_or exts (end_of link.branch.child chain) top })
+      (λ chain here. ap (λ z. record { uses = z; ext = get_or exts (end_of link.branch.child chain) top })
       (append_assoc path (link.used ∷ []) (uses_along chain)))) in
       let rest = parts (elements_behind levels exts path) by 0 ext.uses row (forest.paired cell ext fits found) behind
       ∙ ap (flat_map by) (sym linked) ∙ sym (map-chains (element_on top exts path cell) (λ link. chains_below levels links link.branch.child) (links cell)) in

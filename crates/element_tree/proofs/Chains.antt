@@ -7,6 +7,7 @@ use Rattle.std.proofs.lemmas.Option.{slice_get_within}
 use Rattle.std.proofs.lemmas.List.{length-map}
 use Rattle.std.proofs.lemmas.List.Sums.{sum_by-cons}
 use Rattle.finite_sets.specs.Lists.{In}
+use Rattle.finite_sets.proofs.Places.{slice_get-append_front, slice_get-append_right, slice_get-map_source, slice_get-map_there}
 use Rattle.ext_model.specs.declared.records.CellExt.{CellExt}
 use Rattle.element_tree.specs.declared.tree.Branch.{Branch}
 use Rattle.element_tree.specs.Links.{Link, links_of, chains_below}
@@ -32,29 +33,6 @@ end_of cell (link ∷ chain) = end_of link.branch.child chain
 abbrev pub IsChainFrom : (ℕ → List Link) → ℕ → List Link → Type 0
 IsChainFrom links cell [] = Unit {0}
 IsChainFrom links cell (link ∷ chain) = In link (links cell) × IsChainFrom links link.branch.child chain
-
-slice_get-append_left : {X : Type 0} (a b : List X) (n : ℕ) → n < length a → slice_get (a ++ b) n ≡ slice_get a n
-slice_get-append_left [] b n h = absurd (omega arith)
-slice_get-append_left (x ∷ a) b zero h = refl
-slice_get-append_left (x ∷ a) b (suc n) h = slice_get-append_left a b n (omega arith)
-
-slice_get-append_right : {X : Type 0} (a b : List X) (n m : ℕ) → n ≡ length a + m → slice_get (a ++ b) n ≡ slice_get b m
-slice_get-append_right [] b n m h = let e : n ≡ m = omega arith in ap (slice_get b) e
-slice_get-append_right (x ∷ a) b zero m h = absurd (omega (arith, h))
-slice_get-append_right (x ∷ a) b (suc n) m h = slice_get-append_right a b n m (omega (arith, h))
-
--- what a list has at a place in an image
-pub slice_get-map_source : {X Y : Type 0} (f : X → Y) (xs : List X) (n : ℕ) (y : Y) → slice_get (map f xs) n ≡ Some y
-    → (x : X) × ((slice_get xs n ≡ Some x) × (f x ≡ y))
-slice_get-map_source f [] n y h = cc
-slice_get-map_source f (x ∷ xs) zero y h = (x, (refl, cc))
-slice_get-map_source f (x ∷ xs) (suc n) y h = slice_get-map_source f xs n y h
-
--- and what the image has at a place
-pub slice_get-map_there : {X Y : Type 0} (f : X → Y) (xs : List X) (n : ℕ) (x : X) → slice_get xs n ≡ Some x → slice_get (map f xs) n ≡ Some (f x)
-slice_get-map_there f [] n x h = cc
-slice_get-map_there f (y ∷ xs) zero x h = let e : y ≡ x = cc in ap (λ z. Some (f z)) e
-slice_get-map_there f (y ∷ xs) (suc n) x h = slice_get-map_there f xs n x h
 
 -- lists one behind the other, as long as the sizes say
 module _ (size : ℕ → ℕ) (part : Link → List (List Link)) where
@@ -83,12 +61,12 @@ module _ (size : ℕ → ℕ) (part : Link → List (List Link)) where
       let same : other.branch.step ≡ link.branch.step = ap (λ (z : Link). z.branch.step) e in
       let equal : k ≡ n = omega (arith, steps.0) in
       let long_same : length (part other) ≡ length (part link) = ap (λ z. length (part z)) e in
-      slice_get-append_left (part other) (flat_map part links) k (omega arith) ∙ ap (λ z. slice_get (part z) k) e ∙ ap (slice_get (part link)) equal
+      slice_get-append_front (part other) (flat_map part links) k (omega arith) ∙ ap (λ z. slice_get (part z) k) e ∙ ap (slice_get (part link)) equal
   part_at start (other ∷ links) link n k long steps (inr h) fits place =
       let here = long other (inl refl) in
       let later = step_behind (start + size other.branch.child) link links steps.1 h in
       let j = k - length (part other) in
-      slice_get-append_right (part other) (flat_map part links) k j (omega arith)
+      slice_get-append_right (part other) (flat_map part links) j k (omega arith)
       ∙ part_at (start + size other.branch.child) links link n j (λ z l. long z (inr l)) steps.1 h fits (omega arith)
 
   -- each thing stands in a part
@@ -104,10 +82,10 @@ module _ (size : ℕ → ℕ) (part : Link → List (List Link)) where
           → (k < length (part link)) ⊎ (length (part link) ≤ k)
           → (other : Link) × ((n : ℕ) × (In other (link ∷ links) × ((slice_get (part other) n ≡ Some chain) × (other.branch.step + n ≡ start + k))))
       step more (inl fits) =
-          (link, (k, (inl refl, (sym (slice_get-append_left (part link) (flat_map part links) k fits) ∙ h, omega (arith, steps.0)))))
+          (link, (k, (inl refl, (sym (slice_get-append_front (part link) (flat_map part links) k fits) ∙ h, omega (arith, steps.0)))))
       step more (inr past) =
           let j = k - length (part link) in
-          let r = more j (sym (slice_get-append_right (part link) (flat_map part links) k j (omega arith)) ∙ h) in
+          let r = more j (sym (slice_get-append_right (part link) (flat_map part links) j k (omega arith)) ∙ h) in
           let here = long link (inl refl) in
           let last : (r.0).branch.step + r.1.0 ≡ start + size link.branch.child + j = r.1.1.1.1 in
           (r.0, (r.1.0, (inr r.1.1.0, (r.1.1.1.0, omega arith))))

@@ -10,11 +10,14 @@ use Rattle.std.proofs.lemmas.List.Sums.{sum_by-cons}
 use Rattle.finite_sets.specs.Lists.{In}
 use Rattle.finite_sets.proofs.Members.{In-get_or}
 use Rattle.finite_sets.proofs.Distincts.{length-distinct}
-use Rattle.geo_core.specs.declared.limits.Limit.{Limit}
-use Rattle.geo_core.specs.declared.limits.Limit.TheVariants.{Depth, Elements}
+use Rattle.finite_sets.proofs.Images.{In-reverse, In-reverse_source}
+use Rattle.finite_sets.proofs.Places.{slice_get-below}
+use Rattle.finite_sets.proofs.Searches.{All-In}
 use Rattle.ext_model.specs.declared.records.UseRec.{UseRec}
 use Rattle.ext_model.specs.declared.records.CellExt.{CellExt}
 use Rattle.circuit_model.specs.declared.faults.FlatFault.TheVariants.{TooMany}
+use Rattle.circuit_model.specs.declared.limits.CircuitLimit.{CircuitLimit}
+use Rattle.circuit_model.specs.declared.limits.CircuitLimit.TheVariants.{Depth, Elements}
 use Rattle.circuit_model.specs.declared.limits.TheConstants.{LONGEST_CHAIN, MOST_FLAT_ELEMENTS}
 use Rattle.circuit_model.specs.Elements.{Element, ext_of, of_option, elements_below, elements_of}
 use Rattle.circuit_model.specs.Refusals.{greatest, chain_length, depth_of, past}
@@ -22,7 +25,7 @@ use Rattle.record_graph.specs.declared.graph.RecordGraph.{RecordGraph}
 use Rattle.record_graph.specs.Graphs.{LeadTo, AreDone, IsGraphOf, children_of}
 use Rattle.element_tree.specs.Trees.{HasNoTreeFault, IsTreeFaultOf}
 use Rattle.element_tree.specs.Sizes.{value_at, chain_from, size_from, AreMeasured, AreMeasuredIn}
-use Rattle.element_tree.proofs.Measures.{In-reverse, In-reverse_source, All-In, chain_bound, there_is}
+use Rattle.element_tree.proofs.Measures.{chain_bound}
 
 LeadTo-more : (exts : List CellExt) (done others : List ℕ) (uses : List UseRec) (cells : List ℕ) → ((cell : ℕ) → In cell done → In cell others)
     → LeadTo exts done uses cells → LeadTo exts others uses cells
@@ -73,7 +76,7 @@ chains_behind exts done lengths bound [] [] within known leads short = refl
 chains_behind exts done lengths bound [] (c ∷ cells) within known leads short = absurd leads
 chains_behind exts done lengths bound (u ∷ uses) [] within known leads short = absurd leads
 chains_behind exts done lengths bound (u ∷ uses) (c ∷ cells) within known leads short =
-    let found = there_is exts c (within c leads.1.0) in
+    let found = slice_get-below exts c (within c leads.1.0) in
     let first : chain_behind bound exts u ≡ value_at lengths c =
     ap (λ (o : Option CellExt). elim o [ None ↦ 0 | Some child ↦ chain_length bound exts child ]) (sym leads.0 ∙ found.1)
     ∙ known c found.0 leads.1.0 found.1 (omega arith) in
@@ -103,7 +106,7 @@ counts_behind exts done lengths sizes levels path [] [] cap k within known leads
 counts_behind exts done lengths sizes levels path [] (c ∷ cells) cap k within known leads short = absurd leads
 counts_behind exts done lengths sizes levels path (u ∷ uses) [] cap k within known leads short = absurd leads
 counts_behind exts done lengths sizes levels path (u ∷ uses) (c ∷ cells) cap k within known leads short =
-    let found = there_is exts c (within c leads.1.0) in
+    let found = slice_get-below exts c (within c leads.1.0) in
     let part = elements_below levels exts (path ++ u ∷ []) found.0 in
     let here : elements_behind levels exts path u ≡ part = ap (of_option (elements_below levels exts (path ++ u ∷ []))) (sym leads.0 ∙ found.1) in
     let size = known c found.0 (path ++ u ∷ []) leads.1.0 found.1 (omega arith) in
@@ -176,10 +179,11 @@ elements_are exts root graph lengths sizes top is chains counts found short =
     count_is exts graph.children (reverse graph.order) lengths sizes (chained exts root graph lengths is chains) counts.measured LONGEST_CHAIN root top []
     (In-reverse root graph.order is.root_in) found short
 
-within_limit : (most n : ℕ) (limit : Limit) → n ≤ most → past most limit n ≡ None
+-- a number within its limit has no fault
+pub within_limit : (most n : ℕ) (limit : CircuitLimit) → n ≤ most → past most limit n ≡ None
 within_limit most n limit h = rw (le-ltb most n h) refl
 
-past_limit : (most n : ℕ) (limit : Limit) → most < n → past most limit n ≡ Some (TooMany limit)
+past_limit : (most n : ℕ) (limit : CircuitLimit) → most < n → past most limit n ≡ Some (TooMany limit)
 past_limit most n limit h = rw (lt-ltb most n h) refl
 
 module _ (exts : List CellExt) (root : ℕ) (graph : RecordGraph) (lengths : List ℕ) (is : IsGraphOf exts root graph)

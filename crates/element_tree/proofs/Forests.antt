@@ -2,9 +2,11 @@
 use Rattle.std.proofs.Common.{◌≡◌, ℕ, suc, ◌<◌, ◌≤◌, ◌+◌, Some, List, [], ◌∷◌, length, map, reverse, All, inl, inr, refl, sym, ◌∙◌, ap, subst, arith}
 use Rattle.std.specs.List.{slice_get, sum_by}
 use Rattle.std.proofs.lemmas.List.Sums.{sum_by-cons, sum-map}
-use Rattle.std.proofs.lemmas.Option.{slice_get_within, get_or_from_slice_get}
 use Rattle.finite_sets.specs.Lists.{In, Distinct}
 use Rattle.finite_sets.proofs.Members.{In-index}
+use Rattle.finite_sets.proofs.Images.{In-reverse, In-reverse_source}
+use Rattle.finite_sets.proofs.Searches.{All-In}
+use Rattle.finite_sets.proofs.Places.{slice_get-below, All-slice_get}
 use Rattle.ext_model.specs.declared.records.UseRec.{UseRec}
 use Rattle.ext_model.specs.declared.records.CellExt.{CellExt}
 use Rattle.ext_model.specs.Lawful.{IsLawful, IsLawfulUse}
@@ -18,15 +20,10 @@ use Rattle.element_tree.specs.Links.{Link, links_from, links_of}
 use Rattle.element_tree.specs.Sizes.{value_at, chain_from, size_from, AreMeasuredIn, Fits}
 use Rattle.element_tree.specs.Forests.{AreSteps, AreBranchesOf, AreBranches, lesser}
 use Rattle.element_tree.specs.Rooms.{AreInSteps, AreForest}
-use Rattle.element_tree.proofs.Measures.{In-reverse, In-reverse_source, All-In, there_is}
 use Rattle.element_tree.proofs.Counting.{leads_at, measured_at}
 use Rattle.element_tree.proofs.Growth.{links_of-found}
 use Rattle.element_tree.proofs.Steps.{AreSteps-long}
 use Rattle.element_tree.proofs.Rows.{LeadTo-long}
-
--- what holds of all of a list holds of what stands at a place
-pub All-slice_get : {X : Type 0} (P : X → Type 0) (xs : List X) (k : ℕ) (x : X) → All P xs → slice_get xs k ≡ Some x → P x
-All-slice_get P xs k x all h = subst P (get_or_from_slice_get xs k x x h) (all k x (slice_get_within xs k x h))
 
 All-In_use : (uses : List UseRec) (used : UseRec) → All IsLawfulUse uses → In used uses → IsLawfulUse used
 All-In_use uses used all h = let i = In-index used uses h in subst IsLawfulUse (i.1.1 used) (all i.0 used i.1.0)
@@ -117,7 +114,7 @@ open_row : (exts : List CellExt) (root : ℕ) (graph : RecordGraph) (sizes : Lis
     → IsOpen exts graph sizes branches cell
 open_row exts root graph sizes branches records is counts are cell fits =
     let within = All-In (λ z. z < length exts) graph.order cell is.within fits.reached in
-    let there = there_is exts cell within in
+    let there = slice_get-below exts cell within in
     let ext = there.0 in
     let here = In-reverse cell graph.order fits.reached in
     let leads = leads_at exts graph.children (reverse graph.order) cell ext is.done here there.1 in

@@ -6,6 +6,7 @@ use Rattle.std.proofs.lemmas.List.{append-nil, get_or_read, take_all, take_more,
 use Rattle.std.proofs.lemmas.List.Sums.{sum_by-cons}
 use Rattle.std.proofs.lemmas.Option.{slice_get_read, slice_get-get_or, get_or_from_slice_get, slice_get_within}
 use Rattle.finite_sets.specs.Lists.{In}
+use Rattle.finite_sets.proofs.Places.{In-slice_get}
 use Rattle.ext_model.specs.declared.records.UseRec.{UseRec}
 use Rattle.ext_model.specs.declared.records.CellExt.{CellExt}
 use Rattle.circuit_model.specs.Elements.{of_option, transform_of}
@@ -17,12 +18,6 @@ use Rattle.element_tree.specs.Sizes.{value_at}
 use Rattle.element_tree.specs.Rooms.{AreInSteps, HasRoom}
 use Rattle.element_tree.proofs.Transforms.{placement_moves, composed_moves}
 use Rattle.element_tree.proofs.Ranks.{rank_step-size}
-
--- what stands at a place of a list stands in it
-pub In-slice_get : {X : Type 0} (xs : List X) (n : ℕ) (x : X) → slice_get xs n ≡ Some x → In x xs
-In-slice_get [] n x h = cc
-In-slice_get (y ∷ xs) zero x h = let e : y ≡ x = cc in inl e
-In-slice_get (y ∷ xs) (suc n) x h = inr (In-slice_get xs n x h)
 
 -- the links of a record that there is
 pub links_of-found : (exts : List CellExt) (branches : List (List Branch)) (cell : ℕ) (ext : CellExt) → slice_get exts cell ≡ Some ext

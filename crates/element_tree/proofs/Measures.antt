@@ -1,32 +1,22 @@
 -- The records in the order in which they are done, and the numbers that their children's make theirs.
-use Rattle.std.proofs.Common.{◌≡◌, ℕ, zero, suc, ◌<◌, ◌≤◌, ◌+◌, max, Some, List, [], ◌∷◌, ◌++◌, length, get_or, set, map, take, drop, reverse, All}
+use Rattle.std.proofs.Common.{◌≡◌, ℕ, suc, ◌<◌, ◌≤◌, ◌+◌, max, List, [], ◌∷◌, ◌++◌, length, get_or, set, map, take, drop, reverse, All}
 use Rattle.std.proofs.Common.{inl, inr, refl, sym, ◌∙◌, ap, subst, arith}
 use Rattle.std.specs.List.{slice_get}
 use Rattle.std.proofs.lemmas.List.{get_or_read, get_or-set_same, get_or-set_other, take_more, take-append-drop, reverse-append, length-reverse, length-take-le}
-use Rattle.std.proofs.lemmas.List.Sorted.{IsPermutation-reverse, IsPermutation-sym}
 use Rattle.std.proofs.lemmas.List.Elements.{All-take}
 use Rattle.std.proofs.lemmas.List.Recursion.{max_push}
 use Rattle.finite_sets.specs.Lists.{In, Distinct}
-use Rattle.finite_sets.proofs.Members.{In-permutation, In-index, In-get_or}
+use Rattle.finite_sets.proofs.Members.{In-get_or}
 use Rattle.finite_sets.proofs.Distincts.{Distinct-append_left, Distinct-append_apart}
+use Rattle.finite_sets.proofs.Images.{In-reverse_source}
+use Rattle.finite_sets.proofs.Searches.{All-In}
+use Rattle.finite_sets.proofs.Places.{slice_get-below}
 use Rattle.ext_model.specs.declared.records.UseRec.{UseRec}
 use Rattle.ext_model.specs.declared.records.CellExt.{CellExt}
 use Rattle.circuit_model.specs.Refusals.{greatest}
 use Rattle.record_graph.specs.declared.graph.RecordGraph.{RecordGraph}
 use Rattle.record_graph.specs.Graphs.{LeadTo, AreDone, IsGraphOf, children_of}
 use Rattle.element_tree.specs.Sizes.{value_at, chain_from, AreMeasured}
-
--- what stands in a list stands in it reversed
-pub In-reverse : {X : Type 0} (x : X) (xs : List X) → In x xs → In x (reverse xs)
-In-reverse x xs h = In-permutation x xs (reverse xs) (IsPermutation-reverse xs) h
-
--- and back
-pub In-reverse_source : {X : Type 0} (x : X) (xs : List X) → In x (reverse xs) → In x xs
-In-reverse_source x xs h = In-permutation x (reverse xs) xs (IsPermutation-sym xs (reverse xs) (IsPermutation-reverse xs)) h
-
--- what holds of all of a list holds of what stands in it
-pub All-In : (P : ℕ → Type 0) (xs : List ℕ) (x : ℕ) → All P xs → In x xs → P x
-All-In P xs x all h = let i = In-index x xs h in subst P (i.1.1 x) (all i.0 x i.1.0)
 
 -- the last of the first so many stands first when they are reversed
 pub reverse_more : (xs : List ℕ) (i : ℕ) (d : ℕ) → i < length xs → reverse (take (i + 1) xs) ≡ get_or xs i d ∷ reverse (take i xs)
@@ -63,12 +53,6 @@ next_in_order exts root graph i is h =
       done_within = λ other k. All-In (λ z. z < length exts) front other (All-take (λ z. z < length exts) i order is.within) (In-reverse_source other front k);
     }
 
--- there is something at each place within a list
-pub there_is : {X : Type 0} (xs : List X) (i : ℕ) → i < length xs → (x : X) × (slice_get xs i ≡ Some x)
-there_is [] i h = absurd (omega arith)
-there_is (x ∷ xs) zero h = (x, refl)
-there_is (x ∷ xs) (suc i) h = there_is xs i (omega arith)
-
 -- the children of a record that leads to done ones are done
 pub children_done : (exts : List CellExt) (done : List ℕ) (uses : List UseRec) (children : List ℕ) → LeadTo exts done uses children
     → (child : ℕ) → In child children → In child done
@@ -82,7 +66,7 @@ children_done exts done (u ∷ uses) (c ∷ children) h child (inr k) = children
 pub next_children : (exts : List CellExt) (children : List (List ℕ)) (cell : ℕ) (done : List ℕ) → cell < length exts → AreDone exts children (cell ∷ done)
     → (child : ℕ) → In child (children_of children cell) → In child done
 next_children exts children cell done within leads child h =
-    let found = there_is exts cell within in
+    let found = slice_get-below exts cell within in
     children_done exts done (found.0).uses (children_of children cell) (leads.0 found.0 found.1) child h
 
 same_values : (values others : List ℕ) (cells : List ℕ) → ((cell : ℕ) → In cell cells → value_at others cell ≡ value_at values cell)

@@ -14,6 +14,7 @@ use Rattle.std.specs.declared.cmp.Ordering.TheVariants.{Less, Equal, Greater}
 use Rattle.std.specs.Ordering.{is_lt, ordering_reverse}
 use Rattle.finite_sets.specs.Lists.{In, Distinct}
 use Rattle.finite_sets.proofs.Distincts.{Distinct-places}
+use Rattle.finite_sets.proofs.Places.{slice_get-below}
 use Rattle.ext_model.specs.declared.records.UseRec.{UseRec}
 use Rattle.ext_model.specs.NameParts.{element_cmp}
 use Rattle.element_tree.specs.declared.tree.Branch.{Branch}
@@ -24,7 +25,6 @@ use Rattle.element_tree.specs.RankSteps.{size_at, HaveRankSteps}
 use Rattle.element_tree.proofs.NameOrders.{element_cmp_total, element_cmp-Equal}
 use Rattle.element_tree.proofs.Growth.{link_at, length-links_from}
 use Rattle.element_tree.proofs.Steps.{AreSteps-long, AreSteps-child, AreNumbers, number_within, numbers_long, numbers_apart}
-use Rattle.element_tree.proofs.Measures.{there_is}
 
 -- the name of a use that there is
 id_at-found : (uses : List UseRec) (k : ℕ) (used : UseRec) → slice_get uses k ≡ Some used → id_at uses k ≡ used.id
@@ -94,9 +94,9 @@ lesser_by_number size uses children row id long steps =
   where
     weight_same : (k : ℕ) → k < length children → get_or (map (weight_of size id) (links_from 0 uses row)) k 0 ≡ weight_at size uses children id k
     weight_same k h =
-        let used = there_is uses k (omega arith) in
+        let used = slice_get-below uses k (omega arith) in
         let long_row = AreSteps-long size 1 children row steps in
-        let branch = there_is row k (omega arith) in
+        let branch = slice_get-below row k (omega arith) in
         let link : Link = record { at = k; used = used.0; branch = branch.0 } in
         let there = link_at 0 uses row k k used.0 branch.0 used.1 branch.1 (omega arith) in
         let name = id_at-found uses k used.0 used.1 in
@@ -111,7 +111,7 @@ names_apart uses i j names h k apart e = step (cases_lt i j)
   where
     name : (n : ℕ) → n < length uses → id_at uses n ≡ get_or (map (λ (used : UseRec). used.id) uses) n []
     name n fits =
-        let found = there_is uses n fits in
+        let found = slice_get-below uses n fits in
         id_at-found uses n found.0 found.1 ∙ ap (λ (z : UseRec). z.id) (sym (get_or_from_slice_get uses n found.0 found.0 found.1))
         ∙ sym (get_or-map (λ (used : UseRec). used.id) uses n found.0 [] fits)
 

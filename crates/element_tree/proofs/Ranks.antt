@@ -8,8 +8,9 @@ use Rattle.std.specs.declared.cmp.Ordering.{Ordering}
 use Rattle.std.specs.declared.cmp.Ordering.TheVariants.{Less, Equal, Greater}
 use Rattle.std.specs.Ordering.{nat_cmp, is_lt, ordering_then, ordering_reverse}
 use Rattle.std.specs.Cmp.Lexicographic.{slice_cmp}
-use Rattle.finite_sets.specs.Lists.{In, Distinct}
-use Rattle.finite_sets.proofs.Members.{In-map}
+use Rattle.finite_sets.specs.Lists.{In}
+use Rattle.finite_sets.proofs.Orders.{nat_cmp-add}
+use Rattle.finite_sets.proofs.Images.{one_from_Distinct}
 use Rattle.ext_model.specs.declared.records.CellExt.{CellExt}
 use Rattle.ext_model.specs.NameParts.{element_cmp}
 use Rattle.element_tree.specs.declared.tree.Branch.{Branch}
@@ -60,24 +61,11 @@ element_cmp-same id = tied_itself element_cmp_total id
 element_cmp-Greater : (a b : List ℕ) → element_cmp a b ≡ Greater → element_cmp b a ≡ Less
 element_cmp-Greater a b h = element_cmp_total.antisymm b a ∙ ap ordering_reverse h
 
-nat_cmp-add : (k m n : ℕ) → nat_cmp (k + m) (k + n) ≡ nat_cmp m n
-nat_cmp-add k m n = grind (arith, common_steps)
-
 nat_cmp-Less : (m n : ℕ) → m < n → nat_cmp m n ≡ Less
 nat_cmp-Less m n h = grind (arith, common_steps)
 
 nat_cmp-Greater : (m n : ℕ) → n < m → nat_cmp m n ≡ Greater
 nat_cmp-Greater m n h = grind (arith, common_steps)
-
--- what two things of a list have alike makes them one, where it differs for all others
-pub one_from_Distinct : {X Y : Type 0} (f : X → Y) (xs : List X) (a b : X) → Distinct (map f xs) → In a xs → In b xs → f a ≡ f b → a ≡ b
-one_from_Distinct f [] a b d h k e = absurd h
-one_from_Distinct f (x ∷ xs) a b d (inl s) (inl t) e = sym s ∙ t
-one_from_Distinct {X} {Y} f (x ∷ xs) a b d (inl s) (inr k) e =
-    let P : Y → Type 0 = λ y. In y (map f xs) in absurd (d.0 (subst P (sym e ∙ ap f (sym s)) (In-map f b xs k)))
-one_from_Distinct {X} {Y} f (x ∷ xs) a b d (inr h) (inl t) e =
-    let P : Y → Type 0 = λ y. In y (map f xs) in absurd (d.0 (subst P (e ∙ ap f (sym t)) (In-map f a xs h)))
-one_from_Distinct f (x ∷ xs) a b d (inr h) (inr k) e = one_from_Distinct f xs a b d.1 h k e
 
 module _ (exts : List CellExt) (branches : List (List Branch)) (order sizes : List ℕ) (length_of : ℕ → ℕ)
     (forest : AreForest exts branches order sizes length_of) where

@@ -6,6 +6,7 @@ use Rattle.std.proofs.lemmas.List.{take_more, length-set, get_or-set_same, get_o
 use Rattle.std.proofs.lemmas.Option.{slice_get_read}
 use Rattle.finite_sets.specs.Lists.{In}
 use Rattle.finite_sets.proofs.Members.{In-get_or, In-push_cases}
+use Rattle.finite_sets.proofs.Images.{In-reverse}
 use Rattle.ext_model.specs.declared.records.UseRec.{UseRec}
 use Rattle.ext_model.specs.declared.records.CellExt.{CellExt}
 use Rattle.circuit_model.specs.declared.limits.TheConstants.{MOST_FLAT_ELEMENTS}
@@ -15,7 +16,7 @@ use Rattle.element_tree.specs.declared.tree.Branch.{Branch}
 use Rattle.element_tree.specs.Trees.{branches_of}
 use Rattle.element_tree.specs.Sizes.{value_at, size_from, AreMeasuredIn, Fits}
 use Rattle.element_tree.specs.Forests.{AreBranchesOf, AreBranches}
-use Rattle.element_tree.proofs.Measures.{IsRead, next_in_order, In-reverse}
+use Rattle.element_tree.proofs.Measures.{IsRead, next_in_order}
 use Rattle.element_tree.proofs.Counting.{measured_at}
 
 -- as many children as uses

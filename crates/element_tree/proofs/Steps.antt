@@ -1,5 +1,5 @@
 -- Branches that lead to children, one behind the other.
-use Rattle.std.proofs.Common.{◌≡◌, ◌≢◌, ℕ, zero, suc, ◌<◌, ◌≤◌, ◌+◌, Some, ◌⊎◌, List, [], ◌∷◌, ◌++◌, length, get_or, set, map, take, All, inl, inr}
+use Rattle.std.proofs.Common.{◌≡◌, ◌≢◌, ℕ, zero, suc, ◌<◌, ◌≤◌, ◌+◌, Some, ◌⊎◌, List, [], ◌∷◌, ◌++◌, length, get_or, set, take, All, inl, inr}
 use Rattle.std.proofs.Common.{refl, sym, ◌∙◌, ap, subst, arith}
 use Rattle.std.specs.Prelude.{IsPermutation}
 use Rattle.std.specs.List.{slice_get, sum_by, range_with_len, AllPairs}
@@ -9,6 +9,7 @@ use Rattle.std.proofs.lemmas.List.FromFn.{length-range_with_len, get_or-range_wi
 use Rattle.std.proofs.lemmas.List.Sums.{sum_by-cons, sum_by_more_le}
 use Rattle.std.proofs.lemmas.List.Sorted.{sum_by-IsPermutation, All-permutation, length_permutation}
 use Rattle.finite_sets.proofs.Pairs.{AllPairs-permutation}
+use Rattle.finite_sets.proofs.Sums.{sum_by-map}
 use Rattle.element_tree.specs.declared.tree.Branch.{Branch}
 use Rattle.element_tree.specs.Forests.{AreSteps}
 use Rattle.element_tree.specs.RankSteps.{size_at, HaveRankSteps}
@@ -50,16 +51,11 @@ AreSteps-set size start (child ∷ children) (b ∷ branches) zero none branch h
 AreSteps-set size start (child ∷ children) (b ∷ branches) (suc k) none branch h c s =
     (h.0, h.1, AreSteps-set size (start + size child) children branches k none branch h.2 c s)
 
-sum_by-map_lem : {X : Type 0} (w : ℕ → ℕ) (f : X → ℕ) (xs : List X) → sum_by w (map f xs) ≡ sum_by (λ x. w (f x)) xs
-sum_by-map_lem w f [] = refl
-sum_by-map_lem w f (x ∷ xs) =
-    let more = sum_by-map_lem w f xs in omega (arith, more, sum_by-cons w (f x) (map f xs), sum_by-cons (λ z. w (f z)) x xs)
-
 -- a sum over a list by its numbers
 pub sum_by_numbers : (size : ℕ → ℕ) (children : List ℕ) → sum_by (size_at size children) (range_with_len 0 (length children)) ≡ sum_by size children
 sum_by_numbers size children =
     let whole = fill_by_all (λ k. get_or children k 0) children (length children) 0 refl (λ k h. refl) in
-    sym (ap (sum_by size) whole ∙ sum_by-map_lem size (λ k. get_or children k 0) (range_with_len 0 (length children)))
+    sym (ap (sum_by size) whole ∙ sum_by-map size (λ k. get_or children k 0) (range_with_len 0 (length children)))
 
 -- The numbers of the children in some order.
 pub record AreNumbers (children numbers : List ℕ) : Type 0 where

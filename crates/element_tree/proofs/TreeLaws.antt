@@ -6,6 +6,7 @@ use Rattle.std.specs.Cmp.Lexicographic.{slice_cmp}
 use Rattle.std.proofs.lemmas.List.{length-map, map-append}
 use Rattle.std.proofs.lemmas.Option.{slice_get-get_or, get_or_from_slice_get, slice_get_within}
 use Rattle.finite_sets.specs.Lists.{In}
+use Rattle.finite_sets.proofs.Places.{slice_get-below, In-slice_get, slice_get-map_source, slice_get-map_there}
 use Rattle.ext_model.specs.declared.records.UseRec.{UseRec}
 use Rattle.ext_model.specs.declared.records.CellExt.{CellExt}
 use Rattle.ext_model.specs.NameParts.{element_cmp, path_length}
@@ -22,13 +23,12 @@ use Rattle.element_tree.specs.Forests.{AreBranches}
 use Rattle.element_tree.specs.Rooms.{AreForest, HasRoom}
 use Rattle.element_tree.proofs.Forests.{forest_of}
 use Rattle.element_tree.proofs.Transforms.{reach_from_count, image-identity, identity_moves}
-use Rattle.element_tree.proofs.Chains.{number_along, rank_along, end_of, IsChainFrom, step_behind, slice_get-map_source, slice_get-map_there}
+use Rattle.element_tree.proofs.Chains.{number_along, rank_along, end_of, IsChainFrom, step_behind}
 use Rattle.element_tree.proofs.Chains.{length-chains_below, chain_at, chain_of, end_fits, chain_short, number_along-append, end_of-append}
 use Rattle.element_tree.proofs.Chains.{IsChainFrom-append, IsChainFrom-front}
 use Rattle.element_tree.proofs.Ranks.{ids_along, rank_along-size, ranks_in_path_order, one_chain}
 use Rattle.element_tree.proofs.RankSums.{link_numbered}
-use Rattle.element_tree.proofs.Growth.{In-slice_get, links_of-found, link_at}
-use Rattle.element_tree.proofs.Measures.{there_is}
+use Rattle.element_tree.proofs.Growth.{links_of-found, link_at}
 use Rattle.element_tree.proofs.Along.{uses_along, element_on, elements_along, along_moves, along-cell, along-depth, along-bytes, along-rank}
 use Rattle.element_tree.proofs.Along.{along-places, along-push}
 
@@ -150,7 +150,7 @@ module _ (exts : List CellExt) (branches : List (List Branch)) (order sizes : Li
       let found = slice_get-get_or exts cell top (forest.within cell end) in
       let paired = forest.paired cell ext end found in
       let within = slice_get_within ext.uses at used use_of in
-      let branch = there_is (branches_of branches cell) at (omega arith) in
+      let branch = slice_get-below (branches_of branches cell) at (omega arith) in
       let link : Link = record { at = at; used = used; branch = branch.0 } in
       let linked : slice_get (links cell) at ≡ Some link = ap (λ z. slice_get z at) (links_of-found exts branches cell ext found)
       ∙ link_at 0 ext.uses (branches_of branches cell) at at used branch.0 use_of branch.1 (omega arith) in

@@ -5,7 +5,6 @@ use Rattle.std.specs.Int.RustNames.{FitsSigned}
 use Rattle.std.specs.Ordering.{nat_cmp}
 use Rattle.std.specs.Option.{option_or}
 use Rattle.std.specs.Cmp.Lexicographic.{slice_cmp}
-use Rattle.geo_core.specs.declared.limits.Limit.TheVariants.{Depth, Elements}
 use Rattle.geo_core.specs.declared.squares.Square.{Square}
 use Rattle.geo_core.specs.Images.{image}
 use Rattle.geo_core.specs.Reach.{MovesInReach}
@@ -13,6 +12,7 @@ use Rattle.ext_model.specs.declared.records.UseRec.{UseRec}
 use Rattle.ext_model.specs.declared.records.CellExt.{CellExt}
 use Rattle.ext_model.specs.NameParts.{element_cmp, path_length}
 use Rattle.circuit_model.specs.declared.faults.FlatFault.{FlatFault}
+use Rattle.circuit_model.specs.declared.limits.CircuitLimit.TheVariants.{Depth, Elements}
 use Rattle.circuit_model.specs.declared.limits.TheConstants.{LONGEST_CHAIN, MOST_FLAT_ELEMENTS}
 use Rattle.circuit_model.specs.Elements.{Element, ids_of, elements_of, placed}
 use Rattle.circuit_model.specs.Refusals.{past, depth_of}

@@ -11,7 +11,7 @@ use crate::name_order::in_name_order;
 use crate::tree::Branch;
 use circuit_model::MOST_FLAT_ELEMENTS;
 use ext_model::{CellExt, UseRec};
-use geo_core::List;
+use names_lists::List;
 use record_graph::RecordGraph;
 use std::alloc::{AllocError, Global};
 

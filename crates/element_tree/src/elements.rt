@@ -8,7 +8,8 @@ ghost use Rattle.element_tree.specs.Rooms.{MovesByAtMost, HasRoom};
 use crate::tree::{Branch, TreeElement};
 use circuit_model::{FlatFault, LONGEST_CHAIN, MOST_FLAT_ELEMENTS};
 use ext_model::{CellExt, UseRec};
-use geo_core::{List, Transform};
+use geo_core::Transform;
+use names_lists::List;
 
 // The transform of a use.
 fn transform_of(used: &UseRec) -> Transform

@@ -5,9 +5,8 @@ ghost use Rattle.record_graph.specs.Graphs.{IsGraphOf, children_of};
 ghost use Rattle.element_tree.specs.Trees.{HasNoTreeFault, IsTreeFaultOf};
 ghost use Rattle.element_tree.specs.Sizes.{IsSomeGraph, value_at, chain_from, size_from, AreMeasuredIn, AreSizes};
 
-use circuit_model::{FlatFault, LONGEST_CHAIN, MOST_FLAT_ELEMENTS};
+use circuit_model::{CircuitLimit, FlatFault, LONGEST_CHAIN, MOST_FLAT_ELEMENTS};
 use ext_model::CellExt;
-use geo_core::Limit;
 use record_graph::RecordGraph;
 use std::alloc::{AllocError, Global};
 
@@ -79,11 +78,11 @@ pub fn checked_sizes(
     ensures fault { IfErr result (λ fault. (fault ≡ FlatFault.Memory) ⊎ IsTreeFaultOf exts.now root fault) }
 {
     if chain_lengths(alloc, exts, graph)?[root] > LONGEST_CHAIN {
-        return Err(FlatFault::TooMany(Limit::Depth));
+        return Err(FlatFault::TooMany(CircuitLimit::Depth));
     }
     let sizes = sizes(alloc, exts, graph)?;
     if sizes[root] > MOST_FLAT_ELEMENTS {
-        return Err(FlatFault::TooMany(Limit::Elements));
+        return Err(FlatFault::TooMany(CircuitLimit::Elements));
     }
     Ok(sizes)
 }

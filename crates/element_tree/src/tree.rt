@@ -10,7 +10,8 @@ use crate::elements::add_elements;
 use crate::sizes::checked_sizes;
 use circuit_model::{FlatFault, LONGEST_CHAIN};
 use ext_model::CellExt;
-use geo_core::{List, Orient, Transform};
+use geo_core::{Orient, Transform};
+use names_lists::List;
 use record_graph::RecordGraph;
 use std::alloc::Global;
 

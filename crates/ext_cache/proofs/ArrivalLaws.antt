@@ -7,11 +7,12 @@ use Rattle.cell_tree.specs.Trees.{stamp_at}
 use Rattle.cell_library.specs.Additions.{AreNextCells, kept_cell, names_with, with_all}
 use Rattle.cell_library.specs.Libraries.{LibraryParts, IsLawfulLibrary, IsNextCell, edits_of, seen}
 use Rattle.cell_library.specs.Views.{no_cell, view_at}
+use Rattle.cell_library.proofs.ViewLaws.{count_seen}
 use Rattle.library_trees.specs.NamedCells.{named_tree_at}
 use Rattle.library_trees.proofs.AgreeingViews.{agreeing_views}
 use Rattle.library_trees.proofs.EditedTrees.{below_is_cell}
 use Rattle.ext_cache.specs.Caches.{Agrees, Records, entry_in, is_dirty, is_stale, stamp_in}
-use Rattle.ext_cache.proofs.RecordLaws.{agrees_with, counted}
+use Rattle.ext_cache.proofs.RecordLaws.{agrees_with}
 
 module _ (old new : LibraryParts) (records : Records) (more : List ℕ) (lawful : IsLawfulLibrary old)
     (stamps : new.tree.stamps ≡ old.tree.stamps ++ more) (agrees : Agrees old records) where
@@ -27,7 +28,7 @@ module _ (old new : LibraryParts) (records : Records) (more : List ℕ) (lawful 
   tree_kept earlier cell there =
       sym (agreeing_views (seen old) (seen new) cell (λ below chain.
       let known = below_is_cell old lawful cell below there chain in
-      sym (earlier below (omega (arith, known, counted old)))))
+      sym (earlier below (omega (arith, known, count_seen old)))))
 
   -- records agree where the cells that were there stay
   agrees_more : length (seen old).cells ≤ length (seen new).cells → (seen new).tech ≡ (seen old).tech

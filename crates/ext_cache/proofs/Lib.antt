@@ -1,7 +1,6 @@
 pub mod AboveLaws
 pub mod ArrivalLaws
 pub mod EditLaws
-pub mod LabelLaws
 pub mod LoopLaws
 pub mod MadeLaws
 pub mod MakingLaws

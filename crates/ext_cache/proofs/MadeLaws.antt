@@ -1,11 +1,10 @@
 -- A record that is put together of a cell's own paint, its elements and its merges is the cell's.
-use Rattle.std.proofs.Common.{◌≡◌, ◌==◌, ◌∙◌, ℕ, zero, suc, Bool, true, List, [], ◌∷◌, length, refl, sym, ap, subst, arith}
+use Rattle.std.proofs.Common.{◌≡◌, ◌==◌, ◌∙◌, ℕ, Bool, true, List, [], ◌∷◌, length, refl, sym, ap, subst, arith}
 use Rattle.std.proofs.lemmas.Bool.Decides.{nat_tests}
 use Rattle.geo_core.specs.declared.squares.Rect.{Rect}
 use Rattle.tech_model.specs.declared.raw.Label.{Label}
 use Rattle.tech_model.specs.declared.raw.RawTech.{RawTech}
 use Rattle.layout_model.specs.Layouts.{Layout}
-use Rattle.cell_tree.specs.declared.limits.TheConstants.{MOST_DEPTH}
 use Rattle.own_records.specs.OwnRecords.{IsOwnRecord}
 use Rattle.own_records.specs.FetRecords.{AreFetRecords, IsNodeBefore}
 use Rattle.cell_nodes.specs.NodeRecords.{AreNodeRecords}
@@ -14,23 +13,15 @@ use Rattle.tree_records.specs.Merges.{AreGroupMerges}
 use Rattle.tree_records.specs.TreeRecords.{IsTreeRecord}
 use Rattle.cell_library.specs.Libraries.{LibraryParts, seen}
 use Rattle.cell_library.specs.Views.{LibraryView, view_at}
-use Rattle.library_trees.specs.NamedCells.{named_tree_at, named_tree_to, own_body_of}
+use Rattle.library_trees.specs.NamedCells.{named_tree_at, own_body_of}
 use Rattle.hier_merge.specs.UncleanCells.{IsCleanCell}
 use Rattle.lawful_trees.specs.Laws.{TreeRecordIsLawful}
 use Rattle.ext_model.specs.declared.records.CellExt.{CellExt}
 use Rattle.cell_records.specs.declared.records.CellRecord.{CellRecord}
 use Rattle.tree_merges.specs.declared.relating.Related.{Related}
+use Rattle.tree_merges.proofs.CellMerges.{body_at}
 use Rattle.ext_cache.specs.Caches.{IsRecordNow}
 use Rattle.ext_cache.specs.MadeRecords.{IsMadeOf}
-
--- the tree of a cell has what the cell has of its own
-own_body_to : (view : LibraryView) (depth cell : ℕ) → own_body (named_tree_to view depth cell) ≡ own_body_of view cell
-own_body_to view zero cell = refl
-own_body_to view (suc depth) cell = refl
-
-own_body_at : (view : LibraryView) (cell : ℕ) → own_body (named_tree_at view cell) ≡ own_body_of view cell
-unfolding named_tree_at
-own_body_at view cell = own_body_to view MOST_DEPTH cell
 
 -- an own record stays one, along equations
 pub own_record_of : (raw other : RawTech) (layout there : Layout) (labels words : List Label) (name text : List ℕ) (ext : CellExt) → raw ≡ other
@@ -53,7 +44,7 @@ module _ (view : LibraryView) (cell : ℕ) (own : CellRecord) (related : Related
   pub made_is_of_tree : AreGroupMerges view.tech (named_tree_at view cell) related.merges → IsTreeRecord view.tech (named_tree_at view cell) made.ext
   made_is_of_tree merges =
       let there : OwnBody = own_body (named_tree_at view cell) in
-      let body : own_body_of view cell ≡ there = sym (own_body_at view cell) in
+      let body : own_body_of view cell ≡ there = sym (body_at view cell) in
       let Nodes : OwnBody → CellExt → Type 0 = λ own_of ext. AreNodeRecords view.tech own_of.layout own_of.labels ext.nodes in
       let Fets : OwnBody → CellExt → Type 0 =
       λ own_of ext. AreFetRecords view.tech own_of.layout own_of.labels (IsNodeBefore view.tech own_of.layout own_of.labels) ext.fets in

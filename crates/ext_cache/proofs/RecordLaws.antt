@@ -19,9 +19,9 @@ use Rattle.tree_records.specs.TreeRecords.{IsTreeRecord}
 use Rattle.library_trees.specs.NamedCells.{named_tree_at}
 use Rattle.library_trees.proofs.LayoutLaws.{layouts_of_cell}
 use Rattle.cell_tree.specs.Trees.{stamp_at}
-use Rattle.cell_library.specs.Libraries.{LibraryParts, IsSame, seen, uses_in}
+use Rattle.cell_library.specs.Libraries.{LibraryParts, IsSame, seen}
 use Rattle.cell_library.specs.Views.{LibraryView}
-use Rattle.cell_library.proofs.ViewLaws.{length-cell_views}
+use Rattle.cell_library.proofs.ViewLaws.{count_seen}
 use Rattle.ext_cache.specs.Caches.{Agrees, IsRecordNow, Records, entry_in, is_dirty, is_stale, next_serial, no_records}
 use Rattle.ext_cache.specs.Caches.{record_in, stamp_in, with_record}
 
@@ -48,10 +48,6 @@ dirty_none library cell = ap (λ (found : Option ExtEntry). is_stale found (stam
 
 -- ---- cells that stay as they are
 
--- as many cells are seen as there are
-pub counted : (library : LibraryParts) → length (seen library).cells ≡ length library.contents
-counted library = length-cell_views library.contents (uses_in library.tree.cells)
-
 -- a record of a cell as it is stays one, where the technology and the cell's tree stay
 pub record_stays : (old new : LibraryView) (cell : ℕ) (ext : CellExt) → new.tech ≡ old.tech → named_tree_at new cell ≡ named_tree_at old cell
     → IsRecordNow old cell ext → IsRecordNow new cell ext
@@ -74,7 +70,7 @@ pub agrees_with : (old new : LibraryParts) (records : Records) → length (seen 
     → (stamp_in new cell ≡ stamp_in old cell) × (named_tree_at (seen new) cell ≡ named_tree_at (seen old) cell))
     → Agrees old records → Agrees new records
 agrees_with old new records more tech past now agrees = record {
-  known = λ cell entry is. omega (arith, agrees.known cell entry is, counted old, counted new);
+  known = λ cell entry is. omega (arith, agrees.known cell entry is, count_seen old, count_seen new);
   past = past;
   now = λ cell entry is stamp.
       let stayed = now cell entry is stamp in

@@ -18,14 +18,13 @@ ghost use Rattle.ext_cache.specs.declared.faults.ExtractFault.TheVariants.{Memor
 use crate::caches::Cache;
 use crate::faults::{ExtractFault, Unclean};
 use crate::undo::Undo;
-use cell_library::Reader;
+use cell_library::{Opened, Reader};
 use cell_records::{CellRecord, cell_record};
 use ext_model::{CellExt, CellKey};
-use geo_core::{List, Name};
 use lawful_trees::tree_record_is_lawful;
+use names_lists::{List, Name};
 use std::alloc::{AllocError, Global};
 use std::sync::ledger::Ledger;
-use step_count::Steps;
 use tree_merges::{Related, relate};
 use use_orders::library_order_law;
 use use_records::use_records;
@@ -43,7 +42,7 @@ pub fn extract_dirty<L: Ledger>(
     cache: &mut Cache,
     library: &Reader<'_>,
     root: CellKey,
-    steps: &mut Steps<L>,
+    steps: &mut Opened<L>,
 ) -> Result<Vec<Extracted>, ExtractFault>
     requires root { root.0 < length library.now.contents }
     requires agrees { Agrees library.now cache.old }
@@ -84,7 +83,7 @@ fn extract_all<L: Ledger>(
     order: &[CellKey],
     log: &mut Vec<Undo>,
     told: &mut Vec<Extracted>,
-    steps: &mut Steps<L>,
+    steps: &mut Opened<L>,
 ) -> Result<(), ExtractFault>
     requires root { root.0 < length library.now.contents }
     requires order { IsLibraryOrder (children_in (seen library.now)) root.0 (map (λ key. key.0) order.now) }
@@ -129,7 +128,7 @@ fn tree_record<L: Ledger>(
     cache: &Cache,
     library: &Reader<'_>,
     cell: CellKey,
-    steps: &mut Steps<L>,
+    steps: &mut Opened<L>,
 ) -> Result<CellRecord, ExtractFault>
     requires cell { cell.0 < length library.now.contents }
     requires clean { IsCleanBelow library.now.tech (tree_at (seen library.now) cell.0) }

@@ -1,8 +1,8 @@
 //! Why an extraction is refused.
 
 use ext_model::CellKey;
-use geo_core::{List, Rect};
-use hier_merge::HierFault;
+use geo_core::Rect;
+use names_lists::List;
 use std::alloc::AllocError;
 use thiserror::Error;
 
@@ -29,17 +29,6 @@ impl From<AllocError> for ExtractFault {
     ghost from_gives = { λ _ fault. fault ≡ Memory };
 
     fn from(_error: AllocError) -> ExtractFault {
-        ExtractFault::Memory
-    }
-}
-
-impl From<HierFault> for ExtractFault {
-    ghost use Rattle.std.specs.Prelude.{◌≡◌};
-    ghost use Rattle.ext_cache.specs.declared.faults.ExtractFault.TheVariants.{Memory};
-
-    ghost from_gives = { λ _ fault. fault ≡ Memory };
-
-    fn from(_fault: HierFault) -> ExtractFault {
         ExtractFault::Memory
     }
 }

@@ -10,10 +10,10 @@
 //! cells is what is seen to have the cell below itself (`AboveLaws`). A cell that comes has no record (`ArrivalLaws`).
 //!
 //! An extraction goes over the cells in library order, passes over those that are not dirty, and keeps a new record of each of the others.
-//! A cell stands behind all that are below it, and each cell is listed once (`OrderLaws`). So what is below the cell at hand is not dirty any
+//! A cell stands behind all that are below it, and each cell is listed once (`OrderLaws`, and `CleanOrders` of `hier_merge`). So what is below the cell at hand is not dirty any
 //! more, where new records were kept of the dirty cells so far (`MakingLaws`): it has a record, which is of the cell as it is, and is clean.
 //! The cell itself is dirty if it was at the start. `LoopLaws` has how the extraction goes on with it. Its labels are such as may name nodes
-//! (`LabelLaws`), and a record with the nodes and transistors of its own paint, its elements and its merges is its record (`MadeLaws`). The
+//! (`LabelLaws` of `library_labels`), and a record with the nodes and transistors of its own paint, its elements and its merges is its record (`MadeLaws`). The
 //! steps are those of each dirty cell, one after another (`WorkLaws`).
 //!
 //! A cell that is not clean is the first of the order, since all before it are clean (`UncleanLaws`). A log has what each new record replaced:

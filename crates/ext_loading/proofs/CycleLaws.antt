@@ -1,14 +1,14 @@
 -- Where no cell of a tree stands below itself, no use leads back.
 use Rattle.std.proofs.Common.{◌≡◌, ℕ, zero, suc, Bool, true, false, true≢false, List, [], ◌∷◌, length, inl, inr, refl, sym, ap, ◌∙◌, subst, arith}
 use Rattle.std.specs.Prelude.{Option, Some, None, if◌then◌else◌}
-use Rattle.std.specs.Option.{option_or}
 use Rattle.std.specs.Str.{bytes_eq}
 use Rattle.std.proofs.lemmas.Slice.Eq.{bytes_eq-Decides}
 use Rattle.finite_sets.specs.Chain.{Chain}
 use Rattle.finite_sets.specs.Lists.{In}
 use Rattle.finite_sets.proofs.Chains.{Chain-map, Chain-one, Chain-push, Chain-same}
 use Rattle.finite_sets.proofs.Members.{In-map, In-map_source}
-use Rattle.finite_sets.proofs.Searches.{find-In, find-none, find-passes}
+use Rattle.finite_sets.proofs.Searches.{find-In, find-none, find-passes, In-from_list_any}
+use Rattle.finite_sets.proofs.Firsts.{first_some-none}
 use Rattle.use_orders.specs.NewCells.{IsOwnDescendant}
 use Rattle.use_orders.specs.Uses.{used_by, UsesNewCell}
 use Rattle.ext_model.specs.declared.records.CellExt.{CellExt}
@@ -17,19 +17,12 @@ use Rattle.circuit_model.specs.declared.faults.FlatFault.{FlatFault}
 use Rattle.circuit_model.specs.declared.faults.FlatFault.TheVariants.{NoCell, Cycle}
 use Rattle.circuit_model.specs.Elements.{ext_of}
 use Rattle.circuit_model.specs.FlatNodes.{is_among}
-use Rattle.circuit_model.specs.Refusals.{first_fault, use_fault}
-use Rattle.ext_reading.proofs.NameLaws.{In-is_among}
+use Rattle.circuit_model.specs.Refusals.{use_fault}
 use Rattle.ext_loading.specs.ExtFiles.{cells_read}
 use Rattle.ext_loading.specs.Loads.{CanBeFlattened, children_in}
 use Rattle.ext_loading.specs.Readings.{cells_used}
 use Rattle.ext_loading.specs.Trees.{IsTree}
 use Rattle.ext_loading.proofs.Positions.{position_in, uses_by_position}
-
--- where no thing of a list has a fault, there is no first
-none_first : {X : Type 0} (fault_of : X → Option FlatFault) (xs : List X) → ((x : X) → In x xs → fault_of x ≡ None) → first_fault fault_of xs ≡ None
-none_first fault_of [] none = refl
-none_first fault_of (x ∷ xs) none =
-    ap (λ (fault : Option FlatFault). option_or fault (first_fault fault_of xs)) (none x (inl refl)) ∙ none_first fault_of xs (λ y there. none y (inr there))
 
 -- a record of this cell
 record IsRecordOf (read : List CellExt) (name : List ℕ) (ext : CellExt) : Type 0 where
@@ -90,7 +83,7 @@ module _ (root : List ℕ) (read : List CellExt) (tree : IsTree root read) (acyc
       → ((other : List ℕ) → In other open_cells → Chain Leads other ext.cell) → use_fault bound read (name ∷ open_cells) child ≡ None → (t : Bool)
       → is_among open_cells name ≡ t → (if t then Some (Cycle name) else use_fault bound read (name ∷ open_cells) child) ≡ None
   use_without_fault bound open_cells ext child name leads above none true opened =
-      absurd (never_back ext.cell name leads (above name (In-is_among name open_cells opened)))
+      absurd (never_back ext.cell name leads (above name (In-from_list_any bytes_eq bytes_eq-Decides name open_cells opened)))
   use_without_fault bound open_cells ext child name leads above none false opened = none
 
   -- a record to which uses lead from all open cells has no fault
@@ -99,7 +92,7 @@ module _ (root : List ℕ) (read : List CellExt) (tree : IsTree root read) (acyc
   unfolding use_fault
   no_fault zero open_cells ext there above = refl
   no_fault (suc bound) open_cells ext there above =
-      none_first (λ used. at_use bound open_cells used.cell (ext_of read used.cell)) ext.uses
+      first_some-none (λ used. at_use bound open_cells used.cell (ext_of read used.cell)) ext.uses
       (λ used within.
       let named : In used.cell (cells_used ext) = In-map (λ (u : UseRec). u.cell) used ext.uses within in
       let leads : Leads ext.cell used.cell = (ext, (there, (refl, named))) in

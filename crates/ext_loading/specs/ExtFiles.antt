@@ -2,7 +2,6 @@
 use Rattle.std.specs.Prelude.{nat_le, ℕ, Bool, if◌then◌else◌, List, ◌++◌, length, map, codes, Result, Ok, Err}
 use Rattle.std.specs.List.{list_any}
 use Rattle.std.specs.Str.{bytes_eq}
-use Rattle.geo_core.specs.declared.limits.Limit.TheVariants.{Cells}
 use Rattle.text_form.specs.declared.reading.At.{At}
 use Rattle.outside_io.specs.Files.{Files}
 use Rattle.session_model.specs.declared.fetching.FetchFault.{FetchFault}
@@ -11,7 +10,7 @@ use Rattle.ext_model.specs.declared.records.CellExt.{CellExt}
 use Rattle.ext_reading.specs.declared.faults.ExtReadFault.{ExtReadFault}
 use Rattle.ext_reading.specs.ExtTexts.{ext_in}
 use Rattle.ext_loading.specs.declared.faults.ExtLoadFault.{ExtLoadFault}
-use Rattle.ext_loading.specs.declared.faults.ExtLoadFault.TheVariants.{Ext, File, TooMany}
+use Rattle.ext_loading.specs.declared.faults.ExtLoadFault.TheVariants.{Ext, File, TooManyCells}
 use Rattle.ext_loading.specs.declared.limits.TheConstants.{MOST_READ_CELLS}
 
 -- the circuit file of a cell
@@ -28,7 +27,7 @@ is_read read name = list_any (bytes_eq name) (cells_read read)
 
 -- what a text without faults gives where these were read before: its record, if there is room for one more
 abbrev pub record_gives : List CellExt → CellExt → Result CellExt ExtLoadFault
-record_gives read ext = if nat_le MOST_READ_CELLS (length read) then Err (TooMany Cells) else Ok ext
+record_gives read ext = if nat_le MOST_READ_CELLS (length read) then Err TooManyCells else Ok ext
 
 -- the same of what reading a text gave
 abbrev pub read_gives : List CellExt → List ℕ → Result CellExt (At ExtReadFault) → Result CellExt ExtLoadFault

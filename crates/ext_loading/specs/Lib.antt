@@ -1,5 +1,4 @@
 pub mod ExtFiles
 pub mod Loads
 pub mod Readings
-pub mod Stops
 pub mod Trees

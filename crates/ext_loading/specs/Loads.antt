@@ -10,6 +10,7 @@ use Rattle.session_model.specs.declared.report.Cause.TheVariants.{Inside}
 use Rattle.session_model.specs.declared.report.LineKind.{LineKind}
 use Rattle.session_model.specs.declared.report.LineKind.TheVariants.{Refusal}
 use Rattle.session_model.specs.Fetches.{cause_of_fault}
+use Rattle.session_model.specs.FileTrees.{All, FileIsRefused, Reads, fetched_by}
 use Rattle.ext_model.specs.declared.records.CellExt.{CellExt}
 use Rattle.circuit_model.specs.Elements.{AreRecords, ext_of}
 use Rattle.circuit_model.specs.Refusals.{walk_fault}
@@ -18,7 +19,7 @@ use Rattle.ext_loading.specs.declared.faults.ExtLoadFault.TheVariants as fault
 use Rattle.ext_loading.specs.declared.loading.LoadedExts.{LoadedExts}
 use Rattle.ext_loading.specs.declared.loading.LoadedExts.TheVariants.{Records, Refused}
 use Rattle.ext_loading.specs.ExtFiles.{cells_read}
-use Rattle.ext_loading.specs.Readings.{All, Stopped, Reads, cells_used, fetched_by}
+use Rattle.ext_loading.specs.Readings.{cells_used, circuit_files}
 
 -- the cells that a record uses, by the positions of their records
 abbrev pub positions_used : List CellExt → CellExt → List ℕ
@@ -34,29 +35,23 @@ IsFirstBelowItself read cell = IsLeast ◌≤◌ (IsOwnDescendant (children_in r
 
 -- All files at and below the root were read, and no cell stands below itself.
 pub record AreRead (files : Files) (root : List ℕ) (read : List CellExt) : Type 0 where
-  pub reads : Reads files [] (root ∷ []) (All read)
+  pub reads : Reads circuit_files files [] (root ∷ []) (All read)
   pub acyclic : (cell : ℕ) → IsOwnDescendant (children_in read) 0 cell → ⊥
-
--- A file is refused: it is not there or too long, its text has a fault, or there would be too many cells.
-pub record FileIsRefused (files : Files) (root : List ℕ) (fetched : List (List ℕ)) (told : ExtLoadFault) : Type 0 where
-  pub read : List CellExt
-  pub name : List ℕ
-  pub stops : Reads files [] (root ∷ []) (Stopped read name told)
-  pub fetched_are : fetched ≡ fetched_by (Stopped read name told)
 
 -- All files were read, and a cell stands below itself.
 pub record TreeIsRefused (files : Files) (root : List ℕ) (fetched : List (List ℕ)) (told : ExtLoadFault) : Type 0 where
   pub read : List CellExt
-  pub reads : Reads files [] (root ∷ []) (All read)
+  pub reads : Reads circuit_files files [] (root ∷ []) (All read)
   pub ext : CellExt
   pub cell : ℕ
   pub first : IsFirstBelowItself read cell
   pub is : told ≡ fault.Cycle (slice_index_or read cell ext).cell
-  pub fetched_are : fetched ≡ fetched_by (All read)
+  pub fetched_are : fetched ≡ fetched_by circuit_files (All read)
 
--- what refuses a tree: the first file that is refused, or else a cell that stands below itself
+-- What refuses a tree: the first file that is refused, since it is not there or too long, its text has a fault, or there would be too many
+-- cells; or else a cell that stands below itself.
 abbrev pub LoadIsRefused : Files → List ℕ → List (List ℕ) → ExtLoadFault → Type 0
-LoadIsRefused files root fetched told = FileIsRefused files root fetched told ⊎ TreeIsRefused files root fetched told
+LoadIsRefused files root fetched told = FileIsRefused circuit_files files root fetched told ⊎ TreeIsRefused files root fetched told
 
 -- what reading a tree gives is so
 abbrev pub LoadGives : Files → List ℕ → LoadedExts → Type 0

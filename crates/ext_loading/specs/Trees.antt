@@ -1,19 +1,17 @@
 -- Records that are read: what each has to be, what holds of them on the way, and what they are at the end.
 use Rattle.std.specs.Prelude.{◌≡◌, ◌⊎◌, ◌<◌, ◌+◌, ◌-◌, ◌*◌, ◌^◌, ℕ, List, ◌++◌, length, slice_index_or}
 use Rattle.finite_sets.specs.Lists.{In}
-use Rattle.outside_io.specs.Files.{Files}
 use Rattle.ext_model.specs.declared.records.CellExt.{CellExt}
 use Rattle.ext_model.specs.Lawful.{IsLawful}
 use Rattle.circuit_model.specs.Elements.{AreRecords}
 use Rattle.use_orders.specs.NewCells.{IsOwnDescendant}
-use Rattle.ext_loading.specs.declared.faults.ExtLoadFault.{ExtLoadFault}
 use Rattle.ext_loading.specs.declared.faults.ExtLoadFault.TheVariants as fault
 use Rattle.ext_loading.specs.declared.limits.TheConstants.{MOST_READ_CELLS}
 use Rattle.ext_loading.specs.declared.loading.LoadedExts.{LoadedExts}
 use Rattle.ext_loading.specs.declared.loading.LoadedExts.TheVariants.{Records, Refused}
 use Rattle.ext_loading.specs.ExtFiles.{cells_read}
 use Rattle.ext_loading.specs.Loads.{children_in, IsFirstBelowItself}
-use Rattle.ext_loading.specs.Readings.{Reading, Reads, Stopped, cells_used}
+use Rattle.ext_loading.specs.Readings.{cells_used}
 
 -- A record that may follow these: it is lawful and of the cell of this name, and there is room for it.
 pub record MayFollow (read : List CellExt) (name : List ℕ) (ext : CellExt) : Type 0 where
@@ -39,16 +37,6 @@ pub record IsTree (root : List ℕ) (read : List CellExt) : Type 0 where
 -- A bound on how many names are still taken: each record that may still come counts for more than all names that a vector can have.
 abbrev pub work_left : List CellExt → List (List ℕ) → ℕ
 work_left read left = (MOST_READ_CELLS - length read) * 2 ^ 64 + length left
-
--- Reading went on from these records, where these names are left, to those: what it comes to from there, it comes to from here.
-abbrev pub GoesOn : Files → List CellExt → List (List ℕ) → List CellExt → List (List ℕ) → Type 0
-GoesOn files read left read_after left_after = (reading : Reading) → Reads files read_after left_after reading → Reads files read left reading
-
--- Reading from here stops at a file that is refused.
-pub record StopsAt (files : Files) (read : List CellExt) (left : List (List ℕ)) (told : ExtLoadFault) : Type 0 where
-  pub read_before : List CellExt
-  pub name : List ℕ
-  pub stops : Reads files read left (Stopped read_before name told)
 
 -- What is given of a tree whose files were read: its records where no cell stands below itself, or else the first that does.
 abbrev pub GivesTree : List CellExt → LoadedExts → Type 0

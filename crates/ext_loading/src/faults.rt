@@ -1,7 +1,7 @@
 //! Why a tree of circuit files is refused.
 
 use ext_reading::ExtAt;
-use geo_core::{Limit, Name};
+use names_lists::Name;
 use session_model::FetchFault;
 use thiserror::Error;
 
@@ -14,9 +14,9 @@ pub enum ExtLoadFault {
     /// The text of this file has a fault.
     #[error("bad text")]
     Ext(Name, ExtAt),
-    /// There would be too many of these.
-    #[error("too many")]
-    TooMany(Limit),
+    /// There would be too many cells in the tree.
+    #[error("too many cells")]
+    TooManyCells,
     /// The cell of this name stands below itself.
     #[error("cycle")]
     Cycle(Name),

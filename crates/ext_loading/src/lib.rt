@@ -1,6 +1,7 @@
 //! Reading the circuit files of a cell and of all cells below it.
 //!
-//! `ExtFiles` says what the file of one cell gives, `Readings` in which order files are read, and `Loads` what comes of a tree.
+//! `ExtFiles` says what the file of one cell gives, `Readings` which files are read and to which others they lead (in the order of
+//! `FileTrees` of `session_model`), and `Loads` what comes of a tree.
 //!
 //! # How the proof goes
 //!
@@ -20,7 +21,6 @@ mod faults;
 mod limits;
 mod loading;
 mod read_exts;
-mod stops;
 mod walks;
 
 pub use faults::ExtLoadFault;

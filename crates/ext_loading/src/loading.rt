@@ -3,20 +3,20 @@ ghost use Rattle.std.specs.Prelude.{◌≡◌, [], ◌∷◌, Some, IfOk, IfErr,
 ghost use Rattle.text_scan.specs.PlainNames.{is_plain_name};
 ghost use Rattle.outside_io.specs.Files.{Files};
 ghost use Rattle.session_model.specs.Causes.{HasCauses};
+ghost use Rattle.session_model.specs.FileTrees.{All, Reads, StopsAt};
+ghost use Rattle.session_model.specs.Stops.{answer_of, kinds_of_told, IfRefused};
 ghost use Rattle.use_orders.specs.Uses.{AreCells};
-ghost use Rattle.ext_loading.specs.Loads.{IsFitTree, LoadGives, children_in, kinds_of_loaded};
-ghost use Rattle.ext_loading.specs.Readings.{All, Reads};
-ghost use Rattle.ext_loading.specs.Stops.{answer_of, kinds_of_told, IfRefused};
-ghost use Rattle.ext_loading.specs.Trees.{GivesTree, IsTree, StopsAt};
+ghost use Rattle.ext_loading.specs.Loads.{IsFitTree, LoadGives, cause_of_load, children_in, kinds_of_loaded};
+ghost use Rattle.ext_loading.specs.Readings.{circuit_files};
+ghost use Rattle.ext_loading.specs.Trees.{GivesTree, IsTree};
 
 use crate::faults::ExtLoadFault;
 use crate::read_exts::ReadExts;
-use crate::stops::Stop;
 use crate::walks::Walk;
 use ext_model::CellExt;
-use geo_core::Name;
+use names_lists::Name;
 use outside_io::Shelf;
-use session_model::Halt;
+use session_model::{Halt, Stop};
 use std::alloc::Global;
 use use_orders::{Order, children_first};
 
@@ -46,12 +46,16 @@ pub fn load_exts<F: Shelf>(alloc: Global, shelf: &mut F, root: &Name) -> Result<
 }
 
 // The records of the files at and below the root, in the order in which they are read.
-fn read_below<F: Shelf>(alloc: Global, shelf: &mut F, root: &Name) -> Result<ReadExts, Stop>
-    ensures read { (files : Files) → F.files shelf.old ≡ Some files → IfOk result (λ read. Reads files [] (root.now ∷ []) (All read)) }
-    ensures refused { (files : Files) → F.files shelf.old ≡ Some files → IfRefused result (StopsAt files [] (root.now ∷ [])) }
+fn read_below<F: Shelf>(
+    alloc: Global,
+    shelf: &mut F,
+    root: &Name,
+) -> Result<ReadExts, Stop<ExtLoadFault>>
+    ensures read { (files : Files) → F.files shelf.old ≡ Some files → IfOk result (λ read. Reads circuit_files files [] (root.now ∷ []) (All read)) }
+    ensures refused { (files : Files) → F.files shelf.old ≡ Some files → IfRefused result (StopsAt circuit_files files [] (root.now ∷ [])) }
     ensures tree { IfOk result (IsTree root.now) }
     ensures files { F.files shelf.new ≡ F.files shelf.old }
-    ensures causes { HasCauses F.Shelf shelf.old shelf.new kinds_of_told (answer_of result) }
+    ensures causes { HasCauses F.Shelf shelf.old shelf.new (kinds_of_told cause_of_load) (answer_of result) }
 {
     let mut walk = Walk::new(alloc, root)?;
     'names: while let Some(name) = walk.left.pop() {

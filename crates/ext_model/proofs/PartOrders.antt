@@ -95,7 +95,7 @@ length-path_text [] name = omega arith
 length-path_text (id ∷ ids) name = omega (arith, length-behind id (path_text ids name), length-path_text ids name)
 
 -- numbers that are equal to others compare as they do
-nat_cmp-same : (x y p q : ℕ) → x ≡ p → y ≡ q → nat_cmp x y ≡ nat_cmp p q
+pub nat_cmp-same : (x y p q : ℕ) → x ≡ p → y ≡ q → nat_cmp x y ≡ nat_cmp p q
 nat_cmp-same x y p q e f = rw (e, f) refl
 
 pub paths_compare_by_parts : PathsCompareByParts

@@ -6,6 +6,7 @@ use Rattle.std.proofs.lemmas.Cmp.{tied_itself, nat_cmp_total}
 use Rattle.std.specs.Cmp.Lexicographic.{slice_cmp}
 use Rattle.std.specs.Ordering.{nat_cmp, ordering_then}
 use Rattle.std.specs.declared.cmp.Ordering.{Ordering}
+use Rattle.finite_sets.proofs.Orders.{nat_cmp-add}
 use Rattle.ext_model.specs.declared.names.TheConstants.{SLASH, GLOBAL_MARK, GENERATED_MARK}
 use Rattle.ext_model.specs.NodeNames.{slashes_in, ends_in, name_kind}
 use Rattle.ext_model.specs.NameOrder.{kind_rank, name_cmp}
@@ -36,13 +37,9 @@ slashes_in-behind id rest =
 pub length-behind : (id rest : List ℕ) → length (id ++ SLASH ∷ rest) ≡ (length id + 1) + length rest
 length-behind id rest = omega (arith, length-append id (SLASH ∷ rest))
 
--- numbers compare alike with the same added to both
-nat_cmp-added : (n x y : ℕ) → nat_cmp (n + x) (n + y) ≡ nat_cmp x y
-nat_cmp-added n x y = grind (arith, nat_tests)
-
 -- two numbers that are both so much more than two others
 alike : (n x y p q : ℕ) → p ≡ n + x → q ≡ n + y → nat_cmp p q ≡ nat_cmp x y
-alike n x y p q e f = rw (e, f) (nat_cmp-added n x y)
+alike n x y p q e f = rw (e, f) (nat_cmp-add n x y)
 
 -- what two lists begin with alike does not tell them apart
 slice_cmp-same_front : (front x y : List ℕ) → slice_cmp nat_cmp (front ++ x) (front ++ y) ≡ slice_cmp nat_cmp x y

@@ -5,6 +5,7 @@ use Rattle.std.proofs.lemmas.List.Elements.{All-contains}
 use Rattle.std.specs.List.{flat_map}
 use Rattle.finite_sets.specs.Lists.{In}
 use Rattle.finite_sets.proofs.Members.{In-append_cases, Contains-from_In}
+use Rattle.finite_sets.proofs.Images.{In-flat_map_source}
 use Rattle.ext_model.specs.declared.records.CellExt.{CellExt}
 use Rattle.ext_model.specs.NodeNames.{slashes_in, is_word, is_node_name}
 use Rattle.ext_model.specs.Paths.{path_text}
@@ -12,15 +13,6 @@ use Rattle.ext_model.specs.RecordNames.{names_of, node_names}
 use Rattle.ext_model.specs.Lawful.{IsLawful, IsLawfulNode}
 use Rattle.ext_model.specs.RecordLaws.{PathsWithoutSlashNameNodes, PathsWithSlashLeadIntoElements}
 use Rattle.ext_model.proofs.PathOrders.{slashes_in-behind}
-
--- what stands in lists that are put behind each other stands in one of them
-pub In-flat_map_source : {X Y : Type 0} (f : X → List Y) (y : Y) (xs : List X) → In y (flat_map f xs) → (x : X) × (In x xs × In y (f x))
-In-flat_map_source f y [] here = absurd here
-In-flat_map_source {X} f y (x ∷ xs) here =
-    elim (In-append_cases y (f x) (flat_map f xs) here) as (λ _. (z : X) × (In z (x ∷ xs) × In y (f z))) [
-      | inl first ↦ (x, (inl refl, first))
-      | inr later ↦ let source = In-flat_map_source f y xs later in (source.0, (inr source.1.0, source.1.1))
-    ]
 
 -- each name of a node of a lawful record has the form of one
 pub is_node_name-lawful : (ext : CellExt) → IsLawful ext → (name : List ℕ) → In name (node_names ext) → IsTrue (is_node_name name)

@@ -1,7 +1,7 @@
 //! Flat circuits.
 
 use crate::records::{FetRec, NodeRec};
-use geo_core::{List, Name};
+use names_lists::{List, Name};
 
 /// A flat circuit: all nodes and transistors of a cell and the cells below it, under the full names and at the points that they
 /// have from the cell.

@@ -16,7 +16,6 @@
 #![tactic(auto)]
 
 mod circuits;
-mod faults;
 mod laws;
 mod limits;
 mod names;
@@ -24,7 +23,6 @@ mod records;
 mod tables;
 
 pub use circuits::Circuit;
-pub use faults::ExtModelFault;
 pub use laws::{
     full_names_go_by_parts, kinds_tell_global_names, name_order_is_total,
     paths_name_nodes_or_lead_into_elements,

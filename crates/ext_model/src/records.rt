@@ -1,9 +1,8 @@
 //! The record of a cell, as its circuit file has it.
 ghost use Rattle.std.specs.Prelude.{◌≡◌, IfOk};
 
-use crate::faults::ExtModelFault;
-use geo_core::{List, Name};
-use std::alloc::Global;
+use names_lists::{List, Name};
+use std::alloc::{AllocError, Global};
 
 /// An element of a use: a child that stands in the cell.
 ///
@@ -85,13 +84,13 @@ pub struct CellExt {
 
 /// What the lists of a record have.
 trait Part: Drop {
-    /// An equal part. Memory alone refuses.
-    fn copy(&self, alloc: Global) -> Result<Self, ExtModelFault>
+    /// An equal part.
+    fn copy(&self, alloc: Global) -> Result<Self, AllocError>
         ensures { IfOk result (λ copy. copy ≡ self.now) };
 }
 
 // the list of equal parts
-fn copy_parts<P: Part>(alloc: Global, parts: &List<P>) -> Result<List<P>, ExtModelFault>
+fn copy_parts<P: Part>(alloc: Global, parts: &List<P>) -> Result<List<P>, AllocError>
     ensures { IfOk result (λ copy. copy ≡ parts.now) }
 {
     let parts = parts.items();
@@ -103,20 +102,20 @@ fn copy_parts<P: Part>(alloc: Global, parts: &List<P>) -> Result<List<P>, ExtMod
 }
 
 // the list of the same numbers
-fn copy_numbers<N: Copy>(alloc: Global, numbers: &List<N>) -> Result<List<N>, ExtModelFault>
+fn copy_numbers<N: Copy>(alloc: Global, numbers: &List<N>) -> Result<List<N>, AllocError>
     ensures { IfOk result (λ copy. copy ≡ numbers.now) }
 {
     Ok(List::of(Vec::from_slice(alloc, numbers.items())?))
 }
 
 impl Part for Name {
-    fn copy(&self, alloc: Global) -> Result<Name, ExtModelFault> {
-        Ok(Name::copy(self, alloc)?)
+    fn copy(&self, alloc: Global) -> Result<Name, AllocError> {
+        Name::copy(self, alloc)
     }
 }
 
 impl Part for UseRec {
-    fn copy(&self, alloc: Global) -> Result<UseRec, ExtModelFault> {
+    fn copy(&self, alloc: Global) -> Result<UseRec, AllocError> {
         Ok(UseRec {
             cell: self.cell.copy(alloc)?,
             id: self.id.copy(alloc)?,
@@ -126,7 +125,7 @@ impl Part for UseRec {
 }
 
 impl Part for NodeRec {
-    fn copy(&self, alloc: Global) -> Result<NodeRec, ExtModelFault> {
+    fn copy(&self, alloc: Global) -> Result<NodeRec, AllocError> {
         Ok(NodeRec {
             name: self.name.copy(alloc)?,
             aliases: copy_parts(alloc, &self.aliases)?,
@@ -140,7 +139,7 @@ impl Part for NodeRec {
 }
 
 impl Part for TermRec {
-    fn copy(&self, alloc: Global) -> Result<TermRec, ExtModelFault> {
+    fn copy(&self, alloc: Global) -> Result<TermRec, AllocError> {
         Ok(TermRec {
             node: self.node.copy(alloc)?,
             length: self.length,
@@ -149,7 +148,7 @@ impl Part for TermRec {
 }
 
 impl Part for FetRec {
-    fn copy(&self, alloc: Global) -> Result<FetRec, ExtModelFault> {
+    fn copy(&self, alloc: Global) -> Result<FetRec, AllocError> {
         Ok(FetRec {
             kind: self.kind.copy(alloc)?,
             x: self.x,
@@ -164,7 +163,7 @@ impl Part for FetRec {
 }
 
 impl Part for MergeRec {
-    fn copy(&self, alloc: Global) -> Result<MergeRec, ExtModelFault> {
+    fn copy(&self, alloc: Global) -> Result<MergeRec, AllocError> {
         Ok(MergeRec {
             first: self.first.copy(alloc)?,
             second: self.second.copy(alloc)?,
@@ -175,8 +174,8 @@ impl Part for MergeRec {
 }
 
 impl CellExt {
-    /// An equal record. Memory alone refuses.
-    pub fn copy(&self, alloc: Global) -> Result<CellExt, ExtModelFault>
+    /// An equal record.
+    pub fn copy(&self, alloc: Global) -> Result<CellExt, AllocError>
         ensures { IfOk result (λ copy. copy ≡ self.now) }
     {
         Ok(CellExt {

@@ -3,9 +3,8 @@ ghost use Rattle.std.specs.Prelude.{◌≡◌, ◌+◌, ◌≤◌, OnOk, OnErr};
 ghost use Rattle.std.specs.Option.{option_copied};
 ghost use Rattle.std.specs.FinMap as fin_map;
 
-use crate::faults::ExtModelFault;
 use crate::records::CellExt;
-use std::alloc::Global;
+use std::alloc::{AllocError, Global};
 use std::collections::HashMap;
 use std::marker::Model;
 
@@ -64,9 +63,9 @@ impl ExtTable {
         }
     }
 
-    /// Makes room for the entries of `n` more cells, so that to put as many can't fail. Memory alone refuses, and nothing is
-    /// changed then.
-    pub fn reserve(&mut self, n: usize) -> Result<(), ExtModelFault>
+    /// Makes room for the entries of `n` more cells, so that to put as many can't fail. Where it is refused nothing is
+    /// changed.
+    pub fn reserve(&mut self, n: usize) -> Result<(), AllocError>
         ensures room { OnOk result (n ≤ self.new.spare) }
         ensures entries { self.new.entries ≡ self.old.entries }
         ensures kept { self.old.spare ≤ self.new.spare }

@@ -9,7 +9,7 @@ use Rattle.std.proofs.lemmas.Bool.Decides.{Decides-int_eq, nat_tests}
 use Rattle.std.proofs.lemmas.Int.{ints}
 use Rattle.std.proofs.lemmas.List.Sums.{sum_by-cons}
 use Rattle.geo_core.specs.Images.{six_of}
-use Rattle.geo_core.specs.Orientation.{matrix}
+use Rattle.geo_core.specs.Orientation.{matrix, is_orientation}
 use Rattle.ext_model.specs.declared.limits.TheConstants.{MOST_CLASSES, MEASURE_EDGE, LENGTHS_EDGE, SHIFT_EDGE, FET_EDGE}
 use Rattle.ext_model.specs.declared.records.TermRec.{TermRec}
 use Rattle.ext_model.specs.Lawful.{IsMeasure, IsPlacement}
@@ -20,9 +20,9 @@ use Rattle.ext_reading.specs.declared.lines.SideLine.{SideLine}
 use Rattle.ext_reading.specs.declared.lines.Corners.{Corners}
 use Rattle.ext_reading.specs.Parts.{is_next}
 use Rattle.ext_reading.specs.LineForms.{Six, are_corners}
-use Rattle.ext_reading.specs.Ranges.{is_short, short_in, measure_in, pair_in, measures_from, class_value_in, class_values_from, class_values_in, is_orientation}
+use Rattle.ext_reading.specs.Ranges.{is_short, short_in, measure_in, pair_in, measures_from, class_value_in, class_values_from, class_values_in}
 use Rattle.ext_reading.specs.Ranges.{six_in, point_in, term_in, terms_from}
-use Rattle.ext_reading.proofs.OrientationLaws.{six_of-is_orientation}
+use Rattle.geo_core.proofs.OrientationLaws.{six_of-is_orientation}
 use Rattle.ext_reading.proofs.Outcomes.{OkHas, next_has, given_has, passed_has, Each, each_none, each_push}
 
 -- numbers in their ranges

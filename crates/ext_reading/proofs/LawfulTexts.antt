@@ -11,7 +11,7 @@ use Rattle.std.proofs.lemmas.List.Splits.{slice_split_first, length-slice_split,
 use Rattle.std.proofs.lemmas.Slice.Eq.{bytes_eq-Decides}
 use Rattle.finite_sets.specs.Lists.{In, Distinct}
 use Rattle.finite_sets.proofs.Members.{In-append_left, In-push, In-push_cases}
-use Rattle.finite_sets.proofs.Searches.{list_all-In, All-from_In}
+use Rattle.finite_sets.proofs.Searches.{list_all-In, All-from_In, In-from_list_any}
 use Rattle.text_scan.specs.Lines.{lines_of, is_line_feed}
 use Rattle.text_scan.specs.Words.{words_of}
 use Rattle.text_scan.proofs.LineLemmas.{lines_of-nil, lines_of-first}
@@ -42,7 +42,7 @@ use Rattle.ext_reading.specs.Drafts.{Draft, nothing_yet, is_among, is_incomplete
 use Rattle.ext_reading.specs.Drafts.{node_from, takes_alias, fet_from, has_its_nodes, leads, merge_from}
 use Rattle.ext_reading.specs.Drafts.{takes_record, fits_classes, takes_body, takes, step, finish}
 use Rattle.ext_reading.specs.ExtTexts.{with_name, with_element_said, with_words, with_element, outline_of, draft_in, record_of}
-use Rattle.ext_reading.proofs.NameLaws.{place_found, In-is_among}
+use Rattle.ext_reading.proofs.NameLaws.{place_found}
 use Rattle.ext_reading.proofs.OutlineLaws.{kept_element}
 use Rattle.ext_reading.proofs.Outcomes.{OkHas, next_has, given_has, passed_has, failed_has, value_has, Each, each_none}
 use Rattle.ext_reading.proofs.LawfulLines.{IsFormed, says-formed}
@@ -278,13 +278,13 @@ path_leads : (ext : CellExt) (elements names : List (List ℕ)) (path : List ℕ
 path_leads ext elements names path met known formed is = step (list_any is_slash path) refl is
   where
     step : (t : Bool) → list_any is_slash path ≡ t → cond t (is_among (before_first is_slash path) elements) (is_among path names) ≡ true → IsPathIn ext path
-    step false plain among = inl (known path (In-is_among path names among))
+    step false plain among = inl (known path (In-from_list_any bytes_eq bytes_eq-Decides path names among))
     step true slashed among =
         let inside = ltb-true (position_or_len is_slash path) (length path) (place_found is_slash path ∙ slashed) in
         let parts = slice_split_first is_slash path 0 inside in
         let some = length-slice_split is_slash (after_first is_slash path) in
         inr (slashed_path ext path (before_first is_slash path) (slice_split is_slash (after_first is_slash path)) parts (omega (arith, some)) formed
-        (met (before_first is_slash path) (In-is_among (before_first is_slash path) elements among)))
+        (met (before_first is_slash path) (In-from_list_any bytes_eq bytes_eq-Decides (before_first is_slash path) elements among)))
 
 -- a record of what is sound is lawful
 lawful_fet : (ext : CellExt) (names : List (List ℕ)) (fet : FetRec) → Each (λ name. In name (node_names ext)) names → IsSoundFet names fet → IsLawfulFet ext fet

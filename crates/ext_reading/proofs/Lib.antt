@@ -1,4 +1,3 @@
-pub mod OrientationLaws
 pub mod LineSteps
 pub mod NameLaws
 pub mod PathLaws

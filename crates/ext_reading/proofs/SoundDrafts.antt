@@ -6,7 +6,9 @@ use Rattle.std.specs.Int.RustNames.{unsigned_abs}
 use Rattle.std.specs.List.{list_all}
 use Rattle.std.proofs.lemmas.Bool.{and_parts}
 use Rattle.std.proofs.lemmas.Bool.Decides.{nat_tests}
-use Rattle.finite_sets.proofs.Searches.{list_all-In}
+use Rattle.std.proofs.lemmas.Slice.Eq.{bytes_eq-Decides}
+use Rattle.std.specs.Str.{bytes_eq}
+use Rattle.finite_sets.proofs.Searches.{list_all-In, In-from_list_any}
 use Rattle.ext_model.specs.declared.limits.TheConstants.{LENGTHS_EDGE}
 use Rattle.ext_model.specs.declared.records.TermRec.{TermRec}
 use Rattle.ext_model.specs.declared.records.FetRec.{FetRec}
@@ -24,7 +26,6 @@ use Rattle.ext_reading.specs.Ranges.{measure_in, measures_in, point_in, term_in,
 use Rattle.ext_reading.specs.Drafts.{Draft, is_among, is_incomplete}
 use Rattle.ext_reading.specs.Drafts.{fet_from}
 use Rattle.ext_reading.specs.Drafts.{has_its_nodes, takes_fet, leads, merge_from, takes_merge, takes_record, has_measures, fits_classes, takes_body, takes}
-use Rattle.ext_reading.proofs.NameLaws.{In-is_among}
 use Rattle.ext_reading.proofs.Outcomes.{OkHas, next_has, passed_has, failed_has, Each, each_none, each_push}
 use Rattle.ext_reading.proofs.LawfulLines.{IsFormedFet, IsFormedMerge, IsFormed}
 use Rattle.ext_reading.proofs.LawfulDrafts.{measure_in-has, AreCounted, measures_in-has, IsPoint, point_in-has}
@@ -84,9 +85,10 @@ fet_sound elements draft fet is new its =
         area = new.area;
         perimeter = new.perimeter;
         gate = new.gate;
-        gate_node = In-is_among fet.gate.node draft.names both.0;
+        gate_node = In-from_list_any bytes_eq bytes_eq-Decides fet.gate.node draft.names both.0;
         terminals = new.terminals;
-        terminal_nodes = λ side h. In-is_among side.node draft.names (list_all-In (λ (s : TermRec). is_among s.node draft.names) fet.terminals side both.1 h);
+        terminal_nodes = λ side h. In-from_list_any bytes_eq bytes_eq-Decides side.node draft.names
+            (list_all-In (λ (s : TermRec). is_among s.node draft.names) fet.terminals side both.1 h);
         lengths = new.lengths;
       });
       merges = is.merges;

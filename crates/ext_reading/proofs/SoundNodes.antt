@@ -6,10 +6,11 @@ use Rattle.std.specs.List.{list_any, position, before_first}
 use Rattle.std.specs.Str.{bytes_eq}
 use Rattle.std.proofs.lemmas.Grind.{flat_map-append}
 use Rattle.std.proofs.lemmas.List.Quantifiers.{position-Some}
+use Rattle.std.proofs.lemmas.Slice.Eq.{bytes_eq-Decides}
 use Rattle.finite_sets.specs.Lists.{In, Distinct}
 use Rattle.finite_sets.proofs.Members.{In-append_left, In-push, In-push_cases, In-get_or}
 use Rattle.finite_sets.proofs.Distincts.{Distinct-push, In-cut, In-cut_cases, In-cut_rest}
-use Rattle.finite_sets.proofs.Searches.{All-from_In}
+use Rattle.finite_sets.proofs.Searches.{All-from_In, absent-from_list_any}
 use Rattle.ext_model.specs.declared.records.NodeRec.{NodeRec}
 use Rattle.ext_model.specs.declared.records.FetRec.{FetRec}
 use Rattle.ext_model.specs.declared.records.MergeRec.{MergeRec}
@@ -23,7 +24,6 @@ use Rattle.ext_reading.specs.Ranges.{short_in, measure_in, measures_in}
 use Rattle.ext_reading.specs.Drafts.{Draft, is_among}
 use Rattle.ext_reading.specs.Drafts.{node_from, with_node, takes_node, named_too, with_alias_at, with_alias, takes_alias, takes_equiv}
 use Rattle.ext_reading.specs.Drafts.{leads}
-use Rattle.ext_reading.proofs.NameLaws.{not_In-is_among}
 use Rattle.ext_reading.proofs.Outcomes.{OkHas, next_has, given_has, failed_has, Each, each_push}
 use Rattle.ext_reading.proofs.LawfulLines.{IsFormedNode}
 use Rattle.ext_reading.proofs.LawfulDrafts.{short_in-Ok, measure_in-has, AreCounted, measures_in-has}
@@ -94,7 +94,8 @@ node_names_sound nodes names owners node is alone new =
             | inl there ↦ In-append_left name names (node.name ∷ []) (is.listed name there)
             | inr e ↦ subst (λ (n : List ℕ). In n (names ++ node.name ∷ [])) e (In-push names node.name)
           ];
-      differ = subst P (sym more) (Distinct-push (names_in nodes) node.name is.differ (λ h. not_In-is_among node.name names new (is.listed node.name h)));
+      differ = subst P (sym more) (Distinct-push (names_in nodes) node.name is.differ
+          (λ h. absent-from_list_any bytes_eq bytes_eq-Decides node.name names new (is.listed node.name h)));
       count = omega (arith, is.count, length-append owners (length nodes ∷ []), length-append names (node.name ∷ []));
       within = each_push (λ owner. owner < length (nodes ++ node ∷ [])) owners (length nodes)
           (λ owner h. let below = is.within owner h in omega (arith, below, length-append nodes (node ∷ []))) (omega (arith, length-append nodes (node ∷ [])));
@@ -235,7 +236,7 @@ alias_names_sound classes nodes names owners k alias is below new at =
             | inr there ↦ In-append_left name names (alias ∷ []) (is.listed name (subst (λ l. In' name l) (sym at.old) there))
           ];
       differ = subst Distinct (sym at.new) (distinct_more front back alias (subst Distinct at.old is.differ)
-          (λ h. not_In-is_among alias names new (is.listed alias (subst (λ l. In' alias l) (sym at.old) h))));
+          (λ h. absent-from_list_any bytes_eq bytes_eq-Decides alias names new (is.listed alias (subst (λ l. In' alias l) (sym at.old) h))));
       count = omega (arith, is.count, length-append owners (k ∷ []), length-append names (alias ∷ []));
       within = each_push (λ owner. owner < length (with_alias_at k nodes alias)) owners k
           (λ owner h. let there = is.within owner h in omega (arith, there, at.count)) (omega (arith, below, at.count));

@@ -5,9 +5,11 @@ use Rattle.std.specs.Prelude.{nat_lt, sum_by}
 use Rattle.std.specs.Int.RustNames.{unsigned_abs}
 use Rattle.std.specs.List.{flat_map}
 use Rattle.std.proofs.lemmas.List.{map-append}
+use Rattle.std.proofs.lemmas.Slice.Eq.{bytes_eq-Decides}
+use Rattle.std.specs.Str.{bytes_eq}
 use Rattle.finite_sets.specs.Lists.{In, Distinct}
 use Rattle.finite_sets.proofs.Distincts.{Distinct-push}
-use Rattle.finite_sets.proofs.Searches.{All-from_In}
+use Rattle.finite_sets.proofs.Searches.{All-from_In, absent-from_list_any}
 use Rattle.ext_model.specs.declared.limits.TheConstants.{MOST_CLASSES, LENGTHS_EDGE}
 use Rattle.ext_model.specs.declared.records.UseRec.{UseRec}
 use Rattle.ext_model.specs.declared.records.NodeRec.{NodeRec}
@@ -25,7 +27,6 @@ use Rattle.ext_reading.specs.Parts.{is_path}
 use Rattle.ext_reading.specs.Ranges.{class_values_in, six_in}
 use Rattle.ext_reading.specs.Drafts.{Draft, is_among, is_incomplete, was_seen, with_seen, is_other_version, with_header, takes_header, with_use, takes_use}
 use Rattle.ext_reading.specs.Drafts.{leads}
-use Rattle.ext_reading.proofs.NameLaws.{not_In-is_among}
 use Rattle.ext_reading.proofs.Outcomes.{OkHas, next_has, passed_has, failed_has, Each, each_none, each_push}
 use Rattle.ext_reading.proofs.LawfulLines.{IsFormedHeader, IsFormedUse}
 use Rattle.ext_reading.proofs.LawfulDrafts.{AreCounted, class_values_in-has, six_in-has, IsPoint}
@@ -208,7 +209,7 @@ use_sound elements draft element is lawful new = record {
   no_merges = is.no_merges;
   uses = each_push IsLawfulUse draft.uses element is.uses lawful;
   ids = ap (λ l. l ++ element.id ∷ []) is.ids ∙ sym (map-append (λ (e : UseRec). e.id) draft.uses (element ∷ []));
-  ids_differ = Distinct-push draft.ids element.id is.ids_differ (not_In-is_among element.id draft.ids new);
+  ids_differ = Distinct-push draft.ids element.id is.ids_differ (absent-from_list_any bytes_eq bytes_eq-Decides element.id draft.ids new);
   nodes = is.nodes;
   names = is.names;
   fets = is.fets;

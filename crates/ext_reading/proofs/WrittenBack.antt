@@ -6,6 +6,7 @@ use Rattle.std.specs.List.{AllByRecursion, flat_map}
 use Rattle.std.proofs.lemmas.List.{map-append, length-map}
 use Rattle.finite_sets.specs.Lists.{In}
 use Rattle.finite_sets.proofs.Members.{In-append_left, In-append_right, In-map, In-map_source}
+use Rattle.finite_sets.proofs.Searches.{AllByRecursion-append}
 use Rattle.text_scan.specs.Decimal.{decimal}
 use Rattle.text_scan.specs.Lines.{lines_of}
 use Rattle.text_scan.specs.Written.{IsWord, IsLine, line_of}
@@ -37,10 +38,6 @@ use Rattle.ext_reading.proofs.WrittenRecords.{written_uses, written_nodes, writt
 abbrev AreWords : List (List ℕ) → Type 0
 AreWords words = AllByRecursion IsWord words
 
-all_append : {X : Type 0} (P : X → Type 0) (xs ys : List X) → AllByRecursion P xs → AllByRecursion P ys → AllByRecursion P (xs ++ ys)
-all_append P [] ys one two = two
-all_append P (x ∷ xs) ys one two = (one.0, all_append P xs ys one.1 two)
-
 all_map : {X Y : Type 0} (P : Y → Type 0) (Q : X → Type 0) (f : X → Y) (xs : List X) → AllByRecursion Q xs → ((x : X) → Q x → P (f x))
     → AllByRecursion P (map f xs)
 all_map P Q f [] all each = tt
@@ -51,8 +48,11 @@ words_named classes [] all = tt
 words_named classes (n ∷ nodes) all =
     let is = all.0 in
     let others = all_map AreWords (λ alias. is_node_name alias ≡ true) (equiv_words n.name) n.aliases is.aliases_are
-    (λ a named. words_equiv n.name a is.node_is.name named) in
-    (words_node n is.node_is, all_append AreWords (map (equiv_words n.name) n.aliases) (flat_map node_lines nodes) others (words_named classes nodes all.1))
+    (λ a named. words_equiv n.name a is.node_is.name named) in (
+      words_node n is.node_is,
+      AllByRecursion-append AreWords (map (equiv_words n.name) n.aliases) (flat_map node_lines nodes) others
+          (words_named classes nodes all.1),
+    )
 
 header_lines : (tech classes : List ℕ) → is_word tech ≡ true → AllByRecursion AreWords (header_words tech classes)
 header_lines tech classes named =
@@ -83,10 +83,10 @@ all_lines ext is =
     let joins = written_merges ext (element_names ext) is (λ id h. h) in
     let merges = all_map AreWords (IsWrittenJoin ext.classes (element_names ext) (node_names ext)) merge_words ext.merges joins
     (λ m one. words_merge m one.merge_is) in
-    all_append AreWords (header_words ext.tech ext.classes) _ (header_lines ext.tech ext.classes is.lawful.tech)
-    (all_append AreWords (map use_words ext.uses) _ (use_lines ext (written_uses ext is))
-    (all_append AreWords (flat_map node_lines ext.nodes) _ (words_named ext.classes ext.nodes (written_nodes ext is))
-    (all_append AreWords (map fet_words ext.fets) (map merge_words ext.merges) fets merges)))
+    AllByRecursion-append AreWords (header_words ext.tech ext.classes) _ (header_lines ext.tech ext.classes is.lawful.tech)
+    (AllByRecursion-append AreWords (map use_words ext.uses) _ (use_lines ext (written_uses ext is))
+    (AllByRecursion-append AreWords (flat_map node_lines ext.nodes) _ (words_named ext.classes ext.nodes (written_nodes ext is))
+    (AllByRecursion-append AreWords (map fet_words ext.fets) (map merge_words ext.merges) fets merges)))
 
 lines_written : (ext : CellExt) → IsReadable ext → lines_of (ext_text ext) ≡ map line_of (ext_lines ext)
 unfolding lines_text

@@ -5,9 +5,12 @@ use Rattle.std.specs.Prelude.{codes, fold, All}
 use Rattle.std.specs.Int.{w32}
 use Rattle.std.specs.List.{AllByRecursion, flat_map}
 use Rattle.std.proofs.lemmas.List.{map-append}
+use Rattle.std.proofs.lemmas.Slice.Eq.{bytes_eq-Decides}
+use Rattle.std.specs.Str.{bytes_eq}
 use Rattle.finite_sets.specs.Lists.{In, Distinct}
 use Rattle.finite_sets.proofs.Members.{In-append_left, In-push}
 use Rattle.finite_sets.proofs.Distincts.{Distinct-cut, Distinct-append_left}
+use Rattle.finite_sets.proofs.Searches.{In-from_list_any}
 use Rattle.text_scan.specs.PlainNames.{is_plain_name}
 use Rattle.text_scan.specs.Words.{words_of}
 use Rattle.text_scan.specs.Written.{IsWord, line_of}
@@ -30,8 +33,7 @@ use Rattle.ext_reading.specs.declared.outlines.Outline.{Outline}
 use Rattle.ext_reading.specs.LineForms.{words_say, use_line}
 use Rattle.ext_reading.specs.Drafts.{Draft, is_among, leads, has_its_nodes, step}
 use Rattle.ext_reading.specs.ExtTexts.{with_name, with_element_said, with_words, with_element}
-use Rattle.ext_reading.proofs.OrientationLaws.{is_orientation-six_of}
-use Rattle.ext_reading.proofs.NameLaws.{In-is_among}
+use Rattle.geo_core.proofs.OrientationLaws.{is_orientation-six_of}
 use Rattle.ext_reading.proofs.OutlineLaws.{kept_words}
 use Rattle.ext_reading.proofs.Outcomes.{Each, each_of_All}
 use Rattle.ext_reading.proofs.SoundRecords.{names_in}
@@ -262,7 +264,7 @@ added_name : (names : List (List ℕ)) (name : List ℕ) → In name (with_name 
 added_name names name = step (is_among name names) refl
   where
     step : (t : Bool) → is_among name names ≡ t → In name (cond t names (names ++ name ∷ []))
-    step true is = In-is_among name names is
+    step true is = In-from_list_any bytes_eq bytes_eq-Decides name names is
     step false is = In-push names name
 
 kept_elements : (known : List (List ℕ)) (lines : List (List ℕ)) → Each (λ n. In n (fold with_element known lines)) known

@@ -7,20 +7,19 @@ use Rattle.std.specs.List.{list_all, list_any, count_by, slice_split, before_fir
 use Rattle.std.specs.Str.{bytes_eq}
 use Rattle.std.proofs.Math.Seq.{take-append_seam, get_or-append_seam}
 use Rattle.std.proofs.Math.ListN.{get_or-append}
-use Rattle.std.proofs.lemmas.Bool.{and_parts, cases_Bool}
+use Rattle.std.proofs.lemmas.Bool.{and_parts}
 use Rattle.std.proofs.lemmas.Bool.Decides.{nat_tests}
 use Rattle.std.proofs.lemmas.List.Folds.{list_any_none, list_any-append, list_all-append}
 use Rattle.std.proofs.lemmas.List.Splits.{slice_split_none, slice_split_at}
 use Rattle.std.proofs.lemmas.List.Sums.{position_or_len_is, sum_by-cons}
 use Rattle.std.proofs.lemmas.Slice.Eq.{bytes_eq-Decides}
 use Rattle.finite_sets.specs.Lists.{In}
-use Rattle.finite_sets.proofs.Searches.{All-from_In}
+use Rattle.finite_sets.proofs.Searches.{All-from_In, list_any-of_absent}
 use Rattle.ext_model.specs.declared.names.TheConstants.{SLASH}
 use Rattle.ext_model.specs.NodeNames.{is_word_byte, is_word, slashes_in, is_node_name}
 use Rattle.ext_model.specs.Paths.{path_text}
 use Rattle.ext_reading.specs.Parts.{is_slash, is_path}
 use Rattle.ext_reading.specs.Drafts.{is_among, leads}
-use Rattle.ext_reading.proofs.NameLaws.{In-is_among}
 use Rattle.ext_reading.proofs.Outcomes.{Each}
 use Rattle.ext_reading.proofs.WrittenWords.{word_bytes, node_name_word}
 
@@ -35,7 +34,7 @@ is_among-In name (n ∷ names) (inr h) = later (bytes_eq name n) (is_among-In na
     later false e = e
 
 pub is_among-not : (name : List ℕ) (names : List (List ℕ)) → (In name names → ⊥) → is_among name names ≡ false
-is_among-not name names absent = elim (cases_Bool (is_among name names)) [ inl there ↦ absurd (absent (In-is_among name names there)) | inr e ↦ e ]
+is_among-not name names absent = list_any-of_absent bytes_eq bytes_eq-Decides name names absent
 
 -- the name of a node has no slash
 no_slash_in : (name : List ℕ) → count_by is_slash name ≡ 0 → Each (λ byte. is_slash byte ≡ false) name

@@ -5,6 +5,7 @@ use Rattle.std.specs.Int.{w32}
 use Rattle.std.specs.List.{AllByRecursion, list_all}
 use Rattle.finite_sets.specs.Lists.{In}
 use Rattle.finite_sets.proofs.Members.{In-append_cases, In-map_source}
+use Rattle.finite_sets.proofs.Searches.{list_all-from_In}
 use Rattle.ext_model.specs.declared.records.UseRec.{UseRec}
 use Rattle.ext_model.specs.declared.records.NodeRec.{NodeRec}
 use Rattle.ext_model.specs.declared.records.TermRec.{TermRec}
@@ -73,11 +74,6 @@ names_named classes (node ∷ nodes) all = λ n h. elim (In-append_cases n (name
 pub node_names_named : (ext : CellExt) → IsLawful ext → Each IsName (node_names ext)
 node_names_named ext is = names_named (length ext.classes) ext.nodes (each_of_All (IsLawfulNode (length ext.classes)) ext.nodes is.nodes)
 
--- transistors
-all_true : {X : Type 0} (test : X → Bool) (xs : List X) → ((x : X) → In x xs → test x ≡ true) → list_all test xs ≡ true
-all_true test [] each = refl
-all_true test (x ∷ xs) each = ap (λ (t : Bool). t && list_all test xs) (each x (inl refl)) ∙ all_true test xs (λ y h. each y (inr h))
-
 written_term : (ext : CellExt) (side : TermRec) → IsLawful ext → IsLawfulTerm ext side → IsWrittenTerm side
 written_term ext side lawful is = (node_names_named ext lawful side.node is.node, is.length)
 
@@ -97,7 +93,7 @@ written_fet ext fet lawful is =
         terminals = by_recursion IsWrittenTerm fet.terminals (λ side h. written_term ext side lawful (terminals side h));
       },
       ap (λ (t : Bool). t && list_all (λ side. is_among side.node (node_names ext)) fet.terminals) (is_among-In fet.gate.node (node_names ext) is.gate.node)
-          ∙ all_true (λ (side : TermRec). is_among side.node (node_names ext)) fet.terminals
+          ∙ list_all-from_In (λ (side : TermRec). is_among side.node (node_names ext)) fet.terminals
           (λ side h. is_among-In side.node (node_names ext) (terminals side h).node),
     )
 

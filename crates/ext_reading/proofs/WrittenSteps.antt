@@ -21,13 +21,14 @@ use Rattle.ext_model.specs.declared.records.UseRec.{UseRec}
 use Rattle.ext_model.specs.declared.records.NodeRec.{NodeRec}
 use Rattle.ext_model.specs.declared.records.FetRec.{FetRec}
 use Rattle.ext_model.specs.declared.records.MergeRec.{MergeRec}
+use Rattle.geo_core.specs.Orientation.{is_orientation}
 use Rattle.ext_reading.specs.declared.limits.TheConstants.{MOST_USES}
 use Rattle.ext_reading.specs.declared.lines.Seen.{Seen}
 use Rattle.ext_reading.specs.declared.lines.ExtLine.{ExtLine}
 use Rattle.ext_reading.specs.declared.lines.ExtLine.TheVariants.{Use, Node, Equiv, Fet, Merge}
 use Rattle.ext_reading.specs.declared.outlines.Outline.{Outline}
 use Rattle.ext_reading.specs.LineForms.{words_say}
-use Rattle.ext_reading.specs.Ranges.{is_orientation, six_in, measures_in, point_in, terms_from}
+use Rattle.ext_reading.specs.Ranges.{six_in, measures_in, point_in, terms_from}
 use Rattle.ext_reading.specs.Drafts.{Draft, is_among, takes, node_from, named_too, no_node, with_alias_at, takes_equiv}
 use Rattle.ext_reading.specs.Drafts.{fet_from, has_its_nodes, leads, merge_from, step}
 use Rattle.ext_reading.proofs.WrittenWords.{short_in-short, measure_in-measure, numerals_of, length-numerals_of, measures_from-numerals, side_said}

@@ -1,13 +1,9 @@
 -- The numbers of a circuit file within their ranges.
 use Rattle.std.specs.Prelude.{◌&&◌, ◌^◌, nat_le, nat_lt, ℕ, ℤ, pos, neg_ℤ, int_le, int_lt, Bool, if◌then◌else◌, List, [], ◌∷◌, ◌++◌, length, Option}
 use Rattle.std.specs.Prelude.{Some, None, Result, Ok, Err}
-use Rattle.std.specs.List.{list_any}
-use Rattle.std.specs.Ordering.{int_eq}
 use Rattle.std.specs.Int.RustNames.{unsigned_abs}
 use Rattle.text_form.specs.SaidLines.{and_then}
-use Rattle.geo_core.specs.declared.orients.Orient.{Orient}
-use Rattle.geo_core.specs.declared.orients.Orient.TheVariants.{R0, R90, R180, R270, Mx, My, Mx90, My90}
-use Rattle.geo_core.specs.Orientation.{matrix}
+use Rattle.geo_core.specs.Orientation.{is_orientation}
 use Rattle.ext_model.specs.declared.limits.TheConstants.{MOST_CLASSES, MEASURE_EDGE}
 use Rattle.ext_model.specs.declared.records.TermRec.{TermRec}
 use Rattle.ext_reading.specs.declared.faults.ExtReadFault.{ExtReadFault}
@@ -60,18 +56,6 @@ class_values_from values (numeral ∷ numerals) = and_then (class_value_in numer
 -- the values of no more classes than a record may have
 abbrev pub class_values_in : List (Option ℤ) → Result (List ℕ) ExtReadFault
 class_values_in numerals = if nat_le (length numerals) MOST_CLASSES then class_values_from [] numerals else Err Range
-
-abbrev pub all_orients : List Orient
-all_orients = R0 ∷ R90 ∷ R180 ∷ R270 ∷ Mx ∷ My ∷ Mx90 ∷ My90 ∷ []
-
--- the orientation has these factors
-abbrev pub has_factors : ℤ → ℤ → ℤ → ℤ → Orient → Bool
-has_factors a b d e orient =
-    int_eq a (matrix orient).a && int_eq b (matrix orient).b && int_eq d (matrix orient).d && int_eq e (matrix orient).e
-
--- one of the eight orientations has these factors
-unfoldable pub is_orientation : ℤ → ℤ → ℤ → ℤ → Bool
-is_orientation a b d e = list_any (has_factors a b d e) all_orients
 
 abbrev pub if_orientation : ℤ → ℤ → ℤ → ℤ → ℤ → ℤ → Result (List ℤ) ExtReadFault
 if_orientation a b c d e f = if is_orientation a b d e then Ok (a ∷ b ∷ c ∷ d ∷ e ∷ f ∷ []) else Err Transform

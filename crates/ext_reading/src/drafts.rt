@@ -19,8 +19,8 @@ use crate::parts::put;
 use crate::ranges::{class_values_in, six_in};
 use crate::records::{fet_from, merge_from, name_node_too, node_from};
 use ext_model::{CellExt, FetRec, MergeRec, NodeRec, UseRec};
-use geo_core::{List, Name};
 use name_index::NameIndex;
+use names_lists::{List, Name};
 use std::alloc::{AllocError, Global};
 use std::marker::Model;
 

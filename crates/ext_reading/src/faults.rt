@@ -1,6 +1,5 @@
 //! Why a circuit file is not read.
 
-use geo_core::GeoFault;
 use std::alloc::AllocError;
 use text_form::At;
 use thiserror::Error;
@@ -46,17 +45,6 @@ impl From<AllocError> for ExtReadFault {
     ghost from_gives = { λ _ fault. fault ≡ Memory };
 
     fn from(_error: AllocError) -> ExtReadFault {
-        ExtReadFault::Memory
-    }
-}
-
-impl From<GeoFault> for ExtReadFault {
-    ghost use Rattle.std.specs.Prelude.{◌≡◌};
-    ghost use Rattle.ext_reading.specs.declared.faults.ExtReadFault.TheVariants.{Memory};
-
-    ghost from_gives = { λ _ fault. fault ≡ Memory };
-
-    fn from(_fault: GeoFault) -> ExtReadFault {
         ExtReadFault::Memory
     }
 }

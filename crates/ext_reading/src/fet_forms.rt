@@ -6,7 +6,7 @@ ghost use Rattle.ext_reading.specs.LineForms.{side_in, sides_from, are_corners, 
 use crate::faults::ExtReadFault;
 use crate::lines::{Corners, ExtLine, FetLine, SideLine};
 use crate::parts::{is_next, node_name_in, numeral_in, put, substrate_in, word_in};
-use geo_core::{List, Name};
+use names_lists::{List, Name};
 use std::alloc::Global;
 use text_scan::Words;
 

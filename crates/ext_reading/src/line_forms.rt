@@ -11,7 +11,7 @@ use crate::fet_forms::fet_line;
 use crate::header_forms::{classes_line, tech_line, version_line};
 use crate::lines::{ExtLine, HeaderLine, MergeLine, NodeLine, Numeral, Six, UseLine};
 use crate::parts::{cell_in, element_in, node_name_in, numeral_in, numerals_in, path_in, word_in};
-use geo_core::List;
+use names_lists::List;
 use std::alloc::Global;
 use text_scan::{Words, words};
 

@@ -1,6 +1,6 @@
 //! What a line of a circuit file says by itself.
 
-use geo_core::{List, Name};
+use names_lists::{List, Name};
 
 /// A decimal number, or nothing where 128 bits do not hold it. What its range is counts only once the whole line has a form.
 pub type Numeral = Option<i128>;

@@ -9,7 +9,7 @@ ghost use Rattle.ext_reading.specs.Parts.{node_name_in, path_in, numeral_in, num
 use crate::faults::ExtReadFault;
 use crate::lines::Numeral;
 use ext_model::SLASH;
-use geo_core::{List, Name};
+use names_lists::{List, Name};
 use std::alloc::{AllocError, Global};
 use text_scan::{NumFault, Words, is_plain_name, wide};
 

@@ -3,14 +3,15 @@ ghost use Rattle.std.specs.Prelude.{◌≡◌, ◌≢◌, [], ◌∷◌, Ok, Err
 ghost use Rattle.ext_reading.specs.declared.faults.ExtReadFault.TheVariants.{Memory as OutOfMemory};
 ghost use Rattle.ext_reading.specs.Ranges.{is_short, short_in, measure_in, pair_in, measures_in, class_value_of, class_value_in, class_values_from};
 ghost use Rattle.ext_reading.specs.Ranges.{class_values_in};
-ghost use Rattle.ext_reading.specs.Ranges.{is_orientation, if_orientation, six_in, point_in, term_in, terms_from};
+ghost use Rattle.ext_reading.specs.Ranges.{if_orientation, six_in, point_in, term_in, terms_from};
 
 use crate::faults::ExtReadFault;
 use crate::limits::GREATEST_CLASS_VALUE;
 use crate::lines::{Corners, Numeral, SideLine, Six};
 use crate::parts::put;
 use ext_model::{MEASURE_EDGE, MOST_CLASSES, TermRec};
-use geo_core::{List, Transform};
+use geo_core::Orient;
+use names_lists::List;
 use std::alloc::Global;
 
 fn is_short(value: i128) -> bool
@@ -121,19 +122,10 @@ pub fn class_values_in(alloc: Global, numerals: &[Numeral]) -> Result<List<u64>,
     }
 }
 
-fn is_orientation(a: i64, b: i64, d: i64, e: i64) -> bool
-    ensures { result ≡ is_orientation a b d e }
-{
-    match Transform::of_six([a, b, 0, d, e, 0]) {
-        Some(_) => true,
-        None => false,
-    }
-}
-
 fn if_orientation(a: i64, b: i64, c: i64, d: i64, e: i64, f: i64) -> Result<[i64; 6], ExtReadFault>
     ensures { result ≡ if_orientation a b c d e f }
 {
-    if is_orientation(a, b, d, e) {
+    if Orient::of_matrix(a, b, d, e).is_some() {
         Ok([a, b, c, d, e, f])
     } else {
         Err(ExtReadFault::Transform)

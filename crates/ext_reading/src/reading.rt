@@ -10,7 +10,7 @@ use crate::faults::{ExtAt, ExtReadFault};
 use crate::line_forms::says;
 use crate::outlines::{Outline, outline_of};
 use ext_model::CellExt;
-use geo_core::Name;
+use names_lists::Name;
 use std::alloc::Global;
 use text_form::{At, LineReader, read_text};
 

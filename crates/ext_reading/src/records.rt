@@ -8,7 +8,7 @@ use crate::lines::{FetLine, MergeLine, NodeLine};
 use crate::parts::put;
 use crate::ranges::{measure_in, measures_in, point_in, short_in, term_in, terms_in};
 use ext_model::{FetRec, MergeRec, NodeRec};
-use geo_core::{List, Name};
+use names_lists::{List, Name};
 use std::alloc::{AllocError, Global};
 use std::mem;
 

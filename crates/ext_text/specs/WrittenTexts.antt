@@ -1,6 +1,5 @@
 -- Circuit files as they are written.
 use Rattle.std.specs.Prelude.{◌≡◌, ◌<◌, ℕ, ℤ, pos, ◌+ℤ◌, List, [], ◌∷◌, ◌++◌, length, map, flat_map, codes}
-use Rattle.geo_core.specs.declared.limits.Limit.TheVariants.{Text}
 use Rattle.text_scan.specs.Decimal.{decimal}
 use Rattle.text_scan.specs.Written.{line_of, text_of}
 use Rattle.ext_model.specs.declared.records.UseRec.{UseRec}
@@ -11,7 +10,7 @@ use Rattle.ext_model.specs.declared.records.MergeRec.{MergeRec}
 use Rattle.ext_model.specs.declared.records.CellExt.{CellExt}
 use Rattle.ext_model.specs.declared.circuits.Circuit.{Circuit}
 use Rattle.ext_text.specs.declared.faults.ExtFault.{ExtFault}
-use Rattle.ext_text.specs.declared.faults.ExtFault.TheVariants.{TooMany}
+use Rattle.ext_text.specs.declared.faults.ExtFault.TheVariants.{TooLong}
 use Rattle.ext_text.specs.declared.limits.TheConstants.{LONGEST_TEXT}
 use Rattle.ext_text.specs.NodeLines.{quoted, measure_words, node_words}
 
@@ -74,4 +73,4 @@ flat_text circuit = lines_text (flat_lines circuit)
 
 -- the fault of a text that is longer than a flat file may be
 abbrev pub IsTooLong : ExtFault → List ℕ → Type 0
-IsTooLong fault text = (fault ≡ TooMany Text) × (LONGEST_TEXT < length text)
+IsTooLong fault text = (fault ≡ TooLong) × (LONGEST_TEXT < length text)

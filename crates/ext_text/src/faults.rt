@@ -1,15 +1,14 @@
 //! Why a circuit file is refused.
 
-use geo_core::Limit;
 use std::alloc::AllocError;
 use thiserror::Error;
 
 /// Why a circuit file is not written.
 #[derive(Clone, Copy, Debug, PartialEq, Eq, Error)]
 pub enum ExtFault {
-    /// There would be too many bytes in the text.
-    #[error("too many")]
-    TooMany(Limit),
+    /// The text would have too many bytes.
+    #[error("too long")]
+    TooLong,
     #[error("out of memory")]
     Memory,
 }

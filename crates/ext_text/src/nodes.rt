@@ -6,7 +6,7 @@ ghost use Rattle.ext_text.specs.WrittenTexts.{equiv_words};
 
 use crate::words::{append_coordinate, append_measures, append_number, append_quoted, append_word};
 use ext_model::NodeRec;
-use geo_core::Name;
+use names_lists::Name;
 use std::alloc::AllocError;
 
 /// Puts the line of a node, `node "NAME" 0 C x y TYPE a1 p1 .. aN pN` without an end of line, at the end of a text. Want of

@@ -8,7 +8,7 @@ use crate::words::{
     append_quoted, append_values, append_word,
 };
 use ext_model::{FetRec, MergeRec, TermRec, UseRec};
-use geo_core::Name;
+use names_lists::Name;
 use std::alloc::AllocError;
 
 /// Puts the lines of a header at the end of a text.

@@ -8,7 +8,7 @@ use crate::limits::LONGEST_TEXT;
 use crate::nodes::{write_alias, write_node};
 use crate::records::{write_fet, write_header, write_merge, write_use};
 use ext_model::{CellExt, Circuit, FetRec, MergeRec, NodeRec, UseRec};
-use geo_core::{Limit, Name};
+use names_lists::Name;
 use std::alloc::{AllocError, Global};
 
 fn write_uses(out: &mut Vec<u8>, uses: &[UseRec]) -> Result<(), AllocError>
@@ -77,7 +77,7 @@ fn check_length(text: &[u8]) -> Result<(), ExtFault>
     ensures refused { IfErr result (λ fault. IsTooLong fault text.now) }
 {
     if text.len() > LONGEST_TEXT {
-        return Err(ExtFault::TooMany(Limit::Text));
+        return Err(ExtFault::TooLong);
     }
     Ok(())
 }
@@ -137,7 +137,7 @@ fn write_circuit(out: &mut Vec<u8>, circuit: &Circuit) -> Result<(), ExtFault>
 ///
 /// # Errors
 ///
-/// `TooMany(Limit::Text)` exactly where the text is longer than `LONGEST_TEXT` bytes, which is found before more memory is taken than that
+/// `TooLong` exactly where the text is longer than `LONGEST_TEXT` bytes, which is found before more memory is taken than that
 /// and a line; or want of memory.
 pub fn write_flat(alloc: Global, circuit: &Circuit) -> Result<Vec<u8>, ExtFault>
     ensures written { IfOk result (λ text. text.items ≡ flat_text circuit.now) }

@@ -3,6 +3,7 @@ use Rattle.std.proofs.Common.{arith, ◌≡◌, ◌≢◌, ℕ, ◌<◌, pos, Bo
 use Rattle.std.specs.Prelude.{slice_index}
 use Rattle.std.proofs.lemmas.Bool.Decides.{nat_tests}
 use Rattle.std.proofs.lemmas.Option.{get_or_from_slice_get}
+use Rattle.std.proofs.lemmas.Bool.{and_parts}
 use Rattle.finite_sets.specs.Lists.{Lists}
 use Rattle.finite_sets.specs.Total.{sum_on, Total}
 use Rattle.finite_sets.proofs.Chains.{Chain-push, Chain-keeps}
@@ -21,7 +22,7 @@ use Rattle.flood_nodes.specs.TileShares.{no_tile, tile_at, indices_of, IsTileCon
 use Rattle.flood_nodes.proofs.EdgeTotals.{contacts_count_edges}
 use Rattle.flood_nodes.proofs.OpenEdges.{tiles_count, contacts_close_edges}
 use Rattle.flood_nodes.proofs.ShareLaws.{one_plane}
-use Rattle.flood_nodes.proofs.StackLaws.{same_from_test, both_pass}
+use Rattle.flood_nodes.proofs.StackLaws.{same_from_test}
 use Rattle.fet_regions.proofs.AlikeTiles.{AreLabelled}
 
 not_zero : (m : ℕ) → m ≢ 0 → eqb 0 m ≡ false
@@ -89,7 +90,7 @@ module _ (raw : RawTech) (layout : Layout) (tiles : List RegionTile) (contacts :
 
   tiles_in_channel : (p : Place) → IsInTiles tiles from p → AreOneChannel layout place p
   tiles_in_channel p h =
-      let tests = both_pass (eqb (tile_at tiles h.index).kind.0 kind) (eqb (slice_index labels h.index) label) h.passes in
+      let tests = and_parts (eqb (tile_at tiles h.index).kind.0 kind) (eqb (slice_index labels h.index) label) h.passes in
       (labelled index h.index place p lies h.lies).0 (sym (same_from_test (slice_index labels h.index) label tests.1))
 
   -- a neighbour is outside where it has another type
@@ -112,7 +113,7 @@ module _ (raw : RawTech) (layout : Layout) (tiles : List RegionTile) (contacts :
 
   beside : (region : ℕ) (b : Place) → IsInTiles tiles (is_terminal_of raw tiles kind region) b → IsTerminalOf raw layout (IsInRegion tiles) kind region b
   beside region b h =
-      let tests = both_pass (is_terminal raw kind (tile_at tiles h.index).kind.0) (eqb (tile_at tiles h.index).region region) h.passes in
+      let tests = and_parts (is_terminal raw kind (tile_at tiles h.index).kind.0) (eqb (tile_at tiles h.index).region region) h.passes in
       record {
         listed = ap (is_terminal raw kind) (sym (tile_kind h.index b h.lies)) ∙ tests.0;
         owned = record {
@@ -145,7 +146,7 @@ module _ (raw : RawTech) (layout : Layout) (tiles : List RegionTile) (contacts :
         (LeadsAcross (AreOneChannel layout place) (λ p. AreOneChannel layout place p → ⊥)) (λ e. pos 1)
         (open_by_contacts tiles contacts from (is_of tiles (λ t. eqb t kind))) outside inside_out
         (contacts_close_edges layout tiles contacts (λ t. eqb t kind) from are listed (not_zero kind material)
-        (λ i passes. (both_pass (eqb (tile_at tiles i).kind.0 kind) (eqb (slice_index labels i) label) passes).0));
+        (λ i passes. (and_parts (eqb (tile_at tiles i).kind.0 kind) (eqb (slice_index labels i) label) passes).0));
     terminals = λ region.
         Total-iff (LeadsAcross (IsInTiles tiles from) (IsInTiles tiles (is_terminal_of raw tiles kind region)))
         (LeadsAcross (AreOneChannel layout place) (IsTerminalOf raw layout (IsInRegion tiles) kind region)) (λ e. pos 1)

@@ -4,7 +4,7 @@ use Rattle.std.proofs.Common.{inl, inr, refl, sym}
 use Rattle.std.proofs.Common.{◌∙◌, ap, subst, arith}
 use Rattle.std.specs.Prelude.{slice_index, Some, None}
 use Rattle.std.specs.List.{list_any}
-use Rattle.std.proofs.lemmas.Bool.{false≢true, cases_Bool}
+use Rattle.std.proofs.lemmas.Bool.{false≢true, cases_Bool, and_parts}
 use Rattle.std.proofs.lemmas.Int.{ints}
 use Rattle.std.proofs.lemmas.Option.{same_Some}
 use Rattle.finite_sets.specs.Lists.{In}
@@ -17,7 +17,7 @@ use Rattle.tech_model.specs.declared.raw.RawTech.{RawTech}
 use Rattle.tech_model.specs.ChannelRoles.{is_terminal}
 use Rattle.layout_model.specs.declared.region_tiles.RegionTile.{RegionTile}
 use Rattle.flood_nodes.specs.TileShares.{tile_at, indices_of, inner_edges, edges_by_contacts}
-use Rattle.flood_nodes.proofs.StackLaws.{same_from_test, both_pass}
+use Rattle.flood_nodes.proofs.StackLaws.{same_from_test}
 use Rattle.fet_regions.specs.Lengths.{parts_beside, parts_of, is_part_of, part_in, summed}
 use Rattle.fet_regions.specs.declared.lengths.Part.{Part}
 use Rattle.fet_regions.proofs.ChannelLaws.{is_of_channel, is_terminal_of}
@@ -58,7 +58,7 @@ module _ (raw : RawTech) (tiles : List RegionTile) (labels : List ℕ) (kind lab
   key = (label, region)
 
   from_kind : (i : ℕ) → from i ≡ true → (tile_at tiles i).kind.0 ≡ kind
-  from_kind i e = same_from_test (tile_at tiles i).kind.0 kind (both_pass (eqb (tile_at tiles i).kind.0 kind) (eqb (slice_index labels i) label) e).0
+  from_kind i e = same_from_test (tile_at tiles i).kind.0 kind (and_parts (eqb (tile_at tiles i).kind.0 kind) (eqb (slice_index labels i) label) e).0
 
   -- no tile of the channel is a terminal
   never_both : (i : ℕ) → (from i && to i) ≡ false

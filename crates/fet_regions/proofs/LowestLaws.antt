@@ -1,12 +1,11 @@
 -- Corners in order, and the first of each label among them.
-use Rattle.std.proofs.Common.{◌≡◌, ◌≢◌, ◌⊎◌, ℕ, ◌+◌, ◌<◌, ◌≤◌, pos, Bool, true, false, cond, List, [], ◌∷◌, ◌++◌, map, filter, length, get_or, inl, inr}
+use Rattle.std.proofs.Common.{◌≡◌, ◌≢◌, ℕ, ◌+◌, ◌<◌, pos, Bool, true, false, cond, List, [], ◌∷◌, ◌++◌, map, filter, length, get_or, inl, inr}
 use Rattle.std.proofs.Common.{refl, sym, ◌∙◌, ap, subst, arith}
 use Rattle.std.proofs.Common.{get_or-set_same, get_or-set_other}
 use Rattle.std.specs.Prelude.{slice_index, AllPairs, IsPermutation, IsSorted, All}
-use Rattle.std.specs.Cmp.{IsTotalOrder, nat_cmp_is}
+use Rattle.std.specs.Cmp.{IsTotalOrder}
 use Rattle.std.specs.List.{range_with_len}
 use Rattle.std.specs.declared.cmp.Ordering.{Ordering}
-use Rattle.std.specs.declared.cmp.Ordering.TheVariants.{Less, Equal}
 use Rattle.std.specs.Ordering.{is_lt, int_cmp, nat_cmp, ordering_then}
 use Rattle.std.proofs.Math.ListN.{set, length-set, replicate}
 use Rattle.std.proofs.lemmas.Bool.{false≢true, cases_eq, cases_lt}
@@ -21,7 +20,7 @@ use Rattle.geo_core.proofs.SquareLaws.{square_is}
 use Rattle.finite_sets.specs.Lists.{In}
 use Rattle.finite_sets.proofs.Members.{In-index, In-get_or, In-map, In-map_source, In-filter, In-filter_source, In-filter_passes, In-permutation, In-push}
 use Rattle.finite_sets.proofs.Members.{In-push_cases, In-append_left}
-use Rattle.finite_sets.proofs.Orders.{ordering_then-not_less, int_then-not_less, less_equal_or_greater, IsSorted-pairs}
+use Rattle.finite_sets.proofs.Orders.{ordering_then-not_less, int_then-not_less, less_equal_or_greater, IsSorted-pairs, nat_then-not_less}
 use Rattle.layout_model.specs.Places.{Place}
 use Rattle.layout_model.specs.declared.region_tiles.RegionTile.{RegionTile}
 use Rattle.flood_nodes.specs.TileShares.{tile_at, indices_of}
@@ -36,25 +35,6 @@ corner_cmp a b = ordering_then (nat_cmp a.plane b.plane) (ordering_then (int_cmp
 corner_cmp_total : IsTotalOrder corner_cmp
 corner_cmp_total = then_total (on_total (λ c. c.plane) nat_cmp_total) (then_total (on_total (λ c. c.y) int_cmp_total)
     (then_total (on_total (λ c. c.x) int_cmp_total) (on_total (λ c. c.tile) nat_cmp_total)))
-
--- of planes that are not in the other order
-nat_then-not_less : (m n : ℕ) (rest : Ordering) → is_lt (ordering_then (nat_cmp n m) rest) ≡ false → (m < n) ⊎ ((m ≡ n) × (is_lt rest ≡ false))
-nat_then-not_less m n rest h = elim (cases_eq m n) [
-  | inl same ↦ inr (same, keeps (nat_cmp n m) (nat_same n m (sym same)) h)
-  | inr differ ↦ inl (above differ (cases_lt m n))
-]
-  where
-    nat_same : (a b : ℕ) → a ≡ b → nat_cmp a b ≡ Equal
-    nat_same a b e = sym (nat_cmp_is a b Equal e)
-
-    keeps : (o : Ordering) → o ≡ Equal → is_lt (ordering_then o rest) ≡ false → is_lt rest ≡ false
-    keeps o e k = subst (λ (p : Ordering). is_lt (ordering_then p rest) ≡ false) e k
-
-    above : m ≢ n → (m < n) ⊎ (n ≤ m) → m < n
-    above differ (inl less) = less
-    above differ (inr le) =
-        let more : n < m = omega (arith, le, differ) in
-        absurd (false≢true (sym (subst (λ (p : Ordering). is_lt (ordering_then p rest) ≡ false) (sym (nat_cmp_is n m Less more)) h)))
 
 -- places of one plane and one square are one
 pub place_same : (a b : Place) → a.plane ≡ b.plane → a.square ≡ b.square → a ≡ b

@@ -12,7 +12,7 @@ use Rattle.std.specs.Cmp.{IsTotalOrder, nat_cmp_is}
 use Rattle.std.specs.List.Sorted.{IsStrictlySortedBy}
 use Rattle.std.specs.Map.{lookup, keys_of}
 use Rattle.std.specs.Ordering.{nat_cmp, ordering_then, is_eq, is_le}
-use Rattle.std.proofs.lemmas.Bool.{cases_eq, cases_lt, false≢true}
+use Rattle.std.proofs.lemmas.Bool.{cases_eq, cases_lt, false≢true, and_parts}
 use Rattle.std.proofs.lemmas.Cmp.{nat_cmp_total, on_total, then_total, eq_by_cmp_equiv}
 use Rattle.std.proofs.lemmas.Int.{ints}
 use Rattle.std.proofs.lemmas.List.{get_or-map, length-map, take_more}
@@ -27,7 +27,7 @@ use Rattle.finite_sets.proofs.Members.{Contains-from_In, In-from_Contains, In-ge
 use Rattle.finite_sets.proofs.Sums.{sum_on-push}
 use Rattle.key_sums.proofs.SumLaws.{Fits, Bounded, bounded_more}
 use Rattle.flood_nodes.proofs.ShareLaws.{one_plane, two_planes}
-use Rattle.flood_nodes.proofs.StackLaws.{same_from_test, both_pass}
+use Rattle.flood_nodes.proofs.StackLaws.{same_from_test}
 use Rattle.fet_regions.specs.Lengths.{is_part_of, part_in, summed, key_cmp, AreTerminals}
 use Rattle.fet_regions.specs.declared.lengths.Part.{Part}
 use Rattle.fet_regions.proofs.LengthLaws.{sum_none}
@@ -64,7 +64,7 @@ key_cmp_total = then_total (on_total (λ q. q.0) nat_cmp_total) (on_total (λ q.
 
 same_key : (a q : ℕ × ℕ) → is_at (key_cmp a) q ≡ true → a ≡ q
 same_key a q e =
-    let tests = both_pass (eqb a.0 q.0) (eqb a.1 q.1) (sym (is_key a q) ∙ e) in
+    let tests = and_parts (eqb a.0 q.0) (eqb a.1 q.1) (sym (is_key a q) ∙ e) in
     λ k. (same_from_test a.0 q.0 tests.0 k, same_from_test a.1 q.1 tests.1 k)
 
 -- the length to a key with one part more
@@ -161,7 +161,7 @@ module _ (label : ℕ) where
   -- and no others
   holds_own : (q : ℕ × ℕ) → in_label q ≡ true → q.0 ≡ label
   holds_own q e =
-      let tests = both_pass (is_le (key_cmp (label, 0) q)) (not (is_le (key_cmp (label + 1, 0) q))) e in
+      let tests = and_parts (is_le (key_cmp (label, 0) q)) (not (is_le (key_cmp (label + 1, 0) q))) e in
       elim (cases_lt q.0 label) [
         | inl less ↦ absurd (false≢true (sym (not_first_of label q.0 q.1 less) ∙ tests.0))
         | inr no_less ↦ (elim (cases_lt label q.0) [

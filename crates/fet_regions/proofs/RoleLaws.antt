@@ -1,11 +1,12 @@
 -- What is a channel or a terminal is a type of the technology, and no channel is its own terminal.
 use Rattle.std.proofs.Common.{◌≡◌, ◌≢◌, ℕ, ◌+◌, ◌<◌, Bool, true, false, eqb, ◌&&◌, List, map, get_or, IsTrue, refl, sym, ◌∙◌, ap, subst, arith, inl, inr, []}
 use Rattle.std.specs.List.{list_any, range_with_len}
-use Rattle.std.proofs.lemmas.Bool.{cases_Bool, cases_lt}
+use Rattle.std.proofs.lemmas.Bool.{cases_Bool, cases_lt, and_parts}
 use Rattle.std.proofs.lemmas.List.{get_or_past}
 use Rattle.std.proofs.lemmas.List.FromFn.{get_or-map-range_with_len, length-map-range_with_len}
 use Rattle.finite_sets.specs.Lists.{In}
 use Rattle.finite_sets.proofs.Members.{In-index}
+use Rattle.finite_sets.proofs.Searches.{list_any-source}
 use Rattle.tech_model.specs.declared.limits.TheConstants.{MOST_TYPES}
 use Rattle.tech_model.specs.declared.raw.FetRule.{FetRule}
 use Rattle.tech_model.specs.declared.raw.RawTech.{RawTech}
@@ -16,8 +17,7 @@ use Rattle.tech_model.specs.WellFormed.{IsFet, IsWellFormed}
 use Rattle.tech_model.proofs.WellFormedLaws.{type_bounds}
 use Rattle.tech_model.proofs.WithinLaws.{fet_no_terminal}
 use Rattle.tech_model.specs.ChannelRoles.{is_channel, is_terminal}
-use Rattle.flood_nodes.proofs.Renumbering.{found_by}
-use Rattle.flood_nodes.proofs.StackLaws.{same_from_test, both_pass}
+use Rattle.flood_nodes.proofs.StackLaws.{same_from_test}
 
 module _ (raw : RawTech) (well : IsWellFormed raw) where
   rule_is : (fet : FetRule) → In fet raw.fets → IsFet raw fet
@@ -26,15 +26,15 @@ module _ (raw : RawTech) (well : IsWellFormed raw) where
   -- channels are of types
   pub channel_type : (kind : ℕ) → is_channel raw kind ≡ true → IsTrue (is_type raw kind)
   channel_type kind e =
-      let x = found_by (λ (fet : FetRule). eqb fet.kind.0 kind) raw.fets e in
+      let x = list_any-source (λ (fet : FetRule). eqb fet.kind.0 kind) raw.fets e in
       subst (λ (k : ℕ). IsTrue (is_type raw k)) (same_from_test x.0.kind.0 kind x.1.1) (rule_is x.0 x.1.0).kind
 
   terminal_rule : (channel kind : ℕ) → is_terminal raw channel kind ≡ true
       → (fet : FetRule) × (In fet raw.fets × ((fet.kind.0 ≡ channel) × ((t : TypeId) × (In t fet.terminals × (t.0 ≡ kind)))))
   terminal_rule channel kind e =
-      let x = found_by (λ (fet : FetRule). eqb fet.kind.0 channel && list_any (λ (t : TypeId). eqb t.0 kind) fet.terminals) raw.fets e in
-      let tests = both_pass (eqb x.0.kind.0 channel) (list_any (λ (t : TypeId). eqb t.0 kind) x.0.terminals) x.1.1 in
-      let y = found_by (λ (t : TypeId). eqb t.0 kind) x.0.terminals tests.1 in
+      let x = list_any-source (λ (fet : FetRule). eqb fet.kind.0 channel && list_any (λ (t : TypeId). eqb t.0 kind) fet.terminals) raw.fets e in
+      let tests = and_parts (eqb x.0.kind.0 channel) (list_any (λ (t : TypeId). eqb t.0 kind) x.0.terminals) x.1.1 in
+      let y = list_any-source (λ (t : TypeId). eqb t.0 kind) x.0.terminals tests.1 in
       (x.0, (x.1.0, (same_from_test x.0.kind.0 channel tests.0, (y.0, (y.1.0, same_from_test y.0.0 kind y.1.1)))))
 
   -- terminals are of types

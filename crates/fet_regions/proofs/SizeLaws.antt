@@ -4,6 +4,7 @@ use Rattle.std.proofs.Common.{◌∙◌, ap}
 use Rattle.std.proofs.Common.{arith}
 use Rattle.std.specs.Prelude.{slice_index}
 use Rattle.std.proofs.lemmas.Int.{ints}
+use Rattle.std.proofs.lemmas.Bool.{and_parts}
 use Rattle.finite_sets.specs.Lists.{In}
 use Rattle.finite_sets.specs.Total.{sum_on, one_if}
 use Rattle.finite_sets.proofs.Sums.{sum_on-append, sum_on-map, sum_on-same}
@@ -14,7 +15,7 @@ use Rattle.rect_contacts.specs.Squares.{area_of, perimeter_of}
 use Rattle.layout_model.specs.declared.region_tiles.RegionTile.{RegionTile}
 use Rattle.flood_nodes.specs.TileShares.{tile_at, indices_of, is_of, open_by_contacts}
 use Rattle.flood_nodes.proofs.ShareLaws.{Lists-indices_of, one_plane}
-use Rattle.flood_nodes.proofs.StackLaws.{same_from_test, both_pass}
+use Rattle.flood_nodes.proofs.StackLaws.{same_from_test}
 use Rattle.fet_regions.specs.Channels.{are_alike}
 use Rattle.fet_regions.specs.Sizes.{area_amount, perimeter_amount, area_amounts, perimeter_amounts, shared_at, shared_amounts}
 use Rattle.fet_regions.proofs.ChannelLaws.{is_of_channel}
@@ -73,7 +74,7 @@ module _ (tiles : List RegionTile) (labels : List ℕ) (kind label : ℕ)
       (same_from_test (tile_at tiles i).kind.0 kind e ∙ sym (same_from_test (tile_at tiles j).kind.0 kind f))
 
   from_of_kind : (i : ℕ) → from i ≡ true → of_kind i ≡ true
-  from_of_kind i e = (both_pass (of_kind i) (eqb (slice_index labels i) label) e).0
+  from_of_kind i e = (and_parts (of_kind i) (eqb (slice_index labels i) label) e).0
 
   contact_sum : (c : Contact) → (c.first < length tiles) × (c.second < length tiles) → sum_of label (shared_at tiles labels c) ≡ pos 0 -ℤ shared c
   contact_sum c within =

@@ -6,7 +6,7 @@ ghost use Rattle.tech_model.specs.ChannelRoles.{is_channel, is_terminal};
 ghost use Rattle.fet_regions.specs.Roles.{channel_in, terminal_in, AreRoles};
 ghost use Rattle.fet_regions.specs.declared.roles.TheConstants.{ROWS};
 
-use geo_core::List;
+use names_lists::List;
 use std::alloc::{AllocError, Global};
 use tech_model::{MOST_TYPES, RawTech, TypeId};
 

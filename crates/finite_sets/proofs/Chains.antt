@@ -31,11 +31,6 @@ pub Chain-map : {X Y : Type 0} {R : X → X → Type 0} {S : Y → Y → Type 0}
 Chain-map f over stay = stay
 Chain-map f over (go {a = a} {b = b} r c) = Chain-append (over a b r) (Chain-map f over c)
 
--- a chain of chains is a chain
-pub Chain-flatten : {X : Type 0} {R : X → X → Type 0} {a b : X} → Chain (Chain R) a b → Chain R a b
-Chain-flatten stay = stay
-Chain-flatten (go c d) = Chain-append c (Chain-flatten d)
-
 -- each step of the one is a chain of the other
 pub Chain-through : {X : Type 0} {R S : X → X → Type 0} → ((a b : X) → R a b → Chain S a b) → {a b : X} → Chain R a b → Chain S a b
 Chain-through over stay = stay
@@ -55,12 +50,6 @@ Chain-keeps f keeps (go {a = a} {b = b} r c) = keeps a b r ∙ Chain-keeps f kee
 pub Chain-carries : {X : Type 0} {R : X → X → Type 0} (P : X → Type 0) → ((a b : X) → R a b → P a → P b) → {a b : X} → Chain R a b → P a → P b
 Chain-carries P carry stay p = p
 Chain-carries P carry (go {a = a} {b = b} r c) p = Chain-carries P carry c (carry a b r p)
-
--- a chain from a thing with a fact that each step carries on, with that fact at each step
-pub Chain-within : {X : Type 0} {R : X → X → Type 0} (P : X → Type 0) → ((a b : X) → R a b → P a → P b) → {a b : X} → Chain R a b → P a
-    → Chain (λ x y. P x × (P y × R x y)) a b
-Chain-within P carry stay p = stay
-Chain-within P carry (go {a = a} {b = b} r c) p = let q = carry a b r p in go (p, (q, r)) (Chain-within P carry c q)
 
 -- a step either way, turned
 pub EitherWay-back : {X : Type 0} (R : X → X → Type 0) (a b : X) → EitherWay R a b → EitherWay R b a

@@ -9,3 +9,8 @@ pub mod Leasts
 pub mod Orders
 pub mod Pairs
 pub mod Searches
+pub mod Places
+pub mod Images
+pub mod Firsts
+pub mod InOrder
+pub mod OneForOne

@@ -1,13 +1,14 @@
 -- Laws of lexicographic order: what comparisons by several keys say, and what a list sorted by a comparison has.
-use Rattle.std.proofs.Common.{◌≡◌, ℤ, ◌<ℤ◌, ◌≤ℤ◌, ◌⊎◌, inl, inr, false, List, refl, sym, ◌∙◌, arith}
+use Rattle.std.proofs.Common.{◌≡◌, ℕ, ◌+◌, ◌<◌, ◌≤◌, ℤ, ◌<ℤ◌, ◌≤ℤ◌, ◌⊎◌, inl, inr, false, List, refl, sym, ap, ◌∙◌, arith}
 use Rattle.std.specs.Prelude.{AllPairs, IsSorted}
-use Rattle.std.specs.Cmp.{IsTotalOrder}
+use Rattle.std.specs.Cmp.{IsTotalOrder, nat_cmp_is}
 use Rattle.std.specs.List.Sorted.{IsSortedByKey}
 use Rattle.std.specs.declared.cmp.Ordering.{Ordering}
 use Rattle.std.specs.declared.cmp.Ordering.TheVariants.{Less, Equal, Greater}
-use Rattle.std.specs.Ordering.{is_lt, int_cmp, ordering_then}
-use Rattle.std.proofs.lemmas.Bool.{false≢true}
-use Rattle.std.proofs.lemmas.Cmp.{int_ranked}
+use Rattle.std.specs.Ordering.{is_lt, int_cmp, nat_cmp, ordering_then}
+use Rattle.std.proofs.lemmas.Bool.{cases_lt, false≢true}
+use Rattle.std.proofs.lemmas.Bool.Decides.{nat_tests}
+use Rattle.std.proofs.lemmas.Cmp.{int_ranked, ranked}
 use Rattle.std.proofs.lemmas.Int.{ints}
 use Rattle.std.proofs.lemmas.List.Sorted.{sorted_far, ranks_by}
 use Rattle.finite_sets.specs.Order.{Lexicographic}
@@ -35,18 +36,6 @@ Lexicographic-trans x y z join (inl p) (inl q) = inl (omega (arith, ints, p, q))
 Lexicographic-trans x y z join (inl p) (inr (same, q)) = inl (omega (arith, ints, p, same))
 Lexicographic-trans x y z join (inr (same, p)) (inl q) = inl (omega (arith, ints, same, q))
 Lexicographic-trans x y z join (inr (same, p)) (inr (also, q)) = inr (same ∙ also, join p q)
-
--- one stands before the other, or the other way round, or the numbers are equal and so the rest is
-pub Lexicographic-total : (x y : ℤ) {P Q R : Type 0} → P ⊎ (Q ⊎ R) → Lexicographic x y P ⊎ (((x ≡ y) × Q) ⊎ Lexicographic y x R)
-Lexicographic-total x y rest = elim (less_equal_or_greater x y) [
-  | inl less ↦ inl (inl less)
-  | inr (inl same) ↦ elim rest [
-    | inl p ↦ inl (inr (same, p))
-    | inr (inl q) ↦ inr (inl (same, q))
-    | inr (inr r) ↦ inr (inr (inr (sym same, r)))
-  ]
-  | inr (inr greater) ↦ inr (inr (inl greater))
-]
 
 -- a rest that the other implies
 pub Lexicographic-map : (x y : ℤ) {P Q : Type 0} → (P → Q) → Lexicographic x y P → Lexicographic x y Q
@@ -82,6 +71,26 @@ ordering_then-not_less x y rest fails = by_order (int_cmp y x) refl fails
     by_order Less is fails = absurd (false≢true (sym fails))
     by_order Equal is fails = inr (sym (int_ranked y x Equal is), fails)
     by_order Greater is fails = inl (int_ranked y x Greater is)
+
+-- the same of natural numbers
+pub nat_cmp-not_less : (m n : ℕ) → is_lt (nat_cmp m n) ≡ false → n ≤ m
+nat_cmp-not_less m n fails = elim (cases_lt m n) [
+  | inl less ↦ absurd (false≢true (sym fails ∙ ap is_lt (sym (nat_cmp_is m n Less less))))
+  | inr past ↦ past
+]
+
+-- the same of two keys, of which the first is a natural number
+pub nat_then-not_less : (m n : ℕ) (rest : Ordering) → is_lt (ordering_then (nat_cmp n m) rest) ≡ false → (m < n) ⊎ ((m ≡ n) × (is_lt rest ≡ false))
+nat_then-not_less m n rest fails = by_order (nat_cmp n m) refl fails
+  where
+    by_order : (order : Ordering) → order ≡ nat_cmp n m → is_lt (ordering_then order rest) ≡ false → (m < n) ⊎ ((m ≡ n) × (is_lt rest ≡ false))
+    by_order Less is fails = absurd (false≢true (sym fails))
+    by_order Equal is fails = inr (sym (ranked n m Equal is), fails)
+    by_order Greater is fails = inl (ranked n m Greater is)
+
+-- what is added to both of two natural numbers leaves their order
+pub nat_cmp-add : (k m n : ℕ) → nat_cmp (k + m) (k + n) ≡ nat_cmp m n
+nat_cmp-add k m n = grind (arith, nat_tests)
 
 -- the first of two keys alone
 pub int_then-not_less : (x y : ℤ) (rest : Ordering) → is_lt (ordering_then (int_cmp y x) rest) ≡ false → x ≤ℤ y

@@ -7,7 +7,7 @@ use Rattle.std.proofs.lemmas.Bool.{cases_eq, cases_lt}
 use Rattle.std.proofs.lemmas.List.Edits.{swapped_from_swap, length-swap}
 use Rattle.std.proofs.lemmas.List.Sorted.{IsPermutation-keeps}
 use Rattle.finite_sets.specs.Lists.{In}
-use Rattle.finite_sets.proofs.Members.{In-append_cases, In-push_cases, In-filter_source, In-get_or, In-index, In-map_source}
+use Rattle.finite_sets.proofs.Members.{In-append_cases, In-push_cases, In-filter_source, In-get_or, In-index, In-map, In-map_source}
 
 -- R holds of each thing of a list and each later one: `AllPairs` by recursion
 abbrev pub Pairwise : {X : Type 0} → (X → X → Type 0) → List X → Type 0
@@ -57,12 +57,29 @@ Pairwise-from_AllPairs {X} R (x ∷ xs) all = (
   Pairwise-from_AllPairs R xs (λ i j d less below. all (suc i) (suc j) d (omega arith) (omega arith)),
 )
 
+-- one more thing at the end, by places
+pub AllPairs-push : {X : Type 0} (R : X → X → Type 0) (xs : List X) (y : X) → AllPairs R xs → ((x : X) → In x xs → R x y) → AllPairs R (xs ++ y ∷ [])
+AllPairs-push R xs y all before = AllPairs-from_Pairwise R (xs ++ y ∷ []) (Pairwise-push R xs y (Pairwise-from_AllPairs R xs all) before)
+
 -- what holds of the images of any two things holds of any two of the image
 pub Pairwise-map : {X Y : Type 0} (f : X → Y) (R : Y → Y → Type 0) (xs : List X) → Pairwise (λ a b. R (f a) (f b)) xs → Pairwise R (map f xs)
 Pairwise-map f R [] h = tt
 Pairwise-map f R (x ∷ xs) h = (
   (λ y i. let s = In-map_source f y xs i in subst (R (f x)) s.1.1 (h.0 s.0 s.1.0)),
   Pairwise-map f R xs h.1,
+)
+
+-- what holds of any two of an image holds of the images of any two
+pub Pairwise-unmap : {X Y : Type 0} (f : X → Y) (R : Y → Y → Type 0) (xs : List X) → Pairwise R (map f xs) → Pairwise (λ a b. R (f a) (f b)) xs
+Pairwise-unmap f R [] h = tt
+Pairwise-unmap f R (x ∷ xs) h = ((λ y i. h.0 (f y) (In-map f y xs i)), Pairwise-unmap f R xs h.1)
+
+-- what follows, of things of the list, from what holds of any two
+pub Pairwise-within : {X : Type 0} (R S : X → X → Type 0) (xs : List X) → ((x y : X) → In x xs → In y xs → R x y → S x y) → Pairwise R xs → Pairwise S xs
+Pairwise-within R S [] follows h = tt
+Pairwise-within R S (x ∷ xs) follows h = (
+  (λ y here. follows x y (inl refl) (inr here) (h.0 y here)),
+  Pairwise-within R S xs (λ a b p q. follows a b (inr p) (inr q)) h.1,
 )
 
 -- what comes to stand at place k when those at i and j change places

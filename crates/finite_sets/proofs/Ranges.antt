@@ -4,11 +4,9 @@ use Rattle.std.proofs.Common.{◌⊎◌, inl, inr, map, length, refl, sym, ◌�
 use Rattle.std.proofs.lemmas.Int.{ints, by_lt_z}
 use Rattle.std.proofs.lemmas.List.{length-map}
 use Rattle.finite_sets.specs.Lists.{In, Distinct, Lists}
-use Rattle.finite_sets.specs.Total.{Total}
 use Rattle.finite_sets.specs.Range.{IsBetween, nonnegative_part, extent, integers_from, integer_range, pairs_of}
 use Rattle.finite_sets.proofs.Members.{In-append_cases, In-append_left, In-append_right, In-map, In-map_source}
 use Rattle.finite_sets.proofs.Distincts.{Distinct-append, Distinct-map}
-use Rattle.finite_sets.proofs.Totals.{Total-count, Total-at}
 
 -- they are so many
 pub length-integers_from : (lo : ℤ) (n : ℕ) → length (integers_from lo n) ≡ n
@@ -130,14 +128,3 @@ pub Lists-rectangle : (xlo xhi ylo yhi : ℤ)
 Lists-rectangle xlo xhi ylo yhi =
     Lists-pairs_of (IsBetween xlo xhi) (IsBetween ylo yhi) (integer_range xlo xhi) (integer_range ylo yhi) (Lists-integer_range xlo xhi)
     (Lists-integer_range ylo yhi)
-
--- they are as many as its width times its height
-pub Total-rectangle : (xlo xhi ylo yhi : ℤ)
-    → Total {X = ℤ × ℤ} (λ p. IsBetween xlo xhi p.0 × IsBetween ylo yhi p.1) (λ p. pos 1) (pos (extent xlo xhi * extent ylo yhi))
-Total-rectangle xlo xhi ylo yhi =
-    let xs = integer_range xlo xhi in
-    let ys = integer_range ylo yhi in
-    let P : ℤ × ℤ → Type 0 = λ p. IsBetween xlo xhi p.0 × IsBetween ylo yhi p.1 in
-    Total-at P (λ p. pos 1) (pos (length (pairs_of xs ys))) (pos (extent xlo xhi * extent ylo yhi))
-    (ap pos (length-pairs_of xs ys ∙ ap (λ n. n * length ys) (length-integer_range xlo xhi) ∙ ap (λ n. extent xlo xhi * n) (length-integer_range ylo yhi)))
-    (Total-count P (pairs_of xs ys) (Lists-rectangle xlo xhi ylo yhi))

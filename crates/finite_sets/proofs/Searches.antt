@@ -1,16 +1,43 @@
 -- Tests along a list: what is found, the place of what is found, and what tests of all and of some say.
 use Rattle.std.proofs.Common.{◌≡◌, ◌+◌, ◌<◌, ◌≤◌, ℕ, zero, suc, Bool, true, false, cond, Option, List, [], ◌∷◌, ◌++◌, map}
-use Rattle.std.proofs.Common.{filter, length, get_or, drop, refl, sym, ap, ◌∙◌, arith, inl, inr, add-one, drop-cons}
-use Rattle.std.specs.Prelude.{All, Some, None, find}
-use Rattle.std.specs.List.{list_all, list_any, position_from, range_with_len}
+use Rattle.std.proofs.Common.{filter, length, get_or, drop, refl, sym, ap, subst, ◌∙◌, arith, inl, inr, add-one, drop-cons}
+use Rattle.std.specs.Prelude.{◌&&◌, ◌||◌, All, Some, None, Result, Ok, Err, Decides, find, slice_get}
+use Rattle.std.specs.List.{AllByRecursion, list_all, list_any, position_from, range_with_len}
 use Rattle.std.specs.Option.{option_map, option_or}
-use Rattle.std.proofs.lemmas.Bool.{cases_Bool, and_parts, or_parts}
+use Rattle.std.specs.Result.{OnOk}
+use Rattle.std.proofs.lemmas.Bool.{both_ways, cases_Bool, and_parts, or_cases, or_parts}
 use Rattle.finite_sets.specs.Lists.{In}
-use Rattle.finite_sets.proofs.Members.{In-get_or}
+use Rattle.finite_sets.proofs.Members.{In-get_or, In-index}
 
 -- what holds of each thing in a list holds of all of it
 pub All-from_In : {X : Type 0} (P : X → Type 0) (xs : List X) → ((x : X) → In x xs → P x) → All P xs
 All-from_In P xs each = λ k d below. each (get_or xs k d) (In-get_or xs k d below)
+
+-- what holds of all of a list holds of each thing in it
+pub All-In : {X : Type 0} (P : X → Type 0) (xs : List X) (x : X) → All P xs → In x xs → P x
+All-In P xs x all here = let at = In-index x xs here in subst P (at.1.1 x) (all at.0 x at.1.0)
+
+-- what holds of both lists holds of one behind the other
+pub AllByRecursion-append : {X : Type 0} (P : X → Type 0) (xs ys : List X) → AllByRecursion P xs → AllByRecursion P ys → AllByRecursion P (xs ++ ys)
+AllByRecursion-append P [] ys first second = second
+AllByRecursion-append P (x ∷ xs) ys first second = (first.0, AllByRecursion-append P xs ys first.1 second)
+
+-- what holds of all of a list, told by recursion, holds of each thing in it
+pub AllByRecursion-In : {X : Type 0} (P : X → Type 0) (xs : List X) (x : X) → AllByRecursion P xs → In x xs → P x
+AllByRecursion-In P [] x all here = absurd here
+AllByRecursion-In P (y ∷ ys) x all (inl same) = subst P same all.0
+AllByRecursion-In P (y ∷ ys) x all (inr later) = AllByRecursion-In P ys x all.1 later
+
+-- what holds of each thing in a list holds of all of it, told by recursion
+pub AllByRecursion-from_In : {X : Type 0} (P : X → Type 0) (xs : List X) → ((x : X) → In x xs → P x) → AllByRecursion P xs
+AllByRecursion-from_In P [] each = tt
+AllByRecursion-from_In P (x ∷ xs) each = (each x (inl refl), AllByRecursion-from_In P xs (λ y later. each y (inr later)))
+
+-- where each passes, all pass
+pub list_all-from_In : {X : Type 0} (test : X → Bool) (xs : List X) → ((x : X) → In x xs → test x ≡ true) → list_all test xs ≡ true
+list_all-from_In test [] each = refl
+list_all-from_In test (x ∷ xs) each =
+    ap (λ (t : Bool). t && list_all test xs) (each x (inl refl)) ∙ list_all-from_In test xs (λ y later. each y (inr later))
 
 -- where all pass, each passes
 pub list_all-In : {X : Type 0} (test : X → Bool) (xs : List X) (x : X) → list_all test xs ≡ true → In x xs → test x ≡ true
@@ -23,6 +50,59 @@ pub list_any-In : {X : Type 0} (test : X → Bool) (xs : List X) (x : X) → lis
 list_any-In test [] x none absent = absurd absent
 list_any-In test (y ∷ ys) x none (inl same) = ap test (sym same) ∙ (or_parts (test y) (list_any test ys) none).0
 list_any-In test (y ∷ ys) x none (inr later) = list_any-In test ys x (or_parts (test y) (list_any test ys) none).1 later
+
+-- where some passes, one in the list does
+pub list_any-source : {X : Type 0} (test : X → Bool) (xs : List X) → list_any test xs ≡ true → (x : X) × (In x xs × (test x ≡ true))
+list_any-source test [] some = absurd (cc)
+list_any-source test (x ∷ xs) some = elim (or_cases (test x) (list_any test xs) some) [
+  | inl here ↦ (x, (inl refl, here))
+  | inr later ↦ let found = list_any-source test xs later in (found.0, (inr found.1.0, found.1.1))
+]
+
+-- where one in the list passes, some passes
+pub list_any-passes : {X : Type 0} (test : X → Bool) (xs : List X) (x : X) → In x xs → test x ≡ true → list_any test xs ≡ true
+list_any-passes test xs x here passes = elim (cases_Bool (list_any test xs)) [
+  | inl some ↦ some
+  | inr none ↦ absurd (both_ways (test x) (list_any-In test xs x none here) passes)
+]
+
+-- where each fails, none passes
+pub list_any-fails : {X : Type 0} (test : X → Bool) (xs : List X) → ((x : X) → In x xs → test x ≡ false) → list_any test xs ≡ false
+list_any-fails test [] fails = refl
+list_any-fails test (x ∷ xs) fails =
+    ap (λ (t : Bool). t || list_any test xs) (fails x (inl refl)) ∙ list_any-fails test xs (λ y later. fails y (inr later))
+
+-- where a test tells what is equal, what stands in a list is found by it
+pub list_any-of_In : {X : Type 0} (eq : X → X → Bool) → ((a b : X) → Decides (eq a b) (a ≡ b)) → (x : X) (xs : List X) → In x xs
+    → list_any (eq x) xs ≡ true
+list_any-of_In eq decides x xs here = list_any-passes (eq x) xs x here ((decides x x).1 refl)
+
+-- what is found by it stands in the list
+pub In-from_list_any : {X : Type 0} (eq : X → X → Bool) → ((a b : X) → Decides (eq a b) (a ≡ b)) → (x : X) (xs : List X) → list_any (eq x) xs ≡ true
+    → In x xs
+In-from_list_any {X} eq decides x xs some =
+    let found = list_any-source (eq x) xs some in
+    let P : X → Type 0 = λ y. In y xs in subst P (sym ((decides x found.0).0 found.1.1)) found.1.0
+
+-- what does not stand in a list is not found by it
+pub list_any-of_absent : {X : Type 0} (eq : X → X → Bool) → ((a b : X) → Decides (eq a b) (a ≡ b)) → (x : X) (xs : List X) → (In x xs → ⊥)
+    → list_any (eq x) xs ≡ false
+list_any-of_absent eq decides x xs absent = elim (cases_Bool (list_any (eq x) xs)) [
+  | inl some ↦ absurd (absent (In-from_list_any eq decides x xs some))
+  | inr none ↦ none
+]
+
+-- what is not found by it does not stand in the list
+pub absent-from_list_any : {X : Type 0} (eq : X → X → Bool) → ((a b : X) → Decides (eq a b) (a ≡ b)) → (x : X) (xs : List X)
+    → list_any (eq x) xs ≡ false → In x xs → ⊥
+absent-from_list_any eq decides x xs none here = both_ways (list_any (eq x) xs) none (list_any-of_In eq decides x xs here)
+
+-- tests that agree on a list keep the same of it
+pub filter-same : {X : Type 0} (p q : X → Bool) (xs : List X) → ((x : X) → In x xs → p x ≡ q x) → filter p xs ≡ filter q xs
+filter-same p q [] same = refl
+filter-same {X} p q (x ∷ xs) same =
+    let rest = filter-same p q xs (λ y later. same y (inr later)) in
+    ap (λ (b : Bool). cond b (x ∷ filter p xs) (filter p xs)) (same x (inl refl)) ∙ ap (λ (kept : List X). cond (q x) (x ∷ kept) kept) rest
 
 -- what is found in an image is the image of what is found in the list
 pub find-map : {X Y : Type 0} (f : X → Y) (test : Y → Bool) (xs : List X) → find test (map f xs) ≡ option_map f (find (λ x. test (f x)) xs)
@@ -64,6 +144,16 @@ find-none test (y ∷ ys) x none (inr later) = elim (cases_Bool (test y)) [
 pub none_found : {X : Type 0} (test : X → Bool) (xs : List X) → ((x : X) → In x xs → test x ≡ false) → find test xs ≡ None
 none_found test [] fails = refl
 none_found test (y ∷ ys) fails = rw (fails y (inl refl)) (none_found test ys (λ x later. fails x (inr later)))
+
+-- what passes at a place, where nothing before it does, is found
+pub find-at : {X : Type 0} (test : X → Bool) (xs : List X) (k : ℕ) (x : X) → slice_get xs k ≡ Some x → test x ≡ true
+    → ((j : ℕ) (y : X) → j < k → slice_get xs j ≡ Some y → test y ≡ false) → find test xs ≡ Some x
+find-at test [] k x at passes before = cc
+find-at {X} test (y ∷ ys) zero x at passes before =
+    let same : y ≡ x = cc in ap (λ (t : Bool). cond t (Some y) (find test ys)) (ap test same ∙ passes) ∙ ap Some same
+find-at test (y ∷ ys) (suc k) x at passes before =
+    ap (λ (t : Bool). cond t (Some y) (find test ys)) (before 0 y (omega arith) refl)
+    ∙ find-at test ys k x at passes (λ j z less there. before (suc j) z (omega arith) there)
 
 -- the place of what is found lies in the list
 pub position_from-below : {X : Type 0} (test : X → Bool) (n : ℕ) (xs : List X) (k : ℕ) → position_from test n xs ≡ Some k → k < n + length xs
@@ -110,6 +200,11 @@ pub option_or-none : {X : Type 0} (first second : Option X) → option_or first 
 option_or-none None second is = (refl, is)
 option_or-none (Some x) second is = cc
 
+-- what follows from two facts of a value, where there is one
+pub on_ok_both : {T E P Q R : Type 0} (result : Result T E) → (P → Q → R) → OnOk result P → OnOk result Q → OnOk result R
+on_ok_both (Ok value) gives first second = gives first second
+on_ok_both (Err error) gives first second = tt
+
 -- what a filter keeps is no longer
 pub length-filter : {X : Type 0} (test : X → Bool) (xs : List X) → length (filter test xs) ≤ length xs
 length-filter test [] = omega arith
@@ -123,6 +218,15 @@ pub one_thing : {X : Type 0} (xs : List X) (d : X) → length xs ≡ 1 → xs �
 one_thing [] d one = absurd (omega arith)
 one_thing (x ∷ []) d one = refl
 one_thing (x ∷ y ∷ ys) d one = absurd (omega arith)
+
+-- one more number at the end of a range
+pub range_push : (a n : ℕ) → range_with_len a (n + 1) ≡ range_with_len a n ++ (a + n) ∷ []
+range_push a n = ap (range_with_len a) (let next : n + 1 ≡ suc n = omega arith in next) ∙ one_more a n
+  where
+    one_more : (from more : ℕ) → range_with_len from (suc more) ≡ range_with_len from more ++ (from + more) ∷ []
+    one_more from zero = ap (λ (k : ℕ). k ∷ []) (omega arith)
+    one_more from (suc more) =
+        ap (λ (v : List ℕ). from ∷ v) (one_more (from + 1) more ∙ ap (λ (k : ℕ). range_with_len (from + 1) more ++ k ∷ []) (omega arith))
 
 -- the first number of a range, and the rest
 pub range_split : (a n m : ℕ) → n ≡ m + 1 → range_with_len a n ≡ a ∷ range_with_len (a + 1) m

@@ -1,7 +1,12 @@
 -- Sums over lists: laws of `sum_on`.
-use Rattle.std.proofs.Common.{◌≡◌, ◌+◌, ◌*◌, ℤ, pos, ◌+ℤ◌, ◌-ℤ◌, ◌*ℤ◌, ◌≤ℤ◌, Bool, true, false, cond, List, []}
+use Rattle.std.proofs.Common.{◌≡◌, ℕ, suc, ◌+◌, ◌*◌, ℤ, pos, ◌+ℤ◌, ◌-ℤ◌, ◌*ℤ◌, ◌≤ℤ◌, Bool, true, false, cond, List, []}
 use Rattle.std.proofs.Common.{◌∷◌, ◌++◌, inl, inr, map, filter, length, refl, sym, ◌∙◌, ap, subst, arith}
+use Rattle.std.specs.Prelude.{IsPermutation, Some, slice_get}
+use Rattle.std.specs.List.{flat_map, sum_by}
+use Rattle.std.proofs.Math.IntN.{*ℤ_comm}
 use Rattle.std.proofs.lemmas.Int.{ints}
+use Rattle.std.proofs.lemmas.List.Sorted.{sum_by-IsPermutation}
+use Rattle.std.proofs.lemmas.List.Sums.{sum_by-append, sum_by-cons}
 use borrow.Author.Differences.{up, down}
 use Rattle.finite_sets.specs.Lists.{In, Distinct}
 use Rattle.finite_sets.specs.Total.{sum_on}
@@ -100,3 +105,58 @@ distributes k a b =
 pub sum_on-scale : {X : Type 0} (k : ℤ) (w : X → ℤ) (xs : List X) → sum_on (λ x. k *ℤ w x) xs ≡ k *ℤ sum_on w xs
 sum_on-scale k w [] = omega (arith, ints)
 sum_on-scale k w (x ∷ xs) = ap (λ z. (k *ℤ w x) +ℤ z) (sum_on-scale k w xs) ∙ distributes k (w x) (sum_on w xs)
+
+-- a weight so many times, told from the right
+pub sum_on-scale_right : {X : Type 0} (w : X → ℤ) (k : ℤ) (xs : List X) → sum_on (λ x. w x *ℤ k) xs ≡ sum_on w xs *ℤ k
+sum_on-scale_right w k xs =
+    sum_on-same (λ x. w x *ℤ k) (λ x. k *ℤ w x) xs (λ x here. *ℤ_comm (w x) k) ∙ sum_on-scale k w xs ∙ *ℤ_comm k (sum_on w xs)
+
+-- the sum over lists one behind the other
+pub sum_on-flat_map : {X Y : Type 0} (f : X → List Y) (w : Y → ℤ) (xs : List X) → sum_on w (flat_map f xs) ≡ sum_on (λ x. sum_on w (f x)) xs
+sum_on-flat_map f w [] = refl
+sum_on-flat_map f w (x ∷ xs) = sum_on-append w (f x) (flat_map f xs) ∙ ap (λ z. sum_on w (f x) +ℤ z) (sum_on-flat_map f w xs)
+
+-- a sum is that of what is above zero without that of what is below it
+pub sum_on-parts : {X : Type 0} (w : X → ℤ) (xs : List X) → sum_on w xs ≡ pos (sum_by (λ x. up (w x)) xs) -ℤ pos (sum_by (λ x. down (w x)) xs)
+sum_on-parts w [] = omega (arith, ints)
+sum_on-parts w (x ∷ xs) =
+    let rest = sum_on-parts w xs in
+    let a = sum_by-cons (λ y. up (w y)) x xs in
+    let b = sum_by-cons (λ y. down (w y)) x xs in
+    omega (arith, ints, rest, a, b)
+
+-- a sum is the same in any order
+pub sum_on-permutation : {X : Type 0} (w : X → ℤ) (xs ys : List X) → IsPermutation xs ys → sum_on w ys ≡ sum_on w xs
+sum_on-permutation w xs ys moved =
+    let a = sum_by-IsPermutation (λ x. up (w x)) xs ys moved in
+    let b = sum_by-IsPermutation (λ x. down (w x)) xs ys moved in
+    sum_on-parts w ys ∙ ap (λ n. pos n -ℤ pos (sum_by (λ x. down (w x)) ys)) a
+    ∙ ap (λ n. pos (sum_by (λ x. up (w x)) xs) -ℤ pos n) b ∙ sym (sum_on-parts w xs)
+
+-- numbers that agree on a list have one sum
+pub sum_by-same : {X : Type 0} (f g : X → ℕ) (xs : List X) → ((x : X) → In x xs → f x ≡ g x) → sum_by f xs ≡ sum_by g xs
+sum_by-same f g [] same = refl
+sum_by-same f g (x ∷ xs) same =
+    sum_by-cons f x xs ∙ ap (λ n. n + sum_by f xs) (same x (inl refl))
+    ∙ ap (λ n. g x + n) (sum_by-same f g xs (λ y later. same y (inr later))) ∙ sym (sum_by-cons g x xs)
+
+-- the sum over an image
+pub sum_by-map : {X Y : Type 0} (f : Y → ℕ) (g : X → Y) (xs : List X) → sum_by f (map g xs) ≡ sum_by (λ x. f (g x)) xs
+sum_by-map f g [] = refl
+sum_by-map f g (x ∷ xs) = sum_by-cons f (g x) (map g xs) ∙ ap (λ n. f (g x) + n) (sum_by-map f g xs) ∙ sym (sum_by-cons (λ y. f (g y)) x xs)
+
+-- the sum over lists one behind the other
+pub sum_by-flat_map : {X Y : Type 0} (f : Y → ℕ) (g : X → List Y) (xs : List X) → sum_by f (flat_map g xs) ≡ sum_by (λ x. sum_by f (g x)) xs
+sum_by-flat_map f g [] = refl
+sum_by-flat_map f g (x ∷ xs) =
+    sum_by-append f (g x) (flat_map g xs) ∙ ap (λ n. sum_by f (g x) + n) (sum_by-flat_map f g xs) ∙ sym (sum_by-cons (λ y. sum_by f (g y)) x xs)
+
+-- two lists of one length whose things count alike place by place
+pub sum_by-pointwise : {X Y : Type 0} (f : X → ℕ) (g : Y → ℕ) (xs : List X) (ys : List Y) → length xs ≡ length ys
+    → ((k : ℕ) (x : X) (y : Y) → slice_get xs k ≡ Some x → slice_get ys k ≡ Some y → f x ≡ g y) → sum_by f xs ≡ sum_by g ys
+sum_by-pointwise f g [] [] long same = refl
+sum_by-pointwise f g [] (y ∷ ys) long same = absurd (omega (arith, long))
+sum_by-pointwise f g (x ∷ xs) [] long same = absurd (omega (arith, long))
+sum_by-pointwise f g (x ∷ xs) (y ∷ ys) long same =
+    sum_by-cons f x xs ∙ ap (λ n. n + sum_by f xs) (same 0 x y refl refl)
+    ∙ ap (λ n. g y + n) (sum_by-pointwise f g xs ys (omega (arith, long)) (λ k a b h i. same (suc k) a b h i)) ∙ sym (sum_by-cons g y ys)

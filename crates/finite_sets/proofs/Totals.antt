@@ -2,11 +2,10 @@
 use Rattle.std.proofs.Common.{◌≡◌, ℤ, pos, ◌+ℤ◌, ◌-ℤ◌, ◌*ℤ◌, ◌≤ℤ◌, Bool, true, false, cond, List, [], ◌∷◌}
 use Rattle.std.proofs.Common.{◌++◌, ◌⊎◌, inl, inr, map, filter, length, refl, sym, ◌∙◌, ap, subst, arith}
 use Rattle.std.proofs.lemmas.Int.{ints}
-use Rattle.std.proofs.lemmas.Bool.{cases_Bool, false≢true}
 use Rattle.finite_sets.specs.Lists.{In, Distinct, Lists}
 use Rattle.finite_sets.specs.Total.{sum_on, Total}
-use Rattle.finite_sets.proofs.Listings.{Lists-none, Lists-one, Lists-iff, Lists-append, Lists-filter, Lists-map, Lists-image}
-use Rattle.finite_sets.proofs.Sums.{sum_on-append, sum_on-map, sum_on-same, sum_on-nothing, sum_on-add, sum_on-sub}
+use Rattle.finite_sets.proofs.Listings.{Lists-none, Lists-iff, Lists-append, Lists-filter, Lists-map, Lists-image}
+use Rattle.finite_sets.proofs.Sums.{sum_on-append, sum_on-map, sum_on-same, sum_on-add, sum_on-sub}
 use Rattle.finite_sets.proofs.Sums.{sum_on-le, sum_on-scale, sum_on-count, sum_on-filter, sum_on-same_things}
 
 -- a set has one sum of a weight
@@ -29,10 +28,6 @@ Total-at P w m n e t = (t.0, (t.1.0, t.1.1 ∙ e))
 -- the empty set
 pub Total-none : {X : Type 0} (P : X → Type 0) (w : X → ℤ) → ((x : X) → P x → ⊥) → Total P w (pos 0)
 Total-none P w none = ([], (Lists-none P none, refl))
-
--- the set of one thing
-pub Total-one : {X : Type 0} (x : X) (w : X → ℤ) → Total (λ y. x ≡ y) w (w x)
-Total-one x w = (x ∷ [], (Lists-one x, omega (arith, ints)))
 
 -- equivalent facts have one total
 pub Total-iff : {X : Type 0} (P Q : X → Type 0) (w : X → ℤ) (n : ℤ) → ((x : X) → P x → Q x) → ((x : X) → Q x → P x) → Total P w n → Total Q w n
@@ -68,10 +63,6 @@ pub Total-sub : {X : Type 0} (P : X → Type 0) (v w : X → ℤ) (m n : ℤ) �
 Total-sub P v w m n s t =
     (s.0, (s.1.0, sum_on-sub v w s.0 ∙ ap (λ z. z -ℤ sum_on w s.0) s.1.1 ∙ ap (λ z. m -ℤ z) (Total-of_list P w n s.0 t s.1.0)))
 
--- a weight that is zero on the set
-pub Total-zero : {X : Type 0} (P : X → Type 0) (w : X → ℤ) (n : ℤ) → ((x : X) → P x → w x ≡ pos 0) → Total P w n → n ≡ pos 0
-Total-zero P w n zero t = sym t.1.1 ∙ sum_on-nothing w t.0 (λ x h. zero x (t.1.0.2 x h))
-
 -- the part of a set that passes a test
 pub Total-filter : {X : Type 0} (P : X → Type 0) (test : X → Bool) (w : X → ℤ) (n : ℤ) → Total P (λ x. cond (test x) (w x) (pos 0)) n
     → Total (λ x. P x × (test x ≡ true)) w n
@@ -91,17 +82,6 @@ gate false a h = h refl
 pub Total-support : {X : Type 0} (P : X → Type 0) (test : X → Bool) (w : X → ℤ) (n : ℤ) → ((x : X) → P x → test x ≡ false → w x ≡ pos 0) → Total P w n
     → Total (λ x. P x × (test x ≡ true)) w n
 Total-support P test w n zero t = Total-filter P test w n (Total-same P w (λ x. cond (test x) (w x) (pos 0)) n (λ x p. gate (test x) (w x) (zero x p)) t)
-
--- what passes a test and what fails it make up the set
-pub Total-split : {X : Type 0} (P : X → Type 0) (test : X → Bool) (w : X → ℤ) (m n : ℤ)
-    → Total (λ x. P x × (test x ≡ true)) w m → Total (λ x. P x × (test x ≡ false)) w n → Total P w (m +ℤ n)
-Total-split {X} P test w m n s t =
-    let Passes : X → Type 0 = λ x. P x × (test x ≡ true) in
-    let Fails : X → Type 0 = λ x. P x × (test x ≡ false) in
-    Total-iff (λ x. Passes x ⊎ Fails x) P w (m +ℤ n)
-    (λ x h. elim h [ inl p ↦ p.0 | inr f ↦ f.0 ])
-    (λ x p. elim (cases_Bool (test x)) [ inl e ↦ inl (p, e) | inr e ↦ inr (p, e) ])
-    (Total-union Passes Fails w m n (λ x p f. absurd (false≢true (sym f.1 ∙ p.1))) s t)
 
 -- the totals of the parts that different labels mark add up
 pub Total-parts : {X L : Type 0} (P : X → Type 0) (label : X → L) (w : X → ℤ) (part : L → ℤ) (labels : List L) → Distinct labels

@@ -1,4 +1,6 @@
 pub mod Lists
+pub mod OneForOne
+pub mod First
 pub mod Total
 pub mod Chain
 pub mod Least

@@ -10,9 +10,11 @@
 //! `Sums` adds a weight along a list. Its main law is `sum_on-same_things`: two lists of the same things, each once,
 //! have one sum, since the second can be cut at the first thing of the first. From it `Totals` has that a set has one
 //! total, and how totals add, scale, split and go over to images. `Chains` appends, turns and carries over ways of a
-//! relation, by recursion on the way. `Ranges` lists the integers of a range and the pairs of two lists. `Orders`,
-//! `Pairs` and `Searches` stand apart: lexicographic order and sorted lists, facts of any two things of a list, and
-//! tests along a list, for the crates above.
+//! relation, by recursion on the way. `Ranges` lists the integers of a range and the pairs of two lists. The others
+//! stand apart, for the crates above: `Orders` has lexicographic order and sorted lists, `Pairs` facts of any two
+//! things of a list, `InOrder` that in a strict order there is one list of the same things, `Searches` tests along a
+//! list, `Firsts` what the first thing gives that gives something, `Places` what stands at a place, `Images` what
+//! stands in an image, and stands there once, and `OneForOne` two lists whose things go along with each other.
 #![tactic(auto)]
 
 ghost use Rattle.finite_sets.specs.Chain.{Chain, EitherWay};

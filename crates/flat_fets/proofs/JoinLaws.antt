@@ -15,12 +15,12 @@ use Rattle.std.proofs.lemmas.Option.{same_Some, get_or_from_slice_get}
 use Rattle.finite_sets.specs.Lists.{In}
 use Rattle.finite_sets.specs.Total.{sum_on}
 use Rattle.finite_sets.proofs.Members.{In-map, In-map_source, In-append_left, In-push, In-push_cases, In-permutation}
-use Rattle.finite_sets.proofs.Sums.{sum_on-push, sum_on-nothing}
+use Rattle.finite_sets.proofs.Sums.{sum_on-push, sum_on-nothing, sum_on-permutation}
+use Rattle.finite_sets.proofs.Places.{In-slice_get}
 use Rattle.ext_model.specs.declared.limits.TheConstants.{LENGTHS_EDGE}
-use Rattle.node_labels.proofs.PlaceLaws.{In-place, place_of}
+use Rattle.node_labels.proofs.PlaceLaws.{place_of}
 use Rattle.flat_fets.specs.declared.sides.Side.{Side}
 use Rattle.flat_fets.specs.Sides.{FitsLast, with_side, length_at, AreByNode, AreAscending, AreJoined}
-use Rattle.flat_fets.proofs.OrderLaws.{sum_on-permutation}
 
 -- the side with the length of another
 abbrev pub lengthened : Side → Side → Side
@@ -258,7 +258,7 @@ pub fits_last : (done joined : List Side) (side : Side) → AreJoined done joine
     → sum_by (λ one. unsigned_abs one.length) done + unsigned_abs side.length < LENGTHS_EDGE → FitsLast joined side
 unfolding IsUpTo
 fits_last done joined side are short last at =
-    let is = are.lengths last (In-place joined (length joined - 1) last at) in
+    let is = are.lengths last (In-slice_get joined (length joined - 1) last at) in
     let P : ℤ → Type 0 = λ z. FitsSigned w128 (z +ℤ side.length) in
     let s = sum_on (length_at last.node) done in
     let k = sum_up_to last.node done in

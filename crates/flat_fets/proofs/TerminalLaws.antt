@@ -7,10 +7,12 @@ use Rattle.std.specs.Str.{bytes_eq}
 use Rattle.std.specs.declared.cmp.Ordering.TheVariants.{Less}
 use Rattle.std.proofs.lemmas.Bool.{eqb-true}
 use Rattle.std.proofs.lemmas.Option.{slice_get-map, slice_get-get_or, get_or_from_slice_get}
+use Rattle.std.specs.Cmp.{both_ways}
 use Rattle.finite_sets.specs.Lists.{In}
 use Rattle.finite_sets.specs.Total.{sum_on}
 use Rattle.finite_sets.proofs.Members.{In-map, In-map_source}
 use Rattle.finite_sets.proofs.Sums.{sum_on-map, sum_on-same}
+use Rattle.finite_sets.proofs.Places.{slice_get-below}
 use Rattle.ext_model.specs.declared.records.NodeRec.{NodeRec}
 use Rattle.ext_model.specs.declared.records.TermRec.{TermRec}
 use Rattle.ext_model.specs.NameOrder.{name_cmp}
@@ -21,8 +23,8 @@ use Rattle.name_classes.specs.Classes.{AreLabels}
 use Rattle.node_labels.specs.Labels.{label_of, AreNamed}
 use Rattle.node_labels.proofs.GroupLaws.{label_below}
 use Rattle.node_labels.proofs.LabelLaws.{bytes_eq-same, bytes_eq-true}
-use Rattle.node_labels.proofs.NodeLaws.{same_tests, node_found, before_node, one_number}
-use Rattle.node_labels.proofs.PlaceLaws.{thing_at, place_of, AreAlong-at}
+use Rattle.node_labels.proofs.NodeLaws.{node_found, before_node, one_number}
+use Rattle.node_labels.proofs.PlaceLaws.{place_of, AreAlong-at}
 use Rattle.node_labels.proofs.SpotLaws.{spot_named}
 use Rattle.node_labels.specs.Spots.{AreSpotsOf, element_at, cell_at}
 use Rattle.full_names.specs.declared.names.FullNames.{FullNames}
@@ -50,8 +52,8 @@ module _ (elements : List Element) (list : List (List ℕ)) (labels : List ℕ) 
   -- nodes of greater numbers have later names
   earlier : (a b : ℕ) → a < b → b < length nodes → name_cmp (name_of_node nodes a) (name_of_node nodes b) ≡ Less
   earlier a b less inside =
-      let x = thing_at nodes a (omega (arith, less, inside)) in
-      let y = thing_at nodes b inside in
+      let x = slice_get-below nodes a (omega (arith, less, inside)) in
+      let y = slice_get-below nodes b inside in
       let P : List ℕ → Type 0 = λ z. name_cmp z (name_of_node nodes b) ≡ Less in
       let Q : List ℕ → Type 0 = λ z. name_cmp x.0.name z ≡ Less in
       subst P (sym (name_at_node nodes a x.0 x.1)) (subst Q (sym (name_at_node nodes b y.0 y.1))
@@ -60,8 +62,8 @@ module _ (elements : List Element) (list : List (List ℕ)) (labels : List ℕ) 
   -- nodes with one name are one
   same_number : (a b : ℕ) → a < length nodes → b < length nodes → name_of_node nodes a ≡ name_of_node nodes b → a ≡ b
   same_number a b p q same =
-      let x = thing_at nodes a p in
-      let y = thing_at nodes b q in
+      let x = slice_get-below nodes a p in
+      let y = slice_get-below nodes b q in
       one_number elements list labels (length nodes) nodes ordered are named a b x.0 y.0 x.1 y.1
       (sym (name_at_node nodes a x.0 x.1) ∙ same ∙ name_at_node nodes b y.0 y.1)
 
@@ -126,7 +128,7 @@ module _ (elements : List Element) (list : List (List ℕ)) (labels : List ℕ) 
     unfolding label
     one_test number inside side here =
         let below = label_below elements list labels (length nodes) ordered are (name_in element side.node) (within side here) in
-        same_tests (eqb (label side) number) (bytes_eq (name_of_node nodes number) (side_name nodes element side))
+        both_ways (eqb (label side) number) (bytes_eq (name_of_node nodes number) (side_name nodes element side))
         (λ e. bytes_eq-same (name_of_node nodes number) (side_name nodes element side)
         (ap (name_of_node nodes) (sym (eqb-true (label side) number e)) ∙ sym (side_is side here)))
         (λ e. eq-eqb (label side) number

@@ -10,8 +10,9 @@ use crate::sides::flat_terminals;
 use element_tree::ElementTree;
 use ext_model::{CellExt, FetRec, NodeRec, TermRec};
 use full_names::FullNames;
-use geo_core::{List, Square};
-use node_labels::{CellSpots, FetSpots, copied, node_of};
+use geo_core::Square;
+use names_lists::List;
+use node_labels::{CellSpots, FetSpots, node_of};
 use std::alloc::{AllocError, Global};
 
 // the gate of an element's transistor
@@ -34,7 +35,7 @@ fn flat_gate(
 {
     let node = node_of(names, labels, element, spots.gate);
     Ok(TermRec {
-        node: copied(alloc, nodes[node].name.bytes())?,
+        node: nodes[node].name.copy(alloc)?,
         length: fet.gate.length,
     })
 }
@@ -65,12 +66,12 @@ fn flat_fet(
     let square = Square { x: fet.x, y: fet.y };
     let place = tree.elements.items()[element].to_root.square(square);
     Ok(FetRec {
-        kind: copied(alloc, fet.kind.bytes())?,
+        kind: fet.kind.copy(alloc)?,
         x: place.x,
         y: place.y,
         area: fet.area,
         perimeter: fet.perimeter,
-        substrate: copied(alloc, fet.substrate.bytes())?,
+        substrate: fet.substrate.copy(alloc)?,
         gate: flat_gate(alloc, names, labels, nodes, element, fet, spots)?,
         terminals: List::of(terminals),
     })

@@ -8,7 +8,7 @@ ghost use Rattle.flat_fets.specs.Sides.{AreSides, AreByNode, AreShort, FitsLast,
 
 use ext_model::{LENGTHS_EDGE, NodeRec, TermRec};
 use full_names::{FullNames, Spot};
-use node_labels::{copied, node_of};
+use node_labels::node_of;
 use std::alloc::{AllocError, Global};
 
 /// A node of the flat circuit beside a transistor, and the length of its edges there.
@@ -87,7 +87,7 @@ fn named_sides(alloc: Global, nodes: &[NodeRec], sides: &[Side]) -> Result<Vec<T
     let mut named = Vec::with_capacity(alloc, sides.len())?;
     for side in sides {
         named.push(TermRec {
-            node: copied(alloc, nodes[side.node].name.bytes())?,
+            node: nodes[side.node].name.copy(alloc)?,
             length: side.length,
         })?;
     }

@@ -1,17 +1,19 @@
 -- Sums and first faults along the elements of a tree.
-use Rattle.std.proofs.Common.{◌≡◌, ℕ, zero, suc, ◌+◌, ◌<◌, List, [], ◌∷◌, length, map, get_or, refl, sym, ◌∙◌, ap, arith, sum_by, pos, Bool, cond, nat_lt}
+use Rattle.std.proofs.Common.{◌≡◌, ℕ, ◌<◌, List, [], length, map, get_or, refl, sym, ◌∙◌, ap, arith, sum_by, pos, Bool, cond, nat_lt}
 use Rattle.geo_core.specs.declared.orients.Orient.TheVariants.{R0}
 use Rattle.std.specs.Prelude.{Some, None, Option, slice_get, slice_index}
-use Rattle.std.specs.Option.{option_map, option_or}
+use Rattle.std.specs.Option.{option_map}
 use Rattle.std.proofs.lemmas.List.{length-map}
-use Rattle.std.proofs.lemmas.List.Sums.{sum_by-cons}
 use Rattle.std.proofs.lemmas.Option.{slice_get-get_or, get_or_from_slice_get, slice_get-map, slice_get_within, slice_get_read, same_Some}
+use Rattle.finite_sets.proofs.Sums.{sum_by-pointwise}
+use Rattle.finite_sets.proofs.Firsts.{first_some-none, first_some-at}
+use Rattle.finite_sets.proofs.Places.{slice_get-In, slice_get-In_take}
 use Rattle.ext_model.specs.declared.records.CellExt.{CellExt}
 use Rattle.circuit_model.specs.declared.faults.FlatFault.{FlatFault}
 use Rattle.circuit_model.specs.Elements.{Element, elements_of}
 use Rattle.circuit_model.specs.declared.faults.FlatFault.TheVariants.{TooMany}
+use Rattle.circuit_model.specs.declared.limits.CircuitLimit.{CircuitLimit}
 use Rattle.circuit_model.specs.Refusals.{first_fault, past}
-use Rattle.geo_core.specs.declared.limits.Limit.{Limit}
 use Rattle.element_tree.specs.declared.tree.TreeElement.{TreeElement}
 use Rattle.element_tree.specs.declared.tree.ElementTree.{ElementTree}
 use Rattle.element_tree.specs.Trees.{StandsFor, IsTreeOfElements, IsTreeOf}
@@ -33,16 +35,6 @@ stands_at exts elements tree are number flat has =
     let element : Element = get_or elements number no_element in
     let is : slice_get elements number ≡ Some element = slice_get-get_or elements number no_element inside in
     record { element = element; is = is; for = are.elements_are number element flat (record { is = is; has = has }) }
-
--- sums that agree at each place
-sum_by-pointwise : {X Y : Type 0} (f : X → ℕ) (g : Y → ℕ) (xs : List X) (ys : List Y) → length xs ≡ length ys
-    → ((k : ℕ) (x : X) (y : Y) → slice_get xs k ≡ Some x → slice_get ys k ≡ Some y → f x ≡ g y) → sum_by f xs ≡ sum_by g ys
-sum_by-pointwise f g [] [] long same = refl
-sum_by-pointwise f g [] (y ∷ ys) long same = absurd (omega (arith, long))
-sum_by-pointwise f g (x ∷ xs) [] long same = absurd (omega (arith, long))
-sum_by-pointwise f g (x ∷ xs) (y ∷ ys) long same =
-    sum_by-cons f x xs ∙ ap (λ n. n + sum_by f xs) (same 0 x y refl refl)
-    ∙ ap (λ n. g y + n) (sum_by-pointwise f g xs ys (omega (arith, long)) (λ k a b h i. same (suc k) a b h i)) ∙ sym (sum_by-cons g y ys)
 
 -- what a map has at the place of a thing
 index-map : {X : Type 0} (f : X → ℕ) (xs : List X) (i : ℕ) (x : X) → slice_get xs i ≡ Some x → slice_index (map f xs) i ≡ f x
@@ -67,19 +59,13 @@ sum_at size_of exts root tree are sizes sized flats all top is =
 -- no thing has a fault
 pub no_first_fault : {X : Type 0} (fault_of : X → Option FlatFault) (xs : List X) → ((k : ℕ) (x : X) → slice_get xs k ≡ Some x → fault_of x ≡ None)
     → first_fault fault_of xs ≡ None
-no_first_fault fault_of [] none = refl
-no_first_fault fault_of (x ∷ xs) none =
-    ap (λ f. option_or f (first_fault fault_of xs)) (none 0 x refl) ∙ no_first_fault fault_of xs (λ k y h. none (suc k) y h)
+no_first_fault fault_of xs none = first_some-none fault_of xs (λ x here. let at = slice_get-In x xs here in none at.0 x at.1)
 
 -- the first thing that has a fault
 pub first_fault_at : {X : Type 0} (fault_of : X → Option FlatFault) (xs : List X) (k : ℕ) (x : X) (fault : FlatFault) → slice_get xs k ≡ Some x
     → ((j : ℕ) (y : X) → j < k → slice_get xs j ≡ Some y → fault_of y ≡ None) → fault_of x ≡ Some fault → first_fault fault_of xs ≡ Some fault
-first_fault_at fault_of [] k x fault at none has = cc
-first_fault_at {X} fault_of (y ∷ ys) zero x fault at none has =
-    ap (λ f. option_or f (first_fault fault_of ys)) (ap fault_of (same_Some y x at) ∙ has)
-first_fault_at fault_of (y ∷ ys) (suc k) x fault at none has =
-    ap (λ f. option_or f (first_fault fault_of ys)) (none 0 y (omega arith) refl)
-    ∙ first_fault_at fault_of ys k x fault at (λ j z h i. none (suc j) z (omega arith) i) has
+first_fault_at fault_of xs k x fault at none has =
+    first_some-at fault_of xs k x fault at (λ y here. let before = slice_get-In_take xs k y here in none before.0 y before.1.0 before.1.1) has
 
 abbrev pub no_flat : TreeElement
 no_flat = record { cell = 0; parent = 0; at = 0; depth = 0; bytes = 0; rank = 0; to_root = record { orient = R0; dx = pos 0; dy = pos 0 } }
@@ -126,7 +112,7 @@ size_within size_of exts root tree inside are sizes sized flats all k d within =
 
 -- the sizes are past a limit exactly where they are told to be
 pub past_is : (size_of : CellExt → ℕ) (exts : List CellExt) (root : ℕ) (tree : ElementTree) → IsTreeOf exts root tree
-    → (sizes : List ℕ) → sizes ≡ map size_of exts → (flats : List TreeElement) → flats ≡ tree.elements → (most : ℕ) (limit : Limit) (told : Bool)
+    → (sizes : List ℕ) → sizes ≡ map size_of exts → (flats : List TreeElement) → flats ≡ tree.elements → (most : ℕ) (limit : CircuitLimit) (told : Bool)
     → told ≡ nat_lt most (sum_by (λ flat. slice_index sizes flat.cell) flats) → (top : CellExt) → slice_get exts root ≡ Some top
     → past most limit (sum_by (λ element. size_of element.ext) (elements_of exts top)) ≡ cond told (Some (TooMany limit)) None
 past_is size_of exts root tree are sizes sized flats all most limit told is top found =

@@ -1,8 +1,8 @@
 -- The faults of numbers of nodes, of merges and of classes.
 use Rattle.std.specs.Prelude.{◌≡◌, ℕ, Option, Some, None, List, slice_get}
-use Rattle.geo_core.specs.declared.limits.Limit.TheVariants.{Nodes, Merges}
 use Rattle.ext_model.specs.declared.records.CellExt.{CellExt}
 use Rattle.circuit_model.specs.declared.faults.FlatFault.{FlatFault}
+use Rattle.circuit_model.specs.declared.limits.CircuitLimit.TheVariants.{Nodes, Merges}
 use Rattle.circuit_model.specs.declared.limits.TheConstants.{MOST_NODES, MOST_MERGES}
 use Rattle.circuit_model.specs.Elements.{elements_of}
 use Rattle.circuit_model.specs.Refusals.{past, node_count, merge_count, first_fault, class_fault}

@@ -6,7 +6,7 @@ ghost use Rattle.flat_limits.specs.Counts.{HasNoClassFault, IsClassFaultOf};
 use circuit_model::FlatFault;
 use element_tree::ElementTree;
 use ext_model::CellExt;
-use geo_core::Name;
+use names_lists::Name;
 use std::alloc::Global;
 
 // the refusal for the classes of this cell

@@ -3,10 +3,9 @@ ghost use Rattle.std.specs.Prelude.{◌≡◌, ◌⊎◌, ◌<◌, All, IfOk, If
 ghost use Rattle.element_tree.specs.Trees.{IsTreeOf};
 ghost use Rattle.flat_limits.specs.Counts.{HasNoNodeFault, IsNodeFaultOf, HasNoMergeFault, IsMergeFaultOf};
 
-use circuit_model::{FlatFault, MOST_MERGES, MOST_NODES};
+use circuit_model::{CircuitLimit, FlatFault, MOST_MERGES, MOST_NODES};
 use element_tree::{ElementTree, TreeElement};
 use ext_model::CellExt;
-use geo_core::Limit;
 use std::alloc::{AllocError, Global};
 
 // whether the sizes of the elements' records add up to more than so much
@@ -63,7 +62,7 @@ pub fn check_nodes(
 {
     let sizes = node_sizes(alloc, exts)?;
     if is_past(MOST_NODES, sizes.as_slice(), tree.elements.items()) {
-        return Err(FlatFault::TooMany(Limit::Nodes));
+        return Err(FlatFault::TooMany(CircuitLimit::Nodes));
     }
     Ok(())
 }
@@ -84,7 +83,7 @@ pub fn check_merges(
 {
     let sizes = merge_sizes(alloc, exts)?;
     if is_past(MOST_MERGES, sizes.as_slice(), tree.elements.items()) {
-        return Err(FlatFault::TooMany(Limit::Merges));
+        return Err(FlatFault::TooMany(CircuitLimit::Merges));
     }
     Ok(())
 }

@@ -3,7 +3,7 @@ ghost use Rattle.std.specs.Prelude.{◌≡◌, ◌<◌, length, slice_get, IsSom
 ghost use Rattle.circuit_model.specs.Elements.{ext_of};
 
 use ext_model::CellExt;
-use geo_core::Name;
+use names_lists::Name;
 
 /// The number of the first record of the cell, which has one. It takes no memory.
 pub fn root_number(exts: &[CellExt], root: &Name) -> usize

@@ -7,7 +7,10 @@ use Rattle.std.specs.Int.RustNames.{FitsSigned}
 use Rattle.std.proofs.Math.ListN.{set}
 use Rattle.std.proofs.lemmas.Int.{ints}
 use Rattle.std.proofs.lemmas.Option.{slice_get_within, get_or_from_slice_get}
+use Rattle.name_classes.proofs.TreeLaws.{tree_of_names}
 use Rattle.finite_sets.proofs.Members.{In-push_cases}
+use Rattle.finite_sets.proofs.Places.{In-slice_get, slice_get-below}
+use Rattle.finite_sets.proofs.Searches.{All-In}
 use Rattle.ext_model.specs.declared.records.NodeRec.{NodeRec}
 use Rattle.ext_model.specs.declared.records.CellExt.{CellExt}
 use Rattle.ext_model.specs.Lawful.{IsLawfulNode}
@@ -20,8 +23,8 @@ use Rattle.full_names.specs.Names.{AreNames, ComesFrom, GivesText, elements_in}
 use Rattle.flat_limits.proofs.TreeLaws.{no_flat}
 use Rattle.node_labels.specs.Spots.{element_at}
 use Rattle.node_labels.proofs.LabelLaws.{one_list}
-use Rattle.node_labels.proofs.PlaceLaws.{In-place, place_of, thing_at, place_set_cases}
-use Rattle.node_labels.proofs.SpotLaws.{IsHere, element_here, tree_of_names, All-In, lawful_cell}
+use Rattle.node_labels.proofs.PlaceLaws.{place_of, place_set_cases}
+use Rattle.node_labels.proofs.SpotLaws.{IsHere, element_here, lawful_cell}
 use Rattle.flat_nodes.specs.Named.{HasText, HasAlias, ArePlaced}
 
 -- the text of a number is its full name
@@ -30,7 +33,7 @@ pub has_text : (names : FullNames) → AreNames names → (number : ℕ) → num
 has_text names are number inside old text empty gives list is_list =
     let same = ap length (one_list (elements_in names) list are.list is_list are.is_list) in
     let count = are.count in
-    let r = thing_at list number (omega (arith, inside, same, count)) in
+    let r = slice_get-below list number (omega (arith, inside, same, count)) in
     let is : text ≡ r.0 = gives list is_list r.0 r.1 ∙ ap (λ (l : List ℕ). l ++ r.0) empty in
     r.1 ∙ ap Some (sym is)
 
@@ -70,7 +73,7 @@ origin_here names are name origin came exts all_exts flats all =
       node_within = slice_get_within ext.nodes origin.node came.node node;
       node = λ d. get_or_from_slice_get ext.nodes origin.node came.node d node;
       lawful = All-In (IsLawfulNode (length ext.classes)) ext.nodes came.node (lawful_cell names cell ext are here.of).nodes
-          (In-place ext.nodes origin.node came.node node);
+          (In-slice_get ext.nodes origin.node came.node node);
     }
 
 -- places of lawful nodes lie in reach
@@ -93,7 +96,7 @@ pub placed_set : (names : FullNames) (nodes : List NodeRec) (k : ℕ) (new : Nod
 placed_set names nodes k new placed one node here =
     let r = place_of node (set nodes k new) here in
     elim (place_set_cases nodes k new node r.0 r.1.1) [
-      | inl was ↦ placed node (In-place nodes r.0 node was)
+      | inl was ↦ placed node (In-slice_get nodes r.0 node was)
       | inr now ↦ (let P : NodeRec → Type 0 = IsPlaced (elements_in names) in subst P now.1 one)
     ]
 

@@ -9,12 +9,13 @@ use Rattle.std.proofs.lemmas.Bool.{cases_Bool, cases_eq, cases_lt, eqb-true}
 use Rattle.std.proofs.lemmas.List.{length-map, take_more, append-nil, length-take-le, take_all, get_or-take}
 use Rattle.std.proofs.lemmas.List.FromFn.{get_or-map-range_with_len, length-map-range_with_len}
 use Rattle.std.proofs.lemmas.Option.{slice_get_within, slice_get-map, get_or_from_slice_get, same_Some}
+use Rattle.finite_sets.proofs.Places.{same_by_places, slice_get-below, slice_get-push_cases}
 use Rattle.ext_model.specs.declared.records.NodeRec.{NodeRec}
 use Rattle.ext_model.specs.RecordNames.{names_of}
 use Rattle.circuit_model.specs.Elements.{Element}
 use Rattle.name_classes.specs.Classes.{AreLabels}
 use Rattle.node_labels.specs.Labels.{group_of, groups_of, AreNamed}
-use Rattle.node_labels.proofs.PlaceLaws.{thing_at, place_push_cases, place_set, place_set_other}
+use Rattle.node_labels.proofs.PlaceLaws.{place_set, place_set_other}
 
 -- The nodes have so many of the names, each those of its label.
 pub record AreNamedUpTo (list : List (List ℕ)) (labels : List ℕ) (n : ℕ) (nodes : List NodeRec) : Type 0 where
@@ -46,16 +47,6 @@ group_none (n ∷ names) (l ∷ labels) k none = elim (cases_Bool (eqb l k)) [
 
 differ_test : (a b : ℕ) → a ≢ b → eqb a b ≡ false
 differ_test a b apart = elim (cases_Bool (eqb a b)) [ inl same ↦ absurd (apart (eqb-true a b same)) | inr differ ↦ differ ]
-
--- two lists that have the same at each place are one
-from_places : {X : Type 0} (xs ys : List X) → length xs ≡ length ys → ((k : ℕ) (x y : X) → slice_get xs k ≡ Some x → slice_get ys k ≡ Some y → x ≡ y)
-    → xs ≡ ys
-from_places [] [] long same = refl
-from_places [] (y ∷ ys) long same = absurd (omega (arith, long))
-from_places (x ∷ xs) [] long same = absurd (omega (arith, long))
-from_places {X} (x ∷ xs) (y ∷ ys) long same =
-    ap (λ (z : X). z ∷ xs) (same 0 x y refl refl)
-    ∙ ap (λ (l : List X). y ∷ l) (from_places xs ys (omega (arith, long)) (λ k a b p q. same (suc k) a b p q))
 
 module _ (list : List (List ℕ)) (labels : List ℕ) (long : length labels ≡ length list) (n : ℕ) (inside : n < length labels) (name : List ℕ)
     (at : slice_get list n ≡ Some name) where
@@ -126,7 +117,7 @@ module _ (list : List (List ℕ)) (labels : List ℕ) (long : length labels ≡ 
           | inl before ↦ (let r = was.used k before in (r.0, (omega (arith, r.1.0), r.1.1)))
           | inr past ↦ (n, (omega arith, omega (arith, less, many, past, next)))
         ];
-        each = λ k one there. elim (place_push_cases nodes new one k there) [
+        each = λ k one there. elim (slice_get-push_cases nodes new one k there) [
           | inl was_there ↦
               (let within = slice_get_within nodes k one was_there in
               was.each k one was_there ∙ sym (same_group k (λ e. absurd (omega (arith, e, next, within)))))
@@ -169,11 +160,11 @@ module _ (elements : List Element) (list : List (List ℕ)) (labels : List ℕ) 
       let groups = groups_of list labels count in
       let many : length nodes ≡ count = so_many in
       record {
-        groups = from_places (map names_of nodes) groups
+        groups = same_by_places (map names_of nodes) groups
             (length-map nodes names_of ∙ many ∙ sym (length-map-range_with_len (group_of list labels) 0 count))
             (λ k x y p q.
             (let within = slice_get_within (map names_of nodes) k x p in
-            let r = thing_at nodes k (let long = length-map nodes names_of in omega (arith, within, long)) in
+            let r = slice_get-below nodes k (let long = length-map nodes names_of in omega (arith, within, long)) in
             let inside = slice_get_within nodes k r.0 r.1 in
             same_Some x (names_of r.0) (sym p ∙ slice_get-map names_of nodes k ∙ ap (option_map names_of) r.1) ∙ was.each k r.0 r.1
             ∙ ap (λ (l : List (List ℕ)). group_of l (take (length labels) labels) k)

@@ -4,7 +4,7 @@ ghost use Rattle.flat_nodes.specs.Filled.{AreFilled};
 
 use ext_model::NodeRec;
 use flat_sums::NodeSum;
-use geo_core::List;
+use names_lists::List;
 
 /// The nodes with these sums in them. It takes no memory.
 pub fn with_sums(mut nodes: Vec<NodeRec>, mut sums: Vec<NodeSum>) -> Vec<NodeRec>

@@ -8,8 +8,8 @@ ghost use Rattle.flat_nodes.specs.Named.{HasText, IsPlacedAt, HasAlias, ArePlace
 use element_tree::ElementTree;
 use ext_model::{CellExt, NodeRec};
 use full_names::FullNames;
-use geo_core::{List, Name, Square};
-use node_labels::copied;
+use geo_core::Square;
+use names_lists::{List, Name};
 use std::alloc::{AllocError, Global};
 use std::mem;
 
@@ -26,7 +26,7 @@ fn name_at(
 {
     text.clear();
     names.append(number, text)?;
-    copied(alloc, text.as_slice())
+    Name::of(alloc, text.as_slice())
 }
 
 // a node whose preferred name is the full name of this number, and which has nothing yet
@@ -59,7 +59,7 @@ fn placed_node(
         cap: 0,
         x: place.x,
         y: place.y,
-        kind: copied(alloc, node.kind.bytes())?,
+        kind: node.kind.copy(alloc)?,
         measures: List::of(Vec::new(alloc)),
     })
 }

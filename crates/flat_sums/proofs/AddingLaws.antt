@@ -15,9 +15,9 @@ use Rattle.finite_sets.specs.Lists.{In}
 use Rattle.finite_sets.specs.Total.{sum_on}
 use Rattle.finite_sets.proofs.Members.{In-append_cases, In-map_source}
 use Rattle.finite_sets.proofs.Sums.{sum_on-push}
+use Rattle.finite_sets.proofs.Searches.{All-In}
 use Rattle.circuit_model.specs.declared.limits.TheConstants.{MOST_NODES, MOST_MERGES}
 use Rattle.node_labels.proofs.PlaceLaws.{place_set, place_set_other}
-use Rattle.node_labels.proofs.SpotLaws.{All-In}
 use Rattle.ext_model.specs.Lawful.{IsMeasure}
 use Rattle.node_labels.specs.Spots.{IsLabel}
 use Rattle.flat_sums.specs.declared.sums.NodeSum.{NodeSum}

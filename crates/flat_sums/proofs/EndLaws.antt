@@ -5,6 +5,7 @@ use Rattle.std.specs.Option.{option_map}
 use Rattle.std.proofs.lemmas.Option.{slice_get_within, slice_get_read, slice_get-get_or, slice_get-map, get_or_from_slice_get, same_Some}
 use Rattle.finite_sets.specs.Lists.{In}
 use Rattle.finite_sets.proofs.Members.{In-map}
+use Rattle.finite_sets.proofs.Places.{In-slice_get, slice_get-below}
 use Rattle.ext_model.specs.declared.records.NodeRec.{NodeRec}
 use Rattle.ext_model.specs.declared.records.MergeRec.{MergeRec}
 use Rattle.ext_model.specs.declared.records.CellExt.{CellExt}
@@ -17,10 +18,11 @@ use Rattle.full_names.specs.Names.{AreNames, IsElement, IsSpotOf, elements_in}
 use Rattle.full_names.specs.NameLists.{IsFullNameList}
 use Rattle.flat_limits.proofs.TreeLaws.{no_flat}
 use Rattle.name_classes.specs.declared.classes.NameClasses.{NameClasses}
-use Rattle.node_labels.proofs.PlaceLaws.{place_of, thing_at, In-place}
-use Rattle.node_labels.proofs.SpotLaws.{tree_of_names, flat_here, name_among}
+use Rattle.node_labels.proofs.PlaceLaws.{place_of}
+use Rattle.node_labels.proofs.SpotLaws.{flat_here, name_among}
 use Rattle.name_classes.specs.declared.classes.MergeEnd.{MergeEnd}
 use Rattle.name_classes.specs.Classes.{EndsAt, HasEnds, AreClasses, firsts_of}
+use Rattle.name_classes.proofs.TreeLaws.{tree_of_names}
 use Rattle.node_labels.specs.Spots.{element_at, cell_at, no_element}
 
 -- The first path of the merge leads to this name of this element.
@@ -73,7 +75,7 @@ merge_named names are classes divided list is_list element here merge among =
     let ends = divided.ends r.0 element (get_or names.tree.now.elements r.0 no_flat) (subst P same flat.is) in
     let m = place_of merge element.ext.merges among in
     let long = ends.long in
-    let end = thing_at (firsts_of classes.firsts (get_or names.tree.now.elements r.0 no_flat).cell) m.0 (omega (arith, m.1.0, long)) in
+    let end = slice_get-below (firsts_of classes.firsts (get_or names.tree.now.elements r.0 no_flat).cell) m.0 (omega (arith, m.1.0, long)) in
     let ended = ends.each m.0 merge end.0 m.1.1 end.1 in
     let tree = tree_of_names names are in
     let for = tree.elements_are (r.0 + end.0.step) ended.below ended.flat ended.stands.are in
@@ -84,7 +86,7 @@ merge_named names are classes divided list is_list element here merge among =
     ((is_list.all (name_in ended.below ended.name)).1 (
       ended.below,
       (
-        In-place (elements_in names) (r.0 + end.0.step) ended.below ended.stands.are.is,
+        In-slice_get (elements_in names) (r.0 + end.0.step) ended.below ended.stands.are.is,
         In-map (name_in ended.below) ended.name (node_names ended.below.ext) (subst Q record_ ended.is_spot.named),
       ),
     ))

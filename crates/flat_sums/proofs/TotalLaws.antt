@@ -11,7 +11,7 @@ use Rattle.std.proofs.lemmas.List.Sums.{sum_by-cons, sum_by_more_le}
 use Rattle.finite_sets.specs.Lists.{In}
 use Rattle.finite_sets.specs.Total.{sum_on}
 use Rattle.finite_sets.proofs.Members.{In-append_cases, In-map_source, In-get_or}
-use Rattle.finite_sets.proofs.Searches.{All-from_In}
+use Rattle.finite_sets.proofs.Searches.{All-from_In, All-In}
 use Rattle.finite_sets.proofs.Sums.{sum_on-append, sum_on-map, sum_on-same}
 use Rattle.ext_model.specs.declared.records.NodeRec.{NodeRec}
 use Rattle.ext_model.specs.declared.records.MergeRec.{MergeRec}
@@ -27,7 +27,7 @@ use Rattle.flat_limits.proofs.TreeLaws.{no_flat}
 use Rattle.node_labels.specs.Labels.{label_of}
 use Rattle.node_labels.specs.Spots.{element_at, no_element}
 use Rattle.node_labels.proofs.PlaceLaws.{place_of}
-use Rattle.node_labels.proofs.SpotLaws.{All-In, flat_here, lawful_cell}
+use Rattle.node_labels.proofs.SpotLaws.{flat_here, lawful_cell}
 use Rattle.flat_sums.specs.declared.sums.NodeSum.{NodeSum}
 use Rattle.flat_sums.specs.Sums.{Quantity, Addend, amount, counts_for, IsLawfulAmount, AreLawfulAmounts, node_addend, node_addends, merge_addend}
 use Rattle.flat_sums.specs.Sums.{merge_addends, addends_in}

@@ -1,33 +1,26 @@
 -- What trees without a fault keep to.
-use Rattle.std.proofs.Common.{◌≡◌, ℕ, ◌≤◌, Bool, cond, eqb, List, [], ◌∷◌, length, inl, inr, refl, sym, ◌∙◌, ap}
+use Rattle.std.proofs.Common.{◌≡◌, ℕ, ◌≤◌, Bool, cond, eqb, List, [], length, inl, inr, refl, sym, ◌∙◌, ap}
 use Rattle.std.specs.Prelude.{Option, Some, None, slice_get, IsSome}
 use Rattle.std.specs.Option.{option_or}
 use Rattle.std.proofs.lemmas.Bool.{cases_Bool, cases_lt, lt-ltb, eqb-true}
-use Rattle.finite_sets.specs.Lists.{In}
 use Rattle.finite_sets.proofs.Searches.{option_or-none}
-use Rattle.geo_core.specs.declared.limits.Limit.{Limit}
-use Rattle.geo_core.specs.declared.limits.Limit.TheVariants.{Depth, Elements, Nodes, Merges}
 use Rattle.ext_model.specs.declared.records.CellExt.{CellExt}
 use Rattle.circuit_model.specs.declared.faults.FlatFault.{FlatFault}
 use Rattle.circuit_model.specs.declared.faults.FlatFault.TheVariants.{TooMany, Classes}
+use Rattle.circuit_model.specs.declared.limits.CircuitLimit.{CircuitLimit}
+use Rattle.circuit_model.specs.declared.limits.CircuitLimit.TheVariants.{Depth, Elements, Nodes, Merges}
 use Rattle.circuit_model.specs.Elements.{Element, ext_of, elements_of}
 use Rattle.full_names.specs.declared.names.FullNames.{FullNames}
 use Rattle.full_names.specs.Names.{elements_in}
-use Rattle.circuit_model.specs.Refusals.{first_fault, past, class_fault, node_count, merge_count, walk_fault, depth_of, count_fault, flat_fault, IsFlatFaultOf}
+use Rattle.circuit_model.specs.Refusals.{past, class_fault, node_count, merge_count, walk_fault, depth_of, count_fault, flat_fault, IsFlatFaultOf}
 use Rattle.circuit_model.specs.declared.limits.TheConstants.{LONGEST_CHAIN, MOST_FLAT_ELEMENTS, MOST_NODES, MOST_MERGES}
 use Rattle.element_tree.specs.Trees.{tree_fault}
 use Rattle.full_names.specs.NameLists.{name_fault}
 use Rattle.flat_limits.specs.Counts.{node_fault, merge_fault}
 use Rattle.flatten.specs.Stages.{use_fault, number_fault, late_fault, HasNoUseFault, HasNoCountFault, IsLateFaultOf}
 
--- where nothing in a list has a fault, each thing has none
-pub no_fault_In : {X : Type 0} (fault_of : X → Option FlatFault) (xs : List X) → first_fault fault_of xs ≡ None → (x : X) → In x xs → fault_of x ≡ None
-no_fault_In fault_of [] none x here = absurd here
-no_fault_In fault_of (y ∷ ys) none x (inl e) = ap fault_of (sym e) ∙ (option_or-none (fault_of y) (first_fault fault_of ys) none).0
-no_fault_In fault_of (y ∷ ys) none x (inr h) = no_fault_In fault_of ys (option_or-none (fault_of y) (first_fault fault_of ys) none).1 x h
-
 -- a number that is not past its limit
-not_past : (most : ℕ) (limit : Limit) (number : ℕ) → past most limit number ≡ None → number ≤ most
+not_past : (most : ℕ) (limit : CircuitLimit) (number : ℕ) → past most limit number ≡ None → number ≤ most
 not_past most limit number none = elim (cases_lt most number) [
   | inr within ↦ within
   | inl more ↦

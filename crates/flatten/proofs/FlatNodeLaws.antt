@@ -1,11 +1,10 @@
 -- Nodes with the names of groups, their places and their sums are the flat nodes.
 use Rattle.std.proofs.Common.{◌≡◌, ℕ, suc, ◌<◌, List, [], ◌∷◌, length, map, inl, refl, sym, ◌∙◌, ap, subst, arith}
 use Rattle.std.specs.Prelude.{Some, slice_get}
-use Rattle.std.specs.Option.{option_map}
 use Rattle.std.specs.declared.cmp.Ordering.TheVariants.{Less}
-use Rattle.std.proofs.lemmas.List.{length-map}
-use Rattle.std.proofs.lemmas.Option.{slice_get_within, slice_get-map, same_Some}
+use Rattle.std.proofs.lemmas.Option.{slice_get_within, same_Some}
 use Rattle.finite_sets.specs.Lists.{In}
+use Rattle.finite_sets.proofs.Places.{slice_get-map_source, In-slice_get, slice_get-below, map-pointwise}
 use Rattle.ext_model.specs.declared.records.NodeRec.{NodeRec}
 use Rattle.ext_model.specs.NameOrder.{name_cmp}
 use Rattle.ext_model.specs.RecordNames.{names_of}
@@ -17,7 +16,7 @@ use Rattle.name_classes.specs.Classes.{AreLabels}
 use Rattle.node_labels.specs.Labels.{label_of, group_of, AreNamed}
 use Rattle.node_labels.proofs.GroupLaws.{in_group, from_group, group_in_order, one_node, one_label}
 use Rattle.node_labels.proofs.NodeLaws.{node_at, node_found, before_node}
-use Rattle.node_labels.proofs.PlaceLaws.{In-place, place_of, thing_at, map-same}
+use Rattle.node_labels.proofs.PlaceLaws.{place_of}
 use Rattle.flat_sums.specs.declared.sums.NodeSum.{NodeSum}
 use Rattle.flat_sums.specs.Sums.{AreSums}
 use Rattle.flat_nodes.specs.Filled.{with_sum, AreFilled}
@@ -31,21 +30,13 @@ order_from_places (x ∷ []) before = tt
 order_from_places (x ∷ y ∷ names) before =
     (before 0 1 x y (omega arith) refl refl, order_from_places (y ∷ names) (λ a b p q less h k. before (suc a) (suc b) p q (omega (arith, less)) h k))
 
--- what stands at a place of an image
-source_at : {X Y : Type 0} (f : X → Y) (xs : List X) (k : ℕ) (y : Y) → slice_get (map f xs) k ≡ Some y → (x : X) × ((slice_get xs k ≡ Some x) × (f x ≡ y))
-source_at {X} {Y} f xs k y at =
-    let within = slice_get_within (map f xs) k y at in
-    let long = length-map xs f in
-    let r = thing_at xs k (omega (arith, within, long)) in
-    (r.0, (r.1, same_Some (f r.0) y (sym (ap (option_map f) r.1) ∙ sym (slice_get-map f xs k) ∙ at)))
-
 -- nodes with their sums have their names still
 pub named_filled : (list : List (List ℕ)) (labels : List ℕ) (count : ℕ) (nodes new : List NodeRec) (sums : List NodeSum) → length sums ≡ length nodes
     → AreFilled nodes sums new → AreNamed list labels count nodes → AreNamed list labels count new
 named_filled list labels count nodes new sums many filled named = record {
-  groups = map-same names_of names_of new nodes filled.long
+  groups = map-pointwise names_of names_of new nodes filled.long
       (λ k x y p q. (let within = slice_get_within nodes k y q in
-      let s = thing_at sums k (omega (arith, within, many)) in
+      let s = slice_get-below sums k (omega (arith, within, many)) in
       let is : x ≡ with_sum y s.0 = same_Some x (with_sum y s.0) (sym p ∙ filled.each k y s.0 q s.1) in
       ap names_of is))
       ∙ named.groups;
@@ -74,10 +65,10 @@ module _ (elements : List Element) (list : List (List ℕ)) (is_list : IsFullNam
       let group = (node_at list labels count new named number node at).names in
       let within = slice_get_within new number node at in
       let long = filled.long in
-      let old = thing_at nodes number (omega (arith, within, long)) in
-      let sum = thing_at sums number (omega (arith, within, long, many)) in
+      let old = slice_get-below nodes number (omega (arith, within, long)) in
+      let sum = slice_get-below sums number (omega (arith, within, long, many)) in
       let is : node ≡ with_sum old.0 sum.0 = same_Some node (with_sum old.0 sum.0) (sym at ∙ filled.each number old.0 sum.0 old.1 sum.1) in
-      let where_old = placed old.0 (In-place nodes number old.0 old.1) in
+      let where_old = placed old.0 (In-slice_get nodes number old.0 old.1) in
       let of = summed.each number sum.0 node sum.1 group in
       let O : List (List ℕ) → Type 0 = AreInNameOrder in
       let P : NodeRec → Type 0 = IsPlaced elements in
@@ -102,8 +93,8 @@ module _ (elements : List Element) (list : List (List ℕ)) (is_list : IsFullNam
   pub flat_nodes_are : AreFlatNodes elements classes new
   flat_nodes_are = record {
     in_order = order_from_places (map (λ node. node.name) new)
-        (λ a b x y less p q. (let first = source_at (λ (node : NodeRec). node.name) new a x p in
-        let second = source_at (λ (node : NodeRec). node.name) new b y q in
+        (λ a b x y less p q. (let first = slice_get-map_source (λ (node : NodeRec). node.name) new a x p in
+        let second = slice_get-map_source (λ (node : NodeRec). node.name) new b y q in
         let P : List ℕ → Type 0 = λ z. name_cmp z y ≡ Less in
         let Q : List ℕ → Type 0 = λ z. name_cmp first.0.name z ≡ Less in
         subst P first.1.1 (subst Q second.1.1
@@ -115,5 +106,5 @@ module _ (elements : List Element) (list : List (List ℕ)) (is_list : IsFullNam
         let r = node_found elements list labels count new is_list.in_order are named name among in
         let group = (node_at list labels count new named number r.0 r.1.0).names in
         let P : List (List ℕ) → Type 0 = λ l. In name l in
-        (r.0, (In-place new number r.0 r.1.0, subst P (sym group) (in_group list labels number name are.long among refl))));
+        (r.0, (In-slice_get new number r.0 r.1.0, subst P (sym group) (in_group list labels number name are.long among refl))));
   }

@@ -16,9 +16,9 @@ use flat_fets::flat_fets;
 use flat_nodes::{named_nodes, with_sums};
 use flat_sums::node_sums;
 use full_names::FullNames;
-use geo_core::List;
 use name_classes::NameClasses;
-use node_labels::{CellSpots, cell_spots, copied};
+use names_lists::List;
+use node_labels::{CellSpots, cell_spots};
 use std::alloc::{AllocError, Global};
 
 // the nodes of a flat circuit with so many classes of material
@@ -74,7 +74,7 @@ pub fn circuit_of(
     let labels = classes.labels.items();
     let fets = flat_fets(alloc, exts, tree, names, labels, spots, nodes.as_slice())?;
     Ok(Circuit {
-        tech: copied(alloc, top.tech.bytes())?,
+        tech: top.tech.copy(alloc)?,
         classes: List::of(Vec::from_slice(alloc, measured)?),
         nodes: List::of(nodes),
         fets: List::of(fets),

@@ -12,8 +12,8 @@ use element_tree::{ElementTree, element_tree};
 use ext_model::{CellExt, Circuit};
 use flat_limits::{check_classes, check_merges, check_nodes, root_number};
 use full_names::{FullNames, full_names};
-use geo_core::Name;
 use name_classes::name_classes;
+use names_lists::Name;
 use record_graph::record_graph;
 use std::alloc::Global;
 

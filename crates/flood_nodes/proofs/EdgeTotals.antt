@@ -1,7 +1,7 @@
 -- How many edges lead from some tiles to some tiles.
-use Rattle.std.proofs.Common.{◌≡◌, ◌≢◌, ℕ, ◌<◌, ℤ, pos, ◌+ℤ◌, ◌*ℤ◌, Bool, true, false, cond, eqb, ◌&&◌, List, [], ◌∷◌, length, inl, inr, refl, sym, ◌∙◌, ap}
+use Rattle.std.proofs.Common.{◌≡◌, ◌≢◌, ℕ, ◌<◌, ℤ, pos, ◌+ℤ◌, ◌*ℤ◌, Bool, true, false, cond, eqb, ◌&&◌, List, [], ◌∷◌, length, inl, inr, sym, ◌∙◌, ap}
 use Rattle.std.proofs.Common.{subst, arith}
-use Rattle.std.proofs.lemmas.Bool.{false≢true}
+use Rattle.std.proofs.lemmas.Bool.{and_parts}
 use Rattle.std.proofs.lemmas.Int.{ints}
 use Rattle.std.proofs.lemmas.Option.{slice_get_within}
 use Rattle.finite_sets.specs.Lists.{In, Distinct, Lists}
@@ -44,11 +44,6 @@ pick g i (x ∷ xs) distinct (inr later) =
     none_plus : (z : ℤ) → pos 0 +ℤ z ≡ z
     none_plus z = omega (arith, ints)
 
-both_pass : (p q : Bool) → (p && q) ≡ true → (p ≡ true) × (q ≡ true)
-both_pass true true e = (refl, refl)
-both_pass true false e = absurd (false≢true e)
-both_pass false q e = absurd (false≢true e)
-
 pass_both : (p q : Bool) → p ≡ true → q ≡ true → (p && q) ≡ true
 pass_both p q e f = (λ k. e k && f k)
 
@@ -78,7 +73,7 @@ module _ (layout : Layout) (tiles : List RegionTile) (from to : ℕ → Bool) (a
       Total-iff (InFamily Edges (pairs_of indices indices)) (LeadsAcross (IsInTiles tiles from) (IsInTiles tiles to)) (λ e. pos 1) (sum_on counted (pairs_of
       indices indices))
       (λ e h.
-      let tests = both_pass (from h.label.0) (to h.label.1) h.inside.0 in
+      let tests = and_parts (from h.label.0) (to h.label.1) h.inside.0 in
       record {
         from = record { index = h.label.0; lies = h.inside.1.from; passes = tests.0 };
         to = record { index = h.label.1; lies = h.inside.1.to; passes = tests.1 };

@@ -2,7 +2,7 @@
 use Rattle.std.proofs.Common.{◌≡◌, ◌≢◌, ◌⊎◌, inl, inr, ℕ, ◌+◌, ◌<◌, ℤ, pos, ◌<ℤ◌, Bool, true, false, cond, eqb, ◌&&◌, List, [], ◌∷◌, ◌++◌, filter, length}
 use Rattle.std.proofs.Common.{get_or, Some, IsTrue, sym, ◌∙◌, ap, subst, arith}
 use Rattle.std.specs.Prelude.{slice_get, slice_index, All, AllPairs}
-use Rattle.std.proofs.lemmas.Bool.{cases_eq, cases_lt, false≢true}
+use Rattle.std.proofs.lemmas.Bool.{cases_eq, cases_lt, false≢true, and_parts}
 use Rattle.std.proofs.lemmas.Int.{ints}
 use Rattle.std.proofs.lemmas.List.{get_or-map, length-map}
 use Rattle.std.proofs.lemmas.Option.{slice_get_within, slice_get-get_or, get_or_from_slice_get}
@@ -32,7 +32,7 @@ use Rattle.flood_nodes.specs.Stacking.{AreTyped, AreSpread, reaches, IsCrossing,
 use Rattle.flood_nodes.specs.Stacking.{AddsStacked, AddsAllStacked}
 use Rattle.flood_nodes.specs.TileShares.{no_tile, tile_at, shared_by, IsTileContact}
 use Rattle.flood_nodes.proofs.ShareLaws.{one_plane, two_planes}
-use Rattle.flood_nodes.proofs.StackLaws.{same_from_test, both_pass, imaged}
+use Rattle.flood_nodes.proofs.StackLaws.{same_from_test, imaged}
 
 -- the numbers below n that pass a test
 abbrev pub PassesBelow : (ℕ → Bool) → ℕ → ℕ → Type 0
@@ -65,7 +65,7 @@ pub reaching_are : (raw : RawTech) (tiles : List RegionTile) (plane other : ℕ)
 reaching_are raw tiles plane other crossings listed =
     Lists-iff (λ k. IsCrossing raw tiles k × (passes_reach raw tiles plane other k ≡ true)) (IsReaching raw tiles plane other) (filter (passes_reach raw
     tiles plane other) crossings)
-    (λ k h. let e = both_pass (eqb (tile_at tiles k).plane plane) (reaches raw other (tile_at tiles k).kind.0) h.1 in
+    (λ k h. let e = and_parts (eqb (tile_at tiles k).plane plane) (reaches raw other (tile_at tiles k).kind.0) h.1 in
     record { crossing = h.0; on_plane = same_from_test (tile_at tiles k).plane plane e.0; reaches = e.1 })
     (λ k r. (r.crossing, (λ i. one_plane (tile_at tiles k).plane plane r.on_plane i && r.reaches i)))
     (Lists-filter (IsCrossing raw tiles) (passes_reach raw tiles plane other) crossings listed)

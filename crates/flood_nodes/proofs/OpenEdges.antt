@@ -1,6 +1,6 @@
 -- Edges that lead out of tiles of a class.
 use Rattle.std.proofs.Common.{◌≡◌, ℕ, ℤ, pos, ◌+ℤ◌, ◌-ℤ◌, ◌*ℤ◌, Bool, true, false, not, cond, ◌&&◌, List, map, refl, sym, ◌∙◌, ap, subst, arith}
-use Rattle.std.proofs.lemmas.Bool.{false≢true}
+use Rattle.std.proofs.lemmas.Bool.{false≢true, and_parts}
 use Rattle.std.proofs.lemmas.Int.{ints}
 use Rattle.std.proofs.lemmas.Option.{slice_get_within, slice_get-get_or, get_or_from_slice_get}
 use Rattle.geo_core.specs.declared.squares.Square.{Square}
@@ -174,11 +174,6 @@ pub contacts_close_edges : ContactsCloseEdges
 contacts_close_edges layout tiles contacts in_class from are listed space_out inside = open_edges_of layout tiles contacts in_class from are listed space_out
     inside
 
-both_pass : (p q : Bool) → (p && q) ≡ true → (p ≡ true) × (q ≡ true)
-both_pass true true e = (refl, refl)
-both_pass true false e = absurd (false≢true e)
-both_pass false q e = absurd (false≢true e)
-
 -- perimeters of some tiles in a class
 pub tiles_measure : TilesMeasure
 tiles_measure layout tiles contacts in_class from are listed space_out =
@@ -193,11 +188,11 @@ tiles_measure layout tiles contacts in_class from are listed space_out =
     Total-unfilter (IsInTiles tiles from) class_at led_out (open_by_contacts tiles contacts some (is_of tiles in_class)) all.0 all.1.0
     (Total-iff (IsInTiles tiles some) (λ (place : Place). IsInTiles tiles from place × (class_at place ≡ true)) led_out (open_by_contacts tiles contacts some
     (is_of tiles in_class))
-    (λ place h. let tests = both_pass (from h.index) (is_of tiles in_class h.index) h.passes in
+    (λ place h. let tests = and_parts (from h.index) (is_of tiles in_class h.index) h.passes in
     (record { index = h.index; lies = h.lies; passes = tests.0 }, tile_class h.index place h.lies ∙ tests.1))
     (λ place h. record { index = h.0.index; lies = h.0.lies; passes = (λ k. h.0.passes k && (sym (tile_class h.0.index place h.0.lies) ∙ h.1) k) })
     (Total-at (IsInTiles tiles some) led_out (sum_on led_out total.0) (open_by_contacts tiles contacts some (is_of tiles in_class))
-    (open_sum layout tiles contacts in_class some are listed space_out (λ i e. (both_pass (from i) (is_of tiles in_class i) e).1) total.0 total.1.0)
+    (open_sum layout tiles contacts in_class some are listed space_out (λ i e. (and_parts (from i) (is_of tiles in_class i) e).1) total.0 total.1.0)
     (Total-from_list (IsInTiles tiles some) led_out total.0 total.1.0)))
 
 -- areas of some tiles in a class
@@ -214,7 +209,7 @@ tiles_area layout tiles in_class from are =
     (get_or_from_slice_get tiles i lies.tile no_tile lies.there)))) in
     Total-unfilter (IsInTiles tiles from) class_at (λ (p : Place). pos 1) n all.0 all.1.0
     (Total-iff (IsInTiles tiles some) (λ (place : Place). IsInTiles tiles from place × (class_at place ≡ true)) (λ (p : Place). pos 1) n
-    (λ place h. let tests = both_pass (from h.index) (is_of tiles in_class h.index) h.passes in
+    (λ place h. let tests = and_parts (from h.index) (is_of tiles in_class h.index) h.passes in
     (record { index = h.index; lies = h.lies; passes = tests.0 }, tile_class h.index place h.lies ∙ tests.1))
     (λ place h. record {
       index = h.0.index;

@@ -1,9 +1,9 @@
 -- Tiles keep their places when they get numbers.
-use Rattle.std.proofs.Common.{◌≡◌, ◌≢◌, ℕ, ◌<◌, Bool, true, false, ◌||◌, ◌&&◌, eqb, List, [], ◌∷◌, length, get_or, Some, inl, inr, refl, sym, ◌∙◌, ap, subst}
+use Rattle.std.proofs.Common.{◌≡◌, ◌≢◌, ℕ, ◌<◌, Bool, ◌&&◌, eqb, List, length, get_or, Some, refl, sym, ◌∙◌, ap, subst}
 use Rattle.std.proofs.Common.{arith}
 use Rattle.std.specs.Prelude.{slice_index, All, ◌↔◌}
 use Rattle.std.specs.List.{list_any}
-use Rattle.std.proofs.lemmas.Bool.{cases_Bool, false≢true}
+use Rattle.std.proofs.lemmas.Bool.{and_parts}
 use Rattle.std.proofs.lemmas.List.{get_or-map, get_or_default, length-map, ext_get_or}
 use Rattle.std.proofs.lemmas.Option.{slice_get_within, slice_get-get_or, get_or_from_slice_get}
 use Rattle.geo_core.specs.Areas.{IsNear}
@@ -12,6 +12,7 @@ use Rattle.finite_sets.specs.Lists.{In, Lists}
 use Rattle.finite_sets.proofs.Distincts.{Distinct-places, Distinct-from_places}
 use Rattle.finite_sets.proofs.Listings.{Lists-iff}
 use Rattle.finite_sets.proofs.Members.{In-index, In-get_or}
+use Rattle.finite_sets.proofs.Searches.{list_any-source, list_any-passes}
 use Rattle.partition.specs.Divides.{Divides, IsPair}
 use Rattle.partition.specs.Marks.{IsNumbered}
 use Rattle.rect_contacts.specs.declared.contacts.Contact.{Contact}
@@ -30,7 +31,7 @@ use Rattle.flood_nodes.specs.Stacking.{AreTyped, AreSpread}
 use Rattle.flood_nodes.specs.TileShares.{no_tile, tile_at, shared_by, is_contact, IsTileContact, AreTileContacts}
 use Rattle.flood_nodes.proofs.LayoutRegions.{numbers_from_labels}
 use Rattle.flood_nodes.proofs.ShareLaws.{one_plane}
-use Rattle.flood_nodes.proofs.StackLaws.{same_from_test, both_pass}
+use Rattle.flood_nodes.proofs.StackLaws.{same_from_test}
 
 module _ (tiles : List RegionTile) (labels : List ℕ) (numbered : List RegionTile) (are : AreRenumbered tiles labels numbered) (long : length labels ≡ length
     tiles) where
@@ -162,32 +163,15 @@ join_within connects tiles links join = λ k d below.
     let linked = join.sound pair.0 pair.1 (In-get_or links k d below) in
     (slice_get_within tiles pair.0 linked.first linked.first_there, slice_get_within tiles pair.1 linked.second linked.second_there)
 
--- what a test finds in a list
-pub found_by : {X : Type 0} (test : X → Bool) (xs : List X) → list_any test xs ≡ true → (x : X) × (In x xs × (test x ≡ true))
-found_by test [] h = absurd (false≢true h)
-found_by test (x ∷ xs) h = elim (cases_Bool (test x)) [
-  | inl passes ↦ (x, (inl refl, passes))
-  | inr fails ↦ (let r = found_by test xs (sym (ap (λ (v : Bool). v || list_any test xs) fails) ∙ h) in (r.0, (inr r.1.0, r.1.1)))
-]
-
-finds : {X : Type 0} (test : X → Bool) (xs : List X) (x : X) → In x xs → test x ≡ true → list_any test xs ≡ true
-finds test [] x i passes = absurd i
-finds test (y ∷ ys) x (inl e) passes = ap (λ (v : Bool). v || list_any test ys) (ap test e ∙ passes)
-finds test (y ∷ ys) x (inr i) passes = or_later (test y) (list_any test ys) (finds test ys x i passes)
-  where
-    or_later : (p q : Bool) → q ≡ true → (p || q) ≡ true
-    or_later true q e = refl
-    or_later false q e = e
-
 -- the contacts of tiles, told by a fact that holds in one way at most, are listed
 pub contacts_listed : (tiles : List RegionTile) (contacts : List Contact) → AreTileContacts tiles contacts → Lists (IsTileContact tiles) contacts
 contacts_listed tiles contacts are = (
   Distinct-from_places contacts are.once,
   (λ c is.
-      let f = found_by (is_contact c) contacts (are.whole c is) in
+      let f = list_any-source (is_contact c) contacts (are.whole c is) in
       let at = In-index f.0 contacts f.1.0 in
       let other = subst (IsTileContact tiles) (at.1.1 c) (are.each at.0 c at.1.0) in
-      let tests = both_pass (eqb c.first f.0.first) (eqb c.second f.0.second) f.1.1 in
+      let tests = and_parts (eqb c.first f.0.first) (eqb c.second f.0.second) f.1.1 in
       let first = same_from_test c.first f.0.first tests.0 in
       let second = same_from_test c.second f.0.second tests.1 in
       let length = is.length_is ∙ ap (λ (k : ℕ). shared_by (tile_at tiles k) (tile_at tiles c.second)) first
@@ -202,5 +186,5 @@ pub contacts_told : (tiles : List RegionTile) (contacts : List Contact) → List
 contacts_told tiles contacts listed = record {
   each = λ k d below. listed.2 (get_or contacts k d) (In-get_or contacts k d below);
   once = λ i j d less below. Distinct-places contacts i j d listed.0 less below;
-  whole = λ c is. finds (is_contact c) contacts c (listed.1 c is) (λ k. one_plane c.first c.first refl k && one_plane c.second c.second refl k);
+  whole = λ c is. list_any-passes (is_contact c) contacts c (listed.1 c is) (λ k. one_plane c.first c.first refl k && one_plane c.second c.second refl k);
 }

@@ -27,7 +27,8 @@ cond_zero : (test : Bool) (v : ℤ) → v ≡ pos 0 → cond test v (pos 0) ≡ 
 cond_zero true v none = none
 cond_zero false v none = refl
 
-cond_not_negative : (test : Bool) (v : ℤ) → pos 0 ≤ℤ v → pos 0 ≤ℤ cond test v (pos 0)
+-- what is not negative, or nothing, is not negative
+pub cond_not_negative : (test : Bool) (v : ℤ) → pos 0 ≤ℤ v → pos 0 ≤ℤ cond test v (pos 0)
 cond_not_negative true v h = h
 cond_not_negative false v h = omega (arith, ints)
 

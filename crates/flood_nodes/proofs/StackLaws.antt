@@ -3,7 +3,7 @@ use Rattle.std.proofs.Common.{◌≡◌, ◌≢◌, inl, inr, ℕ, Bool, true, f
 use Rattle.std.proofs.Common.{ap, subst, arith}
 use Rattle.std.specs.Prelude.{nat_lt, is_some, find}
 use Rattle.std.specs.List.{list_any}
-use Rattle.std.proofs.lemmas.Bool.{cases_Bool, false≢true}
+use Rattle.std.proofs.lemmas.Bool.{cases_Bool, false≢true, and_parts}
 use Rattle.std.proofs.lemmas.Bool.Decides.{nat_tests}
 use Rattle.finite_sets.specs.Lists.{In}
 use Rattle.finite_sets.proofs.Members.{In-index}
@@ -18,11 +18,6 @@ use Rattle.flood_nodes.proofs.ShareLaws.{one_plane, two_planes}
 pub same_from_test : (m n : ℕ) → eqb m n ≡ true → m ≡ n
 same_from_test m n test = grind (arith, nat_tests)
 
-pub both_pass : (p q : Bool) → (p && q) ≡ true → (p ≡ true) × (q ≡ true)
-both_pass true true e = (refl, refl)
-both_pass true false e = absurd (false≢true e)
-both_pass false q e = absurd (false≢true e)
-
 -- one of two that passes, where the first does not
 second_passes : (p q : Bool) → (p || q) ≡ true → p ≡ false → q ≡ true
 second_passes true q e f = absurd (false≢true (sym f))
@@ -30,9 +25,9 @@ second_passes false q e f = e
 
 pair_plane : (raw : RawTech) (s t : ℕ) (pair : TypeId × TypeId) → IsPair raw pair → is_of s t pair ≡ true → plane_of raw s ≡ plane_of raw t
 pair_plane raw s t pair is test = elim (cases_Bool (eqb pair.0.0 s && eqb pair.1.0 t)) [
-  | inl first ↦ (let e = both_pass (eqb pair.0.0 s) (eqb pair.1.0 t) first in
+  | inl first ↦ (let e = and_parts (eqb pair.0.0 s) (eqb pair.1.0 t) first in
       ap (plane_of raw) (sym (same_from_test pair.0.0 s e.0)) ∙ is.plane ∙ ap (plane_of raw) (same_from_test pair.1.0 t e.1))
-  | inr fails ↦ (let e = both_pass (eqb pair.0.0 t) (eqb pair.1.0 s) (second_passes (eqb pair.0.0 s && eqb pair.1.0 t) (eqb pair.0.0 t && eqb pair.1.0 s)
+  | inr fails ↦ (let e = and_parts (eqb pair.0.0 t) (eqb pair.1.0 s) (second_passes (eqb pair.0.0 s && eqb pair.1.0 t) (eqb pair.0.0 t && eqb pair.1.0 s)
       test fails) in
       ap (plane_of raw) (sym (same_from_test pair.1.0 s e.1)) ∙ sym is.plane ∙ ap (plane_of raw) (same_from_test pair.0.0 t e.0))
 ]
@@ -50,7 +45,7 @@ no_pair raw s t differ (pair ∷ pairs) each = elim (cases_Bool (is_of s t pair)
 one_layer : (raw : RawTech) (s t : ℕ) → IsWellFormed raw → connects raw s t ≡ true → plane_of raw s ≢ plane_of raw t → layer_of raw s ≡ layer_of raw t
 unfolding connects
 one_layer raw s t well connected differ =
-    let rest = (both_pass (is_type raw s && is_type raw t) (eqb s t || is_pair raw s t || eqb (layer_of raw s) (layer_of raw t)) connected).1 in
+    let rest = (and_parts (is_type raw s && is_type raw t) (eqb s t || is_pair raw s t || eqb (layer_of raw s) (layer_of raw t)) connected).1 in
     let none = no_pair raw s t differ raw.pairs (λ p i. let x = In-index p raw.pairs i in subst (IsPair raw) (x.1.1 p) (well.pairs x.0 p x.1.0)) in
     let not_same = two_planes s t (λ e. differ (ap (plane_of raw) e)) in
     same_from_test (layer_of raw s) (layer_of raw t) (second_passes (eqb s t || is_pair raw s t) (eqb (layer_of raw s) (layer_of raw t)) rest

@@ -9,13 +9,13 @@ ghost use Rattle.layout_model.specs.RegionTiles.{LieApart, AreLayoutTiles, AreRe
 ghost use Rattle.flood_nodes.specs.Renumbered.{AreRenumbered};
 ghost use Rattle.flood_nodes.specs.Stacking.{AreTyped};
 
-use crate::faults::FloodFault;
 use crate::found::Regions;
 use crate::gathering::gather;
 use crate::linking::links;
 use crate::sharing::contacts_of;
-use geo_core::{List, Rect};
+use geo_core::Rect;
 use layout_model::RegionTile;
+use names_lists::List;
 use partition::{Labelling, classes};
 use std::alloc::{AllocError, Global};
 use tech_model::{Layers, Tech};
@@ -58,7 +58,7 @@ pub fn regions_of_tiles(
     alloc: Global,
     tech: &Tech,
     tiles: &[RegionTile],
-) -> Result<Regions, FloodFault>
+) -> Result<Regions, AllocError>
     requires proper { All (λ tile. IsProper tile.area) tiles.now }
     requires near { All (λ tile. IsNear tile.area) tiles.now }
     requires apart { AllPairs LieApart tiles.now }
@@ -92,7 +92,7 @@ pub fn regions<Y: Layers>(
     tech: &Tech,
     layers: &Y,
     area: Rect,
-) -> Result<Regions, FloodFault>
+) -> Result<Regions, AllocError>
     requires proper { IsProper area }
     requires near { IsNear area }
     requires types { AreTypesOf tech.now (Y.kind layers.now) }

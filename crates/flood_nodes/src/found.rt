@@ -5,8 +5,8 @@ ghost use Rattle.std.specs.Prelude.{All};
 ghost use Rattle.flood_nodes.specs.SoundTiles.{IsSoundTile};
 ghost use Rattle.flood_nodes.specs.TileShares.{IsTileContact, AreTileContacts};
 
-use geo_core::List;
 use layout_model::RegionTile;
+use names_lists::List;
 use rect_contacts::Contact;
 
 /// The tiles of a layout with the numbers of their regions, which are counted from 0, and how many there are.

@@ -8,7 +8,6 @@ ghost use Rattle.layout_model.specs.RegionTiles.{AreLayoutTiles};
 ghost use Rattle.flood_nodes.specs.Stacking.{AreTyped};
 ghost use Rattle.flood_nodes.specs.Gathered.{tile_on};
 
-use crate::faults::FloodFault;
 use geo_core::Rect;
 use layout_model::RegionTile;
 use std::alloc::{AllocError, Global};
@@ -39,7 +38,7 @@ pub fn gather<Y: Layers>(
     tech: &Tech,
     layers: &Y,
     area: Rect,
-) -> Result<Vec<RegionTile>, FloodFault>
+) -> Result<Vec<RegionTile>, AllocError>
     requires proper { IsProper area }
     requires near { IsNear area }
     requires types { AreTypesOf tech.now (Y.kind layers.now) }
@@ -50,9 +49,7 @@ pub fn gather<Y: Layers>(
     let planes = tech.raw().planes.items().len() as u8;
     let mut tiles = Vec::new(alloc);
     for plane in 0..planes {
-        let Ok(found) = layers.tiles(alloc, plane, area) else {
-            return Err(FloodFault::Memory);
-        };
+        let found = layers.tiles(alloc, plane, area)?;
         push_tiles(&mut tiles, plane, found.as_slice())?;
     }
     Ok(tiles)

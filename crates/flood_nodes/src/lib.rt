@@ -11,13 +11,11 @@
 //! squares are counted by what tiles share.
 #![tactic(auto)]
 
-mod faults;
 mod flooding;
 mod found;
 mod gathering;
 mod linking;
 mod sharing;
 
-pub use faults::FloodFault;
 pub use flooding::{regions, regions_of_tiles};
 pub use found::Regions;

@@ -2,19 +2,19 @@
 use Rattle.std.proofs.Common.{◌≡◌, ℕ, ◌+◌, ◌<◌, ◌≤◌, List, Some, length, take, sym, ◌∙◌, ap, subst, arith}
 use Rattle.std.specs.Prelude.{slice_get}
 use Rattle.std.proofs.lemmas.List.Sums.{sum_by_more, sum_by_more_le}
+use Rattle.finite_sets.proofs.Places.{slice_get-below}
 use Rattle.element_tree.specs.declared.tree.TreeElement.{TreeElement}
 use Rattle.full_names.specs.declared.own_names.OwnName.{OwnName}
 use Rattle.full_names.specs.declared.own_names.RecordNames.{RecordNames}
 use Rattle.full_names.specs.OwnNames.{locals_of}
 use Rattle.full_names.specs.Reached.{no_element, flat_at}
 use Rattle.full_names.specs.ByteCounts.{local_bytes, element_bytes}
-use Rattle.full_names.proofs.Lookups.{slice_get_some}
 use Rattle.full_names.proofs.RecordReads.{locals_known}
 
 -- the path of one more name is within the sum of all
 pub path_counts : (path : ℕ) (names : List OwnName) (k : ℕ) → k < length names → local_bytes path (take k names) + path ≤ local_bytes path names
 path_counts path names k within =
-    let one = (slice_get_some names k within).0 in
+    let one = (slice_get-below names k within).0 in
     let more = sum_by_more_le (λ (name : OwnName). path + length name.text.now) names k one within in
     omega (arith, more)
 

@@ -19,6 +19,7 @@ use Rattle.std.proofs.lemmas.Slice.Eq.{bytes_eq-Decides}
 use Rattle.finite_sets.specs.Lists.{In}
 use Rattle.finite_sets.proofs.Members.{In-push_cases, In-append_left, In-push, In-permutation}
 use Rattle.finite_sets.proofs.Orders.{IsSorted-pairs}
+use Rattle.finite_sets.proofs.Places.{In-slice_get, slice_get-In}
 use Rattle.element_tree.specs.declared.tree.TreeElement.{TreeElement}
 use Rattle.full_names.specs.declared.own_names.OwnName.{OwnName}
 use Rattle.full_names.specs.declared.own_names.RecordNames.{RecordNames}
@@ -28,7 +29,6 @@ use Rattle.full_names.specs.Reached.{flat_at}
 use Rattle.full_names.specs.Globals.{global_texts, text_cmp, global_cmp, IsOwnGlobal, EndsWith}
 use Rattle.full_names.specs.Globals.{IsFound, AreFound, AreInTextOrder, AreOnce, AreGlobalNames}
 use Rattle.full_names.proofs.NameForms.{then_rest}
-use Rattle.full_names.proofs.Lookups.{slice_get-In, In-slice_get}
 
 -- The names of an element stand behind those before.
 pub record AreGlobalsAdded (names : List OwnName) (element : ℕ) (before now : List GlobalName) : Type 0 where
@@ -255,7 +255,7 @@ module _ (found : List GlobalName) (in_order : IsSorted global_cmp found) (long 
       ∙ ap (λ (o : GlobalName). is_lt (global_cmp (get_or found k name) o)) (sym first) ∙ pair
 
   long_of : (old : GlobalName) → In old names → old.length ≡ length old.text.now
-  long_of old listed = let stands = so_far.from old listed in long old (slice_get-In found stands.place old stands.at)
+  long_of old listed = let stands = so_far.from old listed in long old (In-slice_get found stands.place old stands.at)
 
   later_below : (old : GlobalName) → In old names → StandsBelow found (k + 1) old
   later_below old listed =
@@ -284,7 +284,7 @@ module _ (found : List GlobalName) (in_order : IsSorted global_cmp found) (long 
           listed = listed;
           same = ends.same;
           no_later = no_earlier_element ends.last name (older ends.last listed) (long_of ends.last listed) (long name
-              (slice_get-In found k name here)) ends.same;
+              (In-slice_get found k name here)) ends.same;
         });
         in_order = so_far.in_order;
       }
@@ -302,15 +302,15 @@ module _ (found : List GlobalName) (in_order : IsSorted global_cmp found) (long 
             (record { name = name; listed = In-push names name; same = refl; no_later = omega arith });
         in_order = text_order_push names name so_far.in_order (λ front last is.
             let listed : In last names = subst (In last) (sym is) (In-push front last) in
-            next_text last name (older last listed) (long_of last listed) (long name (slice_get-In found k name here))
+            next_text last name (older last listed) (long_of last listed) (long name (In-slice_get found k name here))
             (λ same. differs (record { front = front; last = last; is = is; same = same })));
       })
 
 pub once_all : (found : List GlobalName) (end : ℕ) (names : List GlobalName) → length found ≤ end → AreOnceBelow found end names → AreOnce found names
 once_all found end names past so_far = record {
-  within = λ name listed. let stands = so_far.from name listed in slice_get-In found stands.place name stands.at;
+  within = λ name listed. let stands = so_far.from name listed in In-slice_get found stands.place name stands.at;
   all = λ name listed.
-      let at = In-slice_get found name listed in
+      let at = slice_get-In name found listed in
       let within = slice_get_within found at.0 name at.1 in
       so_far.all at.0 name (omega arith) at.1;
   in_order = so_far.in_order;

@@ -1,6 +1,6 @@
 -- Keys are in the order of full names.
 use Rattle.std.proofs.Common.{◌≡◌, ℕ, ◌+◌, ◌<◌, Bool, true, false, cond, List}
-use Rattle.std.proofs.Common.{[], length, get_or, Some, refl, sym, ◌∙◌, ap, subst, arith}
+use Rattle.std.proofs.Common.{[], length, get_or, Some, refl, sym, ◌∙◌, ap, subst}
 use Rattle.std.specs.Prelude.{slice_get, slice_index}
 use Rattle.std.specs.declared.cmp.Ordering.{Ordering}
 use Rattle.std.specs.declared.cmp.Ordering.TheVariants.{Less, Equal, Greater}
@@ -8,10 +8,10 @@ use Rattle.std.specs.FinMap.{nat_cmp-IsAntisymmetric, slice_cmp-IsAntisymmetric}
 use Rattle.std.specs.Ordering.{nat_cmp, bool_cmp, ordering_then}
 use Rattle.std.specs.Cmp.Lexicographic.{slice_cmp}
 use Rattle.std.proofs.lemmas.Bool.{not-true}
-use Rattle.std.proofs.lemmas.Bool.Decides.{nat_tests}
 use Rattle.std.proofs.lemmas.List.{length-map}
 use Rattle.finite_sets.specs.Lists.{In}
 use Rattle.finite_sets.proofs.Members.{In-get_or}
+use Rattle.finite_sets.proofs.Orders.{nat_cmp-add}
 use Rattle.ext_model.specs.declared.names.TheConstants.{GENERATED_MARK}
 use Rattle.ext_model.specs.declared.names.NameKind.TheVariants.{Global, Label, Generated}
 use Rattle.ext_model.specs.declared.records.UseRec.{UseRec}
@@ -21,7 +21,7 @@ use Rattle.ext_model.specs.NameOrder.{kind_rank, name_cmp}
 use Rattle.ext_model.specs.NameParts.{element_cmp, path_length, IsLastName}
 use Rattle.ext_model.specs.Paths.{path_text}
 use Rattle.ext_model.specs.RecordNames.{node_names}
-use Rattle.ext_model.proofs.PartOrders.{paths_compare_by_parts}
+use Rattle.ext_model.proofs.PartOrders.{paths_compare_by_parts, nat_cmp-same}
 use Rattle.circuit_model.specs.Elements.{Element, ids_of, AreRecords}
 use Rattle.element_tree.specs.declared.tree.ElementTree.{ElementTree}
 use Rattle.element_tree.specs.declared.tree.TreeElement.{TreeElement}
@@ -54,12 +54,6 @@ then_equal : (r a b : Ordering) → (r ≡ Equal → a ≡ b) → ordering_then 
 then_equal Less a b same = refl
 then_equal Equal a b same = same refl
 then_equal Greater a b same = refl
-
-nat_same : (x y p q : ℕ) → x ≡ p → y ≡ q → nat_cmp x y ≡ nat_cmp p q
-nat_same x y p q e f = rw (e, f) refl
-
-nat_added : (n x y : ℕ) → nat_cmp (n + x) (n + y) ≡ nat_cmp x y
-nat_added n x y = grind (arith, nat_tests)
 
 -- the names of each element's record are known
 abbrev pub NamesAreKnown : List Element → ElementTree → List RecordNames → Type 0
@@ -138,13 +132,13 @@ module _ (exts : List CellExt) (elements : List Element) (tree : ElementTree) (l
     kinds = kinds_compare (is_marked text) (ends_in GENERATED_MARK text) (is_marked text_next) (ends_in GENERATED_MARK text_next) one.local two.local
 
     depths : nat_cmp flat.depth flat_next.depth ≡ nat_cmp (length ids) (length ids_next)
-    depths = nat_same flat.depth flat_next.depth (length ids) (length ids_next)
+    depths = nat_cmp-same flat.depth flat_next.depth (length ids) (length ids_next)
         (stands.depth ∙ sym (length-map one.element.uses (λ (used : UseRec). used.id)))
         (stands_next.depth ∙ sym (length-map two.element.uses (λ (used : UseRec). used.id)))
 
     lengths : nat_cmp (flat.bytes + length text) (flat_next.bytes + length text_next) ≡ nat_cmp (path_length ids + length text)
         (path_length ids_next + length text_next)
-    lengths = nat_same (flat.bytes + length text) (flat_next.bytes + length text_next) (path_length ids + length text) (path_length ids_next + length text_next)
+    lengths = nat_cmp-same (flat.bytes + length text) (flat_next.bytes + length text_next) (path_length ids + length text) (path_length ids_next + length text_next)
         (ap (λ n. n + length text) stands.bytes) (ap (λ n. n + length text_next) stands_next.bytes)
 
     -- in one element names are in the order of their places
@@ -154,8 +148,8 @@ module _ (exts : List CellExt) (elements : List Element) (tree : ElementTree) (l
         let texts = texts_at flats records place.element in
         let is_next : text_next ≡ get_or texts next.own [] = ap (λ (n : ℕ). get_or (texts_at flats records n) next.own []) (sym same) in
         let inside : next.own < length texts = subst (λ (n : ℕ). next.own < length (texts_at flats records n)) (sym same) two.own in
-        nat_same slot other (base + place.own) (base + next.own) at (at_next ∙ ap (λ (n : ℕ). slice_index bases n + next.own) (sym same))
-        ∙ nat_added base place.own next.own
+        nat_cmp-same slot other (base + place.own) (base + next.own) at (at_next ∙ ap (λ (n : ℕ). slice_index bases n + next.own) (sym same))
+        ∙ nat_cmp-add base place.own next.own
         ∙ places_compare false one.element.ext (locals_of records flat.cell) (locals_are place.element one.element one.at)
         (lawful_at exts elements tree lawful is place.element one.element one.at).node_names_differ place.own next.own [] one.own inside
         ∙ ap (slice_cmp nat_cmp text) (sym is_next)

@@ -1,5 +1,5 @@
 -- The bytes of all full names, each once, are those that are counted.
-use Rattle.std.proofs.Common.{◌≡◌, ℕ, suc, ◌+◌, Bool, true, false, cond, not, ◌||◌, pos, ◌+ℤ◌}
+use Rattle.std.proofs.Common.{◌≡◌, ℕ, ◌+◌, Bool, true, false, cond, not, pos, ◌+ℤ◌}
 use Rattle.std.proofs.Common.{List, [], ◌∷◌, ◌++◌, length, get_or, Some, filter, map, inl, inr, refl, sym, ◌∙◌, ap, subst, arith}
 use Rattle.std.specs.Prelude.{slice_get, sum_by}
 use Rattle.std.specs.List.{flat_map}
@@ -15,14 +15,15 @@ use Rattle.finite_sets.proofs.Distincts.{Distinct-append, Distinct-filter, Disti
 use Rattle.finite_sets.proofs.Members.{In-append_cases, In-append_left, In-append_right, In-map}
 use Rattle.finite_sets.proofs.Members.{In-map_source, In-filter, In-filter_source, In-filter_passes}
 use Rattle.finite_sets.proofs.Pairs.{Pairwise, Pairwise-from_AllPairs}
-use Rattle.finite_sets.proofs.Searches.{list_any-In}
-use Rattle.finite_sets.proofs.Sums.{sum_on-same_things}
+use Rattle.finite_sets.proofs.Searches.{In-from_list_any, absent-from_list_any}
+use Rattle.finite_sets.proofs.Sums.{sum_on-same_things, sum_by-map, sum_by-same, sum_by-flat_map, sum_by-pointwise}
+use Rattle.finite_sets.proofs.Images.{In-flat_map_source, In-flat_map, Distinct-flat_map}
+use Rattle.finite_sets.proofs.Places.{In-slice_get, slice_get-In}
 use Rattle.ext_model.specs.declared.records.CellExt.{CellExt}
 use Rattle.ext_model.specs.NameParts.{path_length, IsLastName}
 use Rattle.ext_model.specs.Paths.{path_text}
 use Rattle.ext_model.specs.RecordNames.{names_of, node_names}
 use Rattle.ext_model.proofs.PartOrders.{length-path_text}
-use Rattle.ext_model.proofs.RecordNameLaws.{In-flat_map_source}
 use Rattle.circuit_model.specs.Elements.{Element, ids_of, AreRecords}
 use Rattle.circuit_model.specs.FullNames.{name_in, full_names}
 use Rattle.circuit_model.specs.FlatNodes.{is_among}
@@ -40,22 +41,8 @@ use Rattle.full_names.specs.GlobalOrigins.{AreGlobalsOf}
 use Rattle.full_names.specs.ByteCounts.{global_bytes, local_bytes, element_bytes}
 use Rattle.full_names.proofs.KeyOrders.{NamesAreKnown, locals_are}
 use Rattle.full_names.proofs.ListOrders.{pairwise_names, Distinct-names}
-use Rattle.full_names.proofs.Lookups.{In-slice_get, slice_get-In}
 use Rattle.full_names.proofs.NameForms.{last_name_of, full_name-marked, full_name-local, one_path, path_not_global}
-use Rattle.full_names.proofs.NumberLaws.{In-flat_map}
 use Rattle.full_names.proofs.TreeNames.{lawful_at, whole_at}
-
--- a name that is among others stands there
-pub among_In : (seen : List (List ℕ)) (name : List ℕ) → is_among seen name ≡ true → In name seen
-among_In [] name among = cc
-among_In (other ∷ seen) name among =
-    elim (cases_Bool (bytes_eq name other)) [
-      | inl same ↦ inl (sym ((bytes_eq-Decides name other).0 same))
-      | inr differ ↦ inr (among_In seen name (sym (ap (λ (b : Bool). b || is_among seen name) differ) ∙ among))
-    ]
-
-pub not_among : (seen : List (List ℕ)) (name : List ℕ) → is_among seen name ≡ false → In name seen → ⊥
-not_among seen name none here = false≢true (sym (list_any-In (bytes_eq name) seen name none here) ∙ (bytes_eq-Decides name name).1 refl)
 
 -- what stands in a list once stands there, and was not seen before
 once_source : (seen names : List (List ℕ)) (name : List ℕ) → In name (once seen names) → In name names × (In name seen → ⊥)
@@ -66,7 +53,7 @@ once_source seen (first ∷ names) name here =
           (subst (λ (b : Bool). In name (cond b (once seen names) (first ∷ once (first ∷ seen) names))) among here) in
           (inr rest.0, rest.1))
       | inr new ↦ (elim (subst (λ (b : Bool). In name (cond b (once seen names) (first ∷ once (first ∷ seen) names))) new here) [
-        | inl this ↦ (inl this, (λ before. not_among seen first new (subst (λ (n : List ℕ). In n seen) (sym this) before)))
+        | inl this ↦ (inl this, (λ before. absent-from_list_any bytes_eq bytes_eq-Decides first seen new (subst (λ (n : List ℕ). In n seen) (sym this) before)))
         | inr later ↦ (let rest = once_source (first ∷ seen) names name later in (inr rest.0, (λ before. rest.1 (inr before))))
       ])
     ]
@@ -78,7 +65,7 @@ once_In seen (first ∷ names) name here new =
     elim (cases_Bool (is_among seen first)) [
       | inl among ↦ subst (λ (b : Bool). In name (cond b (once seen names) (first ∷ once (first ∷ seen) names))) (sym among)
           (elim here [
-            | inl this ↦ absurd (new (subst (λ (n : List ℕ). In n seen) this (among_In seen first among)))
+            | inl this ↦ absurd (new (subst (λ (n : List ℕ). In n seen) this (In-from_list_any bytes_eq bytes_eq-Decides first seen among)))
             | inr later ↦ once_In seen names name later new
           ])
       | inr first_new ↦ subst (λ (b : Bool). In name (cond b (once seen names) (first ∷ once (first ∷ seen) names))) (sym first_new)
@@ -115,42 +102,6 @@ same_sum : {X : Type 0} (f : X → ℕ) (xs ys : List X) → Distinct xs → Dis
 same_sum f xs ys one other there back =
     let same : pos (sum_by f xs) ≡ pos (sum_by f ys) = sym (sum_is f xs) ∙ sum_on-same_things (λ x. pos (f x)) xs ys one other there back ∙ sum_is f ys in
     cc
-
-sum_by-map : {X Y : Type 0} (f : Y → ℕ) (g : X → Y) (xs : List X) → sum_by f (map g xs) ≡ sum_by (λ x. f (g x)) xs
-sum_by-map f g [] = refl
-sum_by-map f g (x ∷ xs) =
-    sum_by-cons f (g x) (map g xs) ∙ ap (λ n. f (g x) + n) (sum_by-map f g xs) ∙ sym (sum_by-cons (λ y. f (g y)) x xs)
-
-sum_by-same : {X : Type 0} (f g : X → ℕ) (xs : List X) → ((x : X) → In x xs → f x ≡ g x) → sum_by f xs ≡ sum_by g xs
-sum_by-same f g [] same = refl
-sum_by-same f g (x ∷ xs) same =
-    let here = same x (inl refl) in
-    let rest = sum_by-same f g xs (λ y later. same y (inr later)) in
-    sum_by-cons f x xs ∙ (λ i. here i + rest i) ∙ sym (sum_by-cons g x xs)
-
--- sums along two lists
-sum_by-along : {X Y : Type 0} (f : X → ℕ) (g : Y → ℕ) (xs : List X) (ys : List Y) → length xs ≡ length ys
-    → ((k : ℕ) (x : X) (y : Y) → slice_get xs k ≡ Some x → slice_get ys k ≡ Some y → f x ≡ g y) → sum_by f xs ≡ sum_by g ys
-sum_by-along f g [] [] long same = refl
-sum_by-along f g [] (y ∷ ys) long same = absurd (omega (arith, long))
-sum_by-along f g (x ∷ xs) [] long same = absurd (omega (arith, long))
-sum_by-along f g (x ∷ xs) (y ∷ ys) long same =
-    let here = same 0 x y refl refl in
-    let shorter : length xs ≡ length ys = omega (arith, long) in
-    let rest = sum_by-along f g xs ys shorter (λ k a b p q. same (suc k) a b p q) in
-    sum_by-cons f x xs ∙ (λ i. here i + rest i) ∙ sym (sum_by-cons g y ys)
-
-sum_by-flat_map : {X Y : Type 0} (f : Y → ℕ) (g : X → List Y) (xs : List X) → sum_by f (flat_map g xs) ≡ sum_by (λ x. sum_by f (g x)) xs
-sum_by-flat_map f g [] = refl
-sum_by-flat_map f g (x ∷ xs) =
-    sum_by-append f (g x) (flat_map g xs) ∙ ap (λ n. sum_by f (g x) + n) (sum_by-flat_map f g xs) ∙ sym (sum_by-cons (λ y. sum_by f (g y)) x xs)
-
-Distinct-flat_map : {X Y : Type 0} (g : X → List Y) (xs : List X) → Pairwise (λ a b. (y : Y) → In y (g a) → In y (g b) → ⊥) xs
-    → ((x : X) → In x xs → Distinct (g x)) → Distinct (flat_map g xs)
-Distinct-flat_map g [] apart each = tt
-Distinct-flat_map g (x ∷ xs) apart each =
-    Distinct-append (g x) (flat_map g xs) (each x (inl refl)) (Distinct-flat_map g xs apart.1 (λ y here. each y (inr here)))
-    (λ y here there. let source = In-flat_map_source g y xs there in apart.0 source.0 source.1.0 y here source.1.1)
 
 module _ (exts : List CellExt) (elements : List Element) (tree : ElementTree) (lawful : AreRecords exts) (is : IsTreeOfElements exts elements tree)
     (records : List RecordNames) (known : NamesAreKnown elements tree records) (globals : List GlobalName) (global : AreGlobalsOf elements globals)
@@ -202,7 +153,7 @@ module _ (exts : List CellExt) (elements : List Element) (tree : ElementTree) (l
 
   plain_distinct : (element : Element) → In element elements → Distinct (plain_full element)
   plain_distinct element here =
-      let at = In-slice_get elements element here in
+      let at = slice_get-In element elements here in
       Distinct-map (name_in element) (plain_names element)
       (λ a b p q same. (plain_apart at.0 at.0 element element at.1 at.1 a b p q same).1)
       (Distinct-filter (is_wanted false) (node_names element.ext) (lawful_at exts elements tree lawful is at.0 element at.1).node_names_differ)
@@ -228,7 +179,7 @@ module _ (exts : List CellExt) (elements : List Element) (tree : ElementTree) (l
       let from = In-map_source (λ (n : GlobalName). n.text.now) name globals first in
       let marked = subst (λ (t : List ℕ). is_marked t ≡ true) from.1.1 (global.each from.0 from.1.0).marked in
       let source = In-flat_map_source plain_full name elements behind in
-      let at = In-slice_get elements source.0 source.1.0 in
+      let at = slice_get-In source.0 elements source.1.0 in
       let text = In-map_source (name_in source.0) name (plain_names source.0) source.1.1 in
       let one = plain at.0 source.0 at.1 text.0 text.1.0 in
       path_not_global (ids_of source.0) text.0 name one.last one.local marked (sym one.whole ∙ text.1.1))
@@ -237,7 +188,7 @@ module _ (exts : List CellExt) (elements : List Element) (tree : ElementTree) (l
   all_to_each name here =
       let source = In-flat_map_source full_names name elements here in
       let element = source.0 in
-      let at = In-slice_get elements element source.1.0 in
+      let at = slice_get-In element elements source.1.0 in
       let text = In-map_source (name_in element) name (node_names element.ext) source.1.1 in
       elim (cases_Bool (is_marked text.0)) [
         | inl marked ↦ In-append_left name (global_texts globals) (flat_map plain_full elements)
@@ -256,8 +207,8 @@ module _ (exts : List CellExt) (elements : List Element) (tree : ElementTree) (l
             let one = global.each from.0 from.1.0 in
             let text = from.0.text.now in
             let named = In-flat_map names_of one.node text one.element.ext.nodes
-            (slice_get-In one.element.ext.nodes from.0.node one.node one.node_stands) one.named in
-            In-flat_map full_names one.element name elements (slice_get-In elements from.0.element one.element one.stands)
+            (In-slice_get one.element.ext.nodes from.0.node one.node one.node_stands) one.named in
+            In-flat_map full_names one.element name elements (In-slice_get elements from.0.element one.element one.stands)
             (subst (λ (t : List ℕ). In t (full_names one.element))
             (full_name-marked one.element.ext (lawful_at exts elements tree lawful is from.0.element one.element one.stands) text named
             (ids_of one.element) one.marked
@@ -292,7 +243,7 @@ module _ (exts : List CellExt) (elements : List Element) (tree : ElementTree) (l
       let first : sum_by size (global_texts globals) ≡ global_bytes globals = sum_by-map size (λ (n : GlobalName). n.text.now) globals
       ∙ sum_by-same (λ (n : GlobalName). length n.text.now) (λ (n : GlobalName). n.length) globals (λ n here. sym (long n here)) in
       let behind : sum_by size (flat_map plain_full elements) ≡ element_bytes records flats = sum_by-flat_map size plain_full elements
-      ∙ sym (sum_by-along (λ (flat : TreeElement). local_bytes flat.bytes (locals_of records flat.cell)) (λ (e : Element). sum_by size
+      ∙ sym (sum_by-pointwise (λ (flat : TreeElement). local_bytes flat.bytes (locals_of records flat.cell)) (λ (e : Element). sum_by size
       (plain_full e)) flats elements
       is.long element_sum) in
       same_sum size (once [] (flat_map full_names elements)) each_name (once_Distinct [] (flat_map full_names elements)) each_distinct

@@ -9,9 +9,10 @@ use Rattle.std.proofs.lemmas.Option.{slice_get_within}
 use Rattle.finite_sets.specs.Lists.{In}
 use Rattle.finite_sets.proofs.Members.{In-map_source}
 use Rattle.finite_sets.proofs.Searches.{All-from_In}
-use Rattle.geo_core.specs.declared.limits.Limit.TheVariants.{Names}
+use Rattle.finite_sets.proofs.Places.{slice_get-below}
 use Rattle.ext_model.specs.declared.records.CellExt.{CellExt}
 use Rattle.circuit_model.specs.declared.faults.FlatFault.TheVariants.{TooMany}
+use Rattle.circuit_model.specs.declared.limits.CircuitLimit.TheVariants.{Names}
 use Rattle.circuit_model.specs.declared.limits.TheConstants.{MOST_NAME_BYTES}
 use Rattle.circuit_model.specs.Elements.{Element, AreRecords, elements_of}
 use Rattle.circuit_model.specs.Refusals.{name_bytes, past}
@@ -36,7 +37,7 @@ use Rattle.full_names.specs.Places.{place_at, count_at, IsPlace, ArePlaces}
 use Rattle.full_names.specs.Keys.{IsFitPlace, AreKeys}
 use Rattle.full_names.proofs.GlobalOriginLaws.{globals_of_elements}
 use Rattle.full_names.proofs.KeyOrders.{NamesAreKnown}
-use Rattle.full_names.proofs.Lookups.{slice_get_some, no_own}
+use Rattle.full_names.proofs.Lookups.{no_own}
 use Rattle.full_names.proofs.NameBytes.{counted_bytes}
 use Rattle.full_names.proofs.NumberLaws.{full_list_is, slot_within, slot_listed}
 use Rattle.full_names.proofs.TreeLaws.{element_at, stands_for, within_tree}
@@ -52,7 +53,7 @@ under_known exts root top at = ap (λ (o : Option CellExt). elim o as (λ _. Lis
 pub tree_under : (exts : List CellExt) (root : ℕ) (tree : ElementTree) → root < length exts → IsTreeOf exts root tree
     → IsTreeOfElements exts (elements_under exts root) tree
 tree_under exts root tree within of =
-    let top = slice_get_some exts root within in
+    let top = slice_get-below exts root within in
     subst (λ (elements : List Element). IsTreeOfElements exts elements tree) (sym (under_known exts root top.0 top.1)) (of top.0 top.1)
 
 past_none : (most n : ℕ) → n ≤ most → past most Names n ≡ None

@@ -1,8 +1,7 @@
 -- The full names of a tree in order: the global ones, and then those at the places that the keys tell.
-use Rattle.std.proofs.Common.{◌≡◌, ℕ, ◌+◌, ◌<◌, Bool, true, false, List, [], ◌∷◌, ◌++◌}
+use Rattle.std.proofs.Common.{◌≡◌, ℕ, ◌+◌, ◌<◌, Bool, true, false, List, [], ◌++◌}
 use Rattle.std.proofs.Common.{length, get_or, Option, Some, None, map, inl, inr, sym, ◌∙◌, ap, subst}
 use Rattle.std.specs.Prelude.{slice_get, slice_index}
-use Rattle.std.specs.List.{flat_map}
 use Rattle.std.specs.Cmp.{IsTotalOrder, bool_cmp_total}
 use Rattle.std.specs.declared.cmp.Ordering.TheVariants.{Less, Equal}
 use Rattle.std.specs.FinMap.{nat_cmp-IsAntisymmetric}
@@ -12,7 +11,9 @@ use Rattle.std.proofs.lemmas.Cmp.{nat_cmp_total, on_total, then_total}
 use Rattle.finite_sets.specs.Lists.{In}
 use Rattle.finite_sets.proofs.Members.{In-append_cases, In-append_left, In-append_right, In-map, In-map_source, In-index}
 use Rattle.finite_sets.proofs.Orders.{IsSorted-pairs}
-use Rattle.finite_sets.proofs.Pairs.{Pairwise, Pairwise-append, Pairwise-map, Pairwise-from_AllPairs}
+use Rattle.finite_sets.proofs.Pairs.{Pairwise, Pairwise-append, Pairwise-map, Pairwise-from_AllPairs, Pairwise-within}
+use Rattle.finite_sets.proofs.Places.{In-slice_get, slice_get-In}
+use Rattle.finite_sets.proofs.Images.{In-flat_map}
 use Rattle.ext_model.specs.declared.records.CellExt.{CellExt}
 use Rattle.ext_model.specs.NameOrder.{name_cmp}
 use Rattle.ext_model.specs.Paths.{path_text}
@@ -36,18 +37,11 @@ use Rattle.full_names.specs.Keys.{key_at, key_cmp, AreKeys}
 use Rattle.full_names.specs.Names.{ids_at, place_name}
 use Rattle.full_names.proofs.GlobalLaws.{less_from_reverse}
 use Rattle.full_names.proofs.KeyOrders.{NamesAreKnown, IsLocalName, local_name_at, locals_are, keys_compare}
-use Rattle.full_names.proofs.ListOrders.{StandsBefore, pairwise_names, names_in_order, Pairwise-within}
-use Rattle.full_names.proofs.Lookups.{In-slice_get, slice_get-In}
+use Rattle.full_names.proofs.ListOrders.{StandsBefore, pairwise_names, names_in_order}
 use Rattle.full_names.proofs.NameForms.{full_name-marked, full_name-local, global_before_path, then_rest}
 use Rattle.full_names.proofs.TextOrders.{text_stands}
 use Rattle.full_names.proofs.TreeLaws.{within_tree}
 use Rattle.full_names.proofs.TreeNames.{lawful_at}
-
--- what stands in one of lists that are put behind each other stands there
-pub In-flat_map : {X Y : Type 0} (f : X → List Y) (x : X) (y : Y) (xs : List X) → In x xs → In y (f x) → In y (flat_map f xs)
-In-flat_map f x y [] here in_f = absurd here
-In-flat_map {X} {Y} f x y (z ∷ xs) (inl this) in_f = In-append_left y (f z) (flat_map f xs) (subst (λ (w : X). In y (f w)) (sym this) in_f)
-In-flat_map f x y (z ∷ xs) (inr later) in_f = In-append_right y (f z) (flat_map f xs) (In-flat_map f x y xs later in_f)
 
 key_cmp_total : IsTotalOrder key_cmp
 key_cmp_total = then_total (on_total (λ (k : NameKey). k.generated) bool_cmp_total)
@@ -161,13 +155,13 @@ module _ (exts : List CellExt) (elements : List Element) (tree : ElementTree) (l
           | inl first ↦ (let source = In-map_source (λ (n : GlobalName). n.text.now) name globals first in
               let one = global.each source.0 source.1.0 in
               let text = source.0.text.now in
-              let named = In-flat_map names_of one.node text one.element.ext.nodes (slice_get-In one.element.ext.nodes source.0.node one.node one.node_stands)
+              let named = In-flat_map names_of one.node text one.element.ext.nodes (In-slice_get one.element.ext.nodes source.0.node one.node one.node_stands)
               one.named in
               let whole = full_name-marked one.element.ext (lawful_at exts elements tree lawful is source.0.element one.element one.stands) text named
               (ids_of one.element) one.marked in (
                 one.element,
                 (
-                  slice_get-In elements source.0.element one.element one.stands,
+                  In-slice_get elements source.0.element one.element one.stands,
                   subst (λ (t : List ℕ). In t (full_names one.element)) (whole ∙ source.1.1)
                       (In-map (name_in one.element) text (node_names one.element.ext) named),
                 ),
@@ -177,7 +171,7 @@ module _ (exts : List CellExt) (elements : List Element) (tree : ElementTree) (l
               let place = place_at places source.0 in (
                 one.element,
                 (
-                  slice_get-In elements place.element one.element one.at,
+                  In-slice_get elements place.element one.element one.at,
                   subst (λ (t : List ℕ). In t (full_names one.element)) (sym (place_name_is place one) ∙ source.1.1)
                       (In-map (name_in one.element) (text_at flats records place) (node_names one.element.ext) one.named),
                 ),
@@ -207,7 +201,7 @@ module _ (exts : List CellExt) (elements : List Element) (tree : ElementTree) (l
     is_listed : (name : List ℕ) → IsFullName elements name → In name full_list
     is_listed name full =
         let element = full.0 in
-        let at = In-slice_get elements element full.1.0 in
+        let at = slice_get-In element elements full.1.0 in
         let source = In-map_source (name_in element) name (node_names element.ext) full.1.1 in
         let text = source.0 in
         let record_ = lawful_at exts elements tree lawful is at.0 element at.1 in

@@ -1,15 +1,20 @@
 -- Where full names come from.
 use Rattle.std.proofs.Common.{◌≡◌, ℕ, zero, suc, ◌+◌, ◌<◌, Bool, true, false, List, [], ◌∷◌}
-use Rattle.std.proofs.Common.{◌++◌, length, get_or, Some, cond, map, inl, inr, refl, sym, ◌∙◌, ap, subst, arith}
+use Rattle.std.proofs.Common.{◌++◌, length, get_or, Some, map, inl, inr, refl, sym, ◌∙◌, ap, subst, arith}
 use Rattle.std.specs.Prelude.{slice_get, find}
 use Rattle.std.specs.Option.{option_map}
 use Rattle.std.specs.List.{flat_map}
 use Rattle.std.proofs.lemmas.Bool.{cases_Bool}
 use Rattle.std.proofs.lemmas.List.{length-map, get_or-map}
 use Rattle.std.proofs.lemmas.Option.{slice_get-map, slice_get_within, get_or_from_slice_get, same_Some}
+use Rattle.std.proofs.lemmas.Slice.Eq.{bytes_eq-Decides}
+use Rattle.std.specs.Str.{bytes_eq}
 use Rattle.finite_sets.specs.Lists.{In, Distinct}
 use Rattle.finite_sets.proofs.Distincts.{Distinct-append_right, Distinct-append_apart}
 use Rattle.finite_sets.proofs.Members.{In-map, In-map_source}
+use Rattle.finite_sets.proofs.Places.{In-slice_get, slice_get-append_left, slice_get-append_right}
+use Rattle.finite_sets.proofs.Images.{In-flat_map}
+use Rattle.finite_sets.proofs.Searches.{In-from_list_any, list_any-of_In, find-at}
 use Rattle.ext_model.specs.declared.records.NodeRec.{NodeRec}
 use Rattle.ext_model.specs.Paths.{path_text}
 use Rattle.ext_model.specs.RecordNames.{names_of, node_names}
@@ -31,29 +36,18 @@ use Rattle.full_names.specs.Globals.{global_texts}
 use Rattle.full_names.specs.Places.{place_at, texts_at, text_at}
 use Rattle.full_names.specs.Names.{place_name, local_names, elements_in, AreNames, IsLocalNumber, ComesFrom}
 use Rattle.full_names.proofs.KeyOrders.{IsLocalName, local_name_at, locals_are}
-use Rattle.full_names.proofs.Lookups.{slice_get-In, slice_get-append_left, slice_get-append_right}
-use Rattle.full_names.proofs.NameBytes.{among_In, not_among}
 use Rattle.full_names.proofs.NameForms.{last_name_of, full_name-marked, full_name-local, one_path, path_not_global}
-use Rattle.full_names.proofs.NumberLaws.{place_name_is, In-flat_map}
+use Rattle.full_names.proofs.NumberLaws.{place_name_is}
 use Rattle.full_names.proofs.QueryLaws.{is_tree, lawful_of, one_list}
 use Rattle.full_names.proofs.TreeNames.{whole_at}
 
 -- the first thing that passes a test
 find_first : {X : Type 0} (test : X → Bool) (xs : List X) (k : ℕ) (x : X) → slice_get xs k ≡ Some x → test x ≡ true
     → ((j : ℕ) (y : X) → j < k → slice_get xs j ≡ Some y → test y ≡ true → ⊥) → find test xs ≡ Some x
-find_first test [] k x at passes before = cc
-find_first {X} test (y ∷ xs) zero x at passes before =
-    let this : y ≡ x = same_Some y x at in
-    ap (λ (b : Bool). cond b (Some y) (find test xs)) (ap test this ∙ passes) ∙ ap Some this
-find_first test (y ∷ xs) (suc k) x at passes before =
-    elim (cases_Bool (test y)) [
-      | inl first ↦ absurd (before 0 y (omega arith) refl first)
-      | inr fails ↦ ap (λ (b : Bool). cond b (Some y) (find test xs)) fails
-          ∙ find_first test xs k x at passes (λ j z less at_j. before (suc j) z (omega arith) at_j)
-    ]
-
-among : (seen : List (List ℕ)) (name : List ℕ) → In name seen → is_among seen name ≡ true
-among seen name here = elim (cases_Bool (is_among seen name)) [ inl stands ↦ stands | inr lacks ↦ absurd (not_among seen name lacks here) ]
+find_first test xs k x at passes before = find-at test xs k x at passes (λ j y less there. elim (cases_Bool (test y)) [
+  | inl first ↦ absurd (before j y less there first)
+  | inr fails ↦ fails
+])
 
 -- in lists without a thing twice, a thing stands in one part
 one_part : {X Y : Type 0} (f : X → List Y) (xs : List X) (i j : ℕ) (x z : X) (y : Y) → Distinct (flat_map f xs) → slice_get xs i ≡ Some x
@@ -62,10 +56,10 @@ one_part f [] i j x z y differ at at_next p q = cc
 one_part f (w ∷ xs) zero zero x z y differ at at_next p q = refl
 one_part {X} f (w ∷ xs) zero (suc j) x z y differ at at_next p q =
     let first = subst (λ (a : X). In y (f a)) (sym (same_Some w x at)) p in
-    absurd (Distinct-append_apart (f w) (flat_map f xs) differ y first (In-flat_map f z y xs (slice_get-In xs j z at_next) q))
+    absurd (Distinct-append_apart (f w) (flat_map f xs) differ y first (In-flat_map f z y xs (In-slice_get xs j z at_next) q))
 one_part {X} f (w ∷ xs) (suc i) zero x z y differ at at_next p q =
     let first = subst (λ (a : X). In y (f a)) (sym (same_Some w z at_next)) q in
-    absurd (Distinct-append_apart (f w) (flat_map f xs) differ y first (In-flat_map f x y xs (slice_get-In xs i x at) p))
+    absurd (Distinct-append_apart (f w) (flat_map f xs) differ y first (In-flat_map f x y xs (In-slice_get xs i x at) p))
 one_part f (w ∷ xs) (suc i) (suc j) x z y differ at at_next p q =
     ap suc (one_part f xs i j x z y (Distinct-append_right (f w) (flat_map f xs) differ) at at_next p q)
 
@@ -126,15 +120,15 @@ module _ (names : FullNames) (are : AreNames names) where
       (stands : slice_get element.ext.nodes k ≡ Some node) (text : List ℕ) (given : In text (names_of node))
       (first : (j : ℕ) (other : Element) → j < number → slice_get elements j ≡ Some other → In (name_in element text) (full_names other) → ⊥) where
     named : In text (node_names element.ext)
-    named = In-flat_map names_of node text element.ext.nodes (slice_get-In element.ext.nodes k node stands) given
+    named = In-flat_map names_of node text element.ext.nodes (In-slice_get element.ext.nodes k node stands) given
 
     abbrev full : List ℕ
     full = name_in element text
 
     no_node_before : (j : ℕ) (other : NodeRec) → j < k → slice_get element.ext.nodes j ≡ Some other → gives_name element full other ≡ true → ⊥
     no_node_before j other less at_j gives =
-        let source = In-map_source (name_in element) full (names_of other) (among_In (map (name_in element) (names_of other)) full gives) in
-        let named_other = In-flat_map names_of other source.0 element.ext.nodes (slice_get-In element.ext.nodes j other at_j) source.1.0 in
+        let source = In-map_source (name_in element) full (names_of other) (In-from_list_any bytes_eq bytes_eq-Decides full (map (name_in element) (names_of other)) gives) in
+        let named_other = In-flat_map names_of other source.0 element.ext.nodes (In-slice_get element.ext.nodes j other at_j) source.1.0 in
         let same = same_text number number element element at at source.0 text named_other named source.1.1 in
         let one : j ≡ k = one_part names_of element.ext.nodes j k other node text (lawful number element at).node_names_differ at_j stands
         (subst (λ (t : List ℕ). In t (names_of other)) same source.1.0) given in
@@ -146,11 +140,11 @@ module _ (names : FullNames) (are : AreNames names) where
       node = node;
       stands = at;
       first = find_first (λ (e : Element). is_among (full_names e) full) elements number element at
-          (among (full_names element) full (In-map (name_in element) text (node_names element.ext) named))
-          (λ j other less at_j here. first j other less at_j (among_In (full_names other) full here));
+          (list_any-of_In bytes_eq bytes_eq-Decides full (full_names element) (In-map (name_in element) text (node_names element.ext) named))
+          (λ j other less at_j here. first j other less at_j (In-from_list_any bytes_eq bytes_eq-Decides full (full_names other) here));
       node_stands = stands;
       first_node = find_first (gives_name element full) element.ext.nodes k node stands
-          (among (map (name_in element) (names_of node)) full (In-map (name_in element) text (names_of node) given)) no_node_before;
+          (list_any-of_In bytes_eq bytes_eq-Decides full (map (name_in element) (names_of node)) (In-map (name_in element) text (names_of node) given)) no_node_before;
     }
 
   -- where a global name comes from
@@ -158,7 +152,7 @@ module _ (names : FullNames) (are : AreNames names) where
   global_comes name listed =
       let one = are.globals.each name listed in
       let text = name.text.now in
-      let here = In-flat_map names_of one.node text one.element.ext.nodes (slice_get-In one.element.ext.nodes name.node one.node one.node_stands) one.named in
+      let here = In-flat_map names_of one.node text one.element.ext.nodes (In-slice_get one.element.ext.nodes name.node one.node one.node_stands) one.named in
       let whole = full_name-marked one.element.ext (lawful name.element one.element one.stands) text here (ids_of one.element) one.marked in
       subst (λ (t : List ℕ). ComesFrom names t (record { element = name.element; node = name.node })) whole
       (comes_from name.element one.element one.stands name.node one.node one.node_stands text one.named
@@ -182,7 +176,7 @@ module _ (names : FullNames) (are : AreNames names) where
     place = place_at names.places.items local.slot
 
     slot_inside : local.slot < length names.places.items
-    slot_inside = are.slots_within local.slot (slice_get-In names.slots.items k local.slot local.slot_stands)
+    slot_inside = are.slots_within local.slot (In-slice_get names.slots.items k local.slot local.slot_stands)
 
     -- it is a name of its element
     pub local_is : IsLocalName names.exts.now elements names.tree.now are.records is records are.known place (text_at flats records place)
@@ -208,7 +202,7 @@ module _ (names : FullNames) (are : AreNames names) where
         let made : ℕ → List ℕ = λ (s : ℕ). place_name elements flats records (place_at names.places.items s) in
         ap (λ (l : List (List ℕ)). slice_get l (length globals + k)) (one_list names are list full)
         ∙ ap (λ n. slice_get (global_texts globals ++ local_names names) (n + k)) (sym (length-map globals (λ (n : GlobalName). n.text.now)))
-        ∙ slice_get-append_right (global_texts globals) (local_names names) k
+        ∙ slice_get-append_right (global_texts globals) (local_names names) k (length (global_texts globals) + k) refl
         ∙ slice_get-map made names.slots.items k ∙ ap (option_map made) local.slot_stands ∙ ap Some full_is
 
     unmarked : is_marked own.text.now ≡ false
@@ -225,7 +219,7 @@ module _ (names : FullNames) (are : AreNames names) where
     local_comes =
         let list = locals_of records (flat_at flats number).cell in
         let node = (locals_are names.exts.now elements names.tree.now are.records is records are.known number local_is.element local_stands).nodes own
-        (slice_get-In list place.own own local.has) in
+        (In-slice_get list place.own own local.has) in
         comes_from number local_is.element local_stands own.node node.node node.stands own.text.now node.named
         (λ j other less at_j among.
         let source = In-map_source (name_in other) (name_in local_is.element own.text.now) (node_names other.ext) among in

@@ -15,13 +15,14 @@ use Rattle.std.proofs.lemmas.List.Sorted.{IsPermutation-map, IsPermutation-sym}
 use Rattle.std.proofs.lemmas.Option.{slice_get_read, slice_get_within, same_Some}
 use Rattle.finite_sets.specs.Lists.{In}
 use Rattle.finite_sets.proofs.Members.{In-push_cases, In-permutation, In-append_left, In-append_right}
+use Rattle.finite_sets.proofs.Places.{slice_get-append_left, slice_get-push_new}
 use Rattle.ext_model.specs.declared.records.NodeRec.{NodeRec}
 use Rattle.ext_model.specs.declared.records.CellExt.{CellExt}
 use Rattle.ext_model.specs.RecordNames.{names_of, node_names}
 use Rattle.full_names.specs.declared.own_names.OwnName.{OwnName}
 use Rattle.full_names.specs.declared.own_names.RecordNames.{RecordNames}
 use Rattle.full_names.specs.OwnNames.{is_wanted, is_reached, texts_of, IsOfNode, AreOwnNames, AreRecordNames, HasOwnNames, AreAllNames}
-use Rattle.full_names.proofs.Lookups.{slice_get-append_left, slice_get_push, sorted_map}
+use Rattle.full_names.proofs.Lookups.{sorted_map}
 
 -- the last name of a longer list
 pub name_pushed : (before now : List OwnName) (one : OwnName) → now ≡ before ++ one ∷ [] → (name : OwnName) → In name now
@@ -157,7 +158,7 @@ known_more exts reached k ext marked own before now within is marked_is are push
             record {
               own = own;
               has = ap (slice_get now) (same ∙ sym so_far.long) ∙ ap (λ (records : List RecordNames). slice_get records (length before)) pushed
-                  ∙ slice_get_push before own;
+                  ∙ slice_get-push_new before own;
               are = subst (λ (e : CellExt). AreRecordNames e own) one (are (marked_is ∙ ap (is_reached reached) (sym same) ∙ reached_is));
             })
       ];

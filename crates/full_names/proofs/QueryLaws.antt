@@ -6,6 +6,7 @@ use Rattle.std.specs.Option.{option_map}
 use Rattle.std.proofs.lemmas.List.{length-map}
 use Rattle.std.proofs.lemmas.Option.{slice_get-map, slice_get-get_or, slice_get_within, get_or_from_slice_get, same_Some}
 use Rattle.finite_sets.specs.Lists.{In}
+use Rattle.finite_sets.proofs.Places.{In-slice_get, slice_get-In, slice_get-append_left, slice_get-append_right}
 use Rattle.ext_model.specs.declared.records.CellExt.{CellExt}
 use Rattle.ext_model.specs.Paths.{path_text}
 use Rattle.ext_model.specs.RecordNames.{node_names}
@@ -29,7 +30,6 @@ use Rattle.full_names.specs.Orders.{StandsWhere}
 use Rattle.full_names.specs.Names.{elements_in, place_name, local_names, AreNames, IsReached}
 use Rattle.full_names.specs.Names.{IsSpotOf, LacksName, IsElement}
 use Rattle.full_names.proofs.ListOrders.{same_in_order}
-use Rattle.full_names.proofs.Lookups.{In-slice_get, slice_get-In, slice_get-append_left, slice_get-append_right}
 use Rattle.full_names.proofs.NameForms.{global_name_of, full_name-marked, full_name-local}
 use Rattle.full_names.proofs.NamesMade.{tree_under}
 use Rattle.full_names.proofs.NumberLaws.{ids_known}
@@ -78,7 +78,7 @@ module _ (names : FullNames) (are : AreNames names) where
   pub reached_known : (cell : ℕ) → IsReached names cell → IsKnown cell
   reached_known cell reached =
       let element = reached.0 in
-      let at = In-slice_get elements element reached.1.0 in
+      let at = slice_get-In element elements reached.1.0 in
       let stands = stands_for names.exts.now elements names.tree.now is_tree at.0 element at.1 in
       let same : (flat_at flats at.0).cell ≡ cell = one_record names.exts.now are.records
       (flat_at flats at.0).cell cell element.ext stands.record_ reached.1.1 in
@@ -133,7 +133,7 @@ module _ (names : FullNames) (are : AreNames names) where
       pub local_spot : (name : List ℕ) (slice : List OwnName) → slice ≡ own.locals.items → is_marked name ≡ false → (place : ℕ)
           → slice_get (texts_of slice) place ≡ Some name → IsSpotOf names cell name (Local place)
       local_spot name slice is local place at =
-          let named = text_is_name false known.ext slice (locals_read slice is) name (slice_get-In (texts_of slice) place name at) in
+          let named = text_is_name false known.ext slice (locals_read slice is) name (In-slice_get (texts_of slice) place name at) in
           record {
             record_ = known.ext;
             found = known.found;
@@ -213,7 +213,7 @@ module _ (names : FullNames) (are : AreNames names) where
           (texts_at flats records number) own name [] texts_are in
           ap (λ (l : List (List ℕ)). slice_get l (length globals + k)) (one_list list is)
           ∙ ap (slice_get (global_texts globals ++ local_names names)) long
-          ∙ slice_get-append_right (global_texts globals) (local_names names) k
+          ∙ slice_get-append_right (global_texts globals) (local_names names) k (length (global_texts globals) + k) refl
           ∙ slice_get-map made names.slots.items k ∙ ap (option_map made) at_slot
           ∙ ap Some (ap (place_name elements flats records) slot_at.is
           ∙ (λ i. path_text (ids_known elements number element stands i) (text i))

@@ -15,7 +15,8 @@ use Rattle.std.proofs.lemmas.List.Sorted.{searchable_from_sorted}
 use Rattle.std.proofs.lemmas.Option.{slice_get-map, get_or_from_slice_get}
 use Rattle.finite_sets.specs.Lists.{In}
 use Rattle.finite_sets.proofs.Members.{In-map_source, In-index}
-use Rattle.full_names.proofs.Lookups.{slice_get_some, sorted_unmap}
+use Rattle.finite_sets.proofs.Places.{slice_get-below}
+use Rattle.full_names.proofs.Lookups.{sorted_unmap}
 
 -- Of things that are in the order of their texts, an order that tells texts apart.
 module _ {X : Type 0} (text_of : X → List ℕ) (cmp : List ℕ → List ℕ → Ordering) (total : IsTotalOrder cmp)
@@ -27,7 +28,7 @@ module _ {X : Type 0} (text_of : X → List ℕ) (cmp : List ℕ → List ℕ �
   pub text_found : (xs : List X) (text : List ℕ) (r : Result ℕ ℕ) (o : Option ℕ) → o ≡ result_ok r → Answers xs text r
       → IfSome o (λ place. slice_get (map text_of xs) place ≡ Some text)
   text_found xs text (Ok place) o is answers =
-      let there = slice_get_some xs place answers.0 in
+      let there = slice_get-below xs place answers.0 in
       let here = get_or_from_slice_get xs place there.0 there.0 there.1 in
       let same = exact (text_of there.0) text (subst (λ (x : X). cmp (text_of x) text ≡ Equal) here (answers.1 there.0)) in
       subst (λ (p : Option ℕ). IfSome p (λ place. slice_get (map text_of xs) place ≡ Some text)) (sym is)

@@ -4,6 +4,7 @@ use Rattle.std.proofs.Common.{length, map, inl, inr, sym, ◌∙◌, ap, subst, 
 use Rattle.std.specs.Prelude.{slice_get}
 use Rattle.std.proofs.lemmas.List.{map-append, nil_from_length}
 use Rattle.std.proofs.lemmas.Option.{slice_get-get_or, slice_get_within, same_Some}
+use Rattle.finite_sets.proofs.Places.{slice_get-below}
 use Rattle.ext_model.specs.declared.records.UseRec.{UseRec}
 use Rattle.ext_model.specs.declared.records.CellExt.{CellExt}
 use Rattle.circuit_model.specs.Elements.{Element, ids_of}
@@ -12,12 +13,11 @@ use Rattle.element_tree.specs.declared.tree.ElementTree.{ElementTree}
 use Rattle.element_tree.specs.Trees.{AreAt, StandsFor, StandsIn, IsTreeOfElements}
 use Rattle.full_names.specs.Reached.{no_element, flat_at}
 use Rattle.full_names.specs.Paths.{IsTree, IsAtRoot, LeadsFrom}
-use Rattle.full_names.proofs.Lookups.{slice_get_some}
 
 module _ (exts : List CellExt) (elements : List Element) (tree : ElementTree) (is : IsTreeOfElements exts elements tree) where
   -- an element stands at each number of the tree
   pub element_at : (number : ℕ) → number < length tree.elements → (element : Element) × (slice_get elements number ≡ Some element)
-  element_at number within = let long = is.long in slice_get_some elements number (omega arith)
+  element_at number within = let long = is.long in slice_get-below elements number (omega arith)
 
   pub within_tree : (number : ℕ) (element : Element) → slice_get elements number ≡ Some element → number < length tree.elements
   within_tree number element at = let long = is.long in let within = slice_get_within elements number element at in omega arith

@@ -3,9 +3,9 @@ use Rattle.std.proofs.Common.{◌≡◌, ℕ, zero, suc, ◌<◌, List, [], ◌�
 use Rattle.std.proofs.Common.{◌++◌, Some, map, inl, inr, sym, ◌∙◌, ap, subst, arith}
 use Rattle.std.specs.Prelude.{slice_get, All}
 use Rattle.std.proofs.lemmas.List.{map-append}
-use Rattle.std.proofs.lemmas.Option.{slice_get_within, get_or_from_slice_get, slice_get-map}
+use Rattle.std.proofs.lemmas.Option.{slice_get-map}
 use Rattle.std.specs.Option.{option_map}
-use Rattle.geo_core.proofs.ElementLaws.{one_place}
+use Rattle.finite_sets.proofs.Places.{one_place, All-slice_get}
 use Rattle.ext_model.specs.declared.records.UseRec.{UseRec}
 use Rattle.ext_model.specs.declared.records.CellExt.{CellExt}
 use Rattle.ext_model.specs.NodeNames.{slashes_in}
@@ -17,10 +17,6 @@ use Rattle.element_tree.specs.declared.tree.ElementTree.{ElementTree}
 use Rattle.element_tree.specs.Trees.{IsTreeOfElements}
 use Rattle.full_names.specs.Reached.{flat_at}
 use Rattle.full_names.proofs.TreeLaws.{are_at, stands_for}
-
--- what holds of all holds of what stands at a place
-pub All-slice_get : {X : Type 0} (P : X → Type 0) (xs : List X) (k : ℕ) (x : X) → All P xs → slice_get xs k ≡ Some x → P x
-All-slice_get P xs k x all at = subst P (get_or_from_slice_get xs k x x at) (all k x (slice_get_within xs k x at))
 
 AreWhole-push : (ids : List (List ℕ)) (id : List ℕ) → AreWhole ids → slashes_in id ≡ 0 → AreWhole (ids ++ id ∷ [])
 AreWhole-push [] id whole none = (none, tt)

@@ -1,9 +1,9 @@
 -- All full names of a tree of records, in order.
 use Rattle.std.specs.Prelude.{◌≡◌, ◌↔◌, ◌≤◌, ℕ, Option, Some, None, List, slice_get}
 use Rattle.finite_sets.specs.Lists.{In}
-use Rattle.geo_core.specs.declared.limits.Limit.TheVariants.{Names}
 use Rattle.ext_model.specs.declared.records.CellExt.{CellExt}
 use Rattle.circuit_model.specs.declared.faults.FlatFault.{FlatFault}
+use Rattle.circuit_model.specs.declared.limits.CircuitLimit.TheVariants.{Names}
 use Rattle.circuit_model.specs.declared.limits.TheConstants.{MOST_NODES, MOST_NAME_BYTES}
 use Rattle.circuit_model.specs.Elements.{Element, elements_of}
 use Rattle.circuit_model.specs.FullNames.{IsFullName, AreInNameOrder}

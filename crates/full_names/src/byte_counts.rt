@@ -6,20 +6,19 @@ ghost use Rattle.full_names.specs.ByteCounts.{global_bytes, local_bytes, element
 
 use crate::globals::GlobalName;
 use crate::own_names::{OwnName, RecordNames};
-use circuit_model::{FlatFault, MOST_NAME_BYTES};
+use circuit_model::{CircuitLimit, FlatFault, MOST_NAME_BYTES};
 use element_tree::ElementTree;
-use geo_core::Limit;
 
 // the sum, if it is within the limit
 fn add_bytes(total: usize, more: usize) -> Result<usize, FlatFault>
     ensures sum { IfOk result (λ sum. sum ≡ total + more) }
     ensures few { IfOk result (λ sum. sum ≤ MOST_NAME_BYTES) }
-    ensures fault { IfErr result (λ fault. fault ≡ FlatFault.TooMany Limit.Names) }
+    ensures fault { IfErr result (λ fault. fault ≡ FlatFault.TooMany CircuitLimit.Names) }
     ensures many { IfErr result (λ fault. MOST_NAME_BYTES < total + more) }
 {
     match total.checked_add(more) {
         Some(sum) if sum <= MOST_NAME_BYTES => Ok(sum),
-        _ => Err(FlatFault::TooMany(Limit::Names)),
+        _ => Err(FlatFault::TooMany(CircuitLimit::Names)),
     }
 }
 
@@ -27,7 +26,7 @@ fn add_bytes(total: usize, more: usize) -> Result<usize, FlatFault>
 fn add_global_bytes(globals: &[GlobalName<'_>]) -> Result<usize, FlatFault>
     ensures sum { IfOk result (λ sum. sum ≡ global_bytes globals.now) }
     ensures few { IfOk result (λ sum. sum ≤ MOST_NAME_BYTES) }
-    ensures fault { IfErr result (λ fault. fault ≡ FlatFault.TooMany Limit.Names) }
+    ensures fault { IfErr result (λ fault. fault ≡ FlatFault.TooMany CircuitLimit.Names) }
     ensures many { IfErr result (λ fault. MOST_NAME_BYTES < global_bytes globals.now) }
 {
     let mut total = 0;
@@ -46,7 +45,7 @@ fn add_local_bytes(
     requires { before ≤ MOST_NAME_BYTES }
     ensures sum { IfOk result (λ sum. sum ≡ before + local_bytes path_bytes names.now) }
     ensures few { IfOk result (λ sum. sum ≤ MOST_NAME_BYTES) }
-    ensures fault { IfErr result (λ fault. fault ≡ FlatFault.TooMany Limit.Names) }
+    ensures fault { IfErr result (λ fault. fault ≡ FlatFault.TooMany CircuitLimit.Names) }
     ensures many { IfErr result (λ fault. MOST_NAME_BYTES < before + local_bytes path_bytes names.now) }
 {
     let mut total = before;
@@ -65,7 +64,7 @@ pub(crate) fn check_bytes(
 ) -> Result<(), FlatFault>
     requires { AreOfRecords (length records.now) tree.now.elements }
     ensures few { OnOk result (global_bytes globals.now + element_bytes records.now tree.now.elements ≤ MOST_NAME_BYTES) }
-    ensures fault { IfErr result (λ fault. fault ≡ FlatFault.TooMany Limit.Names) }
+    ensures fault { IfErr result (λ fault. fault ≡ FlatFault.TooMany CircuitLimit.Names) }
     ensures many { IfErr result (λ fault. MOST_NAME_BYTES < global_bytes globals.now + element_bytes records.now tree.now.elements) }
 {
     let mut total = add_global_bytes(globals)?;

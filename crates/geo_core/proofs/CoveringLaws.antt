@@ -1,10 +1,12 @@
--- The tests of covering and of having a square and the facts say the same, and what a common part covers.
+-- The tests of covering and of having a square and the facts say the same, what a common part covers, and what lies within what.
 use Rattle.std.proofs.Common.{◌≡◌, true, ◌≤ℤ◌, ◌<ℤ◌, arith}
 use Rattle.std.proofs.lemmas.Int.{ints, clamps}
+use Rattle.finite_sets.proofs.Orders.{at_most-trans, equal_from_both}
 use Rattle.geo_core.specs.declared.squares.Square.{Square}
 use Rattle.geo_core.specs.declared.squares.Rect.{Rect}
-use Rattle.geo_core.specs.Areas.{common_rect, has_square, joined_rect, LiesWithin}
+use Rattle.geo_core.specs.Areas.{common_rect, corner_of, has_square, joined_rect, widened, LiesWithin}
 use Rattle.geo_core.specs.Covering.{Covers, is_covered, IsProper}
+use Rattle.geo_core.proofs.SquareLaws.{rect_is}
 
 -- what passes the test is covered
 pub Covers-is_covered : (area : Rect) (square : Square) → is_covered area square ≡ true → Covers area square
@@ -130,4 +132,81 @@ joined_within a b area p q =
       above_ylo = omega (arith, ints, clamps);
       left_of_xhi = omega (arith, ints, clamps);
       below_yhi = omega (arith, ints, clamps);
+    }
+
+-- a rectangle that covers a square has one
+pub covers_is_proper : (area : Rect) (square : Square) → Covers area square → IsProper area
+covers_is_proper area square covers =
+    let left : area.xlo ≤ℤ square.x = covers.right_of_xlo in
+    let right : square.x <ℤ area.xhi = covers.left_of_xhi in
+    let low : area.ylo ≤ℤ square.y = covers.above_ylo in
+    let high : square.y <ℤ area.yhi = covers.below_yhi in
+    record { wide = omega (arith, ints); high = omega (arith, ints) }
+
+-- a rectangle with a square covers its corner
+pub corner_covered : (area : Rect) → IsProper area → Covers area (corner_of area)
+corner_covered area proper = record {
+  right_of_xlo = omega (arith, ints);
+  left_of_xhi = proper.wide;
+  above_ylo = omega (arith, ints);
+  below_yhi = proper.high;
+}
+
+-- what lies within what lies within a rectangle lies within it
+pub within_trans : (a b c : Rect) → LiesWithin a b → LiesWithin b c → LiesWithin a c
+within_trans a b c p q = record {
+  right_of_xlo = at_most-trans c.xlo b.xlo a.xlo q.right_of_xlo p.right_of_xlo;
+  above_ylo = at_most-trans c.ylo b.ylo a.ylo q.above_ylo p.above_ylo;
+  left_of_xhi = at_most-trans a.xhi b.xhi c.xhi p.left_of_xhi q.left_of_xhi;
+  below_yhi = at_most-trans a.yhi b.yhi c.yhi p.below_yhi q.below_yhi;
+}
+
+-- rectangles of which each lies within the other are one
+pub within_antisym : (a b : Rect) → LiesWithin a b → LiesWithin b a → a ≡ b
+within_antisym a b p q =
+    rect_is a b
+    (equal_from_both a.xlo b.xlo q.right_of_xlo p.right_of_xlo)
+    (equal_from_both a.ylo b.ylo q.above_ylo p.above_ylo)
+    (equal_from_both a.xhi b.xhi p.left_of_xhi q.left_of_xhi)
+    (equal_from_both a.yhi b.yhi p.below_yhi q.below_yhi)
+
+-- the first of two rectangles lies within the one that goes round both
+pub within_joined_first : (a b : Rect) → LiesWithin a (joined_rect a b)
+within_joined_first a b = record {
+  right_of_xlo = omega (arith, ints, clamps);
+  above_ylo = omega (arith, ints, clamps);
+  left_of_xhi = omega (arith, ints, clamps);
+  below_yhi = omega (arith, ints, clamps);
+}
+
+-- the second of two rectangles lies within the one that goes round both
+pub within_joined_second : (a b : Rect) → LiesWithin b (joined_rect a b)
+within_joined_second a b = record {
+  right_of_xlo = omega (arith, ints, clamps);
+  above_ylo = omega (arith, ints, clamps);
+  left_of_xhi = omega (arith, ints, clamps);
+  below_yhi = omega (arith, ints, clamps);
+}
+
+-- the common part of two rectangles lies within the second
+pub common_within : (a b : Rect) → LiesWithin (common_rect a b) b
+common_within a b = record {
+  right_of_xlo = omega (arith, ints, clamps);
+  above_ylo = omega (arith, ints, clamps);
+  left_of_xhi = omega (arith, ints, clamps);
+  below_yhi = omega (arith, ints, clamps);
+}
+
+-- a square of a rectangle is one of the rectangle grown by one
+pub covers_widened : (area : Rect) (square : Square) → Covers area square → Covers (widened area) square
+covers_widened area square covers =
+    let left : area.xlo ≤ℤ square.x = covers.right_of_xlo in
+    let right : square.x <ℤ area.xhi = covers.left_of_xhi in
+    let low : area.ylo ≤ℤ square.y = covers.above_ylo in
+    let high : square.y <ℤ area.yhi = covers.below_yhi in
+    record {
+      right_of_xlo = omega (arith, ints);
+      left_of_xhi = omega (arith, ints);
+      above_ylo = omega (arith, ints);
+      below_yhi = omega (arith, ints);
     }

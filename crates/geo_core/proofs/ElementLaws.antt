@@ -92,7 +92,8 @@ elements_of-at grid k m n row column at =
     ∙ slice_get-map (element_of grid) (places grid) (m * length ns + n)
     ∙ ap (option_map (element_of grid)) (slice_get-get_or (places grid) (m * length ns + n) (pos 0, pos 0) bound ∙ ap Some found)
 
-nth_either : (up : Bool) (from n k : ℤ) → cond up (from +ℤ n) (from -ℤ n) ≡ cond up (from +ℤ k) (from -ℤ k) → n ≡ k
+-- counted from one number, all up or all down, steps of different size lead to different numbers
+pub nth_either : (up : Bool) (from n k : ℤ) → cond up (from +ℤ n) (from -ℤ n) ≡ cond up (from +ℤ k) (from -ℤ k) → n ≡ k
 nth_either true from n k e = omega (arith, ints, e)
 nth_either false from n k e = omega (arith, ints, e)
 
@@ -107,19 +108,6 @@ pub Distinct-elements_of : (grid : Grid) → Distinct (elements_of grid)
 Distinct-elements_of grid =
     Distinct-map (element_of grid) (places grid) (λ a b h k e. element_of-injective grid a b e)
     (Lists-rectangle (pos 0) (pos (rows grid)) (pos 0) (pos (columns grid))).0
-
--- in a list where nothing stands twice a thing has one place
-pub one_place : {X : Type 0} (xs : List X) (i j : ℕ) (x : X) → Distinct xs → slice_get xs i ≡ Some x → slice_get xs j ≡ Some x → i ≡ j
-one_place xs i j x d e f =
-    let at-i : get_or xs i x ≡ x = get_or_from_slice_get xs i x x e in
-    let at-j : get_or xs j x ≡ x = get_or_from_slice_get xs j x x f in
-    elim (cases_lt i j) [
-      | inl before ↦ absurd (Distinct-places xs i j x d before (slice_get_within xs j x f) (at-i ∙ sym at-j))
-      | inr not_before ↦ (elim (cases_lt j i) [
-        | inl after ↦ absurd (Distinct-places xs j i x d after (slice_get_within xs i x e) (at-j ∙ sym at-i))
-        | inr not_after ↦ omega arith
-      ])
-    ]
 
 -- where the k-th element of a lawful grid stands
 pub record StandsAt (grid : Grid) (k m n : ℕ) : Type 0 where

@@ -1,6 +1,4 @@
 pub mod Areas
-pub mod Bars
-pub mod Coverage
 pub mod Covering
 pub mod Elements
 pub mod Images
@@ -8,8 +6,5 @@ pub mod Neighbours
 pub mod Orientation
 pub mod Planes
 pub mod Reach
-pub mod RowEvents
-pub mod RowRuns
 pub mod SquareOrder
 pub mod Strips
-pub mod Sweeping

@@ -1,5 +1,7 @@
 -- The eight orientations in which a part of a layout may stand, and their matrices.
-use Rattle.std.specs.Prelude.{ℤ, pos, negsuc, ◌+ℤ◌, ◌*ℤ◌}
+use Rattle.std.specs.Prelude.{ℤ, pos, negsuc, ◌+ℤ◌, ◌*ℤ◌, ◌&&◌, Bool, List, [], ◌∷◌, Option, find}
+use Rattle.std.specs.Option.{is_some}
+use Rattle.std.specs.Ordering.{int_eq}
 use Rattle.geo_core.specs.declared.orients.Orient.{Orient}
 use Rattle.geo_core.specs.declared.orients.Orient.TheVariants.{R0, R90, R180, R270, Mx, My, Mx90, My90}
 
@@ -20,6 +22,23 @@ matrix Mx = record { a = pos 1; b = pos 0; d = pos 0; e = negsuc 0 }
 matrix My = record { a = negsuc 0; b = pos 0; d = pos 0; e = pos 1 }
 matrix Mx90 = record { a = pos 0; b = pos 1; d = pos 1; e = pos 0 }
 matrix My90 = record { a = pos 0; b = negsuc 0; d = negsuc 0; e = pos 0 }
+
+-- the eight orientations
+abbrev pub all_orients : List Orient
+all_orients = R0 ∷ R90 ∷ R180 ∷ R270 ∷ Mx ∷ My ∷ Mx90 ∷ My90 ∷ []
+
+-- the orientation has these factors
+abbrev pub has_factors : ℤ → ℤ → ℤ → ℤ → Orient → Bool
+has_factors a b d e orient =
+    int_eq a (matrix orient).a && int_eq b (matrix orient).b && int_eq d (matrix orient).d && int_eq e (matrix orient).e
+
+-- the orientation that has these factors, where one has
+abbrev pub orient_of : ℤ → ℤ → ℤ → ℤ → Option Orient
+orient_of a b d e = find (has_factors a b d e) all_orients
+
+-- one of the eight orientations has these factors
+unfoldable pub is_orientation : ℤ → ℤ → ℤ → ℤ → Bool
+is_orientation a b d e = is_some (orient_of a b d e)
 
 -- The matrix that does what the inner one does and then what the outer one does.
 abbrev pub product : Matrix → Matrix → Matrix

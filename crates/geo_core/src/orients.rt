@@ -1,7 +1,8 @@
 //! The eight orientations in which a part of a layout may stand.
 ghost use Rattle.std.specs.Prelude.{◌≡◌};
+ghost use Rattle.std.specs.Option.{is_some};
 ghost use Rattle.geo_core.specs.Images.{turns_x, turns_y};
-ghost use Rattle.geo_core.specs.Orientation.{matrix, product, after_turn, after_mirror, orient_then, orient_inverse};
+ghost use Rattle.geo_core.specs.Orientation.{matrix, orient_of, is_orientation, product, after_turn, after_mirror, orient_then, orient_inverse};
 
 /// One of the eight orientations that keep squares squares. `R0` leaves everything as it is, and
 /// `R90`, `R180` and `R270` turn counterclockwise. `Mx` mirrors at the x axis, so y turns round, and
@@ -19,6 +20,25 @@ pub enum Orient {
 }
 
 impl Orient {
+    /// The orientation that takes (x, y) to (a*x + b*y, d*x + e*y). `None` where none has these factors.
+    #[tactic(auto, unfolding(crate::specs::Orientation::is_orientation))]
+    pub fn of_matrix(a: i64, b: i64, d: i64, e: i64) -> Option<Orient>
+        ensures found { result ≡ orient_of a b d e }
+        ensures told { is_some result ≡ is_orientation a b d e }
+    {
+        match (a, b, d, e) {
+            (1, 0, 0, 1) => Some(Orient::R0),
+            (0, -1, 1, 0) => Some(Orient::R90),
+            (-1, 0, 0, -1) => Some(Orient::R180),
+            (0, 1, -1, 0) => Some(Orient::R270),
+            (1, 0, 0, -1) => Some(Orient::Mx),
+            (-1, 0, 0, 1) => Some(Orient::My),
+            (0, 1, 1, 0) => Some(Orient::Mx90),
+            (0, -1, -1, 0) => Some(Orient::My90),
+            _ => None,
+        }
+    }
+
     /// A quarter turn, and then this orientation.
     fn after_turn(self) -> Orient
         ensures { result ≡ after_turn self }

@@ -7,7 +7,6 @@ ghost use Rattle.geo_core.specs.Covering.{Covers, IsProper};
 ghost use Rattle.geo_core.specs.Planes.{HasValue, AreSame, AreSet, AreTilesIn, IsBox, PassesTileLimit};
 ghost use Rattle.geo_core.specs.Strips.{IsStrips};
 
-use crate::faults::GeoFault;
 use crate::squares::{Piece, Rect, Square};
 use std::alloc::AllocError;
 use thiserror::Error;
@@ -28,17 +27,6 @@ impl From<AllocError> for PlaneFault {
     ghost from_gives = { λ _ fault. fault ≡ Memory };
 
     fn from(_error: AllocError) -> PlaneFault {
-        PlaneFault::Memory
-    }
-}
-
-/// Want of memory alone refuses the calls of this crate.
-impl From<GeoFault> for PlaneFault {
-    ghost use Rattle.geo_core.specs.declared.planes.PlaneFault.TheVariants.{Memory};
-
-    ghost from_gives = { λ _ fault. fault ≡ Memory };
-
-    fn from(_fault: GeoFault) -> PlaneFault {
         PlaneFault::Memory
     }
 }

@@ -28,18 +28,10 @@ impl Transform {
         ensures none { IfNone result ((t : IsTransform) → six_of t ≢ v) }
     {
         let [a, b, dx, d, e, dy] = v;
-        let orient = match (a, b, d, e) {
-            (1, 0, 0, 1) => Orient::R0,
-            (0, -1, 1, 0) => Orient::R90,
-            (-1, 0, 0, -1) => Orient::R180,
-            (0, 1, -1, 0) => Orient::R270,
-            (1, 0, 0, -1) => Orient::Mx,
-            (-1, 0, 0, 1) => Orient::My,
-            (0, 1, 1, 0) => Orient::Mx90,
-            (0, -1, -1, 0) => Orient::My90,
-            _ => return None,
-        };
-        Some(Transform { orient, dx, dy })
+        match Orient::of_matrix(a, b, d, e) {
+            Some(orient) => Some(Transform { orient, dx, dy }),
+            None => None,
+        }
     }
 
     /// The six numbers that `of_six` makes this transform of.

@@ -1,7 +1,7 @@
 //! What no clause says of names and lists: that memory is enough for them.
 ghost use Rattle.std.specs.Prelude.{◌≡◌, ◌<◌, length, slice_set};
 
-use geo_core::{GeoFault, List, Name};
+use names_lists::{List, Name};
 use std::alloc::{AllocError, Global};
 use std::test::Fail;
 
@@ -14,13 +14,13 @@ const NAMES: &[(&[u8], &[u8], bool)] = &[
 ];
 
 /// Whether the name and a copy of it have the bytes.
-fn has_bytes(alloc: Global, bytes: &[u8]) -> Result<bool, GeoFault> {
+fn has_bytes(alloc: Global, bytes: &[u8]) -> Result<bool, AllocError> {
     let name = Name::of(alloc, bytes)?;
     let copy = name.copy(alloc)?;
     Ok(name.bytes() == bytes && copy.bytes() == bytes && copy == name)
 }
 
-fn are_told_apart(alloc: Global, row: (&[u8], &[u8], bool)) -> Result<bool, GeoFault> {
+fn are_told_apart(alloc: Global, row: (&[u8], &[u8], bool)) -> Result<bool, AllocError> {
     let (first, second, same) = row;
     let told = (Name::of(alloc, first)? == Name::of(alloc, second)?) == same;
     Ok(told && has_bytes(alloc, first)?)

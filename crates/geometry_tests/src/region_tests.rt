@@ -3,10 +3,10 @@ ghost use Rattle.std.specs.Prelude.{◌≡◌, length};
 
 use crate::paint_tests::{Act, NM, Step, painted};
 use cell_paint::CellPaint;
-use flood_nodes::{FloodFault, Regions, regions};
+use flood_nodes::{Regions, regions};
 use geo_core::Rect;
 use measures::measure;
-use std::alloc::Global;
+use std::alloc::{AllocError, Global};
 use std::test::Fail;
 use tech_file::read_tech;
 use tech_model::Tech;
@@ -86,7 +86,7 @@ const ROWS: &[Row] = &[
 ];
 
 /// The regions of all that the cell has in the window.
-fn regions_in(alloc: Global, tech: &Tech, cell: &CellPaint) -> Result<Regions, FloodFault>
+fn regions_in(alloc: Global, tech: &Tech, cell: &CellPaint) -> Result<Regions, AllocError>
     requires kinds { cell.now.kinds ≡ tech.now.types }
     requires planes { length cell.now.planes ≡ length tech.now.planes }
 {

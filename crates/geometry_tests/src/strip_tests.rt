@@ -2,7 +2,8 @@
 
 use crate::areas::{Bounds, rect, rects};
 use crate::random::{next, pick};
-use geo_core::{GeoFault, Rect, strips};
+use geo_core::Rect;
+use geo_strips::strips;
 use std::alloc::{AllocError, Global};
 use std::test::Fail;
 
@@ -61,7 +62,7 @@ const ROWS: &[(&[Bounds], &[Bounds])] = &[
     ),
 ];
 
-fn has_strips(alloc: Global, row: &(&[Bounds], &[Bounds])) -> Result<bool, GeoFault> {
+fn has_strips(alloc: Global, row: &(&[Bounds], &[Bounds])) -> Result<bool, AllocError> {
     let covering = rects(alloc, row.0)?;
     let want = rects(alloc, row.1)?;
     Ok(strips(alloc, covering.as_slice())?.as_slice() == want.as_slice())
@@ -234,7 +235,7 @@ fn random_blocks(alloc: Global, seed: u64, count: u32, below: u8) -> Result<Vec<
     Ok(rects)
 }
 
-fn are_by_squares(alloc: Global, trial: u8) -> Result<bool, GeoFault> {
+fn are_by_squares(alloc: Global, trial: u8) -> Result<bool, AllocError> {
     let rects = random_blocks(
         alloc,
         u64::from(trial),

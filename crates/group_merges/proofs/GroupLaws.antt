@@ -1,5 +1,5 @@
 -- The merges of a group, and of one group behind the other.
-use Rattle.std.proofs.Common.{◌≡◌, ◌<◌, ◌+◌, ℕ, zero, suc, Bool, true, false, cond, List, [], ◌∷◌, ◌++◌, map, filter, length, get_or}
+use Rattle.std.proofs.Common.{◌≡◌, ◌<◌, ◌+◌, ℕ, Bool, true, false, cond, List, [], ◌∷◌, ◌++◌, map, filter, length, get_or}
 use Rattle.std.proofs.Common.{refl, sym, ◌∙◌, ap, arith}
 use Rattle.std.specs.Prelude.{pos}
 use Rattle.std.specs.List.{flat_map, range_with_len}
@@ -7,6 +7,7 @@ use Rattle.std.proofs.lemmas.Bool.{cond-true, cond-false}
 use Rattle.std.proofs.lemmas.List.{append-nil, append_assoc, get_or_default, map-append}
 use Rattle.std.proofs.lemmas.List.Concat.{flat_map-append}
 use Rattle.std.proofs.lemmas.List.Elements.{filter-append}
+use Rattle.finite_sets.proofs.Searches.{range_push}
 use Rattle.layout_model.specs.Technologies.{Class}
 use Rattle.ext_model.specs.declared.records.MergeRec.{MergeRec}
 use Rattle.tree_records.specs.Merges.{Adjustment, MemberGroup, group_merges, is_zero_adjustment, merge_of, zero_adjustment}
@@ -75,15 +76,8 @@ module _ (members : List Member) (sums : List MeetingSum) (nothing : MeetingSum)
         ∙ ap (λ (merges : List MergeRec). old ++ merges) (sym (append-nil (one ∷ others)) ∙ ap (merges_with classes) (sym next.names));
   }
 
--- a range of one more
-range_more : (a n : ℕ) → range_with_len a (suc n) ≡ range_with_len a n ++ (a + n) ∷ []
-range_more a zero = ap (λ (k : ℕ). k ∷ []) (omega arith)
-range_more a (suc n) = ap (λ (v : List ℕ). a ∷ v) (range_more (a + 1) n ∙ ap (λ (k : ℕ). range_with_len (a + 1) n ++ k ∷ []) (omega arith))
-
 range_one_more : (n : ℕ) → range_with_len 0 (n + 1) ≡ range_with_len 0 n ++ n ∷ []
-range_one_more n =
-    ap (range_with_len 0) (let next : n + 1 ≡ suc n = omega arith in next) ∙ range_more 0 n
-    ∙ ap (λ (k : ℕ). range_with_len 0 n ++ k ∷ []) (omega arith)
+range_one_more n = range_push 0 n ∙ ap (λ (k : ℕ). range_with_len 0 n ++ k ∷ []) (omega arith)
 
 -- the groups before the next place
 groups_more : (members : List Member) (sums : List MeetingSum) (place : ℕ)

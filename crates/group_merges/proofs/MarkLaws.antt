@@ -8,14 +8,14 @@ use Rattle.std.proofs.lemmas.List.{get_or_default}
 use Rattle.std.proofs.lemmas.Option.{same_Some, slice_get_within, slice_get-get_or}
 use Rattle.finite_sets.specs.Lists.{In}
 use Rattle.finite_sets.proofs.Members.{In-map, In-map_source, In-filter, In-filter_source, In-filter_passes}
-use Rattle.finite_sets.proofs.Pairs.{Pairwise, Pairwise-map, Pairwise-filter, Pairwise-from_AllPairs, AllPairs-from_Pairwise}
+use Rattle.finite_sets.proofs.Pairs.{Pairwise, Pairwise-map, Pairwise-filter, Pairwise-from_AllPairs, AllPairs-from_Pairwise, Pairwise-within}
 use Rattle.finite_sets.proofs.Searches.{All-from_In}
 use Rattle.tech_model.proofs.WellFormedLaws.{In-range_with_len, range_bounds}
 use Rattle.tech_model.specs.declared.raw.RawTech.{RawTech}
 use Rattle.layout_model.specs.Technologies.{rules_of}
 use Rattle.ext_model.specs.declared.records.MergeRec.{MergeRec}
 use Rattle.circuit_model.specs.FullNames.{AreInNameOrder}
-use Rattle.full_names.proofs.ListOrders.{names_in_order, Pairwise-within}
+use Rattle.full_names.proofs.ListOrders.{names_in_order}
 use Rattle.own_records.specs.FetRecords.{IsNameBefore}
 use Rattle.tree_records.specs.Merges.{MemberGroup, group_name, group_merges, zero_adjustment}
 use Rattle.meeting_sums.specs.declared.sums.MeetingSum.{MeetingSum}

@@ -12,13 +12,13 @@ use Rattle.std.proofs.lemmas.List.{take_more, take_all, get_or-take, length-map,
 use Rattle.std.proofs.lemmas.List.Sorted.{IsPermutation-map, IsPermutation-sym}
 use Rattle.std.proofs.lemmas.Option.{get_or_from_slice_get, slice_get-map, slice_get_within}
 use Rattle.finite_sets.specs.Lists.{In, Distinct}
-use Rattle.finite_sets.proofs.Distincts.{Distinct-places, Distinct-from_places}
 use Rattle.finite_sets.proofs.Members.{In-map, In-permutation}
 use Rattle.finite_sets.proofs.Orders.{IsSorted-pairs}
-use Rattle.finite_sets.proofs.Pairs.{Pairwise, Pairwise-from_AllPairs, AllPairs-from_Pairwise, AllPairs-permutation}
+use Rattle.finite_sets.proofs.Pairs.{Pairwise, Pairwise-from_AllPairs, AllPairs-from_Pairwise}
+use Rattle.finite_sets.proofs.Places.{In-slice_get, slice_get-In, slice_get-below}
+use Rattle.finite_sets.proofs.Images.{Distinct-permutation}
 use Rattle.ext_model.specs.NameOrder.{name_cmp}
 use Rattle.ext_model.proofs.NameOrders.{name_cmp_total, name_cmp_exact}
-use Rattle.full_names.proofs.Lookups.{slice_get-In, In-slice_get, slice_get_some}
 use Rattle.own_records.specs.FetRecords.{IsNameBefore}
 use Rattle.group_merges.specs.declared.members.Member.{Member}
 use Rattle.group_merges.specs.Members.{names_of, marks_of, member_cmp, IsMemberAt, AreMembers}
@@ -65,14 +65,8 @@ module _ (names : List (List ℕ)) (marks : List ℕ) (number : ℕ) (members : 
   -- the member with a name
   named_member : (k : ℕ) (name : List ℕ) → slice_get names k ≡ Some name → (member : Member) × (slice_get members k ≡ Some member)
   named_member k name at =
-      slice_get_some members k
+      slice_get-below members k
       (omega (arith, slice_get_within names k name at, length-map members (λ (m : Member). m.name.now), ap length all_names))
-
--- a list of things that differ, in another order
-Distinct-permutation : {X : Type 0} (xs ys : List X) → IsPermutation xs ys → Distinct xs → Distinct ys
-Distinct-permutation {X} xs ys moved once = Distinct-from_places ys (λ i j d less below.
-    AllPairs-permutation (λ (a b : X). a ≢ b) (λ a b apart e. apart (sym e)) xs ys moved
-    (λ k l e up last. Distinct-places xs k l e once up last) i j d less below)
 
 -- two names that differ, of which the second doesn't stand first
 name_before : (a b : List ℕ) → is_lt (name_cmp b a) ≡ false → a ≢ b → IsNameBefore a b
@@ -105,12 +99,12 @@ members_all names marks number members sorted once enough past within are moved 
       (Distinct-permutation (names_of members) (names_of sorted) (IsPermutation-map (λ (m : Member). m.name.now) members sorted moved)
       (subst Distinct (sym (all_names names marks number members enough past within are)) once)));
   each = λ member here.
-      let at = In-slice_get members member (In-permutation member sorted members (IsPermutation-sym members sorted moved) here) in
+      let at = slice_get-In member members (In-permutation member sorted members (IsPermutation-sym members sorted moved) here) in
       (at.0, member_at names marks number members enough past within are at.0 member at.1);
   whole = λ k name at.
       let found = named_member names marks number members enough past within are k name at in (
         found.0,
-        In-permutation found.0 members sorted moved (slice_get-In members k found.0 found.1),
+        In-permutation found.0 members sorted moved (In-slice_get members k found.0 found.1),
         member_at names marks number members enough past within are k found.0 found.1,
       );
 }

@@ -8,7 +8,7 @@ use Rattle.std.proofs.lemmas.List.{length-map, drop_all, append_assoc, append-ni
 use Rattle.std.proofs.lemmas.Option.{get_or_from_slice_get, slice_get-map, same_Some, none-some}
 use Rattle.std.proofs.lemmas.List.Elements.{All-get_or}
 use Rattle.finite_sets.proofs.Searches.{drop_split}
-use Rattle.full_names.proofs.Lookups.{slice_get_some}
+use Rattle.finite_sets.proofs.Places.{slice_get-below}
 use Rattle.ext_model.specs.declared.records.MergeRec.{MergeRec}
 use Rattle.group_merges.specs.declared.links.LinkedMembers.{LinkedMembers}
 use Rattle.group_merges.specs.declared.members.Member.{Member}
@@ -27,7 +27,7 @@ pub record StandsAt (members : List Member) (place : ℕ) : Type 0 where
 
 pub stands_at : (members : List Member) (place : ℕ) → place < length members → StandsAt members place
 stands_at members place within =
-    let found = slice_get_some members place within in
+    let found = slice_get-below members place within in
     let name = λ (member : Member). member.name.now in
     let mark = λ (member : Member). member.mark in record {
       member = found.0;

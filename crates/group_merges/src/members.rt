@@ -4,7 +4,7 @@ ghost use Rattle.finite_sets.specs.Lists.{Distinct};
 ghost use Rattle.group_merges.specs.Members.{member_cmp, AreMembers};
 
 use ext_model::compare_names;
-use geo_core::Name;
+use names_lists::Name;
 use std::alloc::{AllocError, Global};
 use std::cmp::Ordering;
 

@@ -13,17 +13,10 @@ ghost use Rattle.group_merges.specs.MarkMerges.{AreMergesOfMarks};
 use crate::links::{LinkedMembers, link};
 use crate::members::members_in_order;
 use ext_model::MergeRec;
-use geo_core::{List, Name};
 use meeting_sums::MeetingSum;
+use names_lists::{List, Name};
 use std::alloc::{AllocError, Global};
 use tech_model::Tech;
-
-// a name of these bytes
-fn name_of(alloc: Global, bytes: &[u8]) -> Result<Name, AllocError>
-    ensures { IfOk result (λ name. name ≡ bytes.now) }
-{
-    Name::of(alloc, bytes).map_err(|_| AllocError)
-}
 
 // a merge of two members, to whose group the sum is added
 fn merge(
@@ -35,8 +28,8 @@ fn merge(
     ensures { IfOk result (λ merge. merge ≡ merge_of first.now second.now (adjustment_of sum.now)) }
 {
     Ok(MergeRec {
-        first: name_of(alloc, first)?,
-        second: name_of(alloc, second)?,
+        first: Name::of(alloc, first)?,
+        second: Name::of(alloc, second)?,
         cap: sum.cap,
         measures: List::of(Vec::from_slice(alloc, sum.measures.items())?),
     })

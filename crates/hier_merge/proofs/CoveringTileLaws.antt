@@ -6,6 +6,8 @@ use Rattle.std.proofs.lemmas.Bool.{cases_Bool, cases_eq, false≢true}
 use Rattle.std.proofs.lemmas.List.FromFn.{length-map-range_with_len}
 use Rattle.finite_sets.specs.Lists.{In}
 use Rattle.finite_sets.proofs.Members.{In-append_cases, In-index, In-map_source}
+use Rattle.finite_sets.proofs.Searches.{All-In}
+use Rattle.finite_sets.proofs.Places.{In-slice_get}
 use Rattle.geo_core.specs.declared.squares.Square.{Square}
 use Rattle.geo_core.specs.Areas.{corner_of, IsNear}
 use Rattle.geo_core.specs.Covering.{Covers, is_covered}
@@ -17,7 +19,6 @@ use Rattle.tech_model.specs.Types.{is_type, joined, parts_of, plane_of}
 use Rattle.tech_model.specs.WellFormed.{IsWellFormed}
 use Rattle.tech_model.proofs.JoinedLaws.{joined-found}
 use Rattle.tech_model.proofs.SetLaws.{set_not_empty}
-use Rattle.tech_model.proofs.WellFormedLaws.{All_In}
 use Rattle.layout_model.specs.LayerTypes.{HasTypesOf}
 use Rattle.layout_model.specs.Places.{Place}
 use Rattle.layout_trees.specs.CellTrees.{CellTree, Elements, Standing, standings, standings_from, under}
@@ -42,7 +43,7 @@ use Rattle.hier_merge.specs.Visits.{AreOfParts, tiles_on}
 use Rattle.hier_merge.proofs.MeetingBoxes.{parts_of_tiles}
 use Rattle.hier_merge.proofs.NumberedParts.{stands_made}
 use Rattle.hier_merge.proofs.PlaneTiles.{set_on_plane}
-use Rattle.hier_merge.proofs.SortedTiles.{In-slice_get, tile_on_plane}
+use Rattle.hier_merge.proofs.SortedTiles.{tile_on_plane}
 
 -- ---- types of tiles
 
@@ -165,8 +166,8 @@ module _ (raw : RawTech) (tree : CellTree) (formed : IsWellFormed raw) (typed : 
         let tile = on.tile in
         let number = tiles_before tiles plane + member in
         let listed : In tile tiles = In-slice_get tiles number tile on.there in
-        let type = tile_type raw tree formed typed tile (All_In (IsPartTile tree) tiles tile are listed) in
-        let part_below : tile.part < count = (All_In (λ (t : PartTile). (t.part < count) × IsNear t.area) tiles tile of_parts listed).0 in
+        let type = tile_type raw tree formed typed tile (All-In (IsPartTile tree) tiles tile are listed) in
+        let part_below : tile.part < count = (All-In (λ (t : PartTile). (t.part < count) × IsNear t.area) tiles tile of_parts listed).0 in
         let some : tile_part (tiles_on raw plane tiles) plane tile.part (on_plane plane corner) ≢ 0 =
         λ empty. tile_makes raw tiles plane member corner below (members.cover member among corner corner_in)
         (λ none. type.some (sym (ap (λ (t : SetTile). t.set.0) on.is) ∙ none))
@@ -213,9 +214,9 @@ module _ (raw : RawTech) (tree : CellTree) (formed : IsWellFormed raw) (typed : 
       let tile = on.tile in
       let number = tiles_before tiles plane + place in
       let listed : In tile tiles = In-slice_get tiles number tile on.there in
-      let part = All_In (IsPartTile tree) tiles tile are listed in
+      let part = All-In (IsPartTile tree) tiles tile are listed in
       let type = tile_type raw tree formed typed tile part in
-      let part_below : tile.part < count = (All_In (λ (t : PartTile). (t.part < count) × IsNear t.area) tiles tile of_parts listed).0 in
+      let part_below : tile.part < count = (All-In (λ (t : PartTile). (t.part < count) × IsNear t.area) tiles tile of_parts listed).0 in
       let square = corner_of tile.area in
       let covers : Covers (tile_at (tiles_on raw plane tiles) place).area square =
       subst (λ (t : SetTile). Covers t.area square) (sym on.is) (corner_covers tile.area square part.1.meets refl refl) in
@@ -224,7 +225,7 @@ module _ (raw : RawTech) (tree : CellTree) (formed : IsWellFormed raw) (typed : 
       (ap (λ (t : SetTile). tile_part (tiles_on raw plane tiles) plane t.part (on_plane plane square)) on.is ∙ empty) in
       elim (piece_or_none found square) [
         | inl there ↦
-            let has = All_In (HasMembers (tiles_on raw plane tiles)) found there.0 members there.1 in
+            let has = All-In (HasMembers (tiles_on raw plane tiles)) found there.0 members there.1 in
             (there.0, there.1, has.all place square below there.2 covers)
         | inr none ↦
             absurd (some (set_on_plane raw plane tiles tile.part (on_plane plane square) refl

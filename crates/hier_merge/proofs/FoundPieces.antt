@@ -4,13 +4,13 @@ use Rattle.std.specs.Prelude.{All, IsPermutation, Some, slice_get}
 use Rattle.std.proofs.lemmas.List.Sorted.{All-permutation}
 use Rattle.std.proofs.lemmas.Option.{slice_get_within, slice_get-get_or}
 use Rattle.finite_sets.specs.Lists.{In}
-use Rattle.finite_sets.proofs.Searches.{All-from_In}
+use Rattle.finite_sets.proofs.Searches.{All-from_In, All-In}
+use Rattle.finite_sets.proofs.Places.{In-slice_get}
 use Rattle.geo_core.specs.declared.squares.Rect.{Rect}
 use Rattle.geo_core.specs.Areas.{IsNear}
 use Rattle.tech_model.specs.declared.raw.RawTech.{RawTech}
 use Rattle.tech_model.specs.Rules.{KeepsRules}
 use Rattle.tech_model.specs.WellFormed.{IsWellFormed}
-use Rattle.tech_model.proofs.WellFormedLaws.{All_In}
 use Rattle.layout_model.specs.Places.{Place}
 use Rattle.layout_trees.specs.CellTrees.{CellTree}
 use Rattle.layout_trees.specs.FlatSets.{IsTyped, parts_in}
@@ -35,7 +35,7 @@ use Rattle.hier_merge.proofs.MeetingSquares.{lies_in, meet_and_make, MeetAndMake
 use Rattle.hier_merge.proofs.NearAreas.{in_some_area, tiles_are_of_parts}
 use Rattle.hier_merge.proofs.PartTypes.{part_past, parts_have_types, restriction_has_types}
 use Rattle.hier_merge.proofs.PlaneStrips.{strips_of_same}
-use Rattle.hier_merge.proofs.SortedTiles.{In-slice_get, numbered_on_plane}
+use Rattle.hier_merge.proofs.SortedTiles.{numbered_on_plane}
 
 module _ (raw : RawTech) (tree : CellTree) (formed : IsWellFormed raw) (rules : KeepsRules raw) (typed : IsTyped raw tree)
     (clean : IsCleanBelow raw tree) (tiles sorted : List PartTile) (are : AreMeetingTiles raw tree tiles) (moved : IsPermutation tiles sorted) where
@@ -98,7 +98,7 @@ module _ (raw : RawTech) (tree : CellTree) (formed : IsWellFormed raw) (rules : 
         let of = piece_of_plane raw sorted count of_parts plane_types 0 (length raw.planes) starts stacks offending found piece among in
         covering_tiles raw tree formed typed sorted in_order part_tiles count of_parts piece.plane piece.stack
         ((plane_pieces raw sorted count of_parts plane_types piece.plane of.found of.strips of.has).each piece.stack of.listed)
-        (All_In (HasMembers (tiles_on raw piece.plane sorted)) of.found piece.stack of.has.members of.listed)
+        (All-In (HasMembers (tiles_on raw piece.plane sorted)) of.found piece.stack of.has.members of.listed)
         starts (of.start piece.plane (omega arith))
 
     all_cover : (number : ℕ) → number < length sorted → CoversSomePiece starts stacks number
@@ -106,7 +106,7 @@ module _ (raw : RawTech) (tree : CellTree) (formed : IsWellFormed raw) (rules : 
         let at = numbered_on_plane raw sorted number in_order below in
         let plane = at.tile.plane in
         let type = tile_type raw tree formed typed at.tile
-        (All_In (IsPartTile tree) sorted at.tile part_tiles (In-slice_get sorted number at.tile at.there)) in
+        (All-In (IsPartTile tree) sorted at.tile part_tiles (In-slice_get sorted number at.tile at.there)) in
         let pieces = plane_is_found raw sorted count of_parts plane_types 0 (length raw.planes) starts stacks offending found plane (omega arith)
         (omega (arith, type.plane)) in
         let member = tile_is_member raw tree formed typed sorted in_order part_tiles count of_parts plane pieces.0

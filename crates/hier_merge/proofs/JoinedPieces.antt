@@ -9,7 +9,7 @@ use Rattle.std.proofs.lemmas.List.Sorted.{IsPermutation-sym}
 use Rattle.finite_sets.specs.Lists.{In}
 use Rattle.finite_sets.proofs.Members.{In-append_cases, In-append_left, In-append_right, In-map_source, In-permutation}
 use Rattle.finite_sets.proofs.Pairs.{AllPairs-from_Pairwise, Pairwise-append, Pairwise-from_AllPairs}
-use Rattle.finite_sets.proofs.Searches.{All-from_In}
+use Rattle.finite_sets.proofs.Searches.{All-from_In, All-In}
 use Rattle.geo_core.specs.declared.squares.Rect.{Rect}
 use Rattle.geo_core.specs.declared.squares.Square.{Square}
 use Rattle.geo_core.specs.Areas.{AreDisjoint, IsNear}
@@ -17,7 +17,6 @@ use Rattle.geo_core.specs.Covering.{Covers, is_covered}
 use Rattle.geo_core.proofs.CoveringLaws.{Covers-is_covered, is_covered-Covers}
 use Rattle.tech_model.specs.declared.raw.RawTech.{RawTech}
 use Rattle.tech_model.specs.Types.{joined}
-use Rattle.tech_model.proofs.WellFormedLaws.{All_In}
 use Rattle.offences.specs.declared.set_tiles.SetTile.{SetTile}
 use Rattle.offences.specs.declared.stacks.TypedStack.{TypedStack}
 use Rattle.offences.specs.Offences.{HaveTypes, SetLayout}
@@ -207,9 +206,9 @@ module _ (raw : RawTech) (plane : ℕ) where
         stand = λ count of_parts types.
             let IsOf : SetTile → Type 0 = λ tile. (tile.part < count) × IsNear tile.area in
             are_joined count types
-            (one.stand count (All-from_In IsOf first (λ tile among. All_In IsOf all tile of_parts (In-append_left tile first second among)))
+            (one.stand count (All-from_In IsOf first (λ tile among. All-In IsOf all tile of_parts (In-append_left tile first second among)))
             (part_has_types first as_first count types))
-            (two.stand count (All-from_In IsOf second (λ tile among. All_In IsOf all tile of_parts (In-append_right tile first second among)))
+            (two.stand count (All-from_In IsOf second (λ tile among. All-In IsOf all tile of_parts (In-append_right tile first second among)))
             (part_has_types second as_second count types));
         lie = λ piece listed square covers. elim (In-append_cases piece found more listed) [
           | inl here ↦ (let on = one.lie piece here square covers in (on.0, (In-append_left on.0 first second on.1.0, on.1.1)))
@@ -239,7 +238,7 @@ module _ (raw : RawTech) (plane : ℕ) where
   pieces_moved tiles sorted found moved stand members = record {
     stand = of_moved raw plane tiles sorted moved sorted refl found stand;
     lie = λ piece listed square covers.
-        let has = All_In (HasMembers sorted) found piece members listed in
+        let has = All-In (HasMembers sorted) found piece members listed in
         let member = some_of piece.members has.some in
         let tile = In-tile_at sorted member.0 (has.within member.0 member.1) in (
           _,

@@ -1,3 +1,4 @@
+pub mod CleanOrders
 pub mod CoveringTileLaws
 pub mod FoundPieces
 pub mod JoinedPieces

@@ -17,6 +17,7 @@ use Rattle.layout_trees.specs.CellTrees.{CellTree}
 use Rattle.layout_trees.specs.FlatSets.{parts_in}
 use Rattle.interact.specs.NearBoxes.{IsShared}
 use Rattle.geo_core.specs.Areas.{widened}
+use Rattle.geo_core.proofs.CoveringLaws.{covers_widened}
 use Rattle.offences.specs.Offences.{SetLayout}
 use Rattle.hierarchy_model.specs.Restrictions.{HoldsMeetings, IsRestriction, PartStands}
 use Rattle.cell_library.specs.declared.part_tiles.PartTile.{PartTile}
@@ -28,20 +29,6 @@ use Rattle.cell_library.proofs.PartLaws.{HasPartAt, HaveTwoBoxes, parts_have_box
 use Rattle.hier_merge.proofs.VisitLaws.{in_union_or_not, visits_inside, visits_outside}
 
 -- ---- boxes, grown by one
-
--- a square of a box is one of the box grown by one
-pub covers_grown : (box : Rect) (square : Square) → Covers box square → Covers (widened box) square
-covers_grown box square covers =
-    let left : box.xlo ≤ℤ square.x = covers.right_of_xlo in
-    let right : square.x <ℤ box.xhi = covers.left_of_xhi in
-    let low : box.ylo ≤ℤ square.y = covers.above_ylo in
-    let high : square.y <ℤ box.yhi = covers.below_yhi in
-    record {
-      right_of_xlo = omega (arith, ints);
-      left_of_xhi = omega (arith, ints);
-      above_ylo = omega (arith, ints);
-      below_yhi = omega (arith, ints);
-    }
 
 -- and so is each square beside it
 covers_beside : (box : Rect) (square beside : Square) → AreEdgeNeighbours square beside → Covers box square → Covers (widened box) beside
@@ -86,12 +73,12 @@ meetings_held boxes parts hold = record {
   here = λ j k place differ one other.
       let two = parts_have_boxes boxes parts j k place place hold differ (has_part parts j place one) (has_part parts k place other) in
       both_share boxes place place two place.square
-      (covers_grown two.covers_first.box place.square two.covers_first.covers)
-      (covers_grown two.covers_second.box place.square two.covers_second.covers);
+      (covers_widened two.covers_first.box place.square two.covers_first.covers)
+      (covers_widened two.covers_second.box place.square two.covers_second.covers);
   beside = λ j k place beside differ one other neighbours.
       let two = parts_have_boxes boxes parts j k place beside hold differ (has_part parts j place one) (has_part parts k beside other) in
       both_share boxes place beside two place.square
-      (covers_grown two.covers_first.box place.square two.covers_first.covers)
+      (covers_widened two.covers_first.box place.square two.covers_first.covers)
       (covers_beside two.covers_second.box beside.square place.square (AreEdgeNeighbours-sym place.square beside.square neighbours.1)
       two.covers_second.covers);
 }

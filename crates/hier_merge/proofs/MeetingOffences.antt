@@ -116,7 +116,7 @@ clean_from_places : (raw : RawTech) (tree : CellTree) → IsCleanBelow raw tree 
 clean_from_places raw (cell_tree _ _) below none = (below, none)
 
 -- and no place of a clean cell offends
-places_of_clean : (raw : RawTech) (tree : CellTree) → IsClean raw tree → (place : Place) → Offends raw (parts_in raw tree) place → ⊥
+pub places_of_clean : (raw : RawTech) (tree : CellTree) → IsClean raw tree → (place : Place) → Offends raw (parts_in raw tree) place → ⊥
 places_of_clean raw (cell_tree _ _) clean = clean.1
 
 -- there is no strip of what offends exactly where the cell is clean

@@ -8,19 +8,18 @@ use Rattle.std.proofs.lemmas.Bool.{cases_Bool, false≢true}
 use Rattle.std.proofs.lemmas.List.Sorted.{IsPermutation-sym}
 use Rattle.finite_sets.specs.Lists.{In}
 use Rattle.finite_sets.proofs.Members.{In-permutation}
-use Rattle.finite_sets.proofs.Searches.{list_any-In}
+use Rattle.finite_sets.proofs.Searches.{list_any-In, list_any-source}
 use Rattle.geo_core.specs.declared.squares.Rect.{Rect}
 use Rattle.geo_core.specs.declared.squares.Square.{Square}
 use Rattle.geo_core.specs.Covering.{Covers, is_covered}
 use Rattle.geo_core.specs.Strips.{IsInUnion, IsStrips}
-use Rattle.geo_core.proofs.CoveringLaws.{Covers-is_covered, is_covered-Covers}
+use Rattle.geo_core.proofs.CoveringLaws.{Covers-is_covered, is_covered-Covers, covers_widened}
 use Rattle.tech_model.specs.declared.raw.RawTech.{RawTech}
 use Rattle.layout_model.specs.Places.{Place}
 use Rattle.layout_trees.specs.CellTrees.{CellTree}
 use Rattle.layout_trees.specs.FlatSets.{parts_in}
 use Rattle.interact.specs.NearBoxes.{IsShared}
 use Rattle.offences.specs.Offences.{SetLayout}
-use Rattle.offences.proofs.SpoiledLaws.{passing}
 use Rattle.offences.proofs.TileLaws.{bit_kept, union_bit}
 use Rattle.offences.proofs.UnionLaws.{same_sets}
 use Rattle.hierarchy_model.specs.Restrictions.{HoldsMeetings, IsRestriction}
@@ -31,7 +30,7 @@ use Rattle.cell_library.specs.PartTiles.{set_from, set_of_tiles}
 use Rattle.cell_library.proofs.PartLaws.{parts_have_boxes}
 use Rattle.hier_merge.specs.MeetingTiles.{AreMeetingTiles}
 use Rattle.hier_merge.proofs.NumberedParts.{numbered}
-use Rattle.hier_merge.proofs.MeetingBoxes.{both_share, covers_grown, has_part, meetings_held, of_strips, parts_of_tiles, visits_restrict}
+use Rattle.hier_merge.proofs.MeetingBoxes.{both_share, has_part, meetings_held, of_strips, parts_of_tiles, visits_restrict}
 
 -- ---- the squares
 
@@ -42,7 +41,7 @@ lies_in areas square = list_any (λ area. is_covered area square) areas
 -- so it tests
 lies_in_union : (areas : List Rect) (square : Square) → Passes (lies_in areas) square → IsInUnion areas square
 lies_in_union areas square lies =
-    let found = passing (λ (area : Rect). is_covered area square) areas lies in
+    let found = list_any-source (λ (area : Rect). is_covered area square) areas lies in
     (found.0, (found.1.0, Covers-is_covered found.0 square found.1.1))
 
 union_lies_in : (areas : List Rect) (square : Square) → IsInUnion areas square → Passes (lies_in areas) square
@@ -73,8 +72,8 @@ module _ (boxes areas : List Rect) (are : IsStrips (IsShared boxes) areas) where
             let two = parts_have_boxes boxes parts j k place other hold differ (has_part parts j place one) (has_part parts k other also) in
             shared_lies place.square
             (both_share boxes place other two place.square
-            (covers_grown two.covers_first.box place.square two.covers_first.covers)
-            (covers_grown two.covers_second.box place.square
+            (covers_widened two.covers_first.box place.square two.covers_first.covers)
+            (covers_widened two.covers_second.box place.square
             (subst (λ (s : Square). Covers two.covers_second.box s) (sym above.1) two.covers_second.covers)));
       }
 

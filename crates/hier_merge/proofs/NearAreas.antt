@@ -4,7 +4,7 @@ use Rattle.std.specs.Prelude.{All}
 use Rattle.std.proofs.lemmas.Int.{ints, clamps}
 use Rattle.finite_sets.specs.Lists.{In}
 use Rattle.finite_sets.proofs.Members.{In-append_cases}
-use Rattle.finite_sets.proofs.Searches.{All-from_In}
+use Rattle.finite_sets.proofs.Searches.{All-from_In, All-In}
 use Rattle.geo_core.specs.declared.limits.TheConstants.{PAINT_EDGE, PLANE_EDGE}
 use Rattle.geo_core.specs.declared.squares.Square.{Square}
 use Rattle.geo_core.specs.declared.squares.Rect.{Rect}
@@ -14,7 +14,6 @@ use Rattle.geo_core.specs.Images.{rect_image}
 use Rattle.geo_core.specs.Strips.{IsStrips}
 use Rattle.geo_core.proofs.StripSets.{strip_is_proper}
 use Rattle.tech_model.specs.declared.raw.RawTech.{RawTech}
-use Rattle.tech_model.proofs.WellFormedLaws.{All_In}
 use Rattle.layout_trees.specs.CellTrees.{CellTree}
 use Rattle.layout_trees.specs.FlatSets.{parts_in}
 use Rattle.cell_tree.specs.Hulls.{IsLawfulBox}
@@ -35,7 +34,7 @@ around_paint = record {
 -- grown by one they lie within the range of paint, with one square more on every side
 grown_around : (boxes : List Rect) → All IsLawfulBox boxes → All (λ area. LiesWithin (widened area) around_paint) boxes
 grown_around boxes lawful = All-from_In (λ area. LiesWithin (widened area) around_paint) boxes (λ box among.
-    let is = All_In IsLawfulBox boxes box lawful among in
+    let is = All-In IsLawfulBox boxes box lawful among in
     let left : neg_ℤ PAINT_EDGE ≤ℤ box.xlo = is.spans.xlo.low in
     let low : neg_ℤ PAINT_EDGE ≤ℤ box.ylo = is.spans.ylo.low in
     let right : box.xhi ≤ℤ PAINT_EDGE = is.spans.xhi.high in
@@ -72,8 +71,8 @@ pub areas_are_near : (boxes areas : List Rect) → All IsLawfulBox boxes → All
     → ((around : Rect) → All (λ area. LiesWithin (widened area) around) boxes → All (λ area. LiesWithin area around) areas) → All IsNear areas
 areas_are_near boxes areas lawful proper within = All-from_In IsNear areas (λ area among.
     within_is_near area
-    (All_In (λ a. LiesWithin a around_paint) areas area (within around_paint (grown_around boxes lawful)) among)
-    (All_In IsProper areas area proper among))
+    (All-In (λ a. LiesWithin a around_paint) areas area (within around_paint (grown_around boxes lawful)) among)
+    (All-In IsProper areas area proper among))
 
 -- ---- tiles
 
@@ -112,5 +111,5 @@ tiles_are_of_parts raw tree areas tiles visits near =
     let is = found.1.1 in
     let image = rect_image is.standing.placed is.strip in (
       part_is_there raw tree found.0 tile is,
-      subst IsNear (sym is.cut) (common_is_near image found.0 (All_In IsNear areas found.0 near found.1.0) (subst IsProper is.cut is.meets)),
+      subst IsNear (sym is.cut) (common_is_near image found.0 (All-In IsNear areas found.0 near found.1.0) (subst IsProper is.cut is.meets)),
     ))

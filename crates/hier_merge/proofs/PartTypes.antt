@@ -1,6 +1,6 @@
 -- Parts of which each has a type everywhere, and planes on which no part stands.
 use Rattle.std.proofs.Common.{◌≡◌, ◌≤◌, ◌<◌, ℕ, zero, suc, bit_or, List, length, inl, inr, refl, sym, ap, ◌∙◌, arith}
-use Rattle.std.specs.Prelude.{Option, Some, None, slice_get}
+use Rattle.std.specs.Prelude.{Some, None, slice_get}
 use Rattle.std.proofs.lemmas.Bool.{cases_eq}
 use Rattle.std.proofs.lemmas.Option.{slice_get_within, slice_get-get_or}
 use Rattle.geo_core.specs.declared.squares.Square.{Square}
@@ -16,6 +16,7 @@ use Rattle.layout_trees.specs.CellTrees.CellTree.{cell_tree}
 use Rattle.layout_trees.specs.CellTrees.Elements.{no_elements, element_and}
 use Rattle.layout_trees.specs.FlatSets.{element_parts, flat_sets, parts_in, sets_below, sets_in, AreTyped, IsTyped}
 use Rattle.offences.specs.Offences.{HaveTypes, SetLayout, joined_at}
+use Rattle.offences.proofs.SpoiledLaws.{some_is_not_none}
 use Rattle.hierarchy_model.specs.CleanCells.{AreClean, IsCleanBelow}
 use Rattle.hierarchy_model.specs.Restrictions.{IsRestriction}
 use Rattle.hierarchy_model.proofs.CleanLaws.{has_flat_type}
@@ -23,10 +24,6 @@ use Rattle.hierarchy_model.proofs.KindLaws.{type_in_layout}
 use Rattle.hierarchy_model.proofs.PartSearch.{type_of_empty, NoneStands}
 
 -- ---- types
-
--- a value that is defined is not undefined
-is_defined : (found : Option ℕ) (value : ℕ) → found ≡ Some value → found ≡ None → ⊥
-is_defined found value is none = cc
 
 elements_have_types : (raw : RawTech) (elements : Elements) → AreClean raw elements → HaveTypes raw (element_parts raw elements)
 elements_have_types raw no_elements clean position part there place none = absurd (cc)
@@ -41,14 +38,14 @@ pub parts_have_types : (raw : RawTech) → IsWellFormed raw → KeepsRules raw �
     → HaveTypes raw (parts_in raw tree)
 parts_have_types raw formed rules (cell_tree own _) typed clean zero part there place none =
     let same : sets_in raw own.layout ≡ part = cc in
-    is_defined (joined_at raw (sets_in raw own.layout) place) (own.layout place) (type_in_layout raw formed rules own.layout typed.0 place)
+    some_is_not_none (joined_at raw (sets_in raw own.layout) place) (own.layout place) (type_in_layout raw formed rules own.layout typed.0 place)
     (ap (λ (p : SetLayout). joined_at raw p place) same ∙ none)
 parts_have_types raw formed rules (cell_tree own elements) typed clean (suc position) part there place none =
     elements_have_types raw elements clean position part there place none
 
 -- where nothing is, the type is space
 pub space_is_defined : (raw : RawTech) (part : SetLayout) (place : Place) → part place ≡ 0 → joined_at raw part place ≡ None → ⊥
-space_is_defined raw part place empty none = is_defined (joined_at raw part place) 0 (type_of_empty raw part place empty) none
+space_is_defined raw part place empty none = some_is_not_none (joined_at raw part place) 0 (type_of_empty raw part place empty) none
 
 -- so has each part of a restriction
 pub restriction_has_types : (raw : RawTech) (Within : Square → Type 0) (parts others : List SetLayout) → HaveTypes raw parts

@@ -4,12 +4,11 @@ use Rattle.std.proofs.Common.{eqb-true, ne_eqb}
 use Rattle.std.specs.Prelude.{◌==◌}
 use Rattle.std.proofs.lemmas.Bool.{cases_Bool, eqb-false}
 use Rattle.finite_sets.specs.Lists.{In}
-use Rattle.finite_sets.proofs.Searches.{All-from_In}
+use Rattle.finite_sets.proofs.Searches.{All-from_In, All-In}
 use Rattle.geo_core.specs.Covering.{is_covered}
 use Rattle.geo_core.specs.Areas.{IsNear}
 use Rattle.tech_model.specs.declared.raw.RawTech.{RawTech}
 use Rattle.tech_model.specs.Types.{parts_of}
-use Rattle.tech_model.proofs.WellFormedLaws.{All_In}
 use Rattle.layout_model.specs.Places.{Place}
 use Rattle.layout_trees.proofs.SetUnions.{none_union}
 use Rattle.offences.specs.declared.set_tiles.SetTile.{SetTile}
@@ -40,7 +39,7 @@ parts_on_plane raw plane count tiles are =
     All-from_In (λ (found : SetTile). (found.part < count) × IsNear found.area) (tiles_on raw plane tiles) (λ found among.
     let source = from_tiles raw plane tiles found among in
     subst (λ (t : SetTile). (t.part < count) × IsNear t.area) source.1.1
-    (All_In (λ (tile : PartTile). (tile.part < count) × IsNear tile.area) tiles source.0 are source.1.0))
+    (All-In (λ (tile : PartTile). (tile.part < count) × IsNear tile.area) tiles source.0 are source.1.0))
 
 -- a tile of another plane adds nothing
 adds_nothing : (raw : RawTech) (part : ℕ) (tile : PartTile) (place : Place) → (place.plane == tile.plane) ≡ false → set_from raw part tile place ≡ 0

@@ -8,7 +8,8 @@ use Rattle.std.proofs.Math.Seq.{take-length}
 use Rattle.finite_sets.specs.Lists.{In}
 use Rattle.finite_sets.proofs.Members.{In-append_cases, In-push_cases, In-get_or}
 use Rattle.finite_sets.proofs.Pairs.{AllPairs-from_Pairwise, Pairwise, Pairwise-from_AllPairs, Pairwise-push}
-use Rattle.finite_sets.proofs.Searches.{All-from_In}
+use Rattle.finite_sets.proofs.Searches.{All-from_In, All-In}
+use Rattle.finite_sets.proofs.Places.{In-take, take_both}
 use Rattle.geo_core.specs.declared.squares.Rect.{Rect}
 use Rattle.geo_core.specs.declared.squares.Square.{Square}
 use Rattle.geo_core.specs.Areas.{AreDisjoint, IsNear}
@@ -16,10 +17,9 @@ use Rattle.geo_core.specs.Covering.{Covers}
 use Rattle.geo_core.specs.Images.{rect_image}
 use Rattle.geo_core.specs.Strips.{IsStrips, StandsBefore}
 use Rattle.geo_core.proofs.CoveringLaws.{covers_second}
-use Rattle.geo_core.proofs.StripListLaws.{StandsBefore-irreflexive}
+use Rattle.geo_strips.proofs.StripListLaws.{StandsBefore-irreflexive}
 use Rattle.geo_core.proofs.StripSets.{one_strip_at}
 use Rattle.tech_model.specs.declared.raw.RawTech.{RawTech}
-use Rattle.tech_model.proofs.WellFormedLaws.{All_In}
 use Rattle.layout_trees.specs.CellTrees.{CellTree}
 use Rattle.offences.specs.declared.set_tiles.SetTile.{SetTile}
 use Rattle.cell_library.specs.declared.part_tiles.PartTile.{PartTile}
@@ -52,13 +52,6 @@ In-drop_append : (place : ℕ) (xs ys : List PartTile) (x : PartTile) → place 
 In-drop_append zero xs ys x within among = In-append_cases x xs ys among
 In-drop_append (suc place) [] ys x within among = absurd (omega (arith, within))
 In-drop_append (suc place) (y ∷ xs) ys x within among = In-drop_append place xs ys x (omega (arith, within)) among
-
--- what is taken is of the list
-In-take : (place : ℕ) (xs : List PartTile) (x : PartTile) → In x (take place xs) → In x xs
-In-take zero xs x among = absurd among
-In-take (suc place) [] x among = among
-In-take (suc place) (y ∷ xs) x (inl same) = inl same
-In-take (suc place) (y ∷ xs) x (inr among) = inr (In-take place xs x among)
 
 -- a seam stays one when tiles are added that lie apart from all before
 seam_kept : (tiles found : List PartTile) (place : ℕ) → LieApart tiles found → IsSeam tiles place → IsSeam (tiles ++ found) place
@@ -184,23 +177,7 @@ pub near_on_plane : (raw : RawTech) (plane : ℕ) (tiles : List PartTile) → Al
     → All (λ (tile : SetTile). IsNear tile.area) (tiles_on raw plane tiles)
 near_on_plane raw plane tiles near = All-from_In (λ (tile : SetTile). IsNear tile.area) (tiles_on raw plane tiles) (λ tile among.
     let source = from_tiles raw plane tiles tile among in
-    subst (λ (t : SetTile). IsNear t.area) source.1.1 (All_In (λ (t : PartTile). IsNear t.area) tiles source.0 near source.1.0))
-
-abbrev no_tiles : List PartTile
-no_tiles = []
-
--- nothing can be taken of nothing
-take_none : (n : ℕ) → take n no_tiles ≡ no_tiles
-take_none zero = refl
-take_none (suc n) = refl
-
--- what is taken in two goes is taken in one
-take_both : (a b : ℕ) (xs : List PartTile) → take (a + b) xs ≡ take a xs ++ take b (drop a xs)
-take_both zero b xs = ap (λ (n : ℕ). take n xs) (let none : 0 + b ≡ b = omega arith in none)
-take_both (suc a) b [] = take_none (suc a + b) ∙ sym (take_none b)
-take_both (suc a) b (x ∷ xs) =
-    ap (λ (n : ℕ). take n (x ∷ xs)) (let more : suc a + b ≡ suc (a + b) = omega arith in more)
-    ∙ ap (λ (rest : List PartTile). x ∷ rest) (take_both a b xs)
+    subst (λ (t : SetTile). IsNear t.area) source.1.1 (All-In (λ (t : PartTile). IsNear t.area) tiles source.0 near source.1.0))
 
 -- the pieces of tiles before a seam and those of tiles behind it
 both_pieces : (raw : RawTech) (plane : ℕ) (xs ys zs : List PartTile) (old new : List TypedStack) → xs ++ ys ≡ zs → LieApart xs ys

@@ -3,28 +3,22 @@ use Rattle.std.proofs.Common.{◌≡◌, ◌≤◌, ◌<◌, ◌+◌, ◌⊎◌,
 use Rattle.std.proofs.Common.{ne_eqb, get_or, Ordering}
 use Rattle.std.specs.Prelude.{Some, slice_get, nat_lt}
 use Rattle.std.specs.List.Sorted.{IsSortedByKey}
-use Rattle.std.specs.Cmp.{IsTotalOrder, nat_cmp_is}
+use Rattle.std.specs.Cmp.{IsTotalOrder}
 use Rattle.std.specs.Ordering.{is_lt, nat_cmp, ordering_then}
 use Rattle.std.specs.declared.cmp.Ordering.TheVariants.{Less, Equal, Greater}
 use Rattle.std.proofs.lemmas.Bool.{cases_lt, cases_eq, eq-eqb, false≢true}
 use Rattle.std.proofs.lemmas.Bool.Decides.{nat_tests}
 use Rattle.std.proofs.lemmas.Cmp.{nat_cmp_total, on_total, ranked, then_total}
-use Rattle.std.proofs.lemmas.Option.{get_or_from_slice_get, slice_get_within}
 use Rattle.finite_sets.specs.Lists.{In}
-use Rattle.finite_sets.proofs.Members.{In-get_or}
-use Rattle.finite_sets.proofs.Orders.{IsSortedByKey-pairs}
+use Rattle.finite_sets.proofs.Orders.{IsSortedByKey-pairs, nat_cmp-not_less}
 use Rattle.finite_sets.proofs.Pairs.{Pairwise, Pairwise-from_AllPairs, AllPairs-from_Pairwise}
+use Rattle.finite_sets.proofs.Places.{In-slice_get}
 use Rattle.tech_model.specs.declared.raw.RawTech.{RawTech}
 use Rattle.offences.specs.declared.set_tiles.SetTile.{SetTile}
 use Rattle.offences.specs.PartSets.{AreInPartOrder, tile_at}
 use Rattle.cell_library.specs.declared.part_tiles.PartTile.{PartTile}
 use Rattle.hier_merge.specs.PlanePieces.{AreByPlane, IsNoLaterTile, tiles_before}
 use Rattle.hier_merge.specs.Visits.{set_tile, tiles_on}
-
--- what stands at a place of a list is one of its things
-pub In-slice_get : {X : Type 0} (xs : List X) (k : ℕ) (x : X) → slice_get xs k ≡ Some x → In x xs
-In-slice_get xs k x there =
-    subst (λ y. In y xs) (get_or_from_slice_get xs k x x there) (In-get_or xs k x (slice_get_within xs k x there))
 
 -- ---- the order of tiles
 
@@ -38,19 +32,13 @@ key_cmp a b = ordering_then (nat_cmp a.0 b.0) (nat_cmp a.1 b.1)
 key_cmp_total : IsTotalOrder key_cmp
 key_cmp_total = then_total (on_total (λ (k : ℕ × ℕ). k.0) nat_cmp_total) (on_total (λ (k : ℕ × ℕ). k.1) nat_cmp_total)
 
-not_less : (x y : ℕ) → is_lt (nat_cmp x y) ≡ false → y ≤ x
-not_less x y e = elim (cases_lt x y) [
-  | inl less ↦ (let is : Less ≡ nat_cmp x y = nat_cmp_is x y Less less in absurd (false≢true (sym e ∙ ap is_lt (sym is))))
-  | inr past ↦ past
-]
-
 -- what a key that compares as no less says
 no_less : (p q a b : ℕ) → is_lt (ordering_then (nat_cmp q p) (nat_cmp b a)) ≡ false → (p < q) ⊎ ((p ≡ q) × (a ≤ b))
 no_less p q a b fails = by_order (nat_cmp q p) refl fails
   where
     by_order : (order : Ordering) → order ≡ nat_cmp q p → is_lt (ordering_then order (nat_cmp b a)) ≡ false → (p < q) ⊎ ((p ≡ q) × (a ≤ b))
     by_order Less is fails = absurd (false≢true (sym fails))
-    by_order Equal is fails = inr (sym (ranked q p Equal is), not_less b a fails)
+    by_order Equal is fails = inr (sym (ranked q p Equal is), nat_cmp-not_less b a fails)
     by_order Greater is fails = inl (ranked q p Greater is)
 
 -- tiles sorted by their keys stand plane by plane

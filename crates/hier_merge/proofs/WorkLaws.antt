@@ -3,14 +3,12 @@ use Rattle.std.proofs.Common.{◌≡◌, ◌≤◌, ◌+◌, ◌++◌, ℕ, List
 use Rattle.std.specs.Prelude.{Option, Some, None}
 use Rattle.std.specs.Option.{option_to_list}
 use Rattle.std.proofs.lemmas.List.{length-append}
-use Rattle.finite_sets.proofs.Orders.{equal_from_both}
 use Rattle.geo_core.specs.declared.squares.Square.{Square}
 use Rattle.geo_core.specs.declared.squares.Rect.{Rect}
-use Rattle.geo_core.specs.Areas.{LiesWithin}
 use Rattle.geo_core.specs.Strips.{IsStrips}
-use Rattle.geo_core.proofs.SquareLaws.{rect_is}
-use Rattle.geo_core.proofs.StripListLaws.{one_list}
+use Rattle.geo_strips.proofs.StripListLaws.{one_list}
 use Rattle.geo_core.proofs.StripSets.{strips_same}
+use Rattle.geo_core.proofs.CoveringLaws.{within_antisym}
 use Rattle.tech_model.specs.declared.raw.RawTech.{RawTech}
 use Rattle.layout_model.specs.Layouts.{Layout}
 use Rattle.layout_trees.specs.CellTrees.{CellTree}
@@ -23,22 +21,13 @@ use Rattle.hier_merge.specs.Interactions.{ArePartBoxes, IsInteraction, IsWork, I
 use Rattle.hier_merge.specs.Visits.{AreVisits}
 use Rattle.cell_library.proofs.PartLaws.{one_list_of_boxes}
 
--- rectangles of which each lies within the other are one
-one_rect : (a b : Rect) → LiesWithin a b → LiesWithin b a → a ≡ b
-one_rect a b p q =
-    rect_is a b
-    (equal_from_both a.xlo b.xlo q.right_of_xlo p.right_of_xlo)
-    (equal_from_both a.ylo b.ylo q.above_ylo p.above_ylo)
-    (equal_from_both a.xhi b.xhi p.left_of_xhi q.left_of_xhi)
-    (equal_from_both a.yhi b.yhi p.below_yhi q.below_yhi)
-
 -- a layout has one box of paint, or none
 one_paint_box : (layout : Layout) (a b : Option Rect) → PaintBoxIs layout a → PaintBoxIs layout b → a ≡ b
 one_paint_box layout None None p q = refl
 one_paint_box layout None (Some b) p q = absurd (q.material (p q.place))
 one_paint_box layout (Some a) None p q = absurd (p.material (q p.place))
 one_paint_box layout (Some a) (Some b) p q =
-    ap (λ (r : Rect). Some r) (one_rect a b (p.least b q.covers) (q.least a p.covers))
+    ap (λ (r : Rect). Some r) (within_antisym a b (p.least b q.covers) (q.least a p.covers))
 
 -- a cell has one list of boxes of its parts
 one_list_of_part_boxes : (library : LibraryParts) → IsLawfulLibrary library → (cell : ℕ) (boxes others : List Rect)

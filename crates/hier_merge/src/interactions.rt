@@ -12,13 +12,12 @@ ghost use Rattle.hier_merge.specs.MeetingTiles.{AreMeetingTiles};
 ghost use Rattle.hier_merge.specs.Seams.{AreSeams};
 ghost use Rattle.hier_merge.specs.Visits.{AreVisits};
 
-use cell_library::{PartTile, Reader};
+use cell_library::{Opened, PartTile, Reader};
 use ext_model::CellKey;
 use geo_core::Rect;
 use interact::areas;
 use std::alloc::{AllocError, Global};
 use std::sync::ledger::Ledger;
-use step_count::Steps;
 
 /// At least so many tiles lie between two seams.
 const GROUP: usize = 256;
@@ -37,7 +36,7 @@ pub fn part_boxes<L: Ledger>(
     alloc: Global,
     library: &Reader<'_>,
     cell: CellKey,
-    steps: &mut Steps<L>,
+    steps: &mut Opened<L>,
 ) -> Result<Vec<Rect>, AllocError>
     requires { cell.0 < length library.now.contents }
     ensures boxes { IfOk result (λ boxes. ArePartBoxes (seen library.now) cell.0 boxes.items) }
@@ -82,7 +81,7 @@ pub fn visit_all<L: Ledger>(
     library: &Reader<'_>,
     cell: CellKey,
     areas: &[Rect],
-    steps: &mut Steps<L>,
+    steps: &mut Opened<L>,
 ) -> Result<VisitedTiles, AllocError>
     requires cell { cell.0 < length library.now.contents }
     requires near { All IsNear areas.now }
@@ -108,7 +107,7 @@ pub fn meeting_tiles<L: Ledger>(
     alloc: Global,
     library: &Reader<'_>,
     cell: CellKey,
-    steps: &mut Steps<L>,
+    steps: &mut Opened<L>,
 ) -> Result<VisitedTiles, AllocError>
     requires { cell.0 < length library.now.contents }
     ensures tiles { IfOk result (λ found. AreMeetingTiles library.now.tech (tree_at (seen library.now) cell.0) found.tiles.items) }

@@ -18,7 +18,6 @@
 //! work is counted (`WorkLaws`).
 #![tactic(auto)]
 
-mod faults;
 mod interactions;
 mod meetings;
 mod offending_squares;
@@ -26,6 +25,5 @@ mod plane_pieces;
 mod plane_strips;
 mod plane_tiles;
 
-pub use faults::HierFault;
 pub use meetings::{Meeting, meeting_of};
 pub use offending_squares::offending_of;

@@ -8,16 +8,14 @@ ghost use Rattle.hier_merge.specs.MeetingPieces.{AreMeetingPieces};
 ghost use Rattle.hier_merge.specs.PlanePieces.{AddsPlane, AreByPlane, ArePlanePieces, HaveTypedParts, plane_stack, tiles_before};
 ghost use Rattle.hier_merge.specs.UncleanCells.{AreOffendingOf, IsCleanCell};
 
-use crate::faults::HierFault;
 use crate::interactions::{VisitedTiles, meeting_tiles};
 use crate::plane_pieces::{PlanePieces, add_strips, plane_pieces};
-use cell_library::{PartTile, Reader};
+use cell_library::{Opened, PartTile, Reader};
 use ext_model::CellKey;
 use geo_core::Rect;
-use offences::{OffenceFault, PlaneStack, TypedStack};
+use offences::{PlaneStack, TypedStack};
 use std::alloc::{AllocError, Global};
 use std::sync::ledger::Ledger;
-use step_count::Steps;
 use tech_model::Tech;
 
 /// The tiles of the parts of a cell where they interact, by plane and part, and the pieces that they make.
@@ -47,8 +45,8 @@ pub fn meeting_of<L: Ledger>(
     alloc: Global,
     library: &Reader<'_>,
     cell: CellKey,
-    steps: &mut Steps<L>,
-) -> Result<Meeting, HierFault>
+    steps: &mut Opened<L>,
+) -> Result<Meeting, AllocError>
     requires cell { cell.0 < length library.now.contents }
     requires clean { IsCleanBelow library.now.tech (tree_at (seen library.now) cell.0) }
     ensures pieces { IfOk result (λ found. AreMeetingPieces library.now.tech (tree_at (seen library.now) cell.0)
@@ -86,7 +84,7 @@ fn sort_tiles(tiles: &mut Vec<PartTile>) -> Result<(), AllocError>
 }
 
 // The pieces that the tiles make, plane by plane.
-fn pieces_of(alloc: Global, tech: &Tech, tiles: &[PartTile]) -> Result<Pieces, OffenceFault>
+fn pieces_of(alloc: Global, tech: &Tech, tiles: &[PartTile]) -> Result<Pieces, AllocError>
     requires few { length tiles.now < 2 ^ 64 }
     requires typed { HaveTypedParts tech.now tiles.now }
     requires sorted { AreByPlane tiles.now }
@@ -112,7 +110,7 @@ fn add_plane(
     tiles: &[PartTile],
     plane: u8,
     start: usize,
-) -> Result<usize, OffenceFault>
+) -> Result<usize, AllocError>
     requires few { length tiles.now < 2 ^ 64 }
     requires typed { HaveTypedParts tech.now tiles.now }
     requires sorted { AreByPlane tiles.now }

@@ -11,18 +11,15 @@ ghost use Rattle.hier_merge.specs.PlanePieces.{HaveTypedParts, parts_of_plane};
 ghost use Rattle.hier_merge.specs.Seams.{AreSeams};
 ghost use Rattle.hier_merge.specs.StripLists.{AreStripsByPlane};
 
-use crate::faults::HierFault;
 use crate::interactions::{VisitedTiles, meeting_tiles};
 use crate::plane_pieces::add_strips;
 use crate::plane_strips::plane_strips;
-use cell_library::{PartTile, Reader};
+use cell_library::{Opened, PartTile, Reader};
 use ext_model::CellKey;
 use geo_core::Rect;
 use hierarchy_model::clean_cells_keep_what_they_have;
-use offences::OffenceFault;
-use std::alloc::Global;
+use std::alloc::{AllocError, Global};
 use std::sync::ledger::Ledger;
-use step_count::Steps;
 use tech_model::Tech;
 
 /// The strips of the squares of the cell that offend, by plane. All cells below the cell are clean.
@@ -32,8 +29,8 @@ pub fn offending_of<L: Ledger>(
     alloc: Global,
     library: &Reader<'_>,
     cell: CellKey,
-    steps: &mut Steps<L>,
-) -> Result<Vec<(u8, Rect)>, HierFault>
+    steps: &mut Opened<L>,
+) -> Result<Vec<(u8, Rect)>, AllocError>
     requires cell { cell.0 < length library.now.contents }
     requires clean { IsCleanBelow library.now.tech (tree_at (seen library.now) cell.0) }
     ensures squares { IfOk result (λ found. AreStripsByPlane
@@ -47,7 +44,8 @@ pub fn offending_of<L: Ledger>(
     library.typed(cell);
     clean_cells_keep_what_they_have(library.tech());
     let VisitedTiles { tiles, seams } = meeting_tiles(alloc, library, cell, steps)?;
-    Ok(offending_by_plane(alloc, library.tech(), tiles.as_slice(), seams.as_slice())?)
+    let found = offending_by_plane(alloc, library.tech(), tiles.as_slice(), seams.as_slice())?;
+    Ok(found)
 }
 
 // The strips of what offends of the parts that the tiles make, plane by plane. The pieces of a plane are dropped before the next.
@@ -56,7 +54,7 @@ fn offending_by_plane(
     tech: &Tech,
     tiles: &[PartTile],
     seams: &[usize],
-) -> Result<Vec<(u8, Rect)>, OffenceFault>
+) -> Result<Vec<(u8, Rect)>, AllocError>
     requires typed { HaveTypedParts tech.now tiles.now }
     requires seams { AreSeams tiles.now seams.now }
     ensures { IfOk result (λ found. (typed : HaveTypedParts tech.now tiles.now) → AreStripsByPlane

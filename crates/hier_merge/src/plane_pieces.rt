@@ -6,7 +6,7 @@ ghost use Rattle.hier_merge.specs.Visits.{tiles_on};
 use crate::plane_tiles::tiles_on;
 use cell_library::PartTile;
 use geo_core::Rect;
-use offences::{OffenceFault, TypedStack, offending_stacks, typed_stacks};
+use offences::{TypedStack, offending_stacks, typed_stacks};
 use std::alloc::{AllocError, Global};
 use tech_model::Tech;
 
@@ -26,7 +26,7 @@ pub fn plane_pieces(
     tech: &Tech,
     tiles: &[PartTile],
     plane: u8,
-) -> Result<PlanePieces, OffenceFault>
+) -> Result<PlanePieces, AllocError>
     requires typed { HaveTypedParts tech.now tiles.now }
     requires sorted { AreByPlane tiles.now }
     ensures tiles { IfOk result (λ pieces. pieces.tiles ≡ length (tiles_on tech.now plane tiles.now)) }

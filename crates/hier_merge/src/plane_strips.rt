@@ -10,7 +10,7 @@ ghost use Rattle.hier_merge.specs.Visits.{tiles_on};
 use crate::plane_tiles::tiles_on;
 use cell_library::PartTile;
 use geo_core::Rect;
-use offences::{OffenceFault, TypedStack, offending_stacks, typed_stacks};
+use offences::{TypedStack, offending_stacks, typed_stacks};
 use std::alloc::{AllocError, Global};
 use tech_model::Tech;
 
@@ -22,7 +22,7 @@ pub fn plane_strips(
     tiles: &[PartTile],
     seams: &[usize],
     plane: u8,
-) -> Result<Vec<Rect>, OffenceFault>
+) -> Result<Vec<Rect>, AllocError>
     requires typed { HaveTypedParts tech.now tiles.now }
     requires seams { AreSeams tiles.now seams.now }
     ensures { IfOk result (λ found. (typed : HaveTypedParts tech.now tiles.now)
@@ -35,7 +35,8 @@ pub fn plane_strips(
         start = *seam;
     }
     add_pieces(alloc, tech, &tiles[start..], plane, &mut stacks)?;
-    Ok(offending_stacks(alloc, tech, stacks.as_slice())?)
+    let found = offending_stacks(alloc, tech, stacks.as_slice())?;
+    Ok(found)
 }
 
 // Adds the pieces that the tiles make on the plane. They are put in the order of their parts first.

@@ -8,10 +8,10 @@ use Rattle.std.proofs.lemmas.Int.{ints, clamps, by_lt_z}
 use Rattle.std.proofs.lemmas.List.{get_or-take, get_or-drop, length-take, take_rest}
 use Rattle.finite_sets.specs.Lists.{In}
 use Rattle.finite_sets.proofs.Members.{In-index, In-get_or}
-use Rattle.geo_core.specs.Coverage.{is_from, is_before, begins_before, ends_after, begin_after, end_before}
-use Rattle.geo_core.specs.RowRuns.{IsInRow, AreRuns, IsCovered, IsUncovered}
-use Rattle.geo_core.proofs.CoverageLaws.{lt_true, lt_false, le_true, le_false, before_on_left, from_on_right, not_from, not_before, and_false}
-use Rattle.geo_core.proofs.RowLaws.{changes_none, changes_both}
+use Rattle.geo_strips.specs.Coverage.{is_from, is_before, begins_before, ends_after, begin_after, end_before}
+use Rattle.geo_strips.specs.RowRuns.{IsInRow, AreRuns, IsCovered, IsUncovered}
+use Rattle.geo_strips.proofs.CoverageLaws.{lt_true, lt_false, le_true, le_false, before_on_left, from_on_right, not_from, not_before, and_false}
+use Rattle.geo_strips.proofs.RowLaws.{changes_none, changes_both}
 use Rattle.interact.specs.declared.counts.Bounds.{Bounds}
 use Rattle.interact.specs.declared.counts.Counts.{Counts, Even, Cut'}
 use Rattle.interact.specs.declared.counts.Fork.{Fork}

@@ -1,17 +1,14 @@
 -- How many rectangles cover a square is the sum of what the edges below it and at it gain.
-use Rattle.std.proofs.Common.{◌≡◌, ℤ, pos, ◌+ℤ◌, ◌-ℤ◌, cond, List, [], ◌∷◌, filter, refl, sym, ◌∙◌, ap, arith}
-use Rattle.std.specs.Prelude.{◌&&◌, int_le, int_lt, IsPermutation}
-use Rattle.std.specs.List.{flat_map, sum_by}
+use Rattle.std.proofs.Common.{◌≡◌, ℤ, pos, cond, List, filter, ◌∙◌, arith}
+use Rattle.std.specs.Prelude.{◌&&◌, int_le, int_lt}
+use Rattle.std.specs.List.{flat_map}
 use Rattle.std.proofs.lemmas.Int.{ints}
-use Rattle.std.proofs.lemmas.List.Sorted.{sum_by-IsPermutation}
-use Rattle.std.proofs.lemmas.List.Sums.{sum_by-cons}
-use borrow.Author.Differences.{up, down}
 use Rattle.finite_sets.specs.Total.{sum_on, one_if}
-use Rattle.finite_sets.proofs.Sums.{sum_on-append, sum_on-same, sum_on-filter, sum_on-zero}
+use Rattle.finite_sets.proofs.Sums.{sum_on-same, sum_on-filter, sum_on-zero, sum_on-permutation, sum_on-flat_map}
 use Rattle.geo_core.specs.declared.squares.Rect.{Rect}
 use Rattle.geo_core.specs.Areas.{has_square}
 use Rattle.geo_core.specs.Covering.{is_covered}
-use Rattle.geo_core.proofs.SweepLaws.{at}
+use Rattle.geo_strips.proofs.SweepLaws.{at}
 use Rattle.interact.specs.declared.edges.Edge.{Edge}
 use Rattle.interact.specs.Edges.{edges_of, gain_of, AreEdges}
 use Rattle.interact.proofs.CoveringCounts.{covering}
@@ -23,28 +20,6 @@ gain_at x edge = cond (int_le edge.from x && int_lt x edge.to) (gain_of edge) (p
 -- the same, of edges that are at the row or at earlier ones
 abbrev pub gain_until : ℤ → ℤ → Edge → ℤ
 gain_until x y edge = cond (int_le edge.row y) (gain_at x edge) (pos 0)
-
--- a sum is that of what is above zero without that of what is below it
-sum_parts : {X : Type 0} (w : X → ℤ) (xs : List X) → sum_on w xs ≡ pos (sum_by (λ x. up (w x)) xs) -ℤ pos (sum_by (λ x. down (w x)) xs)
-sum_parts w [] = omega (arith, ints)
-sum_parts w (x ∷ xs) =
-    let rest = sum_parts w xs in
-    let a = sum_by-cons (λ y. up (w y)) x xs in
-    let b = sum_by-cons (λ y. down (w y)) x xs in
-    omega (arith, ints, rest, a, b)
-
--- a sum is the same in any order
-sum_on-permutation : {X : Type 0} (w : X → ℤ) (xs ys : List X) → IsPermutation xs ys → sum_on w ys ≡ sum_on w xs
-sum_on-permutation w xs ys moved =
-    let a = sum_by-IsPermutation (λ x. up (w x)) xs ys moved in
-    let b = sum_by-IsPermutation (λ x. down (w x)) xs ys moved in
-    sum_parts w ys ∙ ap (λ n. pos n -ℤ pos (sum_by (λ x. down (w x)) ys)) a
-    ∙ ap (λ n. pos (sum_by (λ x. up (w x)) xs) -ℤ pos n) b ∙ sym (sum_parts w xs)
-
--- a sum over the lists that things make
-sum_on-flat_map : {X Y : Type 0} (f : X → List Y) (w : Y → ℤ) (xs : List X) → sum_on w (flat_map f xs) ≡ sum_on (λ x. sum_on w (f x)) xs
-sum_on-flat_map f w [] = refl
-sum_on-flat_map f w (x ∷ xs) = sum_on-append w (f x) (flat_map f xs) ∙ ap (λ z. sum_on w (f x) +ℤ z) (sum_on-flat_map f w xs)
 
 -- the sum over the edges of rectangles that have squares
 sum_on-edges : (areas : List Rect) (edges : List Edge) (w : Edge → ℤ) → AreEdges areas edges

@@ -13,11 +13,11 @@ use Rattle.finite_sets.proofs.Members.{In-push_cases, In-index, In-get_or, Conta
 use Rattle.finite_sets.proofs.Sums.{sum_on-append, sum_on-push, sum_on-same, sum_on-nothing}
 use Rattle.geo_core.specs.declared.squares.Square.{Square}
 use Rattle.geo_core.specs.declared.squares.Rect.{Rect}
-use Rattle.geo_core.specs.declared.row_runs.Run.{Run}
+use Rattle.geo_strips.specs.declared.row_runs.Run.{Run}
 use Rattle.geo_core.specs.Covering.{CoversAt, IsInTwo}
-use Rattle.geo_core.specs.RowRuns.{IsInRow}
-use Rattle.geo_core.specs.Sweeping.{AreRunBars}
-use Rattle.geo_core.proofs.SweepLaws.{at, AreBooked, IsSteady, booked_changed, booked_advanced}
+use Rattle.geo_strips.specs.RowRuns.{IsInRow}
+use Rattle.geo_strips.specs.Sweeping.{AreRunBars}
+use Rattle.geo_strips.proofs.SweepLaws.{at, AreBooked, IsSteady, booked_changed, booked_advanced}
 use Rattle.interact.specs.declared.counts.Counts.{Counts}
 use Rattle.interact.specs.declared.edges.Edge.{Edge}
 use Rattle.interact.specs.declared.sweep.Sweep.{Sweep}

@@ -4,8 +4,8 @@ use Rattle.std.specs.Prelude.{Bool, true, false, ◌&&◌, int_le, int_lt, if◌
 use Rattle.std.specs.Int.{int_max, int_min}
 use Rattle.std.specs.Ordering.{int_cmp}
 use Rattle.std.specs.BTreeMap.{get}
-use Rattle.geo_core.specs.Coverage.{is_from, is_before}
-use Rattle.geo_core.specs.RowRuns.{Row, IsInRow, AreRuns, Changes}
+use Rattle.geo_strips.specs.Coverage.{is_from, is_before}
+use Rattle.geo_strips.specs.RowRuns.{Row, IsInRow, AreRuns, Changes}
 use Rattle.interact.specs.declared.counts.Bounds.{Bounds}
 use Rattle.interact.specs.declared.counts.Counts.{Counts, Even, Cut'}
 use Rattle.interact.specs.declared.counts.Fork.{Fork}

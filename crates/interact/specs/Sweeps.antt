@@ -1,6 +1,6 @@
 -- The sweep over rows, from one row with edges to the next.
 use Rattle.std.specs.Prelude.{◌≡◌, ◌⊎◌, ◌↔◌, ℤ, pos, ◌≤ℤ◌, ◌<ℤ◌, true, neg_ℤ, ◌^◌, ◌-ℤ◌}
-use Rattle.geo_core.specs.RowRuns.{IsInRow, AreRuns, Changes}
+use Rattle.geo_strips.specs.RowRuns.{IsInRow, AreRuns, Changes}
 use Rattle.interact.specs.declared.sweep.Sweep.{Sweep}
 use Rattle.interact.specs.Counts.{count_of, is_shared, row_of, IsCut, IsTold}
 

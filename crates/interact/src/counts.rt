@@ -1,14 +1,14 @@
 //! How many rectangles cover each column of a row, and which columns are shared by two or more.
 ghost use Rattle.std.specs.Prelude.{◌≡◌, ◌↔◌, ℤ, pos, ◌+ℤ◌, ◌≤ℤ◌, ◌<ℤ◌, true, false, AllPairs, IfOk, OnOk};
 ghost use Rattle.finite_sets.specs.Lists.{In};
-ghost use Rattle.geo_core.specs.RowRuns.{AreRuns, IsInRow};
+ghost use Rattle.geo_strips.specs.RowRuns.{AreRuns, IsInRow};
 ghost use Rattle.interact.specs.declared.counts.Counts.{Even};
 ghost use Rattle.interact.specs.Counts.{count_of, is_shared, bounds_of, shifted, joined, of_all, IsTold, IsCut, IsCutAt};
 ghost use Rattle.interact.specs.Counts.{IsAdded, IsOfAll, IsPushed, IsFresh, IsSettled, refreshed, row_of};
 
-use geo_core::Bar;
-use geo_core::column_bounds::{begin_after, begins_before, end_before, ends_after};
-use geo_core::row_runs::{Run, cover, uncover};
+use geo_strips::Bar;
+use geo_strips::column_bounds::{begin_after, begins_before, end_before, ends_after};
+use geo_strips::row_runs::{Run, cover, uncover};
 use std::alloc::{AllocError, Global};
 use std::collections::BTreeMap;
 

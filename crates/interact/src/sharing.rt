@@ -6,7 +6,8 @@ ghost use Rattle.geo_core.specs.Strips.{IsStrips};
 ghost use Rattle.interact.specs.NearBoxes.{IsNearBox, IsShared};
 
 use crate::sweep::shared_runs;
-use geo_core::{Rect, strips_of_runs};
+use geo_core::Rect;
+use geo_strips::strips_of_runs;
 use std::alloc::{AllocError, Global};
 
 /// The strips of the squares that lie in two of the boxes, each grown by one on every side. Two equal boxes are two.

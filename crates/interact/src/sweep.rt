@@ -1,12 +1,13 @@
 //! The sweep over rows, which finds the runs of what two or more rectangles cover.
 ghost use Rattle.std.specs.Prelude.{IfOk, OnOk};
 ghost use Rattle.geo_core.specs.Covering.{IsInTwo};
-ghost use Rattle.geo_core.specs.Sweeping.{AreRunBars};
+ghost use Rattle.geo_strips.specs.Sweeping.{AreRunBars};
 ghost use Rattle.interact.specs.Sweeps.{IsBetweenRows, SettlesRow};
 
 use crate::counts::{Counts, SharedRuns, no_counts};
 use crate::edges::{edges, sides};
-use geo_core::{Bar, Rect};
+use geo_core::Rect;
+use geo_strips::Bar;
 use std::alloc::{AllocError, Global};
 use std::collections::BTreeMap;
 

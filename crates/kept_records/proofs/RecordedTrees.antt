@@ -20,14 +20,14 @@ use Rattle.cell_tree.proofs.SizeLaws.{child_is_lower}
 use Rattle.cell_library.specs.Contents.{Held}
 use Rattle.cell_library.specs.Libraries.{LibraryParts, IsLawfulLibrary, cells_seen, seen, uses_in}
 use Rattle.cell_library.specs.Views.{no_cell, view_at}
-use Rattle.cell_library.proofs.LayoutTreeLaws.{children_are_cells, uses_seen}
+use Rattle.cell_library.proofs.LayoutTreeLaws.{children_are_cells, uses_seen, depth_is, state_is}
 use Rattle.cell_library.proofs.ViewLaws.{length-cell_views, names_seen}
 use Rattle.named_trees.specs.NamedTrees.{NamedTree, NamedElements, named_elements_in, own_body}
 use Rattle.tree_records.specs.TreeRecords.{HasTreeRecord, HasTreeRecords, HaveTreeRecords}
 use Rattle.library_trees.specs.ElementNames.{UseElement, use_elements}
 use Rattle.library_trees.specs.NamedCells.{IsAtOrBelow, named_elements_at, named_elements_from, named_tree_at}
 use Rattle.library_trees.proofs.EditedTrees.{below_is_cell}
-use Rattle.library_trees.proofs.WholeTrees.{UsesWithIds, depth_is, named_tree_unfolds, state_is}
+use Rattle.library_trees.proofs.WholeTrees.{UsesWithIds, named_tree_unfolds}
 use Rattle.kept_records.specs.KeptRecords.{KeptRecords, HasKeptRecord}
 use Rattle.kept_records.specs.Laws.{KeptRecordsAreOfTheTree, ListedRecordsAreOfTheTree}
 use Rattle.kept_records.proofs.NamedRecords.{IsKeptAt, found_under, kept_there, listed_there, records_to}

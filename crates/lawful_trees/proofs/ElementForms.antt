@@ -9,6 +9,7 @@ use Rattle.std.proofs.lemmas.Bool.{and_parts, and_from, le-leb, leb-true, eq-eqb
 use Rattle.std.proofs.lemmas.Bool.Decides.{nat_tests}
 use Rattle.finite_sets.specs.Lists.{In}
 use Rattle.finite_sets.proofs.Members.{In-map_source}
+use Rattle.finite_sets.proofs.Searches.{AllByRecursion-In}
 use Rattle.geo_core.specs.declared.grids.Grid.{Grid}
 use Rattle.geo_core.specs.Elements.{elements_of}
 use Rattle.text_scan.specs.Decimal.{decimal, natural_text}
@@ -89,12 +90,6 @@ indexed_text id i j is =
       bytes = bytes_append id (91 ∷ (decimal i ++ 44 ∷ (decimal j ++ 93 ∷ []))) is.bytes both;
     }
 
--- what holds of all elements of a list holds of each
-each_of : {X : Type 0} (P : X → Type 0) (xs : List X) (x : X) → AllByRecursion P xs → In x xs → P x
-each_of P [] x all none = absurd none
-each_of P (y ∷ ys) x all (inl same) = subst P same all.0
-each_of P (y ∷ ys) x all (inr later) = each_of P ys x all.1 later
-
 -- and so is the name of each element of a use
 text_of : (id : List ℕ) (grid : Option Grid) → IsTrue (is_use_id id) → (element : UseElement) → In element (use_elements id grid)
     → IsIdText element.name
@@ -110,4 +105,4 @@ pub element_form : (id : List ℕ) (grid : Option Grid) → IsTrue (is_use_id id
 element_form id grid is element listed =
     let text = text_of id grid is element listed in
     form_from element.name text.some text.bytes
-    (each_of (λ (e : UseElement). slashes_in e.name ≡ 0) (use_elements id grid) element (names_whole id grid is) listed)
+    (AllByRecursion-In (λ (e : UseElement). slashes_in e.name ≡ 0) (use_elements id grid) element (names_whole id grid is) listed)

@@ -1,12 +1,11 @@
 -- The elements of lawful uses are displaced within the range of a record.
-use Rattle.std.proofs.Common.{◌≡◌, ◌<◌, ℕ, ℤ, List, inl, inr, refl, ap, subst, arith}
+use Rattle.std.proofs.Common.{◌≡◌, ◌<◌, ℕ, ℤ, List, inl, inr, refl, subst, arith}
 use Rattle.std.specs.Prelude.{Option, Some, None, slice_get}
 use Rattle.std.specs.Int.RustNames.{unsigned_abs}
 use Rattle.std.proofs.lemmas.Int.{ints}
-use Rattle.std.proofs.lemmas.Option.{slice_get-get_or}
-use Rattle.std.proofs.Common.{◌∙◌}
 use Rattle.finite_sets.specs.Lists.{In}
-use Rattle.finite_sets.proofs.Members.{In-index, In-map_source}
+use Rattle.finite_sets.proofs.Members.{In-map_source}
+use Rattle.finite_sets.proofs.Places.{slice_get-In}
 use Rattle.geo_core.specs.declared.grids.Grid.{Grid}
 use Rattle.geo_core.specs.declared.orients.Orient.{Orient}
 use Rattle.geo_core.specs.declared.orients.Orient.TheVariants.{R0}
@@ -21,12 +20,6 @@ use Rattle.cell_library.proofs.GridSteps.{IsNearStep, element_is_near}
 use Rattle.ext_model.specs.declared.limits.TheConstants.{SHIFT_EDGE}
 use Rattle.ext_model.specs.Lawful.{IsPlacement}
 use Rattle.library_trees.specs.ElementNames.{UseElement, array_element, use_elements}
-
--- a thing of a list stands at a position
-pub get_of : {X : Type 0} (x : X) (xs : List X) → In x xs → (k : ℕ) × (slice_get xs k ≡ Some x)
-get_of x xs here =
-    let at = In-index x xs here in
-    (at.0, slice_get-get_or xs at.0 x at.1.0 ∙ ap Some (at.1.1 x))
 
 -- The displacement is that of an element of a lawful use.
 record IsNearBoth (step : ℤ × ℤ) : Type 0 where
@@ -45,7 +38,7 @@ near_step id used lawful None is element (inl same) =
 near_step id used lawful None is element (inr none) = absurd none
 near_step id used lawful (Some grid) is element listed =
     let made = In-map_source (array_element id) element (elements_of grid) listed in
-    let at = get_of made.0 (elements_of grid) made.1.0 in
+    let at = slice_get-In made.0 (elements_of grid) made.1.0 in
     let near = element_is_near grid at.0 made.0 (lawful.grid grid is) at.1 in
     subst (λ (e : UseElement). IsNearBoth e.step) made.1.1 (record { x = near.0; y = near.1 })
 

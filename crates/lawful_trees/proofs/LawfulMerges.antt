@@ -4,12 +4,11 @@ use Rattle.std.specs.Prelude.{All}
 use Rattle.std.proofs.lemmas.List.{length-map}
 use Rattle.finite_sets.specs.Lists.{In, Distinct}
 use Rattle.finite_sets.proofs.Members.{In-map_source}
-use Rattle.finite_sets.proofs.Searches.{All-from_In}
+use Rattle.finite_sets.proofs.Searches.{All-from_In, All-In}
 use Rattle.tech_model.specs.declared.raw.ClassRec.{ClassRec}
 use Rattle.tech_model.specs.declared.raw.RawTech.{RawTech}
 use Rattle.tech_model.specs.Rules.{KeepsRules}
 use Rattle.tech_model.specs.WellFormed.{IsClass, IsWellFormed}
-use Rattle.tech_model.proofs.WellFormedLaws.{All_In}
 use Rattle.ext_model.specs.declared.records.MergeRec.{MergeRec}
 use Rattle.ext_model.specs.Lawful.{AreMeasures, IsMeasure}
 use Rattle.layout_model.specs.Layouts.{IsMaterial}
@@ -81,7 +80,7 @@ module _ (raw : RawTech) (formed : IsWellFormed raw) (rules : KeepsRules raw) (t
     (near : (place : Place) → IsMaterial (flat_layout raw tree) place → IsPaintPlace place) (few : length (tree_parts raw tree) ≤ 1000000) where
   -- the classes do not have space
   class_out : (class : ClassRec) → In class raw.classes → (class_of class).contains 0 ≡ false
-  class_out class listed = space_out raw class (All_In (IsClass raw) raw.classes class formed.classes listed)
+  class_out class listed = space_out raw class (All-In (IsClass raw) raw.classes class formed.classes listed)
 
   -- the same of the rules of the technology
   classes_out : All (λ (class : Class). class.contains 0 ≡ false) (rules_of raw).classes
@@ -125,7 +124,7 @@ module _ (raw : RawTech) (formed : IsWellFormed raw) (rules : KeepsRules raw) (t
       let distinct = distinct_in_order group.members of.in_order in
       let classes = (rules_of raw).classes in
       let pairs = pairs_small of.name group.members distinct classes (λ class listed.
-      All_In (λ (c : Class). c.contains 0 ≡ false) classes class classes_out listed) group.adjustment.measures of.measures in
+      All-In (λ (c : Class). c.contains 0 ≡ false) classes class classes_out listed) group.adjustment.measures of.measures in
       record {
         cap = adjustment_small raw formed rules tree is near _ (capacitance_local classes classes_out) (capacitance_little raw formed) few of.name
             group.members distinct group.adjustment.cap of.cap;

@@ -3,11 +3,11 @@ use Rattle.std.proofs.Common.{◌≡◌, ◌<◌, ℕ, zero, suc, List, [], ◌�
 use Rattle.std.specs.Prelude.{All, IsTrue}
 use Rattle.std.proofs.lemmas.Bool.{cases_lt}
 use Rattle.finite_sets.specs.Lists.{In}
-use Rattle.finite_sets.proofs.Searches.{All-from_In}
+use Rattle.finite_sets.proofs.Searches.{All-from_In, All-In}
+use Rattle.finite_sets.proofs.Places.{slice_get-In}
 use Rattle.geo_core.specs.declared.transforms.Transform.{Transform}
 use Rattle.geo_core.specs.Images.{six_of}
 use Rattle.text_scan.specs.PlainNames.{is_plain_name}
-use Rattle.tech_model.proofs.WellFormedLaws.{All_In}
 use Rattle.cell_bodies.specs.Words.{is_use_id}
 use Rattle.cell_tree.specs.declared.limits.TheConstants.{MOST_DEPTH}
 use Rattle.cell_tree.specs.declared.use_tables.UseBody.{UseBody}
@@ -30,7 +30,7 @@ use Rattle.library_trees.specs.ElementNames.{UseElement, use_elements}
 use Rattle.library_trees.specs.NamedCells.{named_elements_at, named_elements_from, named_tree_at, named_tree_to}
 use Rattle.library_trees.proofs.WholeTrees.{UsesWithIds, named_tree_unfolds, no_cell_seen}
 use Rattle.lawful_trees.proofs.ElementForms.{element_form}
-use Rattle.lawful_trees.proofs.ElementPlaces.{element_placement, get_of}
+use Rattle.lawful_trees.proofs.ElementPlaces.{element_placement}
 
 -- ---- what holds of each element
 
@@ -101,7 +101,7 @@ module _ (library : LibraryParts) (lawful : IsLawfulLibrary library) where
       elim (cases_lt cell (length library.contents)) [
         | inl below ↦
             let ids = lawful.ids cell empty_cell (omega (arith, lawful.so_many, below)) in
-            All_In (λ (e : List ℕ × UseBody). IsTrue (is_use_id e.0)) (cell_at library.tree.cells cell).uses entry ids
+            All-In (λ (e : List ℕ × UseBody). IsTrue (is_use_id e.0)) (cell_at library.tree.cells cell).uses entry ids
             (subst (λ (uses : UsesWithIds). In entry uses) (uses_seen library lawful cell below) listed)
         | inr past ↦ absurd (subst (λ (c : CellView). In entry c.uses) (no_cell_seen library cell past) listed)
       ]
@@ -129,7 +129,7 @@ module _ (library : LibraryParts) (lawful : IsLawfulLibrary library) where
       → (element : UseElement) → In element (use_elements entry.0 entry.1.grid)
       → IsLawfulElement element.name (element_transform entry.1.placed element.step) (named_tree_at (seen library) entry.1.child.0)
   lawful_element cell below entry listed element here =
-      let at = get_of entry (view_at (seen library) cell).uses listed in
+      let at = slice_get-In entry (view_at (seen library) cell).uses listed in
       let used = use_is_lawful library lawful cell below at.0 entry.0 entry.1 at.1 in
       record {
         cell = plain_cell entry.1.child.0 used.1;

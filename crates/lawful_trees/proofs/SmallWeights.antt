@@ -9,15 +9,14 @@ use Rattle.std.proofs.lemmas.Bool.{cases_Bool, eqb-true}
 use Rattle.finite_sets.specs.Lists.{In}
 use Rattle.finite_sets.specs.Total.{sum_on, one_if}
 use Rattle.finite_sets.proofs.Pairs.{Pairwise, Pairwise-from_AllPairs}
+use Rattle.finite_sets.proofs.Searches.{All-In, list_any-source}
 use Rattle.tech_model.specs.declared.raw.ClassRec.{ClassRec}
 use Rattle.tech_model.specs.declared.raw.RawTech.{RawTech}
 use Rattle.tech_model.specs.declared.raw.TypeId.{TypeId}
 use Rattle.tech_model.specs.WellFormed.{IsClass, IsWellFormed}
-use Rattle.tech_model.proofs.WellFormedLaws.{All_In}
 use Rattle.layout_model.specs.Layouts.{Layout}
 use Rattle.layout_model.specs.Places.{Place, neighbours}
 use Rattle.layout_model.specs.Technologies.{Class, class_of, rules_of}
-use Rattle.cell_paint.proofs.AreaLaws.{any_source}
 use Rattle.tree_records.specs.PlaceWeights.{PlaceWeight, area_weight, perimeter_weight, capacitance_weight}
 
 -- A number from 0 to five million.
@@ -123,8 +122,8 @@ not_in_both a b apart kind here =
     elim (cases_Bool ((class_of b).contains kind)) [
       | inr out ↦ out
       | inl there ↦
-          let first = any_source test a.types here in
-          let second = any_source test b.types there in
+          let first = list_any-source test a.types here in
+          let second = list_any-source test b.types there in
           let same : first.0.0 ≡ second.0.0 = eqb-true first.0.0 kind first.1.1 ∙ sym (eqb-true second.0.0 kind second.1.1) in
           absurd (apart first.0 first.1.0
           (subst (λ (n : ℕ). In (record { 0 = n }) b.types) (sym same) second.1.0))
@@ -163,4 +162,4 @@ classes_little raw (class ∷ classes) apart each layout place =
 pub capacitance_little : (raw : RawTech) → IsWellFormed raw → CountsLittle (capacitance_weight (rules_of raw).classes)
 capacitance_little raw well =
     classes_little raw raw.classes (Pairwise-from_AllPairs AreApartClasses raw.classes well.classes_apart)
-    (λ class listed. All_In (IsClass raw) raw.classes class well.classes listed)
+    (λ class listed. All-In (IsClass raw) raw.classes class well.classes listed)

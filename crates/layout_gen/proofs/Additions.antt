@@ -5,7 +5,6 @@ use Rattle.std.specs.Prelude.{All, IsTrue, codes, slice_get, unwrap_or}
 use Rattle.std.specs.Option.{option_or}
 use Rattle.std.proofs.lemmas.Option.{same_Some}
 use Rattle.finite_sets.specs.Lists.{In}
-use Rattle.geo_core.specs.declared.limits.Limit.TheVariants.{Edits}
 use Rattle.geo_core.specs.declared.squares.Rect.{Rect}
 use Rattle.tech_model.specs.declared.raw.Label.{Label}
 use Rattle.tech_model.specs.declared.raw.RawTech.{RawTech}
@@ -20,6 +19,7 @@ use Rattle.cell_tree.specs.Sizes.{CellState, size_at, size_of}
 use Rattle.cell_tree.specs.Trees.{IsLawfulTree, Tree}
 use Rattle.cell_library.specs.declared.faults.LibFault.{LibFault}
 use Rattle.cell_library.specs.declared.faults.LibFault.TheVariants as library_fault
+use Rattle.cell_library.specs.declared.limits.LibraryLimit.TheVariants.{Edits}
 use Rattle.cell_library.specs.declared.limits.TheConstants.{MOST_CELLS, MOST_EDITS}
 use Rattle.cell_library.specs.AddedCells.{AreCellsAdded, contents_with, held_from, kept_uses, new_views}
 use Rattle.cell_library.specs.Additions.{AddAllIsRefused, CanBeAdded, first_scale, kept_use, with_all}
@@ -29,12 +29,12 @@ use Rattle.cell_library.specs.OwnBoxes.{OwnBoxIs}
 use Rattle.cell_library.specs.Refusals.{EditIsRefused, HasFaultOrLacksMemory}
 use Rattle.cell_library.proofs.AddedCells.{all_added_unrefused, all_names, cells_fit}
 use Rattle.cell_library.proofs.ArrivingUses.{cell_may_come}
+use Rattle.cell_library.proofs.ViewLaws.{count_seen}
 use Rattle.layout_gen.specs.declared.checks.TileLayers.{TileLayers}
 use Rattle.layout_gen.specs.declared.limits.TheConstants.{MADE_CELLS, MOST_TILES}
 use Rattle.layout_gen.specs.Bodies.{AreLayers, AreMade, AreNew, IsMade, array_use}
 use Rattle.layout_gen.specs.Generated.{IsGenerated, no_paint, row_grid, row_name, stack_grid, tile_labels, tile_layout, tile_name}
 use Rattle.layout_gen.proofs.MadeCells.{all_three, can_be_listed, listed, listed_generated, row_uses, stack_uses}
-use Rattle.layout_gen.proofs.Refusals.{counted}
 use Rattle.layout_gen.proofs.Sizes.{made_sizes, made_within, row_size, row_state, size_of_use, stack_state, tile_box, tile_box_is, tile_fits}
 use Rattle.layout_gen.proofs.Sizes.{tile_size, tile_size_is}
 use Rattle.layout_gen.proofs.Trees.{new_size, old_size, unedited, unedited_lawful, with_cells, with_cells_lawful}
@@ -162,7 +162,7 @@ module _ (library : LibraryParts) (lawful : IsLawfulLibrary library) (layers : T
       let box = tile_box tile_is.box layers.poly.0 layers.diff.0 in
       let tree = unedited library.tree in
       let tree_lawful = unedited_lawful library.tree lawful.tree in
-      let many : count ≡ length library.tree.cells = counted library ∙ sym lawful.so_many in
+      let many : count ≡ length library.tree.cells = count_seen library ∙ sym lawful.so_many in
       with_cells_lawful tree tree_lawful (states_made box count n) (made_sizes box count (count + 1) n) refl may_come
       (sizes_made tree tree_lawful box count n many may_come)
       (made_within box count (count + 1) n some few

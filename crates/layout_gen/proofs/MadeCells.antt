@@ -20,6 +20,7 @@ use Rattle.geo_core.specs.declared.grids.Grid.{Grid}
 use Rattle.geo_core.specs.declared.limits.TheConstants.{MOST_ELEMENTS}
 use Rattle.geo_core.specs.Elements.{indices}
 use Rattle.geo_core.specs.Images.{identity}
+use Rattle.geo_core.specs.Orientation.{is_orientation}
 use Rattle.tech_model.specs.declared.raw.Label.{Label}
 use Rattle.tech_model.specs.declared.raw.RawTech.{RawTech}
 use Rattle.layout_model.specs.Layouts.{Layout}
@@ -28,7 +29,7 @@ use Rattle.cell_paint.specs.Painting.{with_paint}
 use Rattle.cell_bodies.specs.declared.bodies.CellBody.{CellBody}
 use Rattle.cell_bodies.specs.declared.bodies.CellUse.{CellUse}
 use Rattle.cell_bodies.specs.Bodies.{IsBody, IsLabel, IsUse, ids_of}
-use Rattle.cell_bodies.specs.Numbers.{are_elements, are_few_elements, is_grid, is_index, is_orientation, is_scale_number}
+use Rattle.cell_bodies.specs.Numbers.{are_elements, are_few_elements, is_grid, is_index, is_scale_number}
 use Rattle.cell_bodies.specs.Words.{is_use_id}
 use Rattle.cell_tree.specs.declared.limits.TheConstants.{MOST_USES}
 use Rattle.cell_tree.specs.declared.use_tables.UseBody.{UseBody}
@@ -38,13 +39,12 @@ use Rattle.cell_library.specs.Libraries.{IsLawfulLibrary, IsLawfulScale, Library
 use Rattle.cell_library.specs.Views.{CellView, LibraryView, cell_named, names_of}
 use Rattle.cell_library.proofs.ContentLaws.{position_past}
 use Rattle.cell_library.proofs.NewCells.{name_is_new, named_seen}
-use Rattle.cell_library.proofs.ViewLaws.{names_seen}
+use Rattle.cell_library.proofs.ViewLaws.{names_seen, count_seen}
 use Rattle.layout_gen.specs.declared.checks.TileLayers.{TileLayers}
 use Rattle.layout_gen.specs.declared.limits.TheConstants.{MADE_CELLS, MOST_TILES}
 use Rattle.layout_gen.specs.Bodies.{AreLayers, AreNew, IsMade, array_use}
 use Rattle.layout_gen.specs.Generated.{IsGenerated, array_cell, diff_area, diff_label, no_paint, poly_area, poly_label, row_grid, row_name}
 use Rattle.layout_gen.specs.Generated.{stack_grid, stack_name, tile_cell, tile_labels, tile_layout, tile_name, with_generated}
-use Rattle.layout_gen.proofs.Refusals.{counted}
 
 -- ---- paint
 
@@ -223,7 +223,7 @@ module _ (library : LibraryParts) (lawful : IsLawfulLibrary library) (layers : T
   few_names =
       let a = length-append (names_of (seen library).cells) (tile_name ∷ row_name ∷ stack_name ∷ []) in
       let b = length-map (seen library).cells (λ (cell : CellView). cell.name) in
-      let d = counted library in
+      let d = count_seen library in
       omega arith
 
   -- the bodies are such as cells may have

@@ -4,12 +4,12 @@ use Rattle.std.specs.Prelude.{◌==◌, nat_le}
 use Rattle.std.specs.Option.{option_map, option_map_or, option_or}
 use Rattle.std.proofs.lemmas.Bool.{cases_Bool}
 use Rattle.std.proofs.lemmas.Bool.Decides.{nat_tests}
-use Rattle.geo_core.specs.declared.limits.Limit.TheVariants.{Cells, Edits}
 use Rattle.tech_model.specs.declared.raw.RawTech.{RawTech}
+use Rattle.cell_library.specs.declared.limits.LibraryLimit.TheVariants.{Cells, Edits}
 use Rattle.cell_library.specs.declared.limits.TheConstants.{MOST_CELLS, MOST_EDITS}
-use Rattle.cell_library.specs.Libraries.{LibraryParts, seen, uses_in}
+use Rattle.cell_library.specs.Libraries.{LibraryParts, seen}
 use Rattle.cell_library.specs.Views.{LibraryView}
-use Rattle.cell_library.proofs.ViewLaws.{length-cell_views}
+use Rattle.cell_library.proofs.ViewLaws.{count_seen}
 use Rattle.layout_gen.specs.declared.checks.TileLayers.{TileLayers}
 use Rattle.layout_gen.specs.declared.faults.GenerateFault.{GenerateFault}
 use Rattle.layout_gen.specs.declared.faults.GenerateFault.TheVariants.{CellExists, NoLayer, TooMany}
@@ -41,10 +41,6 @@ no_layers raw layers are =
     (λ i. option_or (option_map_or (λ (layer : ℕ). None) (are.poly i) (Some (NoLayer poly_name)))
     (option_map_or (λ (layer : ℕ). None) (are.diff i) (Some (NoLayer diff_name))))
 
--- as many cells are seen as there are
-pub counted : (library : LibraryParts) → length (seen library).cells ≡ length library.contents
-counted library = length-cell_views library.contents (uses_in library.tree.cells)
-
 room_is : (count : ℕ) → count + MADE_CELLS ≤ MOST_CELLS → room_fault count ≡ None
 room_is count fits = elim (cases_Bool (nat_le (count + MADE_CELLS) MOST_CELLS)) [
   | inl few ↦ rw few refl
@@ -64,14 +60,14 @@ module _ (library : LibraryParts) (layers : TileLayers) (edits : ℕ) (new : Are
       later_told (names_fault (seen library)) _ (TooMany Cells) (no_names (seen library) new)
       (later_told (layers_fault library.tech) _ (TooMany Cells) (no_layers library.tech layers are)
       (first_told (room_fault (length (seen library).cells)) (edits_fault edits) (TooMany Cells)
-      (inr (ap room_fault (counted library) ∙ no_room (length library.contents) full))))
+      (inr (ap room_fault (count_seen library) ∙ no_room (length library.contents) full))))
 
   -- where there is room, the number of edits is left
   edits_left : length library.contents + MADE_CELLS ≤ MOST_CELLS → generate_fault (seen library) edits ≡ edits_fault edits
   edits_left fits =
       (λ i. option_or (no_names (seen library) new i)
       (option_or (no_layers library.tech layers are i)
-      (option_or ((ap room_fault (counted library) ∙ room_is (length library.contents) fits) i)
+      (option_or ((ap room_fault (count_seen library) ∙ room_is (length library.contents) fits) i)
       (edits_fault edits))))
 
   -- too many edits

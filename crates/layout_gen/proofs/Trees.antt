@@ -1,10 +1,11 @@
 -- A lawful tree stays lawful with cells at the end whose sizes keep within the limits.
-use Rattle.std.proofs.Common.{◌≡◌, ◌⊎◌, ◌+◌, ◌-◌, ◌<◌, ◌≤◌, ◌∙◌, ℕ, zero, suc, List, [], ◌∷◌, ◌++◌, length, length-append, map, Some, refl, sym, ap, subst}
+use Rattle.std.proofs.Common.{◌≡◌, ◌+◌, ◌-◌, ◌<◌, ◌≤◌, ◌∙◌, ℕ, zero, suc, List, [], ◌∷◌, ◌++◌, length, length-append, map, Some, refl, sym, ap, subst}
 use Rattle.std.proofs.Common.{arith, inl, inr}
 use Rattle.std.specs.Prelude.{All, slice_get}
 use Rattle.std.proofs.lemmas.Bool.{cases_lt}
 use Rattle.std.proofs.lemmas.List.{get_or-append-add, get_or-append_right, get_or_append_left, length-map}
 use Rattle.std.proofs.lemmas.Option.{get_or_from_slice_get, slice_get_within}
+use Rattle.finite_sets.proofs.Places.{slice_get-append_cases}
 use Rattle.cell_tree.specs.declared.limits.TheConstants.{MOST_USES}
 use Rattle.cell_tree.specs.declared.sizes.Dimension.{Dimension}
 use Rattle.cell_tree.specs.declared.sizes.Size.{Size}
@@ -12,16 +13,6 @@ use Rattle.cell_tree.specs.Additions.{MayCome}
 use Rattle.cell_tree.specs.Sizes.{AreSizes, AreUsesBelow, CellState, IsWithin, no_size, size_at, size_of}
 use Rattle.cell_tree.specs.Trees.{IsLawfulCell, IsLawfulTree, Tree, stamp_at}
 use Rattle.cell_tree.proofs.SizeLaws.{size_of-same}
-
--- what stands in one list behind another stands in the first, or at its place in the second
-split_get : {X : Type 0} (xs ys : List X) (k : ℕ) (x : X) → slice_get (xs ++ ys) k ≡ Some x
-    → (slice_get xs k ≡ Some x) ⊎ ((j : ℕ) × (k ≡ length xs + j) × (slice_get ys j ≡ Some x))
-split_get [] ys k x is = inr (k, omega arith, is)
-split_get (z ∷ xs) ys zero x is = inl is
-split_get (z ∷ xs) ys (suc k) x is = elim (split_get xs ys k x is) [
-  | inl there ↦ inl there
-  | inr later ↦ (let j = later.0 in let at = later.1 in inr (j, omega (arith, at), later.2))
-]
 
 -- one stamp for all
 one_stamp : {X : Type 0} (xs : List X) (edits key : ℕ) → stamp_at (map (λ _. edits) xs) key ≤ edits
@@ -53,7 +44,7 @@ module _ (tree : Tree) (lawful : IsLawfulTree tree) (more : List CellState) (siz
   each_cell : (P : CellState → Type 0) → ((key : ℕ) (cell : CellState) → slice_get tree.cells key ≡ Some cell → P cell)
       → ((cell : CellState) → MayCome (length (tree.cells ++ more)) cell → P cell)
       → (key : ℕ) (cell : CellState) → slice_get (tree.cells ++ more) key ≡ Some cell → P cell
-  each_cell P old comes key cell is = elim (split_get tree.cells more key cell is) [
+  each_cell P old comes key cell is = elim (slice_get-append_cases tree.cells more key cell is) [
     | inl was ↦ old key cell was
     | inr new ↦
         comes cell (subst (MayCome (length (tree.cells ++ more))) (get_or_from_slice_get more new.0 cell cell new.2)
@@ -75,7 +66,7 @@ module _ (tree : Tree) (lawful : IsLawfulTree tree) (more : List CellState) (siz
 
   sizes_right : ((j : ℕ) (cell : CellState) → slice_get more j ≡ Some cell → size_at sizes j ≡ size_of (size_at (tree.sizes ++ sizes)) cell)
       → AreSizes (tree.cells ++ more) (tree.sizes ++ sizes)
-  sizes_right right key cell is = elim (split_get tree.cells more key cell is) [
+  sizes_right right key cell is = elim (slice_get-append_cases tree.cells more key cell is) [
     | inl was ↦
         old_size key (slice_get_within tree.cells key cell was) ∙ lawful.sizes.right key cell was
         ∙ size_of-same (size_at tree.sizes) (size_at (tree.sizes ++ sizes)) cell

@@ -1,9 +1,9 @@
 -- Why no cells are made from a number.
 use Rattle.std.specs.Prelude.{◌≡◌, ◌⊎◌, ◌==◌, ◌+◌, nat_le, if◌then◌else◌, ℕ, List, length, Option, Some, None}
 use Rattle.std.specs.Option.{option_map, option_map_or, option_or}
-use Rattle.geo_core.specs.declared.limits.Limit.TheVariants.{Cells, Edits}
 use Rattle.tech_model.specs.declared.raw.RawTech.{RawTech}
 use Rattle.tech_model.specs.Types.{layer_named}
+use Rattle.cell_library.specs.declared.limits.LibraryLimit.TheVariants.{Cells, Edits}
 use Rattle.cell_library.specs.declared.limits.TheConstants.{MOST_CELLS, MOST_EDITS}
 use Rattle.cell_library.specs.Views.{LibraryView, cell_named}
 use Rattle.layout_gen.specs.declared.faults.GenerateFault.{GenerateFault}

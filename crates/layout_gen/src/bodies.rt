@@ -13,7 +13,8 @@ use crate::words::{ROW, STACK, TILE};
 use cell_bodies::{CellBody, CellUse};
 use cell_library::Library;
 use cell_paint::{CellPaint, PaintFault};
-use geo_core::{Grid, List, Name, Rect};
+use geo_core::{Grid, Rect};
+use names_lists::{List, Name};
 use std::alloc::{AllocError, Global};
 use tech_model::{Label, LayerId, Tech};
 
@@ -56,13 +57,6 @@ const SOUTH: u8 = 5;
 
 // The six numbers by which a child stands where it is.
 const IN_PLACE: [i64; 6] = [1, 0, 0, 0, 1, 0];
-
-// A name of these bytes.
-fn name_of(alloc: Global, bytes: &[u8]) -> Result<Name, AllocError>
-    ensures { IfOk result (λ name. name ≡ bytes.now) }
-{
-    Name::of(alloc, bytes).map_err(|_| AllocError)
-}
 
 // No paint.
 fn empty_paint(alloc: Global, tech: &Tech) -> Result<CellPaint, AllocError>
@@ -118,7 +112,7 @@ fn label_of(
 ) -> Result<Label, AllocError>
     ensures { IfOk result (λ label. label ≡ record { layer = Some layer; area = area; position = position; text = text.now }) }
 {
-    let text = name_of(alloc, text)?;
+    let text = Name::of(alloc, text)?;
     Ok(Label {
         layer: Some(layer),
         area,
@@ -180,8 +174,8 @@ fn tile_body(
 fn array_use(alloc: Global, cell: &[u8], id: &[u8], grid: Grid) -> Result<CellUse, AllocError>
     ensures { IfOk result (λ used. used ≡ array_use cell.now id.now grid) }
 {
-    let cell = name_of(alloc, cell)?;
-    let id = name_of(alloc, id)?;
+    let cell = Name::of(alloc, cell)?;
+    let id = Name::of(alloc, id)?;
     Ok(CellUse {
         cell,
         id,
@@ -246,7 +240,7 @@ fn add_cell(
 ) -> Result<(), AllocError>
     ensures { OnOk result (cells.new.items ≡ cells.old.items ++ (name.now, body) ∷ []) }
 {
-    cells.push((name_of(alloc, name)?, body))?;
+    cells.push((Name::of(alloc, name)?, body))?;
     Ok(())
 }
 

@@ -9,8 +9,8 @@ ghost use Rattle.layout_gen.specs.Refusals.{IsFaultOrMemory, generate_fault, lay
 use crate::faults::GenerateFault;
 use crate::limits::MADE_CELLS;
 use crate::words::{DIFF, POLY, ROW, STACK, TILE};
-use cell_library::{Library, MOST_CELLS};
-use geo_core::{Limit, Name};
+use cell_library::{Library, LibraryLimit, MOST_CELLS};
+use names_lists::Name;
 use std::alloc::Global;
 use tech_model::{LayerId, Tech};
 
@@ -82,7 +82,7 @@ fn check_layers(alloc: Global, library: &Library) -> Result<TileLayers, Generate
 {
     match find_layers(alloc, library.tech()) {
         Ok(layers) if has_room(library) => Ok(layers),
-        Ok(_) => Err(GenerateFault::TooMany(Limit::Cells)),
+        Ok(_) => Err(GenerateFault::TooMany(LibraryLimit::Cells)),
         Err(fault) => Err(fault),
     }
 }

@@ -1,6 +1,7 @@
 //! Why nothing is made.
 
-use geo_core::{GeoFault, Limit, Name};
+use cell_library::LibraryLimit;
+use names_lists::Name;
 use std::alloc::AllocError;
 use thiserror::Error;
 
@@ -15,22 +16,10 @@ pub enum GenerateFault {
     NoLayer(Name),
     /// There would be too many of these.
     #[error("too many")]
-    TooMany(Limit),
+    TooMany(LibraryLimit),
     /// There was not enough memory.
     #[error("out of memory")]
     Memory,
-}
-
-/// The only fault of names is want of memory.
-impl From<GeoFault> for GenerateFault {
-    ghost use Rattle.std.specs.Prelude.{◌≡◌};
-    ghost use Rattle.layout_gen.specs.declared.faults.GenerateFault.TheVariants.{Memory};
-
-    ghost from_gives = { λ _ fault. fault ≡ Memory };
-
-    fn from(_refused: GeoFault) -> GenerateFault {
-        GenerateFault::Memory
-    }
 }
 
 impl From<AllocError> for GenerateFault {

@@ -8,9 +8,8 @@ use crate::bodies::cells_for;
 use crate::checks::check;
 use crate::faults::GenerateFault;
 use crate::limits::MOST_TILES;
-use cell_library::{LibFault, Library};
+use cell_library::{LibFault, Library, LibraryLimit};
 use ext_model::CellKey;
-use geo_core::Limit;
 use std::alloc::Global;
 
 /// Adds the cells that are made from n, as one edit, and answers the key of the last, `gen`: a stack of n rows of n tiles. A refusal
@@ -42,9 +41,9 @@ pub fn generate(alloc: Global, library: &mut Library, n: u32) -> Result<CellKey,
 
 // Why nothing is made, where a library refuses the cells: it does so for want of memory, or since it had all the edits that it may have.
 fn fault_of(fault: LibFault) -> GenerateFault
-    requires { (fault ≡ LibFault.Memory) ⊎ (fault ≡ LibFault.TooMany Limit.Edits) }
+    requires { (fault ≡ LibFault.Memory) ⊎ (fault ≡ LibFault.TooMany LibraryLimit.Edits) }
     ensures memory { fault ≡ LibFault.Memory → result ≡ GenerateFault.Memory }
-    ensures edits { fault ≡ LibFault.TooMany Limit.Edits → result ≡ GenerateFault.TooMany Limit.Edits }
+    ensures edits { fault ≡ LibFault.TooMany LibraryLimit.Edits → result ≡ GenerateFault.TooMany LibraryLimit.Edits }
 {
     match fault {
         LibFault::TooMany(limit) => GenerateFault::TooMany(limit),

@@ -3,12 +3,14 @@ use Rattle.std.proofs.Common.{◌≡◌, ℕ, ℤ, Bool, List, [], ◌∷◌, in
 use Rattle.finite_sets.specs.Lists.{In}
 use Rattle.finite_sets.proofs.Chains.{Chain-back}
 use Rattle.finite_sets.proofs.Totals.{Total-unique}
+use Rattle.finite_sets.specs.Laws.{IsTransitive}
+use Rattle.finite_sets.proofs.InOrder.{same_by_order, Pairwise-from_order}
 use Rattle.layout_model.specs.Places.{Place, IsBefore}
 use Rattle.layout_model.specs.Layouts.{Layout}
 use Rattle.layout_model.specs.Links.{AreLinked, AreOneNode}
 use Rattle.layout_model.specs.Measures.{area_at, perimeter_at}
 use Rattle.layout_model.specs.Technologies.{Class, Technology}
-use Rattle.layout_model.specs.Nodes.{Node, AreMeasures, IsNode, AreInOrder, AreNodes}
+use Rattle.layout_model.specs.Nodes.{Node, AreMeasures, IsNode, AreNodes}
 use Rattle.layout_model.specs.Laws.{ConnectsBothWays, HasOneNodeList}
 use Rattle.layout_model.proofs.PlaceLaws.{AreNeighbours-sym, AreStacked-sym, IsBefore-irreflexive, IsBefore-trans, IsNoLater-antisym}
 
@@ -50,37 +52,12 @@ same_node technology layout m n p q same =
     let whole : record { least = m.least; kind = m.kind; measures = m.measures } ≡ n = rw (same, kind, measures) refl in
     whole
 
--- two lists in order with the same nodes are one
-after_first : (x : Node) (xs : List Node) (z : Node) → AreInOrder (x ∷ xs) → In z xs → IsBefore x.least z.least
-after_first x [] z order inside = absurd inside
-after_first x (y ∷ ys) z order (inl same) = subst (λ (n : Node). IsBefore x.least n.least) same order.0
-after_first x (y ∷ ys) z order (inr later) = IsBefore-trans x.least y.least z.least order.0 (after_first y ys z order.1 later)
+-- the least place of the first node stands before that of the second
+abbrev IsFirst : Node → Node → Type 0
+IsFirst x y = IsBefore x.least y.least
 
-rest_in_order : (x : Node) (xs : List Node) → AreInOrder (x ∷ xs) → AreInOrder xs
-rest_in_order x [] order = tt
-rest_in_order x (y ∷ ys) order = order.1
-
-same_heads : (x y : Node) (xs ys : List Node) → AreInOrder (x ∷ xs) → AreInOrder (y ∷ ys) → In x (y ∷ ys) → In y (x ∷ xs) → x ≡ y
-same_heads x y xs ys p q (inl same) there = sym same
-same_heads x y xs ys p q (inr here) (inl same) = same
-same_heads x y xs ys p q (inr here) (inr there) =
-    absurd (IsBefore-irreflexive x.least (IsBefore-trans x.least y.least x.least (after_first x xs y p there) (after_first y ys x q here)))
-
-in_rest : (x y : Node) (xs ys : List Node) → AreInOrder (x ∷ xs) → x ≡ y → (z : Node) → In z xs → In z (y ∷ ys) → In z ys
-in_rest x y xs ys order same z inside (inr later) = later
-in_rest x y xs ys order same z inside (inl first) =
-    absurd (IsBefore-irreflexive x.least (subst (λ (n : Node). IsBefore x.least n.least) (sym (same ∙ first)) (after_first x xs z order inside)))
-
-same_lists : (xs ys : List Node) → AreInOrder xs → AreInOrder ys → ((z : Node) → In z xs → In z ys) → ((z : Node) → In z ys → In z xs) → xs ≡ ys
-same_lists [] [] p q there back = refl
-same_lists [] (y ∷ ys) p q there back = absurd (back y (inl refl))
-same_lists (x ∷ xs) [] p q there back = absurd (there x (inl refl))
-same_lists (x ∷ xs) (y ∷ ys) p q there back =
-    let same = same_heads x y xs ys p q (there x (inl refl)) (back y (inl refl)) in
-    let rest = same_lists xs ys (rest_in_order x xs p) (rest_in_order y ys q)
-    (λ z inside. in_rest x y xs ys p same z inside (there z (inr inside)))
-    (λ z inside. in_rest y x ys xs q (sym same) z inside (back z (inr inside))) in
-    rw (same, rest) refl
+IsFirst-trans : IsTransitive IsFirst
+IsFirst-trans x y z = IsBefore-trans x.least y.least z.least
 
 -- each node of one list stands in the other
 stands_there : (technology : Technology) (layout : Layout) (xs ys : List Node) → ConnectsBothWays technology.connects → AreNodes technology layout xs
@@ -96,6 +73,7 @@ stands_there technology layout xs ys symmetric p q z inside =
 -- a layout has one list of nodes
 pub has_one_node_list : HasOneNodeList
 has_one_node_list technology layout xs ys symmetric p q =
-    same_lists xs ys p.in_order q.in_order
+    same_by_order IsFirst (λ x. IsBefore-irreflexive x.least) IsFirst-trans xs ys
+    (Pairwise-from_order IsFirst IsFirst-trans xs p.in_order) (Pairwise-from_order IsFirst IsFirst-trans ys q.in_order)
     (stands_there technology layout xs ys symmetric p q)
     (stands_there technology layout ys xs symmetric q p)

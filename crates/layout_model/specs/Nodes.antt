@@ -2,6 +2,7 @@
 use Rattle.std.specs.Prelude.{◌≡◌, ℕ, ℤ, List, [], ◌∷◌}
 use Rattle.finite_sets.specs.Lists.{In}
 use Rattle.finite_sets.specs.Least.{IsLeast}
+use Rattle.finite_sets.specs.Order.{IsInOrder}
 use Rattle.layout_model.specs.Places.{Place, IsBefore, IsNoLater}
 use Rattle.layout_model.specs.Layouts.{Layout, IsMaterial}
 use Rattle.layout_model.specs.Links.{AreOneNode}
@@ -33,9 +34,7 @@ pub record IsNode (technology : Technology) (layout : Layout) (node : Node) : Ty
 
 -- Each node stands before the next by its least place.
 abbrev pub AreInOrder : List Node → Type 0
-AreInOrder [] = Unit {0}
-AreInOrder (node ∷ []) = Unit {0}
-AreInOrder (node ∷ next ∷ nodes) = IsBefore node.least next.least × AreInOrder (next ∷ nodes)
+AreInOrder nodes = IsInOrder (λ node next. IsBefore node.least next.least) nodes
 
 -- These are the nodes of the layout, by their least places: each is a node, and each place with material is in one of them.
 pub record AreNodes (technology : Technology) (layout : Layout) (nodes : List Node) : Type 0 where

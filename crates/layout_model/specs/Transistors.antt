@@ -1,9 +1,10 @@
 -- The transistors of a layout.
-use Rattle.std.specs.Prelude.{◌≡◌, ℕ, ℤ, pos, ◌-ℤ◌, ◌<ℤ◌, IsTrue, List, [], ◌∷◌, map}
+use Rattle.std.specs.Prelude.{◌≡◌, ℕ, ℤ, pos, ◌-ℤ◌, ◌<ℤ◌, IsTrue, List, map}
 use Rattle.finite_sets.specs.Chain.{Chain}
 use Rattle.finite_sets.specs.Lists.{In, Distinct}
 use Rattle.finite_sets.specs.Least.{IsLeast}
 use Rattle.finite_sets.specs.Total.{sum_on, Total}
+use Rattle.finite_sets.specs.Order.{IsInOrder}
 use Rattle.layout_model.specs.Places.{Place, AreNeighbours, IsBefore, IsNoLater}
 use Rattle.layout_model.specs.Layouts.{Layout}
 use Rattle.tech_model.specs.declared.raw.RawTech.{RawTech}
@@ -55,9 +56,7 @@ pub record IsTransistor {N : Type 0} (raw : RawTech) (layout : Layout) (Owns : N
 
 -- Each transistor stands before the next by its least place.
 abbrev pub AreFetsInOrder : {N : Type 0} → List (Transistor N) → Type 0
-AreFetsInOrder [] = Unit {0}
-AreFetsInOrder (fet ∷ []) = Unit {0}
-AreFetsInOrder (fet ∷ next ∷ fets) = IsBefore fet.least next.least × AreFetsInOrder (next ∷ fets)
+AreFetsInOrder fets = IsInOrder (λ fet next. IsBefore fet.least next.least) fets
 
 -- These are the transistors of the layout, by their least places: each place of a channel's type is in one of them.
 pub record AreTransistors {N : Type 0} (raw : RawTech) (layout : Layout) (Owns : N → Place → Type 0) (fets : List (Transistor N)) : Type 0 where

@@ -1,11 +1,10 @@
 -- The names of the elements of a use: they have no slash, tell the use's id, and differ.
-use Rattle.std.proofs.Common.{◌≡◌, ◌==◌, ◌&&◌, not, ℕ, ℤ, pos, ◌+ℤ◌, ◌-ℤ◌, Bool, true, false, cond, List, [], ◌∷◌, ◌++◌, length, map}
+use Rattle.std.proofs.Common.{◌≡◌, ◌==◌, ◌&&◌, not, ℕ, ℤ, pos, true, false, List, [], ◌∷◌, ◌++◌, length, map}
 use Rattle.std.proofs.Common.{Result, Ok, inl, inr, refl, sym, ap, subst, ◌∙◌, arith}
 use Rattle.std.specs.Prelude.{Option, Some, None, int_le, nat_le}
 use Rattle.std.specs.Char.{is_ascii_digit}
 use Rattle.std.specs.List.{AllByRecursion, list_all}
 use Rattle.std.proofs.lemmas.Bool.{and_parts, ne_eqb, not-true}
-use Rattle.std.proofs.lemmas.Int.{ints}
 use Rattle.finite_sets.specs.Lists.{Distinct, In}
 use Rattle.finite_sets.specs.Range.{integer_range, pairs_of, IsBetween}
 use Rattle.finite_sets.proofs.Distincts.{Distinct-map}
@@ -13,6 +12,7 @@ use Rattle.finite_sets.proofs.Members.{In-map_source}
 use Rattle.finite_sets.proofs.Ranges.{Lists-integer_range, Lists-pairs_of}
 use Rattle.geo_core.specs.declared.grids.Grid.{Grid}
 use Rattle.geo_core.specs.Elements.{element_of, elements_of, indices, nth_index}
+use Rattle.geo_core.proofs.ElementLaws.{nth_either}
 use Rattle.text_scan.specs.declared.numeral.NumFault.{NumFault}
 use Rattle.text_scan.specs.Decimal.{decimal}
 use Rattle.text_scan.specs.Numbers.{integer_of}
@@ -125,12 +125,8 @@ indices_told id i j k l is same =
     (decimal_tells i k first.0, decimal_tells j l second.0)
 
 -- an index tells its number
-counted_either : (up : Bool) (from n m : ℤ) → cond up (from +ℤ n) (from -ℤ n) ≡ cond up (from +ℤ m) (from -ℤ m) → n ≡ m
-counted_either true from n m same = omega (arith, ints, same)
-counted_either false from n m same = omega (arith, ints, same)
-
 index_tells : (from to n m : ℤ) → nth_index from to n ≡ nth_index from to m → n ≡ m
-index_tells from to n m same = counted_either (int_le from to) from n m same
+index_tells from to n m same = nth_either (int_le from to) from n m same
 
 -- the names of the elements of an array, by the numbers of their indices
 array_name : List ℕ → Grid → ℤ × ℤ → List ℕ

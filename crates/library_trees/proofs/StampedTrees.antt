@@ -10,11 +10,11 @@ use Rattle.cell_tree.specs.Trees.{cell_at, stamp_at}
 use Rattle.cell_tree.specs.Uses.{HasChild}
 use Rattle.cell_library.specs.Libraries.{LibraryParts, IsLawfulLibrary, edits_of, seen}
 use Rattle.cell_library.specs.Views.{CellView, LibraryView, view_at}
-use Rattle.cell_library.proofs.LayoutTreeLaws.{uses_seen}
+use Rattle.cell_library.proofs.LayoutTreeLaws.{uses_seen, state_is}
 use Rattle.library_trees.specs.Laws.{StampsTellChangedTrees}
 use Rattle.library_trees.specs.NamedCells.{IsAtOrBelow, named_tree_at}
 use Rattle.library_trees.proofs.EditedTrees.{change_keeps}
-use Rattle.library_trees.proofs.WholeTrees.{no_cell_seen, state_is}
+use Rattle.library_trees.proofs.WholeTrees.{no_cell_seen}
 
 -- where a child is seen, the cell uses it
 child_is_used : (library : LibraryParts) → IsLawfulLibrary library → (upper lower : ℕ) → HasChild (view_at (seen library) upper).uses lower

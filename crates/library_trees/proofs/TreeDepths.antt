@@ -10,13 +10,13 @@ use Rattle.cell_tree.specs.declared.use_tables.UseBody.{UseBody}
 use Rattle.cell_tree.specs.Sizes.{size_at, depth_below as size_below}
 use Rattle.cell_library.specs.Libraries.{LibraryParts, IsLawfulLibrary, seen}
 use Rattle.cell_library.specs.Views.{view_at}
-use Rattle.cell_library.proofs.LayoutTreeLaws.{children_are_cells}
+use Rattle.cell_library.proofs.LayoutTreeLaws.{children_are_cells, depth_is}
 use Rattle.named_trees.specs.NamedTrees.{NamedTree, NamedElements}
 use Rattle.tree_names.specs.CleanTrees.{depth_below, depth_of}
 use Rattle.library_trees.specs.ElementNames.{UseElement, use_elements}
 use Rattle.library_trees.specs.Laws.{AreChainsShort}
 use Rattle.library_trees.specs.NamedCells.{named_elements_at, named_elements_from, named_tree_at, named_tree_to}
-use Rattle.library_trees.proofs.WholeTrees.{UsesWithIds, depth_is}
+use Rattle.library_trees.proofs.WholeTrees.{UsesWithIds}
 
 -- elements of one child are as deep as it
 depth_at : (tree : NamedTree) (placed : Transform) (elements : List UseElement) (rest : NamedElements)

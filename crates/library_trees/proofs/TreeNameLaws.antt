@@ -13,7 +13,7 @@ use Rattle.cell_tree.specs.declared.use_tables.UseBody.{UseBody}
 use Rattle.cell_tree.specs.Trees.{cell_at, empty_cell}
 use Rattle.cell_library.specs.Libraries.{LibraryParts, IsLawfulLibrary, seen}
 use Rattle.cell_library.specs.Views.{CellView, LibraryView, view_at}
-use Rattle.cell_library.proofs.LayoutTreeLaws.{uses_seen}
+use Rattle.cell_library.proofs.LayoutTreeLaws.{uses_seen, state_is}
 use Rattle.ext_model.specs.NodeNames.{slashes_in}
 use Rattle.named_trees.specs.NamedTrees.{NamedTree, NamedElements}
 use Rattle.tree_names.specs.CleanTrees.{HasElementNames, HaveElementNames, ids_in}
@@ -22,7 +22,7 @@ use Rattle.library_trees.specs.Laws.{ElementNamesTellElements}
 use Rattle.library_trees.specs.NamedCells.{named_elements_at, named_elements_from, named_tree_at, named_tree_to}
 use Rattle.library_trees.proofs.ElementNameLaws.{names_differ, names_in, names_tell_id, names_whole}
 use Rattle.library_trees.proofs.TextCuts.{front_of}
-use Rattle.library_trees.proofs.WholeTrees.{UsesWithIds, no_cell_seen, state_is}
+use Rattle.library_trees.proofs.WholeTrees.{UsesWithIds, no_cell_seen}
 use Rattle.cell_tree.specs.declared.limits.TheConstants.{MOST_DEPTH}
 
 -- the ids of uses

@@ -2,19 +2,18 @@
 use Rattle.std.proofs.Common.{◌≡◌, ◌<◌, ◌≤◌, ℕ, zero, suc, List, [], ◌∷◌, length, refl, sym, ap, ◌∙◌, arith}
 use Rattle.std.specs.Prelude.{Some, slice_get}
 use Rattle.std.proofs.Math.ListN.{get_or-eq_default}
-use Rattle.std.proofs.lemmas.Option.{slice_get-get_or}
 use Rattle.named_trees.specs.NamedTrees.{NamedTree}
 use Rattle.named_trees.specs.NamedTrees.NamedTree.{named_tree}
 use Rattle.cell_tree.specs.declared.limits.TheConstants.{MOST_DEPTH}
 use Rattle.cell_tree.specs.declared.sizes.Dimension.TheVariants.{Depth}
 use Rattle.cell_tree.specs.declared.sizes.Size.{Size}
 use Rattle.cell_tree.specs.declared.use_tables.UseBody.{UseBody}
-use Rattle.cell_tree.specs.Sizes.{CellState, size_at, size_of, depth_below}
-use Rattle.cell_tree.specs.Trees.{cell_at, empty_cell}
+use Rattle.cell_tree.specs.Sizes.{CellState, size_at}
+use Rattle.cell_tree.specs.Trees.{cell_at}
 use Rattle.cell_tree.proofs.SizeLaws.{child_is_lower}
 use Rattle.cell_library.specs.Libraries.{LibraryParts, IsLawfulLibrary, cells_seen, seen, uses_in}
 use Rattle.cell_library.specs.Views.{no_cell, view_at}
-use Rattle.cell_library.proofs.LayoutTreeLaws.{children_are_cells, uses_seen}
+use Rattle.cell_library.proofs.LayoutTreeLaws.{children_are_cells, uses_seen, depth_is, state_is}
 use Rattle.cell_library.proofs.ViewLaws.{length-cell_views}
 use Rattle.library_trees.specs.ElementNames.{use_elements}
 use Rattle.library_trees.specs.NamedCells.{named_elements_at, named_elements_from, named_tree_at, named_tree_to, own_body_of}
@@ -23,24 +22,11 @@ use Rattle.library_trees.specs.NamedCells.{named_elements_at, named_elements_fro
 abbrev pub UsesWithIds : Type 0
 UsesWithIds = List (List ℕ × UseBody)
 
--- a state is there
-pub state_is : (library : LibraryParts) → IsLawfulLibrary library → (cell : ℕ) → cell < length library.contents
-    → slice_get library.tree.cells cell ≡ Some (cell_at library.tree.cells cell)
-state_is library lawful cell below = slice_get-get_or library.tree.cells cell empty_cell (omega (arith, lawful.so_many, below))
-
 -- at a position without a cell no cell is seen
 pub no_cell_seen : (library : LibraryParts) → (cell : ℕ) → length library.contents ≤ cell → view_at (seen library) cell ≡ no_cell
 no_cell_seen library cell past =
     get_or-eq_default (cells_seen library.contents library.tree) no_cell
     (omega (arith, length-cell_views library.contents (uses_in library.tree.cells), past))
-
--- the depth of a cell is one more than that of what it uses
-pub depth_is : (library : LibraryParts) → IsLawfulLibrary library → (cell : ℕ) → cell < length library.contents
-    → (size_at library.tree.sizes cell).depth ≡ suc (depth_below (size_at library.tree.sizes) (view_at (seen library) cell).uses)
-unfolding size_of
-depth_is library lawful cell below =
-    ap (λ (s : Size). s.depth) (lawful.tree.sizes.right cell (cell_at library.tree.cells cell) (state_is library lawful cell below))
-    ∙ ap (λ (uses : UsesWithIds). suc (depth_below (size_at library.tree.sizes) uses)) (sym (uses_seen library lawful cell below))
 
 -- a child is less deep than a cell that uses it
 child_is_less_deep : (library : LibraryParts) → IsLawfulLibrary library → (cell : ℕ) → cell < length library.contents

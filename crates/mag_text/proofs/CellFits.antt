@@ -15,7 +15,7 @@ use Rattle.geo_core.specs.declared.grids.Grid.{Grid}
 use Rattle.geo_core.specs.declared.squares.Rect.{Rect}
 use Rattle.geo_core.specs.declared.transforms.Transform.{Transform}
 use Rattle.geo_core.specs.Images.{six_of}
-use Rattle.geo_core.specs.Orientation.{matrix}
+use Rattle.geo_core.specs.Orientation.{matrix, is_orientation}
 use Rattle.text_scan.specs.PlainNames.{is_plain_name}
 use Rattle.tech_model.specs.declared.raw.Label.{Label}
 use Rattle.layout_model.specs.Layouts.{Layout}
@@ -23,9 +23,9 @@ use Rattle.cell_paint.specs.Painting.{is_coordinate, is_in_range}
 use Rattle.cell_bodies.specs.declared.bodies.CellUse.{CellUse}
 use Rattle.cell_bodies.specs.Bodies.{IsLabel}
 use Rattle.cell_bodies.specs.Words.{is_use_id}
-use Rattle.cell_bodies.specs.Numbers.{is_displacement, are_displacements, is_index, is_orientation, are_few_elements, is_grid, is_placing}
+use Rattle.cell_bodies.specs.Numbers.{is_displacement, are_displacements, is_index, are_few_elements, is_grid, is_placing}
 use Rattle.cell_bodies.specs.Numbers.{is_scale_number}
-use Rattle.cell_bodies.proofs.OrientationLaws.{is_orientation-six_of}
+use Rattle.geo_core.proofs.OrientationLaws.{is_orientation-six_of}
 use Rattle.cell_tree.specs.declared.sizes.Dimension.TheVariants.{Hull}
 use Rattle.cell_tree.specs.declared.sizes.Size.{Size}
 use Rattle.cell_tree.specs.declared.use_tables.UseBody.{UseBody}
@@ -33,13 +33,14 @@ use Rattle.cell_tree.specs.Hulls.{IsPaintable as IsCoordinate, SpansInRange, IsL
 use Rattle.cell_tree.specs.Sizes.{CellState, AreSizes, IsHullInRange, size_at}
 use Rattle.cell_tree.specs.Trees.{cell_at, empty_cell}
 use Rattle.cell_tree.specs.Uses.{IsShift, IsLawfulGrid, IsLawfulUse}
+use Rattle.cell_tree.proofs.WholeLaws.{cell_is}
 use Rattle.cell_library.specs.Libraries.{LibraryParts, IsLawfulLibrary, IsLawfulScale, HasUseIds, seen, uses_in}
 use Rattle.cell_library.specs.Limits.{HullIs}
 use Rattle.cell_library.specs.OwnBoxes.{OwnBoxIs}
 use Rattle.cell_library.specs.Views.{CellView, LibraryView, view_at}
 use Rattle.cell_library.proofs.LimitLaws.{states_unique}
 use Rattle.cell_library.proofs.PaintEdits.{held_lawful}
-use Rattle.cell_library.proofs.SizeLaws.{one_size, tree_children, cell_there}
+use Rattle.cell_library.proofs.SizeLaws.{one_size, tree_children}
 use Rattle.cell_library.proofs.UseEdits.{uses_here, cell_below, ids_differ}
 use Rattle.cell_library.proofs.ViewLaws.{cell_viewed, state_there}
 use Rattle.mag_text.specs.declared.written.WrittenUse.{WrittenUse}
@@ -180,7 +181,7 @@ module _ (library : LibraryParts) (lawful : IsLawfulLibrary library) where
         let inside = cell_below library lawful cell below in
         own_in_range (view_at (seen library) cell).own (view_at (seen library) cell).labels (cell_at library.tree.cells cell).own
         (state_there (seen library).cells library.tree.cells cell lawful.boxes inside)
-        (lawful.tree.each cell (cell_at library.tree.cells cell) (cell_there library.tree.cells cell inside)).own
+        (lawful.tree.each cell (cell_at library.tree.cells cell) (cell_is library.tree.cells cell inside)).own
 
     ids_new : (written : List WrittenUse) → AreWrittenUses (seen library) (view_at (seen library) cell).uses written → AreNew [] written
     ids_new written are =

@@ -7,11 +7,11 @@ use Rattle.cell_bodies.specs.Bodies.{IsLabel}
 use Rattle.cell_tree.specs.declared.use_tables.UseBody.{UseBody}
 use Rattle.cell_tree.specs.Trees.{cell_at}
 use Rattle.cell_tree.specs.Uses.{IsLawfulUse}
+use Rattle.cell_tree.proofs.WholeLaws.{cell_is}
 use Rattle.cell_library.specs.Libraries.{LibraryParts, IsLawfulLibrary, IsLawfulScale, seen, uses_in}
 use Rattle.cell_library.specs.Views.{CellView, LibraryView, view_at}
 use Rattle.cell_library.proofs.UseEdits.{uses_here}
 use Rattle.cell_library.proofs.PaintEdits.{held_lawful}
-use Rattle.cell_library.proofs.SizeLaws.{cell_there}
 use Rattle.cell_library.proofs.ViewLaws.{cell_viewed}
 use Rattle.mag_text.specs.declared.written.WrittenUse.{WrittenUse}
 use Rattle.mag_text.specs.CellTexts.{IsWrittenUse, AreWrittenUses}
@@ -37,7 +37,7 @@ use_lawful library cell k entry lawful below there =
     let inside : cell < length library.tree.cells = omega arith in
     let at : slice_get (cell_at library.tree.cells cell).uses k ≡ Some entry =
     ap (λ (uses : List (List ℕ × UseBody)). slice_get uses k) (sym (uses_here library lawful cell below)) ∙ there in
-    let is = lawful.tree.cells.uses cell (cell_at library.tree.cells cell) (cell_there library.tree.cells cell inside) k entry at in
+    let is = lawful.tree.cells.uses cell (cell_at library.tree.cells cell) (cell_is library.tree.cells cell inside) k entry at in
     (is.0, subst (λ (n : ℕ). entry.1.child.0 < n) many is.1)
 
 -- one more use

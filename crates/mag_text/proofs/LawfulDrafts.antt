@@ -1,14 +1,13 @@
 -- What was read is lawful, line by line.
-use Rattle.std.proofs.Common.{◌≡◌, ◌<◌, ℕ, ℤ, Bool, true, false, cond, List, [], ◌∷◌, ◌++◌, length, Some, Result, Ok, Err, refl, sym, ap, ◌∙◌, subst, inl, inr}
-use Rattle.std.specs.Prelude.{◌||◌, IfOk, IfSome, IsTrue, All}
-use Rattle.std.specs.List.{list_any}
+use Rattle.std.proofs.Common.{◌≡◌, ◌<◌, ℕ, ℤ, Bool, true, false, cond, List, [], ◌∷◌, ◌++◌, length, Some, Result, Ok, Err, refl, sym, ap, ◌∙◌, subst}
+use Rattle.std.specs.Prelude.{IfOk, IfSome, IsTrue, All}
 use Rattle.std.specs.Str.{bytes_eq}
-use Rattle.std.proofs.lemmas.Bool.{or_parts}
 use Rattle.std.proofs.lemmas.Slice.Eq.{bytes_eq-Decides}
 use Rattle.std.proofs.lemmas.List.{map-append}
 use Rattle.std.proofs.lemmas.List.Elements.{All-nil, All-push}
-use Rattle.finite_sets.specs.Lists.{In, Distinct}
+use Rattle.finite_sets.specs.Lists.{Distinct}
 use Rattle.finite_sets.proofs.Distincts.{Distinct-push}
+use Rattle.finite_sets.proofs.Searches.{absent-from_list_any}
 use Rattle.text_scan.specs.Lines.{lines_of}
 use Rattle.text_scan.specs.PlainNames.{is_plain_name}
 use Rattle.text_form.specs.SaidLines.{and_then}
@@ -209,14 +208,6 @@ group-lawful raw Labels draft (Transform six) lawful there below good = tt
 group-lawful raw Labels draft Box lawful there below good = tt
 group-lawful raw ReadOver draft said lawful there below good = opens-lawful raw draft said lawful.has good
 
-no_id : (id : List ℕ) (ids : List (List ℕ)) → list_any (bytes_eq id) ids ≡ false → In id ids → ⊥
-no_id id [] none there = there
-no_id id (x ∷ ids) none (inl same) =
-    let is : bytes_eq id x ≡ true = subst (λ (w : List ℕ). bytes_eq id w ≡ true) (sym same) ((bytes_eq-Decides id id).1 refl) in
-    let some : list_any (bytes_eq id) (x ∷ ids) ≡ true = ap (λ (b : Bool). b || list_any (bytes_eq id) ids) is in
-    absurd (let no : true ≡ false = sym some ∙ none in let none : ⊥ = cc in none)
-no_id id (x ∷ ids) none (inr there) = no_id id ids (or_parts (bytes_eq id x) (list_any (bytes_eq id) ids) none).1 there
-
 six-lawful : (raw : RawTech) (draft : Draft) (six : Result (List ℤ) MagFault) → HasLawful raw draft → IsPending draft → IfOk six (λ six. IsTrue (is_placing six))
     → IfOk (and_then six (λ six. Ok (with_six draft six))) (IsLawfulDraft raw)
 six-lawful raw draft six has pending good =
@@ -228,7 +219,7 @@ six-lawful raw draft six has pending good =
         drawn = has.drawn;
         uses = All-push IsUse draft.uses placed has.uses (record { cell = pending.cell; id = pending.id; six = is; grid = pending.grid });
         ids_differ = subst (λ (ids : List (List ℕ)). Distinct ids) (sym ids)
-            (Distinct-push (ids_of draft.uses) draft.pending.id has.ids_differ (no_id draft.pending.id (ids_of draft.uses) pending.new));
+            (Distinct-push (ids_of draft.uses) draft.pending.id has.ids_differ (absent-from_list_any bytes_eq bytes_eq-Decides draft.pending.id (ids_of draft.uses) pending.new));
         labels = has.labels;
         numerator = has.numerator;
         denominator = has.denominator;

@@ -8,6 +8,7 @@ use Rattle.finite_sets.proofs.Searches.{position_from-below}
 use Rattle.geo_core.specs.declared.grids.Grid.{Grid}
 use Rattle.geo_core.specs.declared.squares.Rect.{Rect}
 use Rattle.geo_core.specs.Areas.{has_square}
+use Rattle.geo_core.specs.Orientation.{is_orientation}
 use Rattle.text_scan.specs.Numbers.{number_of}
 use Rattle.text_scan.specs.PlainNames.{is_plain_name}
 use Rattle.text_scan.specs.Words.{words_of}
@@ -19,7 +20,7 @@ use Rattle.tech_model.specs.Types.{has_name, layer_named, layer_number}
 use Rattle.cell_paint.specs.Painting.{is_coordinate, is_in_range}
 use Rattle.cell_bodies.specs.Bodies.{IsLabel}
 use Rattle.cell_bodies.specs.Words.{is_use_id, is_label_text}
-use Rattle.cell_bodies.specs.Numbers.{is_displacement, is_index, are_indices, are_displacements, are_few_elements, are_elements, is_grid, is_orientation}
+use Rattle.cell_bodies.specs.Numbers.{is_displacement, is_index, are_indices, are_displacements, are_few_elements, are_elements, is_grid}
 use Rattle.cell_bodies.specs.Numbers.{is_placing, is_position, has_sides, is_label_area, is_scale_number}
 use Rattle.mag_text.specs.declared.faults.MagFault.{MagFault}
 use Rattle.mag_text.specs.declared.faults.MagFault.TheVariants.{BadLine, NoLayer, Range, EmptyRect, Transform as NoOrientation}

@@ -1,6 +1,6 @@
 -- The first name of a layer names that layer, and is the header of its group.
-use Rattle.std.proofs.Common.{◌≡◌, ◌<◌, ◌+◌, ℕ, zero, suc, Bool, true, false, cond, List, [], ◌∷◌, length, get_or, Option, Some, None, Ok, inl, inr, refl}
-use Rattle.std.proofs.Common.{sym, ap, ◌∙◌, arith}
+use Rattle.std.proofs.Common.{◌≡◌, ◌<◌, ◌+◌, ℕ, zero, suc, Bool, true, false, cond, List, [], ◌∷◌, length, get_or, Option, Some, None, Ok, inl, refl}
+use Rattle.std.proofs.Common.{ap, ◌∙◌, arith}
 use Rattle.std.specs.Prelude.{◌||◌, not, codes, IfSome}
 use Rattle.std.specs.List.{list_any, position_from}
 use Rattle.std.specs.Option.{ok_or, option_map}
@@ -8,6 +8,7 @@ use Rattle.std.specs.Str.{bytes_eq}
 use Rattle.std.proofs.lemmas.Bool.{and_parts, or_parts}
 use Rattle.std.proofs.lemmas.Slice.Eq.{bytes_eq-Decides}
 use Rattle.finite_sets.specs.Lists.{In}
+use Rattle.finite_sets.proofs.Searches.{list_any-of_In, list_any-of_absent}
 use Rattle.text_scan.specs.PlainNames.{is_plain_name}
 use Rattle.text_form.specs.SaidLines.{and_then}
 use Rattle.tech_model.specs.declared.raw.LayerId.{LayerId}
@@ -34,29 +35,6 @@ in_first : (names : List (List ℕ)) → 0 < length names → In (get_or names 0
 in_first [] some = absurd (omega arith)
 in_first (name ∷ names) some = inl refl
 
-or_right : (x y : Bool) → y ≡ true → (x || y) ≡ true
-or_right true y is = refl
-or_right false y is = is
-
-passes : (word : List ℕ) (names : List (List ℕ)) → In word names → list_any (bytes_eq word) names ≡ true
-passes word [] there = absurd there
-passes word (name ∷ names) (inl same) =
-    let is : bytes_eq word name ≡ true = (bytes_eq-Decides word name).1 (sym same) in ap (λ (b : Bool). b || list_any (bytes_eq word) names) is
-passes word (name ∷ names) (inr there) = or_right (bytes_eq word name) (list_any (bytes_eq word) names) (passes word names there)
-
-found_or : (word name : List ℕ) (names : List (List ℕ)) (here : Bool) → bytes_eq word name ≡ here → (here || list_any (bytes_eq word) names) ≡ true
-    → (list_any (bytes_eq word) names ≡ true → In word names) → In word (name ∷ names)
-found_or word name names true is any rest = inl (sym ((bytes_eq-Decides word name).0 is))
-found_or word name names false is any rest = inr (rest any)
-
-found_in : (word : List ℕ) (names : List (List ℕ)) → list_any (bytes_eq word) names ≡ true → In word names
-found_in word [] any = absurd (let no : ⊥ = cc in no)
-found_in word (name ∷ names) any = found_or word name names (bytes_eq word name) refl any (λ there. found_in word names there)
-
-absent : (word : List ℕ) (names : List (List ℕ)) (test : Bool) → list_any (bytes_eq word) names ≡ test → (In word names → ⊥) → test ≡ false
-absent word names true is none = absurd (none (found_in word names is))
-absent word names false is none = refl
-
 layer_is : (raw : RawTech) → IsWellFormed raw → (layer : ℕ) → layer < length raw.layers → IsLayer raw (layer_at raw layer)
 layer_is raw formed layer below = formed.layers layer no_layer below
 
@@ -66,9 +44,9 @@ layer_named-first raw formed layer below =
     let word = first_name (layer_at raw layer) in
     let there : In word (layer_at raw layer).names = in_first (layer_at raw layer).names (layer_is raw formed layer below).named in
     position_is (has_name word) 0 raw.layers layer no_layer below
-    (λ j before. absent word (get_or raw.layers j no_layer).names (has_name word (get_or raw.layers j no_layer)) refl
+    (λ j before. list_any-of_absent bytes_eq bytes_eq-Decides word (get_or raw.layers j no_layer).names
     (λ earlier. formed.names_differ j layer no_layer before below word earlier there))
-    (passes word (layer_at raw layer).names there)
+    (list_any-of_In bytes_eq bytes_eq-Decides word (layer_at raw layer).names there)
     ∙ ap (λ (k : ℕ). Some k) (omega arith)
 
 pub layer_in-first : (raw : RawTech) → IsWellFormed raw → (layer : ℕ) → layer < length raw.layers → layer_in raw (first_name (layer_at raw layer)) ≡ Ok (layer_number layer)

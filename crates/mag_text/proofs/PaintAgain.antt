@@ -8,6 +8,7 @@ use Rattle.std.specs.Prelude.{◌==◌, ◌||◌, IsTrue, flat_map}
 use Rattle.std.proofs.lemmas.Bool.{cases_Bool, cases_lt, eq-eqb}
 use Rattle.finite_sets.specs.Lists.{In}
 use Rattle.finite_sets.proofs.Members.{In-map, In-map_source, In-get_or, In-index}
+use Rattle.finite_sets.proofs.Images.{In-flat_map, In-flat_map_source}
 use Rattle.geo_core.specs.declared.squares.Rect.{Rect}
 use Rattle.geo_core.specs.declared.squares.Square.{Square}
 use Rattle.geo_core.specs.Covering.{Covers, is_covered}
@@ -21,7 +22,6 @@ use Rattle.tech_model.specs.WellFormed.{IsWellFormed}
 use Rattle.tech_model.specs.Rules.{KeepsRules}
 use Rattle.tech_model.specs.Columns.{type_on, painted_column}
 use Rattle.tech_model.specs.ColumnForms.{IsOnPlane}
-use Rattle.tech_model.proofs.RuleLaws.{In-flat_map, In-flat_map_source}
 use Rattle.layout_model.specs.Places.{Place}
 use Rattle.layout_model.specs.Layouts.{Layout}
 use Rattle.cell_paint.specs.Painting.{place_at, kinds_on, column_at}

@@ -3,7 +3,7 @@ use Rattle.std.proofs.Common.{◌≡◌, ◌<◌, ◌+◌, ◌==◌, ℕ, suc, p
 use Rattle.std.proofs.Common.{Ok, Err, refl, sym, ap, ◌∙◌, arith}
 use Rattle.std.specs.Prelude.{◌&&◌, ◌||◌, not, codes, nat_le, reverse, All, IfSome, FitsSigned}
 use Rattle.std.specs.Int.{w64}
-use Rattle.std.specs.List.{AllByRecursion, list_all, before_first, position_or_len, prefix_len}
+use Rattle.std.specs.List.{AllByRecursion, list_all, before_first, prefix_len}
 use Rattle.std.proofs.Math.Numerals.{one-add}
 use Rattle.std.proofs.Math.Seq.{drop-append_seam}
 use Rattle.std.proofs.lemmas.Bool.{and_parts, or_parts}
@@ -14,10 +14,10 @@ use Rattle.std.proofs.lemmas.List.Folds.{length-prefix_len}
 use Rattle.text_scan.specs.Decimal.{decimal}
 use Rattle.text_scan.specs.Lines.{is_line_feed}
 use Rattle.text_scan.specs.Numbers.{number_of}
-use Rattle.text_scan.specs.Words.{words_of, is_blank, is_in_word, from_first_word}
+use Rattle.text_scan.specs.Words.{words_of, is_blank, from_first_word}
 use Rattle.text_scan.specs.Written.{IsWord, line_of}
 use Rattle.text_scan.proofs.DecimalLemmas.{number_of-decimal}
-use Rattle.text_scan.proofs.WordLemmas.{words_of-blank, words_of-at}
+use Rattle.text_scan.proofs.WordLemmas.{words_of-blank, words_of-at, from_first_word-in_word}
 use Rattle.text_scan.proofs.WrittenLemmas.{IsWord-test}
 use Rattle.text_form.specs.SaidLines.{and_then}
 use Rattle.tech_model.specs.declared.limits.TheConstants.{LONGEST_LABEL}
@@ -45,9 +45,6 @@ use Rattle.mag_text.proofs.ReadLines.{IsWord-plain_name, has_coordinates, coordi
 first_word-blank : (line : List ℕ) → from_first_word (32 ∷ line) ≡ from_first_word line
 first_word-blank line = rw one-add refl
 
-first_word-in_word : (byte : ℕ) (line : List ℕ) → is_blank byte ≡ false → from_first_word (byte ∷ line) ≡ byte ∷ line
-first_word-in_word byte line stands = ap (λ test. drop (cond (not (not test)) (1 + position_or_len is_in_word line) 0) (byte ∷ line)) stands
-
 -- a blank in front changes nothing of what follows the first word
 after_word-blank : (line : List ℕ) → after_word (32 ∷ line) ≡ after_word line
 unfolding after_word
@@ -69,7 +66,7 @@ prefix-word (byte ∷ word) rest plain =
 
 from_word : (word rest : List ℕ) → 0 < length word → All (λ b. is_blank b ≡ false) word → from_first_word (word ++ 32 ∷ rest) ≡ word ++ 32 ∷ rest
 from_word [] rest some plain = absurd (omega arith)
-from_word (byte ∷ word) rest some plain = first_word-in_word byte (word ++ 32 ∷ rest) (plain 0 0 (omega arith))
+from_word (byte ∷ word) rest some plain = from_first_word-in_word byte (word ++ 32 ∷ rest) (plain 0 0 (omega arith))
 
 -- what follows a word is the blank behind it and the rest
 after_word-at : (word rest : List ℕ) → IsWord word → after_word (word ++ 32 ∷ rest) ≡ 32 ∷ rest

@@ -5,6 +5,7 @@ use Rattle.std.specs.List.{AllByRecursion, list_all}
 use Rattle.std.proofs.lemmas.Bool.{and_parts, or_parts}
 use Rattle.std.proofs.lemmas.Bool.Decides.{Decides-by_and, nat_tests}
 use Rattle.std.proofs.lemmas.List.Elements.{All-append, All-cons}
+use Rattle.finite_sets.proofs.Searches.{AllByRecursion-append}
 use Rattle.geo_core.specs.declared.grids.Grid.{Grid}
 use Rattle.geo_core.specs.declared.squares.Rect.{Rect}
 use Rattle.text_scan.specs.Decimal.{decimal}
@@ -38,14 +39,10 @@ use Rattle.mag_text.proofs.ReadBack.{cell_lines-read}
 abbrev IsInner : ℕ → Type 0
 IsInner byte = (is_line_feed byte ≡ false) × ((byte == 13) ≡ false)
 
-all_append : {X : Type 0} (P : X → Type 0) (xs ys : List X) → AllByRecursion P xs → AllByRecursion P ys → AllByRecursion P (xs ++ ys)
-all_append P [] ys here there = there
-all_append P (x ∷ xs) ys here there = (here.0, all_append P xs ys here.1 there)
-
 all_lines : {X : Type 0} (P : X → Type 0) (lines : X → List (List ℕ)) → ((x : X) → P x → AllByRecursion IsLine (lines x)) → (xs : List X) → AllByRecursion P xs
     → AllByRecursion IsLine (flat_map lines xs)
 all_lines P lines each [] all = tt
-all_lines P lines each (x ∷ xs) all = all_append IsLine (lines x) (flat_map lines xs) (each x all.0) (all_lines P lines each xs all.1)
+all_lines P lines each (x ∷ xs) all = AllByRecursion-append IsLine (lines x) (flat_map lines xs) (each x all.0) (all_lines P lines each xs all.1)
 
 all_one : {X : Type 0} (P : X → Type 0) (line : X → List ℕ) → ((x : X) → P x → IsLine (line x)) → (xs : List X) → AllByRecursion P xs → AllByRecursion IsLine (map line xs)
 all_one P line each [] all = tt
@@ -119,7 +116,7 @@ use-lines placed is =
     let name = IsLine-line_of (codes "use" ∷ placed.cell.now ∷ placed.id.now ∷ [])
     (IsWord-test (codes "use") refl, (IsWord-plain_name placed.cell.now is.cell, (IsWord-use_id placed.id.now is.id, tt))) in (
       name,
-      all_append IsLine (array_lines placed.grid) (no_time_line ∷ transform_line placed.six ∷ box_line placed.hull ∷ []) (grid-lines placed.grid)
+      AllByRecursion-append IsLine (array_lines placed.grid) (no_time_line ∷ transform_line placed.six ∷ box_line placed.hull ∷ []) (grid-lines placed.grid)
           (time-line, (numbers-line (codes "transform") placed.six (IsWord-test (codes "transform") refl), (hull-line placed.hull, tt))),
     )
 
@@ -136,7 +133,7 @@ header-lines raw formed scale = (
   IsLine-line_of (codes "magic" ∷ []) (IsWord-test (codes "magic") refl, tt),
   (
     IsLine-line_of (codes "tech" ∷ raw.name ∷ []) (IsWord-test (codes "tech") refl, (IsWord-plain_name raw.name formed.name, tt)),
-    all_append IsLine (scale_lines scale) (no_time_line ∷ []) (scale-lines scale (scale.0 == 1 && scale.1 == 1)) (time-line, tt),
+    AllByRecursion-append IsLine (scale_lines scale) (no_time_line ∷ []) (scale-lines scale (scale.0 == 1 && scale.1 == 1)) (time-line, tt),
   ),
 )
 
@@ -145,10 +142,10 @@ cell-lines : (raw : RawTech) (scale : ℕ × ℕ) (strips : List LayerStrips) (u
 cell-lines raw scale strips uses labels is =
     let formed = is.well_formed in
     let last : AllByRecursion IsLine (end_line ∷ []) = (bracket-line (codes "end") (IsWord-test (codes "end") refl), tt) in
-    all_append IsLine (header_lines raw.name scale) _ (header-lines raw formed scale)
-    (all_append IsLine (flat_map (layer_lines raw) strips) _ (all_lines (AreWritable raw) (layer_lines raw) (layer-lines raw formed) strips is.strips_fit)
-    (all_append IsLine (flat_map use_lines uses) _ (all_lines IsWritableUse use_lines use-lines uses is.uses_fit)
-    (all_append IsLine (labels_lines raw labels) (end_line ∷ []) (labels-lines raw formed labels is.labels_fit) last)))
+    AllByRecursion-append IsLine (header_lines raw.name scale) _ (header-lines raw formed scale)
+    (AllByRecursion-append IsLine (flat_map (layer_lines raw) strips) _ (all_lines (AreWritable raw) (layer_lines raw) (layer-lines raw formed) strips is.strips_fit)
+    (AllByRecursion-append IsLine (flat_map use_lines uses) _ (all_lines IsWritableUse use_lines use-lines uses is.uses_fit)
+    (AllByRecursion-append IsLine (labels_lines raw labels) (end_line ∷ []) (labels-lines raw formed labels is.labels_fit) last)))
 
 -- a cell that can be written is read from its text as what it was written from
 pub mag_in-mag_text : (raw : RawTech) (scale : ℕ × ℕ) (strips : List LayerStrips) (uses : List WrittenUse) (labels : List OneLabel) → IsWritable raw scale strips uses labels

@@ -1,11 +1,11 @@
 -- The strips of a cell's paint can be written.
-use Rattle.std.proofs.Common.{◌≡◌, ◌≢◌, ◌<◌, ℕ, ℤ, suc, pos, true, List, [], ◌∷◌, length, get_or, inl, inr, refl, sym, ap, ◌∙◌, subst, arith}
+use Rattle.std.proofs.Common.{◌≡◌, ◌≢◌, ◌<◌, ℕ, ℤ, suc, pos, true, List, [], ◌∷◌, length, get_or, refl, sym, ap, ◌∙◌, subst, arith}
 use Rattle.std.specs.Prelude.{◌-ℤ◌, ◌≤ℤ◌, ◌<ℤ◌, neg_ℤ, nat_le}
 use Rattle.std.specs.List.{AllByRecursion}
 use Rattle.std.proofs.lemmas.Bool.{and_parts}
 use Rattle.std.proofs.lemmas.Bool.Decides.{nat_tests}
 use Rattle.std.proofs.lemmas.Int.{ints}
-use Rattle.finite_sets.specs.Lists.{In}
+use Rattle.finite_sets.proofs.Searches.{AllByRecursion-from_In}
 use Rattle.geo_core.specs.declared.limits.TheConstants.{PAINT_EDGE}
 use Rattle.geo_core.specs.declared.squares.Rect.{Rect}
 use Rattle.geo_core.specs.declared.squares.Square.{Square}
@@ -30,10 +30,6 @@ use Rattle.mag_text.proofs.ReadText.{mag_in-mag_text}
 pub by_places : {X : Type 0} (P : X → Type 0) (xs : List X) → ((k : ℕ) (d : X) → k < length xs → P (get_or xs k d)) → AllByRecursion P xs
 by_places P [] each = tt
 by_places P (x ∷ xs) each = (each 0 x (omega arith), by_places P xs (λ k d inside. each (suc k) d (omega arith)))
-
-by_members : {X : Type 0} (P : X → Type 0) (xs : List X) → ((x : X) → In x xs → P x) → AllByRecursion P xs
-by_members P [] each = tt
-by_members P (x ∷ xs) each = (each x (inl refl), by_members P xs (λ y there. each y (inr there)))
 
 -- the image of a layer on its own plane is a type, and so not space
 pub own_image-type : (raw : RawTech) → IsWellFormed raw → (layer : ℕ) → layer < length raw.layers → is_type raw (own_image raw layer) ≡ true
@@ -86,7 +82,7 @@ strips_fit raw formed layout range strips are =
     record {
       layer = subst (λ (n : ℕ). n < length raw.layers) (sym is.of_layer) below;
       areas =
-          by_members IsPaintable group.areas (λ area there.
+          AllByRecursion-from_In IsPaintable group.areas (λ area there.
           strip-fits layout (plane_of raw (own_image raw layer)) (own_image raw layer) area range
           (type_is_some raw (own_image raw layer) (own_image-type raw formed layer below)) (is.strips.each area there));
     })

@@ -1,6 +1,5 @@
 //! Why a mag text is refused.
 
-use geo_core::GeoFault;
 use std::alloc::AllocError;
 use text_form::At;
 use thiserror::Error;
@@ -49,17 +48,6 @@ impl From<AllocError> for MagFault {
     ghost from_gives = { λ _ fault. fault ≡ Memory };
 
     fn from(_error: AllocError) -> MagFault {
-        MagFault::Memory
-    }
-}
-
-impl From<GeoFault> for MagFault {
-    ghost use Rattle.std.specs.Prelude.{◌≡◌};
-    ghost use Rattle.mag_text.specs.declared.faults.MagFault.TheVariants.{Memory};
-
-    ghost from_gives = { λ _ fault. fault ≡ Memory };
-
-    fn from(_fault: GeoFault) -> MagFault {
         MagFault::Memory
     }
 }

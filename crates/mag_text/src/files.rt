@@ -1,7 +1,8 @@
 //! What the lines of a mag text say, and the sections that they stand in.
 
 use crate::faults::MagFault;
-use geo_core::{Grid, Name, Rect};
+use geo_core::{Grid, Rect};
+use names_lists::Name;
 use tech_model::{Label, LayerId};
 
 /// A rectangle of a cell's file: the area over which a layer is painted.

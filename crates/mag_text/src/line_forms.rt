@@ -19,7 +19,8 @@ use crate::numbers::{
     number_in, position_in, rect_in, scale_in, six_in,
 };
 use cell_bodies::{is_label_text, is_use_id, without_outer_blanks};
-use geo_core::{Name, Rect};
+use geo_core::Rect;
+use names_lists::Name;
 use std::alloc::Global;
 use tech_model::{Label, LayerId, Tech};
 use text_scan::{Words, is_plain_name, number, split_word, words};

@@ -7,11 +7,10 @@ ghost use Rattle.mag_text.specs.NumberForms.{if_few, grid_in, if_orientation, si
 
 use crate::faults::MagFault;
 use cell_bodies::{
-    are_few_elements, has_sides, is_displacement, is_index, is_orientation, is_position,
-    is_scale_number,
+    are_few_elements, has_sides, is_displacement, is_index, is_position, is_scale_number,
 };
 use cell_paint::is_coordinate;
-use geo_core::{Grid, Rect};
+use geo_core::{Grid, Orient, Rect};
 use text_scan::NumFault;
 
 /// What a word gives as a number of 64 bits.
@@ -204,7 +203,7 @@ pub fn grid_in(words: Six) -> Result<Grid, MagFault>
 fn if_orientation(a: i64, b: i64, c: i64, d: i64, e: i64, f: i64) -> Result<[i64; 6], MagFault>
     ensures { result ≡ if_orientation a b c d e f }
 {
-    if is_orientation(a, b, d, e) {
+    if Orient::of_matrix(a, b, d, e).is_some() {
         Ok([a, b, c, d, e, f])
     } else {
         Err(MagFault::Transform)

@@ -12,7 +12,8 @@ ghost use Rattle.mag_text.specs.WrittenTexts.{IsWrittenText, numbers_behind_blan
 
 use crate::written::{LayerStrips, WrittenUse};
 use cell_paint::CellPaint;
-use geo_core::{Grid, List, Rect};
+use geo_core::{Grid, Rect};
+use names_lists::List;
 use std::alloc::{AllocError, Global};
 use tech_model::{Label, LayerId, Tech};
 use text_scan::append_decimal;

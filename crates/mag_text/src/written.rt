@@ -1,6 +1,7 @@
 //! What is written as a mag text.
 
-use geo_core::{Grid, List, Name, Rect};
+use geo_core::{Grid, Rect};
+use names_lists::{List, Name};
 
 /// A use as it is written: its child's name, its id, where it stands, its grid, and the hull of the child in the child's own
 /// coordinates, where it has one.

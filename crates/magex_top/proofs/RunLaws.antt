@@ -21,7 +21,7 @@ use Rattle.run_words.specs.declared.words.RunWords.{RunWords}
 use Rattle.run_words.specs.RunWords.{words_of}
 use Rattle.magex_top.specs.Runs.{is_quiet, AskedReaches, RunMeans, RunReaches, ScriptMeans, ScriptReaches, usage_text}
 use Rattle.magex_top.specs.Sessions.{RunLineMeans, RunState, first_run}
-use Rattle.magex_top.specs.States.{reply}
+use Rattle.line_answers.specs.LineEffects.{reply}
 use Rattle.magex_top.specs.Statuses.{status_of}
 
 -- what is not too long passes no test of it

@@ -14,7 +14,7 @@ use Rattle.session_model.specs.Scripts.{LinesMean}
 use Rattle.magex_top.specs.declared.status.Status.{Status}
 use Rattle.magex_top.specs.declared.status.Status.TheVariants.{Done, Told, Usage, ReadFault, WriteFault, Memory, ScriptTooLong}
 use Rattle.magex_top.specs.Sessions.{RunLineMeans, RunState, first_run}
-use Rattle.magex_top.specs.States.{reply}
+use Rattle.line_answers.specs.LineEffects.{reply}
 
 -- A run that came to its end by itself: neither a read nor a write failed, and there was memory.
 abbrev pub EndsByItself : Status → Type 0

@@ -7,21 +7,23 @@ use Rattle.script_lines.specs.declared.commands.Command.TheVariants.{Tech, Load,
 use Rattle.script_lines.specs.declared.commands.Command.TheVariants.{Save, Squares, Nodes, Extract, Flat, Sim, Ext2sim, Vectors, Simrun, Generate}
 use Rattle.script_lines.specs.declared.faults.LineFault.{LineFault}
 use Rattle.script_lines.specs.Commands.{command_of}
-use Rattle.magex_top.specs.declared.circuits.CircuitFile.TheVariants as file
-use Rattle.magex_top.specs.declared.faults.TopFault.TheVariants.{Line}
-use Rattle.magex_top.specs.CommandCircuits.{CircuitMeans}
-use Rattle.magex_top.specs.CommandEdits.{EditMeans}
-use Rattle.magex_top.specs.CommandExt2sim.{Ext2simMeans}
-use Rattle.magex_top.specs.CommandExtract.{ExtractMeans}
-use Rattle.magex_top.specs.CommandGenerate.{GenerateMeans}
-use Rattle.magex_top.specs.CommandLoad.{LoadMeans}
-use Rattle.magex_top.specs.CommandNodes.{NodesMeans}
-use Rattle.magex_top.specs.CommandSave.{SaveMeans}
-use Rattle.magex_top.specs.CommandSimrun.{SimrunMeans}
-use Rattle.magex_top.specs.CommandSquares.{SquaresMeans}
-use Rattle.magex_top.specs.CommandTech.{TechMeans}
-use Rattle.magex_top.specs.CommandVectors.{VectorsMeans}
-use Rattle.magex_top.specs.States.{State, first_state, accepted, refused}
+use Rattle.line_answers.specs.LineEffects.{LeavesState, accepted, refused}
+use Rattle.circuit_commands.specs.declared.circuits.CircuitFile.TheVariants as file
+use Rattle.circuit_commands.specs.CommandExt2sim.{Ext2simMeans}
+use Rattle.network_commands.specs.CommandSimrun.{SimrunMeans}
+use Rattle.look_commands.specs.declared.looks.Look.TheVariants as look
+use Rattle.workspace.specs.KeptSessions.{IsSession, state_of}
+use Rattle.workspace.specs.States.{State, first_state}
+use Rattle.extract_commands.specs.CommandCircuits.{CircuitMeans}
+use Rattle.extract_commands.specs.CommandExtract.{ExtractMeans}
+use Rattle.extract_commands.specs.CommandGenerate.{GenerateMeans}
+use Rattle.extract_commands.specs.CommandVectors.{VectorsMeans}
+use Rattle.magex_top.specs.declared.session.RunSession.{RunSession}
+use Rattle.library_commands.specs.CommandEdits.{EditMeans}
+use Rattle.library_commands.specs.CommandLoad.{LoadMeans}
+use Rattle.library_commands.specs.CommandLooks.{LookMeans}
+use Rattle.library_commands.specs.CommandTech.{TechMeans}
+use Rattle.magex_top.specs.Refusals.{line_refusal}
 
 -- What a command does. The budget is the most steps of a phase.
 abbrev pub CommandMeans : ℕ → ℕ → State → Files → Command → Effect State → Type 0
@@ -37,22 +39,22 @@ CommandMeans budget number state files (Move id dx dy) effect = EditMeans number
 CommandMeans budget number state files (Delete id) effect = EditMeans number state (Delete id) effect
 CommandMeans budget number state files (Label layer area position text) effect = EditMeans number state (Label layer area position text) effect
 CommandMeans budget number state files (Unlabel text) effect = EditMeans number state (Unlabel text) effect
-CommandMeans budget number state files (Save cell) effect = SaveMeans number state cell effect
-CommandMeans budget number state files (Squares cell) effect = SquaresMeans number state cell effect
-CommandMeans budget number state files (Nodes cell) effect = NodesMeans number state cell effect
+CommandMeans budget number state files (Save cell) effect = LookMeans look.Save number state cell effect
+CommandMeans budget number state files (Squares cell) effect = LookMeans look.Squares number state cell effect
+CommandMeans budget number state files (Nodes cell) effect = LookMeans look.Nodes number state cell effect
 CommandMeans budget number state files (Extract cell) effect = ExtractMeans number state cell effect
 CommandMeans budget number state files (Flat cell) effect = CircuitMeans file.Flat number state cell effect
 CommandMeans budget number state files (Sim cell) effect = CircuitMeans file.Sim number state cell effect
-CommandMeans budget number state files (Ext2sim cell) effect = Ext2simMeans number state files cell effect
+CommandMeans budget number state files (Ext2sim cell) effect = LeavesState state (Ext2simMeans number files cell) effect
 CommandMeans budget number state files (Vectors cell file) effect = VectorsMeans budget number state files cell file effect
-CommandMeans budget number state files (Simrun cell file) effect = SimrunMeans budget number state files cell file effect
+CommandMeans budget number state files (Simrun cell file) effect = LeavesState state (SimrunMeans budget number files cell file) effect
 CommandMeans budget number state files (Generate count) effect = GenerateMeans budget number state count effect
 
 -- A line that is no command is refused, and one that asks for nothing does nothing.
 abbrev pub ReadLineMeans : ℕ → ℕ → State → Files → Result (Option Command) LineFault → Effect State → Type 0
 ReadLineMeans budget number state files (Ok None) effect = effect ≡ accepted state [] []
 ReadLineMeans budget number state files (Ok (Some command)) effect = CommandMeans budget number state files command effect
-ReadLineMeans budget number state files (Err fault) effect = effect ≡ refused number state (Line fault) []
+ReadLineMeans budget number state files (Err fault) effect = effect ≡ refused number state (line_refusal fault) []
 
 -- what the script's line of this number does in the state and the files
 abbrev pub LineMeans : ℕ → ℕ → State → Files → List ℕ → Effect State → Type 0
@@ -73,3 +75,10 @@ RunLineMeans number run files line effect =
 
 abbrev pub first_run : ℕ → RunState
 first_run budget = record { session = first_state; budget = budget }
+
+-- the state of a run, as the program keeps it
+abbrev pub run_state_of : RunSession → RunState
+run_state_of run = record { session = state_of run.session; budget = run.budget }
+
+abbrev pub IsRunSession : RunSession → Type 0
+IsRunSession run = IsSession run.session

@@ -1,36 +1,35 @@
 //! A session: what each line of a script does, and what answers it.
-ghost use Rattle.std.specs.Prelude.{◌≡◌, ℕ, Some, IfOk};
+ghost use Rattle.std.specs.Prelude.{◌≡◌, ◌∷◌, [], Some, IfOk, IsOkUnless};
 ghost use Rattle.outside_io.specs.Files.{Files};
 ghost use Rattle.script_lines.specs.Forms.{IsFormed};
 ghost use Rattle.session_model.specs.Causes.{HasCauses, kinds_of};
 ghost use Rattle.session_model.specs.Effects.{Answers};
-ghost use Rattle.magex_top.specs.Answers.{IsSession, state_of};
+ghost use Rattle.line_answers.specs.Refusals.{refusal_line};
+ghost use Rattle.workspace.specs.KeptSessions.{IsSession, state_of};
+ghost use Rattle.magex_top.specs.Refusals.{line_fault_text, line_refusal};
 ghost use Rattle.magex_top.specs.Sessions.{CommandMeans, LineMeans};
 
-use crate::cells::{LayoutSession, RunSession};
-use crate::circuits::CircuitFile;
-use crate::command_circuits::circuit;
-use crate::command_edits::edit;
-use crate::command_ext2sim::ext2sim;
-use crate::command_extract::extract;
-use crate::command_generate::generate;
-use crate::command_load::load;
-use crate::command_nodes::nodes;
-use crate::command_save::save;
-use crate::command_simrun::simrun;
-use crate::command_squares::squares;
-use crate::command_tech::tech;
-use crate::command_vectors::vectors;
-use crate::faults::TopFault;
-use crate::replies::{refuse, told};
+use circuit_commands::{CircuitFile, ext2sim};
+use extract_commands::{circuit, extract, generate, vectors};
+use library_commands::{edit, load, look_at, tech};
+use line_answers::{refuse, told, worded};
+use look_commands::Look;
+use network_commands::simrun;
 use outside_io::Shelf;
 use script_lines::{Command, LineFault, read_line};
 use session_model::{Answer, Halt, Session};
 use std::alloc::Global;
+use workspace::LayoutSession;
+
+/// The session of a run: that of its lines, and the most steps of a phase.
+#[derive(Drop)]
+pub struct RunSession {
+    pub session: LayoutSession,
+    pub budget: u32,
+}
 
 impl Session for RunSession {
-    ghost use Rattle.magex_top.specs.Answers.{IsRunSession, run_state_of};
-    ghost use Rattle.magex_top.specs.Sessions.{RunLineMeans, RunState};
+    ghost use Rattle.magex_top.specs.Sessions.{IsRunSession, RunLineMeans, RunState, run_state_of};
 
     ghost State = { RunState };
 
@@ -71,7 +70,28 @@ fn answer_line<F: Shelf>(
         Ok(None) => Ok(told(alloc, Vec::new(alloc))),
         Ok(Some(command)) => answer(alloc, session, shelf, number, budget, &command),
         Err(LineFault::Memory) => Err(Halt::Memory),
-        Err(fault) => refuse(alloc, number, TopFault::Line(fault)),
+        Err(fault) => refuse_line(alloc, number, fault),
+    }
+}
+
+// The answer to a line that is no command.
+fn refuse_line(alloc: Global, number: usize, fault: LineFault) -> Result<Answer, Halt>
+    ensures lines { IfOk result (λ answer. answer.lines.items ≡ refusal_line number (line_refusal fault) ∷ []) }
+    ensures stores { IfOk result (λ answer. answer.stores.items ≡ []) }
+    ensures memory { IsOkUnless result Halt.Memory }
+{
+    let refusal = worded(alloc, line_fault_text(fault))?;
+    refuse(alloc, number, refusal)
+}
+
+fn line_fault_text(fault: LineFault) -> &'static [u8]
+    ensures { result.now ≡ line_fault_text fault }
+{
+    match fault {
+        LineFault::BadWord => b"E1 bad word",
+        LineFault::BadForm => b"E2 bad form",
+        LineFault::NumberRange => b"E3 number out of range",
+        LineFault::Memory => b"",
     }
 }
 
@@ -105,9 +125,9 @@ fn answer<F: Shelf>(
         | Command::Delete(_)
         | Command::Label(_, _, _, _)
         | Command::Unlabel(_) => edit(alloc, session, number, command),
-        Command::Save(cell) => save(alloc, session, number, cell),
-        Command::Squares(cell) => squares(alloc, session, number, cell),
-        Command::Nodes(cell) => nodes(alloc, session, number, cell),
+        Command::Save(cell) => look_at(alloc, session, number, cell, Look::Save),
+        Command::Squares(cell) => look_at(alloc, session, number, cell, Look::Squares),
+        Command::Nodes(cell) => look_at(alloc, session, number, cell, Look::Nodes),
         Command::Extract(cell) => extract(alloc, session, number, cell),
         Command::Flat(cell) => circuit(alloc, session, number, cell, CircuitFile::Flat),
         Command::Sim(cell) => circuit(alloc, session, number, cell, CircuitFile::Sim),

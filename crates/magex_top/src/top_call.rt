@@ -8,9 +8,9 @@ ghost use Rattle.session_model.specs.Causes.{ComeFrom, line_kinds};
 ghost use Rattle.session_model.specs.Progress.{IsPrefixOf};
 ghost use Rattle.session_model.specs.Reports.{report_of, text_of};
 ghost use Rattle.magex_top.specs.Runs.{EndsByItself, IsEndOfScript, RunMeans, RunReaches, ScriptMeans, ScriptReaches, are_of_form, is_quiet, usage_text};
-ghost use Rattle.magex_top.specs.States.{reply};
+ghost use Rattle.line_answers.specs.LineEffects.{reply};
 
-use crate::cells::{RunSession, new_session};
+use crate::session::RunSession;
 use crate::status::Status;
 use outside_io::{LONGEST_FILE, ReadAllFault, Shelf, Sink, Source, read_all};
 use run_words::{RunWords, read_words};
@@ -18,6 +18,7 @@ use session_model::{run_lines, write_text};
 use std::alloc::Global;
 use std::sync::ledger::Ledger;
 use step_count::Steps;
+use workspace::new_session;
 
 const USAGE_LINE: &[u8] = b"usage: magex [--budget N] [--quiet]\n";
 

@@ -1,5 +1,5 @@
 -- Columns of measures are the measures of regions.
-use Rattle.std.proofs.Common.{◌≡◌, ℕ, suc, ◌+◌, ◌<◌, ℤ, pos, Bool, true, false, eqb, ◌||◌, List, [], ◌∷◌, ◌++◌, map, take, length, get_or, IsTrue, inl, inr}
+use Rattle.std.proofs.Common.{◌≡◌, ℕ, suc, ◌+◌, ◌<◌, ℤ, pos, Bool, true, false, eqb, List, [], ◌∷◌, ◌++◌, map, take, length, get_or, IsTrue, inl, inr}
 use Rattle.std.proofs.Common.{refl, sym, ◌∙◌, ap, subst, arith}
 use Rattle.std.specs.Prelude.{All}
 use Rattle.std.specs.List.{list_any}
@@ -9,6 +9,7 @@ use Rattle.std.proofs.lemmas.Option.{get_or_from_slice_get, slice_get_within}
 use Rattle.finite_sets.specs.Lists.{In, Lists}
 use Rattle.finite_sets.proofs.Members.{In-index}
 use Rattle.finite_sets.proofs.Totals.{Total-at, Total-iff}
+use Rattle.finite_sets.proofs.Searches.{list_any-fails}
 use Rattle.tech_model.specs.declared.raw.ClassRec.{ClassRec}
 use Rattle.tech_model.specs.declared.raw.RawTech.{RawTech}
 use Rattle.tech_model.specs.declared.raw.TypeId.{TypeId}
@@ -32,11 +33,10 @@ use Rattle.measures.proofs.AmountLaws.{from, area_sum, open_sum}
 
 -- space is of no class
 no_space : (raw : RawTech) (types : List TypeId) → ((t : TypeId) → In t types → IsTrue (is_type raw t.0)) → list_any (λ (t : TypeId). eqb t.0 0) types ≡ false
-no_space raw [] each = refl
-no_space raw (t ∷ ts) each = elim (cases_Bool (eqb t.0 0)) [
-  | inl zero_test ↦ absurd (zero_is_none t.0 (each t (inl refl)) (same_from_test t.0 0 zero_test))
-  | inr other ↦ ap (λ (v : Bool). v || list_any (λ (t : TypeId). eqb t.0 0) ts) other ∙ no_space raw ts (λ u i. each u (inr i))
-]
+no_space raw types each = list_any-fails (λ (t : TypeId). eqb t.0 0) types (λ t here. elim (cases_Bool (eqb t.0 0)) [
+  | inl zero_test ↦ absurd (zero_is_none t.0 (each t here) (same_from_test t.0 0 zero_test))
+  | inr other ↦ other
+])
   where
     zero_is_none : (k : ℕ) → IsTrue (is_type raw k) → k ≡ 0 → ⊥
     zero_is_none k is e = false≢true (subst (λ (n : ℕ). is_type raw n ≡ true) e is)

@@ -10,8 +10,8 @@ ghost use Rattle.measures.specs.Columns.{AreColumns, pairs_at};
 
 use crate::columns::{Column, measured_in};
 use flood_nodes::Regions;
-use geo_core::List;
 use layout_model::RegionTile;
+use names_lists::List;
 use rect_contacts::Contact;
 use std::alloc::{AllocError, Global};
 use tech_model::{ClassRec, Tech};

@@ -1,5 +1,5 @@
 -- Sums over lists of which few things count, and over lists that are alike.
-use Rattle.std.proofs.Common.{◌≡◌, ◌≢◌, ℕ, zero, suc, ℤ, pos, ◌+ℤ◌, List, [], ◌∷◌, map, length, slice_get, refl, sym, ap, ◌∙◌, arith}
+use Rattle.std.proofs.Common.{◌≡◌, ◌≢◌, ℕ, zero, suc, ℤ, pos, ◌+ℤ◌, List, [], ◌∷◌, map, slice_get, refl, sym, ap, ◌∙◌, arith}
 use Rattle.std.specs.Prelude.{Some}
 use Rattle.std.proofs.lemmas.Int.{ints}
 use Rattle.finite_sets.specs.Total.{sum_on}
@@ -31,17 +31,6 @@ sum_of_one w (y ∷ xs) (suc position) x there others =
     ∙ ap (λ (n : ℤ). pos 0 +ℤ n)
     (sum_of_one w xs position x there (λ other z is differ. others (suc other) z is (λ same. differ (omega (arith, same)))))
     ∙ omega (arith, ints)
-
--- lists of one length whose things are alike position by position have one image
-pub same_images : {X Y : Type 0} (f : X → Y) (xs ys : List X) → length ys ≡ length xs
-    → ((position : ℕ) (x y : X) → slice_get xs position ≡ Some x → slice_get ys position ≡ Some y → f y ≡ f x) → map f ys ≡ map f xs
-same_images f [] [] count alike = refl
-same_images f [] (y ∷ ys) count alike = absurd (omega (arith, count))
-same_images f (x ∷ xs) [] count alike = absurd (omega (arith, count))
-same_images {X} {Y} f (x ∷ xs) (y ∷ ys) count alike =
-    ap (λ (first : Y). first ∷ map f ys) (alike zero x y refl refl)
-    ∙ ap (λ (rest : List Y). f x ∷ rest)
-    (same_images f xs ys (omega (arith, count)) (λ position u v there also. alike (suc position) u v there also))
 
 -- what counts by its image has one sum over lists of one image
 pub same_sums : {X Y : Type 0} (f : X → Y) (w : Y → ℤ) (xs ys : List X) → map f ys ≡ map f xs

@@ -2,9 +2,9 @@
 use Rattle.std.proofs.Common.{◌≡◌, ℕ, suc, ℤ, pos, ◌+ℤ◌, ◌-ℤ◌, Bool, true, false, List, [], ◌∷◌, if◌then◌else◌, refl, sym, ap, ◌∙◌, arith}
 use Rattle.std.specs.Prelude.{◌*ℤ◌, All, not}
 use Rattle.std.proofs.lemmas.Int.{ints}
-use Rattle.std.proofs.Math.IntN.{*ℤ_comm, zero-*ℤ}
+use Rattle.std.proofs.Math.IntN.{zero-*ℤ}
 use Rattle.finite_sets.specs.Total.{sum_on, one_if}
-use Rattle.finite_sets.proofs.Sums.{sum_on-add, sum_on-sub, sum_on-swap, sum_on-same, sum_on-zero, sum_on-nothing, sum_on-scale}
+use Rattle.finite_sets.proofs.Sums.{sum_on-add, sum_on-sub, sum_on-swap, sum_on-same, sum_on-zero, sum_on-nothing, sum_on-scale_right}
 use Rattle.geo_core.specs.declared.squares.Square.{Square}
 use Rattle.tech_model.specs.declared.raw.RawTech.{RawTech}
 use Rattle.layout_model.specs.Layouts.{Layout}
@@ -122,14 +122,11 @@ nothing_by_types = record {
 
 -- ---- sums of quantities
 
-sum_scaled : {X : Type 0} (w : X → ℤ) (k : ℤ) (xs : List X) → sum_on (λ x. w x *ℤ k) xs ≡ sum_on w xs *ℤ k
-sum_scaled w k xs = sum_on-same (λ x. w x *ℤ k) (λ x. k *ℤ w x) xs (λ x listed. *ℤ_comm (w x) k) ∙ sum_on-scale k w xs ∙ *ℤ_comm k (sum_on w xs)
-
 -- a product with a sum of two, told as a sum over a list
 product_of_sum : (m n k : ℤ) → (m *ℤ k) +ℤ ((n *ℤ k) +ℤ pos 0) ≡ (m +ℤ (n +ℤ pos 0)) *ℤ k
-product_of_sum m n k = sum_scaled (λ (x : ℤ). x) k (m ∷ n ∷ [])
+product_of_sum m n k = sum_on-scale_right (λ (x : ℤ). x) k (m ∷ n ∷ [])
 
-product_of_difference : (m n k : ℤ) → (m -ℤ n) *ℤ k ≡ (m *ℤ k) -ℤ (n *ℤ k)
+pub product_of_difference : (m n k : ℤ) → (m -ℤ n) *ℤ k ≡ (m *ℤ k) -ℤ (n *ℤ k)
 product_of_difference m n k =
     let whole : (m -ℤ n) +ℤ (n +ℤ pos 0) ≡ m = omega (arith, ints) in
     take_away ((m -ℤ n) *ℤ k) (n *ℤ k) (m *ℤ k) (product_of_sum (m -ℤ n) n k ∙ ap (λ (x : ℤ). x *ℤ k) whole)
@@ -155,8 +152,8 @@ excess_combined raw first second rest j k parts place =
     sum_on-add (λ part. (f part *ℤ j) +ℤ (s part *ℤ k)) r parts
     ∙ ap (λ (n : ℤ). n +ℤ sum_on r parts)
     (sum_on-add (λ part. f part *ℤ j) (λ part. s part *ℤ k) parts
-    ∙ ap (λ (n : ℤ). n +ℤ sum_on (λ part. s part *ℤ k) parts) (sum_scaled f j parts)
-    ∙ ap (λ (n : ℤ). (sum_on f parts *ℤ j) +ℤ n) (sum_scaled s k parts)) in
+    ∙ ap (λ (n : ℤ). n +ℤ sum_on (λ part. s part *ℤ k) parts) (sum_on-scale_right f j parts)
+    ∙ ap (λ (n : ℤ). (sum_on f parts *ℤ j) +ℤ n) (sum_on-scale_right s k parts)) in
     ap (λ (n : ℤ). (((first flat place *ℤ j) +ℤ (second flat place *ℤ k)) +ℤ rest flat place) -ℤ n) sums
     ∙ apart (first flat place *ℤ j) (second flat place *ℤ k) (rest flat place) (sum_on f parts *ℤ j) (sum_on s parts *ℤ k) (sum_on r parts)
     ∙ ap (λ (n : ℤ). (n +ℤ ((second flat place *ℤ k) -ℤ (sum_on s parts *ℤ k))) +ℤ (rest flat place -ℤ sum_on r parts))

@@ -1,6 +1,7 @@
 -- Parts restricted to the squares at which they meet: their flat layout, and what it counts beyond them.
 use Rattle.std.proofs.Common.{◌≡◌, ◌⊎◌, ℕ, ℤ, pos, ◌-ℤ◌, List, [], ◌∷◌, map, bit_or, inl, inr, refl, sym, ap, ◌∙◌}
 use Rattle.finite_sets.specs.Total.{sum_on}
+use Rattle.finite_sets.proofs.Places.{map-pointwise}
 use Rattle.geo_core.specs.declared.squares.Square.{Square}
 use Rattle.tech_model.specs.declared.raw.RawTech.{RawTech}
 use Rattle.tech_model.specs.Types.{joined}
@@ -11,7 +12,7 @@ use Rattle.hierarchy_model.specs.Restrictions.{PartStands, IsRestriction}
 use Rattle.hierarchy_model.proofs.PartSearch.{NoneStands, who_stands}
 use Rattle.meeting_laws.specs.PartLayouts.{part_layout, parts_layout, HoldsAllMeetings}
 use Rattle.meeting_laws.proofs.LinkLaws.{layout_of_none, one_or_meet}
-use Rattle.meeting_laws.proofs.ListSums.{same_images, same_sums}
+use Rattle.meeting_laws.proofs.ListSums.{same_sums}
 use Rattle.meeting_laws.proofs.ExcessLaws.{place_excess, edge_excess, place_of_none, place_of_one, edge_of_none, edge_of_one, edge_to_none}
 
 -- the parts' sets at a place
@@ -39,8 +40,8 @@ module _ (Within : Square → Type 0) (parts others : List SetLayout) (restricte
   -- where the squares are, the parts are the same
   sets_inside : (place : Place) → Within place.square → sets_at others place ≡ sets_at parts place
   sets_inside place within =
-      same_images (λ (part : SetLayout). part place) parts others restricted.count
-      (λ position part other there also. restricted.inside position part other there also place within)
+      map-pointwise (λ (part : SetLayout). part place) (λ (part : SetLayout). part place) others parts restricted.count
+      (λ position other part also there. restricted.inside position part other there also place within)
 
   -- elsewhere no part stands
   pub none_elsewhere : (place : Place) → (Within place.square → ⊥) → NoneStands others place
@@ -65,8 +66,8 @@ module _ (Within : Square → Type 0) (parts others : List SetLayout) (restricte
   pairs_inside : (a b : Place) → Within a.square → Within b.square
       → map {A = SetLayout} {B = ℕ × ℕ} (λ part. (part a, part b)) others ≡ map {A = SetLayout} {B = ℕ × ℕ} (λ part. (part a, part b)) parts
   pairs_inside a b within_a within_b =
-      same_images {Y = ℕ × ℕ} (λ part. (part a, part b)) parts others restricted.count
-      (λ position part other there also.
+      map-pointwise {Z = ℕ × ℕ} (λ part. (part a, part b)) (λ part. (part a, part b)) others parts restricted.count
+      (λ position other part also there.
       let here : other a ≡ part a = restricted.inside position part other there also a within_a in
       let beside : other b ≡ part b = restricted.inside position part other there also b within_b in
       ap (λ (set : ℕ). pair_of set (other b)) here ∙ ap (pair_of (part a)) beside)

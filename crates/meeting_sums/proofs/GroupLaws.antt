@@ -7,7 +7,7 @@ use Rattle.std.proofs.lemmas.Option.{slice_get_within, get_or_from_slice_get}
 use Rattle.finite_sets.specs.Lists.{In, Lists}
 use Rattle.finite_sets.specs.Total.{sum_on, Total}
 use Rattle.finite_sets.proofs.Members.{In-index}
-use Rattle.finite_sets.proofs.Sums.{sum_on-add, sum_on-same, sum_on-scale, sum_on-zero}
+use Rattle.finite_sets.proofs.Sums.{sum_on-add, sum_on-zero, sum_on-scale_right}
 use Rattle.finite_sets.proofs.Totals.{Total-add, Total-at, Total-from_list, Total-iff, Total-same, Total-scale}
 use Rattle.rect_contacts.specs.declared.contacts.Contact.{Contact}
 use Rattle.tech_model.specs.declared.raw.ClassRec.{ClassRec}
@@ -23,7 +23,7 @@ use Rattle.offences.specs.Offences.{SetLayout}
 use Rattle.offences.specs.PlaneStacks.{ArePlaneStacks}
 use Rattle.tree_records.specs.PlaceWeights.{PlaceWeight, area_weight, perimeter_weight, capacitance_weight}
 use Rattle.meeting_laws.specs.PartLayouts.{part_layout, parts_layout, excess}
-use Rattle.meeting_laws.proofs.QuantityLaws.{combined}
+use Rattle.meeting_laws.proofs.QuantityLaws.{combined, product_of_difference}
 use Rattle.meeting_sums.specs.declared.columns.Column.{Column}
 use Rattle.meeting_sums.specs.declared.sums.MeetingSum.{MeetingSum}
 use Rattle.meeting_sums.specs.Counts.{area_beyond, perimeter_beyond, IsColumn, AreColumns, pairs_at}
@@ -33,21 +33,6 @@ use Rattle.meeting_sums.proofs.ColumnLaws.{no_sum}
 use Rattle.meeting_sums.proofs.MeetingLaws.{of_group, in_group, from_group, tiles_area_beyond, tiles_perimeter_beyond}
 use Rattle.meeting_sums.proofs.StackTests.{pieces_spread}
 use Rattle.meeting_sums.proofs.TileTests.{stands, stands_test, tested_area}
-
--- a sum of multiples
-sum_scaled : {X : Type 0} (w : X → ℤ) (k : ℤ) (xs : List X) → sum_on (λ x. w x *ℤ k) xs ≡ sum_on w xs *ℤ k
-sum_scaled w k xs = sum_on-same (λ x. w x *ℤ k) (λ x. k *ℤ w x) xs (λ x i. *ℤ_comm (w x) k) ∙ sum_on-scale k w xs ∙ *ℤ_comm k (sum_on w xs)
-
-product_of_difference : (m n k : ℤ) → (m -ℤ n) *ℤ k ≡ (m *ℤ k) -ℤ (n *ℤ k)
-product_of_difference m n k =
-    let split : ((m -ℤ n) *ℤ k) +ℤ ((n *ℤ k) +ℤ pos 0) ≡ m *ℤ k = sum_scaled (λ (x : ℤ). x) k ((m -ℤ n) ∷ n ∷ []) ∙ ap (λ (x : ℤ). x *ℤ k) (again m n) in
-    take_away ((m -ℤ n) *ℤ k) (n *ℤ k) (m *ℤ k) split
-  where
-    again : (m n : ℤ) → (m -ℤ n) +ℤ (n +ℤ pos 0) ≡ m
-    again m n = omega (arith, ints)
-
-    take_away : (a b c : ℤ) → a +ℤ (b +ℤ pos 0) ≡ c → a ≡ c -ℤ b
-    take_away a b c is = omega (arith, ints, is)
 
 -- what a quantity with multiples of others counts beyond the parts is what these do
 excess_combined : (raw : RawTech) (first second rest : PlaceWeight) (j k : ℤ) (parts : List SetLayout) (place : Place)
@@ -74,7 +59,7 @@ excess_combined raw first second rest j k parts place =
         (λ part. rest (part_layout raw part) place) parts
         ∙ ap (λ (n : ℤ). n +ℤ sum_on (λ part. rest (part_layout raw part) place) parts)
         (sum_on-add (λ part. first (part_layout raw part) place *ℤ j) (λ part. second (part_layout raw part) place *ℤ k) parts
-        ∙ (λ i. sum_scaled (λ part. first (part_layout raw part) place) j parts i +ℤ sum_scaled (λ part. second (part_layout raw part) place) k parts i))
+        ∙ (λ i. sum_on-scale_right (λ part. first (part_layout raw part) place) j parts i +ℤ sum_on-scale_right (λ part. second (part_layout raw part) place) k parts i))
 
 module _ (raw : RawTech) (parts : List SetLayout) (Within : Place → Type 0) (places : List Place) (lists : Lists Within places) where
   -- capacitance beyond the parts is that of the measures beyond them

@@ -15,6 +15,7 @@ use Rattle.finite_sets.proofs.Members.{In-get_or, In-index}
 use Rattle.finite_sets.proofs.Sums.{sum_on-add, sum_on-same, sum_on-nothing}
 use Rattle.offences.specs.declared.stacks.PartKind.{PartKind}
 use Rattle.offences.specs.TypedStacks.{AreByPart, kind_in}
+use Rattle.offences.proofs.KindLaws.{kind_in-absent}
 use Rattle.flood_nodes.proofs.ShareLaws.{one_plane}
 
 -- parts that rise, as searches ask for them
@@ -32,13 +33,6 @@ pub first_before : (entry : PartKind) (kinds : List PartKind) → AreByPart (ent
 first_before entry kinds ordered other i =
     let at = In-index other kinds i in
     subst (λ (e : PartKind). entry.part < e.part) (at.1.1 other) (ordered zero (suc at.0) other (omega arith) (let below = at.1.0 in omega (arith, below)))
-
--- a part that is not listed has space
-pub kind_unlisted : (kinds : List PartKind) (part : ℕ) → ((entry : PartKind) → In entry kinds → entry.part ≢ part) → kind_in kinds part ≡ 0
-kind_unlisted [] part none = refl
-kind_unlisted (entry ∷ kinds) part none =
-    ap (λ (t : Bool). cond t entry.kind.0 (kind_in kinds part)) (ne_eqb entry.part part (none entry (inl refl)))
-    ∙ kind_unlisted kinds part (λ other i. none other (inr i))
 
 -- a part that is listed has the type there
 pub kind_listed : (kinds : List PartKind) (entry : PartKind) → AreByPart kinds → In entry kinds → kind_in kinds entry.part ≡ entry.kind.0
@@ -69,7 +63,7 @@ module _ (kinds : List PartKind) (part place : ℕ) (within : place ≤ length k
   kind_at_cut d inside same = sym (kind_listed kinds (get_or kinds place d) ordered (In-get_or kinds place d inside)) ∙ ap (kind_in kinds) same
 
   pub none_at_cut : ((d : PartKind) → place < length kinds → (get_or kinds place d).part ≢ part) → kind_in kinds part ≡ 0
-  none_at_cut other = kind_unlisted kinds part (λ entry i same.
+  none_at_cut other = kind_in-absent kinds part (λ entry i same.
       let at = In-index entry kinds i in
       let k = at.0 in
       let is : (get_or kinds k entry).part ≡ part = ap (λ (e : PartKind). e.part) (at.1.1 entry) ∙ same in
@@ -140,7 +134,7 @@ sum_by_kinds f of_space count (entry ∷ kinds) ordered within =
     apart part = elim (cases_eq entry.part part) [
       | inl same ↦ (let test = one_plane entry.part part same in
           ap (λ (t : Bool). f part (cond t entry.kind.0 (kind_in kinds part))) test
-          ∙ alone (f part entry.kind.0) (f part (kind_in kinds part)) (ap (f part) (kind_unlisted kinds part (λ other i e.
+          ∙ alone (f part entry.kind.0) (f part (kind_in kinds part)) (ap (f part) (kind_in-absent kinds part (λ other i e.
           let less = first_before entry kinds ordered other i in omega (arith, less, e, same))) ∙ of_space part)
           ∙ ap (λ (t : Bool). cond t (f part entry.kind.0) (pos 0) +ℤ f part (kind_in kinds part)) (sym test))
       | inr other ↦ (let test = ne_eqb entry.part part other in

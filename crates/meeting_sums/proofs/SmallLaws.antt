@@ -26,7 +26,7 @@ use Rattle.layout_model.specs.Technologies.{Class, class_of}
 use Rattle.layout_model.specs.declared.region_tiles.RegionTile.{RegionTile}
 use Rattle.flood_nodes.specs.Stacking.{AreSpread}
 use Rattle.flood_nodes.specs.TileShares.{no_tile, tile_at, indices_of, IsTileContact, IsInTiles}
-use Rattle.flood_nodes.proofs.ShareLaws.{Lists-indices_of}
+use Rattle.flood_nodes.proofs.ShareLaws.{Lists-indices_of, cond_not_negative}
 use Rattle.measures.specs.Bounds.{IsNearPlace, IsSmallMeasure}
 use Rattle.measures.proofs.BoundLaws.{measures_are_small}
 use Rattle.offences.specs.declared.plane_stacks.PlaneStack.{PlaneStack}
@@ -66,10 +66,6 @@ few_kinds kinds most ordered below =
 abbrev IsWithin : ℤ → ℤ → Type 0
 IsWithin s x = ((neg_ℤ (pos (2 ^ 20)) *ℤ s) ≤ℤ x) × (x ≤ℤ s)
 
-cond_low : (t : Bool) (s : ℤ) → pos 0 ≤ℤ s → pos 0 ≤ℤ cond t s (pos 0)
-cond_low true s some = some
-cond_low false s some = omega (arith, ints)
-
 cond_high : (t : Bool) (s : ℤ) → pos 0 ≤ℤ s → cond t s (pos 0) ≤ℤ s
 cond_high true s some = omega (arith, ints)
 cond_high false s some = some
@@ -86,12 +82,12 @@ gated_within : (flat : Bool) (test : PartKind → Bool) (kinds : List PartKind) 
 gated_within flat test kinds s some few =
     let sum = sum_on (λ entry. cond (test entry) s (pos 0)) kinds in
     let zero = sum_on-zero kinds in
-    let low = sum_on-le (λ entry. pos 0) (λ entry. cond (test entry) s (pos 0)) kinds (λ entry i. cond_low (test entry) s some) in
+    let low = sum_on-le (λ entry. pos 0) (λ entry. cond (test entry) s (pos 0)) kinds (λ entry i. cond_not_negative (test entry) s some) in
     let high = sum_on-le (λ entry. cond (test entry) s (pos 0)) (λ entry. s *ℤ pos 1) kinds (λ entry i. once (cond (test entry) s (pos 0)) s (cond_high (test
     entry) s some)) in
     let scaled = sum_on-scale s (λ (entry : PartKind). pos 1) kinds ∙ ap (λ (n : ℤ). s *ℤ n) (sum_on-count kinds) in
     let most = few_times s (length kinds) some few in
-    let flat_low = cond_low flat s some in
+    let flat_low = cond_not_negative flat s some in
     let flat_high = cond_high flat s some in
     bounds (cond flat s (pos 0)) sum (sum_on (λ (entry : PartKind). pos 0) kinds) (sum_on (λ (entry : PartKind). s *ℤ pos 1) kinds) (s *ℤ pos (length kinds)) s
     zero low high scaled most flat_low flat_high

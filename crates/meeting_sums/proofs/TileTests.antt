@@ -1,9 +1,9 @@
 -- Tiles that pass a test, with places that do: their areas, and their edges to places that do not, are what the lengths of contacts say.
-use Rattle.std.proofs.Common.{◌≡◌, ◌≢◌, ℕ, ◌+◌, ◌<◌, pos, ℤ, ◌+ℤ◌, ◌-ℤ◌, ◌*ℤ◌, Bool, true, false, cond, eqb, ◌&&◌, ◌||◌, not, List, [], ◌∷◌, map, length}
+use Rattle.std.proofs.Common.{◌≡◌, ◌≢◌, ℕ, ◌+◌, ◌<◌, pos, ℤ, ◌+ℤ◌, ◌-ℤ◌, ◌*ℤ◌, Bool, true, false, cond, eqb, ◌&&◌, not, List, map, length}
 use Rattle.std.proofs.Common.{get_or, Some, inl, inr, refl, sym, ◌∙◌, ap, subst, arith}
 use Rattle.std.specs.Prelude.{slice_get, All}
 use Rattle.std.specs.List.{list_any, range_with_len}
-use Rattle.std.proofs.lemmas.Bool.{cases_Bool}
+use Rattle.std.proofs.lemmas.Bool.{cases_Bool, and_parts}
 use Rattle.std.proofs.lemmas.List.{get_or-map, length-map}
 use Rattle.std.proofs.lemmas.List.FromFn.{length-range_with_len, get_or-range_with_len}
 use Rattle.std.proofs.lemmas.Option.{slice_get_within, slice_get-get_or, get_or_from_slice_get}
@@ -13,6 +13,7 @@ use Rattle.finite_sets.proofs.Listings.{Lists-iff}
 use Rattle.finite_sets.proofs.Members.{In-index, In-get_or}
 use Rattle.finite_sets.proofs.Sums.{sum_on-same}
 use Rattle.finite_sets.proofs.Totals.{Total-at, Total-iff, Total-same}
+use Rattle.finite_sets.proofs.Searches.{list_any-passes, list_any-source}
 use Rattle.geo_core.specs.Areas.{IsNear}
 use Rattle.geo_core.specs.Covering.{Covers, IsProper, is_covered}
 use Rattle.geo_core.proofs.CoveringLaws.{Covers-is_covered, is_covered-Covers}
@@ -27,9 +28,8 @@ use Rattle.flood_nodes.specs.Renumbered.{AreRenumbered}
 use Rattle.flood_nodes.specs.Stacking.{AreSpread}
 use Rattle.flood_nodes.specs.TileShares.{no_tile, tile_at, indices_of, shared_by, IsTileContact, IsInTiles, is_of, open_by_contacts}
 use Rattle.flood_nodes.proofs.OpenEdges.{tiles_area, tiles_measure}
-use Rattle.flood_nodes.proofs.Renumbering.{found_by}
 use Rattle.flood_nodes.proofs.ShareLaws.{Lists-indices_of, one_plane}
-use Rattle.flood_nodes.proofs.StackLaws.{same_from_test, both_pass}
+use Rattle.flood_nodes.proofs.StackLaws.{same_from_test}
 
 -- The tiles have the same planes and areas, in their places.
 pub record HaveSameAreas (tiles others : List RegionTile) : Type 0 where
@@ -74,9 +74,9 @@ stands tiles place = list_any (λ tile. eqb place.plane tile.plane && is_covered
 
 pub lies_from_test : (tiles : List RegionTile) (place : Place) → stands tiles place ≡ true → (index : ℕ) × LiesIn tiles index place
 lies_from_test tiles place e =
-    let found = found_by (λ tile. eqb place.plane tile.plane && is_covered tile.area place.square) tiles e in
+    let found = list_any-source (λ tile. eqb place.plane tile.plane && is_covered tile.area place.square) tiles e in
     let at = In-index found.0 tiles found.1.0 in
-    let tests = both_pass (eqb place.plane found.0.plane) (is_covered found.0.area place.square) found.1.1 in (
+    let tests = and_parts (eqb place.plane found.0.plane) (is_covered found.0.area place.square) found.1.1 in (
       at.0,
       record {
         tile = found.0;
@@ -86,20 +86,11 @@ lies_from_test tiles place e =
       },
     )
 
-passes_any : {X : Type 0} (test : X → Bool) (xs : List X) (x : X) → In x xs → test x ≡ true → list_any test xs ≡ true
-passes_any test [] x i e = absurd i
-passes_any test (y ∷ ys) x (inl same) e = (λ k. (ap test same ∙ e) k || list_any test ys)
-passes_any test (y ∷ ys) x (inr i) e = or_later (test y) (list_any test ys) (passes_any test ys x i e)
-  where
-    or_later : (p q : Bool) → q ≡ true → (p || q) ≡ true
-    or_later true q e = refl
-    or_later false q e = e
-
 pub test_from_lies : (tiles : List RegionTile) (index : ℕ) (place : Place) → LiesIn tiles index place → stands tiles place ≡ true
 test_from_lies tiles index place lies =
     let within = slice_get_within tiles index lies.tile lies.there in
     let is = get_or_from_slice_get tiles index lies.tile lies.tile lies.there in
-    passes_any (λ tile. eqb place.plane tile.plane && is_covered tile.area place.square) tiles lies.tile
+    list_any-passes (λ tile. eqb place.plane tile.plane && is_covered tile.area place.square) tiles lies.tile
     (subst (λ (t : RegionTile). In t tiles) is (In-get_or tiles index lies.tile within))
     (λ k. one_plane place.plane lies.tile.plane lies.plane k && is_covered-Covers lies.tile.area place.square lies.covers k)
 

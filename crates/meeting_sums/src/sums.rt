@@ -13,7 +13,7 @@ ghost use Rattle.meeting_sums.specs.Sums.{AreMeetingSums, IsSumOf};
 use crate::capacitances::capacitance_of;
 use crate::columns::{Column, columns_of};
 use crate::limits::MOST_PARTS;
-use geo_core::List;
+use names_lists::List;
 use offences::PlaneStack;
 use rect_contacts::Contact;
 use std::alloc::{AllocError, Global};

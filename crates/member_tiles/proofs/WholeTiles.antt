@@ -2,6 +2,7 @@
 use Rattle.std.proofs.Common.{◌≡◌, ◌≢◌, ℕ, List, inl, refl, sym, ap, subst, ◌∙◌}
 use Rattle.std.specs.Prelude.{IsTrue}
 use Rattle.finite_sets.proofs.Chains.{Chain-carries}
+use Rattle.finite_sets.proofs.Places.{In-slice_get}
 use Rattle.geo_core.specs.declared.squares.Rect.{Rect}
 use Rattle.geo_core.specs.declared.squares.Square.{Square}
 use Rattle.geo_core.specs.Areas.{common_rect}
@@ -22,7 +23,6 @@ use Rattle.layout_model.specs.Places.{Place, AreNeighbours}
 use Rattle.layout_trees.specs.CellTrees.{CellTree, Standing, place_back, standings}
 use Rattle.offences.specs.Offences.{SetLayout}
 use Rattle.flood_nodes.proofs.Walks.{StepsIn, walk}
-use Rattle.name_classes.proofs.ListLaws.{In-slice_get}
 use Rattle.named_trees.specs.NamedTrees.{NamedTree, layouts_of}
 use Rattle.tree_names.specs.CleanTrees.{IsCleanTree}
 use Rattle.cell_library.specs.declared.part_tiles.PartTile.{PartTile}

@@ -8,6 +8,7 @@ use Rattle.std.proofs.lemmas.Option.{slice_get_within, slice_get_read, get_or_fr
 use Rattle.element_tree.specs.declared.tree.ElementTree.{ElementTree}
 use Rattle.finite_sets.specs.Lists.{Distinct}
 use Rattle.finite_sets.proofs.Searches.{find-In, find-passes, find-none, none_found}
+use Rattle.finite_sets.proofs.Places.{In-slice_get, slice_get-In, slice_get-one}
 use Rattle.ext_model.specs.declared.records.UseRec.{UseRec}
 use Rattle.ext_model.specs.declared.records.CellExt.{CellExt}
 use Rattle.element_tree.specs.declared.tree.Branch.{Branch}
@@ -18,7 +19,7 @@ use Rattle.name_classes.specs.declared.tables.UseTable.{UseTable}
 use Rattle.name_classes.specs.declared.paths.Resolver.{Resolver}
 use Rattle.name_classes.specs.UseTables.{number_of}
 use Rattle.name_classes.specs.Paths.{IsResolver, IsBranchOf, LacksUse}
-use Rattle.name_classes.proofs.ListLaws.{In-slice_get, slice_get-In, one_at_place, place_of_image}
+use Rattle.name_classes.proofs.ListLaws.{place_of_image}
 use Rattle.name_classes.proofs.TreeLaws.{tree_of_names, lawful_at, reached_at}
 
 -- the use with the name of an element is the first, as there is no other
@@ -38,7 +39,7 @@ find_use uses number used id apart stands named = step (find (λ u. bytes_eq u.i
         let at = slice_get-In other uses (find-In (λ (u : UseRec). bytes_eq u.id id) uses other is) in
         let same : other.id ≡ id = (bytes_eq-Decides other.id id).0 (find-passes (λ (u : UseRec). bytes_eq u.id id) uses other is) in
         let place : at.0 ≡ number = place_of_image (λ (u : UseRec). u.id) uses at.0 number other used apart at.1 stands (same ∙ sym named) in
-        ap (λ (u : UseRec). Some u) (one_at_place uses number other used (subst (λ (k : ℕ). slice_get uses k ≡ Some other) place at.1) stands)
+        ap (λ (u : UseRec). Some u) (slice_get-one uses number other used (subst (λ (k : ℕ). slice_get uses k ≡ Some other) place at.1) stands)
 
 -- The branch with this number is along the use of this name.
 pub record HasBranch (names : FullNames) (cell : ℕ) (id : List ℕ) (number : ℕ) : Type 0 where

@@ -1,9 +1,7 @@
 -- The classes of joined numbers are the nodes of the full names.
-use Rattle.std.proofs.Common.{◌≡◌, ◌⊎◌, ◌≤◌, ◌==◌, ℕ, Bool, true, cond, inl, inr, List, [], ◌∷◌, ◌++◌, length, map, refl}
+use Rattle.std.proofs.Common.{◌≡◌, ◌⊎◌, ◌≤◌, ◌==◌, ℕ, Bool, true, cond, inl, inr, List, [], ◌++◌, length, map, refl}
 use Rattle.std.proofs.Common.{sym, ◌∙◌, ap, subst, arith}
 use Rattle.std.specs.Prelude.{Option, Some, slice_get, if◌then◌else◌}
-use Rattle.std.specs.declared.cmp.Ordering.TheVariants.{Less}
-use Rattle.std.proofs.lemmas.Cmp.{tied_itself}
 use Rattle.std.proofs.lemmas.Bool.Decides.{nat_tests}
 use Rattle.std.proofs.lemmas.Option.{slice_get-get_or, slice_get_within, slice_get-map, get_or_from_slice_get}
 use Rattle.std.proofs.lemmas.List.{length-map}
@@ -14,54 +12,38 @@ use Rattle.finite_sets.specs.Chain.Chain.{stay, go}
 use Rattle.finite_sets.proofs.Members.{In-append_left, In-append_right, In-map, In-map_source}
 use Rattle.finite_sets.proofs.Distincts.{length-distinct}
 use Rattle.finite_sets.proofs.Chains.{Chain-one, Chain-append, Chain-same, Chain-either_back}
-use Rattle.geo_core.proofs.ElementLaws.{one_place}
+use Rattle.finite_sets.proofs.Places.{one_place, In-slice_get, slice_get-In, slice_get-one}
+use Rattle.finite_sets.proofs.Images.{In-flat_map}
 use Rattle.partition.specs.Divides.{IsPair}
 use Rattle.partition.specs.Marks.{IsNumbered}
 use Rattle.ext_model.specs.declared.records.NodeRec.{NodeRec}
 use Rattle.ext_model.specs.declared.records.MergeRec.{MergeRec}
 use Rattle.ext_model.specs.declared.records.CellExt.{CellExt}
-use Rattle.ext_model.specs.NameOrder.{name_cmp}
 use Rattle.ext_model.specs.Paths.{last_name, path_text}
 use Rattle.ext_model.specs.RecordNames.{names_of, node_names}
-use Rattle.ext_model.proofs.NameOrders.{name_cmp_total}
 use Rattle.circuit_model.specs.Elements.{Element, ids_of}
 use Rattle.circuit_model.specs.FullNames.{name_in, IsFullName, AreLinked, AreOneNode, AreInNameOrder}
 use Rattle.element_tree.specs.declared.tree.TreeElement.{TreeElement}
 use Rattle.full_names.specs.declared.names.FullNames.{FullNames}
 use Rattle.full_names.specs.NameLists.{IsFullNameList}
 use Rattle.full_names.specs.Names.{AreNames, IsElement, elements_in}
+use Rattle.full_names.proofs.ListOrders.{Distinct-names, pairwise_names}
 use Rattle.name_classes.specs.declared.classes.MergeEnd.{MergeEnd}
 use Rattle.name_classes.specs.declared.links.Link.{Link}
 use Rattle.name_classes.specs.declared.links.RecordLinks.{RecordLinks}
 use Rattle.name_classes.specs.Classes.{name_at, AreLabels, firsts_of, EndsAt, HasEnds}
 use Rattle.name_classes.specs.Links.{IsLink, HasLink, IsGlobalName, IsNear, IsLinkedTo, HasLinks, AreAllLinks, AreFirsts}
 use Rattle.name_classes.specs.Joins.{IsLinkAt, IsJoinOf, AreJoined, once_at, links_at}
-use Rattle.name_classes.proofs.ListLaws.{In-slice_get, slice_get-In, one_at_place, at_place, In-flat_map}
+use Rattle.name_classes.proofs.ListLaws.{at_place}
 use Rattle.name_classes.proofs.TreeLaws.{tree_of_names, element_at}
 use Rattle.name_classes.proofs.SeenLaws.{record_here}
 use Rattle.name_classes.proofs.EndLaws.{AreOfNode, AreOfMerge, link_here, end_at, name_of_end}
 
--- ---- names in order stand once
+-- ---- names in order
 
-before_rest : (name : List ℕ) (names : List (List ℕ)) → AreInNameOrder (name ∷ names) → (other : List ℕ) → In other names → name_cmp name other ≡ Less
-before_rest name [] order other here = absurd here
-before_rest name (next ∷ names) order other (inl same) = subst (λ (n : List ℕ). name_cmp name n ≡ Less) same order.0
-before_rest name (next ∷ names) order other (inr later) =
-    name_cmp_total.trans name next other order.0 (before_rest next names order.1 other later)
-
-rest_in_order : (name : List ℕ) (names : List (List ℕ)) → AreInNameOrder (name ∷ names) → AreInNameOrder names
-rest_in_order name [] order = tt
-rest_in_order name (next ∷ names) order = order.1
-
+-- no name stands twice in order
 pub distinct_in_order : (names : List (List ℕ)) → AreInNameOrder names → Distinct names
-distinct_in_order [] order = tt
-distinct_in_order (name ∷ names) order = (
-  (λ here. (
-      let less = before_rest name names order name here in
-      let tied = tied_itself name_cmp_total name in
-      absurd (cc))),
-  distinct_in_order names (rest_in_order name names order),
-)
+distinct_in_order names order = Distinct-names names (pairwise_names names order)
 
 -- two lists of all full names are as long
 pub lists_as_long : (names : FullNames) (one other : List (List ℕ)) → IsFullNameList (elements_in names) one → IsFullNameList (elements_in names) other
@@ -168,10 +150,10 @@ module _ (names : FullNames) (are : AreNames names) (all : List RecordLinks) (li
 
     linked_of : (a b : ℕ) → Chain (EitherWay (IsPair joined.pairs)) a b → (one other : List ℕ) → slice_get list a ≡ Some one → slice_get list b ≡ Some other
         → AreOneNode (elements_in names) one other
-    linked_of a b stay one other at_a at_b = Chain-same (EitherWay (AreLinked (elements_in names))) one other (one_at_place list a one other at_a at_b)
+    linked_of a b stay one other at_a at_b = Chain-same (EitherWay (AreLinked (elements_in names))) one other (slice_get-one list a one other at_a at_b)
     linked_of a b (go {b = c} pair more) one other at_a at_b =
         let first = pair_linked a c pair in
-        let same : one ≡ first.one = one_at_place list a one first.one at_a first.at_a in
+        let same : one ≡ first.one = slice_get-one list a one first.one at_a first.at_a in
         Chain-append (Chain-same (EitherWay (AreLinked (elements_in names))) one first.one same)
         (Chain-append first.one_node (linked_of c b more first.other other first.at_b at_b))
 
@@ -256,7 +238,7 @@ module _ (names : FullNames) (are : AreNames names) (all : List RecordLinks) (li
         element,
         (
           In-slice_get (elements_in names) number element stands.are.is,
-          In-map (name_in element) name (node_names element.ext) (In-flat_map names_of element.ext.nodes node name within named),
+          In-map (name_in element) name (node_names element.ext) (In-flat_map names_of node name element.ext.nodes within named),
         ),
       )
 

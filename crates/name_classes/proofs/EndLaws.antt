@@ -4,6 +4,7 @@ use Rattle.std.specs.Prelude.{Some, slice_get, if◌then◌else◌}
 use Rattle.std.proofs.lemmas.Bool.{cases_Bool, cases_lt}
 use Rattle.finite_sets.specs.Lists.{In}
 use Rattle.finite_sets.proofs.Members.{In-append_left, In-append_right, In-append_cases}
+use Rattle.finite_sets.proofs.Places.{In-slice_get, slice_get-In, slice_get-one}
 use Rattle.partition.specs.Divides.{KeepsPairs}
 use Rattle.ext_model.specs.declared.records.NodeRec.{NodeRec}
 use Rattle.ext_model.specs.declared.records.MergeRec.{MergeRec}
@@ -21,7 +22,7 @@ use Rattle.name_classes.specs.declared.links.RecordLinks.{RecordLinks}
 use Rattle.name_classes.specs.Paths.{EndsThere, IsEndFrom}
 use Rattle.name_classes.specs.Links.{IsLink, IsLinkIn, AreLinksOf, HasLinks, AreAllLinks}
 use Rattle.name_classes.specs.Joins.{HasEndsAt, HasJoin, AddsJoins, IsLinkAt, AreJoined, once_at, links_at}
-use Rattle.name_classes.proofs.ListLaws.{In-slice_get, slice_get-In, one_at_place, at_place}
+use Rattle.name_classes.proofs.ListLaws.{at_place}
 use Rattle.name_classes.proofs.TreeLaws.{element_at}
 use Rattle.name_classes.proofs.JoinLaws.{more_pairs}
 
@@ -91,7 +92,7 @@ pub end_at : (names : FullNames) (all : List RecordLinks) (cell : ℕ) (has : Ha
     → IsEndFrom names has.links.element path end → (number : ℕ) (element : Element) (flat : TreeElement) → IsElement names number element flat
     → flat.cell ≡ cell → EndsThere names number element path end
 end_at names all cell has path end is number element flat stands same =
-    let first : is.flat ≡ has.first = one_at_place names.tree.now.elements has.links.element is.flat has.first is.stands has.starts in
+    let first : is.flat ≡ has.first = slice_get-one names.tree.now.elements has.links.element is.flat has.first is.stands has.starts in
     is.ends.each number element flat stands (same ∙ sym (ap (λ (f : TreeElement). f.cell) first ∙ has.same))
 
 pub spot_of_end : (names : FullNames) (number : ℕ) (element : Element) (path : List ℕ) (end : MergeEnd) → EndsThere names number element path end
@@ -120,7 +121,7 @@ module _ (names : FullNames) (are : AreNames names) (all : List RecordLinks) (li
   link_here number link at =
       let element = element_at names are number at.flat at.stands in
       let has = links_are.each number at.flat at.stands in
-      let same : at.links ≡ has.links = one_at_place all at.flat.cell at.links has.links at.found has.found in
+      let same : at.links ≡ has.links = slice_get-one all at.flat.cell at.links has.links at.found has.found in
       let within = subst (λ (l : RecordLinks). In link (links_at number l)) same at.within in
       let paths = link_paths names has.links has.are number link within in record {
         element = element.0;
@@ -169,9 +170,9 @@ joined_next names all number flat links old new stands found joined adds = recor
   where
     newest : (link : Link) → IsLinkAt names all number link → HasJoin names number (joined.pairs ++ adds.added) link
     newest link at =
-        let same : at.flat ≡ flat = one_at_place names.tree.now.elements number at.flat flat at.stands stands in
+        let same : at.flat ≡ flat = slice_get-one names.tree.now.elements number at.flat flat at.stands stands in
         let there = subst (λ (f : TreeElement). slice_get all f.cell ≡ Some at.links) same at.found in
-        let here : at.links ≡ links = one_at_place all flat.cell at.links links there found in
+        let here : at.links ≡ links = slice_get-one all flat.cell at.links links there found in
         more_pairs names number adds.added (joined.pairs ++ adds.added) link
         (λ a b within. In-append_right {X = ℕ × ℕ} (a, b) joined.pairs adds.added within)
         (adds.whole link (subst (λ (l : RecordLinks). In link (links_at number l)) here at.within))

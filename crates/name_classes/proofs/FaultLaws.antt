@@ -1,10 +1,12 @@
 -- The links of merges, and which path leads nowhere first.
-use Rattle.std.proofs.Common.{◌≡◌, ◌⊎◌, ℕ, Bool, true, cond, inl, inr, List, [], ◌∷◌, ◌++◌, take, drop, suc, refl, sym, ◌∙◌, ap, subst}
+use Rattle.std.proofs.Common.{◌≡◌, ◌⊎◌, ℕ, Bool, true, cond, inl, inr, List, [], ◌∷◌, ◌++◌, take, sym, ◌∙◌, ap, subst}
 use Rattle.std.proofs.Common.{arith, length-append}
 use Rattle.std.specs.Prelude.{Option, Some, None, Result, Ok, Err, IfErr, slice_get}
 use Rattle.std.specs.Result.{IsErrAnd}
 use Rattle.std.specs.Option.{option_or}
 use Rattle.finite_sets.specs.Lists.{In}
+use Rattle.finite_sets.proofs.Places.{slice_get-In, slice_get-one}
+use Rattle.finite_sets.proofs.Firsts.{first_some-at}
 use Rattle.ext_model.specs.declared.records.MergeRec.{MergeRec}
 use Rattle.ext_model.specs.declared.records.CellExt.{CellExt}
 use Rattle.ext_model.specs.NodeNames.{slashes_in}
@@ -17,27 +19,9 @@ use Rattle.name_classes.specs.declared.classes.MergeEnd.{MergeEnd}
 use Rattle.name_classes.specs.declared.links.Link.{Link}
 use Rattle.name_classes.specs.Paths.{IsEndFrom}
 use Rattle.name_classes.specs.Links.{HasRecord, IsLink, AreMergeLinks, IsPathFault, IsMergeFault}
-use Rattle.name_classes.proofs.ListLaws.{slice_get-In, one_at_place, at_place, slice_get-push_both, cut_at_place}
+use Rattle.name_classes.proofs.ListLaws.{at_place, slice_get-push_both}
 
 -- ---- the first fault of a list
-
-pub first_fault-none : {X : Type 0} (f : X → Option FlatFault) (xs : List X) → ((x : X) → In x xs → f x ≡ None) → first_fault f xs ≡ None
-first_fault-none f [] sound = refl
-first_fault-none f (x ∷ xs) sound =
-    ap (λ (o : Option FlatFault). option_or o (first_fault f xs)) (sound x (inl refl)) ∙ first_fault-none f xs (λ y later. sound y (inr later))
-
-first_fault-cut : {X : Type 0} (f : X → Option FlatFault) (front back : List X) (x : X) (fault : FlatFault) → ((y : X) → In y front → f y ≡ None)
-    → f x ≡ Some fault → first_fault f (front ++ (x ∷ back)) ≡ Some fault
-first_fault-cut f [] back x fault sound faulty = ap (λ (o : Option FlatFault). option_or o (first_fault f back)) faulty
-first_fault-cut f (y ∷ front) back x fault sound faulty =
-    ap (λ (o : Option FlatFault). option_or o (first_fault f (front ++ (x ∷ back)))) (sound y (inl refl))
-    ∙ first_fault-cut f front back x fault (λ z later. sound z (inr later)) faulty
-
--- the fault of the first thing that has one
-pub first_fault-at : {X : Type 0} (f : X → Option FlatFault) (xs : List X) (i : ℕ) (x : X) (fault : FlatFault) → slice_get xs i ≡ Some x
-    → ((y : X) → In y (take i xs) → f y ≡ None) → f x ≡ Some fault → first_fault f xs ≡ Some fault
-first_fault-at f xs i x fault stands sound faulty =
-    ap (first_fault f) (cut_at_place xs i x stands) ∙ first_fault-cut f (take i xs) (drop (suc i) xs) x fault sound faulty
 
 -- ---- paths
 
@@ -45,8 +29,8 @@ first_fault-at f xs i x fault stands sound faulty =
 pub one_record : (names : FullNames) (number : ℕ) (ext : CellExt) → HasRecord names number ext → (flat : TreeElement) (other : CellExt)
     → slice_get names.tree.now.elements number ≡ Some flat → slice_get names.exts.now flat.cell ≡ Some other → other ≡ ext
 one_record names number ext at flat other stands record_ =
-    let same : flat ≡ at.flat = one_at_place names.tree.now.elements number flat at.flat stands at.stands in
-    one_at_place names.exts.now at.flat.cell other ext (subst (λ (f : TreeElement). slice_get names.exts.now f.cell ≡ Some other) same record_) at.record_
+    let same : flat ≡ at.flat = slice_get-one names.tree.now.elements number flat at.flat stands at.stands in
+    slice_get-one names.exts.now at.flat.cell other ext (subst (λ (f : TreeElement). slice_get names.exts.now f.cell ≡ Some other) same record_) at.record_
 
 pub path_sound : (names : FullNames) (number : ℕ) (ext : CellExt) → HasRecord names number ext → (path : List ℕ) (end : MergeEnd)
     → IsEndFrom names number path end → path_fault names.exts.now ext path ≡ None
@@ -100,7 +84,7 @@ merges_fail names number ext at merges same i merge links are here fault faulty 
   ext = ext;
   at = at;
   faulty = ap (first_fault (merge_fault names.exts.now ext)) (sym same)
-      ∙ first_fault-at (merge_fault names.exts.now ext) merges i merge fault here (merges_sound names number ext at (take i merges) links are) faulty;
+      ∙ first_some-at (merge_fault names.exts.now ext) merges i merge fault here (merges_sound names number ext at (take i merges) links are) faulty;
 }
 
 -- and so it is told

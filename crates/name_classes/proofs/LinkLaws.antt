@@ -4,6 +4,7 @@ use Rattle.std.specs.Prelude.{Option, Some, None, IsTrue, IfSome}
 use Rattle.std.specs.Bool.{then_some}
 use Rattle.finite_sets.specs.Lists.{In}
 use Rattle.finite_sets.proofs.Members.{In-append_left, In-push, In-push_cases}
+use Rattle.finite_sets.proofs.Images.{In-flat_map}
 use Rattle.ext_model.specs.declared.names.NameKind.TheVariants.{Global}
 use Rattle.ext_model.specs.declared.records.NodeRec.{NodeRec}
 use Rattle.ext_model.specs.declared.records.CellExt.{CellExt}
@@ -20,7 +21,6 @@ use Rattle.name_classes.specs.declared.links.NodeLinks.{NodeLinks}
 use Rattle.name_classes.specs.Paths.{IsEndFrom, IsNameOf}
 use Rattle.name_classes.specs.Links.{HasRecord, IsLink, HasLink, IsGlobalName, IsNodeLink, IsNear, IsLinkedByGlobal, IsLinkedTo, AddsAlias, Grow, AddsNode}
 use Rattle.name_classes.specs.Links.{IsLinkIn, AreNodeLinks}
-use Rattle.name_classes.proofs.ListLaws.{In-flat_map}
 use Rattle.name_classes.proofs.TreeLaws.{lawful_at}
 
 -- the names of a node of an element's record
@@ -31,7 +31,7 @@ node_name_of names number ext at node within name named = record {
   ext = ext;
   stands = at.stands;
   record_ = at.record_;
-  named = In-flat_map names_of ext.nodes node name within named;
+  named = In-flat_map names_of node name ext.nodes within named;
 }
 
 -- a name of a node whose kind is that of global names is the same everywhere

@@ -1,5 +1,5 @@
 -- Paths that are taken down the tree, name by name.
-use Rattle.std.proofs.Common.{◌||◌, ◌≡◌, ◌<◌, ◌+◌, ◌-◌, ◌==◌, ℕ, suc, Bool, true, false, cond, inl, inr, List, [], ◌∷◌, ◌++◌, length, map}
+use Rattle.std.proofs.Common.{◌||◌, ◌≡◌, ◌<◌, ◌+◌, ◌-◌, ◌==◌, ℕ, suc, Bool, false, cond, inl, inr, List, [], ◌∷◌, ◌++◌, length, map}
 use Rattle.std.proofs.Common.{get_or, refl, sym, ◌∙◌, ap, subst, arith, append_assoc}
 use Rattle.std.specs.Prelude.{Option, Some, None, slice_get, find}
 use Rattle.std.specs.Str.{bytes_eq}
@@ -7,8 +7,10 @@ use Rattle.std.proofs.lemmas.Slice.Eq.{bytes_eq-Decides}
 use Rattle.std.proofs.lemmas.Bool.{cases_Bool}
 use Rattle.std.proofs.lemmas.Option.{slice_get_within, get_or_from_slice_get}
 use Rattle.std.proofs.lemmas.List.Sums.{sum_by-cons}
+use Rattle.std.proofs.lemmas.List.{map-append}
 use Rattle.finite_sets.specs.Lists.{In}
-use Rattle.finite_sets.proofs.Searches.{find-passes}
+use Rattle.finite_sets.proofs.Searches.{find-passes, list_any-of_In}
+use Rattle.finite_sets.proofs.Places.{In-slice_get, slice_get-one, slice_get-below}
 use Rattle.ext_model.specs.declared.names.TheConstants.{SLASH}
 use Rattle.ext_model.specs.declared.records.UseRec.{UseRec}
 use Rattle.ext_model.specs.declared.records.CellExt.{CellExt}
@@ -31,19 +33,10 @@ use Rattle.full_names.specs.declared.names.Spot.{Spot}
 use Rattle.full_names.specs.Names.{elements_in, AreNames, IsElement, IsReached, IsSpotOf, LacksName}
 use Rattle.name_classes.specs.declared.paths.Resolver.{Resolver}
 use Rattle.name_classes.specs.Paths.{IsResolver, IsSplit, IsBranchOf, LacksUse, EndsThere, IsEndFrom, LeadsNowhere, IsNameOf}
-use Rattle.name_classes.proofs.ListLaws.{In-slice_get, one_at_place, at_place, below_length}
+use Rattle.name_classes.proofs.ListLaws.{at_place}
 use Rattle.name_classes.proofs.TreeLaws.{tree_of_names, element_at, record_of, reached, lawful_at, one_cell, child_of_use}
 
 -- ---- names among names
-
-pub among_there : (names : List (List ℕ)) (name : List ℕ) → In name names → is_among names name ≡ true
-among_there [] name here = absurd here
-among_there (n ∷ names) name (inl same) =
-    let is : bytes_eq name n ≡ true = (bytes_eq-Decides name n).1 (sym same) in
-    ap (λ (t : Bool). t || is_among names name) is
-among_there (n ∷ names) name (inr later) =
-    let rest = among_there names name later in
-    elim (bytes_eq name n) as (λ t. (t || is_among names name) ≡ true) [ true ↦ refl | false ↦ rest ]
 
 pub among_not : (names : List (List ℕ)) (name : List ℕ) → (In name names → ⊥) → is_among names name ≡ false
 among_not [] name absent = refl
@@ -155,7 +148,7 @@ append_none {X} (x ∷ xs) = ap (λ (ys : List X). x ∷ ys) (append_none xs)
 pub walk_start : (names : FullNames) → AreNames names → (number : ℕ) → number < length names.tree.now.elements → (path : List ℕ)
     → IsWalk names number path number path
 walk_start names are number within path =
-    let flat = below_length names.tree.now.elements number within in
+    let flat = slice_get-below names.tree.now.elements number within in
     let element = element_at names are number flat.0 flat.1 in
     let record_ = record_of names are number element.0 flat.0 element.1 in record {
       start = flat.0;
@@ -195,10 +188,10 @@ steps_along names are number element flat stands cell same id branch is =
     let tree = tree_of_names names are in
     let own = record_of names are number element flat stands in
     let stood = subst (λ (k : ℕ). slice_get names.exts.now k ≡ Some element.ext) same own in
-    let ext : is.ext ≡ element.ext = one_at_place names.exts.now cell is.ext element.ext is.record_ stood in
+    let ext : is.ext ≡ element.ext = slice_get-one names.exts.now cell is.ext element.ext is.record_ stood in
     let use_of : slice_get element.ext.uses is.at ≡ Some is.used = subst (λ (e : CellExt). slice_get e.uses is.at ≡ Some is.used) ext is.use_of in
     let to = tree.steps number element flat stands.are is.at is.used use_of in
-    let along : to.branch ≡ branch = one_at_place (branches_of names.tree.now.branches cell) is.at to.branch branch
+    let along : to.branch ≡ branch = slice_get-one (branches_of names.tree.now.branches cell) is.at to.branch branch
     (subst (λ (k : ℕ). slice_get (branches_of names.tree.now.branches k) is.at ≡ Some to.branch) same to.found) is.found in
     let child : Element = record { uses = element.uses ++ is.used ∷ []; ext = to.child } in
     let below : slice_get (elements_in names) (number + branch.step) ≡ Some child =
@@ -212,10 +205,6 @@ steps_along names are number element flat stands cell same id branch is =
       record_ = record_of names are (number + branch.step) child next.0 there;
     }
 
-map-append : {X Y : Type 0} (f : X → Y) (xs ys : List X) → map f (xs ++ ys) ≡ map f xs ++ map f ys
-map-append f [] ys = refl
-map-append {X} {Y} f (x ∷ xs) ys = ap (λ (zs : List Y). f x ∷ zs) (map-append f xs ys)
-
 -- a walk with one more step
 pub walk_step : (names : FullNames) → AreNames names → (number : ℕ) (path : List ℕ) (at : ℕ) (rest first behind : List ℕ)
     (walk : IsWalk names number path at rest) → IsSplit rest first behind → (branch : Branch) → IsBranchOf names walk.here.cell first branch
@@ -226,7 +215,7 @@ walk_step names are number path at rest first behind walk split branch is =
     let to = steps_along names are at now.0 walk.here now.1 walk.here.cell refl first branch is in
     let passes = find-passes (λ (used : UseRec). bytes_eq used.id first) is.ext.uses is.used is.first in
     let named : is.used.id ≡ first = (bytes_eq-Decides is.used.id first).0 passes in
-    let next : walk.next ≡ is.ext = one_at_place names.exts.now walk.here.cell walk.next is.ext walk.next_record is.record_ in record {
+    let next : walk.next ≡ is.ext = slice_get-one names.exts.now walk.here.cell walk.next is.ext walk.next_record is.record_ in record {
       start = walk.start;
       here = to.flat;
       ext = walk.ext;
@@ -279,14 +268,14 @@ pub walk_end : (names : FullNames) → AreNames names → (number : ℕ) (path :
     → slashes_in rest ≡ 0 → (spot : Spot) → IsSpotOf names walk.here.cell rest spot → (step : ℕ) → step ≡ at - number
     → IsEndFrom names number path (record { step = step; spot = spot })
 walk_end names are number path at rest walk whole spot is step steps =
-    let same : is.record_ ≡ walk.next = one_at_place names.exts.now walk.here.cell is.record_ walk.next is.found walk.next_record in
+    let same : is.record_ ≡ walk.next = slice_get-one names.exts.now walk.here.cell is.record_ walk.next is.found walk.next_record in
     let named : In rest (node_names walk.next) = subst (λ (e : CellExt). In rest (node_names e)) same is.named in
     let so_many : step ≡ walk.step = omega (arith, walk.steps, steps) in record {
       flat = walk.start;
       ext = walk.ext;
       stands = walk.starts;
       record_ = walk.first_record;
-      leads = walk.leads ∙ leads-name names.exts.now walk.next rest whole ∙ among_there (node_names walk.next) rest named;
+      leads = walk.leads ∙ leads-name names.exts.now walk.next rest whole ∙ list_any-of_In bytes_eq bytes_eq-Decides rest (node_names walk.next) named;
       ends = record {
         each = λ n element flat stands cell. ended so_many (walk.each n element flat stands cell);
       };
@@ -368,5 +357,5 @@ pub name_end : (names : FullNames) → AreNames names → (number : ℕ) (name :
 name_end names are number name of spot is =
     let walk = walk_start names are number (slice_get_within names.tree.now.elements number of.flat of.stands) name in
     let whole = slashes_in-node_name name (is_node_name-lawful of.ext (lawful_at names are of.flat.cell of.ext of.record_) name of.named) in
-    let here : of.flat ≡ walk.here = one_at_place names.tree.now.elements number of.flat walk.here of.stands walk.stands in
+    let here : of.flat ≡ walk.here = slice_get-one names.tree.now.elements number of.flat walk.here of.stands walk.stands in
     walk_end names are number name number name walk whole spot (subst (λ (f : TreeElement). IsSpotOf names f.cell name spot) here is) 0 (omega arith)

@@ -6,6 +6,8 @@ use Rattle.std.proofs.lemmas.Bool.{cases_eq, cases_lt}
 use Rattle.std.proofs.lemmas.List.{length-set, with_items_is}
 use Rattle.std.specs.Vec.{with_items}
 use Rattle.std.proofs.lemmas.Option.{slice_get_within}
+use Rattle.finite_sets.proofs.Places.{slice_get-In, slice_get-one, slice_get-set_same, slice_get-set_other, slice_get-In_take}
+use Rattle.finite_sets.proofs.Firsts.{first_some-none, first_some-at}
 use Rattle.ext_model.specs.declared.records.CellExt.{CellExt}
 use Rattle.circuit_model.specs.declared.faults.FlatFault.{FlatFault}
 use Rattle.circuit_model.specs.Elements.{Element}
@@ -16,9 +18,9 @@ use Rattle.full_names.specs.Names.{AreNames, IsElement, elements_in}
 use Rattle.name_classes.specs.declared.links.RecordLinks.{RecordLinks}
 use Rattle.name_classes.specs.Links.{AreLinksOf, HasLinks, AreAllLinks, IsMergeFault}
 use Rattle.name_classes.specs.Classes.{HasNoPathFault, IsPathFaultOf}
-use Rattle.name_classes.proofs.ListLaws.{slice_get-In, one_at_place, at_place, slice_get-set_here, slice_get-set_apart, place_in_take}
+use Rattle.name_classes.proofs.ListLaws.{at_place}
 use Rattle.name_classes.proofs.TreeLaws.{tree_of_names, element_at, record_of}
-use Rattle.name_classes.proofs.FaultLaws.{first_fault-none, first_fault-at, one_record, merges_sound}
+use Rattle.name_classes.proofs.FaultLaws.{one_record, merges_sound}
 
 -- The links of the records that are seen are there, and those of the first elements are seen.
 pub record AreSeen (names : FullNames) (upto : ℕ) (seen : List Bool) (all : List RecordLinks) : Type 0 where
@@ -63,7 +65,7 @@ module _ (names : FullNames) (are : AreNames names) where
       | inl less ↦ sees.before k other less there
       | inr more ↦
           let last : k ≡ number = omega arith in
-          let same : flat ≡ other = one_at_place names.tree.now.elements number flat other stands
+          let same : flat ≡ other = slice_get-one names.tree.now.elements number flat other stands
           (subst (λ (n : ℕ). slice_get names.tree.now.elements n ≡ Some other) last there) in
           subst (λ (f : TreeElement). slice_get seen f.cell ≡ Some true) same is
     ];
@@ -76,28 +78,28 @@ module _ (names : FullNames) (are : AreNames names) where
       → AreSeen names (number + 1) (slice_set seen flat.cell true) (slice_set all flat.cell links)
   seen_set number flat stands seen all sees within links of are_links =
       let here : slice_get (slice_set seen flat.cell true) flat.cell ≡ Some true =
-      slice_get-set_here seen flat.cell true (omega (arith, sees.long_seen, within)) in
+      slice_get-set_same seen flat.cell true (omega (arith, sees.long_seen, within)) in
       let marked : AreSeen names number (slice_set seen flat.cell true) (slice_set all flat.cell links) = record {
         long = length-set all flat.cell links ∙ sees.long;
         long_seen = length-set seen flat.cell true ∙ sees.long_seen;
         before = λ k other below there. elim (cases_eq other.cell flat.cell) [
           | inl same ↦ subst (λ (n : ℕ). slice_get (slice_set seen flat.cell true) n ≡ Some true) (sym same) here
-          | inr apart ↦ slice_get-set_apart seen flat.cell other.cell true apart ∙ sees.before k other below there
+          | inr apart ↦ slice_get-set_other seen flat.cell other.cell true apart ∙ sees.before k other below there
         ];
         links = λ cell is. elim (cases_eq cell flat.cell) [
           | inl same ↦ subst (λ (n : ℕ). HasLinks names (slice_set all flat.cell links) n) (sym same) (record {
             links = links;
             first = flat;
-            found = slice_get-set_here all flat.cell links (omega (arith, sees.long, within));
+            found = slice_get-set_same all flat.cell links (omega (arith, sees.long, within));
             starts = subst (λ (n : ℕ). slice_get names.tree.now.elements n ≡ Some flat) (sym of) stands;
             same = refl;
             are = are_links;
           })
           | inr apart ↦
-              let old = sees.links cell (sym (slice_get-set_apart seen flat.cell cell true apart) ∙ is) in record {
+              let old = sees.links cell (sym (slice_get-set_other seen flat.cell cell true apart) ∙ is) in record {
                 links = old.links;
                 first = old.first;
-                found = slice_get-set_apart all flat.cell cell links apart ∙ old.found;
+                found = slice_get-set_other all flat.cell cell links apart ∙ old.found;
                 starts = old.starts;
                 same = old.same;
                 are = old.are;
@@ -123,7 +125,7 @@ module _ (names : FullNames) (are : AreNames names) where
       let ext = has.are.ext in
       let same = record_here names are all number element flat stands has in
       subst (λ (e : CellExt). first_fault (merge_fault names.exts.now e) e.merges ≡ None) same
-      (first_fault-none (merge_fault names.exts.now ext) ext.merges
+      (first_some-none (merge_fault names.exts.now ext) ext.merges
       (merges_sound names has.links.element ext has.are.at ext.merges has.links.merges.items has.are.merges))
 
   -- the first element whose record has a fault
@@ -132,12 +134,12 @@ module _ (names : FullNames) (are : AreNames names) where
   seen_fault number within seen all sees fault faulty =
       let element = element_at names are number faulty.at.flat faulty.at.stands in
       let own = record_of names are number element.0 faulty.at.flat element.1 in
-      let same : element.0.ext ≡ faulty.ext = one_at_place names.exts.now faulty.at.flat.cell element.0.ext faulty.ext own faulty.at.record_ in
+      let same : element.0.ext ≡ faulty.ext = slice_get-one names.exts.now faulty.at.flat.cell element.0.ext faulty.ext own faulty.at.record_ in
       let fails : element_fault names.exts.now element.0 ≡ Some fault =
       subst (λ (e : CellExt). first_fault (merge_fault names.exts.now e) e.merges ≡ Some fault) (sym same) faulty.faulty in
-      first_fault-at (element_fault names.exts.now) (elements_in names) number element.0 fault element.1.are.is
+      first_some-at (element_fault names.exts.now) (elements_in names) number element.0 fault element.1.are.is
       (λ other before. (
-      let place = place_in_take (elements_in names) number other before in
+      let place = slice_get-In_take (elements_in names) number other before in
       let flat = at_place names.tree.now.elements (elements_in names) place.0 other (sym (tree_of_names names are).long) place.1.1 in
       let stands : IsElement names place.0 other flat.0 = record { are = record { is = place.1.1; has = flat.1 } } in
       links_sound all place.0 other flat.0 stands (sees.links flat.0.cell (sees.before place.0 flat.0 place.1.0 flat.1))))
@@ -146,7 +148,7 @@ module _ (names : FullNames) (are : AreNames names) where
   -- where each record has links there is no fault
   pub all_sound : (all : List RecordLinks) → AreAllLinks names all → HasNoPathFault names
   all_sound all links =
-      first_fault-none (element_fault names.exts.now) (elements_in names)
+      first_some-none (element_fault names.exts.now) (elements_in names)
       (λ element within. (
       let place = slice_get-In element (elements_in names) within in
       let flat = at_place names.tree.now.elements (elements_in names) place.0 element (sym (tree_of_names names are).long) place.1 in

@@ -6,11 +6,12 @@ use Rattle.std.specs.Str.{bytes_eq}
 use Rattle.std.proofs.lemmas.Slice.Eq.{bytes_eq-Decides}
 use Rattle.std.proofs.lemmas.Bool.{cases_Bool}
 use Rattle.finite_sets.proofs.Members.{In-push_cases}
+use Rattle.finite_sets.proofs.Places.{slice_get-append_left, slice_get-push_new}
 use Rattle.ext_model.specs.declared.records.UseRec.{UseRec}
 use Rattle.ext_model.specs.declared.records.CellExt.{CellExt}
 use Rattle.name_classes.specs.declared.tables.UseTable.{UseTable}
 use Rattle.name_classes.specs.UseTables.{number_of, IsTableOf, AreUseTables}
-use Rattle.name_classes.proofs.ListLaws.{slice_get-more, slice_get-last, slice_get-push_both}
+use Rattle.name_classes.proofs.ListLaws.{slice_get-push_both}
 
 -- the table with one more use
 pub table_push : (uses : List UseRec) (used : UseRec) (old new : UseTable) → IsTableOf uses old
@@ -22,14 +23,14 @@ table_push uses used old new table reads = record {
         let here : Some (length uses) ≡ Some number = sym (ap (λ (t : Bool). cond t (Some (length uses)) (number_of old id)) same) ∙ (sym (reads id) ∙ found) in
         let last : length uses ≡ number = cc in record {
           used = used;
-          found = subst (λ (k : ℕ). slice_get (uses ++ used ∷ []) k ≡ Some used) last (slice_get-last uses used);
+          found = subst (λ (k : ℕ). slice_get (uses ++ used ∷ []) k ≡ Some used) last (slice_get-push_new uses used);
           named = (bytes_eq-Decides used.id id).0 same;
         }
     | inr other ↦
         let before : number_of old id ≡ Some number =
         sym (ap (λ (t : Bool). cond t (Some (length uses)) (number_of old id)) other) ∙ (sym (reads id) ∙ found) in
         let has = table.sound id number before in
-        record { used = has.used; found = slice_get-more uses used number has.used has.found; named = has.named }
+        record { used = has.used; found = slice_get-append_left uses (used ∷ []) number has.used has.found; named = has.named }
   ];
   whole = λ id none use_ here named. elim (cases_Bool (bytes_eq used.id id)) [
     | inl same ↦

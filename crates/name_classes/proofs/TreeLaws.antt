@@ -4,17 +4,18 @@ use Rattle.std.specs.Prelude.{Option, Some, None, slice_get}
 use Rattle.std.proofs.lemmas.List.Elements.{All-contains}
 use Rattle.finite_sets.specs.Lists.{In}
 use Rattle.finite_sets.proofs.Members.{Contains-from_In}
+use Rattle.finite_sets.proofs.Images.{In-flat_map_source}
+use Rattle.finite_sets.proofs.Places.{In-slice_get, slice_get-In, slice_get-below}
 use Rattle.ext_model.specs.declared.records.UseRec.{UseRec}
 use Rattle.ext_model.specs.declared.records.CellExt.{CellExt}
 use Rattle.ext_model.specs.Lawful.{IsLawful}
-use Rattle.ext_model.proofs.RecordNameLaws.{In-flat_map_source}
 use Rattle.circuit_model.specs.declared.limits.TheConstants.{LONGEST_CHAIN}
 use Rattle.circuit_model.specs.Elements.{Element, ext_of, of_option, elements_below, elements_of}
 use Rattle.element_tree.specs.declared.tree.TreeElement.{TreeElement}
 use Rattle.element_tree.specs.Trees.{IsTreeOfElements}
 use Rattle.full_names.specs.declared.names.FullNames.{FullNames}
 use Rattle.full_names.specs.Names.{elements_in, AreNames, IsElement, IsReached}
-use Rattle.name_classes.proofs.ListLaws.{In-slice_get, slice_get-In, at_place, below_length, place_of_image}
+use Rattle.name_classes.proofs.ListLaws.{at_place, place_of_image}
 
 -- the record of the root, and the elements below it
 pub record HasRoot (names : FullNames) : Type 0 where
@@ -24,7 +25,7 @@ pub record HasRoot (names : FullNames) : Type 0 where
 
 pub root_of_names : (names : FullNames) → AreNames names → HasRoot names
 root_of_names names are =
-    let root = below_length names.exts.now names.root are.root in record {
+    let root = slice_get-below names.exts.now names.root are.root in record {
       top = root.0;
       stands = root.1;
       elements = ap (λ (found : Option CellExt). elim found [ None ↦ [] | Some top ↦ elements_of names.exts.now top ]) root.1;

@@ -11,7 +11,7 @@ use circuit_model::FlatFault;
 use element_tree::ElementTree;
 use ext_model::CellExt;
 use full_names::{FullNames, Spot};
-use geo_core::List;
+use names_lists::List;
 use partition::Labelling;
 use std::alloc::Global;
 

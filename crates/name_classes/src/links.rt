@@ -12,7 +12,7 @@ use crate::classes::MergeEnd;
 use crate::paths::Resolver;
 use circuit_model::FlatFault;
 use ext_model::{CellExt, NameKind, NodeRec, kind_of_name};
-use geo_core::{List, Name};
+use names_lists::{List, Name};
 use std::alloc::{AllocError, Global};
 
 /// Two names at or below an element that are of one node.
@@ -121,17 +121,6 @@ fn node_links(
     Ok(links)
 }
 
-// a copy of a name
-fn copy_of(alloc: Global, name: &Name) -> Result<Name, FlatFault>
-    ensures ok { IfOk result (λ copy. copy ≡ name.now) }
-    ensures err { IfErr result (λ fault. fault ≡ FlatFault.Memory) }
-{
-    match name.copy(alloc) {
-        Ok(copy) => Ok(copy),
-        Err(_) => Err(FlatFault::Memory),
-    }
-}
-
 // where a path of a merge of an element's record leads
 fn merge_end<'a>(
     alloc: Global,
@@ -147,7 +136,7 @@ fn merge_end<'a>(
 {
     match resolver.end_of(number, path.bytes()) {
         Some(end) => Ok(end),
-        None => Err(FlatFault::NoPath(copy_of(alloc, &ext.cell)?, copy_of(alloc, path)?)),
+        None => Err(FlatFault::NoPath(ext.cell.copy(alloc)?, path.copy(alloc)?)),
     }
 }
 

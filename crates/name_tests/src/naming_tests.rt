@@ -5,8 +5,9 @@ ghost use Rattle.names.specs.Labels.{IsLabelOf, IsLayerOf};
 
 use cell_paint::{CellPaint, PaintFault};
 use flood_nodes::regions;
-use geo_core::{Name, PLANE_EDGE, Rect};
+use geo_core::{PLANE_EDGE, Rect};
 use names::{Named, NamedNode, name_nodes};
+use names_lists::Name;
 use std::alloc::Global;
 use std::test::Fail;
 use tech_file::read_tech;

@@ -1,8 +1,7 @@
 -- Labels attach to the least places of the tiles that take them.
-use Rattle.std.proofs.Common.{◌≡◌, ℕ, ◌≤ℤ◌, ◌<ℤ◌, Bool, true, false, Option, Some, None, List, length, IsTrue, inl, inr, arith, refl, sym, subst, ◌∙◌, ap}
+use Rattle.std.proofs.Common.{◌≡◌, ℕ, Bool, true, false, Option, Some, None, List, length, IsTrue, inl, inr, arith, refl, sym, subst, ◌∙◌, ap}
 use Rattle.std.specs.Prelude.{slice_get, IsPermutation, find}
 use Rattle.std.proofs.lemmas.Bool.{cases_lt, and_parts, and_from, false≢true}
-use Rattle.std.proofs.lemmas.Int.{ints}
 use Rattle.std.proofs.lemmas.List.{get_or_past}
 use Rattle.std.proofs.lemmas.List.Sorted.{IsPermutation-sym}
 use Rattle.std.proofs.lemmas.Option.{none-some, slice_get_within, slice_get-get_or, get_or_from_slice_get}
@@ -10,12 +9,12 @@ use Rattle.finite_sets.specs.Lists.{In}
 use Rattle.finite_sets.specs.Least.{IsLeast}
 use Rattle.finite_sets.proofs.Leasts.{IsLeast-unique}
 use Rattle.finite_sets.proofs.Members.{In-get_or, In-index, In-permutation}
-use Rattle.finite_sets.proofs.Searches.{find-In}
+use Rattle.finite_sets.proofs.Searches.{find-In, All-In}
 use Rattle.geo_core.specs.declared.squares.Square.{Square}
 use Rattle.geo_core.specs.declared.squares.Rect.{Rect}
 use Rattle.geo_core.specs.Areas.{common_rect, corner_of, has_square}
 use Rattle.geo_core.specs.Covering.{Covers, IsProper}
-use Rattle.geo_core.proofs.CoveringLaws.{IsProper-has_square, has_square-IsProper, covers_first, covers_second, covers_both}
+use Rattle.geo_core.proofs.CoveringLaws.{IsProper-has_square, has_square-IsProper, covers_first, covers_second, covers_both, covers_is_proper, corner_covered}
 use Rattle.tech_model.specs.declared.raw.Label.{Label}
 use Rattle.tech_model.specs.declared.raw.LayerId.{LayerId}
 use Rattle.tech_model.specs.declared.raw.TypeId.{TypeId}
@@ -23,7 +22,7 @@ use Rattle.tech_model.specs.declared.raw.RawTech.{RawTech}
 use Rattle.tech_model.specs.Types.{is_type, image_on, images_of, is_on, is_within, no_layer}
 use Rattle.tech_model.specs.WellFormed.{IsWellFormed}
 use Rattle.tech_model.proofs.TypeLaws.{within_type}
-use Rattle.tech_model.proofs.WellFormedLaws.{All_In, type_bounds, layer_well_formed}
+use Rattle.tech_model.proofs.WellFormedLaws.{type_bounds, layer_well_formed}
 use Rattle.layout_model.specs.Places.{Place, IsNoLater}
 use Rattle.layout_model.specs.Layouts.{Layout, IsMaterial}
 use Rattle.layout_model.specs.RegionTiles.{LiesIn, AreLayoutTiles, IsInRegion}
@@ -37,31 +36,10 @@ use Rattle.names.specs.TakenLabels.{suits_kind, image_within, takes, attachment_
 use Rattle.names.proofs.PlaceOrders.{IsNoLater-trans, no_later_by_parts}
 use Rattle.names.proofs.TakingLaws.{IsLeastTaken-iff}
 
--- a rectangle with a square covers its corner
-pub corner_covered : (area : Rect) → IsProper area → Covers area (corner_of area)
-corner_covered area proper =
-    let wide : area.xlo <ℤ area.xhi = proper.wide in
-    let high : area.ylo <ℤ area.yhi = proper.high in
-    record {
-      right_of_xlo = omega (arith, ints);
-      left_of_xhi = omega (arith, ints);
-      above_ylo = omega (arith, ints);
-      below_yhi = omega (arith, ints);
-    }
-
 -- the corner is no later than each place of the rectangle
 pub corner_first : (area : Rect) (plane other : ℕ) (square : Square) → plane ≡ other → Covers area square
     → IsNoLater (record { plane = plane; square = corner_of area }) (record { plane = other; square = square })
 corner_first area plane other square same covers = no_later_by_parts plane other area.xlo area.ylo square.x square.y same covers.right_of_xlo covers.above_ylo
-
--- a rectangle that covers a square has one
-some_square : (area : Rect) (square : Square) → Covers area square → IsProper area
-some_square area square covers =
-    let left : area.xlo ≤ℤ square.x = covers.right_of_xlo in
-    let right : square.x <ℤ area.xhi = covers.left_of_xhi in
-    let low : area.ylo ≤ℤ square.y = covers.above_ylo in
-    let high : square.y <ℤ area.yhi = covers.below_yhi in
-    record { wide = omega (arith, ints); high = omega (arith, ints) }
 
 -- An image of the layer on the plane is within the type.
 record IsSuited (raw : RawTech) (layer : Option LayerId) (plane kind : ℕ) : Type 0 where
@@ -82,7 +60,7 @@ suited raw (Some layer) plane kind holds = by_image (image_on raw layer.0 plane)
 -- what an image is within is a type
 image_type : (raw : RawTech) (layer plane : ℕ) (image : TypeId) → IsWellFormed raw → image_on raw layer plane ≡ Some image → IsTrue (is_type raw image.0)
 image_type raw layer plane image well has = elim (cases_lt layer (length raw.layers)) [
-  | inl below ↦ All_In (λ (t : TypeId). IsTrue (is_type raw t.0)) (images_of raw layer) image (layer_well_formed raw layer well below).images
+  | inl below ↦ All-In (λ (t : TypeId). IsTrue (is_type raw t.0)) (images_of raw layer) image (layer_well_formed raw layer well below).images
       (find-In (is_on raw plane) (images_of raw layer) image has)
   | inr past ↦
       let none : image_on raw layer plane ≡ None = ap (λ v. find (is_on raw plane) v.images) (get_or_past raw.layers layer no_layer past) in
@@ -153,7 +131,7 @@ module _ (raw : RawTech) (well : IsWellFormed raw) (layout : Layout) (tiles : Li
           tile = tile;
           among = tile_among there.0 tile there.1.there;
           taken = and_from (suits_kind raw label.layer tile.plane tile.kind.0) (has_square (common_rect (touched label.area) tile.area)) suited
-              (has_square-IsProper (common_rect (touched label.area) tile.area) (some_square (common_rect (touched label.area) tile.area) place.square common));
+              (has_square-IsProper (common_rect (touched label.area) tile.area) (covers_is_proper (common_rect (touched label.area) tile.area) place.square common));
           plane = there.1.plane;
           covers = common;
         }

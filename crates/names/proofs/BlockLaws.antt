@@ -5,6 +5,7 @@ use Rattle.std.proofs.lemmas.Int.{ints, clamps}
 use Rattle.std.proofs.lemmas.List.{get_or_append_left, get_or_push, length_push}
 use Rattle.geo_core.specs.declared.squares.Rect.{Rect}
 use Rattle.geo_core.specs.Areas.{LiesWithin, joined_rect}
+use Rattle.geo_core.proofs.CoveringLaws.{within_joined_second}
 use Rattle.layout_model.specs.declared.region_tiles.RegionTile.{RegionTile}
 use Rattle.flood_nodes.specs.TileShares.{tile_at}
 use Rattle.names.specs.declared.blocks.Block.{Block}
@@ -28,22 +29,13 @@ within_joined a b c inside =
       below_yhi = omega (arith, ints, clamps);
     }
 
--- and so does the second
-pub second_within_joined : (a b : Rect) → LiesWithin b (joined_rect a b)
-second_within_joined a b = record {
-  right_of_xlo = omega (arith, ints, clamps);
-  above_ylo = omega (arith, ints, clamps);
-  left_of_xhi = omega (arith, ints, clamps);
-  below_yhi = omega (arith, ints, clamps);
-}
-
 -- a block with one more tile
 pub with_tile : (block : Block) (tile : RegionTile) → AddsTile block tile
     (record { end = block.end; area = joined_rect block.area tile.area; uniform = is_like block tile; plane = block.plane; kind = block.kind })
 with_tile block tile = record {
   ends = refl;
   added = record {
-    inside = second_within_joined block.area tile.area;
+    inside = within_joined_second block.area tile.area;
     alike = λ like. let parts = and_parts (block.uniform && eqb tile.plane block.plane) (eqb tile.kind.0 block.kind.0) like in (
       eqb-true tile.plane block.plane (and_parts block.uniform (eqb tile.plane block.plane) parts.0).1,
       eqb-true tile.kind.0 block.kind.0 parts.1,

@@ -3,17 +3,16 @@ use Rattle.std.proofs.Common.{◌≡◌, ◌≢◌, ◌<◌, ◌+◌, ◌⊎◌,
 use Rattle.std.specs.Prelude.{AllPairs, IsPermutation}
 use Rattle.std.specs.Cmp.{IsTotalOrder}
 use Rattle.std.specs.List.Sorted.{IsSortedByKey}
-use Rattle.std.specs.Ordering.{nat_cmp, int_cmp, ordering_then, is_lt}
-use Rattle.std.specs.declared.cmp.Ordering.TheVariants.{Less, Equal, Greater}
+use Rattle.std.specs.Ordering.{nat_cmp, int_cmp, ordering_then}
 use Rattle.std.proofs.lemmas.Bool.{cases_eq, false≢true}
-use Rattle.std.proofs.lemmas.Cmp.{nat_cmp_total, int_cmp_total, on_total, then_total, ranked}
+use Rattle.std.proofs.lemmas.Cmp.{nat_cmp_total, int_cmp_total, on_total, then_total}
 use Rattle.std.proofs.lemmas.Int.{ints}
 use Rattle.std.proofs.lemmas.List.{get_or-set_same, get_or-set_other, length-set}
 use Rattle.std.proofs.lemmas.List.Quantifiers.{all_pairs_push}
 use Rattle.std.proofs.lemmas.List.Sorted.{IsPermutation-sym}
 use Rattle.finite_sets.specs.Lists.{In}
 use Rattle.finite_sets.proofs.Members.{In-get_or, In-index, In-push_cases, In-push, In-append_left, In-permutation}
-use Rattle.finite_sets.proofs.Orders.{int_cmp-not_less, ordering_then-not_less, IsSortedByKey-pairs}
+use Rattle.finite_sets.proofs.Orders.{int_cmp-not_less, ordering_then-not_less, IsSortedByKey-pairs, nat_then-not_less}
 use Rattle.layout_model.specs.Places.{IsNoLater}
 use Rattle.layout_model.specs.declared.region_tiles.RegionTile.{RegionTile}
 use Rattle.flood_nodes.specs.TileShares.{tile_at, no_tile}
@@ -33,21 +32,12 @@ key_cmp_total : IsTotalOrder key_cmp
 key_cmp_total = then_total (on_total (λ (k : ℕ × (ℤ × ℤ)). k.0) nat_cmp_total)
     (on_total (λ (k : ℕ × (ℤ × ℤ)). k.1) (then_total (on_total (λ (k : ℤ × ℤ). k.0) int_cmp_total) (on_total (λ (k : ℤ × ℤ). k.1) int_cmp_total)))
 
--- what a first key that compares as no less says
-plane_not_less : (p q : ℕ) (rest : Ordering) → is_lt (ordering_then (nat_cmp q p) rest) ≡ false → (p < q) ⊎ ((p ≡ q) × (is_lt rest ≡ false))
-plane_not_less p q rest fails = by_order (nat_cmp q p) refl fails
-  where
-    by_order : (order : Ordering) → order ≡ nat_cmp q p → is_lt (ordering_then order rest) ≡ false → (p < q) ⊎ ((p ≡ q) × (is_lt rest ≡ false))
-    by_order Less is fails = absurd (false≢true (sym fails))
-    by_order Equal is fails = inr (sym (ranked q p Equal is), fails)
-    by_order Greater is fails = inl (ranked q p Greater is)
-
 -- tiles sorted by their keys are in the order of places
 pub sorted_places : (tiles : List RegionTile) → IsSortedByKey place_key key_cmp tiles → AllPairs (λ a b. IsNoLater (corner_place a) (corner_place b)) tiles
 sorted_places tiles sorted = λ i j d less below.
     let a = get_or tiles i d in
     let b = get_or tiles j d in
-    elim (plane_not_less a.plane b.plane _ (IsSortedByKey-pairs place_key key_cmp key_cmp_total tiles sorted i j d less below)) [
+    elim (nat_then-not_less a.plane b.plane _ (IsSortedByKey-pairs place_key key_cmp key_cmp_total tiles sorted i j d less below)) [
       | inl lower ↦ inr (inl lower)
       | inr (plane, rest) ↦ elim (ordering_then-not_less a.area.ylo b.area.ylo _ rest) [
         | inl lower ↦ inr (inr (plane, inl lower))

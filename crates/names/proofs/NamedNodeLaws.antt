@@ -11,6 +11,7 @@ use Rattle.finite_sets.proofs.Chains.{Chain-same}
 use Rattle.finite_sets.proofs.Distincts.{Distinct-from_places}
 use Rattle.finite_sets.proofs.Members.{In-get_or, In-index}
 use Rattle.geo_core.specs.Areas.{corner_of}
+use Rattle.geo_core.proofs.CoveringLaws.{corner_covered}
 use Rattle.partition.specs.Divides.{IsPair, Divides}
 use Rattle.tech_model.specs.declared.raw.Label.{Label}
 use Rattle.tech_model.specs.declared.raw.RawTech.{RawTech}
@@ -32,7 +33,7 @@ use Rattle.names.specs.GeneratedNames.{generated_name}
 use Rattle.names.specs.Groups.{key_at, class_in, region_key, label_key, IsGroup, AreNodeNames, IsNodeOn, AreNodesOf}
 use Rattle.names.specs.NamedNodes.{AreOneNamedNode, IsTextIn, IsNameOf, least_of, IsNamedNode, AreNamedNodes}
 use Rattle.names.specs.TakenLabels.{IsAttachment, found_at}
-use Rattle.names.proofs.AttachLaws.{lies_on, tile_among, tile_proper, corner_covered, corner_first}
+use Rattle.names.proofs.AttachLaws.{lies_on, tile_among, tile_proper, corner_first}
 use Rattle.names.proofs.JoinedRegions.{named_region, names_region, nodes_from_classes, node_material, region_below}
 use Rattle.names.proofs.PlaceOrders.{IsNoLater-trans}
 use Rattle.names.proofs.TextLists.{texts_by}

@@ -8,7 +8,7 @@ ghost use Rattle.names.specs.CountedLabels.{IsCounted, AreCounted, text_at, regi
 
 use crate::attaching::Attachment;
 use crate::texts::is_global;
-use geo_core::Name;
+use names_lists::Name;
 use std::alloc::{AllocError, Global};
 use std::collections::BTreeMap;
 use tech_model::Label;
@@ -35,10 +35,7 @@ fn first_region(
     if let Some(first) = firsts.get(text) {
         return Ok(Some(*first));
     }
-    let Ok(key) = text.copy(alloc) else {
-        return Err(AllocError);
-    };
-    firsts.insert(key, region)?;
+    firsts.insert(text.copy(alloc)?, region)?;
     Ok(None)
 }
 

@@ -8,8 +8,9 @@ ghost use Rattle.names.specs.GeneratedNames.{coordinate_text, generated_name};
 ghost use Rattle.names.specs.Groups.{AreNamesAt, AreNodeNames};
 
 use ext_model::compare_names;
-use geo_core::{List, Name, Square};
+use geo_core::Square;
 use layout_model::RegionTile;
+use names_lists::{List, Name};
 use std::alloc::{AllocError, Global};
 use tech_model::{Label, Tech, TypeId};
 use text_scan::append_decimal;
@@ -43,16 +44,6 @@ fn generated_text(
     Ok(text)
 }
 
-/// A name of these bytes.
-pub fn name_of(alloc: Global, bytes: &[u8]) -> Result<Name, AllocError>
-    ensures { IfOk result (λ name. name ≡ bytes.now) }
-{
-    match Name::of(alloc, bytes) {
-        Ok(name) => Ok(name),
-        Err(_) => Err(AllocError),
-    }
-}
-
 /// The name of a node with this first tile that no label names.
 fn generated_names(alloc: Global, tech: &Tech, tile: &RegionTile) -> Result<Vec<Name>, AllocError>
     requires { IsTrue (is_type tech.now tile.now.kind.0) }
@@ -60,7 +51,7 @@ fn generated_names(alloc: Global, tech: &Tech, tile: &RegionTile) -> Result<Vec<
 {
     let text = generated_text(alloc, tech, tile.kind, &tile.area.corner())?;
     let mut names = Vec::new(alloc);
-    names.push(name_of(alloc, text.as_slice())?)?;
+    names.push(Name::of(alloc, text.as_slice())?)?;
     Ok(names)
 }
 
@@ -71,7 +62,7 @@ fn texts_at(alloc: Global, labels: &[Label], indices: &[usize]) -> Result<Vec<Na
 {
     let mut texts = Vec::with_capacity(alloc, indices.len())?;
     for index in indices {
-        texts.push(name_of(alloc, labels[*index].text.bytes())?)?;
+        texts.push(labels[*index].text.copy(alloc)?)?;
     }
     Ok(texts)
 }

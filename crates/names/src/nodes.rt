@@ -15,10 +15,11 @@ use crate::blocks::{blocks, by_kind};
 use crate::counting::{Counted, count_labels};
 use crate::first_tiles::first_tiles;
 use crate::groups::{label_groups, region_groups};
-use crate::naming::{name_of, node_names};
+use crate::naming::node_names;
 use flood_nodes::Regions;
-use geo_core::{List, Name, Square};
+use geo_core::Square;
 use layout_model::RegionTile;
+use names_lists::{List, Name};
 use partition::{Labelling, classes};
 use std::alloc::{AllocError, Global};
 use tech_model::{Label, Tech, TypeId};
@@ -69,7 +70,7 @@ fn unattached(
     let mut texts = Vec::new(alloc);
     for (index, label) in labels.iter().enumerate() {
         if named[index].is_none() {
-            texts.push(name_of(alloc, label.text.bytes())?)?;
+            texts.push(label.text.copy(alloc)?)?;
         }
     }
     Ok(texts)

@@ -4,17 +4,19 @@ use Rattle.std.specs.Prelude.{sum_by}
 use Rattle.std.specs.List.{flat_map}
 use Rattle.std.proofs.lemmas.List.{length-map}
 use Rattle.std.proofs.lemmas.List.Concat.{length-flat_map}
+use Rattle.std.proofs.lemmas.Slice.Eq.{bytes_eq-Decides}
+use Rattle.std.specs.Str.{bytes_eq}
 use Rattle.finite_sets.specs.Chain.Chain.{stay, go}
 use Rattle.finite_sets.specs.Lists.{In, Distinct}
 use Rattle.finite_sets.proofs.Chains.{Chain-append, Chain-either_back, Chain-one, Chain-same}
 use Rattle.finite_sets.proofs.Distincts.{length-distinct}
 use Rattle.finite_sets.proofs.Members.{In-index, In-map}
 use Rattle.finite_sets.proofs.Pairs.{Pairwise, Pairwise-from_AllPairs}
-use Rattle.finite_sets.proofs.Searches.{find-In, find-passes}
+use Rattle.finite_sets.proofs.Searches.{find-In, find-passes, In-from_list_any}
+use Rattle.finite_sets.proofs.Images.{In-flat_map}
 use Rattle.ext_model.specs.declared.circuits.Circuit.{Circuit}
 use Rattle.ext_model.specs.declared.records.NodeRec.{NodeRec}
 use Rattle.ext_model.specs.RecordNames.{names_of}
-use Rattle.tech_model.proofs.RuleLaws.{In-flat_map}
 use Rattle.circuit_model.specs.Elements.{Element}
 use Rattle.circuit_model.specs.FullNames.{full_names, name_in, AreLinked, AreOneNode}
 use Rattle.circuit_model.specs.FlatNodes.{AreFlatNodes, IsPlaced, gives_name, is_among}
@@ -23,7 +25,7 @@ use Rattle.sim_records.specs.SimRecords.{aliases_of, sim_of}
 use Rattle.switch_net.specs.SimRecords.{AreOfOneNode, IsAlias, SimRecords}
 use Rattle.switch_net.specs.SimRecords as Records
 use Rattle.sim_networks.specs.SimNetworks.{HasMoreNodesThan, records_of}
-use Rattle.network_laws.proofs.FlatNames.{IsOfNode, from_among}
+use Rattle.network_laws.proofs.FlatNames.{IsOfNode}
 
 -- the node records of an element, each with the element
 abbrev parts_in : Element → List (Element × NodeRec)
@@ -73,7 +75,7 @@ module _ (elements : List Element) (classes : ℕ) (circuit : Circuit) (are : Ar
           named = of.named;
           element = find-In (λ (element : Element). is_among (full_names element) of.node.name) elements placed.element placed.first;
           carrier = find-In (gives_name placed.element of.node.name) placed.element.ext.nodes placed.part placed.carrier;
-          gives = from_among (map (name_in placed.element) (names_of placed.part)) of.node.name
+          gives = In-from_list_any bytes_eq bytes_eq-Decides of.node.name (map (name_in placed.element) (names_of placed.part))
               (find-passes (gives_name placed.element of.node.name) placed.element.ext.nodes placed.part placed.carrier);
         },
       )

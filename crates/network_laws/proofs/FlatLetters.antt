@@ -5,12 +5,12 @@ use Rattle.std.proofs.lemmas.List.Elements.{All-contains}
 use Rattle.finite_sets.specs.Lists.{In}
 use Rattle.finite_sets.proofs.Members.{Contains-from_In, In-index}
 use Rattle.finite_sets.proofs.Searches.{All-from_In}
+use Rattle.finite_sets.proofs.Images.{In-flat_map_source}
 use Rattle.tech_model.specs.declared.raw.FetRule.{FetRule}
 use Rattle.tech_model.specs.declared.raw.RawTech.{RawTech}
 use Rattle.tech_model.specs.Forms.{is_fet_name}
 use Rattle.tech_model.specs.Rules.{KeepsRules}
 use Rattle.ext_model.specs.declared.records.FetRec.{FetRec}
-use Rattle.ext_model.proofs.RecordNameLaws.{In-flat_map_source}
 use Rattle.named_trees.specs.NamedTrees.{NamedTree}
 use Rattle.tree_records.specs.TreeCircuits.{AreFlatFetRecords, IsFlatFetRecord}
 use Rattle.sim_text.specs.Parts.{is_letter}

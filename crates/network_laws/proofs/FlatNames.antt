@@ -1,14 +1,14 @@
 -- Each name in the sim records of a flat circuit is a name of one of its nodes.
-use Rattle.std.proofs.Common.{◌≡◌, ℕ, Bool, true, ◌||◌, List, [], ◌∷◌, ◌++◌, length, map, inl, inr, refl, sym, ◌∙◌, ap, subst}
+use Rattle.std.proofs.Common.{◌≡◌, ℕ, List, [], ◌∷◌, ◌++◌, length, map, inl, inr, refl, sym, ◌∙◌, ap, subst}
 use Rattle.std.specs.Prelude.{Option, Some, None, ℤ, find}
 use Rattle.std.specs.Str.{bytes_eq}
 use Rattle.std.specs.List.{flat_map}
-use Rattle.std.proofs.lemmas.Bool.{cases_Bool}
 use Rattle.std.proofs.lemmas.List.Elements.{All-contains}
 use Rattle.std.proofs.lemmas.Slice.Eq.{bytes_eq-Decides}
 use Rattle.finite_sets.specs.Lists.{In}
 use Rattle.finite_sets.proofs.Members.{Contains-from_In, In-append_cases, In-map, In-map_source}
-use Rattle.finite_sets.proofs.Searches.{find-In, find-none, list_any-In}
+use Rattle.finite_sets.proofs.Searches.{find-In, find-none, list_any-of_In}
+use Rattle.finite_sets.proofs.Images.{In-flat_map_source}
 use Rattle.ext_model.specs.declared.circuits.Circuit.{Circuit}
 use Rattle.ext_model.specs.declared.records.CellExt.{CellExt}
 use Rattle.ext_model.specs.declared.records.FetRec.{FetRec}
@@ -16,10 +16,9 @@ use Rattle.ext_model.specs.declared.records.NodeRec.{NodeRec}
 use Rattle.ext_model.specs.declared.records.TermRec.{TermRec}
 use Rattle.ext_model.specs.Lawful.{IsLawful, IsLawfulFet, IsLawfulTerm}
 use Rattle.ext_model.specs.RecordNames.{names_of, node_names}
-use Rattle.ext_model.proofs.RecordNameLaws.{In-flat_map_source}
 use Rattle.circuit_model.specs.Elements.{Element}
 use Rattle.circuit_model.specs.FullNames.{name_in}
-use Rattle.circuit_model.specs.FlatNodes.{AreFlatNodes, has_name, is_among}
+use Rattle.circuit_model.specs.FlatNodes.{AreFlatNodes, has_name}
 use Rattle.circuit_model.specs.FlatFets.{AreFlatFets, IsFlatFet, fets_in, fets_of, node_name, side_name}
 use Rattle.circuit_model.specs.Circuits.{IsCircuitOf}
 use Rattle.sim_text.specs.declared.files.SimFet.{SimFet}
@@ -36,24 +35,6 @@ pub record IsOfNode (nodes : List NodeRec) (name : List ℕ) : Type 0 where
   pub within : In node nodes
   pub named : In name (names_of node)
 
--- the test finds what stands among the names
-among : (names : List (List ℕ)) (name : List ℕ) → In name names → is_among names name ≡ true
-among names name here = elim (cases_Bool (is_among names name)) [
-  | inl found ↦ found
-  | inr none ↦
-      (let differ = list_any-In (bytes_eq name) names name none here in
-      let same = (bytes_eq-Decides name name).1 refl in
-      absurd (cc))
-]
-
--- and finds nothing else
-pub from_among : (names : List (List ℕ)) (name : List ℕ) → is_among names name ≡ true → In name names
-from_among [] name is = absurd (cc)
-from_among (first ∷ names) name is = elim (cases_Bool (bytes_eq name first)) [
-  | inl same ↦ inl (sym ((bytes_eq-Decides name first).0 same))
-  | inr differ ↦ inr (from_among names name (ap (λ (t : Bool). t || is_among names name) (sym differ) ∙ is))
-]
-
 -- where a node has the name, the preferred name that is found for it is one's
 found_name : (nodes : List NodeRec) (name : List ℕ) → IsOfNode nodes name → IsOfNode nodes (node_name nodes name)
 found_name nodes name of = step (find (λ (node : NodeRec). has_name node name) nodes) refl
@@ -63,7 +44,7 @@ found_name nodes name of = step (find (λ (node : NodeRec). has_name node name) 
     step (Some node) is = record { node = node; within = find-In (λ (node : NodeRec). has_name node name) nodes node is; named = inl refl }
     step None none =
         let differ = find-none (λ (node : NodeRec). has_name node name) nodes of.node none of.within in
-        let same = among (names_of of.node) name of.named in
+        let same = list_any-of_In bytes_eq bytes_eq-Decides name (names_of of.node) of.named in
         absurd (cc)
 
 -- ---- the names of transistors

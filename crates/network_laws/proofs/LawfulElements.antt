@@ -8,13 +8,13 @@ use Rattle.std.proofs.lemmas.List.Elements.{All-contains}
 use Rattle.finite_sets.specs.Lists.{In}
 use Rattle.finite_sets.proofs.Members.{Contains-from_In}
 use Rattle.finite_sets.proofs.Searches.{find-In, option_or-none}
-use Rattle.geo_core.specs.declared.limits.Limit.{Limit}
-use Rattle.geo_core.specs.declared.limits.Limit.TheVariants.{Depth, Elements, Nodes, Names, Merges}
+use Rattle.finite_sets.proofs.Images.{In-flat_map_source}
 use Rattle.ext_model.specs.declared.records.UseRec.{UseRec}
 use Rattle.ext_model.specs.declared.records.CellExt.{CellExt}
 use Rattle.ext_model.specs.Lawful.{IsLawful}
-use Rattle.ext_model.proofs.RecordNameLaws.{In-flat_map_source}
 use Rattle.circuit_model.specs.declared.faults.FlatFault.TheVariants.{TooMany}
+use Rattle.circuit_model.specs.declared.limits.CircuitLimit.{CircuitLimit}
+use Rattle.circuit_model.specs.declared.limits.CircuitLimit.TheVariants.{Depth, Elements, Nodes, Names, Merges}
 use Rattle.circuit_model.specs.declared.limits.TheConstants.{LONGEST_CHAIN, MOST_FLAT_ELEMENTS, MOST_NODES, MOST_NAME_BYTES, MOST_MERGES}
 use Rattle.circuit_model.specs.Elements.{AreRecords, Element, elements_below, elements_of, ext_of, of_option}
 use Rattle.circuit_model.specs.Refusals.{past, depth_of, node_count, name_bytes, merge_count, class_fault, element_fault, first_fault}
@@ -47,7 +47,7 @@ lawful_elements exts root top records found =
     below IsLawful LONGEST_CHAIN exts [] top (each top (find-In (λ ext. bytes_eq ext.cell root) exts top found)) each
 
 -- a number that is not past its limit
-not_past : (most : ℕ) (limit : Limit) (number : ℕ) → past most limit number ≡ None → number ≤ most
+not_past : (most : ℕ) (limit : CircuitLimit) (number : ℕ) → past most limit number ≡ None → number ≤ most
 not_past most limit number none = elim (cases_lt most number) [
   | inr within ↦ within
   | inl more ↦

@@ -7,6 +7,7 @@ use Rattle.std.specs.declared.cmp.Ordering.TheVariants.{Less}
 use Rattle.std.proofs.lemmas.Bool.{cases_Bool, eqb-true}
 use Rattle.std.proofs.lemmas.Option.{slice_get-get_or, get_or_from_slice_get}
 use Rattle.finite_sets.specs.Lists.{In}
+use Rattle.finite_sets.proofs.Places.{In-slice_get}
 use Rattle.partition.specs.Marks.{HasMark}
 use Rattle.ext_model.specs.NameOrder.{name_cmp}
 use Rattle.circuit_model.specs.Elements.{Element}
@@ -14,7 +15,7 @@ use Rattle.circuit_model.specs.FullNames.{AreInNameOrder, AreOneNode}
 use Rattle.name_classes.specs.Classes.{AreLabels}
 use Rattle.node_labels.specs.Labels.{label_of, group_of}
 use Rattle.node_labels.proofs.LabelLaws.{bytes_eq-true, bytes_eq-same, bytes_eq-other, before_other, before_rest, rest_in_order, label_read}
-use Rattle.node_labels.proofs.PlaceLaws.{In-place, place_of}
+use Rattle.node_labels.proofs.PlaceLaws.{place_of}
 
 -- a name stands in the group of its label
 pub in_group : (list : List (List ℕ)) (labels : List ℕ) (k : ℕ) (name : List ℕ) → length labels ≡ length list → In name list
@@ -83,7 +84,7 @@ later_name [] ordered a b x y less p q = absurd (cc)
 later_name (first ∷ list) ordered a zero x y less p q = absurd (omega (arith, less))
 later_name (first ∷ list) ordered zero (suc b) x y less p q =
     let P : List ℕ → Type 0 = λ z. name_cmp z y ≡ Less in
-    subst P (first_is x p) (before_rest first list ordered y (In-place list b y q))
+    subst P (first_is x p) (before_rest first list ordered y (In-slice_get list b y q))
   where
     first_is : (z : List ℕ) → Some first ≡ Some z → first ≡ z
     first_is z e = cc
@@ -109,7 +110,7 @@ module _ (elements : List Element) (list : List (List ℕ)) (labels : List ℕ) 
       let within : least.0 < length list = omega (arith, long, marked.0) in
       let name = get_or list least.0 [] in
       let at : slice_get list least.0 ≡ Some name = slice_get-get_or list least.0 [] within in
-      (name, in_group list labels k name are.long (In-place list least.0 name at) (sym (label_read list labels least.0 name ordered are.long at) ∙ marked.1))
+      (name, in_group list labels k name are.long (In-slice_get list least.0 name at) (sym (label_read list labels least.0 name ordered are.long at) ∙ marked.1))
 
   -- a name of a lesser label stands before all of a greater one
   pub before_group : (k other : ℕ) → k < other → other < count → (later : List ℕ) → In later (group_of list labels other)
@@ -129,7 +130,7 @@ module _ (elements : List Element) (list : List (List ℕ)) (labels : List ℕ) 
       let least = b.1.1 r.0 mark in (
         name,
         (
-          in_group list labels k name are.long (In-place list a.0 name at) (sym (label_read list labels a.0 name ordered are.long at) ∙ marked.1),
+          in_group list labels k name are.long (In-slice_get list a.0 name at) (sym (label_read list labels a.0 name ordered are.long at) ∙ marked.1),
           later_name list ordered a.0 r.0 name later (omega (arith, earlier, least)) at r.1.1,
         ),
       )

@@ -1,58 +1,31 @@
 -- Nodes with the names of groups.
-use Rattle.std.proofs.Common.{◌≡◌, ◌≢◌, ℕ, zero, suc, ◌<◌, Bool, true, false, cond, eqb, List, [], ◌∷◌, length, map, get_or, inl, inr, refl, sym}
-use Rattle.std.proofs.Common.{◌∙◌, ap, subst, arith, eq-eqb, ◌||◌}
+use Rattle.std.proofs.Common.{◌≡◌, ℕ, ◌<◌, false, eqb, List, [], length, map, get_or, inl, inr, refl, sym}
+use Rattle.std.proofs.Common.{◌∙◌, ap, subst, arith, eq-eqb}
 use Rattle.std.specs.Prelude.{Option, Some, None, slice_get, find}
 use Rattle.std.specs.Option.{option_map}
 use Rattle.std.specs.Str.{bytes_eq}
 use Rattle.std.specs.declared.cmp.Ordering.TheVariants.{Less}
-use Rattle.std.proofs.lemmas.Bool.{cases_Bool, cases_lt, eqb-true, false≢true}
+use Rattle.std.proofs.lemmas.Bool.{cases_Bool, cases_lt, eqb-true}
 use Rattle.std.proofs.lemmas.List.{length-map}
 use Rattle.std.proofs.lemmas.List.FromFn.{get_or-map-range_with_len, length-map-range_with_len}
-use Rattle.std.proofs.lemmas.Option.{slice_get_within, slice_get-map, get_or_from_slice_get, same_Some}
+use Rattle.std.proofs.lemmas.Option.{slice_get_within, slice_get-map, get_or_from_slice_get}
+use Rattle.std.specs.Cmp.{both_ways}
+use Rattle.std.proofs.lemmas.Slice.Eq.{bytes_eq-Decides}
 use Rattle.finite_sets.specs.Lists.{In}
+use Rattle.finite_sets.proofs.Places.{slice_get-below}
+use Rattle.finite_sets.proofs.Searches.{find-at, list_any-of_In, In-from_list_any}
 use Rattle.ext_model.specs.declared.records.NodeRec.{NodeRec}
 use Rattle.ext_model.specs.NameOrder.{name_cmp}
 use Rattle.ext_model.specs.RecordNames.{names_of}
 use Rattle.ext_model.proofs.NameOrders.{name_cmp_total}
 use Rattle.circuit_model.specs.Elements.{Element}
 use Rattle.circuit_model.specs.FullNames.{AreInNameOrder}
-use Rattle.circuit_model.specs.FlatNodes.{is_among, has_name}
+use Rattle.circuit_model.specs.FlatNodes.{has_name}
 use Rattle.circuit_model.specs.FlatFets.{node_name}
 use Rattle.name_classes.specs.Classes.{AreLabels}
 use Rattle.node_labels.specs.Labels.{label_of, group_of, AreNamed}
-use Rattle.node_labels.proofs.LabelLaws.{bytes_eq-true, bytes_eq-same, before_rest, before_other}
+use Rattle.node_labels.proofs.LabelLaws.{before_rest, before_other}
 use Rattle.node_labels.proofs.GroupLaws.{in_group, from_group, group_in_order, label_below, before_group}
-use Rattle.node_labels.proofs.PlaceLaws.{thing_at}
-
--- a name stands among names exactly where the test says so
-pub among : (names : List (List ℕ)) (name : List ℕ) → In name names → is_among names name ≡ true
-among [] name here = absurd here
-among (first ∷ names) name (inl e) = ap (λ (t : Bool). t || is_among names name) (bytes_eq-same name first (sym e))
-among (first ∷ names) name (inr h) = elim (bytes_eq name first) as (λ t. (t || is_among names name) ≡ true) [ true ↦ refl | false ↦ among names name h ]
-
-pub from_among : (names : List (List ℕ)) (name : List ℕ) → is_among names name ≡ true → In name names
-from_among [] name test = absurd (false≢true test)
-from_among (first ∷ names) name test = elim (cases_Bool (bytes_eq name first)) [
-  | inl same ↦ inl (sym (bytes_eq-true name first same))
-  | inr differ ↦ inr (from_among names name (ap (λ (t : Bool). t || is_among names name) (sym differ) ∙ test))
-]
-
--- two tests that pass together are one
-pub same_tests : (s t : Bool) → (s ≡ true → t ≡ true) → (t ≡ true → s ≡ true) → s ≡ t
-same_tests true t there back = sym (there refl)
-same_tests false true there back = back refl
-same_tests false false there back = refl
-
--- what is found is at the first place that passes
-pub find-at : {X : Type 0} (test : X → Bool) (xs : List X) (k : ℕ) (x : X) → slice_get xs k ≡ Some x → test x ≡ true
-    → ((j : ℕ) (y : X) → j < k → slice_get xs j ≡ Some y → test y ≡ false) → find test xs ≡ Some x
-find-at test [] k x at passes before = absurd (cc)
-find-at {X} test (y ∷ ys) zero x at passes before =
-    let same : y ≡ x = same_Some y x at in
-    ap (λ (t : Bool). cond t (Some y) (find test ys)) (ap test same ∙ passes) ∙ ap Some same
-find-at test (y ∷ ys) (suc k) x at passes before =
-    ap (λ (t : Bool). cond t (Some y) (find test ys)) (before 0 y (omega arith) refl)
-    ∙ find-at test ys k x at passes (λ j z less p. before (suc j) z (omega (arith, less)) p)
 
 -- the name of the node of a number
 pub record IsNodeAt (list : List (List ℕ)) (labels : List ℕ) (count number : ℕ) (node : NodeRec) : Type 0 where
@@ -83,10 +56,10 @@ module _ (elements : List Element) (list : List (List ℕ)) (labels : List ℕ) 
       → has_name node name ≡ eqb (label_of list labels name) number
   has_name_is node number names name here =
       let P : List (List ℕ) → Type 0 = λ l. In name l in
-      same_tests (has_name node name) (eqb (label_of list labels name) number)
+      both_ways (has_name node name) (eqb (label_of list labels name) number)
       (λ h. eq-eqb (label_of list labels name) number
-      (from_group list labels number name ordered (subst P names (from_among (names_of node) name h))).1)
-      (λ e. among (names_of node) name (subst P (sym names) (in_group list labels number name are.long here (eqb-true (label_of list labels name) number e))))
+      (from_group list labels number name ordered (subst P names (In-from_list_any bytes_eq bytes_eq-Decides name (names_of node) h))).1)
+      (λ e. list_any-of_In bytes_eq bytes_eq-Decides name (names_of node) (subst P (sym names) (in_group list labels number name are.long here (eqb-true (label_of list labels name) number e))))
 
 module _ (elements : List Element) (list : List (List ℕ)) (labels : List ℕ) (count : ℕ) (nodes : List NodeRec) (ordered : AreInNameOrder list)
     (are : AreLabels elements list labels count) (named : AreNamed list labels count nodes) where
@@ -97,7 +70,7 @@ module _ (elements : List Element) (list : List (List ℕ)) (labels : List ℕ) 
       let number = label_of list labels name in
       let many = so_many list labels count nodes named in
       let below = label_below elements list labels count ordered are name here in
-      let r = thing_at nodes number (omega (arith, many, below)) in
+      let r = slice_get-below nodes number (omega (arith, many, below)) in
       let found : find (λ node. has_name node name) nodes ≡ Some r.0 =
       find-at (λ node. has_name node name) nodes number r.0 r.1
       (has_name_is elements list labels count ordered are r.0 number (node_at list labels count nodes named number r.0 r.1).names name here

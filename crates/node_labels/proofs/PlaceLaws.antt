@@ -8,51 +8,22 @@ use Rattle.std.proofs.Math.ListN.{set}
 use Rattle.std.proofs.lemmas.List.{take_more, map_more, length-map, append-nil, take_all, drop_all}
 use Rattle.std.proofs.lemmas.Bool.{cases_eq}
 use Rattle.std.proofs.lemmas.Option.{slice_get-get_or, slice_get_read, slice_get_within, slice_get-map, same_Some}
+use Rattle.name_classes.proofs.ListLaws.{slice_get-push_both}
 use Rattle.finite_sets.specs.Lists.{In}
 use Rattle.finite_sets.proofs.Members.{In-get_or}
+use Rattle.finite_sets.proofs.Places.{slice_get-In}
 use Rattle.node_labels.specs.Spots.{AreAlong}
 
--- what stands at a place stands in the list
-pub In-place : {X : Type 0} (xs : List X) (k : ℕ) (x : X) → slice_get xs k ≡ Some x → In x xs
-In-place [] k x at = absurd (cc)
-In-place (y ∷ ys) zero x at = inl (same_Some y x at)
-In-place (y ∷ ys) (suc k) x at = inr (In-place ys k x at)
-
--- and has a place there
+-- what stands in a list has a place there
 pub place_of : {X : Type 0} (x : X) (xs : List X) → In x xs → (k : ℕ) × ((k < length xs) × (slice_get xs k ≡ Some x))
-place_of x [] h = absurd h
-place_of x (y ∷ ys) (inl e) = (0, (omega arith, ap Some e))
-place_of x (y ∷ ys) (inr h) = let r = place_of x ys h in (suc r.0, (omega (arith, r.1.0), r.1.1))
-
--- a place of a list has a thing
-pub thing_at : {X : Type 0} (xs : List X) (k : ℕ) → k < length xs → (x : X) × (slice_get xs k ≡ Some x)
-thing_at [] k inside = absurd (omega (arith, inside))
-thing_at (x ∷ xs) zero inside = (x, refl)
-thing_at (x ∷ xs) (suc k) inside = thing_at xs k (omega (arith, inside))
-
--- what stands at a place of a list with one more at the end: what stood there, or that one
-pub place_push_cases : {X : Type 0} (xs : List X) (y x : X) (k : ℕ) → slice_get (xs ++ y ∷ []) k ≡ Some x
-    → (slice_get xs k ≡ Some x) ⊎ ((k ≡ length xs) × (y ≡ x))
-place_push_cases [] y x zero at = inr (refl, same_Some y x at)
-place_push_cases [] y x (suc k) at = absurd (cc)
-place_push_cases (z ∷ zs) y x zero at = inl at
-place_push_cases (z ∷ zs) y x (suc k) at = elim (place_push_cases zs y x k at) [ inl h ↦ inl h | inr h ↦ inr (omega (arith, h.0), h.1) ]
+place_of x xs here = let found = slice_get-In x xs here in (found.0, (slice_get_within xs found.0 x found.1, found.1))
 
 -- one more of both lists
 pub AreAlong-push : {X Y : Type 0} (R : X → Y → Type 0) (xs : List X) (ys : List Y) (x : X) (y : Y) → AreAlong R xs ys → R x y
     → AreAlong R (xs ++ x ∷ []) (ys ++ y ∷ [])
 AreAlong-push {X} {Y} R xs ys x y along last = record {
   long = length-append ys (y ∷ []) ∙ ap (λ n. n + 1) along.long ∙ sym (length-append xs (x ∷ []));
-  each = λ k a b p q. elim (place_push_cases xs x a k p) [
-    | inl p' ↦ (elim (place_push_cases ys y b k q) [
-      | inl q' ↦ along.each k a b p' q'
-      | inr q' ↦ (let within = slice_get_within xs k a p' in let long = along.long in absurd (omega (arith, within, long, q'.0)))
-    ])
-    | inr p' ↦ (elim (place_push_cases ys y b k q) [
-      | inl q' ↦ (let within = slice_get_within ys k b q' in let long = along.long in absurd (omega (arith, within, long, p'.0)))
-      | inr q' ↦ (let P : X → Type 0 = λ z. R z b in let Q : Y → Type 0 = λ z. R x z in subst P p'.1 (subst Q q'.1 last))
-    ])
-  ];
+  each = slice_get-push_both R xs ys x y along.long along.each last;
 }
 
 -- one step of a loop along a list that pushes what goes with each thing
@@ -127,13 +98,3 @@ pub AreAlong-read : {X Y : Type 0} (R : X → Y → Type 0) (xs : List X) (ys : 
 AreAlong-read R xs ys along at inside x is y also =
     let long = along.long in
     along.each at x y (slice_get_read xs (length xs) at x refl inside is) (slice_get_read ys (length ys) at y refl (omega (arith, inside, long)) also)
-
--- images of two lists that agree at each place
-pub map-same : {X Y Z : Type 0} (f : X → Z) (g : Y → Z) (xs : List X) (ys : List Y) → length xs ≡ length ys
-    → ((k : ℕ) (x : X) (y : Y) → slice_get xs k ≡ Some x → slice_get ys k ≡ Some y → f x ≡ g y) → map f xs ≡ map g ys
-map-same f g [] [] long same = refl
-map-same f g [] (y ∷ ys) long same = absurd (omega (arith, long))
-map-same f g (x ∷ xs) [] long same = absurd (omega (arith, long))
-map-same {X} {Y} {Z} f g (x ∷ xs) (y ∷ ys) long same =
-    ap (λ (z : Z). z ∷ map f xs) (same 0 x y refl refl)
-    ∙ ap (λ (l : List Z). g y ∷ l) (map-same f g xs ys (omega (arith, long)) (λ k a b p q. same (suc k) a b p q))

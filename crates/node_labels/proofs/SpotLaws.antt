@@ -1,37 +1,32 @@
 -- The names that a record has of its nodes and beside its transistors.
 use Rattle.std.proofs.Common.{◌≡◌, ℕ, ◌<◌, List, [], ◌∷◌, length, map, get_or, refl, sym, ◌∙◌, ap, subst, arith, inl, inr, ℤ, to_z, of_z}
-use Rattle.std.specs.Prelude.{Option, Some, None, All, slice_get}
+use Rattle.std.specs.Prelude.{Some, All, slice_get}
 use Rattle.std.specs.List.{flat_map}
 use Rattle.std.specs.Option.{option_map}
 use Rattle.std.specs.Int.{w32, w64}
 use Rattle.std.specs.Int.RustNames.{FitsSigned}
 use Rattle.std.proofs.lemmas.Int.{ints, to_z-of_z}
 use Rattle.std.proofs.lemmas.Option.{slice_get-get_or, slice_get_within, slice_get-map, get_or_from_slice_get, same_Some}
+use Rattle.name_classes.proofs.TreeLaws.{tree_of_names}
 use Rattle.finite_sets.specs.Lists.{In}
 use Rattle.finite_sets.proofs.Members.{In-append_left, In-append_right, In-map, In-map_source}
-use Rattle.finite_sets.proofs.Searches.{All-from_In}
+use Rattle.finite_sets.proofs.Searches.{All-from_In, All-In}
+use Rattle.finite_sets.proofs.Places.{In-slice_get}
 use Rattle.ext_model.specs.declared.records.NodeRec.{NodeRec}
 use Rattle.ext_model.specs.declared.records.TermRec.{TermRec}
 use Rattle.ext_model.specs.declared.records.CellExt.{CellExt}
 use Rattle.ext_model.specs.Lawful.{IsLawful, IsLawfulFet, IsLawfulTerm}
 use Rattle.ext_model.specs.RecordNames.{names_of, node_names}
-use Rattle.circuit_model.specs.Elements.{elements_of}
 use Rattle.full_names.specs.declared.names.FullNames.{FullNames}
 use Rattle.full_names.specs.declared.names.Spot.{Spot}
 use Rattle.full_names.specs.Names.{AreNames, IsElement, IsSpotOf, HasSpot, GivesName, elements_in}
 use Rattle.element_tree.specs.declared.tree.TreeElement.{TreeElement}
-use Rattle.element_tree.specs.Trees.{StandsFor, AreAt, IsTreeOfElements}
+use Rattle.element_tree.specs.Trees.{StandsFor, AreAt}
 use Rattle.full_names.specs.NameLists.{IsFullNameList}
 use Rattle.flat_limits.proofs.TreeLaws.{no_flat}
 use Rattle.circuit_model.specs.FullNames.{name_in}
 use Rattle.node_labels.specs.Spots.{IsCellOf, HasNames, HasFetNames, HasSpotAt, AreSpotsIn, AreCellSpots, element_at, cell_at, no_element}
 use Rattle.node_labels.specs.declared.spots.CellSpots.{CellSpots}
-use Rattle.node_labels.proofs.PlaceLaws.{In-place, place_of}
-
--- what holds of all of a list holds of what stands in it
-pub All-In : {X : Type 0} (P : X → Type 0) (xs : List X) (x : X) → All P xs → In x xs → P x
-All-In {X} P xs x all here = let r = place_of x xs here in
-    subst P (get_or_from_slice_get xs r.0 x x r.1.1) (all r.0 x r.1.0)
 
 -- a node's names stand among those of its record
 pub name_among : (nodes : List NodeRec) (node : NodeRec) (name : List ℕ) → In node nodes → In name (names_of node) → In name (flat_map names_of nodes)
@@ -42,7 +37,7 @@ name_among (first ∷ nodes) node name (inr h) g = In-append_right name (names_o
 
 -- a record that an element has is lawful
 pub lawful_cell : (names : FullNames) (cell : ℕ) (ext : CellExt) → AreNames names → IsCellOf names cell ext → IsLawful ext
-lawful_cell names cell ext are is = All-In IsLawful names.exts.now ext are.records.lawful (In-place names.exts.now cell ext is.found)
+lawful_cell names cell ext are is = All-In IsLawful names.exts.now ext are.records.lawful (In-slice_get names.exts.now cell ext is.found)
 
 pub has_node_names : (names : FullNames) (cell : ℕ) (ext : CellExt) → IsCellOf names cell ext → HasNames names cell (map (λ node. node.name) ext.nodes)
 has_node_names names cell ext is text among =
@@ -59,16 +54,6 @@ has_fet_names names cell ext are is = All-from_In (HasFetNames names cell) ext.f
           let side : IsLawfulTerm ext r.0 = All-In (IsLawfulTerm ext) fet.terminals r.0 lawful.terminals r.1.0 in
           record { ext = ext; is = is; named = (let P : List ℕ → Type 0 = λ t. In t (node_names ext) in subst P r.1.1 side.node) });
     }))
-
--- the tree is that of the elements of the names
-pub tree_of_names : (names : FullNames) → AreNames names → IsTreeOfElements names.exts.now (elements_in names) names.tree.now
-tree_of_names names are =
-    let exts = names.exts.now in
-    let top = get_or exts names.root no_element.ext in
-    let is : slice_get exts names.root ≡ Some top = slice_get-get_or exts names.root no_element.ext are.root in
-    let P : Option CellExt → Type 0 =
-    λ found. IsTreeOfElements exts (elim found [ None ↦ [] | Some one ↦ elements_of exts one ]) names.tree.now in
-    subst P (sym is) (are.tree top is)
 
 -- What the tree has at a number is of the element of this number.
 pub record IsHere (names : FullNames) (number : ℕ) (flat : TreeElement) : Type 0 where
@@ -97,7 +82,7 @@ element_here names are flats all number inside d =
       for = for;
       of = record {
         found = for.record_;
-        reached = (element_at names number, (In-place (elements_in names) number (element_at names number) stands, for.record_));
+        reached = (element_at names number, (In-slice_get (elements_in names) number (element_at names number) stands, for.record_));
       };
       within = within;
     }
@@ -178,7 +163,7 @@ spot_named names are number inside name spot is list is_list =
     (is_list.all (name_in element name)).1 (
       element,
       (
-        In-place (elements_in names) number element (slice_get-get_or (elements_in names) number no_element inside),
+        In-slice_get (elements_in names) number element (slice_get-get_or (elements_in names) number no_element inside),
         In-map (name_in element) name (node_names element.ext) (subst P record_ is.named),
       ),
     )

@@ -1,11 +1,9 @@
 //! Labels of names.
-ghost use Rattle.std.specs.Prelude.{◌≡◌, ◌<◌, length, IfOk};
+ghost use Rattle.std.specs.Prelude.{◌<◌, length};
 ghost use Rattle.full_names.specs.Names.{AreNames, elements_in};
 ghost use Rattle.node_labels.specs.Spots.{HasSpotAt, HaveLabels, GivesNode, IsLabel};
 
 use full_names::{FullNames, Spot};
-use geo_core::Name;
-use std::alloc::{AllocError, Global};
 
 /// The number of the node of a name of an element's record. It takes no memory.
 pub fn node_of(names: &FullNames<'_>, labels: &[usize], element: usize, spot: Spot) -> usize
@@ -17,14 +15,4 @@ pub fn node_of(names: &FullNames<'_>, labels: &[usize], element: usize, spot: Sp
     ensures label { IsLabel labels.now result }
 {
     labels[names.number(element, spot)]
-}
-
-/// A name of these bytes. Want of memory alone refuses.
-pub fn copied(alloc: Global, bytes: &[u8]) -> Result<Name, AllocError>
-    ensures { IfOk result (λ name. name ≡ bytes.now) }
-{
-    match Name::of(alloc, bytes) {
-        Ok(name) => Ok(name),
-        Err(_) => Err(AllocError),
-    }
 }

@@ -16,5 +16,5 @@ mod labels;
 mod reached;
 mod spots;
 
-pub use labels::{copied, node_of};
+pub use labels::node_of;
 pub use spots::{CellSpots, FetSpots, cell_spots};

@@ -7,7 +7,7 @@ use crate::reached::reached_cells;
 use element_tree::ElementTree;
 use ext_model::{CellExt, FetRec, NodeRec, TermRec};
 use full_names::{FullNames, Spot};
-use geo_core::{List, Name};
+use names_lists::{List, Name};
 use std::alloc::{AllocError, Global};
 
 /// The spots of the names beside a transistor.

@@ -1,5 +1,5 @@
 -- Parts that are given as layers: their tiles make their sets, and offences depend on the sets nearby alone.
-use Rattle.std.proofs.Common.{◌≡◌, ◌≢◌, ◌⊎◌, inl, inr, ◌+◌, ◌<◌, ◌≤◌, ◌==◌, ℕ, zero, suc, Bool, bit_or, cond, ℤ, pos, ◌+ℤ◌, ◌<ℤ◌, ◌≤ℤ◌, List, []}
+use Rattle.std.proofs.Common.{◌≡◌, ◌≢◌, ◌⊎◌, inl, inr, ◌+◌, ◌<◌, ◌≤◌, ◌==◌, ℕ, Bool, bit_or, cond, ℤ, pos, ◌+ℤ◌, ◌<ℤ◌, ◌≤ℤ◌, List, []}
 use Rattle.std.proofs.Common.{◌∷◌, ◌++◌, length, map, take, get_or, refl, sym, ap, subst, ◌∙◌, arith}
 use Rattle.std.specs.Prelude.{All, Option, Some, None, slice_get, ◌&&◌}
 use Rattle.std.specs.Int.{bit_at}
@@ -12,13 +12,14 @@ use Rattle.std.proofs.lemmas.List.FromFn.{get_or-map-range_with_len}
 use Rattle.std.proofs.lemmas.Option.{slice_get_within, slice_get-get_or, slice_get-map}
 use Rattle.finite_sets.specs.Lists.{In}
 use Rattle.finite_sets.proofs.Members.{In-append_left, In-append_right, In-append_cases, In-map, In-map_source}
-use Rattle.finite_sets.proofs.Searches.{list_any-In, All-from_In}
+use Rattle.finite_sets.proofs.Searches.{list_any-In, All-from_In, list_any-source}
+use Rattle.finite_sets.proofs.Places.{slice_get-append_left, slice_get-push_new, slice_get-push_cases}
 use Rattle.geo_core.specs.declared.squares.Square.{Square}
 use Rattle.geo_core.specs.declared.squares.Rect.{Rect}
 use Rattle.geo_core.specs.Areas.{widened, IsNear, LiesWithin, common_rect}
 use Rattle.geo_core.specs.Covering.{Covers, IsProper, is_covered}
 use Rattle.geo_core.specs.Neighbours.{AreEdgeNeighbours, AreOneApart}
-use Rattle.geo_core.proofs.CoveringLaws.{Covers-is_covered, is_covered-Covers, covers_first, covers_second, covers_both}
+use Rattle.geo_core.proofs.CoveringLaws.{Covers-is_covered, is_covered-Covers, covers_first, covers_second, covers_both, covers_widened}
 use Rattle.tech_model.specs.declared.raw.TypeId.{TypeId}
 use Rattle.tech_model.specs.declared.raw.RawTech.{RawTech}
 use Rattle.tech_model.specs.LayerTiles.{AreTilesOf}
@@ -36,7 +37,6 @@ use Rattle.offences.specs.Pieces.{CoverExactly}
 use Rattle.offences.specs.Roles.{role_of}
 use Rattle.offences.specs.SetTiles.{AreTilesOfParts, tile_part, tile_parts, set_layout}
 use Rattle.offences.specs.TypedStacks.{on_plane}
-use Rattle.offences.proofs.SpoiledLaws.{passing}
 use Rattle.offences.proofs.TileLaws.{part_bit, part_kept, part_at, length-parts}
 use Rattle.offences.proofs.UnionLaws.{same_sets, no_part}
 
@@ -166,25 +166,6 @@ module _ (parts others : List SetLayout) where
 
 -- ---- tiles of layers
 
-slice_get-push_old : {X : Type 0} (xs : List X) (y x : X) (i : ℕ) → slice_get xs i ≡ Some x → slice_get (xs ++ y ∷ []) i ≡ Some x
-slice_get-push_old [] y x i e = absurd (cc)
-slice_get-push_old (a ∷ xs) y x zero e = e
-slice_get-push_old (a ∷ xs) y x (suc i) e = slice_get-push_old xs y x i e
-
-slice_get-push_new : {X : Type 0} (xs : List X) (y : X) → slice_get (xs ++ y ∷ []) (length xs) ≡ Some y
-slice_get-push_new [] y = refl
-slice_get-push_new (a ∷ xs) y = slice_get-push_new xs y
-
-slice_get-push_cases : {X : Type 0} (xs : List X) (y x : X) (i : ℕ) → slice_get (xs ++ y ∷ []) i ≡ Some x
-    → (slice_get xs i ≡ Some x) ⊎ ((i ≡ length xs) × (y ≡ x))
-slice_get-push_cases [] y x zero e = inr (refl, cc)
-slice_get-push_cases [] y x (suc i) e = absurd (cc)
-slice_get-push_cases (a ∷ xs) y x zero e = inl e
-slice_get-push_cases (a ∷ xs) y x (suc i) e = elim (slice_get-push_cases xs y x i e) [
-  | inl h ↦ inl h
-  | inr h ↦ inr (ap suc h.0, h.1)
-]
-
 module _ (raw : RawTech) (plane : ℕ) (area : Rect) where
   -- before the first part
   pub no_part_tiles : (tiles : List SetTile) → tiles ≡ [] → ArePartTiles raw plane area [] tiles
@@ -206,7 +187,7 @@ module _ (raw : RawTech) (plane : ℕ) (area : Rect) where
           let is = so_far.each tile k in
           record {
             kinds = is.kinds;
-            there = slice_get-push_old parts kinds is.kinds tile.part is.there;
+            there = slice_get-append_left parts (kinds ∷ []) tile.part is.kinds is.there;
             proper = is.proper;
             inside = is.inside;
             kind = is.kind;
@@ -311,7 +292,7 @@ module _ (raw : RawTech) (plane : ℕ) (area : Rect) (parts : List Kinds) (tiles
       let place = on_plane plane square in
       elim (cases_Bool (list_any test tiles)) [
         | inl some ↦ (
-            let found = passing test tiles some in
+            let found = list_any-source test tiles some in
             let tile = found.0 in
             let both = and_parts (tile.part == part) (is_covered tile.area square) found.1.1 in
             let of_part = eqb-true tile.part part both.0 in
@@ -476,20 +457,6 @@ beside_grown area square beside covers (inl (across, row)) =
 beside_grown area square beside covers (inr (column, up)) =
     near_grown area square beside covers (none_apart square.x beside.x column) (one_apart square.y beside.y up)
 
--- and so do its own squares
-pub inside_grown : (area : Rect) (square : Square) → Covers area square → Covers (widened area) square
-inside_grown area square covers =
-    let left : area.xlo ≤ℤ square.x = covers.right_of_xlo in
-    let right : square.x <ℤ area.xhi = covers.left_of_xhi in
-    let low : area.ylo ≤ℤ square.y = covers.above_ylo in
-    let high : square.y <ℤ area.yhi = covers.below_yhi in
-    record {
-      right_of_xlo = omega (arith, ints);
-      left_of_xhi = omega (arith, ints);
-      above_ylo = omega (arith, ints);
-      below_yhi = omega (arith, ints);
-    }
-
 -- the grown area of one with a square has one
 pub grown_proper : (area : Rect) → IsProper area → IsProper (widened area)
 grown_proper area proper =
@@ -535,11 +502,6 @@ cut_covers S T area pieces cover there back = record {
       );
 }
 
--- the image of an image
-pub map_twice : {X Y Z : Type 0} (f : Y → Z) (g : X → Y) (xs : List X) → map (λ x. f (g x)) xs ≡ map f (map g xs)
-map_twice f g [] = refl
-map_twice {X} {Y} {Z} f g (x ∷ xs) = ap (λ (zs : List Z). f (g x) ∷ zs) (map_twice f g xs)
-
 -- the pieces of the tiles, cut to an area, cover what offends there
 pub layers_covered : (raw : RawTech) (plane : ℕ) (area : Rect) (parts : List Kinds) (tiles : List SetTile)
     → ArePartTiles raw plane (widened area) parts tiles
@@ -556,7 +518,7 @@ layers_covered raw plane area parts tiles are defined pieces cover =
     subst (AgreeAt made layouts) (ap (λ (p : ℕ). on_plane p other.square) near.0)
     (agree other.square (beside_grown area square other.square inside near.1)) in
     cut_covers (OffendsOn raw made plane) (OffendsOn raw layouts plane) area pieces cover
-    (λ square inside offends. offends_same made layouts raw (on_plane plane square) (agree square (inside_grown area square inside))
+    (λ square inside offends. offends_same made layouts raw (on_plane plane square) (agree square (covers_widened area square inside))
     (beside square inside) offends)
-    (λ square inside offends. offends_same layouts made raw (on_plane plane square) (sym (agree square (inside_grown area square inside)))
+    (λ square inside offends. offends_same layouts made raw (on_plane plane square) (sym (agree square (covers_widened area square inside)))
     (λ other near. sym (beside square inside other near)) offends)

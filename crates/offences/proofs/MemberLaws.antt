@@ -6,7 +6,7 @@ use Rattle.std.proofs.Math.Path.{fun_ext}
 use Rattle.std.proofs.lemmas.List.Sorted.{IsPermutation-sym, All-permutation}
 use Rattle.finite_sets.specs.Lists.{In}
 use Rattle.finite_sets.proofs.Members.{In-permutation}
-use Rattle.finite_sets.proofs.Searches.{All-from_In}
+use Rattle.finite_sets.proofs.Searches.{All-from_In, All-In}
 use Rattle.geo_core.specs.declared.squares.Rect.{Rect}
 use Rattle.geo_core.specs.Areas.{IsNear}
 use Rattle.geo_core.specs.Covering.{Covers}
@@ -14,7 +14,6 @@ use Rattle.layout_model.specs.Places.{Place}
 use Rattle.rect_overlays.specs.declared.stacks.Stack.{Stack}
 use Rattle.rect_overlays.specs.Stacks.{IsStack, AreStacks}
 use Rattle.tech_model.specs.declared.raw.RawTech.{RawTech}
-use Rattle.tech_model.proofs.WellFormedLaws.{All_In}
 use Rattle.offences.specs.declared.set_tiles.SetTile.{SetTile}
 use Rattle.offences.specs.declared.stacks.TypedStack.{TypedStack}
 use Rattle.offences.specs.Offences.{SetLayout, HaveTypes}
@@ -32,7 +31,7 @@ members_of_stack raw plane tiles stack is typed_stack stands =
     record {
       rising = subst (AllPairs ◌<◌) (sym same) is.ordered;
       some = subst (λ (members : List ℕ). members ≢ []) (sym same) is.some;
-      within = λ member h. All_In (λ (m : ℕ). m < length tiles) stack.members.items member (members_within tiles stack is) (subst (In member) same h);
+      within = λ member h. All-In (λ (m : ℕ). m < length tiles) stack.members.items member (members_within tiles stack is) (subst (In member) same h);
       cover = λ member h square covers. (covers_tile tiles member square
           (is.members member (subst (In member) same h) square (subst (λ (r : Rect). Covers r square) stands.area covers))).1;
       all = λ member square below covers inside. subst (In member) (sym same)

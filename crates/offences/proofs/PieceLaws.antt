@@ -11,7 +11,8 @@ use Rattle.std.proofs.Math.ListN.{get_or-map}
 use Rattle.finite_sets.specs.Lists.{In, Lists}
 use Rattle.finite_sets.proofs.Members.{In-append_left, In-append_right, In-append_cases, In-get_or, In-index, In-map, In-map_source, In-filter}
 use Rattle.finite_sets.proofs.Members.{In-filter_source, In-filter_passes}
-use Rattle.finite_sets.proofs.Searches.{list_any-In, All-from_In}
+use Rattle.finite_sets.proofs.Searches.{list_any-In, All-from_In, All-In, list_any-source}
+use Rattle.finite_sets.proofs.Images.{In-flat_map, In-flat_map_source}
 use Rattle.geo_core.specs.declared.squares.Square.{Square}
 use Rattle.geo_core.specs.declared.squares.Rect.{Rect}
 use Rattle.geo_core.specs.Covering.{Covers, is_covered}
@@ -23,8 +24,6 @@ use Rattle.rect_contacts.specs.Rects.{rect_at}
 use Rattle.tech_model.specs.declared.raw.RawTech.{RawTech}
 use Rattle.tech_model.specs.Types.{joined}
 use Rattle.tech_model.specs.WellFormed.{IsWellFormed}
-use Rattle.tech_model.proofs.WellFormedLaws.{All_In}
-use Rattle.tech_model.proofs.RuleLaws.{In-flat_map, In-flat_map_source}
 use Rattle.offences.specs.declared.stacks.TypedStack.{TypedStack}
 use Rattle.offences.specs.Offences.{SetLayout, joined_at, flat_type, OffendsOn, ChangesRole}
 use Rattle.offences.specs.Pieces.{is_spoiled, has_owner, changed, changed_across, changed_pieces, spoiled_areas, CoverExactly, AreFoundChanges}
@@ -33,7 +32,7 @@ use Rattle.offences.specs.Roles.{role_of}
 use Rattle.offences.specs.TypedStacks.{typed_stack_areas, on_plane, typed_stack_at, no_typed_stack, AreTypedStacks}
 use Rattle.offences.proofs.ChangeLaws.{changed_sound, changed_whole, changes_elsewhere, owns_here, union_none}
 use Rattle.offences.proofs.SideLaws.{neighbours_touch}
-use Rattle.offences.proofs.SpoiledLaws.{channel_is_material, same_some, some_is_not_none, passing, OffendsAlone, spoiled_offends, offends_spoiled}
+use Rattle.offences.proofs.SpoiledLaws.{channel_is_material, same_some, some_is_not_none, OffendsAlone, spoiled_offends, offends_spoiled}
 
 -- one more contact
 pub changed_more : (raw : RawTech) (typed_stacks : List TypedStack) (contacts : List Contact) (i : ℕ) (d : Contact) → i < length contacts
@@ -58,7 +57,7 @@ stands_or_not typed_stacks square =
     let test : TypedStack → Bool = λ typed_stack. is_covered typed_stack.area square in
     elim (cases_Bool (list_any test typed_stacks)) [
       | inl some ↦ (
-          let found = passing test typed_stacks some in
+          let found = list_any-source test typed_stacks some in
           let k = In-index found.0 typed_stacks found.1.0 in
           inl (record {
             place = k.0;
@@ -259,7 +258,7 @@ module _ (raw : RawTech) (formed : IsWellFormed raw) (parts : List SetLayout) (p
 pub all_areas : (P : Rect → Type 0) (typed_stacks : List TypedStack) → All (λ typed_stack. P typed_stack.area) typed_stacks → All P (typed_stack_areas typed_stacks)
 all_areas P typed_stacks all = All-from_In P (typed_stack_areas typed_stacks) (λ area h.
     let source = In-map_source (λ (s : TypedStack). s.area) area typed_stacks h in
-    subst P source.1.1 (All_In (λ (s : TypedStack). P s.area) typed_stacks source.0 all source.1.0))
+    subst P source.1.1 (All-In (λ (s : TypedStack). P s.area) typed_stacks source.0 all source.1.0))
 
 -- contacts are of pieces
 pub contacts_within : (typed_stacks : List TypedStack) (contacts : List Contact) → Lists (IsSharedEdge (typed_stack_areas typed_stacks)) contacts

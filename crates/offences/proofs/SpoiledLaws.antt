@@ -1,14 +1,14 @@
 -- Pieces offend whole exactly where they are spoiled, but for what stands beside them.
-use Rattle.std.proofs.Common.{◌≡◌, ◌≢◌, ◌⊎◌, inl, inr, ◌<◌, ◌==◌, ℕ, Bool, true, false, List, [], ◌∷◌, length, get_or, refl, sym, ap, subst, ◌∙◌}
+use Rattle.std.proofs.Common.{◌≡◌, ◌≢◌, ◌⊎◌, inl, inr, ◌<◌, ◌==◌, ℕ, Bool, true, false, List, length, get_or, refl, sym, ap, subst, ◌∙◌}
 use Rattle.std.proofs.Common.{arith}
 use Rattle.std.specs.Prelude.{IsTrue, ◌||◌, not, Option, Some, None, slice_get, count_by}
 use Rattle.std.specs.List.{list_any}
 use Rattle.std.specs.Option.{option_map}
-use Rattle.std.proofs.lemmas.Bool.{ne_eqb, eqb-true, eqb-false, cases_Bool, or_cases, or_left, or_right, and_parts, and_from, not-true}
+use Rattle.std.proofs.lemmas.Bool.{ne_eqb, eqb-true, eqb-false, or_cases, or_left, or_right, and_parts, and_from, not-true}
 use Rattle.std.proofs.lemmas.Bool.{not_from_false, both_ways, false_from_ne_true}
 use Rattle.std.proofs.lemmas.Option.{slice_get-get_or}
 use Rattle.finite_sets.specs.Lists.{In}
-use Rattle.finite_sets.proofs.Searches.{list_any-In}
+use Rattle.finite_sets.proofs.Searches.{All-In, list_any-source, list_any-passes}
 use Rattle.geo_core.specs.declared.squares.Square.{Square}
 use Rattle.geo_core.specs.Covering.{Covers}
 use Rattle.tech_model.specs.declared.raw.TypeId.{TypeId}
@@ -16,7 +16,7 @@ use Rattle.tech_model.specs.declared.raw.FetRule.{FetRule}
 use Rattle.tech_model.specs.declared.raw.RawTech.{RawTech}
 use Rattle.tech_model.specs.Types.{is_within}
 use Rattle.tech_model.specs.WellFormed.{IsWellFormed, IsFet}
-use Rattle.tech_model.proofs.WellFormedLaws.{All_In, type_bounds}
+use Rattle.tech_model.proofs.WellFormedLaws.{type_bounds}
 use Rattle.tech_model.specs.ChannelRoles.{is_channel}
 use Rattle.offences.specs.declared.stacks.PartKind.{PartKind}
 use Rattle.offences.specs.declared.stacks.TypedStack.{TypedStack}
@@ -26,27 +26,12 @@ use Rattle.offences.specs.Pieces.{is_hidden, is_shared, is_lost, spoils, is_spoi
 use Rattle.offences.specs.TypedStacks.{kind_in, has_kind, on_plane, IsTypedStack}
 use Rattle.offences.proofs.KindLaws.{kind_in-listed, kind_is_listed, parts_with-kinds}
 
--- what passes the test that some thing passes
-pub passing : {X : Type 0} (test : X → Bool) (xs : List X) → list_any test xs ≡ true → (x : X) × (In x xs × (test x ≡ true))
-passing test [] any = absurd (cc)
-passing test (x ∷ xs) any = elim (or_cases (test x) (list_any test xs) any) [
-  | inl here ↦ (x, (inl refl, here))
-  | inr later ↦ (let rest = passing test xs later in (rest.0, (inr rest.1.0, rest.1.1)))
-]
-
--- where some thing passes, some thing does
-pub some_passes : {X : Type 0} (test : X → Bool) (xs : List X) (x : X) → In x xs → test x ≡ true → list_any test xs ≡ true
-some_passes test xs x h passes = elim (cases_Bool (list_any test xs)) [
-  | inl any ↦ any
-  | inr none ↦ absurd (both_ways (test x) (list_any-In test xs x none h) passes)
-]
-
 -- space is no channel
 pub channel_is_material : (raw : RawTech) → IsWellFormed raw → (kind : ℕ) → IsTrue (is_channel raw kind) → kind ≢ 0
 channel_is_material raw formed kind channel none =
     let test : FetRule → Bool = λ fet. fet.kind.0 == kind in
-    let found = passing test raw.fets channel in
-    let fet = All_In (IsFet raw) raw.fets found.0 formed.fets found.1.0 in
+    let found = list_any-source test raw.fets channel in
+    let fet = All-In (IsFet raw) raw.fets found.0 formed.fets found.1.0 in
     let bounds = type_bounds raw found.0.kind.0 fet.kind in
     let same = eqb-true found.0.kind.0 kind found.1.1 in
     omega (arith, bounds.0, same, none)
@@ -112,7 +97,7 @@ module _ (raw : RawTech) (formed : IsWellFormed raw) (parts : List SetLayout) (p
       let loses = list_any (is_lost raw flat.0) typed_stack.kinds in
       elim (or_cases (hides || shares) loses spoiled) [
         | inl first ↦ elim (or_cases hides shares first) [
-          | inl h ↦ (let found = passing (is_hidden raw flat.0) typed_stack.kinds h in
+          | inl h ↦ (let found = list_any-source (is_hidden raw flat.0) typed_stack.kinds h in
               inr (inl (record {
                 position = found.0.part;
                 kind = found.0.kind.0;
@@ -132,7 +117,7 @@ module _ (raw : RawTech) (formed : IsWellFormed raw) (parts : List SetLayout) (p
                     (sym (count_is flat.0 (channel_is_material raw formed flat.0 both.0)) ∙ one);
               }))))
         ]
-        | inr h ↦ (let found = passing (is_lost raw flat.0) typed_stack.kinds h in
+        | inr h ↦ (let found = list_any-source (is_lost raw flat.0) typed_stack.kinds h in
             let both = and_parts (is_channel raw found.0.kind.0) (not (found.0.kind.0 == flat.0)) found.1.1 in
             inr (inr (inr (record {
               position = found.0.part;
@@ -162,7 +147,7 @@ module _ (raw : RawTech) (formed : IsWellFormed raw) (parts : List SetLayout) (p
             false_from_ne_true (is_within raw found.entry.kind.0 flat.0)
             (λ within. h.outside flat.0 type (subst (λ (k : ℕ). is_within raw k flat.0 ≡ true) found.kind within)) in
             or_left (hides || shares) loses (or_left hides shares
-            (some_passes (is_hidden raw flat.0) typed_stack.kinds found.entry found.listed
+            (list_any-passes (is_hidden raw flat.0) typed_stack.kinds found.entry found.listed
             (not_from_false (is_within raw found.entry.kind.0 flat.0) not_within))))
         | inr (inr (inl h)) ↦ (let same = same_some h.fet flat.0 (sym h.flat ∙ type) in
             let channel : is_channel raw flat.0 ≡ true = subst (λ (k : ℕ). is_channel raw k ≡ true) same h.channel in
@@ -176,7 +161,7 @@ module _ (raw : RawTech) (formed : IsWellFormed raw) (parts : List SetLayout) (p
             let channel : is_channel raw found.entry.kind.0 ≡ true = subst (λ (k : ℕ). is_channel raw k ≡ true) (sym found.kind) h.channel in
             let differs : found.entry.kind.0 ≢ flat.0 = λ same. h.flat (type ∙ ap Some (sym same ∙ found.kind)) in
             or_right (hides || shares) loses
-            (some_passes (is_lost raw flat.0) typed_stack.kinds found.entry found.listed
+            (list_any-passes (is_lost raw flat.0) typed_stack.kinds found.entry found.listed
             (and_from (is_channel raw found.entry.kind.0) (not (found.entry.kind.0 == flat.0)) channel
             (not_from_false (found.entry.kind.0 == flat.0) (ne_eqb found.entry.kind.0 flat.0 differs)))))
       ]

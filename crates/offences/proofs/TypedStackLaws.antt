@@ -7,6 +7,7 @@ use Rattle.std.proofs.lemmas.Int.{ints}
 use Rattle.finite_sets.specs.Lists.{In}
 use Rattle.finite_sets.proofs.Members.{In-map, In-map_source}
 use Rattle.finite_sets.proofs.Pairs.{Pairwise-from_AllPairs, AllPairs-from_Pairwise, Pairwise-map}
+use Rattle.finite_sets.proofs.Searches.{All-In}
 use Rattle.geo_core.specs.declared.squares.Square.{Square}
 use Rattle.geo_core.specs.declared.squares.Rect.{Rect}
 use Rattle.geo_core.specs.Areas.{IsNear, AreDisjoint, corner_of}
@@ -17,7 +18,6 @@ use Rattle.rect_overlays.specs.Stacks.{IsStack, AreStacks}
 use Rattle.tech_model.specs.declared.raw.RawTech.{RawTech}
 use Rattle.tech_model.specs.Types.{type_number, joined}
 use Rattle.tech_model.proofs.JoinedLaws.{joined-found}
-use Rattle.tech_model.proofs.WellFormedLaws.{All_In}
 use Rattle.offences.specs.declared.set_tiles.SetTile.{SetTile}
 use Rattle.offences.specs.declared.part_sets.PartSum.{PartSum}
 use Rattle.offences.specs.declared.stacks.PartKind.{PartKind}
@@ -117,7 +117,7 @@ module _ (raw : RawTech) (plane : ℕ) (tiles : List SetTile) where
       sum_below sum h =
           let has = are.parts sum h in
           let at = member_covers has.member has.listed (corner_of stack.area) (corner_covers stack.area (corner_of stack.area) is.proper refl refl) in
-          subst (λ (p : ℕ). p < count) has.is (All_In (λ (tile : SetTile). (tile.part < count) × IsNear tile.area) tiles
+          subst (λ (p : ℕ). p < count) has.is (All-In (λ (tile : SetTile). (tile.part < count) × IsNear tile.area) tiles
           (tile_at tiles has.member) of_parts at.0).0
 
       part_sum : (part : ℕ) (square : Square) → Covers stack.area square → tile_part tiles plane part (on_plane plane square) ≡ listed_set part sums
@@ -168,7 +168,7 @@ module _ (raw : RawTech) (plane : ℕ) (tiles : List SetTile) where
         is_typed_stack typed_stack stands same =
             let member = some_member tiles stack is in
             let corner = member_covers member.0 member.1 (corner_of stack.area) (corner_covers stack.area (corner_of stack.area) is.proper refl refl) in
-            let near = (All_In (λ (tile : SetTile). (tile.part < count) × IsNear tile.area) tiles (tile_at tiles member.0) of_parts corner.0).1 in
+            let near = (All-In (λ (tile : SetTile). (tile.part < count) × IsNear tile.area) tiles (tile_at tiles member.0) of_parts corner.0).1 in
             let kinds : typed_stack.kinds ≡ map (kind_of raw plane) sums = stands.kinds ∙ ap (map (kind_of raw plane)) same in
             let flat : typed_stack.flat ≡ option_map type_number (joined raw plane (all_sets sums)) =
             stands.flat ∙ ap (λ (s : List PartSum). option_map type_number (joined raw plane (all_sets s))) same in

@@ -9,12 +9,12 @@ ghost use Rattle.offences.specs.LayerParts.{layer_tile, ArePartTiles};
 ghost use Rattle.offences.specs.Offences.{OffendsOn};
 ghost use Rattle.offences.specs.SetTiles.{set_layout};
 
-use crate::faults::OffenceFault;
 use crate::pieces::bad_pieces;
 use crate::set_tiles::SetTile;
-use geo_core::{Rect, strips};
+use geo_core::Rect;
+use geo_strips::strips;
 use std::alloc::{AllocError, Global};
-use tech_model::{Layers, RawTech, Tech, TechFault, TypeId};
+use tech_model::{Layers, RawTech, Tech, TypeId};
 
 /// Adds the tiles of a part, with the sets of their types.
 fn push_tiles(
@@ -42,7 +42,7 @@ fn part_tiles<Y: Layers>(
     parts: &[Y],
     plane: u8,
     area: Rect,
-) -> Result<Vec<SetTile>, TechFault>
+) -> Result<Vec<SetTile>, AllocError>
     requires proper { IsProper area }
     requires near { IsNear area }
     ensures { IfOk result (λ tiles. ArePartTiles raw.now plane area (map Y.kind parts.now) tiles.items) }
@@ -72,7 +72,7 @@ pub fn offending<Y: Layers>(
     parts: &[Y],
     plane: u8,
     area: Rect,
-) -> Result<Vec<Rect>, OffenceFault>
+) -> Result<Vec<Rect>, AllocError>
     requires types { All (λ part. AreTypesOf tech.now (Y.kind part)) parts.now }
     requires defined { All (λ part. (plane : ℕ) (square : OneSquare) → Y.kind part plane square ≢ None) parts.now }
     requires proper { IsProper area }
@@ -84,5 +84,6 @@ pub fn offending<Y: Layers>(
     let tiles = part_tiles(alloc, tech.raw(), parts, plane, around)?;
     let pieces = bad_pieces(alloc, tech, tiles.as_slice(), plane, parts.len())?;
     let inside = cut(alloc, pieces.as_slice(), &area)?;
-    Ok(strips(alloc, inside.as_slice())?)
+    let found = strips(alloc, inside.as_slice())?;
+    Ok(found)
 }

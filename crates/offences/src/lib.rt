@@ -25,7 +25,6 @@
 #![tactic(auto)]
 
 mod changes;
-mod faults;
 mod layers;
 mod part_sets;
 mod pieces;
@@ -35,7 +34,6 @@ mod set_tiles;
 mod spoiled;
 mod stacks;
 
-pub use faults::OffenceFault;
 pub use layers::offending;
 pub use pieces::offending_stacks;
 pub use plane_stacks::PlaneStack;

@@ -10,11 +10,11 @@ ghost use Rattle.offences.specs.SetTiles.{AreTilesOfParts, tile_parts};
 ghost use Rattle.offences.specs.TypedStacks.{typed_stack_areas, AreByPart, AreTypedStacks};
 
 use crate::changes::changed_pieces;
-use crate::faults::OffenceFault;
 use crate::set_tiles::{SetTile, by_part};
 use crate::spoiled::spoiled_areas;
 use crate::stacks::{TypedStack, typed_stacks};
-use geo_core::{Rect, strips};
+use geo_core::Rect;
+use geo_strips::strips;
 use rect_contacts::touching;
 use std::alloc::{AllocError, Global};
 use tech_model::{RawTech, Tech};
@@ -83,14 +83,15 @@ pub fn offending_stacks(
     alloc: Global,
     tech: &Tech,
     typed_stacks: &[TypedStack],
-) -> Result<Vec<Rect>, OffenceFault>
+) -> Result<Vec<Rect>, AllocError>
     requires sound { All (λ s. IsProper s.area × IsNear s.area × AreByPart s.kinds) typed_stacks.now }
     requires apart { AllPairs AreDisjoint (typed_stack_areas typed_stacks.now) }
     ensures { IfOk result (λ found. (parts : List SetLayout) (plane : ℕ) → AreTypedStacks tech.now parts plane typed_stacks.now
         → IsStrips (OffendsOn tech.now parts plane) found.items) }
 {
     let pieces = bad_stacks(alloc, tech, typed_stacks)?;
-    Ok(strips(alloc, pieces.as_slice())?)
+    let found = strips(alloc, pieces.as_slice())?;
+    Ok(found)
 }
 
 /// Rectangles that cover exactly the squares of the plane that offend, where each part has types. They may overlap.

@@ -5,9 +5,9 @@ ghost use Rattle.offences.specs.Offences.{OffendsOn, HaveTypes};
 ghost use Rattle.offences.specs.PartSets.{AreInPartOrder};
 ghost use Rattle.offences.specs.SetTiles.{AreTilesOfParts, tile_parts};
 
-use crate::faults::OffenceFault;
 use crate::pieces::bad_pieces;
-use geo_core::{Rect, strips};
+use geo_core::Rect;
+use geo_strips::strips;
 use std::alloc::{AllocError, Global};
 use tech_model::{PartSet, Tech};
 
@@ -40,11 +40,12 @@ pub fn offending_tiles(
     tiles: &[SetTile],
     plane: u8,
     count: usize,
-) -> Result<Vec<Rect>, OffenceFault>
+) -> Result<Vec<Rect>, AllocError>
     requires parts { AreTilesOfParts count tiles.now }
     requires types { HaveTypes tech.now (tile_parts tiles.now plane count) }
     ensures { IfOk result (λ found. IsStrips (OffendsOn tech.now (tile_parts tiles.now plane count) plane) found.items) }
 {
     let pieces = bad_pieces(alloc, tech, tiles, plane, count)?;
-    Ok(strips(alloc, pieces.as_slice())?)
+    let found = strips(alloc, pieces.as_slice())?;
+    Ok(found)
 }

@@ -7,7 +7,8 @@ ghost use Rattle.offences.specs.TypedStacks.{kind_of, has_kind, owner_of, Stands
 
 use crate::part_sets::{PartSum, all_sets, list_part_sets};
 use crate::set_tiles::SetTile;
-use geo_core::{List, Rect};
+use geo_core::Rect;
+use names_lists::List;
 use rect_overlays::{Stack, overlay};
 use std::alloc::{AllocError, Global};
 use tech_model::{RawTech, Tech, TypeId};

@@ -7,7 +7,7 @@ use crate::calls::raised;
 use crate::faults::{Failed, PutFault, ShelfFault};
 use crate::limits::LONGEST_FILE;
 use crate::outside::{Shelf, Sink, Source};
-use geo_core::{List, Name};
+use names_lists::{List, Name};
 use std::alloc::Global;
 use std::collections::BTreeMap;
 

@@ -1,6 +1,5 @@
 //! How a call of the outside is refused. Want of memory comes from this program, all else from outside.
 
-use geo_core::GeoFault;
 use std::alloc::{AllocError, AllocFailed};
 use thiserror::Error;
 
@@ -63,18 +62,6 @@ impl<T: Drop> From<AllocFailed<T>> for PutFault {
     ghost from_gives = { λ _ fault. fault ≡ Memory };
 
     fn from(_failed: AllocFailed<T>) -> PutFault {
-        PutFault::Memory
-    }
-}
-
-/// Want of memory alone refuses the calls of names.
-impl From<GeoFault> for PutFault {
-    ghost use Rattle.std.specs.Prelude.{◌≡◌};
-    ghost use Rattle.outside_io.specs.declared.faults.PutFault.TheVariants.{Memory};
-
-    ghost from_gives = { λ _ fault. fault ≡ Memory };
-
-    fn from(_fault: GeoFault) -> PutFault {
         PutFault::Memory
     }
 }

@@ -10,7 +10,7 @@ use crate::calls::{Calls, raised};
 use crate::faultless::{FaultlessShelf, FaultlessSink, FaultlessSource};
 use crate::faults::{Failed, PutFault, ShelfFault};
 use crate::outside::{Shelf, Sink, Source};
-use geo_core::Name;
+use names_lists::Name;
 use std::alloc::Global;
 
 /// A source in memory, some of whose calls fail.

@@ -9,7 +9,7 @@ ghost use Rattle.outside_io.specs.Files.{Files, bytes_of, told_with_file, ToldSa
 
 use crate::faults::{Failed, PutFault, ShelfFault};
 use crate::limits::LONGEST_FILE;
-use geo_core::Name;
+use names_lists::Name;
 use std::alloc::Global;
 
 /// Where bytes come from.

@@ -7,7 +7,7 @@ use crate::faults::{Failed, PutFault, ShelfFault};
 use crate::limits::LONGEST_FILE;
 use crate::outside::{Shelf, Sink, Source};
 use crate::whole::{read_all, write_all};
-use geo_core::Name;
+use names_lists::Name;
 use std::alloc::{AllocError, Global};
 use std::fs;
 use std::io::{Error, ErrorKind, Read, Write};

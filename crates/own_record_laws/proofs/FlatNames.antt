@@ -3,6 +3,7 @@ use Rattle.std.proofs.Common.{◌≡◌, ◌⊎◌, ℕ, Bool, true, false, cond
 use Rattle.finite_sets.specs.Lists.{In}
 use Rattle.finite_sets.specs.Chain.Chain.{go, stay}
 use Rattle.finite_sets.proofs.Chains.{Chain-carries}
+use Rattle.finite_sets.proofs.Images.{In-flat_map, In-flat_map_source, map-fixed}
 use Rattle.ext_model.specs.declared.records.NodeRec.{NodeRec}
 use Rattle.ext_model.specs.declared.records.MergeRec.{MergeRec}
 use Rattle.ext_model.specs.declared.records.CellExt.{CellExt}
@@ -11,11 +12,10 @@ use Rattle.ext_model.specs.Lawful.{IsLawful}
 use Rattle.ext_model.specs.RecordNames.{names_of, node_names}
 use Rattle.ext_model.proofs.PathNames.{last_name-whole}
 use Rattle.ext_model.proofs.RecordNameLaws.{is_node_name-lawful, slashes_in-node_name}
-use Rattle.tech_model.proofs.RuleLaws.{In-flat_map, In-flat_map_source}
 use Rattle.circuit_model.specs.Elements.{Element}
 use Rattle.circuit_model.specs.FullNames.{name_in, full_names, IsFullName, AreLinked, AreOneNode}
 use Rattle.own_record_laws.proofs.OneElement.{root_of}
-use Rattle.own_record_laws.proofs.Parts.{one_owner, map-fixed}
+use Rattle.own_record_laws.proofs.Parts.{one_owner}
 
 -- both branches the same
 either_name : (global : Bool) (name : List ℕ) → cond global name name ≡ name

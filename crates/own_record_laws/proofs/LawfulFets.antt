@@ -10,12 +10,12 @@ use Rattle.finite_sets.specs.Lists.{In}
 use Rattle.finite_sets.specs.Total.{sum_on}
 use Rattle.finite_sets.proofs.Chains.{Chain-carries}
 use Rattle.finite_sets.proofs.Members.{In-map_source}
-use Rattle.finite_sets.proofs.Searches.{All-from_In}
+use Rattle.finite_sets.proofs.Searches.{All-from_In, All-In}
 use Rattle.geo_core.specs.Covering.{Covers}
 use Rattle.tech_model.specs.declared.raw.Label.{Label}
 use Rattle.tech_model.specs.declared.raw.RawTech.{RawTech}
 use Rattle.tech_model.specs.WellFormed.{IsWellFormed, IsFet}
-use Rattle.tech_model.proofs.WellFormedLaws.{All_In, type_bounds}
+use Rattle.tech_model.proofs.WellFormedLaws.{type_bounds}
 use Rattle.ext_model.specs.declared.limits.TheConstants.{MEASURE_EDGE, LENGTHS_EDGE}
 use Rattle.ext_model.specs.declared.records.TermRec.{TermRec}
 use Rattle.ext_model.specs.declared.records.FetRec.{FetRec}
@@ -63,7 +63,7 @@ module _ (raw : RawTech) (layout : Layout) (labels : List Label) (well : IsWellF
     (fet : Found) (made : FetRec) (is : IsTransistor raw layout (IsOfNode raw layout labels) fet) (of : IsFetRecord raw fet made) where
   -- what the technology says of the transistor is well formed
   rule_is : IsFet raw of.rule
-  rule_is = All_In (IsFet raw) raw.fets of.rule well.fets of.listed
+  rule_is = All-In (IsFet raw) raw.fets of.rule well.fets of.listed
 
   -- its channel has material
   channel_material : IsMaterial layout fet.least

@@ -10,7 +10,7 @@ use Rattle.std.proofs.lemmas.Bool.Decides.{nat_tests}
 use Rattle.std.proofs.lemmas.List.Sums.{sum_by-cons}
 use Rattle.finite_sets.specs.Lists.{In}
 use Rattle.finite_sets.proofs.Members.{In-append_cases, In-get_or}
-use Rattle.finite_sets.proofs.Searches.{list_all-In}
+use Rattle.finite_sets.proofs.Searches.{list_all-In, All-In}
 use Rattle.text_scan.specs.Decimal.{natural_text, decimal}
 use Rattle.text_scan.specs.PlainNames.{is_plain_byte, is_plain_name}
 use Rattle.text_scan.specs.declared.plain_name.TheConstants.{LONGEST_NAME}
@@ -23,7 +23,7 @@ use Rattle.tech_model.specs.declared.raw.RawTech.{RawTech}
 use Rattle.tech_model.specs.Forms.{is_label_byte, is_layer_name, is_naming_label}
 use Rattle.tech_model.specs.Types.{is_type, layer_at, layer_of, first_name}
 use Rattle.tech_model.specs.WellFormed.{IsWellFormed}
-use Rattle.tech_model.proofs.WellFormedLaws.{All_In, layer_well_formed}
+use Rattle.tech_model.proofs.WellFormedLaws.{layer_well_formed}
 use Rattle.ext_model.specs.declared.names.TheConstants.{SLASH}
 use Rattle.ext_model.specs.NodeNames.{is_word_byte, is_word, slashes_in, is_node_name}
 use Rattle.layout_model.specs.Layouts.{Layout}
@@ -136,7 +136,7 @@ module _ (raw : RawTech) (well : IsWellFormed raw) where
       let layer = layer_well_formed raw (layer_of raw kind) well (well.type_layers kind type) in
       let name = first_name (layer_at raw (layer_of raw kind)) in
       let is : IsTrue (is_layer_name name) =
-      All_In (λ (n : List ℕ). IsTrue (is_layer_name n)) (layer_at raw (layer_of raw kind)).names name layer.names
+      All-In (λ (n : List ℕ). IsTrue (is_layer_name n)) (layer_at raw (layer_of raw kind)).names name layer.names
       (In-get_or (layer_at raw (layer_of raw kind)).names 0 [] layer.named) in
       plain_text name (and_parts (is_plain_name name) _ is).0
 

@@ -1,13 +1,12 @@
 -- No name is in two records of nodes.
-use Rattle.std.proofs.Common.{◌≡◌, ℕ, List, [], ◌∷◌, get_or, inl, inr, subst, arith, pos}
+use Rattle.std.proofs.Common.{◌≡◌, ℕ, List, get_or, subst, arith, pos}
 use Rattle.std.specs.List.{flat_map}
 use Rattle.finite_sets.specs.Lists.{In, Distinct}
-use Rattle.finite_sets.proofs.Distincts.{Distinct-append}
 use Rattle.finite_sets.proofs.Pairs.{Pairwise, Pairwise-from_AllPairs}
+use Rattle.finite_sets.proofs.Images.{Distinct-flat_map}
 use Rattle.tech_model.specs.declared.raw.Label.{Label}
 use Rattle.tech_model.specs.declared.raw.RawTech.{RawTech}
 use Rattle.tech_model.specs.WellFormed.{IsWellFormed}
-use Rattle.tech_model.proofs.RuleLaws.{In-flat_map_source}
 use Rattle.ext_model.specs.declared.records.NodeRec.{NodeRec}
 use Rattle.ext_model.specs.RecordNames.{names_of}
 use Rattle.layout_model.specs.LayerTypes.{HasTypesOf}
@@ -17,14 +16,6 @@ use Rattle.layout_model.proofs.PlaceLaws.{IsBefore-irreflexive}
 use Rattle.cell_nodes.specs.NodeRecords.{IsNodeRecord, AreNodeRecords}
 use Rattle.own_record_laws.proofs.NodesByName.{one_name_one_node}
 use Rattle.own_record_laws.proofs.PreferredNames.{one_least, recorded}
-
--- parts that no two things share, and that differ within each, differ
-Distinct-parts : {X Y : Type 0} (parts : X → List Y) (xs : List X) → Pairwise (λ a b. (y : Y) → In y (parts a) → In y (parts b) → ⊥) xs
-    → ((x : X) → In x xs → Distinct (parts x)) → Distinct (flat_map parts xs)
-Distinct-parts parts [] apart each = tt
-Distinct-parts parts (x ∷ xs) apart each =
-    Distinct-append (parts x) (flat_map parts xs) (each x (inl (λ i. x))) (Distinct-parts parts xs apart.1 (λ y here. each y (inr here)))
-    (λ y here there. let source = In-flat_map_source parts y xs there in apart.0 source.0 source.1.0 y here source.1.1)
 
 module _ (raw : RawTech) (layout : Layout) (labels : List Label) (well : IsWellFormed raw) (typed : HasTypesOf raw layout) (nodes : List NodeRec)
     (are : AreNodeRecords raw layout labels nodes) where
@@ -48,4 +39,4 @@ module _ (raw : RawTech) (layout : Layout) (labels : List Label) (well : IsWellF
 
   -- so all names differ
   pub names_differ : Distinct (flat_map names_of nodes)
-  names_differ = Distinct-parts names_of nodes nodes_apart (λ node listed. (recorded raw layout labels nodes are node listed).is.names.0)
+  names_differ = Distinct-flat_map names_of nodes nodes_apart (λ node listed. (recorded raw layout labels nodes are node listed).is.names.0)

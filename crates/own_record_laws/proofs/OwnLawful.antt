@@ -7,14 +7,13 @@ use Rattle.std.proofs.lemmas.Int.{ints}
 use Rattle.std.proofs.lemmas.List.{length-map}
 use Rattle.finite_sets.specs.Lists.{In, Distinct}
 use Rattle.finite_sets.proofs.Members.{In-get_or, In-index}
-use Rattle.finite_sets.proofs.Searches.{All-from_In}
+use Rattle.finite_sets.proofs.Searches.{All-from_In, All-In}
+use Rattle.finite_sets.proofs.Images.{In-flat_map}
 use Rattle.geo_core.specs.Covering.{Covers}
 use Rattle.tech_model.specs.declared.raw.ClassRec.{ClassRec}
 use Rattle.tech_model.specs.declared.raw.Label.{Label}
 use Rattle.tech_model.specs.declared.raw.RawTech.{RawTech}
 use Rattle.tech_model.specs.WellFormed.{IsWellFormed, IsClass}
-use Rattle.tech_model.proofs.RuleLaws.{In-flat_map}
-use Rattle.tech_model.proofs.WellFormedLaws.{All_In}
 use Rattle.ext_model.specs.declared.records.UseRec.{UseRec}
 use Rattle.ext_model.specs.declared.records.NodeRec.{NodeRec}
 use Rattle.ext_model.specs.declared.records.FetRec.{FetRec}
@@ -64,8 +63,8 @@ module _ (raw : RawTech) (layout : Layout) (labels : List Label) (name : List �
       let type = (typed least is.material).0 in
       let covers = range least is.material in
       let small : (measure : ℤ × ℤ) → In measure node.measures → IsSmallMeasure measure = λ measure here.
-      All_In IsSmallMeasure node.measures measure (small_measures least node is) here in
-      let cap = capacitance_small raw raw.classes node.measures (λ class here. All_In (IsClass raw) raw.classes class well.classes here) small in
+      All-In IsSmallMeasure node.measures measure (small_measures least node is) here in
+      let cap = capacitance_small raw raw.classes node.measures (λ class here. All-In (IsClass raw) raw.classes class well.classes here) small in
       let few = well.classes_limit in
       let most = cap.1 in
       let value = is.cap in

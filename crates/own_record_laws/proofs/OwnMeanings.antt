@@ -4,7 +4,7 @@ use Rattle.std.proofs.lemmas.List.{append-nil}
 use Rattle.std.proofs.lemmas.Simd.{map-map}
 use Rattle.finite_sets.specs.Lists.{In, Distinct}
 use Rattle.finite_sets.proofs.Members.{In-map_source}
-use Rattle.finite_sets.proofs.Pairs.{AllPairs-from_Pairwise, Pairwise-from_AllPairs}
+use Rattle.finite_sets.proofs.Pairs.{AllPairs-from_Pairwise, Pairwise-from_AllPairs, Pairwise-unmap}
 use Rattle.geo_core.specs.declared.squares.Square.{Square}
 use Rattle.tech_model.specs.declared.raw.Label.{Label}
 use Rattle.tech_model.specs.declared.raw.RawTech.{RawTech}
@@ -29,7 +29,6 @@ use Rattle.own_records.specs.OwnCircuits.{IsOwnCircuit}
 use Rattle.own_records.specs.OwnRecords.{IsOwnRecord}
 use Rattle.own_record_laws.specs.Laws.{OwnRecordsMeanTheLayout}
 use Rattle.own_record_laws.proofs.OneElement.{root_of, only_record, only_element}
-use Rattle.own_record_laws.proofs.Parts.{Pairwise-unmap}
 use Rattle.own_record_laws.proofs.PreferredNames.{recorded, in_some, goes_by}
 use Rattle.own_record_laws.proofs.SameFets.{Found, IsKept, AreKept, kept_records, side_of}
 use Rattle.own_record_laws.proofs.SameNodes.{flat_is_own, own_is_flat}

@@ -1,15 +1,13 @@
 -- Lists each of whose things has parts, and sums over the one thing that passes a test.
-use Rattle.std.proofs.Common.{◌≡◌, ℤ, pos, Bool, true, cond, List, [], ◌∷◌, map, inl, inr, refl, sym, ◌∙◌, ap, subst, arith}
+use Rattle.std.proofs.Common.{◌≡◌, ℤ, pos, Bool, true, cond, List, [], ◌∷◌, inl, inr, refl, sym, ◌∙◌, ap, subst, arith}
 use Rattle.std.specs.List.{flat_map}
 use Rattle.std.proofs.lemmas.Bool.{cases_Bool}
 use Rattle.std.proofs.lemmas.Int.{ints}
 use Rattle.finite_sets.specs.Lists.{In, Distinct}
 use Rattle.finite_sets.specs.Total.{sum_on}
 use Rattle.finite_sets.proofs.Distincts.{Distinct-append_apart, Distinct-append_right}
-use Rattle.finite_sets.proofs.Members.{In-map}
-use Rattle.finite_sets.proofs.Pairs.{Pairwise}
 use Rattle.finite_sets.proofs.Sums.{sum_on-nothing}
-use Rattle.tech_model.proofs.RuleLaws.{In-flat_map}
+use Rattle.finite_sets.proofs.Images.{In-flat_map}
 
 -- where no part stands twice, things that share a part are one
 pub one_owner : {X Y : Type 0} (parts : X → List Y) (xs : List X) (y : Y) (a b : X) → Distinct (flat_map parts xs) → In a xs → In b xs → In y (parts a)
@@ -54,31 +52,3 @@ sum_on-only {X} test w x (z ∷ zs) distinct (inr here) passes only =
     ] in
     let rest = sum_on-only test w x zs distinct.1 here passes (λ y later. only y (inr later)) in
     omega (arith, ints, first, rest)
-
--- what holds of any two of an image holds of the images of any two
-pub Pairwise-unmap : {X Y : Type 0} (f : X → Y) (R : Y → Y → Type 0) (xs : List X) → Pairwise R (map f xs) → Pairwise (λ a b. R (f a) (f b)) xs
-Pairwise-unmap f R [] pairs = tt
-Pairwise-unmap f R (x ∷ xs) pairs = ((λ y here. pairs.0 (f y) (In-map f y xs here)), Pairwise-unmap f R xs pairs.1)
-
--- things whose images differ differ
-pub Distinct-unmap : {X Y : Type 0} (f : X → Y) (xs : List X) → Distinct (map f xs) → Distinct xs
-Distinct-unmap f [] distinct = tt
-Distinct-unmap f (x ∷ xs) distinct = ((λ here. distinct.0 (In-map f x xs here)), Distinct-unmap f xs distinct.1)
-
--- things of a list whose images are one are one, where images differ
-pub one_source : {X Y : Type 0} (f : X → Y) (xs : List X) (a b : X) → Distinct (map f xs) → In a xs → In b xs → f a ≡ f b → a ≡ b
-one_source f [] a b distinct p q same = absurd p
-one_source f (x ∷ xs) a b distinct (inl p) (inl q) same = sym p ∙ q
-one_source {Y = Y} f (x ∷ xs) a b distinct (inl p) (inr q) same =
-    let P : Y → Type 0 = λ y. In y (map f xs) in absurd (distinct.0 (subst P (sym same ∙ ap f (sym p)) (In-map f b xs q)))
-one_source {Y = Y} f (x ∷ xs) a b distinct (inr p) (inl q) same =
-    let P : Y → Type 0 = λ y. In y (map f xs) in absurd (distinct.0 (subst P (same ∙ ap f (sym q)) (In-map f a xs p)))
-one_source f (x ∷ xs) a b distinct (inr p) (inr q) same = one_source f xs a b distinct.1 p q same
-
--- a map that leaves each thing of a list as it is
-pub map-fixed : {X : Type 0} (f : X → X) (xs : List X) → ((x : X) → In x xs → f x ≡ x) → map f xs ≡ xs
-map-fixed f [] fixed = refl
-map-fixed f (x ∷ xs) fixed =
-    let first = fixed x (inl refl) in
-    let rest = map-fixed f xs (λ y here. fixed y (inr here)) in
-    (λ i. first i ∷ rest i)

@@ -8,6 +8,7 @@ use Rattle.finite_sets.proofs.Members.{In-map, In-map_source}
 use Rattle.finite_sets.proofs.Pairs.{AllPairs-from_Pairwise}
 use Rattle.finite_sets.proofs.Searches.{All-from_In}
 use Rattle.finite_sets.proofs.Sums.{sum_on-same_things}
+use Rattle.finite_sets.proofs.Images.{Distinct-unmap}
 use Rattle.tech_model.specs.declared.raw.Label.{Label}
 use Rattle.tech_model.specs.declared.raw.RawTech.{RawTech}
 use Rattle.ext_model.specs.declared.records.TermRec.{TermRec}
@@ -18,7 +19,6 @@ use Rattle.layout_model.specs.Transistors.{Transistor, IsTransistor, AreFetsInOr
 use Rattle.full_names.proofs.ListOrders.{pairwise_names, Distinct-names}
 use Rattle.circuit_model.specs.FullNames.{AreInNameOrder}
 use Rattle.own_records.specs.FetRecords.{IsOfNode, IsFetRecord, IsNameBefore, AreFetRecords, terminal_names}
-use Rattle.own_record_laws.proofs.Parts.{Distinct-unmap}
 use Rattle.own_record_laws.proofs.SameTerminals.{sides_of}
 
 -- transistors whose nodes go by their names

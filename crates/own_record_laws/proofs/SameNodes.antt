@@ -6,12 +6,11 @@ use Rattle.std.specs.Str.{bytes_eq}
 use Rattle.std.proofs.lemmas.Int.{ints}
 use Rattle.std.proofs.lemmas.List.{ext_get_or}
 use Rattle.std.proofs.lemmas.List.Elements.{All-contains}
-use Rattle.std.proofs.lemmas.List.Folds.{list_any_at}
 use Rattle.std.proofs.lemmas.Slice.Eq.{bytes_eq-Decides}
 use Rattle.finite_sets.specs.Lists.{In}
 use Rattle.finite_sets.specs.Total.{sum_on}
-use Rattle.finite_sets.proofs.Members.{In-index, Contains-from_In}
-use Rattle.finite_sets.proofs.Searches.{find-In, find-passes}
+use Rattle.finite_sets.proofs.Members.{Contains-from_In}
+use Rattle.finite_sets.proofs.Searches.{find-In, find-passes, In-from_list_any, list_any-of_In}
 use Rattle.geo_core.specs.declared.squares.Square.{Square}
 use Rattle.ext_model.specs.declared.records.NodeRec.{NodeRec}
 use Rattle.ext_model.specs.declared.records.MergeRec.{MergeRec}
@@ -22,16 +21,9 @@ use Rattle.circuit_model.specs.Elements.{Element, placed}
 use Rattle.circuit_model.specs.FullNames.{name_in, full_names, AreInNameOrder}
 use Rattle.circuit_model.specs.FlatNodes.{is_among, has_name, gives_name, sum_of, measure_of, IsPlaced, IsFlatNode, AreFlatNodes}
 use Rattle.full_names.proofs.ListOrders.{same_in_order}
-use Rattle.full_names.proofs.NameBytes.{among_In}
 use Rattle.own_record_laws.proofs.OneElement.{root_of}
 use Rattle.own_record_laws.proofs.Parts.{one_owner, distinct_owners, sum_on-only}
 use Rattle.own_record_laws.proofs.FlatNames.{name_is, among_names, node_names_are, full_is, from_full, one_node, of_one_node}
-
--- what stands among names is seen there
-pub In-is_among : (names : List (List ℕ)) (name : List ℕ) → In name names → is_among names name ≡ true
-In-is_among names name here =
-    let at = In-index name names here in
-    list_any_at (bytes_eq name) names at.0 [] at.1.0 ((bytes_eq-Decides name (get_or names at.0 [])).1 (sym (at.1.1 [])))
 
 module _ (ext : CellExt) (lawful : IsLawful ext) (merges : ext.merges ≡ [])
     (ordered : (node : NodeRec) → In node ext.nodes → AreInNameOrder (names_of node)) where
@@ -68,7 +60,7 @@ module _ (ext : CellExt) (lawful : IsLawful ext) (merges : ext.merges ≡ [])
       let carrier : find (gives_name (root_of ext) flat.name) ext.nodes ≡ Some is.part = subst C (sym at) is.carrier in
       let within = find-In (gives_name (root_of ext) flat.name) ext.nodes is.part carrier in
       let gives : gives_name (root_of ext) flat.name is.part ≡ true = find-passes (gives_name (root_of ext) flat.name) ext.nodes is.part carrier in
-      let named = among_In (map (name_in (root_of ext)) (names_of is.part)) flat.name gives in
+      let named = In-from_list_any bytes_eq bytes_eq-Decides flat.name (map (name_in (root_of ext)) (names_of is.part)) gives in
       let owns = subst (In flat.name) (node_names_are ext lawful is.part within) named in
       let same = same_part flat.name is.part part within listed owns here in
       let point : Path Square (record { x = flat.x; y = flat.y }) (record { x = is.part.x; y = is.part.y }) =
@@ -92,9 +84,9 @@ module _ (ext : CellExt) (lawful : IsLawful ext) (merges : ext.merges ≡ [])
       same_part n.name n part h listed (inl refl)
       (subst (λ (name : List ℕ). In name (names_of part)) (preferred n h)
       (subst (λ (names : List (List ℕ)). In (name_in (root_of ext) n.name) names) same
-      (among_In (names_of flat) (name_in (root_of ext) n.name) passes))) in
+      (In-from_list_any bytes_eq bytes_eq-Decides (name_in (root_of ext) n.name) (names_of flat) passes))) in
       let distinct = distinct_owners names_of (λ (n : NodeRec). n.name) ext.nodes (λ n. inl refl) lawful.node_names_differ in
-      let nodes = sum_on-only test of_node part ext.nodes distinct listed (In-is_among (names_of flat) (name_in (root_of ext) part.name) own) only in
+      let nodes = sum_on-only test of_node part ext.nodes distinct listed (list_any-of_In bytes_eq bytes_eq-Decides (name_in (root_of ext) part.name) (names_of flat) own) only in
       let none : sum_on (λ (merge : MergeRec). cond (has_name flat (name_in (root_of ext) merge.first)) (of_merge merge) (pos 0)) ext.merges ≡ pos 0 =
       ap (sum_on (λ (merge : MergeRec). cond (has_name flat (name_in (root_of ext) merge.first)) (of_merge merge) (pos 0))) merges in
       omega (arith, ints, nodes, none)

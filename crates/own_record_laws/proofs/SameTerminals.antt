@@ -6,7 +6,8 @@ use Rattle.std.proofs.lemmas.Bool.{false≢true}
 use Rattle.std.proofs.lemmas.Slice.Eq.{bytes_eq-Decides}
 use Rattle.finite_sets.specs.Lists.{In, Distinct}
 use Rattle.finite_sets.proofs.Members.{In-map, In-map_source}
-use Rattle.finite_sets.proofs.Searches.{find-In, find-passes, find-none}
+use Rattle.finite_sets.proofs.Searches.{find-In, find-passes, find-none, In-from_list_any, list_any-of_In}
+use Rattle.finite_sets.proofs.Images.{Distinct-unmap, one_from_Distinct}
 use Rattle.ext_model.specs.declared.records.NodeRec.{NodeRec}
 use Rattle.ext_model.specs.declared.records.TermRec.{TermRec}
 use Rattle.ext_model.specs.declared.records.FetRec.{FetRec}
@@ -16,11 +17,10 @@ use Rattle.ext_model.specs.RecordNames.{names_of}
 use Rattle.circuit_model.specs.FullNames.{AreInNameOrder}
 use Rattle.circuit_model.specs.FlatNodes.{has_name, AreFlatNodes}
 use Rattle.circuit_model.specs.FlatFets.{node_name, side_name, IsFlatFet}
-use Rattle.full_names.proofs.NameBytes.{among_In}
 use Rattle.own_record_laws.proofs.OneElement.{root_of}
-use Rattle.own_record_laws.proofs.Parts.{one_owner, Distinct-unmap, one_source, sum_on-only}
+use Rattle.own_record_laws.proofs.Parts.{one_owner, sum_on-only}
 use Rattle.own_record_laws.proofs.FlatNames.{name_is, among_names}
-use Rattle.own_record_laws.proofs.SameNodes.{In-is_among, flat_is_own, own_is_flat}
+use Rattle.own_record_laws.proofs.SameNodes.{flat_is_own, own_is_flat}
 
 -- The name is the preferred one of a node.
 pub record IsPreferred (nodes : List NodeRec) (name : List ℕ) : Type 0 where
@@ -41,11 +41,11 @@ module _ (ext : CellExt) (lawful : IsLawful ext) (merges : ext.merges ≡ []) (o
       let node = preferred.node in
       let flat = own_is_flat ext lawful merges ordered nodes are node preferred.listed in
       let fails = find-none (λ (n : NodeRec). has_name n name) nodes node none flat in
-      absurd (false≢true (sym fails ∙ In-is_among (names_of node) name (inl preferred.is)))
+      absurd (false≢true (sym fails ∙ list_any-of_In bytes_eq bytes_eq-Decides name (names_of node) (inl preferred.is)))
   found_name name preferred (Some flat) found =
       let test : NodeRec → Bool = λ n. has_name n name in
       let own = flat_is_own ext lawful merges ordered nodes are flat (find-In test nodes flat found) in
-      let has = among_In (names_of flat) name (find-passes test nodes flat found) in
+      let has = In-from_list_any bytes_eq bytes_eq-Decides name (names_of flat) (find-passes test nodes flat found) in
       let same = one_owner names_of ext.nodes name flat preferred.node lawful.node_names_differ own preferred.listed has (inl preferred.is) in
       ap (λ (n : NodeRec). n.name) same ∙ preferred.is
 
@@ -72,7 +72,7 @@ module _ (ext : CellExt) (lawful : IsLawful ext) (merges : ext.merges ≡ []) (o
         let passes : test part ≡ true =
         (bytes_eq-Decides side.node (side_name nodes (root_of ext) part)).1 (sym named ∙ sym (side_is part (preferred part there))) in
         let only : (p : TermRec) → In p fet.terminals → test p ≡ true → p ≡ part = λ p h yes_p.
-        one_source (λ (t : TermRec). t.node) fet.terminals p part distinct h there
+        one_from_Distinct (λ (t : TermRec). t.node) fet.terminals p part distinct h there
         (sym (side_is p (preferred p h)) ∙ sym ((bytes_eq-Decides side.node (side_name nodes (root_of ext) p)).0 yes_p) ∙ sym named) in
         let once = Distinct-unmap (λ (t : TermRec). t.node) fet.terminals distinct in
         let length : side.length ≡ part.length = is.lengths side here ∙ sum_on-only test (λ p. p.length) part fet.terminals once there passes only in

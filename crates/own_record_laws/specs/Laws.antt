@@ -1,6 +1,5 @@
 -- What the record of a cell without uses is held to.
 use Rattle.std.specs.Prelude.{◌≡◌, ◌⊎◌, ℕ, List, [], ◌∷◌, All}
-use Rattle.geo_core.specs.declared.limits.Limit.TheVariants.{Nodes, Names}
 use Rattle.tech_model.specs.declared.raw.Label.{Label}
 use Rattle.tech_model.specs.declared.raw.RawTech.{RawTech}
 use Rattle.tech_model.specs.Rules.{KeepsRules}
@@ -14,6 +13,7 @@ use Rattle.names.specs.Labels.{IsLabelOf}
 use Rattle.cell_paint.specs.Paints.{IsSoundPaint}
 use Rattle.circuit_model.specs.declared.faults.FlatFault.{FlatFault}
 use Rattle.circuit_model.specs.declared.faults.FlatFault.TheVariants.{TooMany}
+use Rattle.circuit_model.specs.declared.limits.CircuitLimit.TheVariants.{Nodes, Names}
 use Rattle.circuit_model.specs.Refusals.{IsFlatOf, IsFlatFaultOf}
 use Rattle.own_records.specs.OwnCircuits.{IsOwnCircuit}
 use Rattle.own_records.specs.OwnRecords.{IsOwnRecord}

@@ -3,12 +3,11 @@ use Rattle.std.proofs.Common.{◌≡◌, ℕ, ℤ, Bool, false, List, [], ◌∷
 use Rattle.finite_sets.specs.Lists.{In}
 use Rattle.finite_sets.specs.Total.{Total}
 use Rattle.finite_sets.proofs.Members.{In-map_source}
-use Rattle.finite_sets.proofs.Searches.{All-from_In}
+use Rattle.finite_sets.proofs.Searches.{All-from_In, All-In}
 use Rattle.geo_core.specs.declared.squares.Square.{Square}
 use Rattle.tech_model.specs.declared.raw.RawTech.{RawTech}
 use Rattle.tech_model.specs.Rules.{KeepsRules}
 use Rattle.tech_model.specs.WellFormed.{IsClass, IsWellFormed}
-use Rattle.tech_model.proofs.WellFormedLaws.{All_In}
 use Rattle.layout_model.specs.Places.{Place}
 use Rattle.layout_model.specs.Technologies.{Class, class_of, rules_of}
 use Rattle.measures.proofs.MeasureLaws.{space_out}
@@ -32,7 +31,7 @@ pub space_in_none : (raw : RawTech) → IsWellFormed raw → (class : Class) →
 space_in_none raw formed class listed =
     let source = In-map_source class_of class raw.classes listed in
     subst (λ (c : Class). c.contains 0 ≡ false) source.1.1
-    (space_out raw source.0 (All_In (IsClass raw) raw.classes source.0 formed.classes source.1.0))
+    (space_out raw source.0 (All-In (IsClass raw) raw.classes source.0 formed.classes source.1.0))
 
 -- The place is of the group of this name, in the squares at which parts meet.
 abbrev pub IsWithin : RawTech → (Square → Bool) → NamedTree → List ℕ → Place → Type 0

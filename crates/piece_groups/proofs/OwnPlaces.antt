@@ -3,6 +3,7 @@ use Rattle.std.proofs.Common.{◌<◌, ℕ, List, length, map, subst}
 use Rattle.std.specs.List.{flat_map, range_with_len}
 use Rattle.finite_sets.specs.Lists.{In}
 use Rattle.finite_sets.proofs.Members.{In-map}
+use Rattle.finite_sets.proofs.Images.{In-flat_map}
 use Rattle.geo_core.specs.declared.squares.Rect.{Rect}
 use Rattle.geo_core.specs.Covering.{Covers}
 use Rattle.rect_contacts.specs.Squares.{squares_of}
@@ -10,7 +11,6 @@ use Rattle.rect_contacts.proofs.BothWays.{Lists-below}
 use Rattle.rect_contacts.proofs.Leading.{Lists-squares_of}
 use Rattle.tech_model.specs.declared.raw.RawTech.{RawTech}
 use Rattle.tech_model.specs.WellFormed.{IsWellFormed}
-use Rattle.tech_model.proofs.RuleLaws.{In-flat_map}
 use Rattle.layout_model.specs.LayerTypes.{HasTypesOf}
 use Rattle.layout_model.specs.Layouts.{Layout, IsMaterial}
 use Rattle.layout_model.specs.Places.{Place}

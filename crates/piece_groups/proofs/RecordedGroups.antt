@@ -1,6 +1,7 @@
 -- The groups of marked pieces are those of the cell's record.
 use Rattle.std.proofs.Common.{◌≡◌, ℕ, Bool, List, length, inl, inr, refl, sym, ap, subst, ◌∙◌}
 use Rattle.finite_sets.specs.Lists.{In}
+use Rattle.finite_sets.proofs.Places.{slice_get-In}
 use Rattle.geo_core.specs.declared.squares.Square.{Square}
 use Rattle.tech_model.specs.declared.raw.RawTech.{RawTech}
 use Rattle.tech_model.specs.Rules.{KeepsRules}
@@ -11,7 +12,6 @@ use Rattle.layout_model.specs.Places.{Place}
 use Rattle.layout_model.specs.Technologies.{rules_of}
 use Rattle.offences.specs.declared.plane_stacks.PlaneStack.{PlaneStack}
 use Rattle.offences.specs.Offences.{SetLayout}
-use Rattle.full_names.proofs.Lookups.{In-slice_get}
 use Rattle.named_trees.specs.NamedTrees.{NamedTree}
 use Rattle.named_trees.specs.FlatLayouts.{flat_layout}
 use Rattle.named_trees.specs.MemberGroups.{IsGroupName, IsMemberAt}
@@ -78,7 +78,7 @@ module _ (raw : RawTech) (formed : IsWellFormed raw) (rules : KeepsRules raw) (w
   -- the group of a place at which a listed member stands is among them
   listed_group : (place : Place) (name : List ℕ) → IsMemberAt raw tree place name → In name names → HasGroupIn raw tree groups place
   listed_group place name has listed =
-      let at = In-slice_get names name listed in
+      let at = slice_get-In name names listed in
       let found = marked.whole at.0 name at.1 in
       let group = found.0 in
       let is = group_is group found.1 in

@@ -2,6 +2,7 @@
 use Rattle.std.proofs.Common.{◌≡◌, ℕ, pos, Bool, true, List, [], ◌∷◌, map, inl, inr, refl, sym, subst, ◌∙◌}
 use Rattle.finite_sets.specs.Lists.{In}
 use Rattle.finite_sets.proofs.Totals.{Total-none}
+use Rattle.finite_sets.proofs.Places.{In-slice_get}
 use Rattle.geo_core.specs.declared.squares.Square.{Square}
 use Rattle.tech_model.specs.declared.raw.RawTech.{RawTech}
 use Rattle.tech_model.specs.Rules.{KeepsRules}
@@ -11,7 +12,6 @@ use Rattle.layout_model.specs.Places.{Place}
 use Rattle.layout_model.specs.Technologies.{Class, rules_of}
 use Rattle.offences.specs.declared.plane_stacks.PlaneStack.{PlaneStack}
 use Rattle.offences.specs.Offences.{SetLayout}
-use Rattle.full_names.proofs.Lookups.{slice_get-In}
 use Rattle.named_trees.specs.NamedTrees.{NamedTree}
 use Rattle.named_trees.specs.MemberGroups.{IsGroupName, IsMemberAt, IsMemberOf}
 use Rattle.tree_records.specs.Merges.{MemberGroup, IsMemberGroup, is_zero_adjustment, zero_adjustment}
@@ -67,7 +67,7 @@ module _ (raw : RawTech) (formed : IsWellFormed raw) (rules : KeepsRules raw) (w
         let at = larger_groups_within raw formed rules within tree others pieces.restricted place member other is_of_its_group is differ in
         let listed =
         member_is_listed raw formed rules within tree others stacks names pairs tiles count marks pieces at.other member at.has at.inside in
-        absurd (unlisted (slice_get-In names listed.0 member listed.1))
+        absurd (unlisted (In-slice_get names listed.0 member listed.1))
   ]
 
   -- the group goes by its name
@@ -93,7 +93,7 @@ module _ (raw : RawTech) (formed : IsWellFormed raw) (rules : KeepsRules raw) (w
       let same : found.0 ≡ member = sym (only_one found.0 (other, together, at)) in
       let listed =
       member_is_listed raw formed rules within tree others stacks names pairs tiles count marks pieces other found.0 at is.1 in
-      unlisted (subst (λ (name : List ℕ). In name names) same (slice_get-In names listed.0 found.0 listed.1))
+      unlisted (subst (λ (name : List ℕ). In name names) same (In-slice_get names listed.0 found.0 listed.1))
 
   -- so the member alone is a group, and adds nothing
   pub alone_is_group : HasRecordsBelow raw tree → IsMemberGroup raw tree alone

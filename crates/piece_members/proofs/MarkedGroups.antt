@@ -6,8 +6,8 @@ use Rattle.finite_sets.specs.Chain.{EitherWay}
 use Rattle.finite_sets.specs.Lists.{In}
 use Rattle.finite_sets.proofs.Chains.{Chain-one, Chain-append, Chain-carries}
 use Rattle.finite_sets.proofs.Members.{In-map, In-map_source}
+use Rattle.finite_sets.proofs.Places.{one_place}
 use Rattle.geo_core.specs.declared.squares.Square.{Square}
-use Rattle.geo_core.proofs.ElementLaws.{one_place}
 use Rattle.partition.specs.Divides.{IsPair}
 use Rattle.tech_model.specs.declared.raw.RawTech.{RawTech}
 use Rattle.tech_model.specs.Rules.{KeepsRules}

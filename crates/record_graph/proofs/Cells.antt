@@ -1,5 +1,5 @@
 -- The records of cells by numbers.
-use Rattle.std.proofs.Common.{◌≡◌, ◌⊎◌, ◌<◌, ◌≤◌, ◌+◌, ℕ, zero, suc, Bool, true, false, ◌||◌, Option, Some, None, List, [], ◌∷◌, ◌++◌, length, map, take}
+use Rattle.std.proofs.Common.{◌≡◌, ◌⊎◌, ◌<◌, ◌≤◌, ◌+◌, ℕ, zero, suc, Bool, true, false, Option, Some, None, List, [], ◌∷◌, ◌++◌, length, map, take}
 use Rattle.std.proofs.Common.{get_or, inl, inr, refl, sym, ◌∙◌, ap, subst, arith, cond, not}
 use Rattle.std.specs.Prelude.{slice_get, nat_lt}
 use Rattle.std.specs.List.{list_any, position, position_or_len}
@@ -9,8 +9,8 @@ use Rattle.std.proofs.lemmas.Bool.{ltb-false, ltb-true}
 use Rattle.std.proofs.lemmas.List.{length-map, get_or-map, map-append}
 use Rattle.std.proofs.lemmas.Option.{slice_get_past}
 use Rattle.std.proofs.lemmas.Slice.Eq.{bytes_eq-Decides}
-use Rattle.finite_sets.specs.Lists.{In, Distinct}
-use Rattle.finite_sets.proofs.Searches.{find-passes}
+use Rattle.finite_sets.specs.Lists.{Distinct}
+use Rattle.finite_sets.proofs.Searches.{find-passes, list_any-of_absent}
 use Rattle.finite_sets.proofs.Distincts.{Distinct-append_left, Distinct-append_apart, Distinct-places}
 use Rattle.ext_model.specs.declared.records.CellExt.{CellExt}
 use Rattle.circuit_model.specs.Elements.{ext_of}
@@ -27,15 +27,6 @@ bytes_eq-sym a b = step (bytes_eq a b) (bytes_eq b a) refl refl
     step false false e f = refl
     step true false e f = absurd (let g = (bytes_eq-Decides b a).1 (sym ((bytes_eq-Decides a b).0 e)) in cc)
     step false true e f = absurd (let g = (bytes_eq-Decides a b).1 (sym ((bytes_eq-Decides b a).0 f)) in cc)
-
--- a name that is not in a list passes no test there
-not_among : (name : List ℕ) (names : List (List ℕ)) → (In name names → ⊥) → list_any (bytes_eq name) names ≡ false
-not_among name [] none = refl
-not_among name (other ∷ names) none = step (bytes_eq name other) refl (not_among name names (λ h. none (inr h)))
-  where
-    step : (t : Bool) → bytes_eq name other ≡ t → list_any (bytes_eq name) names ≡ false → t || list_any (bytes_eq name) names ≡ false
-    step true e more = absurd (none (inl (sym ((bytes_eq-Decides name other).0 e))))
-    step false e more = more
 
 -- ---- the record of a cell and its number
 
@@ -120,7 +111,7 @@ one_number exts top once a b h k same = step (cases a b)
 pub new_cell : (exts : List CellExt) (k : ℕ) (ext : CellExt) → Distinct (cells_of exts) → k < length exts → get_or exts k ext ≡ ext
     → list_any (bytes_eq ext.cell) (cells_of (take k exts)) ≡ false
 new_cell exts k ext once h is =
-    not_among ext.cell (cells_of (take k exts))
+    list_any-of_absent bytes_eq bytes_eq-Decides ext.cell (cells_of (take k exts))
     (λ among. Distinct-append_apart (cells_of (take k exts)) (ext.cell ∷ []) (Distinct-append_left (cells_of (take k exts) ++ ext.cell ∷ []) rest.0
     (subst Distinct rest.1 once)) ext.cell among (inl refl))
   where

@@ -8,9 +8,10 @@ use Rattle.std.specs.Str.{bytes_eq}
 use Rattle.std.proofs.lemmas.List.{length-map, get_or-map, get_or_past, reverse-append}
 use Rattle.std.proofs.lemmas.Option.{get_or_from_slice_get, slice_get_cases}
 use Rattle.finite_sets.specs.Lists.{In, Distinct}
-use Rattle.finite_sets.proofs.Members.{In-push_cases, In-append_left, In-push, In-map_source}
+use Rattle.finite_sets.proofs.Members.{In-map_source}
 use Rattle.finite_sets.proofs.Distincts.{Distinct-append_left, Distinct-append_apart}
 use Rattle.finite_sets.proofs.Searches.{All-from_In}
+use Rattle.finite_sets.proofs.Images.{In-reverse, In-reverse_source}
 use Rattle.use_walk.specs.declared.faults.UsePlace.{UsePlace}
 use Rattle.use_walk.specs.declared.faults.WalkFault.{WalkFault}
 use Rattle.use_walk.specs.declared.faults.WalkFault.TheVariants.{NoCell as NoCellAt, Cycle as CycleAt, Memory as NoMemory}
@@ -30,16 +31,6 @@ use Rattle.record_graph.proofs.Walks.{fault_named, cell_of_use, cell_named}
 
 reverse-cons : {X : Type 0} (x : X) (xs : List X) → reverse (x ∷ xs) ≡ reverse xs ++ x ∷ []
 reverse-cons x xs = reverse-append (x ∷ []) xs
-
-In-reverse : {X : Type 0} (a : X) (xs : List X) → In a xs → In a (reverse xs)
-In-reverse a [] h = h
-In-reverse a (x ∷ xs) (inl e) = subst (In a) (sym (reverse-cons x xs)) (subst (λ z. In z (reverse xs ++ x ∷ [])) e (In-push (reverse xs) x))
-In-reverse a (x ∷ xs) (inr h) = subst (In a) (sym (reverse-cons x xs)) (In-append_left a (reverse xs) (x ∷ []) (In-reverse a xs h))
-
-In-from_reverse : {X : Type 0} (a : X) (xs : List X) → In a (reverse xs) → In a xs
-In-from_reverse a [] h = h
-In-from_reverse a (x ∷ xs) h =
-    elim (In-push_cases a (reverse xs) x (subst (In a) (reverse-cons x xs) h)) [ inl l ↦ inr (In-from_reverse a xs l) | inr e ↦ inl e ]
 
 Distinct-from_reverse : {X : Type 0} (xs : List X) → Distinct (reverse xs) → Distinct xs
 Distinct-from_reverse [] h = h
@@ -154,7 +145,7 @@ module _ (exts : List CellExt) where
     long = length-map graph found_goals ∙ long;
     once = Distinct-from_reverse order walked.once;
     within = All-from_In (λ cell. cell < length exts) order (λ cell h. let k = walked.within cell (In-reverse cell order h) in omega (arith, k, long));
-    root_in = In-from_reverse root order walked.root_in;
+    root_in = In-reverse_source root order walked.root_in;
     done = are_done (reverse order) (λ cell h. let k = walked.within cell h in omega (arith, k, long)) walked.closed;
   }
 

@@ -7,8 +7,8 @@ ghost use Rattle.record_graph.specs.Goals.{cells_of, goals_in, goal_graph, found
 
 use circuit_model::FlatFault;
 use ext_model::{CellExt, UseRec};
-use geo_core::{GeoFault, List, Name};
 use name_index::NameIndex;
+use names_lists::{List, Name};
 use std::alloc::{AllocError, Global};
 use use_walk::{UsePlace, WalkFault, walk};
 
@@ -86,7 +86,7 @@ fn all_found(alloc: Global, graph: &[List<Option<usize>>]) -> Result<List<List<u
 }
 
 // The name of the cell that the use has.
-fn cell_at(alloc: Global, exts: &[CellExt], place: UsePlace) -> Result<Name, GeoFault>
+fn cell_at(alloc: Global, exts: &[CellExt], place: UsePlace) -> Result<Name, AllocError>
     requires { IsUseAt exts.now place }
     ensures { IfOk result (λ name. IsCellAt exts.now place name) }
 {
@@ -94,7 +94,7 @@ fn cell_at(alloc: Global, exts: &[CellExt], place: UsePlace) -> Result<Name, Geo
 }
 
 // The fault of a walk, with the name of the cell that the use has. Want of memory alone refuses.
-fn named(alloc: Global, exts: &[CellExt], fault: WalkFault) -> Result<FlatFault, GeoFault>
+fn named(alloc: Global, exts: &[CellExt], fault: WalkFault) -> Result<FlatFault, AllocError>
     requires { IsUseOf exts.now fault }
     ensures { IfOk result (λ named. IsNamedFault exts.now fault named) }
 {

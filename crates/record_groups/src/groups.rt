@@ -4,8 +4,8 @@ ghost use Rattle.std.specs.Option.{option_copied, unwrap_or};
 ghost use Rattle.record_groups.specs.MergedMembers.{first_member};
 
 use ext_model::{CellExt, MergeRec};
-use geo_core::Name;
 use indexmap::IndexMap;
+use names_lists::Name;
 use std::alloc::{AllocError, Global};
 use std::marker::Model;
 

@@ -1,6 +1,6 @@
 // A record with a part of every kind, and its copy.
 use ext_model::{CellExt, FetRec, MergeRec, NodeRec, TermRec, UseRec};
-use geo_core::{List, Name};
+use names_lists::{List, Name};
 use std::alloc::Global;
 use std::test::Fail;
 

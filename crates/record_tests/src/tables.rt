@@ -1,6 +1,6 @@
 // Calls on one table, one after another, with what each is to answer.
 use ext_model::{CellExt, CellKey, ExtEntry, ExtTable};
-use geo_core::{List, Name};
+use names_lists::{List, Name};
 use std::alloc::Global;
 use std::test::Fail;
 

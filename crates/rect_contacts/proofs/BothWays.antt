@@ -4,7 +4,7 @@ use Rattle.std.proofs.Common.{[], ◌∷◌, inl, inr, map, filter, length, get_
 use Rattle.std.specs.Prelude.{nat_lt, int_lt}
 use Rattle.std.specs.List.{range_with_len}
 use Rattle.std.proofs.Math.IntN.{*ℤ-zero}
-use Rattle.std.proofs.lemmas.Bool.{cases_eq, cases_lt, false≢true}
+use Rattle.std.proofs.lemmas.Bool.{cases_eq, cases_lt, and_parts}
 use Rattle.std.proofs.lemmas.Bool.Decides.{nat_tests}
 use Rattle.std.proofs.lemmas.Int.{ints}
 use Rattle.std.proofs.lemmas.List.FromFn.{length-range_with_len, get_or-range_with_len}
@@ -84,11 +84,6 @@ one_order i j v h = elim (cases_eq i j) [
 
     none_plus : (z : ℤ) → z ≡ pos 0 +ℤ z
     none_plus z = omega (arith, ints)
-
-both_pass : (b c : Bool) → (b && c) ≡ true → (b ≡ true) × (c ≡ true)
-both_pass true true h = (refl, refl)
-both_pass true false h = absurd (false≢true h)
-both_pass false c h = absurd (false≢true h)
 
 passes_both : (i j : ℕ) (z : ℤ) → i < j → pos 0 <ℤ z → (nat_lt i j && int_lt (pos 0) z) ≡ true
 passes_both i j z h k = grind (arith, ints, nat_tests)
@@ -183,7 +178,7 @@ module _ (n : ℕ) (shared_at : ℕ → ℕ → ℤ) (shares : AreShares n share
 
     touching_pairs : (p : ℕ × ℕ) → In p (filter do_touch pairs) → In p (map places_in contacts)
     touching_pairs p i =
-        let tests = both_pass (nat_lt p.0 p.1) (int_lt (pos 0) (shared_at p.0 p.1)) (In-filter_passes do_touch p pairs i) in
+        let tests = and_parts (nat_lt p.0 p.1) (int_lt (pos 0) (shared_at p.0 p.1)) (In-filter_passes do_touch p pairs i) in
         let ends = pairs_listed.2 p (In-filter_source do_touch p pairs i) in
         let c : Contact = record { first = p.0; second = p.1; length = shared_at p.0 p.1 } in
         In-map places_in c contacts (lists.1 c (record {

@@ -1,6 +1,5 @@
 -- Rectangles of one list that a line crosses, and those that one of the other list meets.
-use Rattle.std.proofs.Common.{append_assoc, false, ◌≡◌, ◌⊎◌, inl, inr, ℕ, ℤ, ◌≤ℤ◌, ◌<ℤ◌, List, [], ◌∷◌, ◌++◌, map, Some, sym, ◌∙◌, ap, arith}
-use Rattle.std.specs.Ordering.{is_gt, is_eq, int_cmp}
+use Rattle.std.proofs.Common.{append_assoc, ◌≡◌, ◌⊎◌, inl, inr, ℕ, ℤ, ◌≤ℤ◌, ◌<ℤ◌, List, [], ◌∷◌, ◌++◌, map, Some, sym, ◌∙◌, ap, arith}
 use Rattle.std.proofs.lemmas.Int.{ints, by_lt_z}
 use Rattle.std.proofs.lemmas.List.{map-append}
 use Rattle.finite_sets.specs.Lists.{Lists}
@@ -9,24 +8,6 @@ use Rattle.rect_contacts.specs.declared.actives.Active.{Active}
 use Rattle.rect_contacts.specs.declared.events.Event.{Event}
 use Rattle.rect_contacts.specs.Events.{pair_of}
 use Rattle.rect_contacts.specs.Actives.{Row, AreActives, IsFirstPast, IsMet, AddsMet}
-
--- not greater
-pub from_not_gt : (a b : ℤ) → is_gt (int_cmp a b) ≡ false → a ≤ℤ b
-from_not_gt a b h = grind (arith, ints)
-
--- and back
-pub not_gt : (a b : ℤ) → a ≤ℤ b → is_gt (int_cmp a b) ≡ false
-not_gt a b h = grind (arith, ints)
-
-lt_not_eq : (a b : ℤ) → a <ℤ b → is_eq (int_cmp a b) ≡ false
-lt_not_eq a b h = grind (arith, ints)
-
-gt_not_eq : (a b : ℤ) → b <ℤ a → is_eq (int_cmp a b) ≡ false
-gt_not_eq a b h = grind (arith, ints)
-
--- not equal
-pub not_eq : (a b : ℤ) → (b ≡ a → ⊥) → is_eq (int_cmp a b) ≡ false
-not_eq a b h = by_lt_z a b (lt_not_eq a b) (λ not_less. by_lt_z b a (gt_not_eq a b) (λ not_more. absurd (h (omega (arith, ints, not_less, not_more)))))
 
 -- two columns are one or not
 pub int_same : (a b : ℤ) → (a ≡ b) ⊎ (a ≡ b → ⊥)

@@ -10,7 +10,7 @@ use Rattle.geo_core.specs.declared.squares.Rect.{Rect}
 use Rattle.geo_core.specs.Areas.{joined_rect, corner_of}
 use Rattle.geo_core.specs.Covering.{Covers}
 use Rattle.geo_core.proofs.CornerLaws.{corner_covers}
-use Rattle.geo_core.proofs.CoveringLaws.{IsProper-has_square, has_square-IsProper, covers_joined_left, covers_joined_right}
+use Rattle.geo_core.proofs.CoveringLaws.{IsProper-has_square, has_square-IsProper, covers_joined_left, covers_joined_right, covers_is_proper}
 use Rattle.rect_contacts.specs.Rects.{rect_at}
 use Rattle.rect_contacts.proofs.BothWays.{Lists-below}
 use Rattle.rect_overlays.specs.declared.regions.Part.{Part}
@@ -18,7 +18,7 @@ use Rattle.rect_overlays.specs.declared.regions.Regions.{Regions}
 use Rattle.rect_overlays.specs.Regions.{Region, has_square_at, IsWholeOf, IsRegion, IsBeginning, Holds, AddsGathered}
 use Rattle.geo_core.specs.Covering.{CoversAt}
 use Rattle.rect_overlays.proofs.Lists.{kept_more, some-In, range_rises}
-use Rattle.rect_overlays.proofs.Parts.{covers_is_proper, square_meets, rect_at_covers, at_is_below}
+use Rattle.rect_overlays.proofs.Parts.{square_meets, rect_at_covers, at_is_below}
 use Rattle.rect_overlays.proofs.Held.{holds_more}
 
 module _ (rects : List Rect) where

@@ -1,6 +1,7 @@
 -- Cutting an area in two: the sides along which a rectangle cuts it, and the halves.
-use Rattle.std.proofs.Common.{◌≡◌, ◌⊎◌, inl, inr, Bool, true, false, ◌≤ℤ◌, ◌<ℤ◌, refl, sym, arith}
+use Rattle.std.proofs.Common.{◌≡◌, ◌⊎◌, inl, inr, true, false, ◌≤ℤ◌, ◌<ℤ◌, arith}
 use Rattle.std.proofs.lemmas.Int.{ints, clamps}
+use Rattle.std.specs.Cmp.{both_ways}
 use Rattle.finite_sets.proofs.Orders.{at_most_or_greater}
 use Rattle.geo_core.specs.declared.squares.Square.{Square}
 use Rattle.geo_core.specs.declared.squares.Rect.{Rect}
@@ -94,11 +95,6 @@ round_covers area rect square round c =
       below_yhi = grind (arith, ints);
     }
 
-same_test : (a b : Bool) → (a ≡ true → b ≡ true) → (b ≡ true → a ≡ true) → a ≡ b
-same_test true b there back = sym (there refl)
-same_test false true there back = back refl
-same_test false false there back = refl
-
 -- a rectangle with a square in an area goes past a cut just if it has one in that half
 pub past_low : (area : Rect) (cut : Cut) (rect : Rect) → IsInside area cut → meets area rect ≡ true
     → is_past_low cut rect ≡ meets (low_half area cut) rect
@@ -107,7 +103,7 @@ past_low area (Column x) rect inside meet =
     let both = IsProper-has_square common meet in
     let wide : common.xlo <ℤ common.xhi = both.wide in
     let half = common_rect rect (low_half area (Column x)) in
-    same_test (is_past_low (Column x) rect) (meets (low_half area (Column x)) rect)
+    both_ways (is_past_low (Column x) rect) (meets (low_half area (Column x)) rect)
     (λ past. let less : rect.xlo <ℤ x = grind (arith, ints) in
     has_square-IsProper half (record { wide = omega (arith, ints, clamps, inside.0); high = both.high }))
     (λ met. let less : half.xlo <ℤ half.xhi = (IsProper-has_square half met).wide in
@@ -118,7 +114,7 @@ past_low area (Row y) rect inside meet =
     let both = IsProper-has_square common meet in
     let high : common.ylo <ℤ common.yhi = both.high in
     let half = common_rect rect (low_half area (Row y)) in
-    same_test (is_past_low (Row y) rect) (meets (low_half area (Row y)) rect)
+    both_ways (is_past_low (Row y) rect) (meets (low_half area (Row y)) rect)
     (λ past. let less : rect.ylo <ℤ y = grind (arith, ints) in
     has_square-IsProper half (record { wide = both.wide; high = omega (arith, ints, clamps, inside.0) }))
     (λ met. let less : half.ylo <ℤ half.yhi = (IsProper-has_square half met).high in
@@ -132,7 +128,7 @@ past_high area (Column x) rect inside meet =
     let both = IsProper-has_square common meet in
     let wide : common.xlo <ℤ common.xhi = both.wide in
     let half = common_rect rect (high_half area (Column x)) in
-    same_test (is_past_high (Column x) rect) (meets (high_half area (Column x)) rect)
+    both_ways (is_past_high (Column x) rect) (meets (high_half area (Column x)) rect)
     (λ past. let less : x <ℤ rect.xhi = grind (arith, ints) in
     has_square-IsProper half (record { wide = omega (arith, ints, clamps, inside.1); high = both.high }))
     (λ met. let less : half.xlo <ℤ half.xhi = (IsProper-has_square half met).wide in
@@ -143,7 +139,7 @@ past_high area (Row y) rect inside meet =
     let both = IsProper-has_square common meet in
     let high : common.ylo <ℤ common.yhi = both.high in
     let half = common_rect rect (high_half area (Row y)) in
-    same_test (is_past_high (Row y) rect) (meets (high_half area (Row y)) rect)
+    both_ways (is_past_high (Row y) rect) (meets (high_half area (Row y)) rect)
     (λ past. let less : y <ℤ rect.yhi = grind (arith, ints) in
     has_square-IsProper half (record { wide = both.wide; high = omega (arith, ints, clamps, inside.1) }))
     (λ met. let less : half.ylo <ℤ half.yhi = (IsProper-has_square half met).high in

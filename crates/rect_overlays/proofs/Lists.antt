@@ -1,5 +1,5 @@
 -- Lists of indices and of regions.
-use Rattle.std.proofs.Common.{◌≡◌, ◌≢◌, inl, inr, Bool, true, false, ℕ, zero, suc, ◌+◌, ◌-◌, ◌<◌, List, [], ◌∷◌, ◌++◌, length, map, get_or, take, drop}
+use Rattle.std.proofs.Common.{◌≡◌, ◌≢◌, inl, inr, Bool, true, false, ℕ, ◌+◌, ◌-◌, ◌<◌, List, [], ◌∷◌, ◌++◌, length, map, get_or, take, drop}
 use Rattle.std.proofs.Common.{Some, refl, ◌∙◌, ap, subst, cond, arith}
 use Rattle.std.specs.Prelude.{All, AllPairs, filter, find, not, None}
 use Rattle.std.specs.List.{range_with_len}
@@ -8,15 +8,11 @@ use Rattle.std.proofs.lemmas.List.{length-append}
 use Rattle.std.proofs.lemmas.List.Elements.{filter-append}
 use Rattle.std.proofs.lemmas.List.FromFn.{length-range_with_len, get_or-range_with_len}
 use Rattle.finite_sets.specs.Lists.{In}
-use Rattle.finite_sets.proofs.Members.{In-append_left, In-push, In-index, In-map}
-use Rattle.finite_sets.proofs.Pairs.{Pairwise, AllPairs-from_Pairwise, Pairwise-from_AllPairs, Pairwise-push}
-use Rattle.finite_sets.proofs.Searches.{find-In, find-passes, find-none}
+use Rattle.finite_sets.proofs.Members.{In-append_left, In-push}
+use Rattle.finite_sets.proofs.Pairs.{Pairwise, AllPairs-from_Pairwise, Pairwise-from_AllPairs}
+use Rattle.finite_sets.proofs.Searches.{find-In, find-passes, find-none, range_push, All-In}
 use Rattle.geo_core.specs.declared.squares.Rect.{Rect}
 use Rattle.rect_overlays.specs.Regions.{AllMeet, AllGoRound, meets_at, goes_round_at}
-
--- one more thing at the end
-pub AllPairs-push : {X : Type 0} (R : X → X → Type 0) (xs : List X) (y : X) → AllPairs R xs → ((x : X) → In x xs → R x y) → AllPairs R (xs ++ y ∷ [])
-AllPairs-push R xs y h all = AllPairs-from_Pairwise R (xs ++ y ∷ []) (Pairwise-push R xs y (Pairwise-from_AllPairs R xs h) all)
 
 Pairwise-front : {X : Type 0} (R : X → X → Type 0) (xs : List X) (y : X) → Pairwise R (xs ++ y ∷ []) → Pairwise R xs × ((x : X) → In x xs → R x y)
 Pairwise-front R [] y h = (tt, λ x i. absurd i)
@@ -30,20 +26,9 @@ Pairwise-front {X} R (x ∷ xs) y h =
 pub AllPairs-front : {X : Type 0} (R : X → X → Type 0) (xs : List X) (y : X) → AllPairs R (xs ++ y ∷ []) → AllPairs R xs × ((x : X) → In x xs → R x y)
 AllPairs-front R xs y h = let p = Pairwise-front R xs y (Pairwise-from_AllPairs R (xs ++ y ∷ []) h) in (AllPairs-from_Pairwise R xs p.0, p.1)
 
--- what holds of any two images holds of any two things
-pub Pairwise-unmap : {X Y : Type 0} (f : X → Y) (R : Y → Y → Type 0) (xs : List X) → Pairwise R (map f xs) → Pairwise (λ a b. R (f a) (f b)) xs
-Pairwise-unmap f R [] h = tt
-Pairwise-unmap f R (x ∷ xs) h = ((λ y i. h.0 (f y) (In-map f y xs i)), Pairwise-unmap f R xs h.1)
-
 -- one more number in a row
-pub range_more : (a n : ℕ) → range_with_len a (suc n) ≡ range_with_len a n ++ (a + n) ∷ []
-range_more a zero = ap (λ (k : ℕ). k ∷ []) (omega arith)
-range_more a (suc n) = ap (λ (v : List ℕ). a ∷ v) (range_more (a + 1) n ∙ ap (λ (k : ℕ). range_with_len (a + 1) n ++ k ∷ []) (omega arith))
-
 pub range_one_more : (n : ℕ) → range_with_len 0 (n + 1) ≡ range_with_len 0 n ++ n ∷ []
-range_one_more n =
-    ap (range_with_len 0) (let next : n + 1 ≡ suc n = omega arith in next) ∙ range_more 0 n
-    ∙ ap (λ (k : ℕ). range_with_len 0 n ++ k ∷ []) (omega arith)
+range_one_more n = range_push 0 n ∙ ap (λ (k : ℕ). range_with_len 0 n ++ k ∷ []) (omega arith)
 
 -- numbers in a row rise
 pub range_rises : (n : ℕ) → AllPairs ◌<◌ (range_with_len 0 n)
@@ -73,13 +58,6 @@ last_are {X} xs ys = subst (λ (n : ℕ). drop n (xs ++ ys) ≡ ys) (let all = l
 pub front_is : {X : Type 0} (xs ys : List X) → take (length (xs ++ ys) - length ys) (xs ++ ys) ≡ xs
 front_is {X} xs ys = subst (λ (n : ℕ). take n (xs ++ ys) ≡ xs) (let all = length-append xs ys in omega (arith, all)) (take-append_seam xs ys)
 
--- tests that agree on a list keep the same of it
-pub same_kept : {X : Type 0} (p q : X → Bool) (xs : List X) → ((x : X) → In x xs → p x ≡ q x) → filter p xs ≡ filter q xs
-same_kept p q [] same = refl
-same_kept {X} p q (x ∷ xs) same =
-    let rest = same_kept p q xs (λ y i. same y (inr i)) in
-    ap (λ (b : Bool). cond b (x ∷ filter p xs) (filter p xs)) (same x (inl refl)) ∙ ap (λ (v : List X). cond (q x) (x ∷ v) v) rest
-
 -- one thing more, kept or not
 pub kept_more : {X : Type 0} (p : X → Bool) (xs : List X) (x : X) → filter p (xs ++ x ∷ []) ≡ filter p xs ++ cond (p x) (x ∷ []) []
 kept_more p xs x = filter-append p xs (x ∷ [])
@@ -88,11 +66,6 @@ kept_more p xs x = filter-append p xs (x ∷ [])
 pub In-some : {X : Type 0} (x : X) (xs : List X) → In x xs → xs ≢ []
 In-some x [] i = absurd i
 In-some x (y ∷ xs) i = λ e. absurd (cc)
-
--- nor is one of some length
-pub length-some : {X : Type 0} (xs : List X) → 0 < length xs → xs ≢ []
-length-some [] less = absurd (omega arith)
-length-some (x ∷ xs) less = λ e. absurd (cc)
 
 -- and one that is not empty has a thing
 pub some-In : {X : Type 0} (xs : List X) → xs ≢ [] → (x : X) × In x xs
@@ -124,10 +97,6 @@ pub found_is_partial : (rects : List Rect) (area : Rect) (members : List ℕ) (m
 found_is_partial rects area members member h =
     false_or (goes_round_at rects area member) (find-passes (λ m. not (goes_round_at rects area m)) members member h)
 
--- a fact of all things in a list
-pub In-All : {X : Type 0} (P : X → Type 0) (xs : List X) (x : X) → All P xs → In x xs → P x
-In-All P xs x all i = let k = In-index x xs i in subst P (k.1.1 x) (all k.0 x k.1.0)
-
 -- a list whose length is not above 0 is empty
 pub none_left : {X : Type 0} (xs : List X) (n : ℕ) → (0 < n → false ≡ true) → n ≡ length xs → xs ≡ []
 none_left [] n few l = refl
@@ -135,4 +104,4 @@ none_left (x ∷ xs) n few l = let some : 0 < n = omega arith in absurd (let e =
 
 -- what is found among numbers below a bound is below it
 pub found_below : (test : ℕ → Bool) (members : List ℕ) (n member : ℕ) → All (λ k. k < n) members → find test members ≡ Some member → member < n
-found_below test members n member all e = In-All (λ (k : ℕ). k < n) members member all (find-In test members member e)
+found_below test members n member all e = All-In (λ (k : ℕ). k < n) members member all (find-In test members member e)

@@ -1,42 +1,25 @@
 -- What rectangles have of an area, and the regions that it makes.
-use Rattle.std.proofs.Common.{◌≡◌, ◌≢◌, ◌⊎◌, inl, inr, Bool, true, false, ℕ, ◌<◌, ◌≤ℤ◌, ◌<ℤ◌, List, [], ◌∷◌, ◌++◌, length, refl, sym, ◌∙◌, ap, subst}
+use Rattle.std.proofs.Common.{◌≡◌, ◌≢◌, ◌⊎◌, inl, inr, Bool, true, false, ℕ, ◌<◌, ◌<ℤ◌, List, [], ◌∷◌, ◌++◌, length, refl, sym, ◌∙◌, ap, subst}
 use Rattle.std.proofs.Common.{cond, arith}
 use Rattle.std.specs.Prelude.{AllPairs, filter}
-use Rattle.std.proofs.lemmas.Int.{ints, clamps}
+use Rattle.std.proofs.lemmas.Int.{ints}
 use Rattle.std.proofs.lemmas.List.Kept.{AllPairs-filter}
 use Rattle.std.proofs.lemmas.Option.{slice_get-get_or, slice_get_within, get_or_from_slice_get}
 use Rattle.finite_sets.specs.Lists.{In}
 use Rattle.finite_sets.proofs.Members.{In-append_left, In-push, In-push_cases, In-filter, In-filter_source, In-filter_passes}
+use Rattle.finite_sets.proofs.Pairs.{AllPairs-push}
 use Rattle.geo_core.specs.declared.squares.Square.{Square}
 use Rattle.geo_core.specs.declared.squares.Rect.{Rect}
 use Rattle.geo_core.specs.Areas.{common_rect, joined_rect, AreDisjoint, LiesWithin}
 use Rattle.geo_core.specs.Covering.{Covers, IsProper}
 use Rattle.geo_core.proofs.CornerLaws.{corner_covers}
-use Rattle.geo_core.proofs.CoveringLaws.{IsProper-has_square, has_square-IsProper, covers_first, covers_second, covers_both, within_covers}
-use Rattle.geo_core.proofs.CoveringLaws.{covers_joined_left, covers_joined_right, joined_within}
+use Rattle.geo_core.proofs.CoveringLaws.{IsProper-has_square, has_square-IsProper, covers_first, covers_second, covers_both, within_covers, covers_is_proper}
+use Rattle.geo_core.proofs.CoveringLaws.{covers_joined_left, covers_joined_right, joined_within, common_within}
 use Rattle.rect_contacts.specs.Rects.{no_rect, rect_at}
 use Rattle.rect_overlays.specs.declared.regions.Part.{Part}
 use Rattle.rect_overlays.specs.Regions.{Region, meets, meets_at, turned_over, IsHull, IsGathered, IsPart, AddsPart, Knows, IsRegion}
 use Rattle.geo_core.specs.Covering.{CoversAt}
-use Rattle.rect_overlays.proofs.Lists.{AllPairs-push, kept_more, some-In}
-
--- a rectangle that covers a square has one
-pub covers_is_proper : (area : Rect) (square : Square) → Covers area square → IsProper area
-covers_is_proper area square c =
-    let left : area.xlo ≤ℤ square.x = c.right_of_xlo in
-    let right : square.x <ℤ area.xhi = c.left_of_xhi in
-    let low : area.ylo ≤ℤ square.y = c.above_ylo in
-    let high : square.y <ℤ area.yhi = c.below_yhi in
-    record { wide = omega (arith, ints); high = omega (arith, ints) }
-
--- the common part goes nowhere past the second rectangle
-pub common_within : (a b : Rect) → LiesWithin (common_rect a b) b
-common_within a b = record {
-  right_of_xlo = omega (arith, ints, clamps);
-  above_ylo = omega (arith, ints, clamps);
-  left_of_xhi = omega (arith, ints, clamps);
-  below_yhi = omega (arith, ints, clamps);
-}
+use Rattle.rect_overlays.proofs.Lists.{kept_more, some-In}
 
 -- the area turned over goes nowhere past it
 turned_within : (area : Rect) → IsProper area → LiesWithin (turned_over area) area

@@ -3,6 +3,7 @@ use Rattle.std.proofs.Common.{◌≡◌, ◌≢◌, ◌⊎◌, inl, inr, ℕ, �
 use Rattle.std.specs.Prelude.{AllPairs}
 use Rattle.finite_sets.specs.Lists.{In}
 use Rattle.finite_sets.proofs.Members.{In-append_left, In-push, In-push_cases}
+use Rattle.finite_sets.proofs.Pairs.{AllPairs-push}
 use Rattle.geo_core.specs.declared.squares.Square.{Square}
 use Rattle.geo_core.specs.declared.squares.Rect.{Rect}
 use Rattle.geo_core.specs.Areas.{AreDisjoint}
@@ -16,7 +17,7 @@ use Rattle.rect_overlays.specs.Splits.{IsMade, AddsHalves, IsSplit}
 use Rattle.geo_core.specs.Covering.{CoversAt}
 use Rattle.rect_overlays.specs.Stacks.{IsStack, AreStacks}
 use Rattle.rect_overlays.proofs.Halves.{round_covers, low_covers, high_covers, in_one_half, halves_are_apart}
-use Rattle.rect_overlays.proofs.Lists.{AllPairs-push, AllPairs-front}
+use Rattle.rect_overlays.proofs.Lists.{AllPairs-front}
 use Rattle.rect_overlays.proofs.Parts.{covered_at, rect_at_covers, part_is_region, knows_inside, part_covers}
 use Rattle.rect_overlays.proofs.Parts.{adds_cases, adds_keeps, adds_covers, adds_apart}
 

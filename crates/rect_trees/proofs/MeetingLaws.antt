@@ -11,6 +11,7 @@ use Rattle.finite_sets.specs.Lists.{In, Distinct}
 use Rattle.finite_sets.proofs.Members.{In-permutation, In-filter, In-filter_source, In-filter_passes}
 use Rattle.finite_sets.proofs.Distincts.{Distinct-places, Distinct-filter}
 use Rattle.finite_sets.proofs.Orders.{IsSorted-pairs}
+use Rattle.finite_sets.proofs.Images.{Distinct-permutation}
 use Rattle.geo_core.specs.declared.squares.Rect.{Rect}
 use Rattle.geo_core.specs.Areas.{common_rect}
 use Rattle.geo_core.specs.Covering.{IsProper}
@@ -19,7 +20,6 @@ use Rattle.rect_trees.specs.declared.nodes.Node.{Node}
 use Rattle.rect_trees.specs.Positions.{no_rect, rect_at, meets_at, HasSquareAt}
 use Rattle.rect_trees.specs.Nodes.{root_positions, IsRoot}
 use Rattle.rect_trees.specs.Meetings.{MeetsAt, AreMeeting}
-use Rattle.rect_trees.proofs.PlaceLaws.{Distinct-permutation}
 
 -- a rectangle that has a square in an area has a square
 first_proper : (a area : Rect) → IsProper (common_rect a area) → IsProper a

@@ -7,21 +7,14 @@ use Rattle.std.proofs.lemmas.List.{map-append, take_all, take-append-drop}
 use Rattle.std.proofs.lemmas.List.Sorted.{IsPermutation-sym, IsPermutation-map}
 use Rattle.finite_sets.specs.Lists.{Distinct, Lists}
 use Rattle.finite_sets.proofs.Members.{In-permutation, In-map, In-get_or}
-use Rattle.finite_sets.proofs.Distincts.{Distinct-places, Distinct-from_places}
 use Rattle.finite_sets.proofs.Listings.{Lists-none, Lists-one, Lists-append, Lists-iff}
-use Rattle.finite_sets.proofs.Pairs.{AllPairs-permutation}
+use Rattle.finite_sets.proofs.Images.{Distinct-permutation}
 use Rattle.geo_core.specs.declared.squares.Rect.{Rect}
 use Rattle.geo_core.specs.Areas.{has_square}
 use Rattle.geo_core.specs.Covering.{IsProper}
 use Rattle.geo_core.proofs.CoveringLaws.{IsProper-has_square, has_square-IsProper}
 use Rattle.rect_trees.specs.declared.places.Place.{Place}
 use Rattle.rect_trees.specs.Positions.{rect_at, HasSquareAt, position_of, ArePlaces}
-
--- a list of things that differ, in another order
-pub Distinct-permutation : {X : Type 0} (xs ys : List X) → IsPermutation xs ys → Distinct xs → Distinct ys
-Distinct-permutation {X} xs ys moved once = Distinct-from_places ys (λ i j d less below.
-    AllPairs-permutation (λ (a b : X). a ≢ b) (λ a b apart e. apart (sym e)) xs ys moved
-    (λ k l e up last. Distinct-places xs k l e once up last) i j d less below)
 
 -- the list of a set, in another order
 pub Lists-permutation : {X : Type 0} (P : X → Type 0) (xs ys : List X) → IsPermutation xs ys → Lists P xs → Lists P ys

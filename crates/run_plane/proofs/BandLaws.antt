@@ -5,10 +5,12 @@ use Rattle.std.specs.Prelude.{All, slice_range}
 use Rattle.std.specs.declared.ops.Range.{Range}
 use Rattle.std.proofs.lemmas.Bool.{cases_lt}
 use Rattle.std.proofs.lemmas.Int.{ints}
-use Rattle.std.proofs.lemmas.List.{take-append-drop, drop-drop, drop-take, get_or-take, get_or-drop, length-take, length-drop}
+use Rattle.std.proofs.lemmas.List.{drop-drop, drop-take, get_or-take, get_or-drop, length-take, length-drop}
 use Rattle.finite_sets.specs.Lists.{In}
 use Rattle.finite_sets.proofs.Members.{In-get_or, In-append_left, In-append_right, In-append_cases}
 use Rattle.finite_sets.proofs.Orders.{at_most_or_greater}
+use Rattle.finite_sets.proofs.Searches.{All-In}
+use Rattle.finite_sets.proofs.Places.{In-take, In-drop, In-take_drop}
 use Rattle.geo_core.specs.declared.limits.TheConstants.{PLANE_EDGE}
 use Rattle.geo_core.specs.declared.squares.Square.{Square}
 use Rattle.geo_core.specs.declared.squares.Piece.{Piece}
@@ -20,39 +22,29 @@ use Rattle.run_plane.specs.declared.rows.Row.{Row}
 use Rattle.run_plane.specs.Rows.{value_at, number_at, top_runs, edge, AreRising, AreRows}
 use Rattle.run_plane.specs.Changes.{square_at, IsRowWith, Spans, IsBand, AreAbove, AreHeights, AreRowsFor}
 use Rattle.run_plane.specs.Contents.{replaced}
-use Rattle.run_plane.proofs.RowLaws.{all_in, runs_stop, runs_top, runs_own, row_above, row_facts, rising_from, rising_take, rising_drop, rising_append}
+use Rattle.run_plane.proofs.RowLaws.{runs_stop, runs_top, runs_own, row_above, row_facts, rising_from, rising_take, rising_drop, rising_append}
 use Rattle.run_plane.proofs.ChangeLaws.{IsRight, HasCritical, all_right}
-
--- a member of the front of a list
-in_take : {X : Type 0} (k : ℕ) (xs : List X) (x : X) → In x (take k xs) → In x xs
-in_take k xs x i = subst (In x) (take-append-drop k xs) (In-append_left x (take k xs) (drop k xs) i)
-
--- a member of the rest of a list
-in_drop : {X : Type 0} (k : ℕ) (xs : List X) (x : X) → In x (drop k xs) → In x xs
-in_drop k xs x i = subst (In x) (take-append-drop k xs) (In-append_right x (take k xs) (drop k xs) i)
 
 -- the part between two places lies in the front up to the second
 middle_in_front : {X : Type 0} (from until : ℕ) (xs : List X) → from ≤ until → (x : X) → In x (slice_range xs from until) → In x (take until xs)
 middle_in_front {X} from until xs p x i =
     let same : from + (until - from) ≡ until = omega arith in
     let part : drop from (take until xs) ≡ slice_range xs from until = ap (λ (n : ℕ). drop from (take n xs)) (sym same) ∙ drop-take from (until - from) xs in
-    in_drop from (take until xs) x (subst (In x) (sym part) i)
+    In-drop from (take until xs) x (subst (In x) (sym part) i)
 
 -- a member is in the front, between the places or in the rest
 three_parts : {X : Type 0} (from until : ℕ) (xs : List X) → from ≤ until → (x : X) → In x xs
     → In x (take from xs) ⊎ (In x (slice_range xs from until) ⊎ In x (drop until xs))
-three_parts {X} from until xs p x i =
-    elim (In-append_cases x (take from xs) (drop from xs) (subst (In x) (sym (take-append-drop from xs)) i)) [
-      | inl front ↦ inl front
-      | inr rest ↦ (
-          let same : from + (until - from) ≡ until = omega arith in
-          let tail : drop (until - from) (drop from xs) ≡ drop until xs = drop-drop (until - from) from xs ∙ ap (λ (n : ℕ). drop n xs) same in
-          elim (In-append_cases x (slice_range xs from until) (drop (until - from) (drop from xs))
-          (subst (In x) (sym (take-append-drop (until - from) (drop from xs))) rest)) [
-            | inl middle ↦ inr (inl middle)
-            | inr last ↦ inr (inr (subst (In x) tail last))
-          ])
-    ]
+three_parts {X} from until xs p x i = elim (In-take_drop from xs x i) [
+  | inl front ↦ inl front
+  | inr rest ↦ (
+      let same : from + (until - from) ≡ until = omega arith in
+      let tail : drop (until - from) (drop from xs) ≡ drop until xs = drop-drop (until - from) from xs ∙ ap (λ (n : ℕ). drop n xs) same in
+      elim (In-take_drop (until - from) (drop from xs) x rest) [
+        | inl middle ↦ inr (inl middle)
+        | inr last ↦ inr (inr (subst (In x) tail last))
+      ])
+]
 
 -- the places before and after the rows of a span
 pub band_found : (rows : List Row) (span : Range ℤ) (from until : ℕ) → span.start <ℤ span.end → from ≤ length rows → until ≤ length rows
@@ -75,11 +67,11 @@ band_found rows span from until order p q below from_on up_to above =
     record {
       in_order = in_order;
       within = q;
-      below = λ row i. let h = all_in (λ row. row.ylo ≤ℤ (span.start -ℤ pos 1)) (take from rows) below row i in omega (arith, ints);
+      below = λ row i. let h = All-In (λ row. row.ylo ≤ℤ (span.start -ℤ pos 1)) (take from rows) row below i in omega (arith, ints);
       inside = λ row i.
-          let low = all_in (λ row. (span.start -ℤ pos 1) <ℤ row.ylo) (drop from rows) from_on row (in_take (until - from) (drop from rows) row i) in
-          (omega (arith, ints), all_in (λ row. row.ylo ≤ℤ span.end) (take until rows) up_to row (middle_in_front from until rows in_order row i));
-      above = λ row i. all_in (λ row. span.end <ℤ row.ylo) (drop until rows) above row i;
+          let low = All-In (λ row. (span.start -ℤ pos 1) <ℤ row.ylo) (drop from rows) row from_on (In-take (until - from) (drop from rows) row i) in
+          (omega (arith, ints), All-In (λ row. row.ylo ≤ℤ span.end) (take until rows) row up_to (middle_in_front from until rows in_order row i));
+      above = λ row i. All-In (λ row. span.end <ℤ row.ylo) (drop until rows) row above i;
     }
 
 -- one more height, and its row
@@ -136,13 +128,13 @@ module _ (rows : List Row) (pieces : List Piece) (whole : AreRows rows)
   height_facts height i = elim (are.only height i) [
     | inl (row, j, e) ↦ (
         let inside = is_band.inside row j in
-        let there : In row rows = in_drop band.start rows row (in_take (band.end - band.start) (drop band.start rows) row j) in
+        let there : In row rows = In-drop band.start rows row (In-take (band.end - band.start) (drop band.start rows) row j) in
         subst (λ (h : ℤ). (span.start ≤ℤ h) × (h ≤ℤ span.end) × IsSmall h) e (inside.0, inside.1, (row_facts edge rows row whole.rising there).near))
     | inr (piece, j, e) ↦ (
         let low : span.start ≤ℤ piece.area.ylo = spans.low piece j in
         let high : piece.area.yhi ≤ℤ span.end = spans.high piece j in
-        let tall : piece.area.ylo <ℤ piece.area.yhi = (all_in (λ piece. IsProper piece.area) pieces proper piece j).high in
-        let small = all_in (λ piece. IsNear piece.area) pieces near piece j in
+        let tall : piece.area.ylo <ℤ piece.area.yhi = (All-In (λ piece. IsProper piece.area) pieces piece proper j).high in
+        let small = All-In (λ piece. IsNear piece.area) pieces piece near j in
         elim e [
           | inl f ↦ subst (λ (h : ℤ). (span.start ≤ℤ h) × (h ≤ℤ span.end) × IsSmall h) f (low, omega (arith, ints), small.ylo)
           | inr f ↦ subst (λ (h : ℤ). (span.start ≤ℤ h) × (h ≤ℤ span.end) × IsSmall h) f (omega (arith, ints), high, small.yhi)
@@ -166,9 +158,9 @@ module _ (rows : List Row) (pieces : List Piece) (whole : AreRows rows)
   -- each row of the next ones is kept or found
   parts : (row : Row) → In row next → (In row rows × ((row.ylo <ℤ span.start) ⊎ (span.end <ℤ row.ylo))) ⊎ In row found
   parts row i = elim (In-append_cases row (take band.start rows ++ found) (drop band.end rows) i) [
-    | inr last ↦ inl (in_drop band.end rows row last, inr (is_band.above row last))
+    | inr last ↦ inl (In-drop band.end rows row last, inr (is_band.above row last))
     | inl early ↦ elim (In-append_cases row (take band.start rows) found early) [
-      | inl first ↦ inl (in_take band.start rows row first, inl (is_band.below row first))
+      | inl first ↦ inl (In-take band.start rows row first, inl (is_band.below row first))
       | inr middle ↦ inr middle
     ]
   ]

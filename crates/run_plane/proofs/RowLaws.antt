@@ -5,15 +5,12 @@ use Rattle.std.specs.Prelude.{All, int_le}
 use Rattle.std.proofs.lemmas.Int.{ints}
 use Rattle.std.proofs.lemmas.List.{take-append-drop}
 use Rattle.finite_sets.specs.Lists.{In}
-use Rattle.finite_sets.proofs.Members.{In-index, In-get_or}
+use Rattle.finite_sets.proofs.Members.{In-get_or}
 use Rattle.finite_sets.proofs.Orders.{at_most_or_greater}
+use Rattle.finite_sets.proofs.Searches.{All-In}
 use Rattle.run_plane.specs.declared.runs.Run.{Run}
 use Rattle.run_plane.specs.declared.rows.Row.{Row}
 use Rattle.run_plane.specs.Rows.{edge, AreRuns, runs_from, top_runs, IsRowAbove, AreRising}
-
--- what holds of all of a list holds of what stands in it
-pub all_in : {X : Type 0} (P : X → Type 0) (xs : List X) → All P xs → (x : X) → In x xs → P x
-all_in P xs all x i = let found = In-index x xs i in subst P (found.1.1 x) (all found.0 x found.1.0)
 
 -- the first row begins at y or below
 pub runs_in : (under : List Run) (row : Row) (rows : List Row) (y : ℤ) → row.ylo ≤ℤ y → runs_from under (row ∷ rows) y ≡ runs_from row.runs rows y
@@ -48,8 +45,8 @@ pub runs_at_count : (rows : List Row) (k : ℕ) (y : ℤ) → All (λ row. row.y
     → runs_from [] rows y ≡ top_runs [] (take k rows)
 runs_at_count rows k y below above =
     ap (λ (v : List Row). runs_from [] v y) (sym (take-append-drop k rows))
-    ∙ runs_stop [] (take k rows) (drop k rows) y (all_in (λ row. y <ℤ row.ylo) (drop k rows) above)
-    ∙ runs_top [] (take k rows) y (all_in (λ row. row.ylo ≤ℤ y) (take k rows) below)
+    ∙ runs_stop [] (take k rows) (drop k rows) y (λ row here. All-In (λ row. y <ℤ row.ylo) (drop k rows) row above here)
+    ∙ runs_top [] (take k rows) y (λ row here. All-In (λ row. row.ylo ≤ℤ y) (take k rows) row below here)
 
 -- each row of rising rows begins above low
 pub row_above : (low : ℤ) (rows : List Row) (row : Row) → AreRising low rows → In row rows → low <ℤ row.ylo

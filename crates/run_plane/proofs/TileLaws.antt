@@ -1,10 +1,9 @@
 -- Tiles of pieces, value after value.
-use Rattle.std.proofs.Common.{◌≡◌, ◌≢◌, ◌⊎◌, inl, inr, ℕ, ◌+◌, ◌<◌, ◌≤◌, ◌≤ℤ◌, ◌<ℤ◌, Bool, true}
+use Rattle.std.proofs.Common.{◌≡◌, ◌≢◌, ◌⊎◌, inl, inr, ℕ, ◌+◌, ◌<◌, ◌≤◌, Bool, true}
 use Rattle.std.proofs.Common.{List, [], ◌++◌, length, get_or, refl, sym, ◌∙◌, ap, subst, arith}
 use Rattle.std.specs.Prelude.{All, AllPairs, IsPermutation, filter, ◌==◌}
 use Rattle.std.specs.List.Sorted.{IsSortedByKey}
 use Rattle.std.proofs.lemmas.Bool.{cases_lt}
-use Rattle.std.proofs.lemmas.Int.{ints}
 use Rattle.std.proofs.lemmas.List.Sorted.{Contains-permutation, IsPermutation-sym}
 use Rattle.finite_sets.specs.Lists.{In, Distinct}
 use Rattle.finite_sets.proofs.Distincts.{Distinct-append, Distinct-map, Distinct-filter, Distinct-places, Distinct-from_places}
@@ -16,13 +15,13 @@ use Rattle.geo_core.specs.declared.squares.Piece.{Piece}
 use Rattle.geo_core.specs.Areas.{AreDisjoint, common_rect, has_square}
 use Rattle.geo_core.specs.Covering.{Covers, IsProper}
 use Rattle.geo_core.specs.Strips.{IsStrip, IsStrips, IsInUnion, StandsBefore}
-use Rattle.geo_core.proofs.CoveringLaws.{IsProper-has_square, has_square-IsProper, covers_first, covers_both}
+use Rattle.geo_core.proofs.CoveringLaws.{IsProper-has_square, has_square-IsProper, covers_first, covers_both, covers_is_proper, corner_covered}
 use Rattle.geo_core.proofs.CornerLaws.{corner_key, pair_cmp, sorted_by_corner}
 use Rattle.finite_sets.proofs.Pairs.{AllPairs-permutation}
+use Rattle.finite_sets.proofs.Searches.{All-In}
 use Rattle.geo_core.proofs.SquareLaws.{piece_is}
-use Rattle.geo_core.proofs.StripListLaws.{StandsBefore-irreflexive}
+use Rattle.geo_strips.proofs.StripListLaws.{StandsBefore-irreflexive}
 use Rattle.geo_core.proofs.StripSets.{one_strip_at, strip_within, strips_same}
-use Rattle.run_plane.proofs.RowLaws.{all_in}
 use Rattle.run_plane.specs.Listings.{rects_with, parts_in, IsInPieces, AgreeOnSquares, IsTileFrom, HaveTileAt, AreTilesFrom}
 
 same_number : (m n : ℕ) → (m == n) ≡ true → m ≡ n
@@ -55,17 +54,6 @@ strips_of_pieces pieces value found strips = strips_same (IsInUnion (rects_with 
       ),
     ))
     found strips
-
-proper_with_square : (area : Rect) (square : Square) → Covers area square → IsProper area
-proper_with_square area square c =
-    let left : area.xlo ≤ℤ square.x = c.right_of_xlo in
-    let right : square.x <ℤ area.xhi = c.left_of_xhi in
-    let low : area.ylo ≤ℤ square.y = c.above_ylo in
-    let high : square.y <ℤ area.yhi = c.below_yhi in
-    record { wide = omega (arith, ints); high = omega (arith, ints) }
-
-corner : (area : Rect) → IsProper area → Covers area (record { x = area.xlo; y = area.ylo })
-corner area proper = record { right_of_xlo = omega (arith, ints); left_of_xhi = proper.wide; above_ylo = omega (arith, ints); below_yhi = proper.high }
 
 strips_distinct : (S : Square → Type 0) (areas : List Rect) → IsStrips S areas → Distinct areas
 strips_distinct S areas strips = Distinct-from_places areas (λ i j d less within e. StandsBefore-irreflexive (get_or areas j d)
@@ -153,7 +141,7 @@ module _ (pieces : List Piece) (area : Rect) (agree : AgreeOnSquares pieces) whe
         let found = are.whole square covered in
         let strip = found.0 in
         let common = covers_both strip area square found.1.1 inside in
-        let test = has_square-IsProper (common_rect strip area) (proper_with_square (common_rect strip area) square common) in
+        let test = has_square-IsProper (common_rect strip area) (covers_is_proper (common_rect strip area) square common) in
         record {
           tile = record { area = common_rect strip area; value = below + 1 };
           in_list = In-map (λ (strip : Rect). record { area = common_rect strip area; value = below + 1 }) strip
@@ -169,7 +157,7 @@ module _ (pieces : List Piece) (area : Rect) (agree : AgreeOnSquares pieces) whe
         (λ a b i j e.
         let proper = IsProper-has_square (common_rect a area) (In-filter_passes (λ (strip : Rect). has_square (common_rect strip area)) a strips i) in
         let square : Square = record { x = (common_rect a area).xlo; y = (common_rect a area).ylo } in
-        let c = corner (common_rect a area) proper in
+        let c = corner_covered (common_rect a area) proper in
         one_strip_at (IsInPieces pieces (below + 1)) a b
         (are.each a (In-filter_source (λ (strip : Rect). has_square (common_rect strip area)) a strips i))
         (are.each b (In-filter_source (λ (strip : Rect). has_square (common_rect strip area)) b strips j))
@@ -214,8 +202,8 @@ module _ (pieces : List Piece) (area : Rect) (agree : AgreeOnSquares pieces) whe
       In-from_Contains tile sorted (Contains-permutation tiles sorted tile moved (Contains-from_In tile tiles i)) in
       let each : (tile : Piece) → In tile sorted → IsTileFrom pieces area tile = λ tile i. are.each tile (back tile i) in
       let low : (tile : Piece) → IsTileFrom pieces area tile → tile.value ≤ top = λ tile is.
-      let found = piece_of_tile tile is (record { x = tile.area.xlo; y = tile.area.ylo }) (corner tile.area is.meets) in
-      subst (λ (v : ℕ). v ≤ top) found.2 (all_in (λ piece. piece.value ≤ top) pieces highest found.0 found.1) in
+      let found = piece_of_tile tile is (record { x = tile.area.xlo; y = tile.area.ylo }) (corner_covered tile.area is.meets) in
+      subst (λ (v : ℕ). v ≤ top) found.2 (All-In (λ piece. piece.value ≤ top) pieces found.0 highest found.1) in
       let two : AllPairs (λ (a b : Piece). a ≢ b) sorted =
       AllPairs-permutation (λ (a b : Piece). a ≢ b) (λ a b n e. n (sym e)) tiles sorted moved
       (λ i j d less within. Distinct-places tiles i j d are.distinct less within) in
@@ -227,7 +215,7 @@ module _ (pieces : List Piece) (area : Rect) (agree : AgreeOnSquares pieces) whe
         each = each;
         every = λ tile is. there tile (are.every tile is (low tile is));
         whole = λ value square n inside covered.
-            let most : value ≤ top = subst (λ (v : ℕ). v ≤ top) covered.2 (all_in (λ piece. piece.value ≤ top) pieces highest covered.0 covered.1) in
+            let most : value ≤ top = subst (λ (v : ℕ). v ≤ top) covered.2 (All-In (λ piece. piece.value ≤ top) pieces covered.0 highest covered.1) in
             let t = are.whole value square n most inside covered in
             record { tile = t.tile; in_list = there t.tile t.in_list; covers = t.covers; value_is = t.value_is };
         ordered = sorted_by_corner sorted (λ i d within. (at i d within).meets) apart in_order;

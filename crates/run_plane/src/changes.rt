@@ -9,7 +9,8 @@ ghost use Rattle.run_plane.specs.Rows.{number_at, edge, AreRising, AreRows};
 
 use crate::rows::{Row, rows_up_to, runs_at};
 use crate::runs::with_piece;
-use geo_core::{List, Piece};
+use geo_core::Piece;
+use names_lists::List;
 use std::alloc::{AllocError, Global};
 use std::ops::Range;
 

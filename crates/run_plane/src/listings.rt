@@ -8,7 +8,8 @@ ghost use Rattle.run_plane.specs.Rows.{edge, number_at, AreRuns, AreRising, AreR
 
 use crate::rows::{Row, rows_up_to};
 use crate::runs::Run;
-use geo_core::{GeoFault, Piece, Rect, strips};
+use geo_core::{Piece, Rect};
+use geo_strips::strips;
 use std::alloc::{AllocError, Global};
 
 /// What the rows hold from the height `low` on and below `high`, as pieces that lie apart.
@@ -71,7 +72,7 @@ fn push_runs(pieces: &mut Vec<Piece>, runs: &[Run], ylo: i64, yhi: i64) -> Resul
 }
 
 /// The strips of the squares that pieces of this value cover.
-pub fn strips_of(alloc: Global, pieces: &[Piece], value: u8) -> Result<Vec<Rect>, GeoFault>
+pub fn strips_of(alloc: Global, pieces: &[Piece], value: u8) -> Result<Vec<Rect>, AllocError>
     ensures { IfOk result (λ found. IsStrips (IsInPieces pieces.now value) found.items) }
 {
     let areas = rects_with(alloc, pieces, value)?;
@@ -90,7 +91,7 @@ fn rects_with(alloc: Global, pieces: &[Piece], value: u8) -> Result<Vec<Rect>, A
 }
 
 /// The parts in the area of the strips of the squares that pieces of each value cover, in the order of strips.
-pub fn tiles_of(alloc: Global, pieces: &[Piece], area: &Rect) -> Result<Vec<Piece>, GeoFault>
+pub fn tiles_of(alloc: Global, pieces: &[Piece], area: &Rect) -> Result<Vec<Piece>, AllocError>
     requires { AgreeOnSquares pieces.now }
     ensures { IfOk result (λ tiles. AreTilesFrom pieces.now area.now tiles.items) }
 {

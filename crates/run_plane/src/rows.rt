@@ -3,7 +3,7 @@ ghost use Rattle.std.specs.Prelude.{◌≡◌, ◌≤◌, ◌≤ℤ◌, ◌<ℤ�
 ghost use Rattle.run_plane.specs.Rows.{runs_from, edge, AreRising};
 
 use crate::runs::Run;
-use geo_core::List;
+use names_lists::List;
 
 /// The runs of all rows of squares from `ylo` on, up to where the next row begins.
 #[derive(Debug, Drop)]

@@ -4,7 +4,7 @@ use crate::cases::{Numbered, are_same};
 use crate::differences::{Difference, What};
 use crate::runs::Outcome;
 use anyhow::Result;
-use geo_core::Name;
+use names_lists::Name;
 use outside_io::FaultlessShelf;
 use std::alloc::{AllocError, Global};
 

@@ -21,7 +21,7 @@ use case_reader::read_suite;
 use cases::{Case, File, Suite};
 use checks::differences_of;
 use differences::{Difference, text_of};
-use geo_core::Name;
+use names_lists::Name;
 use outside_io::{FolderShelf, Shelf};
 use runs::Setting;
 use std::env;

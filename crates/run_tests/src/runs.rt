@@ -3,8 +3,8 @@ ghost use Rattle.std.specs.Prelude.{◌≡◌, ◌<◌};
 
 use crate::cases::{Call, Case, File, Numbered};
 use anyhow::Result;
-use geo_core::Name;
 use magex_top::{Status, run};
+use names_lists::Name;
 use outside_io::{
     FaultlessShelf, FaultlessSink, FaultlessSource, MemoryShelf, MemorySink, MemorySource, Shelf,
     Sink, Source,

@@ -1,6 +1,7 @@
 //! The commands of a script.
 
-use geo_core::{Name, Rect};
+use geo_core::Rect;
+use names_lists::Name;
 
 /// What a line of a script asks for. The fields are the further words of the line in their order.
 ///

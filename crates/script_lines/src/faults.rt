@@ -1,6 +1,5 @@
 //! Why a line of a script is refused.
 
-use geo_core::GeoFault;
 use std::alloc::AllocError;
 use thiserror::Error;
 
@@ -27,17 +26,6 @@ impl From<AllocError> for LineFault {
     ghost from_gives = { λ _ fault. fault ≡ Memory };
 
     fn from(_error: AllocError) -> LineFault {
-        LineFault::Memory
-    }
-}
-
-impl From<GeoFault> for LineFault {
-    ghost use Rattle.std.specs.Prelude.{◌≡◌};
-    ghost use Rattle.script_lines.specs.declared.faults.LineFault.TheVariants.{Memory};
-
-    ghost from_gives = { λ _ fault. fault ≡ Memory };
-
-    fn from(_fault: GeoFault) -> LineFault {
         LineFault::Memory
     }
 }

@@ -12,7 +12,8 @@ use crate::arguments::{
 use crate::faults::LineFault;
 use crate::limits::MOST_GENERATED;
 use cell_bodies::{LAST_POSITION, is_label_text, without_outer_blanks};
-use geo_core::{Name, Rect};
+use geo_core::Rect;
+use names_lists::Name;
 use std::alloc::Global;
 
 // The rectangle of four numbers.

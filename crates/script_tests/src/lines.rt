@@ -1,6 +1,7 @@
 //! What lines ask for.
 
-use geo_core::{Name, Rect};
+use geo_core::Rect;
+use names_lists::Name;
 use script_lines::{Command, LineFault, VERBS, Verb, read_line};
 use std::alloc::Global;
 use std::test::Fail;

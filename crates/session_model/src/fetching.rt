@@ -5,7 +5,7 @@ ghost use Rattle.session_model.specs.Causes.{HasCauses};
 ghost use Rattle.session_model.specs.Fetches.{FetchMeans, IsShort, kinds_of_fetched};
 
 use crate::answer::Halt;
-use geo_core::Name;
+use names_lists::Name;
 use outside_io::{Shelf, ShelfFault};
 use std::alloc::Global;
 

@@ -6,13 +6,13 @@ use Rattle.std.specs.List.{list_any}
 use Rattle.std.specs.Str.{bytes_eq}
 use Rattle.std.proofs.Math.ListN.{get_or-append}
 use Rattle.std.proofs.Math.Seq.{get_or-append_seam}
-use Rattle.std.proofs.lemmas.Bool.{cases_Bool, cases_lt}
+use Rattle.std.proofs.lemmas.Bool.{cases_lt}
 use Rattle.std.proofs.lemmas.Slice.Eq.{bytes_eq-Decides}
 use Rattle.std.proofs.lemmas.List.{map_more, take_more}
 use Rattle.finite_sets.specs.Lists.{In, Distinct}
 use Rattle.finite_sets.proofs.Members.{In-append_left, In-push_cases, In-push, In-get_or, In-index}
 use Rattle.finite_sets.proofs.Distincts.{Distinct-push}
-use Rattle.finite_sets.proofs.Searches.{list_any-In}
+use Rattle.finite_sets.proofs.Searches.{In-from_list_any, absent-from_list_any}
 use Rattle.switch_net.specs.SimRecords.{TransistorLine, names_of_aliases, names_of_transistors}
 use Rattle.sim_text.specs.declared.files.SimFet.{SimFet}
 use Rattle.sim_text.specs.declared.files.SimFile.{SimFile}
@@ -120,19 +120,6 @@ pub record AreGathered (met names : List (List ℕ)) : Type 0 where
   pub in_order : (a b place : ℕ) → a < b → b < length names → place < length met → get_or met place [] ≡ get_or names b []
       → StandsBefore met (get_or names a []) place
 
-known_name : (name : List ℕ) (names : List (List ℕ)) → list_any (bytes_eq name) names ≡ true → In name names
-known_name name [] is = cc
-known_name name (first ∷ names) is = elim (cases_Bool (bytes_eq name first)) [
-  | inl same ↦ inl (sym ((bytes_eq-Decides name first).0 same))
-  | inr other ↦ inr (known_name name names (rw other at is))
-]
-
-new_name : (name : List ℕ) (names : List (List ℕ)) → list_any (bytes_eq name) names ≡ false → In name names → ⊥
-new_name name names none here =
-    let fails = list_any-In (bytes_eq name) names name none here in
-    let passes = (bytes_eq-Decides name name).1 refl in
-    cc
-
 stands_still : (met : List (List ℕ)) (more name : List ℕ) (place : ℕ) → place < length met → StandsBefore met name place
     → StandsBefore (met ++ more ∷ []) name place
 stands_still met more name place within stands = record {
@@ -202,8 +189,8 @@ gathered_push : (met names : List (List ℕ)) (name : List ℕ) → AreGathered 
 gathered_push met names name are = step (list_any (bytes_eq name) names) refl
   where
     step : (known : Bool) → list_any (bytes_eq name) names ≡ known → AreGathered (met ++ name ∷ []) (cond known names (names ++ name ∷ []))
-    step true is = gathered_again met names name are (known_name name names is)
-    step false is = gathered_new met names name are (new_name name names is)
+    step true is = gathered_again met names name are (In-from_list_any bytes_eq bytes_eq-Decides name names is)
+    step false is = gathered_new met names name are (absent-from_list_any bytes_eq bytes_eq-Decides name names is)
 
 gathered_more : (met names more : List (List ℕ)) → AreGathered met names → AreGathered (met ++ more) (with_names names more)
 gathered_more met names [] are = subst (λ (all : List (List ℕ)). AreGathered all names) (sym (append-nil met)) are

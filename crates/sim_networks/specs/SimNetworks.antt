@@ -2,9 +2,9 @@
 use Rattle.std.specs.Prelude.{◌≡◌, ◌≤◌, ◌<◌, ℕ, true, List, ◌++◌, length, map, All, AllPairs, Some, slice_get}
 use Rattle.finite_sets.specs.Least.{IsLeast}
 use Rattle.finite_sets.specs.Lists.{In}
-use Rattle.geo_core.specs.declared.limits.Limit.TheVariants.{Nodes, Switches}
 use Rattle.sim_text.specs.declared.faults.SimFault.{SimFault}
 use Rattle.sim_text.specs.declared.faults.SimFault.TheVariants.{TooMany}
+use Rattle.sim_text.specs.declared.limits.SimLimit.TheVariants.{Nodes, Switches}
 use Rattle.sim_text.specs.declared.files.SimFet.{SimFet}
 use Rattle.sim_text.specs.declared.files.SimFile.{SimFile}
 use Rattle.sim_text.specs.Parts.{is_letter}

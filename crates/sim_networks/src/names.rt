@@ -5,10 +5,10 @@ ghost use Rattle.sim_networks.specs.SimNetworks.{transistor_of};
 ghost use Rattle.sim_networks.specs.Numbering.{AddsNames, AreIndexed, AreNamesOf};
 
 use crate::adding::put;
-use geo_core::{GeoFault, Name};
 use name_index::NameIndex;
+use names_lists::Name;
 use sim_text::{SimFet, SimFile};
-use std::alloc::Global;
+use std::alloc::{AllocError, Global};
 
 /// Names in the order in which they were met, each once. The index finds the number of a name, and the list has the name of a number.
 #[derive(Drop)]
@@ -19,7 +19,7 @@ pub struct NodeNames {
 
 impl NodeNames {
     // Adds a name where it is new.
-    fn add(&mut self, alloc: Global, name: &Name) -> Result<(), GeoFault>
+    fn add(&mut self, alloc: Global, name: &Name) -> Result<(), AllocError>
         requires { AreIndexed self.old }
         ensures { OnOk result (AddsNames (name.now ∷ []) self.old self.new) }
     {
@@ -30,7 +30,7 @@ impl NodeNames {
     }
 
     // Adds the names of the nodes of capacitances.
-    fn add_caps(&mut self, alloc: Global, caps: &[(Name, i128)]) -> Result<(), GeoFault>
+    fn add_caps(&mut self, alloc: Global, caps: &[(Name, i128)]) -> Result<(), AllocError>
         requires { AreIndexed self.old }
         ensures { OnOk result (AddsNames (map (λ cap. cap.0) caps.now) self.old self.new) }
     {
@@ -41,7 +41,7 @@ impl NodeNames {
     }
 
     // Adds the names at the gate, the source and the drain of a transistor.
-    fn add_terminals(&mut self, alloc: Global, fet: &SimFet) -> Result<(), GeoFault>
+    fn add_terminals(&mut self, alloc: Global, fet: &SimFet) -> Result<(), AllocError>
         requires { AreIndexed self.old }
         ensures { OnOk result (AddsNames (fet.now.gate ∷ fet.now.source ∷ fet.now.drain ∷ []) self.old self.new) }
     {
@@ -52,7 +52,7 @@ impl NodeNames {
     }
 
     // Adds the names at the terminals of each transistor.
-    fn add_fets(&mut self, alloc: Global, fets: &[SimFet]) -> Result<(), GeoFault>
+    fn add_fets(&mut self, alloc: Global, fets: &[SimFet]) -> Result<(), AllocError>
         requires { AreIndexed self.old }
         ensures { OnOk result (AddsNames (names_of_transistors (map transistor_of fets.now)) self.old self.new) }
     {
@@ -63,7 +63,7 @@ impl NodeNames {
     }
 
     // Adds the two names of an alias.
-    fn add_pair(&mut self, alloc: Global, pair: &(Name, Name)) -> Result<(), GeoFault>
+    fn add_pair(&mut self, alloc: Global, pair: &(Name, Name)) -> Result<(), AllocError>
         requires { AreIndexed self.old }
         ensures { OnOk result (AddsNames (pair.now.0 ∷ pair.now.1 ∷ []) self.old self.new) }
     {
@@ -73,7 +73,7 @@ impl NodeNames {
     }
 
     // Adds the names of each alias.
-    fn add_aliases(&mut self, alloc: Global, aliases: &[(Name, Name)]) -> Result<(), GeoFault>
+    fn add_aliases(&mut self, alloc: Global, aliases: &[(Name, Name)]) -> Result<(), AllocError>
         requires { AreIndexed self.old }
         ensures { OnOk result (AddsNames (names_of_aliases aliases.now) self.old self.new) }
     {
@@ -94,8 +94,8 @@ impl NodeNames {
         }
     }
 
-    /// The names of a sim file: those of capacitances, then those of transistors, and then those of aliases. `Memory` alone refuses.
-    pub fn of(alloc: Global, sim: &SimFile) -> Result<NodeNames, GeoFault>
+    /// The names of a sim file: those of capacitances, then those of transistors, and then those of aliases.
+    pub fn of(alloc: Global, sim: &SimFile) -> Result<NodeNames, AllocError>
         ensures { IfOk result (AreNamesOf sim.now) }
     {
         let mut names = NodeNames::empty(alloc);

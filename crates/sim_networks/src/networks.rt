@@ -10,10 +10,9 @@ ghost use Rattle.sim_networks.specs.Numbering.{IsTable, IsTableOf, MarksInput, n
 
 use crate::nodes::NodeTable;
 use crate::switches::switches_of;
-use geo_core::Limit;
-use sim_text::{SimFault, SimFile};
-use std::alloc::Global;
-use switch_net::{MOST_NODES, MOST_SWITCHES, NamedNet, Net, NetFault};
+use sim_text::{SimFault, SimFile, SimLimit};
+use std::alloc::{AllocError, Global};
+use switch_net::{MOST_NODES, MOST_SWITCHES, NamedNet, Net};
 
 /// The name of power, whose node is an input.
 const POWER: &[u8] = b"Vdd!";
@@ -30,10 +29,10 @@ fn check_limits(table: &NodeTable, sim: &SimFile) -> Result<(), SimFault>
     ensures refused { IfErr result (λ fault. HasTooManyNodes fault sim.now ⊎ HasTooManySwitches fault sim.now) }
 {
     if table.count > MOST_NODES as usize {
-        return Err(SimFault::TooMany(Limit::Nodes));
+        return Err(SimFault::TooMany(SimLimit::Nodes));
     }
     if sim.fets.items().len() > MOST_SWITCHES {
-        return Err(SimFault::TooMany(Limit::Switches));
+        return Err(SimFault::TooMany(SimLimit::Switches));
     }
     Ok(())
 }
@@ -51,7 +50,7 @@ fn mark_input(net: &mut Net, table: &NodeTable, name: &[u8])
 }
 
 // The switches, and the nodes of which none is an input.
-fn built(alloc: Global, table: &NodeTable, sim: &SimFile) -> Result<Net, NetFault>
+fn built(alloc: Global, table: &NodeTable, sim: &SimFile) -> Result<Net, AllocError>
     requires table { IsTableOf (records_of sim.now) table.now }
     requires letters { All HasLetter sim.now.fets }
     requires few_nodes { table.now.count ≤ MOST_NODES }
@@ -66,7 +65,7 @@ fn built(alloc: Global, table: &NodeTable, sim: &SimFile) -> Result<Net, NetFaul
 }
 
 // The network of which power and ground are inputs.
-fn powered(alloc: Global, table: &NodeTable, sim: &SimFile) -> Result<Net, NetFault>
+fn powered(alloc: Global, table: &NodeTable, sim: &SimFile) -> Result<Net, AllocError>
     requires table { IsTableOf (records_of sim.now) table.now }
     requires letters { All HasLetter sim.now.fets }
     requires few_nodes { table.now.count ≤ MOST_NODES }
@@ -89,9 +88,7 @@ fn named_net(alloc: Global, table: &NodeTable, sim: &SimFile) -> Result<NamedNet
     ensures names { IfOk result (λ named. named.names ≡ names_with_nodes table.now) }
     ensures refused { IfErr result (λ fault. fault ≡ OutOfMemory) }
 {
-    let Ok(net) = powered(alloc, table, sim) else {
-        return Err(SimFault::Memory);
-    };
+    let net = powered(alloc, table, sim)?;
     let names = table.all_names(alloc)?;
     Ok(NamedNet { net, names })
 }

@@ -10,8 +10,8 @@ ghost use Rattle.sim_networks.specs.Numbering.{AreKnown, IsTable, IsTableOf, nam
 
 use crate::adding::put;
 use crate::names::NodeNames;
-use geo_core::{GeoFault, List, Name};
 use name_index::NameIndex;
+use names_lists::{List, Name};
 use partition::{Labelling, Partition};
 use sim_text::SimFile;
 use std::alloc::{AllocError, Global};
@@ -52,8 +52,8 @@ fn joined(
 }
 
 impl NodeTable {
-    /// The nodes of a sim file: one for each class of names that its aliases join. `Memory` alone refuses.
-    pub fn of(alloc: Global, sim: &SimFile) -> Result<NodeTable, GeoFault>
+    /// The nodes of a sim file: one for each class of names that its aliases join.
+    pub fn of(alloc: Global, sim: &SimFile) -> Result<NodeTable, AllocError>
         ensures { IfOk result (IsTableOf (records_of sim.now)) }
     {
         let names = NodeNames::of(alloc, sim)?;
@@ -76,7 +76,7 @@ impl NodeTable {
     }
 
     // The names, each with its node.
-    fn listed(&self, alloc: Global) -> Result<Vec<(Name, u32)>, GeoFault>
+    fn listed(&self, alloc: Global) -> Result<Vec<(Name, u32)>, AllocError>
         requires table { IsTable self.now }
         requires few { self.now.count ≤ MOST_NODES }
         ensures { IfOk result (λ listed. listed.items ≡ names_with_nodes self.now) }
@@ -89,8 +89,8 @@ impl NodeTable {
         Ok(listed)
     }
 
-    /// The names, each with its node, in the order in which they were met. `Memory` alone refuses.
-    pub fn all_names(&self, alloc: Global) -> Result<List<(Name, u32)>, GeoFault>
+    /// The names, each with its node, in the order in which they were met.
+    pub fn all_names(&self, alloc: Global) -> Result<List<(Name, u32)>, AllocError>
         requires table { IsTable self.now }
         requires few { self.now.count ≤ MOST_NODES }
         ensures { IfOk result (λ names. names ≡ names_with_nodes self.now) }

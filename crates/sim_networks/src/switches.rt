@@ -10,7 +10,7 @@ ghost use Rattle.sim_networks.specs.Numbering.{HasTerminals, IsTable, names_with
 
 use crate::adding::put;
 use crate::nodes::NodeTable;
-use geo_core::Name;
+use names_lists::Name;
 use sim_text::SimFet;
 use std::alloc::{AllocError, Global};
 use switch_net::{Switch, SwitchKind};

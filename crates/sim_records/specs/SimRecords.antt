@@ -3,13 +3,13 @@ use Rattle.std.specs.Prelude.{◌≡◌, ◌≢◌, ◌<◌, ℕ, ℤ, List, [],
 use Rattle.std.specs.Int.{int_div_euclid}
 use Rattle.std.specs.Int.RustNames.{unsigned_abs}
 use Rattle.std.specs.List.{flat_map}
-use Rattle.geo_core.specs.declared.limits.Limit.TheVariants.{Switches}
 use Rattle.ext_model.specs.declared.limits.TheConstants.{LENGTHS_EDGE}
 use Rattle.ext_model.specs.declared.records.NodeRec.{NodeRec}
 use Rattle.ext_model.specs.declared.records.FetRec.{FetRec}
 use Rattle.ext_model.specs.declared.circuits.Circuit.{Circuit}
 use Rattle.sim_text.specs.declared.faults.SimFault.{SimFault}
 use Rattle.sim_text.specs.declared.faults.SimFault.TheVariants.{TooMany}
+use Rattle.sim_text.specs.declared.limits.SimLimit.TheVariants.{Switches}
 use Rattle.sim_text.specs.declared.files.SimFile.{SimFile}
 use Rattle.sim_records.specs.declared.limits.TheConstants.{MOST_SWITCHES, ATTOFARADS_IN_A_UNIT}
 use Rattle.sim_records.specs.Switches.{switches_of}

@@ -6,11 +6,11 @@ ghost use Rattle.sim_records.specs.SimRecords.{cap_of, aliases_of};
 use crate::adding::add;
 use crate::limits::ATTOFARADS_IN_A_UNIT;
 use ext_model::NodeRec;
-use geo_core::{GeoFault, Name};
-use std::alloc::Global;
+use names_lists::Name;
+use std::alloc::{AllocError, Global};
 
-/// The capacitance of each node, in units of a sim file. Memory alone refuses.
-pub fn caps_of(alloc: Global, nodes: &[NodeRec]) -> Result<Vec<(Name, i128)>, GeoFault>
+/// The capacitance of each node, in units of a sim file.
+pub fn caps_of(alloc: Global, nodes: &[NodeRec]) -> Result<Vec<(Name, i128)>, AllocError>
     ensures { IfOk result (λ caps. caps.items ≡ map cap_of nodes.now) }
 {
     let mut caps = Vec::new(alloc);
@@ -26,7 +26,7 @@ fn add_aliases(
     alloc: Global,
     aliases: &mut Vec<(Name, Name)>,
     node: &NodeRec,
-) -> Result<(), GeoFault>
+) -> Result<(), AllocError>
     ensures { OnOk result (aliases.new.items ≡ aliases.old.items ++ aliases_of node.now) }
 {
     for alias in node.aliases.items() {
@@ -36,8 +36,8 @@ fn add_aliases(
     Ok(())
 }
 
-/// The aliases of each node, with its preferred name before each. Memory alone refuses.
-pub fn all_aliases(alloc: Global, nodes: &[NodeRec]) -> Result<Vec<(Name, Name)>, GeoFault>
+/// The aliases of each node, with its preferred name before each.
+pub fn all_aliases(alloc: Global, nodes: &[NodeRec]) -> Result<Vec<(Name, Name)>, AllocError>
     ensures { IfOk result (λ aliases. aliases.items ≡ flat_map aliases_of nodes.now) }
 {
     let mut aliases = Vec::new(alloc);

@@ -6,7 +6,7 @@ ghost use Rattle.sim_records.specs.SimRecords.{sim_of, HasLetterAndLengths, HasT
 use crate::caps::{all_aliases, caps_of};
 use crate::switches::add_switches;
 use ext_model::Circuit;
-use geo_core::List;
+use names_lists::List;
 use sim_text::{SimFault, SimFile};
 use std::alloc::Global;
 

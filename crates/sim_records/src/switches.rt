@@ -2,17 +2,16 @@
 ghost use Rattle.std.specs.Prelude.{◌≡◌, ◌⊎◌, ◌≤◌, ◌<◌, ◌<ℤ◌, ◌≤ℤ◌, ◌≢◌, ◌∷◌, ◌++◌, [], ◌+ℤ◌, pos, neg_ℤ, ◌^◌, length, All, IfOk, OnOk, IfErr};
 ghost use Rattle.std.specs.Int.RustNames.{unsigned_abs};
 ghost use Rattle.ext_model.specs.declared.limits.TheConstants.{LENGTHS_EDGE};
-ghost use Rattle.geo_core.specs.declared.limits.Limit.TheVariants.{Switches};
 ghost use Rattle.sim_text.specs.declared.faults.SimFault.TheVariants.{Memory as OutOfMemory, TooMany as TooManyOf};
+ghost use Rattle.sim_text.specs.declared.limits.SimLimit.TheVariants.{Switches};
 ghost use Rattle.sim_records.specs.declared.limits.TheConstants.{MOST_SWITCHES};
 ghost use Rattle.sim_records.specs.Switches.{letter_of, width_of, length_of, switch_between, switches_from, switches_among, switches_of};
 
 use crate::adding::add;
 use crate::limits::MOST_SWITCHES;
 use ext_model::{FetRec, TermRec};
-use geo_core::{GeoFault, Limit};
-use sim_text::{SimFault, SimFet};
-use std::alloc::Global;
+use sim_text::{SimFault, SimFet, SimLimit};
+use std::alloc::{AllocError, Global};
 
 // the letter of a transistor
 fn letter_of(kind: &[u8]) -> u8
@@ -54,7 +53,7 @@ fn switch_between(
     source: &TermRec,
     drain: &TermRec,
     lengths: i128,
-) -> Result<SimFet, GeoFault>
+) -> Result<SimFet, AllocError>
     requires { fet.now.kind ≢ [] }
     ensures { IfOk result (λ switch. switch ≡ switch_between fet.now source.now drain.now lengths) }
 {
@@ -79,7 +78,7 @@ fn pair_switch(
     fet: &FetRec,
     source: &TermRec,
     drain: &TermRec,
-) -> Result<SimFet, GeoFault>
+) -> Result<SimFet, AllocError>
     requires letter { fet.now.kind ≢ [] }
     requires source { unsigned_abs source.now.length < LENGTHS_EDGE }
     requires drain { unsigned_abs drain.now.length < LENGTHS_EDGE }
@@ -97,7 +96,7 @@ fn push(switches: &mut Vec<SimFet>, switch: SimFet) -> Result<(), SimFault>
         × (MOST_SWITCHES < length (switches.old.items ++ switch ∷ [])))) }
 {
     if switches.len() == MOST_SWITCHES {
-        return Err(SimFault::TooMany(Limit::Switches));
+        return Err(SimFault::TooMany(SimLimit::Switches));
     }
     add(switches, switch)?;
     Ok(())

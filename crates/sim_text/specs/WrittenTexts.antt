@@ -1,10 +1,9 @@
 -- Sim texts as they are written.
 use Rattle.std.specs.Prelude.{◌≡◌, ◌<◌, ℕ, ℤ, List, [], ◌∷◌, ◌++◌, length, map, flat_map, codes}
-use Rattle.geo_core.specs.declared.limits.Limit.TheVariants.{Text}
 use Rattle.text_scan.specs.Decimal.{decimal}
 use Rattle.text_scan.specs.Written.{line_of, text_of}
 use Rattle.sim_text.specs.declared.faults.SimFault.{SimFault}
-use Rattle.sim_text.specs.declared.faults.SimFault.TheVariants.{TooMany}
+use Rattle.sim_text.specs.declared.faults.SimFault.TheVariants.{TooLong}
 use Rattle.sim_text.specs.declared.files.SimFile.{SimFile}
 use Rattle.sim_text.specs.declared.files.SimLine.{SimLine}
 use Rattle.sim_text.specs.declared.files.SimLine.TheVariants.{Header, Fet, Cap, Alias, Nothing}
@@ -50,4 +49,4 @@ numbers_behind_blanks numbers = flat_map (λ z. 32 ∷ decimal z) numbers
 
 -- the fault of a text that is longer than one may be
 abbrev pub IsTooLong : SimFault → List ℕ → Type 0
-IsTooLong fault text = (fault ≡ TooMany Text) × (LONGEST_TEXT < length text)
+IsTooLong fault text = (fault ≡ TooLong) × (LONGEST_TEXT < length text)

@@ -1,11 +1,11 @@
 //! Why a sim text is refused.
 
-use geo_core::{GeoFault, Limit};
+use crate::limits::SimLimit;
 use std::alloc::AllocError;
 use text_form::At;
 use thiserror::Error;
 
-/// Why a sim text is neither read nor written.
+/// Why a sim text is neither read nor written, or sim records or their network are not made.
 #[derive(Clone, Copy, Debug, PartialEq, Eq, Error)]
 pub enum SimFault {
     /// The first line isn't of its form, or there is none.
@@ -23,9 +23,12 @@ pub enum SimFault {
     /// A word that should be a name and isn't one.
     #[error("bad name")]
     Name,
-    /// There would be too many bytes in the text: only the writer says so.
+    /// The text would have too many bytes: only the writer says so.
+    #[error("too long")]
+    TooLong,
+    /// There would be too many of these: only what makes sim records, or a network of them, says so.
     #[error("too many")]
-    TooMany(Limit),
+    TooMany(SimLimit),
     #[error("out of memory")]
     Memory,
 }
@@ -40,17 +43,6 @@ impl From<AllocError> for SimFault {
     ghost from_gives = { λ _ fault. fault ≡ Memory };
 
     fn from(_error: AllocError) -> SimFault {
-        SimFault::Memory
-    }
-}
-
-impl From<GeoFault> for SimFault {
-    ghost use Rattle.std.specs.Prelude.{◌≡◌};
-    ghost use Rattle.sim_text.specs.declared.faults.SimFault.TheVariants.{Memory};
-
-    ghost from_gives = { λ _ fault. fault ≡ Memory };
-
-    fn from(_fault: GeoFault) -> SimFault {
         SimFault::Memory
     }
 }

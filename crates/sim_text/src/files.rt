@@ -1,6 +1,6 @@
 //! What a sim text says, as a whole and in each of its lines.
 
-use geo_core::{List, Name};
+use names_lists::{List, Name};
 
 /// A transistor between two nodes.
 #[derive(Debug, Drop)]

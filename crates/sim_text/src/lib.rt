@@ -26,6 +26,6 @@ pub use laws::{
     texts_are_read_as_what_they_spell, texts_are_refused_at_their_first_faulty_line,
     written_circuits_are_read_back,
 };
-pub use limits::{CAP_EDGE, LONGEST_SIM_NAME, LONGEST_TEXT};
+pub use limits::{CAP_EDGE, LONGEST_SIM_NAME, LONGEST_TEXT, SimLimit};
 pub use reading::read_sim;
 pub use writing::write_sim;

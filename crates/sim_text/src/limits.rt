@@ -1,5 +1,12 @@
 //! The limits of this crate. Clauses read them by their names.
 
+/// What sim records, or the network of sim records, may have too many of.
+#[derive(Clone, Copy, Debug, PartialEq, Eq)]
+pub enum SimLimit {
+    Nodes,
+    Switches,
+}
+
 /// The greatest number of bytes of a name in a sim text.
 pub const LONGEST_SIM_NAME: usize = 65_535;
 

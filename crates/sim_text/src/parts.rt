@@ -7,7 +7,7 @@ ghost use Rattle.sim_text.specs.Parts.{is_sim_name, name_in, letter_in, number_i
 
 use crate::faults::SimFault;
 use crate::limits::{CAP_EDGE, LONGEST_SIM_NAME};
-use geo_core::Name;
+use names_lists::Name;
 use std::alloc::Global;
 use text_scan::{NumFault, wide};
 

@@ -6,7 +6,7 @@ ghost use Rattle.sim_text.specs.SimTexts.{nothing_yet, with_line, sim_in};
 use crate::faults::{SimAt, SimFault};
 use crate::files::{SimFet, SimFile, SimLine};
 use crate::line_forms::says;
-use geo_core::{List, Name};
+use names_lists::{List, Name};
 use std::alloc::{AllocError, Global};
 use std::marker::Model;
 use text_form::{LineReader, read_text};

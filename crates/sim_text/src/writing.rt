@@ -9,7 +9,7 @@ ghost use Rattle.sim_text.specs.WrittenTexts.{lines_saying, numbers_behind_blank
 use crate::faults::SimFault;
 use crate::files::{SimFet, SimFile};
 use crate::limits::LONGEST_TEXT;
-use geo_core::{Limit, Name};
+use names_lists::Name;
 use std::alloc::{AllocError, Global};
 use text_scan::append_decimal;
 
@@ -17,7 +17,7 @@ use text_scan::append_decimal;
 ///
 /// # Errors
 ///
-/// `TooMany(Limit::Text)` exactly where the text is longer than `LONGEST_TEXT` bytes, or want of memory.
+/// `TooLong` exactly where the text is longer than `LONGEST_TEXT` bytes, or want of memory.
 pub fn write_sim(alloc: Global, sim: &SimFile) -> Result<Vec<u8>, SimFault>
     ensures written { IfOk result (λ text. text.items ≡ sim_text sim.now) }
     ensures within { IfOk result (λ text. length text.items ≤ LONGEST_TEXT) }
@@ -130,7 +130,7 @@ fn check_length(text: &[u8]) -> Result<(), SimFault>
     ensures refused { IfErr result (λ fault. IsTooLong fault text.now) }
 {
     if text.len() > LONGEST_TEXT {
-        return Err(SimFault::TooMany(Limit::Text));
+        return Err(SimFault::TooLong);
     }
     Ok(())
 }

@@ -1,5 +1,5 @@
 // Long names and long texts.
-use geo_core::{Limit, List, Name};
+use names_lists::{List, Name};
 use sim_text::{LONGEST_SIM_NAME, LONGEST_TEXT, SimFault, SimFile, read_sim, write_sim};
 use std::alloc::{AllocError, Global};
 use std::test::Fail;
@@ -20,7 +20,7 @@ const NAMES: &[(usize, Result<(), SimFault>)] = &[
 // How long the text of a circuit is, and whether it is written.
 const LENGTHS: &[(usize, Result<(), SimFault>)] = &[
     (LONGEST_TEXT, Ok(())),
-    (LONGEST_TEXT + 1, Err(SimFault::TooMany(Limit::Text))),
+    (LONGEST_TEXT + 1, Err(SimFault::TooLong)),
 ];
 
 fn text_with_name(alloc: Global, length: usize) -> Result<Vec<u8>, AllocError> {

@@ -4,9 +4,7 @@ ghost use Rattle.std.specs.Prelude.{IsTrue};
 ghost use Rattle.switch_net.specs.Network.{IsWithin};
 
 use std::alloc::{AllocError, Global};
-use switch_net::{
-    LARGEST_SIZE, Level, MOST_NODES, MOST_SWITCHES, Net, NetFault, Switch, SwitchKind,
-};
+use switch_net::{LARGEST_SIZE, Level, MOST_NODES, MOST_SWITCHES, Net, Switch, SwitchKind};
 
 /// The node of ground.
 pub const GROUND: u32 = 0;
@@ -50,7 +48,7 @@ fn is_within(nodes: u32, switch: &Switch) -> bool
 }
 
 /// The network of so many nodes and these switches, or none where a switch names a node too many.
-pub fn build(alloc: Global, count: usize, switches: &[Switch]) -> Result<Option<Net>, NetFault> {
+pub fn build(alloc: Global, count: usize, switches: &[Switch]) -> Result<Option<Net>, AllocError> {
     if count > MOST_NODES as usize {
         return Ok(None);
     }
@@ -82,7 +80,7 @@ fn switches_of(alloc: Global, entries: &[Entry]) -> Result<Vec<Switch>, AllocErr
 }
 
 /// The network of a circuit, or none where a switch of it names a node too many.
-pub fn network(alloc: Global, nodes: usize, circuit: Circuit) -> Result<Option<Net>, NetFault> {
+pub fn network(alloc: Global, nodes: usize, circuit: Circuit) -> Result<Option<Net>, AllocError> {
     let switches = switches_of(alloc, circuit.switches)?;
     let Some(mut net) = build(alloc, nodes, &switches)? else {
         return Ok(None);

@@ -5,7 +5,7 @@ use std::alloc::{AllocError, Global};
 use std::test::Fail;
 use steady_state::{Settled, settle};
 use switch_net::Level::{One, X, Zero};
-use switch_net::{Level, NetFault, Switch};
+use switch_net::{Level, Switch};
 
 /// The budget of both phases, and the count of the inverters in the chain.
 const MANY: u32 = 200_000;
@@ -21,7 +21,7 @@ fn run(
     switches: &[Switch],
     inputs: &[u32],
     first: &[Level],
-) -> Result<Option<(Settled, Vec<Level>)>, NetFault> {
+) -> Result<Option<(Settled, Vec<Level>)>, AllocError> {
     let mut state = states(alloc, nodes, first)?;
     let Some(mut net) = build(alloc, nodes, switches)? else {
         return Ok(None);
@@ -46,7 +46,7 @@ fn ring() -> [Switch; 6] {
     [down_2, load_2, down_3, load_3, down_4, load_4]
 }
 
-fn ring_oscillates(alloc: Global) -> Result<bool, NetFault> {
+fn ring_oscillates(alloc: Global) -> Result<bool, AllocError> {
     let first = [Zero, One, Zero, Zero, Zero];
     let rails = [GROUND, POWER];
     let unsettled = Settled {
@@ -74,7 +74,7 @@ fn inverters(alloc: Global, count: u32) -> Result<Vec<Switch>, AllocError> {
     Ok(switches)
 }
 
-fn chain_settles(alloc: Global) -> Result<bool, NetFault> {
+fn chain_settles(alloc: Global) -> Result<bool, AllocError> {
     let switches = inverters(alloc, MANY)?;
     let driven = [GROUND, POWER, 2];
     let settled = Settled {

@@ -1,11 +1,11 @@
 //! Small networks, and what becomes of their states.
 
 use crate::circuits::{Circuit, Entry, GROUND, POWER, network};
-use std::alloc::Global;
+use std::alloc::{AllocError, Global};
 use std::test::Fail;
 use steady_state::{Settled, settle, step, step_within};
 use switch_net::Level::{One, X, Zero};
-use switch_net::{Level, Net, NetFault, SwitchKind};
+use switch_net::{Level, Net, SwitchKind};
 
 /// The budget of the phases that settle.
 const BUDGET: u32 = 5;
@@ -331,7 +331,7 @@ fn ends(
     row: Row,
     budget: u32,
     want: Settled,
-) -> Result<bool, NetFault> {
+) -> Result<bool, AllocError> {
     let mut state = Vec::from_slice(alloc, row.before)?;
     if state.len() != net.nodes as usize {
         return Ok(false);
@@ -340,7 +340,7 @@ fn ends(
 }
 
 /// Whether one step of the network leads to the states of the row.
-fn steps(alloc: Global, net: &Net, row: Row) -> Result<bool, NetFault> {
+fn steps(alloc: Global, net: &Net, row: Row) -> Result<bool, AllocError> {
     if row.before.len() != net.nodes as usize {
         return Ok(false);
     }
@@ -348,7 +348,7 @@ fn steps(alloc: Global, net: &Net, row: Row) -> Result<bool, NetFault> {
 }
 
 /// Whether a step of the vicinities of these nodes leads to the states of the row.
-fn steps_within(alloc: Global, mut net: Net, row: Row, seeds: &[u32]) -> Result<bool, NetFault> {
+fn steps_within(alloc: Global, mut net: Net, row: Row, seeds: &[u32]) -> Result<bool, AllocError> {
     let mut state = Vec::from_slice(alloc, row.before)?;
     if state.len() != net.nodes as usize || !seeds.iter().all(|seed| *seed < net.nodes) {
         return Ok(false);
@@ -357,7 +357,7 @@ fn steps_within(alloc: Global, mut net: Net, row: Row, seeds: &[u32]) -> Result<
     Ok(state.as_slice() == row.after)
 }
 
-fn holds(alloc: Global, row: Row) -> Result<bool, NetFault> {
+fn holds(alloc: Global, row: Row) -> Result<bool, AllocError> {
     let Some(net) = network(alloc, row.before.len(), row.circuit)? else {
         return Ok(false);
     };

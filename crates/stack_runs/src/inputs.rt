@@ -3,7 +3,7 @@ ghost use Rattle.std.specs.Prelude.{◌≡◌, ◌++◌, IfOk, OnOk};
 ghost use Rattle.switch_net.specs.declared.switches.Level.TheVariants.{Zero, One};
 ghost use Rattle.stack_runs.specs.StackVectors.{column_lines, column_name, row_lines, row_name, set_named, stack_vectors};
 
-use geo_core::List;
+use names_lists::List;
 use std::alloc::{AllocError, Global};
 use switch_net::Level;
 use text_scan::append_decimal;

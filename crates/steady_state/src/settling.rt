@@ -13,8 +13,8 @@ ghost use Rattle.steady_state.specs.Wired.{network_in};
 use crate::changes::{changes, commit, mark_all_touched, mark_changed};
 use crate::stepping::{clear_strengths, mark_afresh, step_all, step_marked, step_seeds};
 use crate::wiring::Wiring;
-use std::alloc::Global;
-use switch_net::{Level, Net, NetFault, NodeSet, Strengths};
+use std::alloc::{AllocError, Global};
+use switch_net::{Level, Net, NodeSet, Strengths};
 
 /// How a phase ended: after how many steps, and whether it had settled then.
 #[derive(Clone, Copy, Debug, PartialEq, Eq)]
@@ -25,7 +25,7 @@ pub struct Settled {
 
 /// The states after one step: each node that stores charge has its steady value, and the inputs are
 /// as they were. It takes one state for each node.
-pub fn step(alloc: Global, net: &Net, state: &[Level]) -> Result<Vec<Level>, NetFault>
+pub fn step(alloc: Global, net: &Net, state: &[Level]) -> Result<Vec<Level>, AllocError>
     requires { length state.now ≡ net.now.nodes }
     ensures { IfOk result (λ next. IsStep (network_of net.now) state.now next.items) }
 {

@@ -7,12 +7,11 @@ ghost use Rattle.switch_net.specs.Network.{IsWithin};
 ghost use Rattle.switch_net.specs.Arrays.{AreStrengthsFor, IsWorkFor};
 
 use crate::adjacency::Adjacency;
-use crate::faults::NetFault;
 use crate::limits::MOST_SWITCHES;
 use crate::node_set::NodeSet;
 use crate::switches::{Level, Switch};
-use geo_core::List;
-use std::alloc::Global;
+use names_lists::List;
+use std::alloc::{AllocError, Global};
 
 /// The strengths of the strongest paths to each node: of definite paths, of unblocked paths from
 /// roots in another state than one, and of those from roots in another state than zero. The nodes
@@ -38,7 +37,7 @@ pub struct Work {
 
 impl Work {
     /// Arrays for a network of so many nodes and these switches.
-    pub(crate) fn build(alloc: Global, nodes: u32, switches: &[Switch]) -> Result<Work, NetFault>
+    pub(crate) fn build(alloc: Global, nodes: u32, switches: &[Switch]) -> Result<Work, AllocError>
         requires within { All (IsWithin nodes) switches.now }
         requires few { length switches.now ≤ MOST_SWITCHES }
         ensures { IfOk result (λ work. IsWorkFor nodes switches.now work) }
@@ -56,7 +55,7 @@ impl Work {
 
 impl Strengths {
     /// Strengths for so many nodes.
-    pub fn build(alloc: Global, nodes: usize) -> Result<Strengths, NetFault>
+    pub fn build(alloc: Global, nodes: usize) -> Result<Strengths, AllocError>
         ensures { IfOk result (λ strengths. AreStrengthsFor nodes strengths) }
     {
         Ok(Strengths {

@@ -18,7 +18,6 @@
 
 mod adjacency;
 mod arrays;
-mod faults;
 mod laws;
 mod limits;
 mod network;
@@ -28,7 +27,6 @@ mod terminals;
 
 pub use adjacency::{Adjacency, SortedSwitches};
 pub use arrays::{Strengths, Work};
-pub use faults::NetFault;
 pub use laws::{phase_law, quiet_node_law, simple_path_law, steady_value_law};
 pub use limits::{LARGEST_SIZE, MOST_NODES, MOST_SWITCHES};
 pub use network::{NamedNet, Net};

@@ -8,10 +8,9 @@ ghost use Rattle.switch_net.specs.Names.{NameNodesBelow, NameOneNodeEach};
 ghost use Rattle.switch_net.specs.Arrays.{IsWorkFor};
 
 use crate::arrays::Work;
-use crate::faults::NetFault;
 use crate::switches::Switch;
-use geo_core::{List, Name};
-use std::alloc::Global;
+use names_lists::{List, Name};
+use std::alloc::{AllocError, Global};
 
 /// Nodes, numbered from 0, and the switches between them. Each node has a size, from 1 to 3, and is
 /// an input or stores charge.
@@ -46,7 +45,7 @@ impl Net {
 
     /// The network of these switches, in their order, in which every node stores charge and has
     /// size 1.
-    pub fn build(alloc: Global, nodes: u32, switches: &[Switch]) -> Result<Net, NetFault>
+    pub fn build(alloc: Global, nodes: u32, switches: &[Switch]) -> Result<Net, AllocError>
         requires few_nodes { nodes ≤ MOST_NODES }
         requires few_switches { length switches.now ≤ MOST_SWITCHES }
         requires switches_within { All (IsWithin nodes) switches.now }

@@ -5,9 +5,8 @@ ghost use Rattle.std.specs.Prelude.{slice_index, slice_index_or};
 ghost use Rattle.std.proofs.Props.{props};
 ghost use Rattle.switch_net.specs.Sets.{IsInside, AreListed};
 
-use crate::faults::NetFault;
-use geo_core::List;
-use std::alloc::Global;
+use names_lists::List;
+use std::alloc::{AllocError, Global};
 
 /// A set of the nodes of a network: whether each node is in it, and the list of those that are, in
 /// the order in which they were added, with their count. The list has room for every node.
@@ -21,7 +20,7 @@ pub struct NodeSet {
 
 impl NodeSet {
     /// The empty set, for so many nodes.
-    pub fn build(alloc: Global, nodes: usize) -> Result<NodeSet, NetFault>
+    pub fn build(alloc: Global, nodes: usize) -> Result<NodeSet, AllocError>
         ensures fits { IfOk result (λ set. length set.inside ≡ nodes) }
         ensures empty { IfOk result (λ set. set.count ≡ 0) }
     {

@@ -5,9 +5,11 @@ use Rattle.std.specs.Prelude.{IsTrue, Ok, not, nat_lt}
 use Rattle.std.specs.List.{list_any}
 use Rattle.std.proofs.lemmas.Bool.{cases_Bool, cases_eq, or_parts, not-false, not-true, ltb-false, eqb-true, eqb-false, ne_eqb, true≢false}
 use Rattle.std.proofs.lemmas.List.{length-map}
+use Rattle.std.proofs.lemmas.Simd.{map-map}
 use Rattle.finite_sets.specs.Lists.{In, Distinct}
 use Rattle.finite_sets.proofs.Members.{In-push, In-append_left, In-map, In-map_source, In-filter, In-filter_source, In-filter_passes}
 use Rattle.finite_sets.proofs.Searches.{list_any-In}
+use Rattle.finite_sets.proofs.Images.{Distinct-map_filter}
 use Rattle.tech_model.specs.declared.raw.LayerId.{LayerId}
 use Rattle.tech_model.specs.declared.raw.TypeId.{TypeId}
 use Rattle.tech_model.specs.declared.raw.RawTech.{RawTech}
@@ -52,23 +54,6 @@ placed raw base residues well =
           (has_number (map (plane_of_word raw) residues) (plane_of_word raw base)) parts.1,
     )
 
--- what differs in f does so after a filter
-distinct_filter : {X Y : Type 0} (f : X → Y) (test : X → Bool) (xs : List X) → Distinct (map f xs) → Distinct (map f (filter test xs))
-distinct_filter f test [] distinct = tt
-distinct_filter f test (x ∷ xs) distinct = elim (cases_Bool (test x)) [
-  | inl passes ↦ rw passes (
-    (λ is. let source = In-map_source f (f x) (filter test xs) is in
-        distinct.0 (subst (λ y. In y (map f xs)) source.1.1 (In-map f source.0 xs (In-filter_source test source.0 xs source.1.0)))),
-    distinct_filter f test xs distinct.1,
-  )
-  | inr fails ↦ rw fails (distinct_filter f test xs distinct.1)
-]
-
--- two functions one after the other are one
-map_map : {X Y Z : Type 0} (f : Y → Z) (g : X → Y) (xs : List X) → map f (map g xs) ≡ map (λ x. f (g x)) xs
-map_map f g [] = refl
-map_map f g (x ∷ xs) = ap (λ zs. f (g x) ∷ zs) (map_map f g xs)
-
 -- a number that a list has is that of one of the things that the list is made of
 number_source : {X : Type 0} (f : X → ℕ) (n : ℕ) (xs : List X) → has_number (map f xs) n ≡ true → (x : X) × (In x xs × (f x ≡ n))
 number_source f n [] some = absurd (true≢false (sym some))
@@ -86,13 +71,13 @@ other_planes : (raw : RawTech) (base : List ℕ) (residues : List (List ℕ)) �
 other_planes raw base residues well =
     let others = filter (is_elsewhere raw base) residues in
     subst (λ (ps : List ℕ). Distinct (plane_of_word raw base ∷ ps))
-    (sym (map_map (λ (t : TypeId). plane_of raw t.0) (type_of_word raw) others)) (
+    (sym (map-map (λ (t : TypeId). plane_of raw t.0) (type_of_word raw) others)) (
       (λ is.
           let source = In-map_source (plane_of_word raw) (plane_of_word raw base) others is in
           let apart = not-true (plane_of_word raw source.0 == plane_of_word raw base)
           (In-filter_passes (is_elsewhere raw base) source.0 residues source.1.0) in
           eqb-false (plane_of_word raw source.0) (plane_of_word raw base) apart source.1.1),
-      distinct_filter (plane_of_word raw) (is_elsewhere raw base) residues (placed raw base residues well).0,
+      Distinct-map_filter (plane_of_word raw) (is_elsewhere raw base) residues (placed raw base residues well).0,
     )
 
 holds_something : {X : Type 0} (x : X) (xs : List X) → In x xs → 0 < length xs

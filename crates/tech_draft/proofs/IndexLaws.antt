@@ -8,7 +8,7 @@ use Rattle.std.proofs.lemmas.Bool.{cases_Bool, or_cases}
 use Rattle.std.proofs.lemmas.List.{length_push, length-map, length-set}
 use Rattle.std.proofs.lemmas.Slice.Eq.{bytes_eq-Decides}
 use Rattle.finite_sets.proofs.Members.{In-append_cases, In-map_source}
-use Rattle.finite_sets.proofs.Searches.{All-from_In, position_from-below, position_from-push_fails, position_from-push_passes}
+use Rattle.finite_sets.proofs.Searches.{All-from_In, position_from-below, position_from-push_fails, position_from-push_passes, All-In}
 use Rattle.tech_model.specs.declared.raw.LayerId.{LayerId}
 use Rattle.tech_model.specs.declared.raw.TypeId.{TypeId}
 use Rattle.tech_model.specs.declared.raw.LayerRec.{LayerRec}
@@ -17,7 +17,6 @@ use Rattle.tech_model.specs.declared.faults.TechFault.TheVariants.{Twice}
 use Rattle.tech_model.specs.declared.limits.TheConstants.{MOST_TYPES}
 use Rattle.tech_model.specs.LayerWords.{layer_in}
 use Rattle.tech_model.specs.Types.{layer_named, layer_number, has_name, no_layer}
-use Rattle.tech_model.proofs.WellFormedLaws.{All_In}
 use Rattle.tech_draft.specs.declared.draft.Draft.TheInside.{Inside}
 use Rattle.tech_draft.specs.Kept.{draft_of, HasRoom, IsKept}
 use Rattle.tech_draft.specs.Lookups.{layer_of_word, type_of_word}
@@ -97,7 +96,7 @@ noted-kept raw residues layer words below all =
     let few : LayerId × TypeId → Type 0 = λ pair. pair.0.0 < MOST_TYPES in
     All-from_In few (residues ++ residues_of_layer raw layer words) (λ pair inside.
     elim (In-append_cases pair residues (residues_of_layer raw layer words) inside) [
-      | inl before ↦ All_In few residues pair all before
+      | inl before ↦ All-In few residues pair all before
       | inr added ↦
           let source = In-map_source (λ (word : List ℕ). (layer_number layer, type_of_word raw word)) pair words added in
           subst few source.1.1 below

@@ -6,11 +6,10 @@ use Rattle.std.specs.Option.{option_map_or}
 use Rattle.std.proofs.lemmas.Bool.{cases_Bool, eqb-false, ltb-false}
 use Rattle.finite_sets.specs.Lists.{In}
 use Rattle.finite_sets.proofs.Members.{In-get_or, In-push_cases}
-use Rattle.finite_sets.proofs.Searches.{All-from_In, position_from-below, one_thing}
+use Rattle.finite_sets.proofs.Searches.{All-from_In, position_from-below, one_thing, All-In}
 use Rattle.tech_model.specs.declared.raw.TypeId.{TypeId}
 use Rattle.tech_model.specs.declared.raw.RawTech.{RawTech}
 use Rattle.tech_model.specs.Types.{type_number, is_type, plane_of, layer_of, images_of, layer_named, no_layer, has_name}
-use Rattle.tech_model.proofs.WellFormedLaws.{All_In}
 use Rattle.tech_draft.specs.Words.{has_slash, name_part, plane_part, pieces_of}
 use Rattle.tech_draft.specs.Lookups.{plane_named, named_types, first_on, type_on, entry_types, has_type, with_type_once, types_of_list}
 use Rattle.tech_draft.specs.Lookups.{type_of_word, layer_of_word, is_contact}
@@ -23,7 +22,7 @@ layer_named-below raw word layer found = let below = position_from-below (has_na
 -- the images of a layer are types
 pub image_type : (raw : RawTech) (layer : ℕ) (t : TypeId) → HasSoundLayers raw → layer < length raw.layers → In t (images_of raw layer)
     → IsTrue (is_type raw t.0)
-image_type raw layer t sound below is = All_In (λ (t : TypeId). IsTrue (is_type raw t.0)) (images_of raw layer) t
+image_type raw layer t sound below is = All-In (λ (t : TypeId). IsTrue (is_type raw t.0)) (images_of raw layer) t
     (sound.layers layer no_layer below).images is
 
 -- ---- entries

@@ -1,12 +1,11 @@
 -- Each line that is taken keeps a draft sound.
-use Rattle.std.proofs.Common.{◌≡◌, ◌<◌, ◌≤◌, ◌==◌, ◌||◌, ℕ, true, false, List, [], ◌∷◌, ◌++◌, length, refl, sym, ap, subst, ◌∙◌, arith}
+use Rattle.std.proofs.Common.{◌≡◌, ◌<◌, ◌≤◌, ◌==◌, ◌||◌, ℕ, true, false, List, [], ◌∷◌, ◌++◌, length, refl, ap, subst, arith}
 use Rattle.std.proofs.Common.{inl, inr}
 use Rattle.std.specs.Prelude.{IsTrue, Option, Some, None, Ok, not, nat_lt, nat_le, codes}
 use Rattle.std.specs.List.{list_any, list_all}
 use Rattle.std.specs.Option.{ok_or}
 use Rattle.std.specs.Str.{bytes_eq}
 use Rattle.std.proofs.lemmas.Bool.{cases_Bool, or_parts, and_parts, not-false, not-true, leb-false, eqb-true, eqb-false}
-use Rattle.std.proofs.lemmas.Bool.{true≢false}
 use Rattle.std.proofs.lemmas.List.{length_push}
 use Rattle.std.proofs.lemmas.List.Elements.{All-push}
 use Rattle.std.proofs.lemmas.List.Splits.{length-slice_split}
@@ -14,7 +13,7 @@ use Rattle.std.proofs.lemmas.List.Quantifiers.{position-Some}
 use Rattle.std.proofs.lemmas.Slice.Eq.{bytes_eq-Decides}
 use Rattle.finite_sets.specs.Lists.{In}
 use Rattle.finite_sets.proofs.Distincts.{Distinct-push}
-use Rattle.finite_sets.proofs.Searches.{All-from_In, list_all-In, list_any-In, position_from-none}
+use Rattle.finite_sets.proofs.Searches.{All-from_In, list_all-In, list_any-In, position_from-none, absent-from_list_any}
 use Rattle.text_scan.specs.PlainNames.{is_plain_name}
 use Rattle.text_form.specs.SaidLines.{and_then}
 use Rattle.tech_model.specs.declared.raw.TypeId.{TypeId}
@@ -92,10 +91,6 @@ sound-name draft next (name ∷ []) sound is =
     (rules-sound draft name raw.planes raw.pairs raw.classes raw.fets draft.capped sound names (omega arith) sound.rules)
 sound-name draft next _ sound is = absurd (cc)
 
--- the word is none of these
-absent_word : (word : List ℕ) (words : List (List ℕ)) → list_any (bytes_eq word) words ≡ false → In word words → ⊥
-absent_word word words none is = true≢false (sym ((bytes_eq-Decides word word).1 refl) ∙ list_any-In (bytes_eq word) words word none is)
-
 sound-plane : (draft next : Drafted) (words : List (List ℕ)) → IsSound draft → plane_line draft words ≡ Ok next → IsSound next
 unfolding plane_line
 sound-plane draft next (name ∷ []) sound is =
@@ -110,7 +105,7 @@ sound-plane draft next (name ∷ []) sound is =
       limit = omega (arith, long, few);
       plane_names = All-push (λ (n : List ℕ). IsTrue (is_plain_name n)) raw.planes name sound.names.plane_names
           (not-false (is_plain_name name) form.0);
-      differ = Distinct-push raw.planes name sound.names.differ (absent_word name raw.planes once.0);
+      differ = Distinct-push raw.planes name sound.names.differ (absent-from_list_any bytes_eq bytes_eq-Decides name raw.planes once.0);
     } in
     made (with_plane draft name) next room.1
     (rules-sound draft raw.name (raw.planes ++ name ∷ []) raw.pairs raw.classes raw.fets draft.capped sound names
@@ -135,9 +130,9 @@ new_layer-line draft word names plane some good placed new room =
       forms = All-from_In (λ (name : List ℕ). IsTrue (is_layer_name name)) names
           (λ name is. list_all-In (has_form LayerName) names name good is);
       new = λ layer name layer_in had is. elim (cases_Bool (list_any (bytes_eq name) names)) [
-        | inl listed ↦ absent_word name layer.names
+        | inl listed ↦ absent-from_list_any bytes_eq bytes_eq-Decides name layer.names
             (position_from-none (has_name name) 0 raw.layers layer (new_names-free raw [] names name new listed) layer_in) had
-        | inr missing ↦ absent_word name names missing is
+        | inr missing ↦ absent-from_list_any bytes_eq bytes_eq-Decides name names missing is
       ];
       limit = room;
     }

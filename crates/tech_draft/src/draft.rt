@@ -12,7 +12,7 @@ ghost use Rattle.tech_draft.specs.Finished.{is_residue_of, mark_bit, set_with, f
 ghost use Rattle.tech_draft.specs.Sound.{IsSound};
 
 use self::pair_list::PairList;
-use geo_core::{List, Name};
+use names_lists::{List, Name};
 use std::alloc::{AllocError, Global};
 use std::marker::Model;
 use tech_model::{

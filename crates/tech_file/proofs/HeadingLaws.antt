@@ -10,7 +10,7 @@ use Rattle.std.proofs.lemmas.List.{append-nil}
 use Rattle.std.proofs.Common.{append_assoc}
 use Rattle.finite_sets.specs.Lists.{In}
 use Rattle.finite_sets.proofs.Members.{In-append_left, In-push, In-push_cases, In-map, In-map_source}
-use Rattle.finite_sets.proofs.Searches.{find-In, find-none, find-passes, list_any-In}
+use Rattle.finite_sets.proofs.Searches.{find-In, find-none, find-passes, list_any-In, list_any-source}
 use Rattle.tech_model.specs.declared.faults.Section.{Section}
 use Rattle.tech_model.specs.declared.faults.Section.TheVariants.{Tech, Planes, Types, Contact, Compose, Connect, Extract}
 use Rattle.tech_file.specs.declared.places.Place.{Place}
@@ -227,14 +227,6 @@ ranks_rise (x ∷ os) number ascending order o p (inr o_in) (inl p_is) less =
 ranks_rise (x ∷ os) number ascending order o p (inr o_in) (inr p_in) less = ranks_rise os
     (x.line + 1) ascending.1 order.1 o p o_in p_in less
 
--- what some thing passes
-any_source : {X : Type 0} (test : X → Bool) (xs : List X) → list_any test xs ≡ true → (x : X) × (In x xs × (test x ≡ true))
-any_source test [] some = absurd (true≢false (sym some))
-any_source test (x ∷ xs) some = elim (cases_Bool (test x)) [
-  | inl passes ↦ (x, (inl refl, passes))
-  | inr fails ↦ let later = any_source test xs (rw fails at some) in (later.0, (inr later.1.0, later.1.1))
-]
-
 second_fails : (headings os : List Heading) (number : ℕ) (o : Heading) (found : Option Heading) → AreFirsts headings os
     → AreAscending number os → AreInOrder (sections_of os)
     → In o os → find (has_rank o.section) headings ≡ found
@@ -255,7 +247,7 @@ in_place headings os number are ascending order o inside =
     record {
       not_early = elim (cases_Bool (list_any test headings)) [
         | inl early ↦
-            let h = any_source test headings early in
+            let h = list_any-source test headings early in
             let both = and_parts (nat_lt (rank h.0.section) (rank o.section)) (nat_lt o.line h.0.line) h.1.1 in
             let rises = ranks_rise os number ascending order o h.0 inside (are.among h.0 h.1.0) (ltb-true o.line h.0.line both.1) in
             let less = ltb-true (rank h.0.section) (rank o.section) both.0 in

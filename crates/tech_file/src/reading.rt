@@ -8,7 +8,7 @@ ghost use Rattle.tech_file.specs.Reading.{read_between, read_within, draft_after
 use crate::outline::{Heading, Outline, is_second, is_too_early};
 use crate::places::{Place, after, is_end, name_alone, says_nothing};
 use crate::sections::section_named;
-use geo_core::Name;
+use names_lists::Name;
 use std::alloc::Global;
 use tech_draft::Draft;
 use tech_model::{Section, TechFault};

@@ -5,7 +5,7 @@ use Rattle.std.specs.Prelude.{Some, None, IsTrue, nat_lt, unwrap_or}
 use Rattle.std.specs.Int.{bit_at}
 use Rattle.std.proofs.lemmas.Bool.{cases_Bool, eqb-true, ltb-true, ltb-false}
 use Rattle.std.proofs.lemmas.Nat.Bits.{bit_at-zero}
-use Rattle.finite_sets.proofs.Searches.{find-In, find-passes}
+use Rattle.finite_sets.proofs.Searches.{find-In, find-passes, All-In}
 use Rattle.tech_model.specs.declared.raw.TypeId.{TypeId}
 use Rattle.tech_model.specs.declared.raw.RawTech.{RawTech}
 use Rattle.tech_model.specs.Types.{is_type, plane_of, parts_of, images_of, is_on, image_on, joined, is_subset}
@@ -14,7 +14,7 @@ use Rattle.tech_model.specs.declared.columns.Brush.{Brush}
 use Rattle.tech_model.specs.declared.columns.Brush.TheVariants.{Paint, Erase}
 use Rattle.tech_model.specs.Columns.{brushed_by, where_image, on_planes_from, mark_of, type_on, has_mark_everywhere, without_parts, layer_mark_kept}
 use Rattle.tech_model.specs.ColumnForms.{IsOnPlane, IsColumn}
-use Rattle.tech_model.proofs.WellFormedLaws.{All_In, layer_well_formed}
+use Rattle.tech_model.proofs.WellFormedLaws.{layer_well_formed}
 use Rattle.tech_model.proofs.JoinedLaws.{joined-found}
 
 -- what a change does with the type on each plane holds of the column
@@ -48,7 +48,7 @@ image_on_plane : (raw : RawTech) (layer plane : ℕ) (image : TypeId) → IsWell
 image_on_plane raw layer plane image w below is =
     let image_in = find-In (is_on raw plane) (images_of raw layer) image is in
     inr (
-      All_In (λ (t : TypeId). IsTrue (is_type raw t.0)) (images_of raw layer) image (layer_well_formed raw layer w below).images image_in,
+      All-In (λ (t : TypeId). IsTrue (is_type raw t.0)) (images_of raw layer) image (layer_well_formed raw layer w below).images image_in,
       eqb-true (plane_of raw image.0) plane (find-passes (is_on raw plane) (images_of raw layer) image is),
     )
 

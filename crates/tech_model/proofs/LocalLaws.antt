@@ -9,7 +9,7 @@ use Rattle.std.proofs.lemmas.Bool.{cases_Bool, cases_eq, ltb-true, true≢false,
 use Rattle.std.proofs.lemmas.List.Sums.{fold_more}
 use Rattle.std.proofs.lemmas.Nat.Bits.{bit_at-zero}
 use Rattle.finite_sets.specs.Lists.{In}
-use Rattle.finite_sets.proofs.Searches.{find-In, find-none}
+use Rattle.finite_sets.proofs.Searches.{find-In, find-none, All-In}
 use Rattle.tech_model.specs.declared.raw.TypeId.{TypeId}
 use Rattle.tech_model.specs.declared.raw.LayerRec.{LayerRec}
 use Rattle.tech_model.specs.declared.raw.RawTech.{RawTech}
@@ -21,7 +21,7 @@ use Rattle.tech_model.specs.Columns.{painted_by, erased_by, brushed_by, where_im
 use Rattle.tech_model.specs.Columns.{marks_kept, brushed_column}
 use Rattle.tech_model.specs.ColumnForms.{IsOnPlane, IsColumn, HasWholeContacts}
 use Rattle.tech_model.proofs.JoinedLaws.{joined-found}
-use Rattle.tech_model.proofs.WellFormedLaws.{All_In, layer_well_formed}
+use Rattle.tech_model.proofs.WellFormedLaws.{layer_well_formed}
 use Rattle.tech_model.proofs.SetLaws.{bit_cases, without_bit_source, or_bit_cases, or_bit_right, mark_part, mark_part_bit, image_mark, mark_layer}
 use Rattle.tech_model.proofs.MarkLaws.{mark_of-contact}
 use Rattle.tech_model.proofs.ColumnLaws.{changed, kept_cases, kept_is_column, bit_type, brushed_is_column}
@@ -179,7 +179,7 @@ everywhere_both raw layer a b w below many contact agree =
     list_all-same
     (λ image. is_subset (mark_of raw (images_of raw layer)) (parts_of raw (type_on a (plane_of raw image.0))))
     (λ image. is_subset (mark_of raw (images_of raw layer)) (parts_of raw (type_on b (plane_of raw image.0)))) (images_of raw layer) (λ image image_in.
-    let is = All_In (λ (t : TypeId). IsTrue (is_type raw t.0)) (images_of raw layer) image (layer_well_formed raw layer w below).images image_in in
+    let is = All-In (λ (t : TypeId). IsTrue (is_type raw t.0)) (images_of raw layer) image (layer_well_formed raw layer w below).images image_in in
     subst (λ (mark : ℕ). is_subset mark (parts_of raw (type_on a (plane_of raw image.0))) ≡ is_subset mark (parts_of raw (type_on b (plane_of raw image.0))))
     (sym (mark_of-contact raw layer w below many contact))
     (mark_part-same (parts_of raw (type_on a (plane_of raw image.0))) (parts_of raw (type_on b (plane_of raw image.0))) contact.bit
@@ -205,7 +205,8 @@ kept_same raw layer a b w below long plane same agree = elim (cases_Bool (nat_lt
 
 -- ---- all contacts
 
-marks_step : (raw : RawTech) (column : List TypeId) (n : ℕ) → suc n ≤ length raw.layers
+-- the marks that the first layers leave, with one layer more
+pub marks_step : (raw : RawTech) (column : List TypeId) (n : ℕ) → suc n ≤ length raw.layers
     → marks_of_first raw column (suc n) ≡ layer_mark_kept raw (images_of raw n) (marks_of_first raw column n)
 marks_step raw column n below =
     let next : suc n ≡ n + 1 = omega arith in
@@ -300,7 +301,7 @@ painted_bit raw layer other plane contact (Some image) old w below apart is bit 
       | inl had ↦ had
       | inr new ↦
           let image_in = find-In (is_on raw plane) (images_of raw layer) image is in
-          let type = All_In (λ (t : TypeId). IsTrue (is_type raw t.0)) (images_of raw layer) image (layer_well_formed raw layer w below).images image_in in
+          let type = All-In (λ (t : TypeId). IsTrue (is_type raw t.0)) (images_of raw layer) image (layer_well_formed raw layer w below).images image_in in
           absurd (apart (sym (w.of_one_layer layer image.0 below image_in) ∙ mark_layer raw other image.0 contact type new))
     ]
 

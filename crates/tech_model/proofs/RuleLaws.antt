@@ -9,7 +9,8 @@ use Rattle.finite_sets.specs.Range.{pairs_of}
 use Rattle.finite_sets.proofs.Members.{In-append_left, In-append_right, In-append_cases, In-map, In-map_source, In-filter, In-filter_source, In-filter_passes}
 use Rattle.finite_sets.proofs.Members.{In-get_or}
 use Rattle.finite_sets.proofs.Ranges.{In-pairs_of, In-pairs_of_first, In-pairs_of_second}
-use Rattle.finite_sets.proofs.Searches.{find-In, find-none, none_found, option_or-none, option_map-none}
+use Rattle.finite_sets.proofs.Searches.{find-In, find-none, none_found, option_or-none, option_map-none, All-In}
+use Rattle.finite_sets.proofs.Images.{In-flat_map, In-flat_map_source}
 use Rattle.tech_model.specs.declared.raw.TypeId.{TypeId}
 use Rattle.tech_model.specs.declared.raw.FetRule.{FetRule}
 use Rattle.tech_model.specs.declared.raw.RawTech.{RawTech}
@@ -20,7 +21,7 @@ use Rattle.tech_model.specs.WellFormed.{IsWellFormed, IsFet}
 use Rattle.tech_model.specs.Rules.{HaveOwnSets, FetsAreApart, FetsAreNamed, IsMonotone, KeepsRules, types_of, have_one_set, fet_terminals, is_bad_terminal}
 use Rattle.tech_model.specs.Rules.{are_within, widenings, breaks_law, same_set_fault, fet_terminal_fault, fet_name_fault, monotone_fault, rule_fault}
 use Rattle.tech_model.proofs.TypeLaws.{connects_types, within_type}
-use Rattle.tech_model.proofs.WellFormedLaws.{All_In, In-range_with_len, range_bounds, type_bounds, type_from_bounds}
+use Rattle.tech_model.proofs.WellFormedLaws.{In-range_with_len, range_bounds, type_bounds, type_from_bounds}
 
 -- the numbers of the types are those that are types
 pub In-types_of : (raw : RawTech) (t : ℕ) → IsTrue (is_type raw t) → In t (types_of raw)
@@ -29,20 +30,6 @@ In-types_of raw t is = let bounds = type_bounds raw t is in In-range_with_len 1 
 -- the listed types are types
 pub types_of-type : (raw : RawTech) (t : ℕ) → In t (types_of raw) → IsTrue (is_type raw t)
 types_of-type raw t is = let bounds = range_bounds 1 (length raw.types) t is in type_from_bounds raw t bounds.0 (omega (arith, bounds.1))
-
--- what one of the lists has stands in all of them together
-pub In-flat_map : {X Y : Type 0} (f : X → List Y) (x : X) (y : Y) (xs : List X) → In x xs → In y (f x) → In y (flat_map f xs)
-In-flat_map f x y [] none here = absurd none
-In-flat_map f x y (z ∷ zs) (inl same) here = In-append_left y (f z) (flat_map f zs) (subst (λ a. In y (f a)) (sym same) here)
-In-flat_map f x y (z ∷ zs) (inr later) here = In-append_right y (f z) (flat_map f zs) (In-flat_map f x y zs later here)
-
--- what stands in all the lists together stands in one of them
-pub In-flat_map_source : {X Y : Type 0} (f : X → List Y) (y : Y) (xs : List X) → In y (flat_map f xs) → (x : X) × (In x xs × In y (f x))
-In-flat_map_source f y [] none = absurd none
-In-flat_map_source f y (z ∷ zs) is = elim (In-append_cases y (f z) (flat_map f zs) is) [
-  | inl here ↦ (z, (inl refl, here))
-  | inr later ↦ let found = In-flat_map_source f y zs later in (found.0, (inr found.1.0, found.1.1))
-]
 
 -- what is found among pairs of types are types
 pub pair_types : (raw : RawTech) (pair : ℕ × ℕ) → In pair (pairs_of (types_of raw) (types_of raw)) → IsTrue (is_type raw pair.0) × IsTrue (is_type raw pair.1)
@@ -67,8 +54,8 @@ terminal_types raw pair w is =
     let found = In-flat_map_source (λ (fet : FetRule). map (λ t. (fet.kind, t)) fet.terminals) pair raw.fets is in
     let fet : FetRule = found.0 in
     let terminal = In-map_source (λ (t : TypeId). (fet.kind, t)) pair fet.terminals found.1.1 in
-    let is_fet = All_In (IsFet raw) raw.fets fet w.fets found.1.0 in
-    let end = All_In (λ (t : TypeId). IsTrue (is_type raw t.0)) fet.terminals terminal.0 is_fet.terminals terminal.1.0 in
+    let is_fet = All-In (IsFet raw) raw.fets fet w.fets found.1.0 in
+    let end = All-In (λ (t : TypeId). IsTrue (is_type raw t.0)) fet.terminals terminal.0 is_fet.terminals terminal.1.0 in
     subst (λ (p : TypeId × TypeId). IsTrue (is_type raw p.0.0) × IsTrue (is_type raw p.1.0)) terminal.1.1 (is_fet.kind, end)
 
 -- ---- where no fault is found
@@ -152,13 +139,13 @@ no_terminal raw apart = ap (option_map _) (none_found (is_bad_terminal raw) (fet
     let found = In-flat_map_source (λ (fet : FetRule). map (λ t. (fet.kind, t)) fet.terminals) pair raw.fets is in
     let fet : FetRule = found.0 in
     let terminal = In-map_source (λ (t : TypeId). (fet.kind, t)) pair fet.terminals found.1.1 in
-    let each = All_In (λ (fet : FetRule). All (λ (t : TypeId). connects raw fet.kind.0 t.0 ≡ false) fet.terminals) raw.fets fet apart found.1.0 in
+    let each = All-In (λ (fet : FetRule). All (λ (t : TypeId). connects raw fet.kind.0 t.0 ≡ false) fet.terminals) raw.fets fet apart found.1.0 in
     subst (λ (p : TypeId × TypeId). is_bad_terminal raw p ≡ false) terminal.1.1
-    (All_In (λ (t : TypeId). connects raw fet.kind.0 t.0 ≡ false) fet.terminals terminal.0 each terminal.1.0)))
+    (All-In (λ (t : TypeId). connects raw fet.kind.0 t.0 ≡ false) fet.terminals terminal.0 each terminal.1.0)))
 
 no_name : (raw : RawTech) → FetsAreNamed raw → fet_name_fault raw ≡ None
 no_name raw named = ap (option_map _) (none_found (λ (fet : FetRule). not (is_fet_name fet.name)) raw.fets
-    (λ fet is. ap not (All_In (λ (fet : FetRule). IsTrue (is_fet_name fet.name)) raw.fets fet named is)))
+    (λ fet is. ap not (All-In (λ (fet : FetRule). IsTrue (is_fet_name fet.name)) raw.fets fet named is)))
 
 no_break : (raw : RawTech) → IsMonotone raw → monotone_fault raw ≡ None
 no_break raw law = ap (option_map _) (none_found (breaks_law raw) (pairs_of (widenings raw) (widenings raw)) (λ two is. elim (cases_Bool (breaks_law raw two)) [

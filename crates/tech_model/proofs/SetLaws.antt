@@ -7,11 +7,12 @@ use Rattle.std.proofs.lemmas.Nat.{and_comm, and_assoc}
 use Rattle.std.proofs.lemmas.Nat.Bits.{bit_at-zero, bit_at_and, bit_at_or, bit_at_xor, bit_at-pow_same, bit_at-pow_other, bit_at-lt, and_pow}
 use Rattle.std.proofs.lemmas.Bool.{cases_eq, and_parts, and_from, eq-eqb, eqb-true, eqb-false, ne_eqb, not-true}
 use Rattle.finite_sets.specs.Lists.{In}
+use Rattle.finite_sets.proofs.Searches.{All-In}
 use Rattle.tech_model.specs.declared.raw.TypeId.{TypeId}
 use Rattle.tech_model.specs.declared.raw.RawTech.{RawTech}
 use Rattle.tech_model.specs.Types.{is_type, plane_of, layer_of, parts_of, images_of, is_subset, is_proper_subset, without}
 use Rattle.tech_model.specs.WellFormed.{IsWellFormed, IsSimple, HasSet, atom, composed, IsMarked, IsContact}
-use Rattle.tech_model.proofs.WellFormedLaws.{type_bounds, All_In, layer_well_formed}
+use Rattle.tech_model.proofs.WellFormedLaws.{type_bounds, layer_well_formed}
 use Rattle.tech_model.specs.declared.limits.TheConstants.{MOST_TYPES}
 
 subset_is : (a b : ℕ) → is_subset a b ≡ true → bit_and a b ≡ a
@@ -142,7 +143,7 @@ contact_of raw t w is many = w.sets.contacts (layer_of raw t) (w.type_layers t i
 -- an image of a contact has the mark
 pub image_mark : (raw : RawTech) (layer t : ℕ) (contact : IsContact raw layer) → In (record { 0 = t }) (images_of raw layer) → bit_at (parts_of raw t) contact.bit ≡ 1
 image_mark raw layer t contact is =
-    let marked = All_In (λ (image : TypeId). IsMarked raw contact.bit image.0) (images_of raw layer) (record { 0 = t }) contact.images is in
+    let marked = All-In (λ (image : TypeId). IsMarked raw contact.bit image.0) (images_of raw layer) (record { 0 = t }) contact.images is in
     ap (λ (x : ℕ). bit_at x contact.bit) marked.set ∙ or_bit_right (parts_of raw marked.residue) (2 ^ contact.bit) contact.bit (bit_at-pow_same contact.bit)
 
 -- and no other type has it

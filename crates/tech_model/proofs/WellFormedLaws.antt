@@ -15,10 +15,6 @@ use Rattle.tech_model.specs.WellFormed.{IsWellFormed, IsLayer}
 use Rattle.tech_model.specs.declared.limits.TheConstants.{MOST_TYPES}
 use Rattle.tech_model.specs.declared.pair_table.TheConstants.{ROWS}
 
--- what holds of all of a list holds of what stands in it
-pub All_In : {X : Type 0} (P : X → Type 0) (xs : List X) (x : X) → All P xs → In x xs → P x
-All_In P xs x all is = let found = In-index x xs is in subst P (found.1.1 x) (all found.0 x found.1.0)
-
 -- the numbers of a range are those between its ends
 pub In-range_with_len : (a n t : ℕ) → a ≤ t → t < a + n → In t (range_with_len a n)
 In-range_with_len a zero t low high = absurd (omega arith)

@@ -4,13 +4,15 @@ use Rattle.std.specs.Prelude.{IsTrue, All}
 use Rattle.std.proofs.lemmas.Bool.{true≢false}
 use Rattle.finite_sets.specs.Lists.{In, Distinct}
 use Rattle.finite_sets.proofs.Members.{In-map}
+use Rattle.finite_sets.proofs.Images.{one_from_Distinct}
+use Rattle.finite_sets.proofs.Searches.{All-In}
 use Rattle.tech_model.specs.declared.raw.TypeId.{TypeId}
 use Rattle.tech_model.specs.declared.raw.FetRule.{FetRule}
 use Rattle.tech_model.specs.declared.raw.RawTech.{RawTech}
 use Rattle.tech_model.specs.Types.{is_type, plane_of, layer_of, parts_of, images_of, connects, is_within}
 use Rattle.tech_model.specs.WellFormed.{IsWellFormed, IsFet}
 use Rattle.tech_model.specs.Rules.{IsMonotone, KeepsRules}
-use Rattle.tech_model.proofs.WellFormedLaws.{type_bounds, All_In, layer_well_formed}
+use Rattle.tech_model.proofs.WellFormedLaws.{type_bounds, layer_well_formed}
 use Rattle.tech_model.proofs.TypeLaws.{connects_types, connects_self, within_self, within_part, within_cases}
 use Rattle.tech_model.proofs.SetLaws.{proper_trans, proper_one_way}
 
@@ -56,17 +58,9 @@ within_space raw t is = elim (within_cases raw t 0 is) [
 -- a transistor's type connects to itself, and to no terminal of its own
 pub fet_no_terminal : (raw : RawTech) → IsWellFormed raw → KeepsRules raw → (fet : FetRule) (t : TypeId) → In fet raw.fets → In t fet.terminals → t ≢ fet.kind
 fet_no_terminal raw w rules fet t fet_in t_in same =
-    let apart = All_In (λ (t : TypeId). connects raw fet.kind.0 t.0 ≡ false) fet.terminals t (All_In (λ (fet : FetRule). All (λ (t : TypeId). connects raw fet.kind.0 t.0 ≡ false) fet.terminals) raw.fets fet rules.fets_apart fet_in) t_in in
-    let is = (All_In (IsFet raw) raw.fets fet w.fets fet_in).kind in
+    let apart = All-In (λ (t : TypeId). connects raw fet.kind.0 t.0 ≡ false) fet.terminals t (All-In (λ (fet : FetRule). All (λ (t : TypeId). connects raw fet.kind.0 t.0 ≡ false) fet.terminals) raw.fets fet rules.fets_apart fet_in) t_in in
+    let is = (All-In (IsFet raw) raw.fets fet w.fets fet_in).kind in
     true≢false (sym (connects_self raw fet.kind.0 is) ∙ ap (λ (k : TypeId). connects raw fet.kind.0 k.0) (sym same) ∙ apart)
-
--- in a list whose things differ in f, two things with one f are one
-one_of_distinct : {X Y : Type 0} (f : X → Y) (xs : List X) (a b : X) → Distinct (map f xs) → In a xs → In b xs → f a ≡ f b → a ≡ b
-one_of_distinct f [] a b distinct none b_in same = absurd none
-one_of_distinct f (x ∷ xs) a b distinct (inl a_is) (inl b_is) same = sym a_is ∙ b_is
-one_of_distinct f (x ∷ xs) a b distinct (inl a_is) (inr b_in) same = absurd (distinct.0 (subst (λ y. In y (map f xs)) (sym same ∙ ap f (sym a_is)) (In-map f b xs b_in)))
-one_of_distinct f (x ∷ xs) a b distinct (inr a_in) (inl b_is) same = absurd (distinct.0 (subst (λ y. In y (map f xs)) (same ∙ ap f (sym b_is)) (In-map f a xs a_in)))
-one_of_distinct f (x ∷ xs) a b distinct (inr a_in) (inr b_in) same = one_of_distinct f xs a b distinct.1 a_in b_in same
 
 -- a layer has one image on a plane
 pub one_image : (raw : RawTech) (s t : ℕ) → IsWellFormed raw → IsTrue (is_type raw s) → IsTrue (is_type raw t) → layer_of raw s ≡ layer_of raw t → plane_of raw s ≡ plane_of raw t → s ≡ t
@@ -74,4 +68,4 @@ one_image raw s t w s_is t_is layers planes =
     let layer = layer_of raw t in
     let distinct = (layer_well_formed raw layer w (w.type_layers t t_is)).planes in
     let s_in : In (record { 0 = s }) (images_of raw layer) = subst (λ (l : ℕ). In (record { 0 = s }) (images_of raw l)) layers (w.is_image s s_is) in
-    ap (λ (image : TypeId). image.0) (one_of_distinct (λ (image : TypeId). plane_of raw image.0) (images_of raw layer) (record { 0 = s }) (record { 0 = t }) distinct s_in (w.is_image t t_is) planes)
+    ap (λ (image : TypeId). image.0) (one_from_Distinct (λ (image : TypeId). plane_of raw image.0) (images_of raw layer) (record { 0 = s }) (record { 0 = t }) distinct s_in (w.is_image t t_is) planes)

@@ -1,6 +1,6 @@
 //! Why a technology is refused.
 
-use geo_core::{GeoFault, Name};
+use names_lists::Name;
 use std::alloc::AllocError;
 use thiserror::Error;
 
@@ -80,17 +80,6 @@ impl From<AllocError> for TechFault {
     ghost from_gives = { λ _ fault. fault ≡ Memory };
 
     fn from(_error: AllocError) -> TechFault {
-        TechFault::Memory
-    }
-}
-
-impl From<GeoFault> for TechFault {
-    ghost use Rattle.std.specs.Prelude.{◌≡◌};
-    ghost use Rattle.tech_model.specs.declared.faults.TechFault.TheVariants.{Memory};
-
-    ghost from_gives = { λ _ fault. fault ≡ Memory };
-
-    fn from(_fault: GeoFault) -> TechFault {
         TechFault::Memory
     }
 }

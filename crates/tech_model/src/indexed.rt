@@ -1,5 +1,5 @@
 //! The lists of a technology with their indexes, before the rules are checked.
-ghost use Rattle.std.specs.Prelude.{◌≡◌, ◌≤◌, ◌<◌, ℕ, List, Some, None, if◌then◌else◌, length, IfOk, IfErr, IfSome, OnOk, IsTrue, find};
+ghost use Rattle.std.specs.Prelude.{◌≡◌, ◌≤◌, ◌<◌, ℕ, List, Some, None, if◌then◌else◌, length, IfOk, IfSome, OnOk, IsTrue, find};
 ghost use Rattle.std.specs.Option.{option_map, option_or};
 ghost use Rattle.std.specs.List.{list_any, position_from};
 ghost use Rattle.std.specs.Str.{bytes_eq};
@@ -9,12 +9,11 @@ ghost use Rattle.tech_model.specs.Types.{plane_of, layer_named, image_on, joined
 ghost use Rattle.tech_model.specs.Types.{layer_at, layer_of, first_name, plane_name, is_own_image};
 ghost use Rattle.tech_model.specs.WellFormed.{IsWellFormed};
 
-use crate::faults::TechFault;
 use crate::index::LayerIndex;
 use crate::limits::MOST_TYPES;
 use crate::pair_table::PairTable;
 use crate::raw::{LayerId, LayerRec, PartSet, RawTech, TypeId, TypeRec};
-use geo_core::Name;
+use names_lists::Name;
 use std::alloc::{AllocError, Global};
 use std::marker::Model;
 
@@ -141,13 +140,12 @@ impl Indexed {
     }
 
     /// The name of a type other than space.
-    pub(crate) fn type_name(&self, alloc: Global, t: TypeId) -> Result<Name, TechFault>
+    pub(crate) fn type_name(&self, alloc: Global, t: TypeId) -> Result<Name, AllocError>
         requires { IsTrue (is_type self.now t.0) }
-        ensures name { IfOk result (λ name. name ≡ type_name self.now t.0) }
-        ensures memory { IfErr result (λ fault. fault ≡ TechFault.Memory) }
+        ensures { IfOk result (λ name. name ≡ type_name self.now t.0) }
     {
         let text = self.type_text(alloc, t)?;
-        Ok(Name::of(alloc, text.as_slice())?)
+        Name::of(alloc, text.as_slice())
     }
 
     #[tactic(auto, unfolding(crate::specs::Types::type_name))]

@@ -1,5 +1,5 @@
 //! Layers: the types of a layout at each place.
-ghost use Rattle.std.specs.Prelude.{◌≡◌, ℕ, Option as Maybe, IfOk, IsOkUnless};
+ghost use Rattle.std.specs.Prelude.{◌≡◌, ℕ, Option as Maybe, IfOk};
 ghost use Rattle.std.specs.Option.{option_map};
 ghost use Rattle.geo_core.specs.declared.squares.Square.{Square as OneSquare};
 ghost use Rattle.geo_core.specs.Areas.{IsNear};
@@ -7,10 +7,9 @@ ghost use Rattle.geo_core.specs.Covering.{IsProper};
 ghost use Rattle.tech_model.specs.LayerTiles.{AreTilesOf};
 ghost use Rattle.tech_model.specs.Types.{type_number};
 
-use crate::faults::TechFault;
 use crate::raw::TypeId;
 use geo_core::{Rect, Square};
-use std::alloc::Global;
+use std::alloc::{AllocError, Global};
 
 /// A type for each plane and square: a number of a tile type, 0 for space, or none where the type is
 /// undefined, since no type has the set of what stands there.
@@ -23,10 +22,9 @@ pub trait Layers {
         ensures { result ≡ option_map type_number (kind self.now plane square) };
 
     /// The defined material of the area, as rectangles inside it that lie apart, each of one type other than
-    /// space. The bounds of the area are below 2^28 in absolute value. `Memory` alone refuses.
-    fn tiles(&self, alloc: Global, plane: u8, area: Rect) -> Result<Vec<(Rect, TypeId)>, TechFault>
+    /// space. The bounds of the area are below 2^28 in absolute value.
+    fn tiles(&self, alloc: Global, plane: u8, area: Rect) -> Result<Vec<(Rect, TypeId)>, AllocError>
         requires proper { IsProper area }
         requires near { IsNear area }
-        ensures tiles { IfOk result (λ tiles. AreTilesOf (kind self.now plane) area tiles.items) }
-        ensures memory { IsOkUnless result TechFault.Memory };
+        ensures { IfOk result (λ tiles. AreTilesOf (kind self.now plane) area tiles.items) };
 }

@@ -4,7 +4,8 @@ ghost use Rattle.std.specs.List.{list_any};
 ghost use Rattle.tech_model.specs.ChannelRoles.{is_channel, is_terminal};
 ghost use Rattle.tech_model.specs.Types.{parts_of};
 
-use geo_core::{List, Name, Rect};
+use geo_core::Rect;
+use names_lists::{List, Name};
 
 /// The number of a tile type: 0 is space, and the others count from 1 in the order of their records.
 #[derive(Clone, Copy, Debug, PartialEq, Eq)]

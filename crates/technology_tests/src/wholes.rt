@@ -2,7 +2,7 @@
 
 use crate::nm::NM;
 use crate::questions::are_types;
-use geo_core::Name;
+use names_lists::Name;
 use std::test::Fail;
 use tech_file::read_tech;
 use tech_model::{ClassRec, FetRule, LayerRec, RawTech, TypeId, TypeRec};

@@ -1,3 +1,4 @@
 pub mod Folds
 pub mod FirstFaults
 pub mod SaidLines
+pub mod Parts

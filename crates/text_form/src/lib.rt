@@ -10,10 +10,16 @@
 //! The laws of that fold are inductions over the lines (`proofs/FoldLaws.antt`): what stands before a line may be read first, the
 //! first faulty line decides, what each line keeps the text keeps; and where lines say things by themselves, written lines
 //! are read back (`proofs/SaidLaws.antt`).
+//!
+//! A text whose parts are not its lines, as one of statements that span lines, is read by the same fold over parts that know their
+//! line (`specs/Parts.antt`), with the same laws (`proofs/PartLaws.antt`).
 #![tactic(auto)]
 
 mod laws;
 mod reading;
 
-pub use laws::{lines_are_refused_at_the_first_faulty_one, lines_say_what_they_give};
+pub use laws::{
+    lines_are_refused_at_the_first_faulty_one, lines_say_what_they_give,
+    parts_are_refused_at_the_first_faulty_one,
+};
 pub use reading::{At, LineReader, read_lines, read_text};

@@ -66,7 +66,8 @@ from_first_word-blank : (byte : ℕ) (line : List ℕ) → is_blank byte ≡ tru
 from_first_word-blank byte line blank =
     ap (λ test. drop (cond (not (not test)) (1 + position_or_len is_in_word line) 0) (byte ∷ line)) blank ∙ rw one-add refl
 
-from_first_word-in_word : (byte : ℕ) (line : List ℕ) → is_blank byte ≡ false → from_first_word (byte ∷ line) ≡ byte ∷ line
+-- a line that begins in a word begins its first word
+pub from_first_word-in_word : (byte : ℕ) (line : List ℕ) → is_blank byte ≡ false → from_first_word (byte ∷ line) ≡ byte ∷ line
 from_first_word-in_word byte line stands =
     ap (λ test. drop (cond (not (not test)) (1 + position_or_len is_in_word line) 0) (byte ∷ line)) stands
 

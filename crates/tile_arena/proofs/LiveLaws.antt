@@ -17,7 +17,8 @@ use Rattle.tile_arena.proofs.SlotLaws.{live_at, value_at_slot}
 tied_same : (k : ℕ) → eq_by_cmp nat_cmp k k ≡ true
 tied_same k = unsigned_tied k k ∙ grind (arith, nat_tests)
 
-tied_other : (q k : ℕ) → q ≢ k → eq_by_cmp nat_cmp q k ≡ false
+-- keys that differ do not tie
+pub tied_other : (q k : ℕ) → q ≢ k → eq_by_cmp nat_cmp q k ≡ false
 tied_other q k apart = unsigned_tied q k ∙ grind (arith, nat_tests)
 
 module _ {T : Type 0} where

@@ -4,6 +4,7 @@ use Rattle.std.specs.Prelude.{All, IsSome, Some, slice_get}
 use Rattle.finite_sets.specs.Chain.Chain.{stay, go}
 use Rattle.finite_sets.specs.Lists.{In}
 use Rattle.finite_sets.proofs.Searches.{All-from_In}
+use Rattle.finite_sets.proofs.Places.{slice_get-one}
 use Rattle.geo_core.specs.declared.transforms.Transform.{Transform}
 use Rattle.geo_core.specs.Images.{composed, identity}
 use Rattle.ext_model.specs.declared.records.CellExt.{CellExt}
@@ -31,7 +32,6 @@ use Rattle.record_groups.specs.MergedMembers.{first_member}
 use Rattle.tile_members.specs.Finding.{HasMembers}
 use Rattle.tile_members.specs.MemberNames.{LeadsToMember, kept_in}
 use Rattle.tile_members.proofs.ChildCells.{IsChildOf, clean_element, element_child, element_member}
-use Rattle.tile_members.proofs.ListPlaces.{one_there}
 
 -- the element to which a step leads
 abbrev element_of : LibraryParts → Step → Transform → NamedElement
@@ -91,7 +91,7 @@ module _ (library : LibraryParts) (lawful : IsLawfulLibrary library) (records : 
         let first : slice_get (standings (tree_at view cell)) 0 ≡ Some top =
         ap (λ (tree : CellTree). slice_get (standings tree) 0) (tree_unfolds library lawful cell has.there) in
         let one : standing ≡ top =
-        one_there (standings (tree_at view cell)) 0 standing top
+        slice_get-one (standings (tree_at view cell)) 0 standing top
         (subst (λ (n : ℕ). slice_get (standings (tree_at view cell)) n ≡ Some standing) none stands) first in
         let here : IsOfNode library.tech (view_at view cell).own (view_at view cell).labels node place =
         subst (IsOfNode library.tech (view_at view cell).own (view_at view cell).labels node) (identity_back place)
@@ -117,7 +117,7 @@ module _ (library : LibraryParts) (lawful : IsLawfulLibrary library) (records : 
         let up : Standing = under (suc step.position) placed leads.lower in
         let there : slice_get (standings (tree_at view cell)) element ≡ Some up =
         subst (λ (tree : CellTree). slice_get (standings tree) element ≡ Some up) (layouts_of_cell view cell) leads.upper in
-        let one : standing ≡ up = one_there (standings (tree_at view cell)) element standing up stands there in
+        let one : standing ≡ up = slice_get-one (standings (tree_at view cell)) element standing up stands there in
         let lower_there : slice_get (standings (tree_at view step.child.0)) step.element ≡ Some leads.lower =
         subst (λ (tree : CellTree). slice_get (standings tree) step.element ≡ Some leads.lower) (layouts_of_cell view step.child.0) leads.lower_there in
         let own = leads.lower.own.cell in

@@ -6,6 +6,7 @@ use Rattle.std.proofs.lemmas.List.{get_or_append_left, get_or_push, length-appen
 use Rattle.std.proofs.lemmas.Option.{slice_get_within}
 use Rattle.finite_sets.specs.Lists.{Distinct, In}
 use Rattle.finite_sets.proofs.Members.{In-append_left, In-append_right}
+use Rattle.finite_sets.proofs.Places.{slice_get-one}
 use Rattle.geo_core.specs.declared.transforms.Transform.{Transform}
 use Rattle.ext_model.specs.declared.records.NodeRec.{NodeRec}
 use Rattle.ext_model.specs.Tables.{Table}
@@ -30,7 +31,6 @@ use Rattle.tile_members.specs.MemberNames.{LeadsToMember}
 use Rattle.tile_members.specs.OpenedCells.{HasOpenNode, corner_place}
 use Rattle.tile_members.specs.TileMembers.{AreTileMembers, HasTile, IsPartTile}
 use Rattle.tile_members.proofs.KnownLaws.{name_kept}
-use Rattle.tile_members.proofs.ListPlaces.{one_there}
 use Rattle.tile_members.proofs.TileCorners.{HasCorner}
 
 -- ---- one tile
@@ -81,7 +81,7 @@ pub known_tile : (library : LibraryParts) → IsLawfulLibrary library → Member
 known_tile library lawful whole records cell tile opened names node number has is corner held of =
     let view = seen library in
     let same_standing : of.standing ≡ corner.standing =
-    one_there (standings (tree_at view cell)) tile.element of.standing corner.standing of.stands corner.stands in
+    slice_get-one (standings (tree_at view cell)) tile.element of.standing corner.standing of.stands corner.stands in
     let cell_is : of.standing.own.cell ≡ tile.of.0 = ap (λ (s : Standing). s.own.cell) same_standing ∙ corner.of in
     let open_is : get nat_eq opened.entries tile.of.0 ≡ Some of.of =
     subst (λ (n : ℕ). get nat_eq opened.entries n ≡ Some of.of) cell_is of.is_open in
@@ -89,7 +89,7 @@ known_tile library lawful whole records cell tile opened names node number has i
     let same : of.of ≡ held.of = cc in
     let node_is : slice_get held.of.found.nodes node ≡ Some of.node =
     subst (λ (o : OpenedCell). slice_get o.found.nodes node ≡ Some of.node) same of.node_there in
-    let same_node = one_there held.of.found.nodes node held.has.node of.node held.has.there node_is in
+    let same_node = slice_get-one held.of.found.nodes node held.has.node of.node held.has.there node_is in
     let goes : IsOfNode library.tech (view_at view tile.of.0).own (view_at view tile.of.0).labels of.node.name
     (place_back tile.to_cell (corner_place tile)) =
     subst (λ n. IsOfNode library.tech (view_at view tile.of.0).own (view_at view tile.of.0).labels n.name
@@ -187,7 +187,7 @@ found_more raw tree tiles count next old new numbers more tile number found afte
           let same : get_or (numbers ++ number ∷ []) index 0 ≡ number =
           get_or_push numbers number 0 index (found.one_each ∙ sym last) in
           let one : tile ≡ other =
-          one_there tiles count tile other there (subst (λ (n : ℕ). slice_get tiles n ≡ Some other) last at) in
+          slice_get-one tiles count tile other there (subst (λ (n : ℕ). slice_get tiles n ≡ Some other) last at) in
           subst (λ (n : ℕ). HasTile raw tree new n other) (sym same) (subst (HasTile raw tree new number) one has)
     ]
 

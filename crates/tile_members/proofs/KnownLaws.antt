@@ -3,8 +3,8 @@ use Rattle.std.proofs.Common.{◌≡◌, ◌&&◌, ℕ, Bool, true, false, List,
 use Rattle.std.specs.Prelude.{slice_get}
 use Rattle.std.specs.HashMap.{get}
 use Rattle.std.proofs.lemmas.Bool.{cases_Bool, eqb-true}
+use Rattle.finite_sets.proofs.Places.{slice_get-append_left}
 use Rattle.cell_library.specs.Views.{LibraryView}
-use Rattle.cell_library.proofs.ToldTiles.{get-append_left}
 use Rattle.tile_members.specs.declared.known_members.KnownMembers.{KnownMembers}
 use Rattle.tile_members.specs.declared.opened_cells.OpenedCells.{OpenedCells}
 use Rattle.tile_members.specs.KnownMembers.{AddsName, AddsNameOrNone, AreKnown, IsOfMember, same_key}
@@ -15,7 +15,7 @@ pub name_kept : (old new : List (List ℕ)) (number : ℕ) → AddsNameOrNone ol
     → slice_get new k ≡ Some name
 name_kept old new number (inl same) k name is = subst (λ (names : List (List ℕ)). slice_get names k ≡ Some name) (sym same) is
 name_kept old new number (inr (added, same, at)) k name is =
-    subst (λ (names : List (List ℕ)). slice_get names k ≡ Some name) (sym same) (get-append_left old (added ∷ []) k name is)
+    subst (λ (names : List (List ℕ)). slice_get names k ≡ Some name) (sym same) (slice_get-append_left old (added ∷ []) k name is)
 
 -- a name that is added comes or not
 pub added_or_none : (old new : List (List ℕ)) (name : List ℕ) (number : ℕ) → AddsName old new name number → AddsNameOrNone old new number

@@ -5,6 +5,7 @@ use Rattle.std.specs.HashMap.{get}
 use Rattle.std.proofs.lemmas.Option.{slice_get-get_or, slice_get_within}
 use Rattle.finite_sets.proofs.Chains.{Chain-append}
 use Rattle.finite_sets.proofs.Leasts.{IsLeast-iff}
+use Rattle.finite_sets.proofs.Places.{All-slice_get}
 use Rattle.geo_core.specs.declared.squares.Square.{Square}
 use Rattle.geo_core.specs.Areas.{corner_of}
 use Rattle.geo_core.specs.Images.{image, inverted}
@@ -23,7 +24,6 @@ use Rattle.own_record_laws.proofs.PreferredNames.{preferred_is_first}
 use Rattle.tile_members.specs.declared.opened_cells.OpenedCell.{OpenedCell}
 use Rattle.tile_members.specs.declared.opened_cells.OpenedCells.{OpenedCells}
 use Rattle.tile_members.specs.OpenedCells.{AreOpened, HasNodeAt, HasOpenNode, HasOwnCorner, HasTileAt, IsNumberAt, IsOpened, corner_place}
-use Rattle.tile_members.proofs.ListPlaces.{all_there}
 
 -- the number of a tile at a place with material is that of the node there
 pub node_found : (view : LibraryView) (cell : ℕ) (opened : OpenedCell) (place : Place) (number : ℕ) → IsOpened view cell opened
@@ -36,7 +36,7 @@ node_found view cell opened place number is material at =
     let tile = at.lies.tile in
     let region = tile.region in
     let low : region < length numbers =
-    all_there (λ (t : RegionTile). t.region < length numbers) opened.found.regions.tiles at.index tile is.searchable.numbered at.lies.there in
+    All-slice_get (λ (t : RegionTile). t.region < length numbers) opened.found.regions.tiles at.index tile is.searchable.numbered at.lies.there in
     let here : slice_index numbers region < length nodes = is.nodes.numbered region 0 low in
     let below : number < length nodes = subst (λ (n : ℕ). n < length nodes) (sym at.is) here in
     let origin = place in

@@ -9,6 +9,7 @@ use Rattle.std.proofs.lemmas.Int.{ints, clamps}
 use Rattle.std.proofs.lemmas.Option.{slice_get-get_or, slice_get-map, slice_get_within}
 use Rattle.finite_sets.specs.Lists.{In}
 use Rattle.finite_sets.proofs.Members.{In-get_or, In-index}
+use Rattle.finite_sets.proofs.Places.{All-slice_get, slice_get-one}
 use Rattle.geo_core.specs.declared.squares.Rect.{Rect}
 use Rattle.geo_core.specs.declared.squares.Square.{Square}
 use Rattle.geo_core.specs.Areas.{IsNear, common_rect}
@@ -22,7 +23,6 @@ use Rattle.cell_library.specs.Views.{LibraryView}
 use Rattle.tile_members.specs.declared.opened_cells.OpenedCell.{OpenedCell}
 use Rattle.tile_members.specs.declared.opened_cells.OpenedCells.{OpenedCells}
 use Rattle.tile_members.specs.OpenedCells.{AreOpened, HasTileAt, IsNumberAt, IsOpened, IsSearchable, unit_at}
-use Rattle.tile_members.proofs.ListPlaces.{all_there, one_there}
 
 -- ---- one square
 
@@ -103,7 +103,7 @@ tile_at_place opened square positions found k is same are below =
 pub region_below : (opened : OpenedCell) (position : ℕ) (tile : RegionTile) → IsSearchable opened
     → slice_get opened.found.regions.tiles position ≡ Some tile → tile.region < length opened.found.numbers.items
 region_below opened position tile is there =
-    all_there (λ (t : RegionTile). t.region < length opened.found.numbers.items) opened.found.regions.tiles position tile is.numbered there
+    All-slice_get (λ (t : RegionTile). t.region < length opened.found.numbers.items) opened.found.regions.tiles position tile is.numbered there
 
 -- a tile that is read from the list is the one that is found
 pub tile_read : (opened : OpenedCell) (square : Square) (tiles : List RegionTile) (position : ℕ) (d : RegionTile) → IsTileFound opened square position
@@ -117,7 +117,7 @@ pub number_told : (opened : OpenedCell) (plane : ℕ) (square : Square) (positio
     → slice_get opened.found.regions.tiles position ≡ Some tile → tile.plane ≡ plane
     → number ≡ slice_index opened.found.numbers.items tile.region → IsNumberAt opened (record { plane = plane; square = square }) number
 number_told opened plane square position tile number is there on number_is =
-    let same = one_there opened.found.regions.tiles position is.tile tile is.there there in
+    let same = slice_get-one opened.found.regions.tiles position is.tile tile is.there there in
     record {
       index = position;
       lies = record { tile = tile; there = there; plane = sym on; covers = subst (λ (t : RegionTile). Covers t.area square) same is.covers };
@@ -127,7 +127,7 @@ number_told opened plane square position tile number is there on number_is =
 -- a square that a tile has is in reach
 pub tile_in_reach : (opened : OpenedCell) (place : Place) → IsSearchable opened → HasTileAt opened place → LiesInReach place.square
 tile_in_reach opened place is (index, lies) =
-    let near = all_there (λ (t : RegionTile). IsNear t.area) opened.found.regions.tiles index lies.tile is.near lies.there in
+    let near = All-slice_get (λ (t : RegionTile). IsNear t.area) opened.found.regions.tiles index lies.tile is.near lies.there in
     let x0 : neg_ℤ (pos 268435456) <ℤ lies.tile.area.xlo = near.xlo.0 in
     let x1 : lies.tile.area.xhi <ℤ pos 268435456 = near.xhi.1 in
     let y0 : neg_ℤ (pos 268435456) <ℤ lies.tile.area.ylo = near.ylo.0 in
@@ -149,7 +149,7 @@ pub none_more : (opened : OpenedCell) (plane : ℕ) (positions : List ℕ) (i : 
 none_more opened plane positions i here none there other k tile below at on = elim (last_or_before k i below) [
   | inl before ↦ none k tile before at on
   | inr last ↦
-      let same = one_there opened.found.regions.tiles (get_or positions i 0) here tile there
+      let same = slice_get-one opened.found.regions.tiles (get_or positions i 0) here tile there
       (subst (λ (n : ℕ). slice_get opened.found.regions.tiles (get_or positions n 0) ≡ Some tile) last at) in
       other (ap (λ (t : RegionTile). t.plane) same ∙ on)
 ]

@@ -3,6 +3,7 @@ use Rattle.std.proofs.Common.{◌≡◌, ◌+◌, ◌<◌, ℕ, zero, suc, ℤ, 
 use Rattle.std.specs.Prelude.{Some, slice_get}
 use Rattle.finite_sets.specs.Lists.{In}
 use Rattle.finite_sets.proofs.Members.{In-append_cases}
+use Rattle.finite_sets.proofs.Places.{In-slice_get}
 use Rattle.geo_core.specs.declared.transforms.Transform.{Transform}
 use Rattle.geo_core.specs.Images.{composed, identity}
 use Rattle.geo_core.specs.Reach.{MovesInReach}
@@ -17,11 +18,10 @@ use Rattle.cell_library.specs.Spots.{HasRoomToMove}
 use Rattle.cell_library.specs.Views.{view_at}
 use Rattle.cell_library.specs.VisitedTiles.{placed_below, placed_cells}
 use Rattle.cell_library.proofs.GridSpots.{element_moves, room_below, room_in_reach}
-use Rattle.cell_library.proofs.LayoutTreeLaws.{children_are_cells, uses_seen}
+use Rattle.cell_library.proofs.LayoutTreeLaws.{children_are_cells, uses_seen, state_is}
 use Rattle.cell_library.proofs.PlacedCells.{standings_placed}
-use Rattle.cell_library.proofs.ToldTiles.{In-get}
 use Rattle.cell_library.proofs.VisitLaws.{top_can_be_visited}
-use Rattle.library_trees.proofs.WholeTrees.{UsesWithIds, state_is}
+use Rattle.library_trees.proofs.WholeTrees.{UsesWithIds}
 
 -- The cell that stands there is one of the library, and moved in reach.
 pub record IsStandingCell (library : LibraryParts) (standing : Standing) : Type 0 where
@@ -105,4 +105,4 @@ module _ (library : LibraryParts) (lawful : IsLawfulLibrary library) where
       let count : cell < length library.tree.cells = omega (arith, lawful.so_many, below) in
       let tree = tree_to (seen library) MOST_DEPTH cell in
       stand_to MOST_DEPTH 1 cell 0 identity below (top_can_be_visited library.tree cell lawful.tree count).moves standing
-      (subst (In standing) (standings_placed tree) (In-get (standings tree) element standing is))
+      (subst (In standing) (standings_placed tree) (In-slice_get (standings tree) element standing is))

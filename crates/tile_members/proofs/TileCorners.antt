@@ -3,13 +3,15 @@ use Rattle.std.proofs.Common.{◌≡◌, ◌<◌, ℕ, pos, neg_ℤ, ◌≤ℤ�
 use Rattle.std.specs.Prelude.{Some, slice_get}
 use Rattle.std.proofs.lemmas.Int.{ints}
 use Rattle.finite_sets.specs.Lists.{In}
+use Rattle.finite_sets.proofs.Places.{In-slice_get}
 use Rattle.geo_core.specs.declared.squares.Rect.{Rect}
 use Rattle.geo_core.specs.declared.squares.Square.{Square}
 use Rattle.geo_core.specs.declared.transforms.Transform.{Transform}
 use Rattle.geo_core.specs.Areas.{corner_of}
-use Rattle.geo_core.specs.Covering.{Covers, IsProper}
+use Rattle.geo_core.specs.Covering.{Covers}
 use Rattle.geo_core.specs.Images.{identity}
 use Rattle.geo_core.specs.Reach.{LiesInReach, MovesInReach}
+use Rattle.geo_core.proofs.CoveringLaws.{corner_covered}
 use Rattle.layout_model.specs.Layouts.{Layout, IsMaterial}
 use Rattle.layout_model.specs.Places.{Place}
 use Rattle.layout_trees.specs.CellTrees.{Standing, place_back, standings}
@@ -23,7 +25,7 @@ use Rattle.cell_library.specs.Views.{view_at}
 use Rattle.cell_library.proofs.HullsHoldMaterial.{hull_holds_material}
 use Rattle.cell_library.proofs.PlacedCells.{placed_has, standings_placed}
 use Rattle.cell_library.proofs.PlacedRects.{identity_back}
-use Rattle.cell_library.proofs.ToldTiles.{In-get, cut_type}
+use Rattle.cell_library.proofs.ToldTiles.{cut_type}
 use Rattle.cell_library.proofs.VisitLaws.{hull_spans}
 use Rattle.member_tiles.specs.Laws.{LiesInPartTile}
 use Rattle.tile_members.specs.OpenedCells.{HasOwnCorner, corner_place}
@@ -39,15 +41,6 @@ pub record HasCorner (library : LibraryParts) (cell : ℕ) (tile : PartTile) : T
   pub placed : standing.placed ≡ tile.to_cell
   pub inside : LiesInPartTile tile (corner_place tile)
   pub own : HasOwnCorner library tile
-
--- a rectangle with a square has its corner
-corner_covered : (area : Rect) → IsProper area → Covers area (corner_of area)
-corner_covered area proper = record {
-  right_of_xlo = omega (arith, ints);
-  left_of_xhi = proper.wide;
-  above_ylo = omega (arith, ints);
-  below_yhi = proper.high;
-}
 
 -- what a rectangle within the range of paint covers is in reach
 range_in_reach : (hull : Rect) (square : Square) → SpansInRange hull → Covers hull square → LiesInReach square
@@ -69,7 +62,7 @@ unfolding tree_at
 material_in_reach library lawful cell element standing place is has =
     let tree = tree_to (seen library) MOST_DEPTH cell in
     let among : In standing (placed_cells 1 0 identity tree) =
-    subst (In standing) (standings_placed tree) (In-get (standings tree) element standing is) in
+    subst (In standing) (standings_placed tree) (In-slice_get (standings tree) element standing is) in
     let found = hull_holds_material (seen library) library.tree.cells library.tree.sizes lawful.boxes lawful.tree.sizes.right MOST_DEPTH cell
     (place_back identity place) (placed_has 1 0 identity tree standing place among has) in
     range_in_reach found.0 place.square (hull_spans library.tree cell found.0 lawful.tree found.1)

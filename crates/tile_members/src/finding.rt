@@ -12,13 +12,12 @@ ghost use Rattle.tile_members.specs.TileMembers.{HasTile, IsPartTile};
 use crate::known_members::KnownMembers;
 use crate::member_names::MemberNames;
 use crate::opened_cells::OpenedCells;
-use cell_library::{PartTile, Reader};
+use cell_library::{Opened, PartTile, Reader};
 use ext_model::{CellKey, ExtTable};
-use geo_core::Name;
 use member_tiles::members_have_whole_tiles;
+use names_lists::Name;
 use std::alloc::{AllocError, Global};
 use std::sync::ledger::Ledger;
-use step_count::Steps;
 
 /// Finds the members of a cell that have tiles of its parts, and keeps what it learns on the way.
 #[derive(Drop)]
@@ -89,7 +88,7 @@ impl<'a> MemberFinder<'a> {
         &mut self,
         library: &Reader<'_>,
         tile: &PartTile,
-        steps: &mut Steps<L>,
+        steps: &mut Opened<L>,
     ) -> Result<usize, AllocError>
         requires members { HasMembers library.now self.old.names.records.now self.old.cell.0 }
         requires finder { IsFinderOf library.now self.old }

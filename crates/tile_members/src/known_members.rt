@@ -6,8 +6,8 @@ ghost use Rattle.std.specs.HashMap.{get as number_at};
 ghost use Rattle.finite_sets.specs.Lists.{Distinct};
 ghost use Rattle.tile_members.specs.KnownMembers.{same_key, AddsName};
 
-use geo_core::Name;
 use name_index::NameIndex;
+use names_lists::Name;
 use std::alloc::{AllocError, Global};
 use std::collections::HashMap;
 
@@ -52,7 +52,7 @@ impl KnownMembers {
         ensures added { IfOk result (λ number. (self.new.names.items ≡ self.old.names.items ++ name.now ∷ []) × (number ≡ length self.old.names.items)) }
     {
         let number = self.names.len();
-        let kept = Name::of(alloc, name).map_err(|_| AllocError)?;
+        let kept = Name::of(alloc, name)?;
         self.index.insert(name)?;
         self.names.push(kept)?;
         Ok(number)

@@ -12,7 +12,7 @@ use crate::group_tables::GroupTable;
 use cell_library::Reader;
 use element_paths::{ElementPaths, Step};
 use ext_model::{CellKey, ExtTable};
-use geo_core::Name;
+use names_lists::Name;
 use record_groups::records_tell_groups;
 use std::alloc::{AllocError, Global};
 

@@ -9,13 +9,12 @@ ghost use Rattle.kept_records.specs.KeptRecords.{HaveKeptRecordsBelow};
 ghost use Rattle.tile_members.specs.TileMembers.{AreTileMembers, IsPartTile};
 
 use crate::finding::MemberFinder;
-use cell_library::{PartTile, Reader};
+use cell_library::{Opened, PartTile, Reader};
 use ext_model::{CellKey, ExtTable};
-use geo_core::Name;
 use library_trees::clean_cell_has_clean_tree;
+use names_lists::Name;
 use std::alloc::{AllocError, Global};
 use std::sync::ledger::Ledger;
-use step_count::Steps;
 
 /// The names of members, each once, and for each tile the number of the member that has it: how many of the names stand before the member's.
 #[derive(Drop)]
@@ -34,7 +33,7 @@ pub fn tile_members<L: Ledger>(
     records: &ExtTable,
     cell: CellKey,
     tiles: &[PartTile],
-    steps: &mut Steps<L>,
+    steps: &mut Opened<L>,
 ) -> Result<TileMembers, AllocError>
     requires cell { cell.0 < length library.now.contents }
     requires clean { IsClean library.now.tech (tree_at (seen library.now) cell.0) }

@@ -8,16 +8,16 @@ ghost use Rattle.geo_core.specs.Images.{image, inverted};
 ghost use Rattle.geo_core.specs.Reach.{LiesInReach, MovesInReach};
 ghost use Rattle.tile_members.specs.OpenedCells.{unit_at, AreOpened, HasOpenNode, HasOwnCorner, HasTileAt, IsNumberAt, IsOpened, IsSearchable, KeepOpened};
 
-use cell_library::{PartTile, Reader};
+use cell_library::{Opened, PartTile, Reader};
 use cell_nodes::{CellRegions, cell_regions};
 use ext_model::CellKey;
-use geo_core::{Name, Rect, Square};
+use geo_core::{Rect, Square};
 use layout_model::RegionTile;
+use names_lists::Name;
 use rect_trees::RectTree;
 use std::alloc::{AllocError, Global};
 use std::collections::HashMap;
 use std::sync::ledger::Ledger;
-use step_count::Steps;
 
 /// The own paint of a cell: its tiles, found by area, and the nodes that their regions make.
 #[derive(Drop)]
@@ -59,7 +59,7 @@ impl OpenedCell {
         alloc: Global,
         library: &Reader<'_>,
         cell: CellKey,
-        steps: &mut Steps<L>,
+        steps: &mut Opened<L>,
     ) -> Result<OpenedCell, AllocError>
         requires { cell.0 < length library.now.contents }
         ensures opened { IfOk result (IsOpened (seen library.now) cell.0) }
@@ -128,7 +128,7 @@ impl OpenedCells {
         alloc: Global,
         library: &Reader<'_>,
         cell: CellKey,
-        steps: &mut Steps<L>,
+        steps: &mut Opened<L>,
     ) -> Result<(), AllocError>
         requires cells { AreOpened (seen library.now) self.old }
         requires cell { cell.0 < length library.now.contents }
@@ -162,7 +162,7 @@ impl OpenedCells {
         alloc: Global,
         library: &Reader<'_>,
         tile: &PartTile,
-        steps: &mut Steps<L>,
+        steps: &mut Opened<L>,
     ) -> Result<usize, AllocError>
         requires cells { AreOpened (seen library.now) self.old }
         requires corner { HasOwnCorner library.now tile.now }

@@ -7,6 +7,7 @@ use Rattle.geo_core.specs.declared.squares.Piece.{Piece}
 use Rattle.geo_core.specs.Areas.{IsNear}
 use Rattle.geo_core.specs.Covering.{IsProper}
 use Rattle.geo_core.specs.Planes.{plane_range}
+use Rattle.geo_core.proofs.SquareLaws.{rect_is}
 use Rattle.tile_plane.specs.declared.tiles.Tile.{Tile}
 use Rattle.tile_plane.specs.Tiles.{Tiles, tile_at, IsTaken, Owns, IsPartition, HasStitches}
 use Rattle.tile_plane.specs.Walks.{square_at}
@@ -18,12 +19,6 @@ use Rattle.tile_plane.proofs.SideLaws.{beside_right, beside_left}
 use Rattle.tile_plane.proofs.WalkLaws.{extent_falls}
 use Rattle.tile_plane.proofs.LaidLaws.{alike_taken, area_owns, laid_self, laid_then, laid_join}
 use Rattle.tile_plane.proofs.KeptLaws.{owns_beside}
-
--- rectangles with the same bounds are one
-pub rect_is : (a b : Rect) → a.xlo ≡ b.xlo → a.ylo ≡ b.ylo → a.xhi ≡ b.xhi → a.yhi ≡ b.yhi → a ≡ b
-rect_is a b left low right high =
-    ap (λ (v : ℤ). record a { xlo = v }) left ∙ ap (λ (v : ℤ). record a { xlo = b.xlo; ylo = v }) low
-    ∙ ap (λ (v : ℤ). record a { xlo = b.xlo; ylo = b.ylo; xhi = v }) right ∙ ap (λ (v : ℤ). record b { yhi = v }) high
 
 pub laid_at : (area other : Rect) (value last id : ℕ) (old new : Tiles) → area ≡ other → value ≡ last → IsLaid area value id old new → IsLaid other last id old new
 laid_at area other value last id old new e f laid = subst (λ (r : Rect). IsLaid r last id old new) e (subst (λ (v : ℕ). IsLaid area v id old new) f laid)

@@ -8,6 +8,7 @@ use Rattle.geo_core.specs.Covering.{Covers, IsProper}
 use Rattle.geo_core.specs.Planes.{plane_range, HasValue}
 use Rattle.geo_core.specs.Strips.{IsStrip}
 use Rattle.geo_core.proofs.StripSets.{strip_is_proper, strip_same, strip_within, one_strip_at}
+use Rattle.geo_core.proofs.CoveringLaws.{corner_covered}
 use Rattle.tile_plane.specs.Tiles.{Tiles, tile_at, IsTaken, Owns, value_at}
 use Rattle.tile_plane.specs.Walks.{square_at}
 use Rattle.tile_plane.specs.Contents.{inner_range, IsPlane}
@@ -15,10 +16,6 @@ use Rattle.tile_plane.proofs.TileLaws.{owner_taken}
 use Rattle.tile_plane.proofs.HandLaws.{covers_or_not}
 use Rattle.tile_plane.proofs.StripLaws.{tile_strip}
 use Rattle.tile_plane.proofs.ValueLaws.{value_of_owner, value_off_range}
-
--- a rectangle with a square covers its corner
-pub corner_covered : (area : Rect) → IsProper area → Covers area (corner_of area)
-corner_covered area proper = record { right_of_xlo = omega (arith, ints); left_of_xhi = proper.wide; above_ylo = omega (arith, ints); below_yhi = proper.high }
 
 -- a tile has the square in its lower left corner
 pub corner_owned : (tiles : Tiles) (id : ℕ) → IsTaken tiles id → Owns tiles id (corner_of (tile_at tiles id).area)

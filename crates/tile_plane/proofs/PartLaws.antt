@@ -19,7 +19,7 @@ use Rattle.geo_core.specs.Covering.{Covers, IsProper}
 use Rattle.geo_core.specs.Planes.{plane_range, IsTileIn, AreTilesIn}
 use Rattle.geo_core.specs.Strips.{IsInUnion}
 use Rattle.geo_core.proofs.CornerLaws.{corner_key, pair_cmp, sorted_by_corner}
-use Rattle.geo_core.proofs.CoveringLaws.{covers_first, covers_second, covers_both}
+use Rattle.geo_core.proofs.CoveringLaws.{covers_first, covers_second, covers_both, corner_covered, within_covers, common_within}
 use Rattle.geo_core.proofs.SquareLaws.{piece_is}
 use Rattle.tile_plane.specs.Tiles.{Tiles, tile_at, Owns, IsPartition, value_at}
 use Rattle.tile_plane.specs.Contents.{IsPlane}
@@ -27,7 +27,7 @@ use Rattle.tile_plane.specs.Listings.{Meets, part_in, AddsParts, IsPieceIn, AreP
 use Rattle.tile_plane.proofs.TileLaws.{owner_taken}
 use Rattle.tile_plane.proofs.ValueLaws.{value_of_owner}
 use Rattle.tile_plane.proofs.FollowerLaws.{near_within}
-use Rattle.tile_plane.proofs.MaterialLaws.{owner_of, tile_is_strip, strip_is_tile, corner_covered}
+use Rattle.tile_plane.proofs.MaterialLaws.{owner_of, tile_is_strip, strip_is_tile}
 
 -- things of different tiles lie apart
 pub images_apart : (tiles : Tiles) → IsPartition tiles → {X : Type 0} (f : ℕ → X) (area_of : X → Rect)
@@ -123,23 +123,6 @@ module _ (tiles : Tiles) (area : Rect) where
           ordered = sorted_by_corner sorted (λ k d within. (each (get_or sorted k d) (In-get_or sorted k d within)).meets) apart in_order;
         }
 
--- what goes nowhere past an edge of an area covers squares of the area alone
-pub covers_within : (core area : Rect) (square : Square) → LiesWithin core area → Covers core square → Covers area square
-covers_within core area square within c = record {
-  right_of_xlo = omega (arith, ints);
-  left_of_xhi = omega (arith, ints);
-  above_ylo = omega (arith, ints);
-  below_yhi = omega (arith, ints);
-}
-
-common_within : (a b : Rect) → LiesWithin (common_rect a b) b
-common_within a b = record {
-  right_of_xlo = omega (arith, ints, clamps);
-  above_ylo = omega (arith, ints, clamps);
-  left_of_xhi = omega (arith, ints, clamps);
-  below_yhi = omega (arith, ints, clamps);
-}
-
 near_in_near : (core area : Rect) → IsProper core → LiesWithin core area → IsNear area → IsNear core
 near_in_near core area proper within near =
     let a = near.xlo.0 in
@@ -155,7 +138,7 @@ near_in_near core area proper within near =
 
 -- the corner of an area lies in the plane
 pub corner_in_plane : (area : Rect) → IsNear area → IsProper area → Covers plane_range (corner_of area)
-corner_in_plane area near proper = covers_within area plane_range (corner_of area) (near_within area near) (corner_covered area proper)
+corner_in_plane area near proper = within_covers area plane_range (corner_of area) (near_within area near) (corner_covered area proper)
 
 -- the next thing's image comes behind those of the things before it
 pub one_more_part : {X Y : Type 0} (first so_far : List Y) (xs : List X) (f : X → Y) (index : ℕ) (x : X) → index < length xs
@@ -238,11 +221,11 @@ module _ (tiles : Tiles) (plane : IsPlane tiles) (area : Rect) (near : IsNear ar
         apart = Pairwise-append (λ (a b : Piece). AreDisjoint a.area b.area) pieces more so_far.apart (parts_apart tiles area plane ids adds.lists)
             (λ x y i j square c d.
             let is = so_far.each x i in
-            disjoint is.area is.in_list square (covers_within x.area is.area square is.within c) (covers_within y.area area square (within y j) d));
+            disjoint is.area is.in_list square (within_covers x.area is.area square is.within c) (within_covers y.area area square (within y j) d));
       })
     where
       owner : (square : Square) → Covers area square → (id : ℕ) × Owns tiles id square
-      owner square inside = plane.partition.whole square (covers_within area plane_range square (near_within area near) inside)
+      owner square inside = plane.partition.whole square (within_covers area plane_range square (near_within area near) inside)
 
 -- one more area has its pieces
 pub pieces_go_on : (tiles : Tiles) (plane : IsPlane tiles) (areas : List Rect) (index : ℕ) (area : Rect) (pieces new : List Piece) → index < length areas

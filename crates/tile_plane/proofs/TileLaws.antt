@@ -7,6 +7,7 @@ use Rattle.std.specs.List.{list_any}
 use Rattle.std.specs.Ordering.{nat_cmp, eq_by_cmp}
 use Rattle.std.specs.Cmp.{nat_cmp_total, unsigned_tied}
 use Rattle.std.specs.FinMap as fin_map
+use Rattle.tile_arena.proofs.LiveLaws.{tied_other}
 use Rattle.finite_sets.specs.Lists.{In}
 use Rattle.geo_core.specs.declared.squares.Square.{Square}
 use Rattle.geo_core.specs.Covering.{IsProper}
@@ -31,9 +32,6 @@ taken_live tiles id taken = by_get (fin_map.get tiles id) refl
 
 tied_same : (k : ℕ) → eq_by_cmp nat_cmp k k ≡ true
 tied_same k = unsigned_tied k k ∙ grind (arith, nat_tests)
-
-tied_other : (q k : ℕ) → q ≢ k → eq_by_cmp nat_cmp q k ≡ false
-tied_other q k apart = unsigned_tied q k ∙ grind (arith, nat_tests)
 
 -- a slot is put under a number
 module _ (tiles : Tiles) (id : ℕ) (slot : Slot) where

@@ -19,14 +19,14 @@ use Rattle.geo_core.specs.Covering.{IsProper}
 use Rattle.geo_core.specs.Planes.{HasValue, IsBox}
 use Rattle.geo_core.specs.Strips.{IsStrip, IsStrips, StandsBefore}
 use Rattle.geo_core.proofs.CornerLaws.{corner_key, pair_cmp, sorted_by_corner}
-use Rattle.geo_core.proofs.CoveringLaws.{joined_within}
+use Rattle.geo_core.proofs.CoveringLaws.{joined_within, within_trans, within_joined_first, within_joined_second, within_covers}
 use Rattle.tile_plane.specs.Tiles.{Tiles, tile_at, IsTaken, Owns, IsAfter, IsNextTile, value_at}
 use Rattle.tile_plane.specs.Contents.{inner_range, IsPlane}
 use Rattle.tile_plane.proofs.TileLaws.{owner_taken}
 use Rattle.tile_plane.proofs.ValueLaws.{value_of_owner}
 use Rattle.tile_plane.proofs.FollowerLaws.{lists_push, lists_same}
 use Rattle.tile_plane.proofs.MaterialLaws.{corner_owned, tile_within, near_from_inner, owner_of, tile_is_strip, strip_is_tile, tile_is_near}
-use Rattle.tile_plane.proofs.PartLaws.{images_apart, covers_within}
+use Rattle.tile_plane.proofs.PartLaws.{images_apart}
 
 -- the key by which rectangles are sorted
 abbrev pub rect_key : Rect → ℤ × ℤ
@@ -186,30 +186,6 @@ abbrev pub BoxSoFar : Tiles → Option ℕ → Option Rect → Type 0
 BoxSoFar tiles last None = (k : ℕ) → IsPassed last k → IsTaken tiles k → (tile_at tiles k).value ≡ 0
 BoxSoFar tiles last (Some box) = IsBoxSoFar tiles last box
 
-within_trans : (a b c : Rect) → LiesWithin a b → LiesWithin b c → LiesWithin a c
-within_trans a b c p q = record {
-  right_of_xlo = omega (arith, ints);
-  above_ylo = omega (arith, ints);
-  left_of_xhi = omega (arith, ints);
-  below_yhi = omega (arith, ints);
-}
-
-within_joined : (a b : Rect) → LiesWithin a (joined_rect a b)
-within_joined a b = record {
-  right_of_xlo = omega (arith, ints, clamps);
-  above_ylo = omega (arith, ints, clamps);
-  left_of_xhi = omega (arith, ints, clamps);
-  below_yhi = omega (arith, ints, clamps);
-}
-
-joined_round : (a b : Rect) → LiesWithin b (joined_rect a b)
-joined_round a b = record {
-  right_of_xlo = omega (arith, ints, clamps);
-  above_ylo = omega (arith, ints, clamps);
-  left_of_xhi = omega (arith, ints, clamps);
-  below_yhi = omega (arith, ints, clamps);
-}
-
 within_itself : (a : Rect) → LiesWithin a a
 within_itself a = record {
   right_of_xlo = omega (arith, ints);
@@ -240,8 +216,8 @@ module _ (tiles : Tiles) (last : Option ℕ) (id : ℕ) (next : IsNextTile tiles
           taken = next.1;
           material = material;
           round = λ k most had some. elim (known tiles last id next k most had) [
-            | inl passed ↦ within_trans (tile_at tiles k).area box (joined_rect box own) (so_far.round k passed had some) (within_joined box own)
-            | inr e ↦ subst (λ (v : ℕ). LiesWithin (tile_at tiles v).area (joined_rect box own)) e (joined_round box own)
+            | inl passed ↦ within_trans (tile_at tiles k).area box (joined_rect box own) (so_far.round k passed had some) (within_joined_first box own)
+            | inr e ↦ subst (λ (v : ℕ). LiesWithin (tile_at tiles v).area (joined_rect box own)) e (within_joined_second box own)
           ];
           least = λ area each. joined_within box own area (so_far.least area each) (each id next.1 material);
         }
@@ -284,7 +260,7 @@ module _ (tiles : Tiles) (plane : IsPlane tiles) (last : Option ℕ) (all : IsNe
         covers = λ square some.
             let t = owner_of tiles plane square some in
             let taken = owner_taken tiles t.0 square t.1 in
-            covers_within (tile_at tiles t.0).area box square
+            within_covers (tile_at tiles t.0).area box square
             (so_far.round t.0 (all_passed tiles last all t.0 taken) taken (λ e. some (sym (own_value t.0 square t.1) ∙ e))) t.1.covers;
         least = λ area each. so_far.least area (λ k taken some.
             tile_within tiles k area taken (λ square owns. each square (λ e. some (own_value k square owns ∙ e))));

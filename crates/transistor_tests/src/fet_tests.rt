@@ -4,9 +4,9 @@ ghost use Rattle.std.specs.Prelude.{◌≡◌, ◌<◌, length, IfOk, IfSome};
 use crate::nm::NM;
 use cell_paint::{CellPaint, PaintFault};
 use fet_regions::{Fet, fets};
-use flood_nodes::{FloodFault, Regions, regions};
+use flood_nodes::{Regions, regions};
 use geo_core::{Rect, Square};
-use std::alloc::Global;
+use std::alloc::{AllocError, Global};
 use std::test::Fail;
 use tech_file::read_tech;
 use tech_model::{LayerId, Tech, TypeId};
@@ -212,7 +212,7 @@ fn painted(
 }
 
 /// The regions of all that the cell has in the window.
-fn regions_in(alloc: Global, tech: &Tech, cell: &CellPaint) -> Result<Regions, FloodFault>
+fn regions_in(alloc: Global, tech: &Tech, cell: &CellPaint) -> Result<Regions, AllocError>
     requires kinds { cell.now.kinds ≡ tech.now.types }
     requires planes { length cell.now.planes ≡ length tech.now.planes }
 {

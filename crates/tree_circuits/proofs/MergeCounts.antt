@@ -9,9 +9,9 @@ use Rattle.finite_sets.proofs.Chains.{Chain-append}
 use Rattle.finite_sets.proofs.Distincts.{Distinct-append, length-distinct}
 use Rattle.finite_sets.proofs.Members.{In-append_left, In-append_right, In-map}
 use Rattle.finite_sets.proofs.Pairs.{Pairwise, Pairwise-from_AllPairs}
+use Rattle.finite_sets.proofs.Images.{In-flat_map_source}
 use Rattle.tech_model.specs.declared.raw.RawTech.{RawTech}
 use Rattle.tech_model.specs.WellFormed.{IsWellFormed}
-use Rattle.tech_model.proofs.RuleLaws.{In-flat_map_source}
 use Rattle.ext_model.specs.Paths.{path_text}
 use Rattle.ext_model.specs.declared.records.CellExt.{CellExt}
 use Rattle.ext_model.specs.declared.records.MergeRec.{MergeRec}

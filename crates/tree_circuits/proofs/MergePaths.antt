@@ -7,11 +7,13 @@ use Rattle.std.proofs.lemmas.Bool.{cases_Bool}
 use Rattle.std.proofs.lemmas.Slice.Eq.{bytes_eq-Decides}
 use Rattle.finite_sets.specs.Lists.{In, Distinct}
 use Rattle.finite_sets.proofs.Members.{In-append_cases, In-map_source}
+use Rattle.finite_sets.proofs.Images.{In-flat_map, In-flat_map_source}
+use Rattle.finite_sets.proofs.Firsts.{first_some-none}
+use Rattle.finite_sets.proofs.Searches.{list_any-of_In}
 use Rattle.geo_core.specs.declared.transforms.Transform.{Transform}
 use Rattle.geo_core.specs.Images.{six_of}
 use Rattle.tech_model.specs.declared.raw.RawTech.{RawTech}
 use Rattle.tech_model.specs.WellFormed.{IsWellFormed}
-use Rattle.tech_model.proofs.RuleLaws.{In-flat_map, In-flat_map_source}
 use Rattle.ext_model.specs.declared.names.TheConstants.{SLASH}
 use Rattle.ext_model.specs.declared.records.CellExt.{CellExt}
 use Rattle.ext_model.specs.declared.records.MergeRec.{MergeRec}
@@ -25,8 +27,7 @@ use Rattle.circuit_model.specs.declared.faults.FlatFault.{FlatFault}
 use Rattle.circuit_model.specs.declared.faults.FlatFault.TheVariants.{NoPath}
 use Rattle.circuit_model.specs.Elements.{ext_of}
 use Rattle.circuit_model.specs.Refusals.{first_fault, leads, merge_fault, path_fault}
-use Rattle.name_classes.proofs.FaultLaws.{first_fault-none}
-use Rattle.name_classes.proofs.PathLaws.{among_there, leads-name, leads-use}
+use Rattle.name_classes.proofs.PathLaws.{leads-name, leads-use}
 use Rattle.own_record_laws.proofs.PreferredNames.{goes_by, in_some}
 use Rattle.named_trees.specs.MemberGroups.{IsGroupName, IsMemberAt, IsMemberBelow}
 use Rattle.named_trees.specs.NamedTrees.{NamedTree, NamedElements, NamedStanding, named_above, named_standings, named_standings_below, own_body}
@@ -99,7 +100,7 @@ module _ (raw : RawTech) (formed : IsWellFormed raw) (exts : List CellExt) where
         let some = in_some raw own.layout own.labels ext.nodes of.nodes place here.material in
         let name = goes_by raw own.layout own.labels ext.nodes of.nodes member place here some in
         leads-name exts ext member whole
-        ∙ among_there (node_names ext) member (In-flat_map names_of some.node member ext.nodes some.listed (inl name))
+        ∙ list_any-of_In bytes_eq bytes_eq-Decides member (node_names ext) (In-flat_map names_of some.node member ext.nodes some.listed (inl name))
     member_leads (named_tree own elements) ext has is found place member (inr below) =
         let of = record_is raw exts (named_tree own elements) ext has.0 found in
         let next = member_leads_on elements has.1 (clean_below raw own elements is) is.names.0 place member below in
@@ -158,7 +159,7 @@ module _ (raw : RawTech) (formed : IsWellFormed raw) (exts : List CellExt) where
         → first_fault (merge_fault exts ext) ext.merges ≡ None
     no_merges_fault (named_tree own elements) has is standing ext (inl same) found =
         let P : NamedStanding → Type 0 = λ s. ext_of exts s.own.name ≡ Some ext in
-        first_fault-none (merge_fault exts ext) ext.merges (no_merge_fault (named_tree own elements) ext has is (subst P (sym same) found))
+        first_some-none (merge_fault exts ext) ext.merges (no_merge_fault (named_tree own elements) ext has is (subst P (sym same) found))
     no_merges_fault (named_tree own elements) has is standing ext (inr below) found =
         no_merges_fault_below elements has.1 (clean_below raw own elements is) standing ext below found
 

@@ -4,22 +4,22 @@ use Rattle.std.proofs.Common.{◌≡◌, ◌⊎◌, ◌≤◌, ℕ, Bool, true, 
 use Rattle.std.proofs.Common.{arith, eq-eqb, suc}
 use Rattle.std.specs.Option.{option_or}
 use Rattle.std.proofs.lemmas.Bool.Decides.{nat_tests}
-use Rattle.geo_core.specs.declared.limits.Limit.{Limit}
-use Rattle.geo_core.specs.declared.limits.Limit.TheVariants.{Depth, Elements, Merges, Names, Nodes}
+use Rattle.element_tree.proofs.Counting.{within_limit}
+use Rattle.finite_sets.proofs.Firsts.{first_some-none}
+use Rattle.finite_sets.proofs.OneForOne.{AreOneForOne-source, AreOneForOne-length}
 use Rattle.circuit_model.specs.declared.faults.FlatFault.{FlatFault}
 use Rattle.circuit_model.specs.declared.faults.FlatFault.TheVariants.{Classes, TooMany}
+use Rattle.circuit_model.specs.declared.limits.CircuitLimit.TheVariants.{Depth, Elements, Merges, Names, Nodes}
 use Rattle.circuit_model.specs.declared.limits.TheConstants.{LONGEST_CHAIN, MOST_FLAT_ELEMENTS, MOST_MERGES, MOST_NAME_BYTES, MOST_NODES}
 use Rattle.circuit_model.specs.Elements.{elements_of}
-use Rattle.circuit_model.specs.Refusals.{chain_length, class_fault, element_fault, first_fault, merge_count, name_bytes, node_count, past}
-use Rattle.name_classes.proofs.FaultLaws.{first_fault-none}
+use Rattle.circuit_model.specs.Refusals.{chain_length, class_fault, element_fault, first_fault, merge_count, name_bytes, node_count}
 use Rattle.named_trees.specs.NamedTrees.{named_standings}
 use Rattle.tree_names.specs.TreeElements.{IsElementFor}
-use Rattle.tree_names.proofs.OneForOne.{AreOneForOne-source}
 use Rattle.tree_names.proofs.TreeElements.{elements_for, record_is, top_record}
 use Rattle.tree_circuits.specs.Laws.{TreeRecordsHaveNoOtherFault}
 use Rattle.tree_circuits.proofs.MergeCounts.{merges_in, merges_within}
 use Rattle.tree_circuits.proofs.MergePaths.{no_merges_fault}
-use Rattle.tree_circuits.proofs.RecordCounts.{AreOneForOne-length, elements_count, nodes_in}
+use Rattle.tree_circuits.proofs.RecordCounts.{elements_count, nodes_in}
 use Rattle.tree_circuits.proofs.WalkFaults.{chain_within, no_walk_fault}
 
 -- a fault that comes of two tests alone
@@ -38,12 +38,6 @@ two_alone false false None None None None (Some other) path fault walks deep all
 two_alone false false None None None None None (Some other) fault walks deep all few classes paths is = absurd (cc)
 two_alone false false None None None None None None fault walks deep all few classes paths is = absurd (cc)
 
--- a number within its limit has no fault
-within_limit : (most n : ℕ) (limit : Limit) → n ≤ most → past most limit n ≡ None
-within_limit most n limit few =
-    let less : nat_lt most n ≡ false = grind (arith, nat_tests) in
-    ap (λ (t : Bool). cond t (Some (TooMany limit)) None) less
-
 -- a number that is not past its limit is within it
 not_past : (most n : ℕ) → nat_lt most n ≡ false → n ≤ most
 not_past most n test = grind (arith, nat_tests)
@@ -58,12 +52,12 @@ tree_has_no_other_fault raw exts tree fault formed is has deep few faulty =
     let bound = suc (length exts) in
     let chain = chain_within raw exts tree bound root has faulty.found in
     let count = AreOneForOne-length (IsElementFor raw exts) (named_standings tree) elements are in
-    let classes : first_fault (class_fault root) elements ≡ None = first_fault-none (class_fault root) elements (λ element here.
+    let classes : first_fault (class_fault root) elements ≡ None = first_some-none (class_fault root) elements (λ element here.
     let of = AreOneForOne-source (IsElementFor raw exts) (named_standings tree) elements are element here in
     let same : length element.ext.classes ≡ length root.classes = ap length (of.2.is.classes ∙ sym top.classes) in
     ap (λ (t : Bool). if t then None else Some (Classes element.ext.cell))
     (eq-eqb (length element.ext.classes) (length root.classes) same)) in
-    let paths : first_fault (element_fault exts) elements ≡ None = first_fault-none (element_fault exts) elements (λ element here.
+    let paths : first_fault (element_fault exts) elements ≡ None = first_some-none (element_fault exts) elements (λ element here.
     let of = AreOneForOne-source (IsElementFor raw exts) (named_standings tree) elements are element here in
     no_merges_fault raw formed exts tree has is of.0 element.ext of.1 of.2.found) in
     let within = merges_within raw formed exts tree has is LONGEST_CHAIN deep in

@@ -1,7 +1,8 @@
 -- What the records of a tree have in number, by the cells as they stand.
-use Rattle.std.proofs.Common.{◌≡◌, ◌+◌, ℕ, Option, Some, None, List, [], ◌∷◌, ◌++◌, map, length, sum_by, suc, refl, sym, ◌∙◌, ap}
+use Rattle.std.proofs.Common.{◌≡◌, ◌+◌, ℕ, Option, Some, None, List, [], ◌∷◌, ◌++◌, map, length, sum_by, refl, sym, ◌∙◌, ap}
 use Rattle.std.proofs.lemmas.List.{length-append, length-map}
 use Rattle.std.proofs.lemmas.List.Sums.{sum_by-append, sum_by-cons}
+use Rattle.finite_sets.specs.OneForOne.{AreOneForOne}
 use Rattle.geo_core.specs.declared.transforms.Transform.{Transform}
 use Rattle.geo_core.specs.Images.{identity}
 use Rattle.tech_model.specs.declared.raw.RawTech.{RawTech}
@@ -12,7 +13,7 @@ use Rattle.circuit_model.specs.Elements.{Element, ext_of}
 use Rattle.named_trees.specs.NamedTrees.{NamedTree, NamedElements, NamedStanding, named_above, named_standings, named_standings_below}
 use Rattle.named_trees.specs.NamedTrees.NamedTree.{named_tree}
 use Rattle.named_trees.specs.NamedTrees.NamedElements.{no_more, element_then}
-use Rattle.tree_names.specs.TreeElements.{AreOneForOne, IsElementFor}
+use Rattle.tree_names.specs.TreeElements.{IsElementFor}
 
 -- how many of something a record has, if one is found
 abbrev pub found_count : (CellExt → ℕ) → Option CellExt → ℕ
@@ -77,13 +78,6 @@ pub elements_count : (raw : RawTech) (count : CellExt → ℕ) (exts : List Cell
     → sum_by (λ element. count element.ext) elements ≡ tree_count count exts tree
 elements_count raw count exts tree elements are =
     element_counts raw count exts (named_standings tree) elements are ∙ standing_counts count exts tree
-
--- lists that go along with each other are equally long
-pub AreOneForOne-length : {X Y : Type 0} (R : X → Y → Type 0) (xs : List X) (ys : List Y) → AreOneForOne R xs ys → length xs ≡ length ys
-AreOneForOne-length R [] [] are = refl
-AreOneForOne-length R [] (y ∷ ys) are = absurd are
-AreOneForOne-length R (x ∷ xs) [] are = absurd are
-AreOneForOne-length R (x ∷ xs) (y ∷ ys) are = ap suc (AreOneForOne-length R xs ys are.1)
 
 -- the preferred names of a record's nodes, if one is found
 abbrev pub found_names : Option CellExt → List (List ℕ)

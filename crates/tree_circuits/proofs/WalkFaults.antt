@@ -4,7 +4,10 @@ use Rattle.std.proofs.Common.{◌≡◌, ◌<◌, ◌≤◌, ℕ, zero, suc, max
 use Rattle.std.proofs.Common.{inl, inr, refl, sym, ◌∙◌, ap, subst, arith}
 use Rattle.std.specs.Option.{option_or}
 use Rattle.std.proofs.lemmas.Bool.{cases_Bool}
+use Rattle.std.proofs.lemmas.Slice.Eq.{bytes_eq-Decides}
+use Rattle.std.specs.Str.{bytes_eq}
 use Rattle.finite_sets.specs.Lists.{In}
+use Rattle.finite_sets.proofs.Searches.{In-from_list_any}
 use Rattle.tech_model.specs.declared.raw.RawTech.{RawTech}
 use Rattle.ext_model.specs.declared.records.CellExt.{CellExt}
 use Rattle.ext_model.specs.declared.records.UseRec.{UseRec}
@@ -13,7 +16,6 @@ use Rattle.circuit_model.specs.declared.faults.FlatFault.TheVariants.{NoCell, Cy
 use Rattle.circuit_model.specs.Elements.{ext_of}
 use Rattle.circuit_model.specs.FlatNodes.{is_among}
 use Rattle.circuit_model.specs.Refusals.{chain_length, first_fault, greatest, use_fault, walk_fault}
-use Rattle.full_names.proofs.NameBytes.{among_In}
 use Rattle.named_trees.specs.NamedTrees.{NamedTree, NamedElements, own_body}
 use Rattle.named_trees.specs.NamedTrees.NamedTree.{named_tree}
 use Rattle.named_trees.specs.NamedTrees.NamedElements.{no_more, element_then}
@@ -64,7 +66,7 @@ module _ (raw : RawTech) (exts : List CellExt) where
       → AreDeep open_cells depth → is_among open_cells (own_body tree).name ≡ false
   not_open open_cells depth tree has less deep = elim (cases_Bool (is_among open_cells (own_body tree).name)) [
     | inl among ↦
-        let at = deep (own_body tree).name (among_In open_cells (own_body tree).name among) in
+        let at = deep (own_body tree).name (In-from_list_any bytes_eq bytes_eq-Decides (own_body tree).name open_cells among) in
         absurd (omega (arith, less, at.3, one_depth at.0 tree at.1 has at.2))
     | inr none ↦ none
   ]

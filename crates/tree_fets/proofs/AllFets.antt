@@ -4,6 +4,8 @@ use Rattle.std.specs.Prelude.{IsTrue, Some, slice_get}
 use Rattle.finite_sets.specs.Lists.{In}
 use Rattle.finite_sets.proofs.Members.{In-append_cases, In-append_left, In-append_right}
 use Rattle.finite_sets.proofs.Pairs.{AllPairs-from_Pairwise, Pairwise, Pairwise-append}
+use Rattle.finite_sets.proofs.OneForOne.{AreOneForOne-append, AreOneForOne-length}
+use Rattle.finite_sets.specs.OneForOne.{AreOneForOne}
 use Rattle.tech_model.specs.declared.raw.RawTech.{RawTech}
 use Rattle.tech_model.specs.ChannelRoles.{is_channel}
 use Rattle.tech_model.specs.WellFormed.{IsWellFormed}
@@ -18,12 +20,10 @@ use Rattle.named_trees.specs.FlatLayouts.{flat_layout}
 use Rattle.named_trees.specs.NamedTrees.{NamedTree, NamedStanding, named_standings, place_forth}
 use Rattle.named_trees.proofs.MoveLaws.{above_from_back}
 use Rattle.tree_records.specs.TreeCircuits.{AreFlatFetRecords, IsFetBefore, IsFlatFetRecord, IsOwnedFet, OwnedFet}
-use Rattle.tree_names.specs.TreeElements.{AreOneForOne}
-use Rattle.tree_names.proofs.OneForOne.{AreOneForOne-append}
 use Rattle.tree_fets.specs.Channels.{OwnsItsChannels}
 use Rattle.tree_fets.proofs.FetElements.{GiveFlatNames, HasFetsOf}
 use Rattle.tree_fets.proofs.OwnedFets.{AreOwned, owned_fets}
-use Rattle.tree_fets.proofs.Zipped.{split_flats, zip_at, zip_long}
+use Rattle.tree_fets.proofs.Zipped.{split_flats, zip_at}
 
 -- the owner stands before another
 owner_before : (a b : OwnedFet) (position : ℕ) → a.owner ≡ position → suc position ≤ b.owner → IsFetBefore a b
@@ -130,6 +130,6 @@ module _ (raw : RawTech) (tree : NamedTree) (formed : IsWellFormed raw) (owns : 
                   (above_from_back placed place) at.within;
             };
         in_order = AllPairs-from_Pairwise IsFetBefore all.found all.in_order;
-        one_each = zip_long (IsFlatFetRecord raw tree) all.found flats all.each;
+        one_each = sym (AreOneForOne-length (IsFlatFetRecord raw tree) all.found flats all.each);
         each = zip_at (IsFlatFetRecord raw tree) all.found flats all.each;
       }

@@ -1,11 +1,14 @@
 -- The node that is found by a full name goes by the name of the flat node.
 use Rattle.std.proofs.Common.{◌≡◌, ℕ, Bool, List, [], refl, sym, subst}
 use Rattle.std.specs.Prelude.{None, Option, Some, find}
+use Rattle.std.proofs.lemmas.Slice.Eq.{bytes_eq-Decides}
+use Rattle.std.specs.Str.{bytes_eq}
 use Rattle.finite_sets.specs.Chain.Chain.{stay}
 use Rattle.finite_sets.specs.Lists.{In}
 use Rattle.finite_sets.proofs.Chains.{Chain-append}
 use Rattle.finite_sets.proofs.Leasts.{IsLeast-iff}
-use Rattle.finite_sets.proofs.Searches.{find-In, find-none, find-passes}
+use Rattle.finite_sets.proofs.Searches.{find-In, find-none, find-passes, In-from_list_any, absent-from_list_any}
+use Rattle.finite_sets.proofs.Places.{In-slice_get}
 use Rattle.tech_model.specs.declared.raw.RawTech.{RawTech}
 use Rattle.ext_model.specs.declared.records.NodeRec.{NodeRec}
 use Rattle.ext_model.specs.Paths.{full_name, path_text}
@@ -16,8 +19,6 @@ use Rattle.circuit_model.specs.Elements.{Element}
 use Rattle.circuit_model.specs.FlatFets.{node_name}
 use Rattle.circuit_model.specs.FlatNodes.{has_name}
 use Rattle.circuit_model.specs.FullNames.{AreOneNode}
-use Rattle.full_names.proofs.Lookups.{slice_get-In}
-use Rattle.full_names.proofs.NameBytes.{among_In, not_among}
 use Rattle.own_records.specs.FetRecords.{IsNoLaterName}
 use Rattle.named_trees.specs.FlatLayouts.{AreOneFlatNode, HasNodePath, IsFlatName, IsOfFlatNode, flat_layout}
 use Rattle.named_trees.specs.NamedTrees.{NamedTree, named_standings, place_forth}
@@ -82,12 +83,12 @@ module _ (raw : RawTech) (tree : NamedTree) (elements : List Element) (tell : Na
   found_by place path here None none =
       let some = named.whole place (material place path here) in
       let test : NodeRec → Bool = λ node. has_name node (full_name [] path) in
-      absurd (not_among (names_of some.0) (full_name [] path) (find-none test nodes some.0 none some.1)
+      absurd (absent-from_list_any bytes_eq bytes_eq-Decides (full_name [] path) (names_of some.0) (find-none test nodes some.0 none some.1)
       ((some.2.names (full_name [] path)).1 (path_name place path here)))
   found_by place path here (Some node) is =
       let test : NodeRec → Bool = λ n. has_name n (full_name [] path) in
       goes_by place path here node (find-In test nodes node is)
-      (among_In (names_of node) (full_name [] path) (find-passes test nodes node is))
+      (In-from_list_any bytes_eq bytes_eq-Decides (full_name [] path) (names_of node) (find-passes test nodes node is))
 
   -- the nodes that are found go by the names of flat nodes
   pub found_names : GiveFlatNames raw tree nodes
@@ -95,6 +96,6 @@ module _ (raw : RawTech) (tree : NamedTree) (elements : List Element) (tell : Na
       let has = goes_by_own raw standing.own place name of_node in
       let path = path_text standing.ids name in
       let at = place_forth standing.placed place in
-      let here = standing_path raw tree standing (slice_get-In (named_standings tree) position standing there) place name has in
+      let here = standing_path raw tree standing (In-slice_get (named_standings tree) position standing there) place name has in
       subst (λ (full : List ℕ). IsOfFlatNode raw tree (node_name nodes full) at) (sym (full_name-path standing.ids name))
       (found_by at path here (find (λ (node : NodeRec). has_name node (full_name [] path)) nodes) refl)

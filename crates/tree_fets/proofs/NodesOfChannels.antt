@@ -4,6 +4,7 @@ use Rattle.std.specs.Prelude.{IsTrue}
 use Rattle.finite_sets.specs.Chain.Chain.{go, stay}
 use Rattle.finite_sets.proofs.Chains.{Chain-append}
 use Rattle.finite_sets.proofs.Leasts.{IsLeast-iff, IsLeast-unique}
+use Rattle.finite_sets.proofs.Searches.{All-In, list_any-source}
 use Rattle.tech_model.specs.declared.raw.FetRule.{FetRule}
 use Rattle.tech_model.specs.declared.raw.Label.{Label}
 use Rattle.tech_model.specs.declared.raw.RawTech.{RawTech}
@@ -11,11 +12,10 @@ use Rattle.tech_model.specs.ChannelRoles.{is_channel}
 use Rattle.tech_model.specs.Types.{connects, is_type}
 use Rattle.tech_model.specs.WellFormed.{IsFet, IsWellFormed}
 use Rattle.tech_model.proofs.TypeLaws.{connects_self}
-use Rattle.tech_model.proofs.WellFormedLaws.{All_In}
 use Rattle.layout_model.specs.Layouts.{Layout, IsMaterial}
 use Rattle.layout_model.specs.Places.{Place, IsNoLater}
 use Rattle.layout_model.specs.Transistors.{AreOneChannel}
-use Rattle.offences.proofs.SpoiledLaws.{channel_is_material, passing}
+use Rattle.offences.proofs.SpoiledLaws.{channel_is_material}
 use Rattle.names.specs.NamedNodes.{AreOneNamedNode}
 use Rattle.cell_nodes.proofs.NodePlaces.{AreOneNamedNode-sym}
 use Rattle.own_records.specs.FetRecords.{IsNoLaterName, IsOfNode}
@@ -26,8 +26,8 @@ use Rattle.named_trees.specs.NamedTrees.{NamedTree}
 -- the type of a channel is one of the technology
 pub channel_is_type : (raw : RawTech) → IsWellFormed raw → (kind : ℕ) → IsTrue (is_channel raw kind) → IsTrue (is_type raw kind)
 channel_is_type raw formed kind channel =
-    let found = passing (λ (fet : FetRule). fet.kind.0 == kind) raw.fets channel in
-    let fet = All_In (IsFet raw) raw.fets found.0 formed.fets found.1.0 in
+    let found = list_any-source (λ (fet : FetRule). fet.kind.0 == kind) raw.fets channel in
+    let fet = All-In (IsFet raw) raw.fets found.0 formed.fets found.1.0 in
     subst (λ (k : ℕ). IsTrue (is_type raw k)) (eqb-true found.0.kind.0 kind found.1.1) fet.kind
 
 module _ (raw : RawTech) (formed : IsWellFormed raw) (layout : Layout) (labels : List Label) where

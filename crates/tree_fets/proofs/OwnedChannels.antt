@@ -6,6 +6,7 @@ use Rattle.std.specs.Prelude.{IsTrue, None, Some, slice_get}
 use Rattle.std.proofs.lemmas.Bool.{cases_eq}
 use Rattle.finite_sets.specs.Lists.{In}
 use Rattle.finite_sets.proofs.Members.{In-map}
+use Rattle.finite_sets.proofs.Places.{In-slice_get}
 use Rattle.tech_model.specs.declared.raw.RawTech.{RawTech}
 use Rattle.tech_model.specs.ChannelRoles.{is_channel}
 use Rattle.tech_model.specs.Rules.{KeepsRules}
@@ -20,7 +21,6 @@ use Rattle.hierarchy_model.specs.CleanCells.{IsClean}
 use Rattle.hierarchy_model.specs.Laws.{own_pairs, times}
 use Rattle.hierarchy_model.proofs.CleanLaws.{has_flat_type, own_count}
 use Rattle.hierarchy_model.proofs.RoleLaws.{roles_kept}
-use Rattle.full_names.proofs.Lookups.{slice_get-In}
 use Rattle.named_trees.specs.FlatLayouts.{flat_layout}
 use Rattle.named_trees.specs.NamedTrees.{NamedTree, NamedStanding, layouts_of, named_standings, place_forth}
 use Rattle.named_trees.proofs.MoveLaws.{back_from_above, neighbours_above}
@@ -65,7 +65,7 @@ only_one f (x ∷ xs) number once = elim (cases_eq (f x) number) [
         alone = elim [
           | zero ↦ λ y is has. refl
           | suc k ↦ λ y is has. absurd
-              (some_times number (map f xs) (subst (λ (n : ℕ). In n (map f xs)) has (In-map f y xs (slice_get-In xs k y is))) none)
+              (some_times number (map f xs) (subst (λ (n : ℕ). In n (map f xs)) has (In-map f y xs (In-slice_get xs k y is))) none)
         ];
       }
   | inr differ ↦
@@ -155,8 +155,8 @@ module _ (raw : RawTech) (formed : IsWellFormed raw) (rules : KeepsRules raw) (t
   pub owned_channels : OwnsItsChannels raw tree
   owned_channels = record {
     kept = λ position standing there. record {
-      same = own_is_flat standing (slice_get-In (named_standings tree) position standing there);
-      roles = own_role_kept standing (slice_get-In (named_standings tree) position standing there);
+      same = own_is_flat standing (In-slice_get (named_standings tree) position standing there);
+      roles = own_role_kept standing (In-slice_get (named_standings tree) position standing there);
     };
     owned = one_owner;
   }

@@ -3,6 +3,7 @@ use Rattle.std.proofs.Common.{◌≡◌, ℕ, List, [], ◌∷◌, map, inl, inr
 use Rattle.std.specs.Prelude.{IsTrue, Some, slice_get}
 use Rattle.finite_sets.specs.Lists.{In}
 use Rattle.finite_sets.proofs.Pairs.{Pairwise}
+use Rattle.finite_sets.specs.OneForOne.{AreOneForOne}
 use Rattle.tech_model.specs.declared.raw.RawTech.{RawTech}
 use Rattle.tech_model.specs.ChannelRoles.{is_channel}
 use Rattle.tech_model.specs.WellFormed.{IsWellFormed}
@@ -17,7 +18,6 @@ use Rattle.own_records.specs.FetRecords.{IsFetRecord, IsOfNode}
 use Rattle.named_trees.specs.FlatLayouts.{flat_layout}
 use Rattle.named_trees.specs.NamedTrees.{NamedTree, NamedStanding, named_standings, place_forth}
 use Rattle.tree_records.specs.TreeCircuits.{IsFetBefore, IsFlatFetRecord, IsOwnedFet, OwnedFet}
-use Rattle.tree_names.specs.TreeElements.{AreOneForOne}
 use Rattle.tree_fets.specs.Channels.{OwnsItsChannels}
 use Rattle.tree_fets.proofs.FetElements.{GiveFlatNames, HasFetsOf}
 use Rattle.tree_fets.proofs.FlatRecords.{IsMade, is_made}

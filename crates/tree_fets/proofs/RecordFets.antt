@@ -1,5 +1,7 @@
 -- The transistors that the records of a clean cell and of all below it mean.
 use Rattle.std.proofs.Common.{ℕ, List, subst}
+use Rattle.finite_sets.proofs.OneForOne.{AreOneForOne-weaker}
+use Rattle.finite_sets.specs.OneForOne.{AreOneForOne}
 use Rattle.tech_model.specs.declared.raw.RawTech.{RawTech}
 use Rattle.tech_model.specs.Rules.{KeepsRules}
 use Rattle.tech_model.specs.WellFormed.{IsWellFormed}
@@ -15,11 +17,10 @@ use Rattle.tree_records.specs.TreeCircuits.{AreFlatFetRecords}
 use Rattle.tree_records.specs.TreeRecords.{HasTreeRecords}
 use Rattle.tree_names.specs.CleanTrees.{IsCleanTree}
 use Rattle.tree_names.specs.Laws.{NamesTellFlatNodes}
-use Rattle.tree_names.specs.TreeElements.{AreOneForOne, IsElementFor}
+use Rattle.tree_names.specs.TreeElements.{IsElementFor}
 use Rattle.tree_names.proofs.CircuitNodes.{name_flat_nodes}
 use Rattle.tree_names.proofs.FlatNames.{flat_names_are}
 use Rattle.tree_names.proofs.NodeNames.{flat_node_names, names_one_flat_node}
-use Rattle.tree_names.proofs.OneForOne.{AreOneForOne-weaker}
 use Rattle.tree_names.proofs.RecordedNodes.{path_material}
 use Rattle.tree_fets.proofs.FetElements.{HasFetsOf}
 use Rattle.tree_fets.proofs.AllFets.{flat_fet_records}

@@ -1,5 +1,5 @@
 -- A transistor of an own layout is one of the flat layout, with its terminals by the names of flat nodes.
-use Rattle.std.proofs.Common.{◌≡◌, ◌↔◌, ◌-ℤ◌, ◌<ℤ◌, ◌≤ℤ◌, ℕ, ℤ, pos, Bool, true, false, cond, List, [], ◌∷◌, filter}
+use Rattle.std.proofs.Common.{◌≡◌, ◌↔◌, ◌-ℤ◌, ◌<ℤ◌, ◌≤ℤ◌, ℕ, ℤ, pos, Bool, true, List, [], ◌∷◌, filter}
 use Rattle.std.proofs.Common.{map, inl, inr, refl, sym, ◌∙◌, ap, subst, arith}
 use Rattle.std.specs.Prelude.{IsTrue}
 use Rattle.std.specs.Str.{bytes_eq}
@@ -11,6 +11,7 @@ use Rattle.finite_sets.specs.Total.{sum_on, Total}
 use Rattle.finite_sets.proofs.Members.{In-filter, In-filter_passes, In-filter_source, In-map, In-map_source}
 use Rattle.finite_sets.proofs.Sums.{sum_on-filter}
 use Rattle.finite_sets.proofs.Totals.{Total-unique}
+use Rattle.finite_sets.proofs.Images.{Distinct-map_filter}
 use Rattle.geo_core.specs.declared.transforms.Transform.{Transform}
 use Rattle.tech_model.specs.declared.raw.RawTech.{RawTech}
 use Rattle.tech_model.specs.ChannelRoles.{is_channel, is_terminal}
@@ -40,21 +41,6 @@ node_of terminal = terminal.0
 -- a sum of lengths
 abbrev pub length_sum : List (List ℕ × ℤ) → ℤ
 length_sum terminals = sum_on (λ terminal. terminal.1) terminals
-
--- what passes a test has different images where all have
-Distinct-map_filter : {X Y : Type 0} (f : X → Y) (test : X → Bool) (xs : List X) → Distinct (map f xs) → Distinct (map f (filter test xs))
-Distinct-map_filter f test [] once = tt
-Distinct-map_filter {X} {Y} f test (x ∷ xs) once =
-    let rest = Distinct-map_filter f test xs once.1 in
-    let P : Y → Type 0 = λ y. In y (map f xs) in
-    elim (test x) as (λ b. Distinct (map f (cond b (x ∷ filter test xs) (filter test xs)))) [
-      | true ↦ (
-        (λ among. let source = In-map_source f (f x) (filter test xs) among in
-            once.0 (subst P source.1.1 (In-map f source.0 xs (In-filter_source test source.0 xs source.1.0)))),
-        rest,
-      )
-      | false ↦ rest
-    ]
 
 -- lengths of terminals do not make less than nothing
 no_less : (terminals : List (List ℕ × ℤ)) → ((terminal : List ℕ × ℤ) → In terminal terminals → pos 0 <ℤ terminal.1)

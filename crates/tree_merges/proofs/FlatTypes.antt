@@ -5,6 +5,7 @@ use Rattle.std.specs.Int.{bit_at}
 use Rattle.std.specs.Option.{option_map}
 use Rattle.std.proofs.lemmas.Option.{slice_get-get_or}
 use Rattle.finite_sets.specs.Lists.{In}
+use Rattle.finite_sets.proofs.Searches.{All-In}
 use Rattle.geo_core.specs.declared.squares.Square.{Square}
 use Rattle.geo_core.specs.Areas.{corner_of}
 use Rattle.geo_core.specs.Covering.{Covers}
@@ -14,10 +15,8 @@ use Rattle.tech_model.specs.declared.raw.TypeId.{TypeId}
 use Rattle.tech_model.specs.Types.{is_type, joined, parts_of, plane_of, type_number}
 use Rattle.tech_model.proofs.JoinedLaws.{joined-found}
 use Rattle.tech_model.proofs.SetLaws.{or_bit_left, or_bit_right}
-use Rattle.tech_model.proofs.WellFormedLaws.{All_In}
 use Rattle.layout_model.specs.Places.{Place}
 use Rattle.layout_trees.specs.CellTrees.{CellTree}
-use Rattle.layout_trees.specs.CellTrees.CellTree.{cell_tree}
 use Rattle.layout_trees.specs.FlatSets.{parts_in}
 use Rattle.offences.specs.declared.plane_stacks.PlaneStack.{PlaneStack}
 use Rattle.offences.specs.Changes.{number_of}
@@ -33,13 +32,10 @@ use Rattle.meeting_laws.specs.PartLayouts.{Passes}
 use Rattle.meeting_laws.proofs.RestrictionLaws.{none_elsewhere}
 use Rattle.flood_nodes.specs.Stacking.{AreTyped}
 use Rattle.hier_merge.specs.MeetingPieces.{AreMeetingPieces, HasCoveringTiles}
+use Rattle.hier_merge.proofs.MeetingOffences.{places_of_clean}
 use Rattle.meeting_sums.specs.StackTiles.{tile_of, tiles_of}
 use Rattle.cell_library.specs.declared.part_tiles.PartTile.{PartTile}
 use Rattle.tree_merges.proofs.PieceTiles.{all_tiles}
-
--- no place of a clean cell offends
-pub none_of_clean : (raw : RawTech) (tree : CellTree) → IsClean raw tree → (place : Place) → Offends raw (parts_in raw tree) place → ⊥
-none_of_clean raw (cell_tree own elements) clean = clean.1
 
 -- ---- what all parts have together
 
@@ -154,5 +150,5 @@ pub pieces_are_typed : (raw : RawTech) (tree : CellTree) (tiles : List PartTile)
 pieces_are_typed raw tree tiles starts stacks clean pieces =
     all_tiles (λ tile. IsTrue (is_type raw tile.kind.0) × (plane_of raw tile.kind.0 ≡ tile.plane)) stacks
     (λ piece among.
-    typed_piece raw (Passes pieces.within) (parts_in raw tree) pieces.others pieces.restricted (none_of_clean raw tree clean) tiles starts piece
-    (pieces.pieces.each piece among) (All_In (HasCoveringTiles tiles starts) stacks piece pieces.covered among))
+    typed_piece raw (Passes pieces.within) (parts_in raw tree) pieces.others pieces.restricted (places_of_clean raw tree clean) tiles starts piece
+    (pieces.pieces.each piece among) (All-In (HasCoveringTiles tiles starts) stacks piece pieces.covered among))

@@ -5,9 +5,8 @@ use Rattle.std.specs.List.{range_with_len}
 use Rattle.std.proofs.lemmas.List.{length-map}
 use Rattle.std.proofs.lemmas.Option.{slice_get_within, slice_get-get_or}
 use Rattle.finite_sets.proofs.Members.{In-index}
-use Rattle.finite_sets.proofs.Searches.{All-from_In}
+use Rattle.finite_sets.proofs.Searches.{All-from_In, All-In}
 use Rattle.tech_model.specs.declared.raw.RawTech.{RawTech}
-use Rattle.tech_model.proofs.WellFormedLaws.{All_In}
 use Rattle.layout_model.specs.declared.region_tiles.RegionTile.{RegionTile}
 use Rattle.layout_model.specs.RegionTiles.{regions_of}
 use Rattle.layout_trees.specs.CellTrees.{CellTree}
@@ -66,7 +65,7 @@ pub members_are_numbered : (raw : RawTech) (tree : NamedTree) (cells : CellTree)
 members_are_numbered raw tree cells meeting members regions pieces few has are = record {
   starts =
       All-from_In (λ (piece : PlaneStack). piece.plane < length meeting.starts.items) meeting.stacks.items (λ piece among.
-      let below = All_In (λ (p : PlaneStack). p.plane < length raw.planes) meeting.stacks.items piece pieces.planes among in
+      let below = All-In (λ (p : PlaneStack). p.plane < length raw.planes) meeting.stacks.items piece pieces.planes among in
       let long = pieces.one_each in
       omega (arith, below, long));
   tiles =
@@ -74,7 +73,7 @@ members_are_numbered raw tree cells meeting members regions pieces few has are =
       piece.stack.members) meeting.stacks.items (λ piece among.
       All-from_In (λ tile. slice_index meeting.starts.items piece.plane + tile < length members.numbers.items) piece.stack.members (λ tile listed.
       let covers =
-      (All_In (HasCoveringTiles meeting.tiles.items meeting.starts.items) meeting.stacks.items piece pieces.covered among).each tile listed in
+      (All-In (HasCoveringTiles meeting.tiles.items meeting.starts.items) meeting.stacks.items piece pieces.covered among).each tile listed in
       let within = slice_get_within meeting.tiles.items (slice_index meeting.starts.items piece.plane + tile) covers.tile covers.there in
       let long = has.one_each in
       omega (arith, within, long)));

@@ -5,8 +5,8 @@ use Rattle.std.proofs.lemmas.Option.{slice_get_within, slice_get-get_or, get_or_
 use Rattle.finite_sets.specs.Lists.{In}
 use Rattle.geo_core.specs.Covering.{Covers}
 use Rattle.finite_sets.proofs.Members.{In-append_cases, In-append_left, In-append_right, In-get_or, In-index, In-map, In-map_source}
+use Rattle.finite_sets.proofs.Searches.{All-In}
 use Rattle.tech_model.specs.declared.raw.RawTech.{RawTech}
-use Rattle.tech_model.proofs.WellFormedLaws.{All_In}
 use Rattle.layout_trees.specs.CellTrees.{CellTree}
 use Rattle.offences.specs.declared.plane_stacks.PlaneStack.{PlaneStack}
 use Rattle.named_trees.specs.NamedTrees.{NamedTree}
@@ -108,7 +108,7 @@ module _ (raw : RawTech) (tree : NamedTree) (cells : CellTree) (tiles : List Par
 
   covering_at : (index : ℕ) (piece : PlaneStack) → slice_get stacks index ≡ Some piece → HasCoveringTiles tiles starts piece
   covering_at index piece there =
-      All_In (HasCoveringTiles tiles starts) stacks piece pieces.covered
+      All-In (HasCoveringTiles tiles starts) stacks piece pieces.covered
       (subst (λ (one : PlaneStack). In one stacks) (get_or_from_slice_get stacks index piece piece there)
       (In-get_or stacks index piece (slice_get_within stacks index piece there)))
 

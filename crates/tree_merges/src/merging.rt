@@ -17,19 +17,18 @@ ghost use Rattle.tree_merges.specs.Relations.{records_in};
 
 use crate::marking::{marks_of, marks_of_pieces};
 use crate::piece_tiles::regions_of_pieces;
-use cell_library::Reader;
+use cell_library::{Opened, Reader};
 use ext_model::{CellKey, ExtTable, MergeRec};
 use flood_nodes::Regions;
 use group_meetings::recorded_parts_have_members;
 use group_merges::merges_of_marks;
-use hier_merge::{HierFault, Meeting};
+use hier_merge::Meeting;
 use kept_records::kept_records_are_of_the_tree;
 use library_trees::{clean_cell_has_clean_tree, named_trees_have_the_layouts};
 use meeting_sums::meeting_sums;
 use piece_groups::marked_groups_are_recorded;
 use std::alloc::{AllocError, Global};
 use std::sync::ledger::Ledger;
-use step_count::Steps;
 use tech_model::Tech;
 use tile_members::{TileMembers, tile_members};
 
@@ -76,8 +75,8 @@ pub fn merges_of<L: Ledger>(
     records: &ExtTable,
     cell: CellKey,
     meeting: &Meeting,
-    steps: &mut Steps<L>,
-) -> Result<Vec<MergeRec>, HierFault>
+    steps: &mut Opened<L>,
+) -> Result<Vec<MergeRec>, AllocError>
     requires cell { cell.0 < length library.now.contents }
     requires clean { IsClean library.now.tech (tree_at (seen library.now) cell.0) }
     requires records { HaveKeptRecordsBelow (seen library.now) (records_in records.now) cell.0 }

@@ -4,7 +4,6 @@ ghost use Rattle.meeting_sums.specs.StackTiles.{tile_of, tiles_of};
 ghost use Rattle.tree_merges.specs.Pieces.{ArePieceRegions, ArePieces};
 
 use flood_nodes::{Regions, regions_of_tiles};
-use hier_merge::HierFault;
 use layout_model::RegionTile;
 use meeting_sums::stacks_are_layout_tiles;
 use offences::PlaneStack;
@@ -35,14 +34,12 @@ pub fn regions_of_pieces(
     alloc: Global,
     tech: &Tech,
     stacks: &[PlaneStack],
-) -> Result<Regions, HierFault>
+) -> Result<Regions, AllocError>
     requires { ArePieces tech.now stacks.now }
     ensures { IfOk result (ArePieceRegions tech.now stacks.now) }
 {
     stacks_are_layout_tiles(tech);
     let tiles = tiles_of(alloc, stacks)?;
-    let Ok(regions) = regions_of_tiles(alloc, tech, tiles.as_slice()) else {
-        return Err(HierFault::Memory);
-    };
+    let regions = regions_of_tiles(alloc, tech, tiles.as_slice())?;
     Ok(regions)
 }

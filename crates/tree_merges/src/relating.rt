@@ -14,13 +14,13 @@ ghost use Rattle.tree_merges.specs.Relations.{records_in};
 ghost use Rattle.hier_merge.specs.UncleanCells.{AreOffendingOf, IsCleanCell};
 
 use crate::merging::merges_of;
-use cell_library::Reader;
+use cell_library::{Opened, Reader};
 use ext_model::{CellKey, ExtTable, MergeRec};
-use geo_core::{List, Rect};
-use hier_merge::{HierFault, meeting_of};
-use std::alloc::Global;
+use geo_core::Rect;
+use hier_merge::meeting_of;
+use names_lists::List;
+use std::alloc::{AllocError, Global};
 use std::sync::ledger::Ledger;
-use step_count::Steps;
 
 /// The merges of a clean cell, or the strips of the squares that offend, by plane.
 #[derive(Debug, Drop)]
@@ -38,8 +38,8 @@ pub fn relate<L: Ledger>(
     library: &Reader<'_>,
     records: &ExtTable,
     cell: CellKey,
-    steps: &mut Steps<L>,
-) -> Result<Related, HierFault>
+    steps: &mut Opened<L>,
+) -> Result<Related, AllocError>
     requires cell { cell.0 < length library.now.contents }
     requires clean { IsCleanBelow library.now.tech (tree_at (seen library.now) cell.0) }
     requires records { HaveKeptRecordsBelow (seen library.now) (records_in records.now) cell.0 }

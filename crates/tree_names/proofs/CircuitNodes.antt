@@ -3,6 +3,7 @@ use Rattle.std.proofs.Common.{ℕ, List, [], inl, inr, subst}
 use Rattle.std.specs.Prelude.{◌↔◌}
 use Rattle.finite_sets.specs.Lists.{In}
 use Rattle.finite_sets.proofs.Chains.{Chain-append, Chain-either_back}
+use Rattle.finite_sets.specs.OneForOne.{AreOneForOne}
 use Rattle.tech_model.specs.declared.raw.RawTech.{RawTech}
 use Rattle.tech_model.specs.Rules.{KeepsRules}
 use Rattle.tech_model.specs.WellFormed.{IsWellFormed}
@@ -20,7 +21,7 @@ use Rattle.named_trees.specs.NamedTrees.{NamedTree, named_standings}
 use Rattle.tree_records.specs.TreeRecords.{HasTreeRecords}
 use Rattle.tree_names.specs.CircuitNodes.{IsNamedAsFlatNode, NameFlatNodes}
 use Rattle.tree_names.specs.CleanTrees.{IsCleanTree}
-use Rattle.tree_names.specs.TreeElements.{AreOneForOne, IsElementFor}
+use Rattle.tree_names.specs.TreeElements.{IsElementFor}
 use Rattle.tree_names.proofs.FlatNames.{flat_names_are, full_path, path_full}
 use Rattle.tree_names.proofs.RecordedNodes.{path_material, some_path}
 

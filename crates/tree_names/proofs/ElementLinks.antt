@@ -2,6 +2,8 @@
 use Rattle.std.proofs.Common.{◌≡◌, ◌⊎◌, ℕ, if◌then◌else◌, List, [], ◌∷◌, inl, inr, refl, sym, ◌∙◌, ap, subst}
 use Rattle.finite_sets.specs.Lists.{In}
 use Rattle.finite_sets.proofs.Members.{In-map, In-map_source}
+use Rattle.finite_sets.proofs.OneForOne.{AreOneForOne-source, AreOneForOne-image}
+use Rattle.finite_sets.specs.OneForOne.{AreOneForOne}
 use Rattle.tech_model.specs.declared.raw.RawTech.{RawTech}
 use Rattle.ext_model.specs.declared.records.CellExt.{CellExt}
 use Rattle.ext_model.specs.NodeNames.{is_global}
@@ -12,9 +14,8 @@ use Rattle.circuit_model.specs.Elements.{Element}
 use Rattle.circuit_model.specs.FullNames.{AreLinked, AreMerged, AreNamesOfOne, name_in}
 use Rattle.named_trees.specs.NamedTrees.{NamedTree, NamedStanding, named_standings}
 use Rattle.tree_names.specs.PathLinks.{AreMergedIn, AreNamesOfNode, ArePathsJoined}
-use Rattle.tree_names.specs.TreeElements.{AreOneForOne, IsElementFor}
+use Rattle.tree_names.specs.TreeElements.{IsElementFor}
 use Rattle.tree_names.proofs.Standings.{joined_among, joined_there}
-use Rattle.tree_names.proofs.OneForOne.{AreOneForOne-image, AreOneForOne-source}
 use Rattle.tree_names.proofs.TreeElements.{one_record}
 
 -- the last name of a path is that of what it leads to

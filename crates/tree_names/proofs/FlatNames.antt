@@ -3,10 +3,12 @@ use Rattle.std.proofs.Common.{◌≡◌, ℕ, List, [], ◌∷◌, map, inl, inr
 use Rattle.std.specs.Prelude.{◌↔◌, Some}
 use Rattle.finite_sets.specs.Lists.{In}
 use Rattle.finite_sets.proofs.Members.{In-map, In-map_source}
+use Rattle.finite_sets.proofs.Images.{In-flat_map, In-flat_map_source}
+use Rattle.finite_sets.proofs.OneForOne.{AreOneForOne-image}
+use Rattle.finite_sets.specs.OneForOne.{AreOneForOne}
 use Rattle.tech_model.specs.declared.raw.RawTech.{RawTech}
 use Rattle.tech_model.specs.Rules.{KeepsRules}
 use Rattle.tech_model.specs.WellFormed.{IsWellFormed}
-use Rattle.tech_model.proofs.RuleLaws.{In-flat_map, In-flat_map_source}
 use Rattle.ext_model.specs.declared.records.CellExt.{CellExt}
 use Rattle.ext_model.specs.Paths.{full_name, path_text}
 use Rattle.ext_model.specs.RecordNames.{names_of, node_names}
@@ -20,12 +22,11 @@ use Rattle.named_trees.specs.NamedTrees.NamedTree.{named_tree}
 use Rattle.named_trees.specs.NamedTrees.NamedElements.{no_more, element_then}
 use Rattle.tree_records.specs.TreeRecords.{HasTreeRecords, HaveTreeRecords}
 use Rattle.tree_names.specs.CleanTrees.{IsCleanTree}
-use Rattle.tree_names.specs.TreeElements.{AreOneForOne, IsElementFor}
+use Rattle.tree_names.specs.TreeElements.{IsElementFor}
 use Rattle.tree_names.proofs.ElementLinks.{full_name-cell, link_joined}
 use Rattle.tree_names.proofs.JoinedPaths.{joined_share}
 use Rattle.tree_names.proofs.NodeNames.{flat_node_names, names_one_flat_node}
 use Rattle.tree_names.proofs.Standings.{listed_first, listed_later}
-use Rattle.tree_names.proofs.OneForOne.{AreOneForOne-image}
 use Rattle.tree_names.proofs.RecordedNodes.{record_at}
 use Rattle.tree_names.proofs.TreeElements.{one_record}
 

@@ -3,10 +3,10 @@ use Rattle.std.proofs.Common.{ℕ, List, inl, inr, sym, subst}
 use Rattle.finite_sets.specs.Chain.Chain.{stay}
 use Rattle.finite_sets.specs.Lists.{In}
 use Rattle.finite_sets.proofs.Chains.{Chain-append}
+use Rattle.finite_sets.proofs.Images.{In-flat_map_source}
 use Rattle.tech_model.specs.declared.raw.RawTech.{RawTech}
 use Rattle.tech_model.specs.Rules.{KeepsRules}
 use Rattle.tech_model.specs.WellFormed.{IsWellFormed}
-use Rattle.tech_model.proofs.RuleLaws.{In-flat_map_source}
 use Rattle.ext_model.specs.declared.records.CellExt.{CellExt}
 use Rattle.ext_model.specs.RecordNames.{names_of}
 use Rattle.layout_model.specs.Places.{Place}

@@ -1,6 +1,5 @@
 pub mod LiftedLinks
 pub mod GroupNodes
-pub mod OneForOne
 pub mod TreeElements
 pub mod Paths
 pub mod OwnNames

@@ -3,6 +3,7 @@ use Rattle.std.proofs.Common.{◌≡◌, ℕ, true, false, Bool, if◌then◌els
 use Rattle.std.proofs.lemmas.Bool.{cases_Bool, false≢true}
 use Rattle.finite_sets.specs.Chain.{EitherWay}
 use Rattle.finite_sets.proofs.Chains.{Chain-append, Chain-carries, Chain-either_back, Chain-map, Chain-one}
+use Rattle.finite_sets.specs.OneForOne.{AreOneForOne}
 use Rattle.tech_model.specs.declared.raw.RawTech.{RawTech}
 use Rattle.tech_model.specs.Rules.{KeepsRules}
 use Rattle.tech_model.specs.WellFormed.{IsWellFormed}
@@ -19,7 +20,7 @@ use Rattle.named_trees.specs.NamedTrees.{NamedTree, named_standings}
 use Rattle.tree_records.specs.TreeRecords.{HasTreeRecords}
 use Rattle.tree_names.specs.CleanTrees.{IsCleanTree}
 use Rattle.tree_names.specs.PathLinks.{ArePathsJoined}
-use Rattle.tree_names.specs.TreeElements.{AreOneForOne, IsElementFor}
+use Rattle.tree_names.specs.TreeElements.{IsElementFor}
 use Rattle.tree_names.proofs.ElementLinks.{joined_link, link_joined}
 use Rattle.tree_names.proofs.GlobalPaths.{global_is_given, global_whole, text_has_path}
 use Rattle.tree_names.proofs.GroupMerges.{has_group}

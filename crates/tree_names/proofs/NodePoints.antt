@@ -5,14 +5,19 @@ use Rattle.std.specs.List.{position_or_len}
 use Rattle.std.proofs.lemmas.List.Folds.{find_at}
 use Rattle.std.proofs.lemmas.List.Sums.{fails_before_first}
 use Rattle.std.proofs.lemmas.Option.{get_or_from_slice_get}
+use Rattle.std.proofs.lemmas.Slice.Eq.{bytes_eq-Decides}
+use Rattle.std.specs.Str.{bytes_eq}
 use Rattle.finite_sets.specs.Lists.{In}
 use Rattle.finite_sets.proofs.Chains.{Chain-one}
 use Rattle.finite_sets.proofs.Members.{In-append_cases, In-map, In-map_source}
-use Rattle.finite_sets.proofs.Searches.{find-In, find-passes}
+use Rattle.finite_sets.proofs.Searches.{find-In, find-passes, In-from_list_any, absent-from_list_any}
+use Rattle.finite_sets.proofs.Images.{In-flat_map}
+use Rattle.finite_sets.proofs.Places.{In-slice_get}
+use Rattle.finite_sets.proofs.OneForOne.{AreOneForOne-there, AreOneForOne-back}
+use Rattle.finite_sets.specs.OneForOne.{AreOneForOne}
 use Rattle.geo_core.specs.declared.squares.Square.{Square}
 use Rattle.tech_model.specs.declared.raw.RawTech.{RawTech}
 use Rattle.tech_model.specs.WellFormed.{IsWellFormed}
-use Rattle.tech_model.proofs.RuleLaws.{In-flat_map}
 use Rattle.ext_model.specs.declared.records.CellExt.{CellExt}
 use Rattle.ext_model.specs.declared.records.NodeRec.{NodeRec}
 use Rattle.ext_model.specs.Paths.{full_name}
@@ -25,8 +30,6 @@ use Rattle.circuit_model.specs.Elements.{Element, ids_of, placed}
 use Rattle.circuit_model.specs.FlatNodes.{IsFlatNode, gives_name, is_among}
 use Rattle.circuit_model.specs.FullNames.{AreOneNode, full_names, name_in}
 use Rattle.full_names.proofs.ListOrders.{pairwise_names}
-use Rattle.full_names.proofs.Lookups.{slice_get-In}
-use Rattle.full_names.proofs.NameBytes.{among_In, not_among}
 use Rattle.own_records.specs.FetRecords.{IsNoLaterName}
 use Rattle.own_record_laws.proofs.NameForms.{name_form}
 use Rattle.own_record_laws.proofs.PreferredNames.{later_both_ways, preferred_is_first, recorded}
@@ -35,9 +38,8 @@ use Rattle.named_trees.specs.NamedTrees.{named_above}
 use Rattle.named_trees.specs.NamedTrees.NamedTree.{named_tree}
 use Rattle.named_trees.specs.NamedTrees.NamedElements.{no_more, element_then}
 use Rattle.tree_records.specs.TreeCircuits.{HasNodeNamed, IsPointOf}
-use Rattle.tree_names.specs.TreeElements.{AreOneForOne, IsElementFor}
+use Rattle.tree_names.specs.TreeElements.{IsElementFor}
 use Rattle.tree_names.proofs.FullOrders.{full_no_later}
-use Rattle.tree_names.proofs.OneForOne.{AreOneForOne-back, AreOneForOne-there}
 use Rattle.tree_names.proofs.RecordedNodes.{record_at}
 
 mutual
@@ -119,13 +121,13 @@ module _ (raw : RawTech) (formed : IsWellFormed raw) (exts : List CellExt) (tree
       let within = find-In (gives_name element node.name) element.ext.nodes place.part place.carrier in
       let gives = find-passes (gives_name element node.name) element.ext.nodes place.part place.carrier in
       let source = In-map_source (name_in element) node.name (names_of place.part)
-      (among_In (map (name_in element) (names_of place.part)) node.name gives) in
+      (In-from_list_any bytes_eq bytes_eq-Decides node.name (map (name_in element) (names_of place.part)) gives) in
       let own = standing.own in
       let recorded_at = recorded raw own.layout own.labels element.ext.nodes (nodes_of raw exts standing element from.2) place.part within in
       let is = recorded_at.is in
       let least = recorded_at.least in
-      let full = preferred_part classes node flat standing element (slice_get-In (named_standings tree) position standing from.1)
-      (slice_get-In elements position element at) from.2 place.part least within is source.0 source.1.0 source.1.1 in
+      let full = preferred_part classes node flat standing element (In-slice_get (named_standings tree) position standing from.1)
+      (In-slice_get elements position element at) from.2 place.part least within is source.0 source.1.0 source.1.1 in
       let corner : Path Square (record { x = place.part.x; y = place.part.y }) least.square = λ i. record { x = is.x i; y = is.y i } in
       record {
         position = position;
@@ -143,7 +145,7 @@ module _ (raw : RawTech) (formed : IsWellFormed raw) (exts : List CellExt) (tree
             let to = AreOneForOne-there (IsElementFor raw exts) (named_standings tree) elements are earlier other there in
             let fails = fails_before_first test elements earlier to.0 before in
             let here = get_or_from_slice_get elements earlier to.0 to.0 to.1 in
-            not_among (full_names to.0) node.name (ap test (sym here) ∙ fails) (has_full_name other to.0 to.2 node.name least' has);
+            absent-from_list_any bytes_eq bytes_eq-Decides node.name (full_names to.0) (ap test (sym here) ∙ fails) (has_full_name other to.0 to.2 node.name least' has);
         point = place.point ∙ ap (placed element.uses) corner ∙ from.2.moves least.square;
         kind = place.kind ∙ is.kind;
       }

@@ -2,6 +2,8 @@
 use Rattle.std.proofs.Common.{◌≡◌, ◌≤◌, ℕ, zero, suc, Some, List, [], ◌∷◌, ◌++◌, map, Option, refl, sym, ◌∙◌, ap, subst, arith, append_assoc}
 use Rattle.std.specs.List.{flat_map}
 use Rattle.std.proofs.lemmas.List.{append-nil}
+use Rattle.finite_sets.proofs.OneForOne.{AreOneForOne-append, AreOneForOne-map, AreOneForOne-weaker}
+use Rattle.finite_sets.specs.OneForOne.{AreOneForOne}
 use Rattle.geo_core.specs.declared.squares.Square.{Square}
 use Rattle.geo_core.specs.declared.transforms.Transform.{Transform}
 use Rattle.geo_core.specs.Images.{image, six_of}
@@ -17,8 +19,7 @@ use Rattle.named_trees.specs.NamedTrees.NamedTree.{named_tree}
 use Rattle.named_trees.specs.NamedTrees.NamedElements.{no_more, element_then}
 use Rattle.tree_records.specs.TreeRecords.{HasTreeRecord, HasTreeRecords, HaveTreeRecords, IsTreeRecord, use_records}
 use Rattle.tree_names.specs.CleanTrees.{depth_of, depth_below}
-use Rattle.tree_names.specs.TreeElements.{AreOneForOne, IsElementFor}
-use Rattle.tree_names.proofs.OneForOne.{AreOneForOne-append, AreOneForOne-map, AreOneForOne-weaker}
+use Rattle.tree_names.specs.TreeElements.{IsElementFor}
 
 -- the record of the cell at the top
 pub top_record : (raw : RawTech) (exts : List CellExt) (tree : NamedTree) → HasTreeRecords raw exts tree → HasTreeRecord raw exts tree

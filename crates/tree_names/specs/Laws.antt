@@ -2,6 +2,7 @@
 use Rattle.std.specs.Prelude.{◌≡◌, ◌≤◌, ◌↔◌, ℕ, Some, List, []}
 use Rattle.finite_sets.specs.Chain.{Chain}
 use Rattle.finite_sets.specs.Lists.{In}
+use Rattle.finite_sets.specs.OneForOne.{AreOneForOne}
 use Rattle.tech_model.specs.declared.raw.RawTech.{RawTech}
 use Rattle.tech_model.specs.Rules.{KeepsRules}
 use Rattle.tech_model.specs.WellFormed.{IsWellFormed}
@@ -27,7 +28,7 @@ use Rattle.tree_names.specs.CircuitNodes.{NameFlatNodes}
 use Rattle.tree_names.specs.CleanTrees.{IsCleanTree, depth_of}
 use Rattle.tree_names.specs.PartLinks.{PartsKeepLinks}
 use Rattle.tree_names.specs.PathLinks.{ArePathsJoined, GroupHasPath, ShareFlatNode}
-use Rattle.tree_names.specs.TreeElements.{AreOneForOne, IsElementFor}
+use Rattle.tree_names.specs.TreeElements.{IsElementFor}
 
 -- the links of the parts of a clean cell are links of its flat layout
 abbrev pub PartsKeepTheirLinks : Type 0

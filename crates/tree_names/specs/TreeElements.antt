@@ -1,5 +1,5 @@
 -- The elements of a tree of records, told by the cells of a tree as they stand.
-use Rattle.std.specs.Prelude.{◌≡◌, Some, List, [], ◌∷◌}
+use Rattle.std.specs.Prelude.{◌≡◌, Some, List}
 use Rattle.geo_core.specs.declared.squares.Square.{Square}
 use Rattle.geo_core.specs.Images.{image}
 use Rattle.tech_model.specs.declared.raw.RawTech.{RawTech}
@@ -17,10 +17,3 @@ pub record IsElementFor (raw : RawTech) (exts : List CellExt) (standing : NamedS
   pub tree : NamedTree
   pub own : own_body tree ≡ standing.own
   pub is : IsTreeRecord raw tree element.ext
-
--- The relation holds of the first of both lists, of the second of both, and so on, and neither has more.
-abbrev pub AreOneForOne : {X Y : Type 0} → (X → Y → Type 0) → List X → List Y → Type 0
-AreOneForOne R [] [] = Unit {0}
-AreOneForOne R [] (y ∷ ys) = ⊥
-AreOneForOne R (x ∷ xs) [] = ⊥
-AreOneForOne R (x ∷ xs) (y ∷ ys) = R x y × AreOneForOne R xs ys

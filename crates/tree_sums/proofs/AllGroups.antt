@@ -12,8 +12,8 @@ use Rattle.finite_sets.proofs.Distincts.{Distinct-append}
 use Rattle.finite_sets.proofs.Members.{In-append_cases, In-append_left, In-append_right, In-map_source}
 use Rattle.finite_sets.proofs.Pairs.{Pairwise, Pairwise-from_AllPairs}
 use Rattle.finite_sets.proofs.Sums.{sum_on-append, sum_on-nothing}
+use Rattle.finite_sets.proofs.Images.{In-flat_map, In-flat_map_source}
 use Rattle.tech_model.specs.declared.raw.RawTech.{RawTech}
-use Rattle.tech_model.proofs.RuleLaws.{In-flat_map, In-flat_map_source}
 use Rattle.ext_model.specs.declared.records.MergeRec.{MergeRec}
 use Rattle.layout_model.specs.Layouts.{IsMaterial}
 use Rattle.layout_model.specs.Places.{Place}

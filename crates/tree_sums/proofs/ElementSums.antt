@@ -2,6 +2,7 @@
 use Rattle.std.proofs.Common.{◌≡◌, ◌≤◌, ℕ, ℤ, pos, ◌+ℤ◌, Bool, cond, List, [], ◌∷◌, map, Some, refl, sym, ◌∙◌, ap}
 use Rattle.finite_sets.specs.Total.{sum_on}
 use Rattle.finite_sets.proofs.Sums.{sum_on-append, sum_on-map, sum_on-same}
+use Rattle.finite_sets.specs.OneForOne.{AreOneForOne}
 use Rattle.tech_model.specs.declared.raw.RawTech.{RawTech}
 use Rattle.ext_model.specs.Paths.{full_name, path_text}
 use Rattle.ext_model.specs.declared.records.CellExt.{CellExt}
@@ -15,7 +16,7 @@ use Rattle.named_trees.specs.NamedTrees.NamedTree.{named_tree}
 use Rattle.named_trees.specs.NamedTrees.NamedElements.{no_more, element_then}
 use Rattle.tree_records.specs.TreeRecords.{HasTreeRecords}
 use Rattle.tree_names.specs.CleanTrees.{depth_of}
-use Rattle.tree_names.specs.TreeElements.{AreOneForOne, IsElementFor}
+use Rattle.tree_names.specs.TreeElements.{IsElementFor}
 use Rattle.tree_names.proofs.ElementLinks.{full_name-path}
 use Rattle.tree_names.proofs.TreeElements.{elements_for}
 use Rattle.tree_sums.specs.Laws.{is_named}

@@ -2,12 +2,16 @@
 use Rattle.std.proofs.Common.{◌≡◌, ◌⊎◌, ℕ, ℤ, pos, ◌+ℤ◌, Bool, true, cond, List, [], ◌∷◌, inl, inr, refl, sym, ◌∙◌, ap, subst, arith}
 use Rattle.std.proofs.lemmas.Bool.{cases_Bool, false≢true}
 use Rattle.std.proofs.lemmas.Int.{ints}
+use Rattle.std.proofs.lemmas.Slice.Eq.{bytes_eq-Decides}
+use Rattle.std.specs.Str.{bytes_eq}
 use Rattle.finite_sets.specs.Chain.Chain.{stay, go}
 use Rattle.finite_sets.specs.Lists.{In, Distinct}
 use Rattle.finite_sets.specs.Total.{Total}
 use Rattle.finite_sets.proofs.Chains.{Chain-append, Chain-either_back}
 use Rattle.finite_sets.proofs.Members.{In-map, In-map_source}
 use Rattle.finite_sets.proofs.Totals.{Total-at, Total-iff, Total-none, Total-union}
+use Rattle.finite_sets.proofs.Searches.{In-from_list_any, list_any-of_In}
+use Rattle.finite_sets.specs.OneForOne.{AreOneForOne}
 use Rattle.tech_model.specs.declared.raw.RawTech.{RawTech}
 use Rattle.tech_model.specs.Rules.{KeepsRules}
 use Rattle.tech_model.specs.WellFormed.{IsWellFormed}
@@ -19,14 +23,13 @@ use Rattle.layout_model.specs.Places.{Place}
 use Rattle.circuit_model.specs.Elements.{Element}
 use Rattle.circuit_model.specs.FullNames.{AreLinked}
 use Rattle.circuit_model.specs.FlatNodes.{IsFlatNode}
-use Rattle.full_names.proofs.NameBytes.{among_In}
 use Rattle.named_trees.specs.FlatLayouts.{flat_layout, AreOneFlatNode, HasNodePath}
 use Rattle.named_trees.specs.MemberGroups.{IsGroupName}
 use Rattle.named_trees.specs.NamedTrees.{NamedTree, named_standings}
 use Rattle.tree_records.specs.PlaceWeights.{PlaceWeight, IsGroupTotal}
 use Rattle.tree_records.specs.TreeRecords.{HasTreeRecords}
 use Rattle.tree_names.specs.CleanTrees.{IsCleanTree}
-use Rattle.tree_names.specs.TreeElements.{AreOneForOne, IsElementFor}
+use Rattle.tree_names.specs.TreeElements.{IsElementFor}
 use Rattle.tree_names.proofs.FlatNames.{path_full}
 use Rattle.tree_names.proofs.GroupMerges.{has_group}
 use Rattle.tree_names.proofs.GroupNames.{one_group_name}
@@ -37,7 +40,6 @@ use Rattle.tree_names.proofs.Representatives.{group_has_path}
 use Rattle.tree_names.proofs.TreeElements.{top_record}
 use Rattle.tree_sums.specs.Laws.{is_named}
 use Rattle.tree_sums.specs.TreeSums.{AreGroupTotals, sum_passing}
-use Rattle.tree_sums.proofs.GroupTests.{found_among}
 use Rattle.tree_sums.proofs.NamedSums.{names_in}
 
 -- One of the groups of the list has the place, and its name passes.
@@ -125,7 +127,7 @@ module _ (raw : RawTech) (well : IsWellFormed raw) (rules : KeepsRules raw) (ext
       passing_is_flat other of =
           let found = group_has_path raw tree other of.group.0 of.named in
           let joined = one_flat_node raw well rules tree is.typed is.clean other found.other found.together in
-          Chain-append (of_names found.other of.group.0 found.has (among_In (names_of node) (full_name [] of.group.0) of.passing))
+          Chain-append (of_names found.other of.group.0 found.has (In-from_list_any bytes_eq bytes_eq-Decides (full_name [] of.group.0) (names_of node) of.passing))
           (flat_node_back raw tree joined)
 
       -- and the group of a place of the flat node passes
@@ -141,7 +143,7 @@ module _ (raw : RawTech) (well : IsWellFormed raw) (rules : KeepsRules raw) (ext
           record {
             group = listed.0;
             listed = listed.1.0;
-            passing = ap (is_named node) listed.1.1 ∙ found_among (names_of node) (full_name [] group.0) among;
+            passing = ap (is_named node) listed.1.1 ∙ list_any-of_In bytes_eq bytes_eq-Decides (full_name [] group.0) (names_of node) among;
             named = subst (IsGroupName raw tree other) (sym listed.1.1) group.1;
           }
 

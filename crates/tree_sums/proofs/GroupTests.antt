@@ -1,8 +1,12 @@
 -- Tests that say the same of joined paths say the same of members and groups, and the names of a flat node are such a test.
-use Rattle.std.proofs.Common.{◌≡◌, ℕ, Bool, true, List, [], ◌∷◌, inl, inr, refl, sym, ◌∙◌}
+use Rattle.std.proofs.Common.{◌≡◌, ℕ, Bool, List, [], ◌∷◌, inl, inr, refl, sym, ◌∙◌}
 use Rattle.std.proofs.lemmas.Bool.{cases_Bool}
+use Rattle.std.proofs.lemmas.Slice.Eq.{bytes_eq-Decides}
+use Rattle.std.specs.Str.{bytes_eq}
 use Rattle.finite_sets.specs.Lists.{In}
 use Rattle.finite_sets.proofs.Chains.{Chain-keeps, Chain-push}
+use Rattle.finite_sets.proofs.Searches.{In-from_list_any, absent-from_list_any, list_any-of_In}
+use Rattle.finite_sets.specs.OneForOne.{AreOneForOne}
 use Rattle.tech_model.specs.declared.raw.RawTech.{RawTech}
 use Rattle.tech_model.specs.Rules.{KeepsRules}
 use Rattle.tech_model.specs.WellFormed.{IsWellFormed}
@@ -12,14 +16,13 @@ use Rattle.ext_model.specs.declared.records.CellExt.{CellExt}
 use Rattle.ext_model.specs.declared.records.NodeRec.{NodeRec}
 use Rattle.circuit_model.specs.Elements.{Element}
 use Rattle.circuit_model.specs.FlatNodes.{is_among, IsFlatNode}
-use Rattle.full_names.proofs.NameBytes.{among_In, not_among}
 use Rattle.named_trees.specs.NamedTrees.{NamedTree, NamedElements, named_standings}
 use Rattle.named_trees.specs.NamedTrees.NamedTree.{named_tree}
 use Rattle.named_trees.specs.NamedTrees.NamedElements.{no_more, element_then}
 use Rattle.tree_records.specs.TreeRecords.{HasTreeRecords, HaveTreeRecords}
 use Rattle.tree_names.specs.CleanTrees.{IsCleanTree}
 use Rattle.tree_names.specs.PathLinks.{ArePathsJoined, ArePathsJoinedBelow}
-use Rattle.tree_names.specs.TreeElements.{AreOneForOne, IsElementFor}
+use Rattle.tree_names.specs.TreeElements.{IsElementFor}
 use Rattle.tree_names.proofs.CleanTrees.{AreCleanTrees, clean_below, clean_first, clean_rest}
 use Rattle.tree_names.proofs.ElementLinks.{joined_link}
 use Rattle.tree_names.proofs.FlatNames.{path_full}
@@ -30,17 +33,13 @@ use Rattle.tree_names.proofs.ToGroups.{to_group}
 use Rattle.tree_sums.specs.Laws.{is_named}
 use Rattle.tree_sums.specs.TreeSums.{IsOfGroups, AreOfGroups}
 
--- a name that stands among names is found there
-pub found_among : (names : List (List ℕ)) (name : List ℕ) → In name names → is_among names name ≡ true
-found_among names name here = elim (cases_Bool (is_among names name)) [ inl passed ↦ passed | inr failed ↦ absurd (not_among names name failed here) ]
-
 -- names that stand there together have one answer
 same_answer : (names : List (List ℕ)) (one other : List ℕ) → (In one names → In other names) → (In other names → In one names)
     → is_among names one ≡ is_among names other
 same_answer names one other there back = elim (cases_Bool (is_among names one)) [
-  | inl passed ↦ passed ∙ sym (found_among names other (there (among_In names one passed)))
+  | inl passed ↦ passed ∙ sym (list_any-of_In bytes_eq bytes_eq-Decides other names (there (In-from_list_any bytes_eq bytes_eq-Decides one names passed)))
   | inr failed ↦ elim (cases_Bool (is_among names other)) [
-    | inl other_passed ↦ absurd (not_among names one failed (back (among_In names other other_passed)))
+    | inl other_passed ↦ absurd (absent-from_list_any bytes_eq bytes_eq-Decides one names failed (back (In-from_list_any bytes_eq bytes_eq-Decides other names other_passed)))
     | inr also ↦ failed ∙ sym also
   ]
 ]

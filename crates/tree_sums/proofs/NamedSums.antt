@@ -1,16 +1,12 @@
 -- Sums of numbers that stand beside names, and numbers that count where a test holds.
-use Rattle.std.proofs.Common.{◌≡◌, ℕ, ℤ, pos, ◌+ℤ◌, ◌-ℤ◌, Bool, true, false, cond, List, [], ◌∷◌, map, refl, sym, subst, arith}
+use Rattle.std.proofs.Common.{◌≡◌, ℕ, ℤ, pos, ◌+ℤ◌, ◌-ℤ◌, Bool, true, false, cond, List, map, refl, sym, subst, arith}
 use Rattle.std.proofs.lemmas.Int.{ints}
 use Rattle.finite_sets.specs.Lists.{In, Distinct}
 use Rattle.finite_sets.specs.Total.{sum_on}
 use Rattle.finite_sets.proofs.Members.{In-map, In-map_source}
 use Rattle.finite_sets.proofs.Sums.{sum_on-same_things, sum_on-zero}
+use Rattle.finite_sets.proofs.Images.{Distinct-unmap}
 use Rattle.tree_sums.specs.TreeSums.{sum_passing}
-
--- a list whose images differ has nothing twice
-pub Distinct-from_map : {X Y : Type 0} (f : X → Y) (xs : List X) → Distinct (map f xs) → Distinct xs
-Distinct-from_map f [] differ = tt
-Distinct-from_map f (x ∷ xs) differ = ((λ here. differ.0 (In-map f x xs here)), Distinct-from_map f xs differ.1)
 
 -- a number where a test holds is that of the sum
 pub passing_sum : {X : Type 0} (passes : Bool) (w : X → ℤ) (xs : List X) → sum_on (λ x. cond passes (w x) (pos 0)) xs ≡ cond passes (sum_on w xs) (pos 0)
@@ -36,7 +32,7 @@ sum_passing-same passes xs ys xs_differ ys_differ there back agree =
     let Pair : Type 0 = List ℕ × ℤ in
     let first : Pair → List ℕ = λ one. one.0 in
     sum_on-same_things (λ (one : Pair). cond (passes one.0) one.1 (pos 0)) xs ys
-    (Distinct-from_map first xs xs_differ) (Distinct-from_map first ys ys_differ)
+    (Distinct-unmap first xs xs_differ) (Distinct-unmap first ys ys_differ)
     (λ one here.
     let found = In-map_source first one.0 ys (there one.0 (In-map first one xs here)) in
     let P : Pair → Type 0 = λ pair. In pair ys in

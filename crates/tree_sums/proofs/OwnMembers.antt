@@ -8,9 +8,9 @@ use Rattle.finite_sets.proofs.Distincts.{Distinct-append_apart, Distinct-append_
 use Rattle.finite_sets.proofs.Leasts.{IsLeast-iff}
 use Rattle.finite_sets.proofs.Members.{In-map, In-map_source}
 use Rattle.finite_sets.proofs.Totals.{Total-iff}
+use Rattle.finite_sets.proofs.Images.{In-flat_map}
 use Rattle.tech_model.specs.declared.raw.RawTech.{RawTech}
 use Rattle.tech_model.specs.WellFormed.{IsWellFormed}
-use Rattle.tech_model.proofs.RuleLaws.{In-flat_map}
 use Rattle.ext_model.specs.RecordNames.{names_of}
 use Rattle.ext_model.specs.declared.records.NodeRec.{NodeRec}
 use Rattle.layout_model.specs.LayerTypes.{HasTypesOf}

@@ -3,12 +3,11 @@ use Rattle.std.proofs.Common.{◌≡◌, ℕ, zero, suc, ℤ, pos, ◌+ℤ◌, �
 use Rattle.std.specs.Prelude.{Some, slice_get, ◌&&◌}
 use Rattle.std.specs.List.{list_all}
 use Rattle.std.specs.Ordering.{int_eq}
-use Rattle.std.proofs.Math.IntN.{*ℤ_comm}
 use Rattle.std.proofs.lemmas.Bool.{and_parts}
 use Rattle.std.proofs.lemmas.Bool.Decides.{Decides-int_eq}
 use Rattle.finite_sets.specs.Lists.{Lists}
 use Rattle.finite_sets.specs.Total.{sum_on, Total}
-use Rattle.finite_sets.proofs.Sums.{sum_on-add, sum_on-scale, sum_on-zero, sum_on-same}
+use Rattle.finite_sets.proofs.Sums.{sum_on-add, sum_on-zero, sum_on-scale_right}
 use Rattle.finite_sets.proofs.Totals.{Total-unique, Total-of_list}
 use Rattle.tech_model.specs.declared.raw.Label.{Label}
 use Rattle.tech_model.specs.declared.raw.RawTech.{RawTech}
@@ -91,12 +90,6 @@ none_at (measure ∷ measures) (suc position) all = none_at measures position (a
 
 -- ---- capacitances
 
--- a sum of a product with a factor of the class
-scaled : {X : Type 0} (w : X → ℤ) (factor : ℤ) (xs : List X) → sum_on (λ x. w x *ℤ factor) xs ≡ sum_on w xs *ℤ factor
-scaled w factor xs =
-    sum_on-same (λ x. w x *ℤ factor) (λ x. factor *ℤ w x) xs (λ x here. *ℤ_comm (w x) factor)
-    ∙ sum_on-scale factor w xs ∙ *ℤ_comm factor (sum_on w xs)
-
 -- the capacitance on places is that of their measures
 pub capacitance_on : (classes : List Class) (layout : Layout) (Within : Place → Type 0) (measures : List (ℤ × ℤ)) (places : List Place)
     → Lists Within places → AreMeasures classes layout Within measures → sum_on (capacitance_weight classes layout) places ≡ capacitance classes measures
@@ -112,9 +105,9 @@ capacitance_on (class ∷ classes) layout Within (measure ∷ measures) places l
     sum_on-add (λ place. by_area place +ℤ by_perimeter place) rest places
     ∙ ap (λ z. z +ℤ sum_on rest places) (sum_on-add by_area by_perimeter places)
     ∙ ap (λ z. (z +ℤ sum_on by_perimeter places) +ℤ sum_on rest places)
-    (scaled area class.per_area places ∙ ap (λ z. z *ℤ class.per_area) (Total-of_list Within area measure.0 places are.0 lists))
+    (sum_on-scale_right area class.per_area places ∙ ap (λ z. z *ℤ class.per_area) (Total-of_list Within area measure.0 places are.0 lists))
     ∙ ap (λ z. ((measure.0 *ℤ class.per_area) +ℤ z) +ℤ sum_on rest places)
-    (scaled perimeter class.per_perimeter places ∙ ap (λ z. z *ℤ class.per_perimeter) (Total-of_list Within perimeter measure.1 places are.1 lists))
+    (sum_on-scale_right perimeter class.per_perimeter places ∙ ap (λ z. z *ℤ class.per_perimeter) (Total-of_list Within perimeter measure.1 places are.1 lists))
     ∙ ap (λ z. ((measure.0 *ℤ class.per_area) +ℤ (measure.1 *ℤ class.per_perimeter)) +ℤ z) (capacitance_on classes layout Within measures places lists are.2)
 
 -- ---- the quantities

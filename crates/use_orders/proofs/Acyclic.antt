@@ -8,12 +8,12 @@ use Rattle.finite_sets.specs.Lists.{In}
 use Rattle.finite_sets.proofs.Chains.{Chain-carries, Chain-weaker}
 use Rattle.finite_sets.proofs.Distincts.{Distinct-places}
 use Rattle.finite_sets.proofs.Members.{In-index}
+use Rattle.finite_sets.proofs.Places.{In-take}
 use Rattle.use_orders.specs.NewCells.{IsOwnDescendant, IsChildrenFirst}
 use Rattle.use_orders.specs.Uses.{UsesCell, UsesNewCell, IsDescendant, IsAcyclicBelow, AreBehindChildren}
 use Rattle.use_orders.specs.LibraryOrder.{Visits, IsLibraryOrder}
 use Rattle.use_orders.specs.Walks.{HasCycle, listed_by}
 use Rattle.use_orders.proofs.Rings.{own_is_new}
-use Rattle.use_orders.proofs.Visiting.{In-take}
 
 -- a walk below such a root meets no open cell
 pub not_cyclic : (children : List (List ℕ)) (root : ℕ) (is_cyclic : Bool) → IsAcyclicBelow children root
@@ -56,7 +56,7 @@ front_closed Step order behind n a b few h s =
     let lt : at.0 < n = omega (arith, at.1.0, length-take n order) in
     let is : slice_index order at.0 ≡ a = sym (get_or-take n order at.0 0 lt) ∙ at.1.1 0 in
     let P : ℕ → Type 0 = λ z. Step z b in
-    In-take b at.0 (take n order) (rw (take-take at.0 n order (omega (arith, lt)))
+    In-take at.0 (take n order) b (rw (take-take at.0 n order (omega (arith, lt)))
     (behind at.0 b (omega (arith, lt)) (subst P (sym is) s)))
 
 -- where the new cells have an order, none is its own descendant

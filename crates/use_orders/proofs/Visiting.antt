@@ -1,27 +1,24 @@
 -- What visits list.
-use Rattle.std.proofs.Common.{◌≡◌, ℕ, ◌<◌, List, [], ◌∷◌, ◌++◌, ◌⊎◌, inl, inr, refl, sym, subst, arith, length, take, drop, slice_index}
+use Rattle.std.proofs.Common.{◌≡◌, ℕ, ◌<◌, List, [], ◌∷◌, ◌++◌, ◌⊎◌, inl, inr, refl, sym, subst, arith, length, take, slice_index}
 use Rattle.std.proofs.lemmas.Bool.{cases_lt}
-use Rattle.std.proofs.lemmas.List.{length-append, take-append-drop, get_or_append_left, get_or_push, take-append-le, take_at}
+use Rattle.std.proofs.lemmas.List.{length-append, get_or_append_left, get_or_push, take-append-le, take_at}
 use Rattle.finite_sets.specs.Chain.{Chain}
 use Rattle.finite_sets.specs.Chain.Chain.{stay, go}
 use Rattle.finite_sets.specs.Lists.{In, Distinct, Lists}
 use Rattle.finite_sets.proofs.Chains.{Chain-carries}
 use Rattle.finite_sets.proofs.Distincts.{Distinct-push}
 use Rattle.finite_sets.proofs.Members.{In-append_left, In-index, In-push, In-push_cases}
+use Rattle.finite_sets.proofs.Places.{In-take}
 use Rattle.use_orders.specs.Uses.{used_by, UsesCell, IsAtOrBelow, AreBehindChildren}
 use Rattle.use_orders.specs.LibraryOrder.{Visits, IsLibraryOrder}
 use Rattle.use_orders.specs.LibraryOrder.Visits.{none, again, anew}
-
--- what stands in the front of a list stands in the list
-pub In-take : (x n : ℕ) (xs : List ℕ) → In x (take n xs) → In x xs
-In-take x n xs h = rw (take-append-drop n xs) at (In-append_left x (take n xs) (drop n xs) h)
 
 -- a list in which each cell stands behind its children has the children of its cells
 pub children_in : (Step : ℕ → ℕ → Type 0) (order : List ℕ) → AreBehindChildren Step order → (cell child : ℕ) → In cell order → Step cell child → In child order
 children_in Step order behind cell child h s =
     let at = In-index cell order h in
     let P : ℕ → Type 0 = λ z. Step z child in
-    In-take child at.0 order (behind at.0 child at.1.0 (subst P (sym (at.1.1 0)) s))
+    In-take at.0 order child (behind at.0 child at.1.0 (subst P (sym (at.1.1 0)) s))
 
 module _ (children : List (List ℕ)) where
   -- some cells are visited, and then others

@@ -6,6 +6,7 @@ use Rattle.std.specs.Option.{option_map}
 use Rattle.std.proofs.lemmas.List.{append-nil, drop_all, length-map, take_more}
 use Rattle.std.proofs.lemmas.Option.{get_or_from_slice_get, same_Some, slice_get-map, slice_get_within}
 use Rattle.std.proofs.lemmas.Simd.{map-map}
+use Rattle.finite_sets.proofs.Places.{drop-slice_get}
 use Rattle.geo_core.specs.declared.grids.Grid.{Grid}
 use Rattle.geo_core.specs.declared.transforms.Transform.{Transform}
 use Rattle.geo_core.specs.Elements.{elements_of}
@@ -19,7 +20,7 @@ use Rattle.cell_library.specs.LayoutTrees.{element_transform}
 use Rattle.cell_library.specs.Libraries.{IsLawfulLibrary, LibraryParts, seen}
 use Rattle.cell_library.specs.PartCounts.{element_count}
 use Rattle.cell_library.specs.Views.{LibraryView, view_at}
-use Rattle.cell_library.proofs.ElementCounts.{drop_at, few_elements}
+use Rattle.cell_library.proofs.ElementCounts.{few_elements}
 use Rattle.named_trees.specs.NamedTrees.{NamedElements, NamedTree, named_elements_in, own_body}
 use Rattle.tree_records.specs.TreeRecords.{use_records}
 use Rattle.library_trees.specs.ElementNames.{UseElement, array_element, use_elements}
@@ -96,7 +97,7 @@ module _ (view : LibraryView) where
   records_more : (uses : UsesWithIds) (k : ℕ) (id : List ℕ) (used : UseBody) → slice_get uses k ≡ Some (id, used)
       → records_from (drop k uses) ≡ records_of_use (view_at view used.child.0).name id used ++ records_from (drop (k + 1) uses)
   records_more uses k id used is =
-      ap records_from (drop_at uses k (id, used) is)
+      ap records_from (drop-slice_get uses k (id, used) is)
       ∙ records_behind (named_tree_at view used.child.0) used.placed (use_elements id used.grid)
       (named_elements_from (named_tree_at view) (drop (k + 1) uses))
       ∙ ap (λ (name : List ℕ). records_of_use name id used ++ records_from (drop (k + 1) uses)) (name_at view used.child.0)

@@ -10,7 +10,8 @@ use cell_library::Reader;
 use cell_tree::UseBody;
 use element_paths::{element_count, element_name};
 use ext_model::UseRec;
-use geo_core::{Grid, Name, Orient, Transform};
+use geo_core::{Grid, Orient, Transform};
+use names_lists::Name;
 use std::alloc::{AllocError, Global};
 
 /// Adds the records of the elements of a use with this id. Want of memory alone refuses.
@@ -45,11 +46,8 @@ fn record_of(
     requires n { n < length (displacements used.now.grid) }
     ensures { IfOk result (λ made. slice_get (records_of_use name.now id.now used.now) n ≡ Some made) }
 {
-    let Ok(cell) = name.copy(alloc) else {
-        return Err(AllocError);
-    };
     Ok(UseRec {
-        cell,
+        cell: name.copy(alloc)?,
         id: element_name(alloc, id, &used.grid, n)?,
         six: transform_of(used, n).six(),
     })

@@ -1,16 +1,16 @@
 -- What a walk under way keeps.
-use Rattle.std.proofs.Common.{◌≡◌, ◌⊎◌, ℕ, zero, suc, ◌<◌, ◌≤◌, ◌-◌, ◌==◌, Bool, true, false, cond, Option, Some, None, List, [], ◌∷◌, ◌++◌, length, get_or}
-use Rattle.std.proofs.Common.{set, take, drop, inl, inr, refl, sym, ◌∙◌, ap, subst, arith, reverse, ◌||◌}
+use Rattle.std.proofs.Common.{◌≡◌, ◌⊎◌, ℕ, zero, suc, ◌<◌, ◌≤◌, ◌-◌, ◌==◌, true, false, cond, Option, Some, None, List, [], ◌∷◌, ◌++◌, length, get_or}
+use Rattle.std.proofs.Common.{set, take, drop, inl, inr, refl, sym, ◌∙◌, ap, subst, arith, reverse}
 use Rattle.std.proofs.lemmas.Grind.{common_steps}
 use Rattle.std.proofs.lemmas.List.{get_or-set_same, get_or-set_other}
 use Rattle.std.proofs.Math.Seq.{drop-cons, take-suc}
 use Rattle.std.proofs.Math.ListN.{length-set}
 use Rattle.std.specs.List.{list_any}
 use Rattle.std.specs.Option.{option_or}
-use Rattle.std.proofs.lemmas.Bool.{eqb-true, cases_lt}
-use Rattle.std.proofs.Math.Bool.{or-true}
+use Rattle.std.proofs.lemmas.Bool.{eqb-true, cases_lt, cases_Bool}
 use Rattle.finite_sets.specs.Lists.{In, Distinct}
 use Rattle.finite_sets.proofs.Distincts.{length-distinct}
+use Rattle.finite_sets.proofs.Searches.{list_any-fails, list_any-passes}
 use Rattle.use_walk.specs.declared.faults.WalkFault.{WalkFault}
 use Rattle.use_walk.specs.declared.faults.WalkFault.TheVariants.{NoCell, Cycle}
 use Rattle.use_walk.specs.declared.walks.Mark.{Mark}
@@ -21,20 +21,16 @@ use Rattle.use_walk.specs.UnderWay.{fault_left, IsWaiting, IsOpen, uses_left, ma
 -- ---- tests of a list
 
 not_among : (x : ℕ) (xs : List ℕ) → (In x xs → ⊥) → list_any (λ other. other == x) xs ≡ false
-not_among x [] none = refl
-not_among x (y ∷ xs) none = step (y == x) (λ e. none (inl (eqb-true y x e))) (not_among x xs (λ h. none (inr h)))
-  where
-    step : (t : Bool) → (t ≡ true → ⊥) → list_any (λ other. other == x) xs ≡ false → t || list_any (λ other. other == x) xs ≡ false
-    step true never rest = absurd (never refl)
-    step false never rest = rest
+not_among x xs none = list_any-fails (λ other. other == x) xs (λ y here. elim (cases_Bool (y == x)) [
+  | inl is ↦ absurd (none (subst (λ (z : ℕ). In z xs) (eqb-true y x is) here))
+  | inr fails ↦ fails
+])
 
 among : (x : ℕ) (xs : List ℕ) → In x xs → list_any (λ other. other == x) xs ≡ true
-among x [] h = absurd h
-among x (y ∷ xs) (inl e) = ap (λ t. t || list_any (λ other. other == x) xs) (eqb-same y x e)
+among x xs here = list_any-passes (λ other. other == x) xs x here (eqb-same x x refl)
   where
     eqb-same : (y x : ℕ) → y ≡ x → (y == x) ≡ true
     eqb-same y x e = grind (arith, common_steps)
-among x (y ∷ xs) (inr h) = ap (λ t. (y == x) || t) (among x xs h) ∙ or-true (y == x)
 
 -- ---- nothing is left to find below a cell that is done
 

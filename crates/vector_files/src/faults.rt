@@ -1,6 +1,6 @@
 //! Why a vector file is refused.
 
-use geo_core::{GeoFault, Name};
+use names_lists::Name;
 use std::alloc::AllocError;
 use text_form::At;
 use thiserror::Error;
@@ -28,17 +28,6 @@ impl From<AllocError> for VecFault {
     ghost from_gives = { λ _ fault. fault ≡ Memory };
 
     fn from(_error: AllocError) -> VecFault {
-        VecFault::Memory
-    }
-}
-
-impl From<GeoFault> for VecFault {
-    ghost use Rattle.std.specs.Prelude.{◌≡◌};
-    ghost use Rattle.vector_files.specs.declared.faults.VecFault.TheVariants.{Memory};
-
-    ghost from_gives = { λ _ fault. fault ≡ Memory };
-
-    fn from(_fault: GeoFault) -> VecFault {
         VecFault::Memory
     }
 }

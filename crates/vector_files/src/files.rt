@@ -1,6 +1,6 @@
 //! What a vector file says, as a whole and in each of its lines.
 
-use geo_core::{List, Name};
+use names_lists::{List, Name};
 use switch_net::Level;
 
 /// What a line of a vector file asks for. Nodes are named by their numbers in the network.

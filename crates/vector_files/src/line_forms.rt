@@ -9,7 +9,7 @@ use crate::faults::VecFault;
 use crate::files::VecLine;
 use crate::nodes::NodeNames;
 use crate::words::{is_rail_name, level_in, size_in};
-use geo_core::{List, Name};
+use names_lists::{List, Name};
 use std::alloc::Global;
 use text_scan::{Words, words};
 

@@ -5,8 +5,8 @@ ghost use Rattle.switch_net.specs.Names.{NameOneNodeEach};
 ghost use Rattle.vector_files.specs.LineForms.{node_named, is_rail};
 ghost use Rattle.vector_files.specs.NodeLookup.{is_node, IsIndexOf, IsLikeNamed};
 
-use geo_core::Name;
 use name_index::NameIndex;
+use names_lists::Name;
 use std::alloc::{AllocError, Global};
 use std::marker::Model;
 

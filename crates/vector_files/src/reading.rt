@@ -8,7 +8,7 @@ use crate::faults::{VecAt, VecFault};
 use crate::files::{VecLine, Vectors};
 use crate::line_forms::says;
 use crate::nodes::NodeNames;
-use geo_core::List;
+use names_lists::List;
 use std::alloc::Global;
 use std::marker::Model;
 use switch_net::NamedNet;

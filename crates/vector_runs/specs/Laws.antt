@@ -1,6 +1,5 @@
 -- What the replies of a vector file are held to.
-use Rattle.std.specs.Prelude.{◌≡◌, ◌<◌, ℕ, false, List, [], ◌∷◌, ◌++◌, All}
-use Rattle.switch_net.specs.declared.switches.Level.{Level}
+use Rattle.std.specs.Prelude.{◌≡◌, ◌<◌, ℕ, true, false, List, [], ◌∷◌, ◌++◌, All}
 use Rattle.switch_net.specs.Network.{IsSound, Network}
 use Rattle.switch_net.specs.Path.{is_input, state_of}
 use Rattle.switch_net.specs.Steady.{IsSteadyValue}
@@ -10,7 +9,7 @@ use Rattle.vector_files.specs.declared.files.Vectors.{Vectors}
 use Rattle.vector_files.specs.VectorFiles.{IsLineWithin}
 use Rattle.vector_runs.specs.declared.replies.VecReply.{VecReply}
 use Rattle.vector_runs.specs.declared.replies.VecReply.TheVariants.{Settled}
-use Rattle.vector_runs.specs.Runs.{IsRun, LinesRun, RunsPhase, Standing, begun_in, shown_in}
+use Rattle.vector_runs.specs.Runs.{IsRun, LinesRun, RunsPhase, Standing}
 
 -- vectors that fit a network have one run on it: their replies are determined by the network, its names and the budget
 abbrev pub EachRunHasOneOutcome : Type 0
@@ -31,28 +30,36 @@ IsShow (Show asked) = Unit {0}
 abbrev pub IsAtRest : Standing → ℕ → Type 0
 IsAtRest at v = is_input at.net v ≡ false → IsSteadyValue at.net at.states v (state_of at.states v)
 
--- A run that begins in these states comes through some lines to a phase, and through further ones to where it shows states. The replies
--- are those of the first lines, the phase's own, those of the further lines, the states, and later ones. Where the phase settled, each
--- state is that of its node at rest, in the network as the lines have changed it.
-pub record ShowsStates (net : Network) (start : List Level) (budget : ℕ) (before since : List VecLine) (asked : List (List ℕ × ℕ))
-    (replies : List VecReply) : Type 0 where
-  pub earlier : Standing
-  pub told : List VecReply
-  pub comes : LinesRun budget (begun_in net start) before earlier told
-  pub settling : Standing
-  pub phase : VecReply
-  pub runs_phase : RunsPhase budget earlier settling (phase ∷ [])
-  pub at : Standing
-  pub between : List VecReply
-  pub goes_on : LinesRun budget settling since at between
-  pub after : List VecReply
-  pub are : replies ≡ told ++ phase ∷ between ++ shown_in at.states asked ++ after
-  pub at_rest : (number steps : ℕ) → phase ≡ Settled number steps → All (λ named. IsAtRest at named.1) asked
+-- Lines are run, and then others.
+pub record RunsBoth (budget : ℕ) (old : Standing) (lines others : List VecLine) (new : Standing) (told : List VecReply) : Type 0 where
+  pub between : Standing
+  pub first : List VecReply
+  pub second : List VecReply
+  pub runs_first : LinesRun budget old lines between first
+  pub runs_second : LinesRun budget between others new second
+  pub replied : told ≡ first ++ second
 
--- Each value that is shown after a settled phase, with no change of an input or a size since, is the steady value of its node.
-abbrev pub ShownValuesAreSteady : Type 0
-ShownValuesAreSteady =
-    (net : Network) (start : List Level) (budget : ℕ) (last : Standing) (replies : List VecReply)
-    (before since after : List VecLine) (asked : List (List ℕ × ℕ))
-    → LinesRun budget (begun_in net start) (before ++ Phase ∷ since ++ Show asked ∷ after) last replies → All IsShow since
-    → All (λ named. named.1 < net.nodes) asked → ShowsStates net start budget before since asked replies
+-- A run of two lists of lines is one of the first, and then one of the second.
+abbrev pub RunsAreSplit : Type 0
+RunsAreSplit =
+    (budget : ℕ) (lines others : List VecLine) (old new : Standing) (told : List VecReply) → LinesRun budget old (lines ++ others) new told
+    → RunsBoth budget old lines others new told
+
+-- Lines leave a network its nodes and its switches.
+abbrev pub RunsKeepSwitches : Type 0
+RunsKeepSwitches =
+    (budget : ℕ) (lines : List VecLine) (old new : Standing) (told : List VecReply) → LinesRun budget old lines new told
+    → (new.net.nodes ≡ old.net.nodes) × (new.net.switches ≡ old.net.switches)
+
+-- An input keeps its state over a phase.
+abbrev pub PhasesKeepInputs : Type 0
+PhasesKeepInputs =
+    (budget : ℕ) (old new : Standing) (told : List VecReply) → RunsPhase budget old new told
+    → (v : ℕ) → v < old.net.nodes → is_input old.net v ≡ true → state_of new.states v ≡ state_of old.states v
+
+-- Behind a settled phase, as long as lines only show, each node is at rest.
+abbrev pub SettledRunsRest : Type 0
+SettledRunsRest =
+    (budget number steps : ℕ) (old settled at : Standing) (since : List VecLine) (told : List VecReply)
+    → RunsPhase budget old settled (Settled number steps ∷ []) → LinesRun budget settled since at told → All IsShow since
+    → (v : ℕ) → v < at.net.nodes → IsAtRest at v

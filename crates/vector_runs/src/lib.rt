@@ -10,8 +10,8 @@
 //!
 //! A run has one outcome since each line has one: a phase by the law of phases, which asks for a sound network with a state for each node,
 //! and every line that fits the network keeps both (`LineOutcomes`). Whether a node has a name can be decided, so a network begins in one
-//! list of states (`Starts`). A run through a phase to where states are shown is cut there (`SplitRuns`). Lines that only show change
-//! nothing, and a step leaves the states of a settled phase as they are, which is what it means that each node is at rest.
+//! list of states (`Starts`). A run is cut between any two lines (`SplitRuns`). Lines that only show change nothing, and a step leaves
+//! the states of a settled phase as they are, which is what it means that each node is at rest.
 #![tactic(auto)]
 
 mod laws;

@@ -1,5 +1,5 @@
 //! How far a run has come, and what each line does.
-ghost use Rattle.std.specs.Prelude.{◌≡◌, ◌<◌, ◌≤◌, ◌+◌, ◌++◌, [], true, false, All, length, map, slice_set, IfOk, IfSome, OnOk};
+ghost use Rattle.std.specs.Prelude.{◌≡◌, ◌<◌, ◌≤◌, ◌+◌, ◌++◌, [], true, false, All, length, map, slice_set, IfSome, OnOk};
 ghost use Rattle.switch_net.specs.Network.{IsSize};
 ghost use Rattle.switch_net.specs.Net.{network_of};
 ghost use Rattle.switch_net.specs.Phase.{IsPhase};
@@ -8,7 +8,7 @@ ghost use Rattle.vector_runs.specs.Running.{AddsReplies, AreTouchedAfter, FitsNo
 ghost use Rattle.vector_runs.specs.Runs.{phase_reply as reply_of_phase, shown_in, with_input, with_size};
 
 use crate::replies::VecReply;
-use geo_core::Name;
+use names_lists::Name;
 use std::alloc::{AllocError, Global};
 use steady_state::{Settled, settle_from};
 use switch_net::{Level, Net};
@@ -192,7 +192,7 @@ impl Progress {
         ensures added { AddsReplies replies.old.items replies.new.items }
     {
         for (name, node) in asked {
-            replies.push(VecReply::Shown(copy(alloc, name)?, self.states[*node as usize]))?;
+            replies.push(VecReply::Shown(name.copy(alloc)?, self.states[*node as usize]))?;
         }
         Ok(())
     }
@@ -207,10 +207,4 @@ fn phase_reply(number: usize, settled: Settled) -> VecReply
     } else {
         VecReply::Unsettled(number)
     }
-}
-
-fn copy(alloc: Global, name: &Name) -> Result<Name, AllocError>
-    ensures { IfOk result (λ copy. copy ≡ name.now) }
-{
-    name.copy(alloc).map_err(|_| AllocError)
 }

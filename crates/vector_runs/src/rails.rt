@@ -7,7 +7,7 @@ ghost use Rattle.switch_net.specs.SimRecords.{AreStarts};
 ghost use Rattle.vector_runs.specs.RailNodes.{AreBelow, AreRails, with_rail, with_state};
 ghost use Rattle.vector_runs.specs.Runs.{IsFresh};
 
-use geo_core::Name;
+use names_lists::Name;
 use std::alloc::{AllocError, Global};
 use switch_net::{Level, NamedNet, Net};
 

@@ -4,7 +4,7 @@ ghost use Rattle.text_scan.specs.Decimal.{decimal};
 ghost use Rattle.vector_runs.specs.Replies.{level_text, reply_text};
 ghost use Rattle.vector_runs.specs.declared.replies.VecReply.TheVariants.{Settled, Unsettled, Shown};
 
-use geo_core::Name;
+use names_lists::Name;
 use std::alloc::{AllocError, Global};
 use switch_net::Level;
 use text_scan::append_decimal;

@@ -14,7 +14,7 @@ use super::lookups::has_type;
 use super::word_rules::WordRule;
 use crate::parts::{Parted, first_piece};
 use crate::words::{is_entry, is_entry_list, is_naming_label, measure_in, parts_of_entry};
-use geo_core::{List, Name};
+use names_lists::{List, Name};
 use std::alloc::AllocError;
 use tech_model::{ClassRec, FetRule, LimitedList, MOST_CLASSES, MOST_FETS, TechFault, TypeId};
 use text_scan::{is_plain_name, split_word, words};

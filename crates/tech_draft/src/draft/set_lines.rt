@@ -15,7 +15,7 @@ use super::word_rules::WordRule;
 use super::{Draft, set_parts};
 use crate::parts::Parted;
 use crate::words::{WordForm, all_have};
-use geo_core::{List, Name};
+use names_lists::{List, Name};
 use std::alloc::{AllocError, Global};
 use tech_model::{LayerId, LayerRec, LimitedList, MOST_TYPES, PartSet, TechFault, TypeId, TypeRec};
 use text_scan::{split_word, words};

@@ -14,7 +14,7 @@ ghost use Rattle.tech_draft.specs.TypeLines.{new_type, type_line};
 use super::Draft;
 use crate::parts::{Parted, each_part};
 use crate::words::{WordForm, all_have, push};
-use geo_core::{List, Name};
+use names_lists::{List, Name};
 use std::alloc::{AllocError, Global};
 use tech_model::{
     LayerId, LayerIndex, LayerRec, LimitedList, MOST_PLANES, MOST_TYPES, PartSet, TechFault,

@@ -9,7 +9,7 @@ ghost use Rattle.tech_draft.specs.WordRules.{breaks, word_fault, refuse, check_e
 use super::Draft;
 use crate::parts::{Parted, each_part};
 use crate::words::{has_operator, has_slash, parts_of_entry};
-use geo_core::Name;
+use names_lists::Name;
 use tech_model::{TechFault, TypeId};
 
 /// What a word may not have.

@@ -1,11 +1,11 @@
 use Rattle.std.proofs.Common.{◌≤◌, ◌∷◌, ◌++◌, [], List, length, map, sym, ap, ◌∙◌, arith}
 use Rattle.std.specs.Prelude.{Some}
 use Rattle.std.proofs.lemmas.List.{append-nil, length-map}
+use Rattle.std.proofs.lemmas.Simd.{map-map}
 use Rattle.geo_core.specs.declared.squares.Rect.{Rect}
 use Rattle.geo_core.specs.Images.{rect_image}
 use Rattle.cell_tree.specs.Hulls.{displaced}
 use Rattle.cell_tree.specs.Uses.{displacements}
-use Rattle.cell_library.proofs.ContentLaws.{map-map}
 use Rattle.cell_library.proofs.GridSteps.{displacement_count, images_on, images_all}
 use Rattle.cell_library.proofs.element_boxes.push_grid.Goals as goal
 
@@ -31,4 +31,4 @@ returns c =
     let past : length (map (displaced c.args.hull) steps) ≤ c.loop-k.k = omega (arith, many, long, c.count-k-end.ensures, c.loop-k-test.false) in
     images_all (rect_image c.args.placed.now) (map (displaced c.args.hull) steps) c.loop-k.k c.args.boxes.now.items c.loop-k.boxes.items past
     c.loop-k.invariant
-    ∙ ap (λ (boxes : List Rect). c.args.boxes.now.items ++ boxes) (map-map (displaced c.args.hull) (rect_image c.args.placed.now) steps)
+    ∙ ap (λ (boxes : List Rect). c.args.boxes.now.items ++ boxes) (map-map (rect_image c.args.placed.now) (displaced c.args.hull) steps)

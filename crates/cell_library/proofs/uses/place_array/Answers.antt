@@ -1,10 +1,10 @@
 use Rattle.std.proofs.Common.{◌≡◌, ◌&&◌, false, true≢false, sym, ◌∙◌, inr}
 use Rattle.std.specs.Prelude.{Some}
 use Rattle.std.proofs.lemmas.Result.{IfErr-weaker}
-use Rattle.geo_core.specs.declared.limits.Limit.TheVariants.{Elements}
 use Rattle.cell_bodies.specs.Numbers.{is_displacement, are_few_elements}
 use Rattle.cell_tree.specs.Trees.{cell_at}
 use Rattle.cell_library.specs.declared.faults.LibFault.TheVariants.{OutOfRange, TooMany}
+use Rattle.cell_library.specs.declared.limits.LibraryLimit.TheVariants.{Elements}
 use Rattle.cell_library.specs.CellEdits.{TreeRefusesMove}
 use Rattle.cell_library.specs.Refusals.{FirstOf}
 use Rattle.cell_library.proofs.FaultLaws.{not_full}

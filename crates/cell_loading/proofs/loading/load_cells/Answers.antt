@@ -1,13 +1,14 @@
 use Rattle.std.proofs.Common.{◌∙◌, [], ◌∷◌, sym, ap}
 use Rattle.std.proofs.lemmas.Result.{IfOk-weaker}
+use Rattle.session_model.specs.FileTrees.{StopsAt}
+use Rattle.session_model.proofs.StopLaws.{refusal_told}
 use Rattle.cell_library.specs.Libraries.{seen}
 use Rattle.cell_library.specs.Views.{cell_named}
 use Rattle.cell_loading.specs.Arrivals.{Arrives}
 use Rattle.cell_loading.specs.Loads.{LoadGives}
-use Rattle.cell_loading.specs.Walks.{StopsAt}
+use Rattle.cell_loading.specs.Readings.{cell_files}
 use Rattle.cell_loading.proofs.ArrivalLaws.{arrived, file_refuses}
 use Rattle.cell_loading.proofs.KnownLaws.{new_is_not_among, not_named}
-use Rattle.cell_loading.proofs.WalkLaws.{refusal_told}
 use Rattle.cell_loading.proofs.loading.load_cells.Goals as goal
 
 pub read_below-requires-clause-new : goal.read_below-requires-clause-new
@@ -29,5 +30,5 @@ returns-in-Err-Refused-clause-effect g c files told =
     let unknown = not_named c.args.library.now c.args.root.now c.find.result
     (c.find.ensures ∙ ap (cell_named (seen c.args.library.now)) c.bytes.ensures) (sym c.is_some.ensures ∙ c.if-is_some.false) in
     file_refuses files c.args.library.now c.args.root.now c.in-Err-Refused.fault unknown
-    (refusal_told c.in-Err-Refused.field-0 c.in-Err-Refused.fault (StopsAt files (seen c.args.library.now) [] (c.args.root.now ∷ []))
+    (refusal_told c.in-Err-Refused.field-0 c.in-Err-Refused.fault (StopsAt (cell_files (seen c.args.library.now)) files [] (c.args.root.now ∷ []))
     c.in-Err-Refused.field-0-is (c.in-Err-Refused.ensures.refused files told))

@@ -1,11 +1,16 @@
 use Rattle.std.proofs.Common.{◌∙◌, [], ◌∷◌, arith}
 use Rattle.std.specs.Prelude.{None}
+use Rattle.session_model.specs.FileTrees.{StopsAt}
+use Rattle.session_model.specs.Stops.{kinds_of_told}
 use Rattle.session_model.proofs.FetchLaws.{calm_from, calm_then}
+use Rattle.session_model.proofs.FileTreeLaws.{stops_later}
+use Rattle.session_model.proofs.StopLaws.{refusal_weaker}
 use Rattle.cell_library.specs.Libraries.{seen}
-use Rattle.cell_loading.specs.Stops.{kinds_of_told}
-use Rattle.cell_loading.specs.Walks.{names_left, StopsAt}
-use Rattle.cell_loading.proofs.ReadingLaws.{goes_on_then, stops_later}
-use Rattle.cell_loading.proofs.WalkLaws.{all_are_read, all_came, none_left, refusal_weaker, so_far_at_root}
+use Rattle.cell_loading.specs.Loads.{cause_of_load}
+use Rattle.cell_loading.specs.Readings.{cell_files}
+use Rattle.cell_loading.specs.Walks.{names_left}
+use Rattle.cell_loading.proofs.ReadingLaws.{goes_on_then}
+use Rattle.cell_loading.proofs.WalkLaws.{all_are_read, all_came, none_left, so_far_at_root}
 use Rattle.cell_loading.proofs.loading.read_below.Goals as goal
 
 pub read-requires-clause-so_far : goal.read-requires-clause-so_far
@@ -20,7 +25,7 @@ steps-preserved g c = record {
   frames = c.in_default-step.ensures.frames;
   some = omega (arith, c.steps.invariant.some, c.in_default-step.ensures.kept);
   calm = calm_then g.F.Shelf c.args.shelf.now c.steps.shelf c.step.new.shelf c.steps.invariant.calm
-      (calm_from g.F.Shelf c.steps.shelf c.step.new.shelf kinds_of_told None c.in_default-step.ensures.causes);
+      (calm_from g.F.Shelf c.steps.shelf c.step.new.shelf (kinds_of_told cause_of_load) None c.in_default-step.ensures.causes);
   files = c.step.ensures.files ∙ c.steps.invariant.files;
   goes_on = λ files told.
       let here = c.steps.invariant.goes_on files told in
@@ -34,8 +39,8 @@ returns-in-Err-step-clause-refused g c files told =
     let view = seen c.args.library.now in
     let here = c.steps.invariant.goes_on files told in
     let left = names_left c.steps.walk.cells c.steps.walk.frames.items in
-    refusal_weaker c.in-Err-step.stop (StopsAt files view here.read_after left) (StopsAt files view [] (c.args.root.now ∷ []))
-    (λ fault stops. stops_later files view [] (c.args.root.now ∷ []) left c.steps.walk.cells fault here stops)
+    refusal_weaker c.in-Err-step.stop (StopsAt (cell_files view) files here.read_after left) (StopsAt (cell_files view) files [] (c.args.root.now ∷ []))
+    (λ fault stops. stops_later (cell_files view) files [] here.read_after (c.args.root.now ∷ []) left fault here.leads stops)
     (c.in-Err-step.ensures.stops files here.read_after (c.steps.invariant.files ∙ told) here.are_bodies)
 
 pub returns-clause-read : goal.returns-clause-read

@@ -2,7 +2,7 @@ use Rattle.std.proofs.Common.{◌≡◌, ◌<◌, [], ◌∷◌, length, Some}
 use Rattle.outside_io.specs.Files.{Files}
 use Rattle.session_model.specs.Causes.{IsCalm}
 use Rattle.cell_library.specs.Libraries.{seen}
-use Rattle.cell_loading.specs.Walks.{names_left, work_left, AreFrames, AreSoFar, GoesOn}
+use Rattle.cell_loading.specs.Walks.{names_left, work_left, AreFrames, AreSoFar, GoesOnToBodies}
 use Rattle.cell_loading.proofs.loading.read_below.Given as goal
 
 abbrev pub invariant-steps : goal.invariant-steps
@@ -13,7 +13,7 @@ invariant-steps g l = record {
   calm : IsCalm g.F.Shelf l.fn.shelf l.shelf;
   files : g.F.Shelf.files l.shelf ≡ g.F.Shelf.files l.fn.shelf;
   goes_on : (files : Files) → g.F.Shelf.files l.fn.shelf ≡ Some files
-      → GoesOn files (seen l.library) [] (l.root ∷ []) l.walk.cells (names_left l.walk.cells l.walk.frames.items);
+      → GoesOnToBodies files (seen l.library) [] (l.root ∷ []) l.walk.cells (names_left l.walk.cells l.walk.frames.items);
 }
 
 abbrev pub decreases-steps : goal.decreases-steps

@@ -2,13 +2,13 @@ use Rattle.cell_paint.proofs.AreaLaws.{strips_proper, strips_near, strips_apart,
 use Rattle.cell_paint.proofs.paints.strips_of.Goals as goal
 
 pub returns-clause-proper : goal.returns-clause-proper
-returns-clause-proper c = strips_proper c.args.areas.now c.in-Ok.found.items c.requires.fits c.in-Ok.ensures
+returns-clause-proper c = strips_proper c.args.areas.now c.in_ok-found.found.items c.requires.fits c.in_ok-found.ensures
 
 pub returns-clause-near : goal.returns-clause-near
-returns-clause-near c = strips_near c.args.areas.now c.in-Ok.found.items c.requires.fits c.in-Ok.ensures
+returns-clause-near c = strips_near c.args.areas.now c.in_ok-found.found.items c.requires.fits c.in_ok-found.ensures
 
 pub returns-clause-apart : goal.returns-clause-apart
-returns-clause-apart c = strips_apart c.args.areas.now c.in-Ok.found.items c.requires.fits c.in-Ok.ensures
+returns-clause-apart c = strips_apart c.args.areas.now c.in_ok-found.found.items c.requires.fits c.in_ok-found.ensures
 
 pub returns-clause-same : goal.returns-clause-same
-returns-clause-same c = strips_cover c.args.areas.now c.in-Ok.found.items c.requires.fits c.in-Ok.ensures
+returns-clause-same c = strips_cover c.args.areas.now c.in_ok-found.found.items c.requires.fits c.in_ok-found.ensures

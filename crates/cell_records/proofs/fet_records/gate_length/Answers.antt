@@ -2,7 +2,7 @@ use Rattle.std.proofs.Common.{◌≡◌, ◌+◌, ◌<◌, ℕ, ℤ, pos, ◌-�
 use Rattle.std.specs.Int.{w128}
 use Rattle.std.proofs.lemmas.Int.{ints, to_z-of_z}
 use Rattle.finite_sets.specs.Total.{sum_on}
-use Rattle.tech_model.proofs.WellFormedLaws.{All_In}
+use Rattle.finite_sets.proofs.Searches.{All-In}
 use Rattle.cell_records.proofs.JoinedLaws.{part_bounds, sum_more}
 use Rattle.cell_records.proofs.fet_records.gate_length.Goals as goal
 
@@ -13,7 +13,7 @@ overflow_sub-left c =
     let items = c.items-terminal-items.result.now in
     let t : ℕ × ℤ = get_or items i (0, pos 0) in
     let value : to_z w128 (of_z w128 t.1) ≡ t.1 = to_z-of_z w128 t.1 (search rules) in
-    let bounds = part_bounds (λ u. true) fet.terminals (i + 1) (λ u among. All_In (λ (v : ℕ × ℤ). pos 0 <ℤ v.1) fet.terminals u c.requires.some among) in
+    let bounds = part_bounds (λ u. true) fet.terminals (i + 1) (λ u among. All-In (λ (v : ℕ × ℤ). pos 0 <ℤ v.1) fet.terminals u c.requires.some among) in
     let inside : i < length fet.terminals = subst (λ (v : List (ℕ × ℤ)). i < length v) c.items-terminal-items.ensures c.loop-terminal-test.true in
     let same = ap (λ (v : List (ℕ × ℤ)). (get_or v i (0, pos 0)).1) c.items-terminal-items.ensures in
     let more = sum_more fet.terminals i (0, pos 0) inside in

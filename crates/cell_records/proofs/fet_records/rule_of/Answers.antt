@@ -1,9 +1,8 @@
 use Rattle.std.proofs.Common.{◌≡◌, eqb, Some, None, sym, ◌∙◌, ap, find}
 use Rattle.std.specs.Option.{option_copied}
 use Rattle.std.proofs.lemmas.Bool.{false≢true}
-use Rattle.finite_sets.proofs.Searches.{find-In, find-passes, find-none}
+use Rattle.finite_sets.proofs.Searches.{find-In, find-passes, find-none, list_any-source}
 use Rattle.tech_model.specs.declared.raw.FetRule.{FetRule}
-use Rattle.flood_nodes.proofs.Renumbering.{found_by}
 use Rattle.flood_nodes.proofs.StackLaws.{same_from_test}
 use Rattle.cell_records.proofs.fet_records.rule_of.Goals as goal
 
@@ -12,7 +11,7 @@ unreachable-requires c =
     let kind = c.args.kind.0 in
     let fets = c.args.raw.now.fets in
     let found : find (λ (rule : FetRule). eqb rule.kind.0 kind) fets ≡ None = sym c.rule_for.ensures ∙ ap option_copied c.in-None.is in
-    let x = found_by (λ (rule : FetRule). eqb rule.kind.0 kind) fets c.requires in
+    let x = list_any-source (λ (rule : FetRule). eqb rule.kind.0 kind) fets c.requires in
     false≢true (sym (find-none (λ (rule : FetRule). eqb rule.kind.0 kind) fets x.0 found x.1.0) ∙ x.1.1)
 
 pub returns-clause-listed : goal.returns-clause-listed

@@ -2,10 +2,10 @@ use Rattle.std.proofs.Common.{◌<◌, length, ap, sym, ◌∙◌, arith}
 use Rattle.std.specs.Prelude.{slice_get}
 use Rattle.std.proofs.lemmas.List.{length-set}
 use Rattle.std.proofs.lemmas.Option.{same_Some}
+use Rattle.finite_sets.proofs.Places.{slice_get-set_same}
 use Rattle.cell_tree.specs.Sizes.{CellState}
 use Rattle.cell_tree.specs.Cells.{states}
 use Rattle.cell_tree.specs.Trees.{cell_at, with_placed}
-use Rattle.cell_tree.proofs.EditLaws.{slice_get-set_same}
 use Rattle.cell_tree.proofs.FindLaws.{length-states}
 use Rattle.cell_tree.proofs.WholeLaws.{cell_is}
 use Rattle.cell_tree.proofs.UserLaws.{added_users}

@@ -37,13 +37,13 @@ pub returns-in_ok-text-in-Some : goal.returns-in_ok-text-in-Some
 returns-in_ok-text-in-Some c =
     let i : to_z w64 (of_z w64 c.element-i.result.0) ≡ c.element-i.result.0 = to_z-of_z w64 c.element-i.result.0 (search rules) in
     let j : to_z w64 (of_z w64 c.element-i.result.1) ≡ c.element-i.result.1 = to_z-of_z w64 c.element-i.result.1 (search rules) in
-    IfOk-weaker c.name_of.result (λ (name : List ℕ). name ≡ c.as_slice.result.now) (HasNameAt c.args.id.now c.args.grid.now c.args.n)
+    IfOk-weaker c.of.result (λ (name : List ℕ). name ≡ c.as_slice.result.now) (HasNameAt c.args.id.now c.args.grid.now c.args.n)
     (λ name is. indexed_at c.args.id.now c.args.grid.now c.in-Some.grid c.args.n c.element-i.result name c.in-Some.is c.element-i.ensures.nth
     (is ∙ c.as_slice.ensures.value ∙ c.in_ok-text-in-Some.ensures ∙ (λ k. indexed_name c.args.id.now (i k) (j k))))
-    c.name_of.ensures
+    c.of.ensures
 
 pub returns-in-None : goal.returns-in-None
 returns-in-None c =
-    IfOk-weaker c.name_of-in-None.result (λ (name : List ℕ). name ≡ c.args.id.now) (HasNameAt c.args.id.now c.args.grid.now c.args.n)
+    IfOk-weaker c.of-in-None.result (λ (name : List ℕ). name ≡ c.args.id.now) (HasNameAt c.args.id.now c.args.grid.now c.args.n)
     (λ name is. single_at c.args.id.now c.args.grid.now c.args.n name c.in-None.is c.requires.n is)
-    c.name_of-in-None.ensures
+    c.of-in-None.ensures

@@ -1,8 +1,8 @@
 use Rattle.std.proofs.Common.{ℕ, ◌≤◌, ◌+◌, length, take, vec_capacity}
 use Rattle.cell_library.specs.Libraries.{seen}
 use Rattle.ext_cache.specs.Caches.{IsWorkOfAll, dirty_cells}
+use Rattle.hier_merge.proofs.CleanOrders.{numbers}
 use Rattle.ext_cache.proofs.LoopLaws.{IsMadeTo}
-use Rattle.ext_cache.proofs.OrderLaws.{numbers}
 use Rattle.ext_cache.proofs.extraction.extract_all.Given as goal
 
 -- new records were made of the dirty cells so far, what was told and logged of them has room for the others, and the steps are theirs

@@ -13,7 +13,7 @@ use Rattle.cell_library.specs.Views.{view_at}
 use Rattle.cell_paint.specs.Paints.{layout_of}
 use Rattle.own_records.specs.OwnRecords.{IsOwnRecord}
 use Rattle.cell_records.specs.declared.records.CellRecord.{CellRecord}
-use Rattle.ext_cache.proofs.LabelLaws.{labels_may_name}
+use Rattle.library_labels.proofs.LabelLaws.{labels_may_name}
 use Rattle.ext_cache.proofs.MadeLaws.{found_empty, made_is_now, own_record_of}
 use Rattle.ext_cache.proofs.extraction.tree_record.Goals as goal
 

@@ -1,9 +1,12 @@
 use Rattle.std.proofs.Common.{[], ◌∷◌, inr, subst, sym, List, ℕ}
 use Rattle.std.proofs.lemmas.Result.{IfOk-weaker}
+use Rattle.session_model.specs.FileTrees.{StopsAt}
+use Rattle.session_model.proofs.StopLaws.{refusal_told}
 use Rattle.ext_loading.specs.declared.faults.ExtLoadFault.{ExtLoadFault}
 use Rattle.ext_loading.specs.Loads.{IsFitTree, LoadGives, LoadIsRefused}
-use Rattle.ext_loading.specs.Trees.{GivesTree, StopsAt}
-use Rattle.ext_loading.proofs.LoadLaws.{file_refuses, refusal_told, tree_fits, tree_given}
+use Rattle.ext_loading.specs.Readings.{circuit_files}
+use Rattle.ext_loading.specs.Trees.{GivesTree}
+use Rattle.ext_loading.proofs.LoadLaws.{file_refuses, tree_fits, tree_given}
 use Rattle.ext_loading.proofs.Positions.{children_are_cells}
 use Rattle.ext_loading.proofs.loading.load_exts.Goals as goal
 
@@ -24,5 +27,5 @@ pub returns-in-Err-Refused-clause-effect : goal.returns-in-Err-Refused-clause-ef
 returns-in-Err-Refused-clause-effect g c files told =
     subst (λ (fault : ExtLoadFault). (fetched : List (List ℕ)) × LoadIsRefused files c.args.root.now fetched fault) (sym c.in-Err-Refused.fault-is)
     (file_refuses files c.args.root.now c.in-Err-Refused.fault
-    (refusal_told c.in-Err-Refused.field-0 c.in-Err-Refused.fault (StopsAt files [] (c.args.root.now ∷ [])) c.in-Err-Refused.field-0-is
+    (refusal_told c.in-Err-Refused.field-0 c.in-Err-Refused.fault (StopsAt circuit_files files [] (c.args.root.now ∷ [])) c.in-Err-Refused.field-0-is
     (c.in-Err-Refused.ensures.refused files told)))

@@ -2,11 +2,15 @@ use Rattle.std.proofs.Common.{◌≡◌, ◌∙◌, [], ◌∷◌, sym, ap, subs
 use Rattle.std.specs.Prelude.{reverse, None, Err}
 use Rattle.std.proofs.lemmas.List.{nil_from_length}
 use Rattle.std.proofs.lemmas.Result.{err_from_is_err_and}
+use Rattle.session_model.specs.FileTrees.{All, GoesOn, Reads, StopsAt, end}
+use Rattle.session_model.specs.Stops.{kinds_of_told}
 use Rattle.session_model.proofs.FetchLaws.{calm_from, calm_then}
-use Rattle.ext_loading.specs.Readings.{All, Reads, end}
-use Rattle.ext_loading.specs.Stops.{kinds_of_told}
-use Rattle.ext_loading.specs.Trees.{AreSoFar, GoesOn, StopsAt}
-use Rattle.ext_loading.proofs.ReadingLaws.{next_name, refused_by, so_far_end, stops_later}
+use Rattle.session_model.proofs.FileTreeLaws.{stops_later}
+use Rattle.session_model.proofs.StopLaws.{refused_by}
+use Rattle.ext_loading.specs.Loads.{cause_of_load}
+use Rattle.ext_loading.specs.Readings.{circuit_files}
+use Rattle.ext_loading.specs.Trees.{AreSoFar}
+use Rattle.ext_loading.proofs.ReadingLaws.{next_name, so_far_end}
 use Rattle.ext_loading.proofs.loading.read_below.Goals as goal
 
 pub names-preserved : goal.names-preserved
@@ -16,10 +20,11 @@ names-preserved g c =
     record {
       so_far = c.in_ok-visit.ensures.so_far c.args.root.now (subst (AreSoFar c.args.root.now c.names.walk.read) next c.names.invariant.so_far);
       calm = calm_then g.F.Shelf c.args.shelf.now c.names.shelf c.visit.new.shelf c.names.invariant.calm
-          (calm_from g.F.Shelf c.names.shelf c.visit.new.shelf kinds_of_told None c.in_ok-visit.ensures.causes);
+          (calm_from g.F.Shelf c.names.shelf c.visit.new.shelf (kinds_of_told cause_of_load) None c.in_ok-visit.ensures.causes);
       files = c.visit.ensures.files ∙ c.names.invariant.files;
       goes_on = λ files told reading rest.
-          subst (λ (left : List (List ℕ)). GoesOn files [] (c.args.root.now ∷ []) c.names.walk.read left) next (c.names.invariant.goes_on files told) reading
+          subst (λ (left : List (List ℕ)). GoesOn circuit_files files [] (c.args.root.now ∷ []) c.names.walk.read left) next
+          (c.names.invariant.goes_on files told) reading
           (c.in_ok-visit.ensures.goes_on files (c.names.invariant.files ∙ told) reading rest);
     }
 
@@ -28,11 +33,12 @@ returns-in_err-visit-clause-refused g c files told =
     let left = reverse c.pop.new.self.items in
     let next : reverse c.names.walk.left.items ≡ c.in-Some.name ∷ left =
     ap reverse c.in-Some.ensures.items ∙ next_name c.pop.new.self.items c.in-Some.name in
-    let here = subst (λ (left : List (List ℕ)). GoesOn files [] (c.args.root.now ∷ []) c.names.walk.read left) next (c.names.invariant.goes_on files told) in
+    let here = subst (λ (left : List (List ℕ)). GoesOn circuit_files files [] (c.args.root.now ∷ []) c.names.walk.read left) next
+    (c.names.invariant.goes_on files told) in
     let told_on = err_from_is_err_and c.from_residual-in_err-visit.result c.from_residual-in_err-visit.ensures.1 in
-    refused_by c.from_residual-in_err-visit.result c.in_err-visit.field-0.0 (StopsAt files c.names.walk.read (c.in-Some.name ∷ left))
-    (StopsAt files [] (c.args.root.now ∷ [])) (told_on.1 ∙ ap Err told_on.2)
-    (λ fault stops. stops_later files [] c.names.walk.read (c.args.root.now ∷ []) (c.in-Some.name ∷ left) fault here stops)
+    refused_by c.from_residual-in_err-visit.result c.in_err-visit.field-0.0 (StopsAt circuit_files files c.names.walk.read (c.in-Some.name ∷ left))
+    (StopsAt circuit_files files [] (c.args.root.now ∷ [])) (told_on.1 ∙ ap Err told_on.2)
+    (λ fault stops. stops_later circuit_files files [] c.names.walk.read (c.args.root.now ∷ []) (c.in-Some.name ∷ left) fault here stops)
     (c.in_err-visit.ensures.stops files (c.names.invariant.files ∙ told))
 
 pub returns-clause-read : goal.returns-clause-read
@@ -40,7 +46,7 @@ returns-clause-read g c files told =
     let read = c.names.walk.read in
     let none : c.names.walk.left.items ≡ [] =
     nil_from_length c.names.walk.left.items (omega (arith, c.in_default.ensures.cases.0, c.names.walk.left.ok.0)) in
-    c.names.invariant.goes_on files told (All read) (subst (λ (left : List (List ℕ)). Reads files read (reverse left) (All read)) (sym none) end)
+    c.names.invariant.goes_on files told (All read) (subst (λ (left : List (List ℕ)). Reads circuit_files files read (reverse left) (All read)) (sym none) end)
 
 pub returns-clause-tree : goal.returns-clause-tree
 returns-clause-tree g c =

@@ -2,7 +2,9 @@ use Rattle.std.proofs.Common.{◌≡◌, [], ◌∷◌, Some}
 use Rattle.std.specs.Prelude.{reverse}
 use Rattle.outside_io.specs.Files.{Files}
 use Rattle.session_model.specs.Causes.{IsCalm}
-use Rattle.ext_loading.specs.Trees.{work_left, AreSoFar, GoesOn}
+use Rattle.session_model.specs.FileTrees.{GoesOn}
+use Rattle.ext_loading.specs.Readings.{circuit_files}
+use Rattle.ext_loading.specs.Trees.{work_left, AreSoFar}
 use Rattle.ext_loading.proofs.loading.read_below.Given as goal
 
 abbrev pub invariant-names : goal.invariant-names
@@ -11,7 +13,7 @@ invariant-names g l = record {
   calm : IsCalm g.F.Shelf l.fn.shelf l.shelf;
   files : g.F.Shelf.files l.shelf ≡ g.F.Shelf.files l.fn.shelf;
   goes_on : (files : Files) → g.F.Shelf.files l.fn.shelf ≡ Some files
-      → GoesOn files [] (l.root ∷ []) l.walk.read (reverse l.walk.left.items);
+      → GoesOn circuit_files files [] (l.root ∷ []) l.walk.read (reverse l.walk.left.items);
 }
 
 abbrev pub decreases-names : goal.decreases-names

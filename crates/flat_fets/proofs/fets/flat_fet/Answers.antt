@@ -1,13 +1,14 @@
 use Rattle.std.proofs.Common.{◌≡◌, ℤ, List, length, get_or, sym, ◌∙◌, ap, subst, arith, rules, to_z, of_z}
 use Rattle.std.specs.Int.{w64, w128}
 use Rattle.std.proofs.lemmas.Int.{to_z-of_z}
+use Rattle.name_classes.proofs.TreeLaws.{tree_of_names}
 use Rattle.geo_core.specs.declared.squares.Square.{Square}
 use Rattle.geo_core.specs.Images.{image}
 use Rattle.ext_model.specs.declared.records.TermRec.{TermRec}
 use Rattle.element_tree.specs.declared.tree.ElementTree.{ElementTree}
 use Rattle.flat_limits.proofs.TreeLaws.{no_flat}
 use Rattle.node_labels.specs.Spots.{element_at}
-use Rattle.node_labels.proofs.SpotLaws.{tree_of_names, element_here, read_small}
+use Rattle.node_labels.proofs.SpotLaws.{element_here, read_small}
 use Rattle.flat_fets.specs.Sides.{AreFlatTerminals}
 use Rattle.flat_fets.proofs.fets.flat_fet.Goals as goal
 
@@ -42,13 +43,13 @@ returns c =
     let Q : List TermRec → Type 0 = λ l. AreFlatTerminals c.args.nodes.now (element_at names c.args.element) c.items-sides.result.now l in
     let terminals = subst P c.items-sides.ensures (subst Q (sym c.of.ensures) c.in_ok-terminals.ensures) in
     record {
-      kind = c.in_ok-copied.ensures ∙ c.bytes.ensures;
+      kind = c.in_ok-copy.ensures;
       point = ap (λ (a : ℤ). square a (to_z w64 (of_z w64 place.y))) place_x ∙ ap (square place.x) place_y ∙ c.square-place.ensures.value
           ∙ ap (λ (a : ℤ). image to_root (square a (to_z w64 (of_z w64 fet.y)))) x_is ∙ ap (λ (b : ℤ). image to_root (square fet.x b)) y_is
           ∙ here.for.places (square fet.x fet.y) c.requires.fet.x c.requires.fet.y;
       area = to_z-of_z w128 fet.area (search rules);
       perimeter = to_z-of_z w128 fet.perimeter (search rules);
-      substrate = c.in_ok-copied-2.ensures ∙ c.bytes-2.ensures;
+      substrate = c.in_ok-copy-2.ensures;
       gate = c.in_ok-flat_gate.ensures.node;
       gate_length = c.in_ok-flat_gate.ensures.length;
       in_order = terminals.in_order;

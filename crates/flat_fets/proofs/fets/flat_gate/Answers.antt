@@ -23,5 +23,5 @@ returns-clause-node c =
     (c.requires.nodes list is_list) (name_in element name) here in
     let below = label_below (elements_in c.args.names.now) list c.args.labels.now (length nodes) is_list.in_order (c.requires.labels list is_list)
     (name_in element name) here in
-    c.in_ok-copied.ensures ∙ c.bytes.ensures ∙ name_read nodes number (omega (arith, below, labelled)) c.index-nodes-node.result
+    c.in_ok-copy.ensures ∙ name_read nodes number (omega (arith, below, labelled)) c.index-nodes-node.result
     ∙ ap (name_of_node nodes) labelled ∙ sym named

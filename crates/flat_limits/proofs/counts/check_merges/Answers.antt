@@ -1,8 +1,8 @@
 use Rattle.std.proofs.Common.{ℕ, length, ◌∙◌, ap, inr, Bool, cond}
 use Rattle.std.specs.Prelude.{Some, None}
-use Rattle.geo_core.specs.declared.limits.Limit.TheVariants.{Merges}
 use Rattle.ext_model.specs.declared.records.CellExt.{CellExt}
 use Rattle.circuit_model.specs.declared.faults.FlatFault.TheVariants.{TooMany}
+use Rattle.circuit_model.specs.declared.limits.CircuitLimit.TheVariants.{Merges}
 use Rattle.circuit_model.specs.declared.limits.TheConstants.{MOST_MERGES}
 use Rattle.flat_limits.proofs.TreeLaws.{size_within, past_is}
 use Rattle.flat_limits.proofs.counts.check_merges.Goals as goal

@@ -11,5 +11,5 @@ returns c =
     let has : HasText names c.args.number text = has_text names c.requires.names c.args.number c.requires.number c.clear.new.self.items text
     c.clear.ensures.items c.in_ok-append.ensures in
     let P : List ℕ → Type 0 = HasText names c.args.number in
-    IfOk-weaker c.copied.result (λ (name : List ℕ). name ≡ c.as_slice.result.now) P
-    (λ name is. subst P (sym (is ∙ c.as_slice.ensures.value)) has) c.copied.ensures
+    IfOk-weaker c.of.result (λ (name : List ℕ). name ≡ c.as_slice.result.now) P
+    (λ name is. subst P (sym (is ∙ c.as_slice.ensures.value)) has) c.of.ensures

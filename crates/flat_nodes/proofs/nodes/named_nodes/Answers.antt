@@ -2,11 +2,11 @@ use Rattle.std.proofs.Common.{◌≡◌, ◌<◌, ◌≤◌, ◌+◌, ℕ, List,
 use Rattle.std.specs.Prelude.{Some, slice_get, slice_index}
 use Rattle.std.proofs.Math.ListN.{set}
 use Rattle.std.proofs.lemmas.Option.{slice_get_read}
+use Rattle.finite_sets.proofs.Places.{In-slice_get}
 use Rattle.ext_model.specs.declared.records.NodeRec.{NodeRec}
 use Rattle.ext_model.specs.RecordNames.{names_of}
 use Rattle.full_names.specs.Names.{elements_in}
 use Rattle.flat_nodes.specs.Named.{HasAlias, ArePlaced}
-use Rattle.node_labels.proofs.PlaceLaws.{In-place}
 use Rattle.flat_nodes.proofs.PlacedLaws.{placed_alias, placed_set, placed_push}
 use Rattle.flat_nodes.proofs.ScanLaws.{AreNamedUpTo, scan_alias, scan_new, next_label, scan_all}
 use Rattle.flat_nodes.proofs.nodes.named_nodes.Goals as goal
@@ -39,7 +39,7 @@ loop-number-preserved c =
                 (let P : List NodeRec → Type 0 = ArePlaced names in
                 subst P (sym is)
                 (placed_set names nodes label new c.loop-number.invariant.placed
-                (placed_alias (elements_in names) node c.in_ok-name.name new alias (c.loop-number.invariant.placed node (In-place nodes label node here)))));
+                (placed_alias (elements_in names) node c.in_ok-name.name new alias (c.loop-number.invariant.placed node (In-slice_get nodes label node here)))));
           })
       | else-label-len+in_ok-placed_node+in_ok-push w ↦
           (let past : length nodes ≤ label = (let more = w.if-label-len.false in let many = c.len.ensures in let stored = c.loop-number.nodes.ok.0 in

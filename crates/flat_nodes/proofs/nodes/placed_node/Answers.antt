@@ -129,5 +129,5 @@ returns-clause-place c =
           ∙ ap (λ (n : NodeRec). image to_root (square n.x n.y)) node
           ∙ o.here.for.places (square o.came.node.x o.came.node.y) o.lawful.x o.lawful.y
           ∙ ap (λ (e : Element). placed e.uses (square o.came.node.x o.came.node.y)) o.same;
-      kind = c.in_ok-copied.ensures ∙ c.bytes.ensures ∙ ap (λ (n : NodeRec). n.kind) node;
+      kind = c.in_ok-copy.ensures ∙ ap (λ (n : NodeRec). n.kind) node;
     }

@@ -2,13 +2,14 @@ use Rattle.std.proofs.Common.{◌≡◌, ◌<◌, ◌≤◌, List, [], length, a
 use Rattle.std.specs.Prelude.{Some, slice_get}
 use Rattle.std.proofs.lemmas.Option.{slice_get-get_or, get_or_from_slice_get}
 use Rattle.finite_sets.specs.Lists.{In}
+use Rattle.finite_sets.proofs.Firsts.{first_some-none_In}
 use Rattle.ext_model.specs.declared.records.CellExt.{CellExt}
 use Rattle.circuit_model.specs.Elements.{Element, elements_of}
 use Rattle.circuit_model.specs.Circuits.{IsCircuitOf}
 use Rattle.circuit_model.specs.Refusals.{node_count, merge_count, class_fault}
 use Rattle.circuit_model.specs.declared.limits.TheConstants.{MOST_NODES, MOST_MERGES}
 use Rattle.full_names.specs.Names.{elements_in}
-use Rattle.flatten.proofs.FaultLaws.{few_nodes, few_merges, no_fault_In, alike_classes, elements_at_root}
+use Rattle.flatten.proofs.FaultLaws.{few_nodes, few_merges, alike_classes, elements_at_root}
 use Rattle.flatten.proofs.flat.meant_circuit.Goals as goal
 
 abbrev no_ext : CellExt
@@ -25,7 +26,7 @@ circuit_of-requires-clause-measured c element here =
     let is : slice_get exts root ≡ Some top = slice_get-get_or exts root no_ext inside in
     let elements = elements_at_root names exts c.requires.exts root c.requires.root top is in
     let P : List Element → Type 0 = λ l. In element l in
-    alike_classes top element (no_fault_In (class_fault top) (elements_of exts top) (c.in_ok-check_classes.ensures.alike top is) element
+    alike_classes top element (first_some-none_In (class_fault top) (elements_of exts top) (c.in_ok-check_classes.ensures.alike top is) element
     (subst P elements here))
     ∙ ap (λ (e : CellExt). length e.classes)
     (sym (get_or_from_slice_get exts root top c.index-exts-root.result is) ∙ sym c.index-exts-root.is)

@@ -15,7 +15,7 @@ pub loop-plane-preserved : goal.loop-plane-preserved
 loop-plane-preserved g c =
     let kinds = g.Y.Layers.kind c.args.layers.now in
     let plane = c.loop-plane.plane in
-    let are = subst (λ (v : List (Rect × TypeId)). AreTilesOf (kinds plane) c.args.area v) (sym c.as_slice.ensures.value) c.in-Ok.ensures.tiles in
+    let are = subst (λ (v : List (Rect × TypeId)). AreTilesOf (kinds plane) c.args.area v) (sym c.as_slice.ensures.value) c.in_ok-found.ensures in
     subst (HasGathered (plane + 1) (seen_in c.args.area kinds)) (sym c.in_ok-push_tiles.ensures)
     (gathered_more c.args.area kinds plane c.as_slice.result.now c.loop-plane.tiles.items c.requires.near c.loop-plane.invariant are)
 

@@ -35,7 +35,7 @@ returns-clause-squares g c =
     let library = c.args.library.now in
     let tree = tree_at (seen library) c.args.cell.0 in
     let tiles = c.in_ok-tiles.field-0.tiles.items in
-    let found = c.in_ok-offending_by_plane.field-0.items in
+    let found = c.in_ok-found.found.items in
     let typed : HaveTypedParts library.tech tiles = record {
       count = length (parts_in library.tech tree);
       of_parts = meeting_tiles_are_of_parts library.tech tree tiles c.lawful.ensures.well_formed c.lawful.ensures.rules c.typed.ensures c.requires.clean
@@ -45,7 +45,7 @@ returns-clause-squares g c =
     } in
     let of_raw = subst (λ (t : List PartTile). (typed : HaveTypedParts c.tech-2.result.now t) → AreStripsByPlane
     (λ plane. OffendsOn c.tech-2.result.now (parts_of_plane c.tech-2.result.now t typed.count plane) plane)
-    (length c.tech-2.result.now.planes) found) c.as_slice.ensures.value c.in_ok-offending_by_plane.ensures in
+    (length c.tech-2.result.now.planes) found) c.as_slice.ensures.value c.in_ok-found.ensures in
     let of_tiles = subst (λ (raw : RawTech). (typed : HaveTypedParts raw tiles) → AreStripsByPlane
     (λ plane. OffendsOn raw (parts_of_plane raw tiles typed.count plane) plane) (length raw.planes) found) c.tech-2.ensures of_raw in
     offences_of_tiles library.tech tree tiles c.lawful.ensures.well_formed c.lawful.ensures.rules c.typed.ensures c.requires.clean
@@ -53,7 +53,7 @@ returns-clause-squares g c =
 
 pub returns-clause-clean : goal.returns-clause-clean
 returns-clause-clean g c =
-    clean_without_strips c.args.library.now.tech (tree_at (seen c.args.library.now) c.args.cell.0) c.in_ok-offending_by_plane.field-0.items
+    clean_without_strips c.args.library.now.tech (tree_at (seen c.args.library.now) c.args.cell.0) c.in_ok-found.found.items
     c.lawful.ensures.well_formed c.typed.ensures c.requires.clean (returns-clause-squares g c)
 
 pub returns-clause-keeps : goal.returns-clause-keeps
@@ -66,8 +66,8 @@ returns-clause-keeps g c none =
 pub returns-in_err-tiles-clause-steps : goal.returns-in_err-tiles-clause-steps
 returns-in_err-tiles-clause-steps g c work is = let bound = c.meeting_tiles.ensures.steps work is in omega (arith, bound)
 
-pub returns-in_err-offending_by_plane-clause-steps : goal.returns-in_err-offending_by_plane-clause-steps
-returns-in_err-offending_by_plane-clause-steps g c work is = let bound = c.meeting_tiles.ensures.steps work is in omega (arith, bound)
+pub returns-in_err-found-clause-steps : goal.returns-in_err-found-clause-steps
+returns-in_err-found-clause-steps g c work is = let bound = c.meeting_tiles.ensures.steps work is in omega (arith, bound)
 
 pub returns-clause-steps : goal.returns-clause-steps
 returns-clause-steps g c work is = let bound = c.meeting_tiles.ensures.steps work is in omega (arith, bound)

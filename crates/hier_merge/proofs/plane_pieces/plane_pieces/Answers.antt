@@ -1,9 +1,8 @@
 use Rattle.std.proofs.Common.{◌≡◌, ◌<◌, List, length, sym, ap, subst, ◌∙◌, arith}
 use Rattle.std.specs.Prelude.{All, AllPairs}
-use Rattle.finite_sets.proofs.Searches.{All-from_In}
+use Rattle.finite_sets.proofs.Searches.{All-from_In, All-In}
 use Rattle.geo_core.specs.Areas.{AreDisjoint, IsNear}
 use Rattle.geo_core.specs.Covering.{IsProper}
-use Rattle.tech_model.proofs.WellFormedLaws.{All_In}
 use Rattle.offences.specs.declared.set_tiles.SetTile.{SetTile}
 use Rattle.offences.specs.declared.stacks.TypedStack.{TypedStack}
 use Rattle.offences.specs.PartSets.{AreInPartOrder}
@@ -23,7 +22,7 @@ typed_stacks-requires-clause-near c =
     let on = parts_on_plane raw plane typed.count tiles typed.of_parts in
     let all : All (λ (tile : SetTile). IsNear tile.area) (tiles_on raw plane tiles) =
     All-from_In (λ (tile : SetTile). IsNear tile.area) (tiles_on raw plane tiles) (λ tile among.
-    (All_In (λ (t : SetTile). (t.part < typed.count) × IsNear t.area) (tiles_on raw plane tiles) tile on among).1) in
+    (All-In (λ (t : SetTile). (t.part < typed.count) × IsNear t.area) (tiles_on raw plane tiles) tile on among).1) in
     subst (All (λ (tile : SetTile). IsNear tile.area)) (sym (c.as_slice.ensures.value ∙ c.in_ok-here.ensures)) all
 
 pub typed_stacks-requires-clause-ordered : goal.typed_stacks-requires-clause-ordered

@@ -55,6 +55,6 @@ offending_stacks-requires-clause-apart c =
 
 pub returns : goal.returns
 returns c typed =
-    c.in_ok-offending_stacks.ensures (parts_of_plane c.args.tech.now c.args.tiles.now typed.count c.args.plane) c.args.plane
+    c.in_ok-found.ensures (parts_of_plane c.args.tech.now c.args.tiles.now typed.count c.args.plane) c.args.plane
     (pieces_to_end c.args.tech.now c.args.plane c.args.tiles.now c.loop-seam.start c.loop-seam.stacks.items c.add_pieces-2.new.stacks.items
     c.as_slice.result.now c.loop-seam.invariant.seam c.loop-seam.invariant.pieces c.in_ok-add_pieces-2.ensures c.as_slice.ensures.value typed)

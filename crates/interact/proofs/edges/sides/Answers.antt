@@ -2,7 +2,7 @@
 use Rattle.std.proofs.Common.{sym, subst}
 use Rattle.std.proofs.lemmas.List.Filters.{dedup_is}
 use Rattle.finite_sets.specs.Lists.{In}
-use Rattle.geo_core.proofs.RowEventLaws.{sides_in_order, sides_kept}
+use Rattle.geo_strips.proofs.RowEventLaws.{sides_in_order, sides_kept}
 use Rattle.interact.proofs.edges.sides.Goals as goal
 
 pub returns-clause-all : goal.returns-clause-all

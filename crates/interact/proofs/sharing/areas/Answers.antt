@@ -5,10 +5,10 @@ use Rattle.std.proofs.lemmas.Result.{IfOk-weaker}
 use Rattle.geo_core.specs.declared.squares.Rect.{Rect}
 use Rattle.geo_core.specs.Areas.{widened, LiesWithin}
 use Rattle.geo_core.specs.Covering.{IsInTwo}
-use Rattle.geo_core.specs.Bars.{AreStripsOf}
+use Rattle.geo_strips.specs.Bars.{AreStripsOf}
 use Rattle.geo_core.specs.Strips.{IsStrips}
-use Rattle.geo_core.specs.Sweeping.{AreRunBars}
-use Rattle.geo_core.proofs.StripListLaws.{strips_of_bars}
+use Rattle.geo_strips.specs.Sweeping.{AreRunBars}
+use Rattle.geo_strips.proofs.StripListLaws.{strips_of_bars}
 use Rattle.interact.specs.NearBoxes.{IsShared}
 use Rattle.interact.proofs.Sharings.{strips_lie_within}
 use Rattle.interact.proofs.sharing.areas.Goals as goal

@@ -1,8 +1,8 @@
-use Rattle.std.proofs.Common.{sym, subst}
+use Rattle.std.proofs.Common.{refl, sym, subst}
 use Rattle.std.proofs.lemmas.Result.{IfOk-weaker}
 use Rattle.session_model.specs.Effects.{Answers}
 use Rattle.script_lines.specs.declared.commands.Command.{Command}
-use Rattle.magex_top.specs.Answers.{state_of}
+use Rattle.workspace.specs.KeptSessions.{state_of}
 use Rattle.magex_top.specs.Sessions.{CommandMeans}
 use Rattle.magex_top.proofs.session.answer.Goals as goal
 
@@ -22,7 +22,7 @@ pub returns-in-Ext2sim-clause-effect : goal.returns-in-Ext2sim-clause-effect
 returns-in-Ext2sim-clause-effect g c files told =
     IfOk-weaker c.ext2sim.result _ _
     (λ answer means. subst (λ (command : Command). Answers (CommandMeans c.args.budget c.args.number (state_of c.args.session.now) files command)
-    (state_of c.args.session.now) answer) (sym c.in-Ext2sim.is) means) (c.ext2sim.ensures.effect files (state_of c.args.session.now) told)
+    (state_of c.args.session.now) answer) (sym c.in-Ext2sim.is) (means.0, (refl, means.1))) (c.ext2sim.ensures.effect files told)
 
 pub returns-in-Vectors-clause-effect : goal.returns-in-Vectors-clause-effect
 returns-in-Vectors-clause-effect g c files told =
@@ -34,4 +34,4 @@ pub returns-in-Simrun-clause-effect : goal.returns-in-Simrun-clause-effect
 returns-in-Simrun-clause-effect g c files told =
     IfOk-weaker c.simrun.result _ _
     (λ answer means. subst (λ (command : Command). Answers (CommandMeans c.args.budget c.args.number (state_of c.args.session.now) files command)
-    (state_of c.args.session.now) answer) (sym c.in-Simrun.is) means) (c.simrun.ensures.effect files (state_of c.args.session.now) told)
+    (state_of c.args.session.now) answer) (sym c.in-Simrun.is) (means.0, (refl, means.1))) (c.simrun.ensures.effect files told)

@@ -11,7 +11,7 @@ use Rattle.session_model.proofs.CauseLaws.{no_refusals}
 use Rattle.session_model.specs.Reports.{text_of}
 use Rattle.magex_top.specs.declared.status.Status.{Status}
 use Rattle.magex_top.specs.Runs.{RunMeans, ScriptMeans, ScriptReaches, usage_text}
-use Rattle.magex_top.specs.States.{reply}
+use Rattle.line_answers.specs.LineEffects.{reply}
 use Rattle.magex_top.proofs.RunLaws.{long_run, nothing, nothing_more, nothing_reached, nothing_written, script_reached, script_run, script_written, something}
 use Rattle.magex_top.proofs.RunLaws.{usage_comes, usage_reached, usage_run, usage_written}
 use Rattle.magex_top.proofs.top_call.run.Goals as goal

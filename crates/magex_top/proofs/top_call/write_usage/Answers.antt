@@ -1,7 +1,7 @@
 use Rattle.session_model.specs.Reports.{text_of}
 use Rattle.session_model.proofs.ProgressLaws.{begun_by_prefix}
 use Rattle.magex_top.specs.Runs.{usage_text}
-use Rattle.magex_top.specs.States.{reply}
+use Rattle.line_answers.specs.LineEffects.{reply}
 use Rattle.std.proofs.Common.{[], ◌∷◌}
 use Rattle.magex_top.proofs.top_call.write_usage.Goals as goal
 

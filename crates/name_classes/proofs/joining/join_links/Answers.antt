@@ -1,8 +1,8 @@
 use Rattle.std.proofs.Common.{List, ◌∷◌, [], take, sym, ◌∙◌, subst}
 use Rattle.std.proofs.lemmas.Option.{slice_get-get_or}
+use Rattle.finite_sets.proofs.Places.{In-slice_get, take-slice_get}
 use Rattle.name_classes.specs.declared.links.Link.{Link}
 use Rattle.name_classes.specs.Joins.{AddsJoins}
-use Rattle.name_classes.proofs.ListLaws.{In-slice_get, take_push}
 use Rattle.name_classes.proofs.JoinLaws.{adds_none, adds_append}
 use Rattle.name_classes.proofs.joining.join_links.Goals as goal
 
@@ -24,6 +24,6 @@ loop-link-preserved c =
     let index = c.loop-link.link-index in
     let here = slice_get-get_or links index _ c.loop-link-test.true in
     let P : List Link → Type 0 = λ done. AddsJoins names c.args.number done c.args.partition.now c.join_link.new.partition in
-    subst P (sym (take_push links index _ here))
+    subst P (sym (take-slice_get links index _ here))
     (adds_append names c.args.number (take index links) (_ ∷ []) c.args.partition.now c.loop-link.partition c.join_link.new.partition c.loop-link.invariant
     c.join_link.ensures)

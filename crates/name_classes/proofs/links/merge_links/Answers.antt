@@ -1,9 +1,9 @@
 use Rattle.std.proofs.Common.{◌≡◌, ◌⊎◌, List, length, take, refl, sym, subst}
 use Rattle.std.proofs.lemmas.Option.{slice_get_read}
+use Rattle.finite_sets.proofs.Places.{take-slice_get}
 use Rattle.ext_model.specs.declared.records.MergeRec.{MergeRec}
 use Rattle.circuit_model.specs.declared.faults.FlatFault.TheVariants.{Memory}
 use Rattle.name_classes.specs.Links.{AreMergeLinks, IsMergeFault}
-use Rattle.name_classes.proofs.ListLaws.{take_push}
 use Rattle.name_classes.proofs.FaultLaws.{err_same, path_sound, first_faulty, second_faulty, merges_refused, merge_added}
 use Rattle.name_classes.proofs.links.merge_links.Goals as goal
 
@@ -41,7 +41,7 @@ loop-merge-preserved c =
     let merge = c.merge-item.result in
     let here = slice_get_read merges (length merges) index merge refl c.loop-merge-test.true c.merge-item.is in
     let P : List MergeRec → Type 0 = λ done. AreMergeLinks names c.args.number done c.push.new.self.items in
-    subst P (sym (take_push merges index merge here))
+    subst P (sym (take-slice_get merges index merge here))
     (rw c.in_ok-push.ensures.items
     (merge_added names c.args.number (take index merges) merge c.loop-merge.links.items _ c.loop-merge.invariant
     (record { first = c.in_ok-merge_end.ensures.ok; second = c.in_ok-merge_end-2.ensures.ok })))

@@ -1,8 +1,8 @@
 use Rattle.std.proofs.Common.{List, length, take, refl, sym, subst}
 use Rattle.std.proofs.lemmas.Option.{slice_get_read}
+use Rattle.finite_sets.proofs.Places.{In-slice_get, take-slice_get}
 use Rattle.ext_model.specs.declared.records.NodeRec.{NodeRec}
 use Rattle.name_classes.specs.Links.{AreNodeLinks}
-use Rattle.name_classes.proofs.ListLaws.{In-slice_get, take_push}
 use Rattle.name_classes.proofs.LinkLaws.{no_nodes, node_added}
 use Rattle.name_classes.proofs.links.node_links.Goals as goal
 
@@ -23,5 +23,5 @@ loop-node-preserved c =
     let node = c.node-item.result in
     let here = slice_get_read nodes (length nodes) index node refl c.loop-node-test.true c.node-item.is in
     let P : List NodeRec → Type 0 = λ done. AreNodeLinks names c.args.number done c.add_node.new.self in
-    subst P (sym (take_push nodes index node here))
+    subst P (sym (take-slice_get nodes index node here))
     (node_added names c.args.number (take index nodes) node c.loop-node.links c.add_node.new.self c.loop-node.invariant c.in_ok-add_node.ensures)

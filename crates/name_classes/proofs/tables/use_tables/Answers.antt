@@ -1,10 +1,10 @@
 use Rattle.std.proofs.Common.{List, ◌∷◌, [], ◌++◌, take, length, refl, sym, subst}
 use Rattle.std.proofs.lemmas.Option.{slice_get_read}
+use Rattle.finite_sets.proofs.Places.{take-slice_get}
 use Rattle.ext_model.specs.declared.records.UseRec.{UseRec}
 use Rattle.ext_model.specs.declared.records.CellExt.{CellExt}
 use Rattle.name_classes.specs.declared.tables.UseTable.{UseTable}
 use Rattle.name_classes.specs.UseTables.{AreUseTables, IsTableOf}
-use Rattle.name_classes.proofs.ListLaws.{take_push}
 use Rattle.name_classes.proofs.TableLaws.{tables_push}
 use Rattle.name_classes.proofs.tables.use_tables.Goals as goal
 
@@ -17,6 +17,6 @@ loop-ext-preserved c =
     let P : List CellExt → Type 0 = λ xs. AreUseTables xs c.push.new.self.items in
     let Q : List UseTable → Type 0 = λ ts. AreUseTables (take number exts ++ ext ∷ []) ts in
     let R : List UseRec → Type 0 = λ uses. IsTableOf uses c.in_ok-of.field-0 in
-    subst P (sym (take_push exts number ext here))
+    subst P (sym (take-slice_get exts number ext here))
     (subst Q (sym c.in_ok-push.ensures.items)
     (tables_push (take number exts) ext c.loop-ext.tables.items c.in_ok-of.field-0 c.loop-ext.invariant (subst R c.items.ensures c.in_ok-of.ensures)))

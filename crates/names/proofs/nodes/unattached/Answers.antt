@@ -7,7 +7,7 @@ use Rattle.names.specs.CountedLabels.{text_at}
 use Rattle.names.specs.Groups.{key_at}
 use Rattle.names.proofs.TextLists.{IsLeftBelow, texts_by, texts_none, texts_same, texts_more, none_from_test, some_from_test}
 use Rattle.names.proofs.nodes.unattached.Goals as goal
-use Rattle.names.proofs.nodes.unattached.Goals.{then-is_none+in_ok-name_of+in_ok-push, else-is_none}
+use Rattle.names.proofs.nodes.unattached.Goals.{then-is_none+in_ok-copy+in_ok-push, else-is_none}
 
 pub loop-index-init : goal.loop-index-init
 loop-index-init c = texts_none c.args.labels.now c.args.named.now _ c.new-texts.ensures.items
@@ -21,10 +21,10 @@ loop-index-preserved c =
     let label = c.index-labels-index.result in
     let text : label.text ≡ text_at labels n = ap (λ (v : Label). v.text) (get_or_read labels n label c.loop-index-test.true c.index-labels-index.is no_label) in
     elim c.if-is_none.branch [
-      | then-is_none+in_ok-name_of+in_ok-push w ↦
+      | then-is_none+in_ok-copy+in_ok-push w ↦
           let none = none_from_test (key_at named n) (c.is_none.ensures ∙ not_from_true c.is_none.result w.if-is_none.true) in
           rw w.texts-is (texts_more labels named n texts w.push.new.self.items none
-          (w.in_ok-push.ensures.items ∙ ap (λ (v : List ℕ). texts ++ v ∷ []) (w.in_ok-name_of.ensures ∙ w.bytes.ensures ∙ text)) c.loop-index.invariant)
+          (w.in_ok-push.ensures.items ∙ ap (λ (v : List ℕ). texts ++ v ∷ []) (w.in_ok-copy.ensures ∙ text)) c.loop-index.invariant)
       | else-is_none w ↦
           let some = some_from_test (key_at named n) (c.is_none.ensures ∙ not_from_false c.is_none.result w.if-is_none.false) in
           rw w.texts-is (texts_same labels named n some.0 texts some.1 c.loop-index.invariant)

@@ -3,11 +3,12 @@ use Rattle.std.specs.Prelude.{slice_get}
 use Rattle.std.proofs.Math.ListN.{set, length-set}
 use Rattle.std.proofs.lemmas.Bool.{cases_lt}
 use Rattle.std.proofs.lemmas.Option.{slice_get_within}
+use Rattle.name_classes.proofs.TreeLaws.{tree_of_names}
 use Rattle.full_names.specs.Names.{IsReached}
 use Rattle.flat_limits.proofs.TreeLaws.{no_flat}
 use Rattle.node_labels.specs.Spots.{cell_at}
 use Rattle.node_labels.proofs.PlaceLaws.{place_set, place_set_cases, place_set_again}
-use Rattle.node_labels.proofs.SpotLaws.{tree_of_names, element_here}
+use Rattle.node_labels.proofs.SpotLaws.{element_here}
 use Rattle.node_labels.proofs.reached.reached_cells.Goals as goal
 
 pub index_mut-requires : goal.index_mut-requires

@@ -1,10 +1,10 @@
 use Rattle.std.proofs.Common.{◌≡◌, ◌<◌, ◌+◌, ℕ, true, false, List, [], ◌∷◌, length, arith, sym, ◌∙◌, ap, subst, inl, inr, refl, length-append}
 use Rattle.std.specs.Prelude.{Some, slice_get}
 use Rattle.std.proofs.lemmas.Option.{slice_get_read, same_Some, get_or_from_slice_get}
+use Rattle.finite_sets.proofs.Places.{slice_get-push_cases}
 use Rattle.ext_model.specs.declared.records.CellExt.{CellExt}
 use Rattle.node_labels.specs.declared.spots.CellSpots.{CellSpots}
 use Rattle.node_labels.specs.Spots.{AreSpotsIn, cell_at, element_at}
-use Rattle.node_labels.proofs.PlaceLaws.{place_push_cases}
 use Rattle.node_labels.proofs.SpotLaws.{flat_here}
 use Rattle.node_labels.proofs.spots.cell_spots.Goals as goal
 
@@ -15,7 +15,7 @@ loop-cell-preserved c =
     let long = c.loop-cell.invariant.long in
     record {
       long = ap length pushed ∙ length-append spots (c.in_ok-spots_at.field-0 ∷ []) ∙ ap (λ n. n + 1) long;
-      each = λ cell ext one at found reached. elim (place_push_cases spots c.in_ok-spots_at.field-0 one cell
+      each = λ cell ext one at found reached. elim (slice_get-push_cases spots c.in_ok-spots_at.field-0 one cell
           (ap (λ (l : List CellSpots). slice_get l cell) (sym pushed) ∙ at)) [
             | inl was ↦ c.loop-cell.invariant.each cell ext one was found reached
             | inr now ↦

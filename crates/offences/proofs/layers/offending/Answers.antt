@@ -2,6 +2,7 @@ use Rattle.std.proofs.Common.{◌≡◌, ◌≢◌, ℕ, List, length, map, sym,
 use Rattle.std.specs.Prelude.{All, None}
 use Rattle.std.proofs.lemmas.List.{length-map}
 use Rattle.std.proofs.lemmas.List.Elements.{All-map}
+use Rattle.std.proofs.lemmas.Simd.{map-map}
 use Rattle.geo_core.specs.declared.squares.Square.{Square}
 use Rattle.geo_core.specs.declared.squares.Rect.{Rect}
 use Rattle.geo_core.specs.Areas.{widened, common_rect}
@@ -15,7 +16,7 @@ use Rattle.offences.specs.LayerParts.{ArePartTiles}
 use Rattle.offences.specs.Offences.{SetLayout, OffendsOn, HaveTypes}
 use Rattle.offences.specs.Pieces.{CoverExactly}
 use Rattle.offences.specs.SetTiles.{AreTilesOfParts, tile_parts, set_layout}
-use Rattle.offences.proofs.LayerLaws.{grown_proper, near_before, tiles_of_parts, tiles_have_types, layers_covered, map_twice}
+use Rattle.offences.proofs.LayerLaws.{grown_proper, near_before, tiles_of_parts, tiles_have_types, layers_covered}
 use Rattle.offences.proofs.layers.offending.Goals as goal
 
 pub widened-around-requires : goal.widened-around-requires
@@ -61,7 +62,7 @@ returns g c =
     let tiles = c.in_ok-tiles.tiles.items in
     let pieces = c.in_ok-pieces.pieces.items in
     let cut = map (λ (piece : Rect). common_rect piece area) pieces in
-    let found = c.in_ok-strips.field-0.items in
+    let found = c.in_ok-found.found.items in
     let are : ArePartTiles raw plane (widened area) kinds tiles =
     subst (λ (r : RawTech). ArePartTiles r plane (widened area) kinds tiles) c.raw.ensures.value
     (subst (λ (a : Rect). ArePartTiles c.raw.result.now plane a kinds tiles) c.widened-around.ensures c.in_ok-tiles.ensures) in
@@ -72,10 +73,10 @@ returns g c =
     (subst (λ (ts : List SetTile). CoverExactly (OffendsOn raw (tile_parts ts plane (length c.args.parts.now)) plane) pieces) c.as_slice.ensures.value
     c.in_ok-pieces.ensures) in
     let covered = layers_covered raw plane area kinds tiles are defined pieces cover in
-    let layouts = map_twice (set_layout raw) g.Y.Layers.kind c.args.parts.now in
+    let layouts = sym (map-map (set_layout raw) g.Y.Layers.kind c.args.parts.now) in
     let inside : c.as_slice-3.result.now ≡ cut =
     c.as_slice-3.ensures.value ∙ c.in_ok-inside.ensures ∙ ap (map (λ (piece : Rect). common_rect piece area)) c.as_slice-2.ensures.value in
     subst (λ (ls : List SetLayout). IsStrips (λ square. Covers area square × OffendsOn raw ls plane square) found) (sym layouts)
     (strips_same (IsInUnion cut) (λ square. Covers area square × OffendsOn raw
     (map (set_layout raw) kinds) plane square) covered.sound covered.whole found
-    (subst (λ (rects : List Rect). IsStrips (IsInUnion rects) found) inside c.in_ok-strips.ensures))
+    (subst (λ (rects : List Rect). IsStrips (IsInUnion rects) found) inside c.in_ok-found.ensures))

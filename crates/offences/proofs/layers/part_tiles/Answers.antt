@@ -18,7 +18,7 @@ loop-number-preserved g c =
     let made : after ≡ before ++ map (layer_tile raw i) found =
     c.in_ok-push_tiles.ensures ∙ ap (λ (tiles : List (Rect × TypeId)). before ++ map (layer_tile raw i) tiles) c.as_slice.ensures.value in
     next_part_tiles raw c.args.plane c.args.area g.Y.Layers.kind c.args.parts.now i c.index-parts-number.result c.loop-number-test.true c.index-parts-number.is
-    before after found c.loop-number.invariant c.in_ok-tiles.ensures.tiles made
+    before after found c.loop-number.invariant c.in_ok-tiles.ensures made
 
 pub returns : goal.returns
 returns g c =

@@ -9,6 +9,6 @@ pub returns : goal.returns
 returns c = λ parts plane are.
     let pieces = c.in_ok-pieces.pieces.items in
     let cover = c.in_ok-pieces.ensures parts plane are in
-    let found = c.in_ok-strips.field-0.items in
+    let found = c.in_ok-found.found.items in
     strips_same (IsInUnion pieces) (OffendsOn c.args.tech.now parts plane) cover.sound cover.whole found
-    (subst (λ (rects : List Rect). IsStrips (IsInUnion rects) found) c.as_slice.ensures.value c.in_ok-strips.ensures)
+    (subst (λ (rects : List Rect). IsStrips (IsInUnion rects) found) c.as_slice.ensures.value c.in_ok-found.ensures)

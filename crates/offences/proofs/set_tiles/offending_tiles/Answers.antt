@@ -12,6 +12,6 @@ returns c =
     let parts = tile_parts c.args.tiles.now plane c.args.count in
     let pieces = c.in_ok-pieces.pieces.items in
     let cover = c.in_ok-pieces.ensures in
-    let found = c.in_ok-strips.field-0.items in
+    let found = c.in_ok-found.found.items in
     strips_same (IsInUnion pieces) (OffendsOn c.args.tech.now parts plane) cover.sound cover.whole found
-    (subst (λ (rects : List Rect). IsStrips (IsInUnion rects) found) c.as_slice.ensures.value c.in_ok-strips.ensures)
+    (subst (λ (rects : List Rect). IsStrips (IsInUnion rects) found) c.as_slice.ensures.value c.in_ok-found.ensures)

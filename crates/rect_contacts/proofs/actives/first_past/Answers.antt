@@ -2,7 +2,7 @@ use Rattle.std.proofs.Common.{rules, ◌≡◌, pos, ◌+ℤ◌, ◌≤ℤ◌, a
 use Rattle.std.specs.Int.RustNames.{FitsSigned}
 use Rattle.std.specs.Option.{IsSome}
 use Rattle.std.proofs.lemmas.Int.{ints, to_z-of_z}
-use Rattle.rect_contacts.proofs.RowLaws.{from_not_gt, not_gt}
+use Rattle.geo_strips.proofs.RowLaws.{from_not_gt, not_gt}
 use Rattle.rect_contacts.proofs.actives.first_past.Goals as goal
 
 pub returns-clause-some : goal.returns-clause-some

@@ -1,8 +1,8 @@
 use Rattle.std.proofs.Common.{take}
+use Rattle.finite_sets.proofs.Searches.{All-In}
 use Rattle.geo_core.specs.Areas.{IsSmall}
 use Rattle.run_plane.specs.Rows.{edge}
 use Rattle.run_plane.proofs.BandLaws.{rising_found}
-use Rattle.run_plane.proofs.RowLaws.{all_in}
 use Rattle.run_plane.proofs.SettingLaws.{rows_set}
 use Rattle.run_plane.proofs.changes.rows_for.Goals as goal
 
@@ -10,7 +10,7 @@ pub set_piece-requires-clause-rising : goal.set_piece-requires-clause-rising
 set_piece-requires-clause-rising c =
     let heights = c.args.heights.now in
     rising_found c.args.rows.now (take c.loop-piece.piece-index c.args.pieces.now) edge heights c.loop-piece.found.items c.loop-piece.invariant c.requires.above
-    (all_in IsSmall heights c.requires.small)
+    (λ height here. All-In IsSmall heights height c.requires.small here)
 
 pub loop-piece-preserved : goal.loop-piece-preserved
 loop-piece-preserved c =

@@ -36,11 +36,11 @@ regions_of_tiles-requires-clause-by_plane c =
 pub returns : goal.returns
 returns c =
     let are : c.as_slice.result.now ≡ tiles_of c.args.stacks.now = c.as_slice.ensures.value ∙ c.in_ok-tiles.ensures in
-    let same = subst (λ (tiles : List RegionTile). (labels : List ℕ) × AreRenumbered tiles labels c.in-Ok.regions.tiles) are c.in-Ok.ensures.same in
+    let same = subst (λ (tiles : List RegionTile). (labels : List ℕ) × AreRenumbered tiles labels c.in_ok-regions.regions.tiles) are c.in_ok-regions.ensures.same in
     record {
       labels = same.0;
       same = same.1;
-      are = λ parts stacks. c.in-Ok.ensures.regions (parts_layout c.args.tech.now parts)
+      are = λ parts stacks. c.in_ok-regions.ensures.regions (parts_layout c.args.tech.now parts)
           (subst (AreLayoutTiles (parts_layout c.args.tech.now parts)) (sym are)
           (c.stacks_are_layout_tiles.ensures parts c.args.stacks.now stacks c.requires.typed));
     }

@@ -3,8 +3,8 @@ use Rattle.std.proofs.lemmas.Result.{on_ok_weaker}
 use Rattle.cell_library.specs.Libraries.{LibraryParts, seen, edits_of}
 use Rattle.cell_library.proofs.FaultLaws.{ok_or_err, both_err, answers_memory}
 use Rattle.std.specs.Prelude.{IsSome, ◌≤◌}
-use Rattle.geo_core.specs.declared.limits.Limit.TheVariants.{Cells}
 use Rattle.cell_library.specs.declared.faults.LibFault.TheVariants.{CellExists, TooMany}
+use Rattle.cell_library.specs.declared.limits.LibraryLimit.TheVariants.{Cells}
 use Rattle.cell_library.specs.declared.limits.TheConstants.{MOST_CELLS}
 use Rattle.cell_library.specs.CellEdits.{IsCellAdded}
 use Rattle.cell_library.specs.Contents.{position_of}

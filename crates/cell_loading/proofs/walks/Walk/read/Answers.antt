@@ -1,9 +1,13 @@
 use Rattle.std.proofs.Common.{◌≡◌, ◌∷◌}
+use Rattle.finite_sets.proofs.Searches.{on_ok_both}
+use Rattle.session_model.specs.FileTrees.{StopsAt}
+use Rattle.session_model.proofs.StopLaws.{refusal_weaker}
 use Rattle.cell_library.specs.Libraries.{seen}
 use Rattle.cell_loading.specs.CellFiles.{file_gives}
-use Rattle.cell_loading.specs.Walks.{names_left, StopsAt}
+use Rattle.cell_loading.specs.Readings.{cell_files}
+use Rattle.cell_loading.specs.Walks.{names_left}
 use Rattle.cell_loading.proofs.ReadingLaws.{stops_here}
-use Rattle.cell_loading.proofs.WalkLaws.{ok_by_two, read_few, read_frames, read_goes_on, read_pushed, read_so_far, refusal_weaker}
+use Rattle.cell_loading.proofs.WalkLaws.{read_few, read_frames, read_goes_on, read_pushed, read_so_far}
 use Rattle.std.specs.Prelude.{Err}
 use Rattle.cell_loading.proofs.walks.Walk.read.Goals as goal
 
@@ -12,39 +16,39 @@ returns-in-Err-clause-stops g c files read told are =
     let view = seen c.args.library.now in
     let cells = c.args.self.now.cells in
     refusal_weaker c.in-Err.stop (λ told. file_gives files view read c.args.name ≡ Err told)
-    (StopsAt files view read (c.args.name ∷ names_left cells c.args.self.now.frames.items))
+    (StopsAt (cell_files view) files read (c.args.name ∷ names_left cells c.args.self.now.frames.items))
     (λ fault gives. stops_here files view read cells c.args.name (names_left cells c.args.self.now.frames.items) fault are c.requires.new gives)
     (c.in-Err.ensures.refused files read told are)
 
 pub returns-in-Ok-clause-so_far : goal.returns-in-Ok-clause-so_far
 returns-in-Ok-clause-so_far g c =
-    ok_by_two c.add.result (λ cells_are frames_are. read_so_far (seen c.args.library.now) c.args.self.now.cells c.args.self.now.frames.items
+    on_ok_both c.add.result (λ cells_are frames_are. read_so_far (seen c.args.library.now) c.args.self.now.cells c.args.self.now.frames.items
     c.args.name
     c.in-Ok.body c.add.new.self.cells c.add.new.self.frames.items cells_are frames_are c.requires.frames c.requires.so_far c.requires.new
     c.in-Ok.ensures.follows) c.add.ensures.cells c.add.ensures.frames
 
 pub returns-in-Ok-clause-frames : goal.returns-in-Ok-clause-frames
 returns-in-Ok-clause-frames g c =
-    ok_by_two c.add.result (λ cells_are frames_are. read_frames (seen c.args.library.now) c.args.self.now.cells c.args.self.now.frames.items
+    on_ok_both c.add.result (λ cells_are frames_are. read_frames (seen c.args.library.now) c.args.self.now.cells c.args.self.now.frames.items
     c.args.name
     c.in-Ok.body c.add.new.self.cells c.add.new.self.frames.items cells_are frames_are c.requires.frames) c.add.ensures.cells c.add.ensures.frames
 
 pub returns-in-Ok-clause-pushed : goal.returns-in-Ok-clause-pushed
 returns-in-Ok-clause-pushed g c =
-    ok_by_two c.add.result (λ cells_are frames_are. read_pushed (seen c.args.library.now) c.args.self.now.cells c.args.self.now.frames.items
+    on_ok_both c.add.result (λ cells_are frames_are. read_pushed (seen c.args.library.now) c.args.self.now.cells c.args.self.now.frames.items
     c.args.name
     c.in-Ok.body c.add.new.self.cells c.add.new.self.frames.items cells_are frames_are c.requires.frames) c.add.ensures.cells c.add.ensures.frames
 
 pub returns-in-Ok-clause-few : goal.returns-in-Ok-clause-few
 returns-in-Ok-clause-few g c =
-    ok_by_two c.add.result (λ cells_are frames_are. read_few (seen c.args.library.now) c.args.self.now.cells c.args.self.now.frames.items c.args.name
+    on_ok_both c.add.result (λ cells_are frames_are. read_few (seen c.args.library.now) c.args.self.now.cells c.args.self.now.frames.items c.args.name
     c.in-Ok.body c.add.new.self.cells c.add.new.self.frames.items cells_are frames_are c.requires.frames c.in-Ok.ensures.follows.few_uses)
     c.add.ensures.cells c.add.ensures.frames
 
 pub returns-in-Ok-clause-goes_on : goal.returns-in-Ok-clause-goes_on
 returns-in-Ok-clause-goes_on g c files read told are =
     let given = c.in-Ok.ensures.read files read told are in
-    ok_by_two c.add.result (λ cells_are frames_are. read_goes_on (seen c.args.library.now) c.args.self.now.cells c.args.self.now.frames.items
+    on_ok_both c.add.result (λ cells_are frames_are. read_goes_on (seen c.args.library.now) c.args.self.now.cells c.args.self.now.frames.items
     c.args.name
     c.in-Ok.body c.add.new.self.cells c.add.new.self.frames.items cells_are frames_are c.requires.frames files read given.0 are c.requires.new given.1
     given.2) c.add.ensures.cells c.add.ensures.frames

@@ -1,7 +1,7 @@
 use Rattle.std.proofs.Common.{List, ℕ, sym, subst}
 use Rattle.cell_bodies.specs.declared.bodies.CellBody.{CellBody}
 use Rattle.cell_library.specs.Libraries.{seen}
-use Rattle.cell_loading.specs.Walks.{names_left, AreSoFar, GoesOn}
+use Rattle.cell_loading.specs.Walks.{names_left, AreSoFar, GoesOnToBodies}
 use Rattle.cell_loading.proofs.LeftLaws.{none_taken}
 use Rattle.cell_loading.proofs.WalkLaws.{stepped_goes_on, stepped_so_far}
 use Rattle.cell_loading.proofs.walks.Walk.step.Goals as goal
@@ -22,7 +22,7 @@ returns-in-None-clause-goes_on g c files read told are =
     let cells = c.args.self.now.cells in
     let left = names_left cells c.args.self.now.frames.items in
     let after = names_left cells c.advance.new.self.frames.items in
-    subst (λ (now : List (List ℕ × CellBody)). GoesOn files view read left now (names_left now c.advance.new.self.frames.items))
+    subst (λ (now : List (List ℕ × CellBody)). GoesOnToBodies files view read left now (names_left now c.advance.new.self.frames.items))
     (sym c.advance.ensures.cells)
     (stepped_goes_on files view read cells left after
     (none_taken view cells left after _ c.in-None.is c.in_ok-name.ensures.taken) are)

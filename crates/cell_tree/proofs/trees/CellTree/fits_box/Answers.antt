@@ -1,4 +1,5 @@
 use Rattle.std.proofs.Common.{◌<◌, length, refl, sym, subst, arith}
+use Rattle.cell_tree.specs.declared.faults.TreeFault.TheVariants.{Passed}
 use Rattle.cell_tree.specs.Sizes.{CellState}
 use Rattle.cell_tree.specs.Cells.{states}
 use Rattle.cell_tree.specs.Trees.{Tree, cell_at, with_own, RefusesBox, WouldKeepWithin}
@@ -23,7 +24,7 @@ returns-clause-fits c =
           (λ (cell : CellState). with_own cell c.args.own) c.size_with_box-size.result c.args.cell
           (record { first = c.as_slice.ensures.value; second = c.as_slice-2.ensures.value; third = c.as_slice-3.ensures.value; fourth = refl }) c.size_with_box-size.ensures
           (IfOk-at_ok _ w.in-Ok.is c.fits-fits.ensures.fits))))
-      | in-Err w ↦ if_ok_none c.match-fits.result _ w.fault_of.result w.result-is
+      | in-Err w ↦ if_ok_none c.match-fits.result _ (Passed w.in-Err.dimension) w.result-is
     ]
 
 pub returns-clause-refused : goal.returns-clause-refused
@@ -33,12 +34,11 @@ returns-clause-refused c =
     elim c.match-fits.branch [
       | in-Ok w ↦ if_err_none c.match-fits.result _ _ w.result-is
       | in-Err w ↦
-          if_err_from c.match-fits.result _ w.fault_of.result w.result-is
-          (subst (λ (t : Tree). RefusesBox t c.args.cell c.args.own w.fault_of.result) c.self.view_is
-          (subst (RefusesBox _ c.args.cell c.args.own) (sym w.fault_of.ensures)
+          if_err_from c.match-fits.result _ (Passed w.in-Err.dimension) w.result-is
+          (subst (λ (t : Tree). RefusesBox t c.args.cell c.args.own (Passed w.in-Err.dimension)) c.self.view_is
           (own_refused c.self.inside.cells.items c.self.inside.book c.self.invariant c.args.cell inside c.args.own c.requires.lawful w.in-Err.dimension
           (run_refused c.self.inside.cells.items c.as_slice.result.now c.as_slice-3.result.now c.self.inside.cells.items c.self.inside.cells.items c.self.inside.book c.self.inside.book c.as_slice-2.result.now
           (λ (cell : CellState). with_own cell c.args.own) c.size_with_box-size.result c.args.cell
           (record { first = c.as_slice.ensures.value; second = c.as_slice-2.ensures.value; third = c.as_slice-3.ensures.value; fourth = refl }) c.size_with_box-size.ensures
-          w.in-Err.dimension (IfErr-at_err _ w.in-Err.is c.fits-fits.ensures.refused)))))
+          w.in-Err.dimension (IfErr-at_err _ w.in-Err.is c.fits-fits.ensures.refused))))
     ]

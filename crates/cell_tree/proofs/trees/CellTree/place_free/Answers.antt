@@ -2,6 +2,7 @@ use Rattle.std.proofs.Common.{◌≡◌, ◌<◌, length, refl, ap, sym, subst, 
 use Rattle.std.specs.Vec.{with_items}
 use Rattle.std.proofs.lemmas.List.{with_items_is}
 use Rattle.cell_tree.specs.declared.cells.TreeCell.{TreeCell}
+use Rattle.cell_tree.specs.declared.faults.TreeFault.TheVariants.{Passed}
 use Rattle.cell_tree.specs.declared.limits.TheConstants.{MOST_USES}
 use Rattle.cell_tree.specs.declared.sizes.Size.{Size}
 use Rattle.cell_tree.specs.Uses.{HasIdAt}
@@ -75,13 +76,12 @@ returns-in-Err-clause-refused c =
     c.size_with_placed-size.ensures
     ∙ ap (λ (s : List Size). with_use (size_at s c.args.cell) c.args.used (size_at s c.args.used.child.0)) c.as_slice-2.ensures.value
     ∙ placed_size c.reserve_use.new.cells c.self.inside.book whole c.args.cell inside c.args.id.items c.args.used in
-    subst (λ (t : Tree). RefusesUse t c.args.cell c.args.id.items c.args.used c.fault_of.result) view
-    (subst (RefusesUse _ c.args.cell c.args.id.items c.args.used) (sym c.fault_of.ensures)
+    subst (λ (t : Tree). RefusesUse t c.args.cell c.args.id.items c.args.used (Passed c.in-Err.dimension)) view
     (placed_refused c.reserve_use.new.cells c.self.inside.book whole c.args.cell inside c.args.id.items c.args.used c.requires.lawful child free few new c.in-Err.dimension
     (run_refused c.reserve_use.new.cells c.reserve_use.new.cells c.as_slice-3.result.now c.reserve_use.new.cells c.reserve_use.new.cells c.self.inside.book c.self.inside.book c.self.inside.book.sizes.items
     (λ (cell : CellState). with_placed cell c.args.id.items c.args.used) c.size_with_placed-size.result c.args.cell
     (record { first = refl; second = refl; third = c.as_slice-3.ensures.value ∙ items; fourth = refl }) size
-    c.in-Err.dimension c.in-Err.ensures.refused)))
+    c.in-Err.dimension c.in-Err.ensures.refused))
 
 pub add_use-requires-clause-new : goal.add_use-requires-clause-new
 add_use-requires-clause-new c =

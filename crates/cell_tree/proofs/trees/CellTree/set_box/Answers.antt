@@ -1,6 +1,7 @@
 use Rattle.std.proofs.Common.{◌<◌, length, refl, sym, subst, ◌∙◌, arith, List}
 use Rattle.std.proofs.lemmas.List.{with_items_is}
 use Rattle.cell_tree.specs.declared.cells.TreeCell.{TreeCell}
+use Rattle.cell_tree.specs.declared.faults.TreeFault.TheVariants.{Passed}
 use Rattle.cell_tree.specs.Sizes.{CellState}
 use Rattle.cell_tree.specs.Cells.{states}
 use Rattle.cell_tree.specs.Trees.{Tree, with_own, RefusesBox}
@@ -13,13 +14,12 @@ pub returns-in-Err-clause-refused : goal.returns-in-Err-clause-refused
 returns-in-Err-clause-refused c =
     let within : c.args.cell < length (states c.self.inside.cells.items) = subst (λ (t : Tree). c.args.cell < length t.cells) (sym c.self.view_is) c.requires.within in
     let inside : c.args.cell < length c.self.inside.cells.items = omega (arith, within, length-states c.self.inside.cells.items) in
-    subst (λ (t : Tree). RefusesBox t c.args.cell c.args.own c.fault_of.result) c.self.view_is
-    (subst (RefusesBox _ c.args.cell c.args.own) (sym c.fault_of.ensures)
+    subst (λ (t : Tree). RefusesBox t c.args.cell c.args.own (Passed c.in-Err.dimension)) c.self.view_is
     (own_refused c.self.inside.cells.items c.self.inside.book c.self.invariant c.args.cell inside c.args.own c.requires.lawful c.in-Err.dimension
     (run_refused c.self.inside.cells.items c.as_slice.result.now c.as_slice-3.result.now c.self.inside.cells.items c.self.inside.cells.items c.self.inside.book c.self.inside.book c.as_slice-2.result.now
     (λ (cell : CellState). with_own cell c.args.own) c.size_with_box-size.result c.args.cell
     (record { first = c.as_slice.ensures.value; second = c.as_slice-2.ensures.value; third = c.as_slice-3.ensures.value; fourth = refl }) c.size_with_box-size.ensures
-    c.in-Err.dimension c.in-Err.ensures.refused)))
+    c.in-Err.dimension c.in-Err.ensures.refused))
 
 pub invariant_of-self-2 : goal.invariant_of-self-2
 invariant_of-self-2 c =

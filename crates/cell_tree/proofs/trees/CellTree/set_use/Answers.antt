@@ -3,6 +3,7 @@ use Rattle.std.specs.Vec.{with_items}
 use Rattle.std.proofs.lemmas.List.{with_items_is}
 use Rattle.std.proofs.lemmas.Option.{same_Some}
 use Rattle.cell_tree.specs.declared.cells.TreeCell.{TreeCell}
+use Rattle.cell_tree.specs.declared.faults.TreeFault.TheVariants.{Passed}
 use Rattle.cell_tree.specs.declared.use_tables.UseBody.{UseBody}
 use Rattle.cell_tree.specs.Uses.{IsLawfulUse}
 use Rattle.cell_tree.specs.Sizes.{CellState}
@@ -37,13 +38,12 @@ returns-in-Err-clause-refused c =
     let inside : c.args.cell < length c.self.inside.cells.items = omega (arith, within, length-states c.self.inside.cells.items) in
     let at = stands_at c.self.inside.cells.items c.args.cell c.index.result.now c.args.k c.body.result.now inside c.index.ensures c.body.ensures in
     let lawful : IsLawfulUse (record { child = c.body.result.now.child; placed = c.args.placed; grid = c.args.grid }) = record { dx = c.requires.dx; dy = c.requires.dy; grid = c.requires.grid } in
-    subst (λ (t : Tree). RefusesMove t c.args.cell c.args.k c.args.placed c.args.grid c.fault_of.result) c.self.view_is
-    (subst (RefusesMove _ c.args.cell c.args.k c.args.placed c.args.grid) (sym c.fault_of.ensures)
+    subst (λ (t : Tree). RefusesMove t c.args.cell c.args.k c.args.placed c.args.grid (Passed c.in-Err.dimension)) c.self.view_is
     (moved_refused c.self.inside.cells.items c.self.inside.book c.self.invariant c.args.cell inside c.args.k (record { child = c.body.result.now.child; placed = c.args.placed; grid = c.args.grid }) at.0 c.body.result.now at.1 refl lawful c.in-Err.dimension
     (run_refused c.self.inside.cells.items c.as_slice.result.now c.as_slice-3.result.now c.self.inside.cells.items c.self.inside.cells.items c.self.inside.book c.self.inside.book c.as_slice-2.result.now
     (λ (cell : CellState). with_use_set cell c.args.k (record { child = c.body.result.now.child; placed = c.args.placed; grid = c.args.grid })) c.size_with_use-size.result c.args.cell
     (record { first = c.as_slice.ensures.value; second = c.as_slice-2.ensures.value; third = c.as_slice-3.ensures.value; fourth = refl }) c.size_with_use-size.ensures
-    c.in-Err.dimension c.in-Err.ensures.refused)))
+    c.in-Err.dimension c.in-Err.ensures.refused))
 
 pub invariant_of-self-2 : goal.invariant_of-self-2
 invariant_of-self-2 c =

@@ -1,8 +1,8 @@
 use Rattle.std.proofs.Common.{◌≡◌, ◌+◌, ◌-◌, ◌<◌, ℕ, List, length, refl, sym, subst, ap, ◌∙◌, arith}
 use Rattle.std.specs.Prelude.{slice_get}
 use Rattle.std.proofs.lemmas.Option.{slice_get_read, same_Some}
+use Rattle.finite_sets.proofs.Places.{In-slice_get}
 use Rattle.full_names.specs.Names.{ComesFrom}
-use Rattle.full_names.proofs.Lookups.{slice_get-In}
 use Rattle.full_names.proofs.OriginLaws.{global_at, global_comes, local_full, local_comes}
 use Rattle.full_names.proofs.names.FullNames.origin.Goals as goal
 
@@ -15,7 +15,7 @@ returns-then-number-len c =
     λ list full text at_text.
     let same : name.text.now ≡ text = same_Some name.text.now text (sym (global_at names c.requires.names list full c.args.number name at) ∙ at_text) in
     subst (λ (t : List ℕ). ComesFrom names t (record { element = name.element; node = name.node })) same
-    (global_comes names c.requires.names name (slice_get-In names.globals.items c.args.number name at))
+    (global_comes names c.requires.names name (In-slice_get names.globals.items c.args.number name at))
 
 pub returns : goal.returns
 returns c =

@@ -1,10 +1,10 @@
 use Rattle.std.proofs.Common.{List, sym, subst, ap, ◌∙◌}
 use Rattle.finite_sets.specs.Lists.{In}
+use Rattle.finite_sets.proofs.Places.{In-slice_get}
 use Rattle.full_names.specs.declared.globals.GlobalName.{GlobalName}
 use Rattle.full_names.specs.OwnNames.{texts_of}
 use Rattle.full_names.specs.Globals.{global_texts}
 use Rattle.std.specs.Prelude.{slice_get}
-use Rattle.full_names.proofs.Lookups.{slice_get-In}
 use Rattle.full_names.proofs.QueryLaws.{reached_known, record_within, globals_read, locals_read, lacks_global}
 use Rattle.full_names.proofs.QueryLaws.{lacks_local, lacks_of_all, local_spot, global_spot}
 use Rattle.full_names.proofs.names.FullNames.spot.Goals as goal
@@ -54,7 +54,7 @@ pub returns-in_ok-place-clause-some : goal.returns-in_ok-place-clause-some
 returns-in_ok-place-clause-some c =
     let known = reached_known c.args.self.now c.requires.names c.args.cell c.requires.reached in
     let marked = sym c.is_global_name.ensures ∙ c.if-is_global_name.true in
-    let here = slice_get-In (texts_of c.deref.result.now) c.in_ok-place_of.field-0 c.args.name.now c.in_ok-place_of.ensures.some in
+    let here = In-slice_get (texts_of c.deref.result.now) c.in_ok-place_of.field-0 c.args.name.now c.in_ok-place_of.ensures.some in
     global_spot c.args.self.now c.requires.names c.args.cell known
     c.index-own.result.now c.index-own.ensures c.args.name.now c.deref.result.now c.deref.ensures.value marked here c.in_ok-place.place
     (ap (λ (list : List GlobalName). slice_get (global_texts list) c.in_ok-place.place) (sym c.deref-then-is_global_name.ensures.value)

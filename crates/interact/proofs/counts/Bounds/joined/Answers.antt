@@ -1,7 +1,7 @@
 use Rattle.std.proofs.Common.{◌≡◌, ◌∙◌, rules, w64, to_z, of_z}
 use Rattle.std.specs.Int.{int_max, int_min}
 use Rattle.std.proofs.lemmas.Int.{to_z-of_z}
-use Rattle.geo_core.proofs.CoverageLaws.{stored_max, stored_min}
+use Rattle.geo_strips.proofs.CoverageLaws.{stored_max, stored_min}
 use Rattle.interact.proofs.counts.Bounds.joined.Goals as goal
 
 pub returns : goal.returns

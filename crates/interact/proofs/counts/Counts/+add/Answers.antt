@@ -1,6 +1,6 @@
 use Rattle.std.proofs.Common.{◌≡◌, ◌<◌, arith, Box, Global, false, w64, to_z, of_z, rules, subst, sym, ap, ◌∙◌}
 use Rattle.std.proofs.lemmas.Int.{to_z-of_z}
-use Rattle.geo_core.specs.Coverage.{begins_before, ends_after}
+use Rattle.geo_strips.specs.Coverage.{begins_before, ends_after}
 use Rattle.interact.specs.declared.counts.Fork.{Fork}
 use Rattle.interact.specs.Counts.{IsTold, forks}
 use Rattle.interact.proofs.CountLaws.{LeftIsAdded, RightIsAdded, cut, fork_added, left_added, left_same, right_added, right_same}

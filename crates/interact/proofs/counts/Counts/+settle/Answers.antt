@@ -1,7 +1,7 @@
 use Rattle.std.proofs.Common.{◌≡◌, ◌+ℤ◌, ◌<◌, Box, Global, rules, arith, sym, ap, ◌∙◌, w64, to_z, of_z}
 use Rattle.std.specs.Int.{int_max, int_min}
 use Rattle.std.proofs.lemmas.Int.{ints, to_z-of_z}
-use Rattle.geo_core.proofs.CoverageLaws.{on_ok, stored_max, stored_min}
+use Rattle.geo_strips.proofs.CoverageLaws.{on_ok, stored_max, stored_min}
 use Rattle.interact.specs.declared.counts.Counts.{Even}
 use Rattle.interact.specs.declared.counts.Fork.{Fork}
 use Rattle.interact.specs.Counts.{bounds_of, forks, shifted}

@@ -1,10 +1,10 @@
 use Rattle.std.proofs.Common.{◌≡◌, ℕ, true, List, length, take, inl, inr, refl, sym, subst}
 use Rattle.std.proofs.lemmas.Option.{slice_get_read}
 use Rattle.finite_sets.specs.Lists.{In}
+use Rattle.finite_sets.proofs.Places.{In-slice_get, take-slice_get}
 use Rattle.ext_model.specs.RecordNames.{names_of}
 use Rattle.name_classes.specs.Paths.{IsEndFrom}
 use Rattle.name_classes.specs.Links.{IsGlobalName}
-use Rattle.name_classes.proofs.ListLaws.{In-slice_get, take_push}
 use Rattle.name_classes.proofs.LinkLaws.{Grown, node_name_of, global_name, none_added, alias_added}
 use Rattle.name_classes.proofs.links.NodeLinks.add_node.Goals as goal
 
@@ -47,7 +47,7 @@ loop-alias-preserved c =
     let tells : c.is_global-in-loop-alias.result ≡ true → IsGlobalName alias = λ flag.
     global_name names c.requires.resolver.names c.args.number alias named (rw c.bytes-in-loop-alias-2.ensures at (c.is_global-in-loop-alias.ensures.0 flag)) in
     let P : List (List ℕ) → Type 0 = λ done. Grown names c.args.number node done c.args.self.now c.add_alias.new.self c.in_ok-global.global in
-    subst P (sym (take_push aliases index alias here))
+    subst P (sym (take-slice_get aliases index alias here))
     (alias_added names c.args.number node (take index aliases) alias c.end_here-preferred.result c.end_here-end.result c.args.self.now c.loop-alias.self
     c.add_alias.new.self c.loop-alias.invariant.adds preferred within end c.loop-alias.global c.is_global-in-loop-alias.result c.in_ok-global.global
     c.loop-alias.invariant.first tells c.in_ok-global.ensures)

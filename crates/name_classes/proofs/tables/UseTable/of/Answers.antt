@@ -4,9 +4,9 @@ use Rattle.std.specs.Str.{bytes_eq}
 use Rattle.std.proofs.lemmas.List.{length-take-le}
 use Rattle.std.proofs.lemmas.Option.{slice_get_read}
 use Rattle.std.proofs.lemmas.Map.Text.{btree_map_updates_str}
+use Rattle.finite_sets.proofs.Places.{take-slice_get}
 use Rattle.ext_model.specs.declared.records.UseRec.{UseRec}
 use Rattle.name_classes.specs.UseTables.{IsTableOf, number_of}
-use Rattle.name_classes.proofs.ListLaws.{take_push}
 use Rattle.name_classes.proofs.TableLaws.{table_push}
 use Rattle.name_classes.proofs.tables.UseTable.of.Goals as goal
 
@@ -22,7 +22,7 @@ loop-number-preserved c =
     λ id. btree_map_updates_str c.bytes.result.now c.loop-number.numbers c.insert.new.self (Some number) c.in_ok-insert.ensures.updates id
     ∙ ap (λ (key : List ℕ). cond (bytes_eq key id) (Some number) (number_of (record { numbers = c.loop-number.numbers }) id)) c.bytes.ensures in
     let P : List UseRec → Type 0 = λ xs. IsTableOf xs (record { numbers = c.insert.new.self }) in
-    subst P (sym (take_push uses number used here))
+    subst P (sym (take-slice_get uses number used here))
     (table_push (take number uses) used (record { numbers = c.loop-number.numbers }) (record { numbers = c.insert.new.self }) c.loop-number.invariant
     (λ id. reads id
     ∙ ap (λ (k : ℕ). cond (bytes_eq used.id id) (Some k) (number_of (record { numbers = c.loop-number.numbers }) id)) (sym so_many)))

@@ -1,0 +1,2 @@
+pub mod CircuitInside
+pub mod TreeCommands

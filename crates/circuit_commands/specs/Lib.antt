@@ -1,0 +1,3 @@
+pub mod Circuits
+pub mod CommandExt2sim
+pub mod Refusals

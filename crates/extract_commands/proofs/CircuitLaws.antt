@@ -1,0 +1,24 @@
+-- What is written of the circuits of cells.
+use Rattle.std.proofs.Common.{ℕ, List, refl, inr}
+use Rattle.ext_model.specs.declared.circuits.Circuit.{Circuit}
+use Rattle.cell_library.specs.Views.{LibraryView}
+use Rattle.line_answers.specs.LineEffects.{IsOfInside}
+use Rattle.circuit_commands.proofs.CircuitInside.{written_inside}
+use Rattle.circuit_commands.specs.declared.circuits.CircuitFile.{CircuitFile}
+use Rattle.circuit_commands.specs.declared.circuits.Written.{Written}
+use Rattle.circuit_commands.specs.declared.circuits.Written.TheVariants.{Stored, Passed}
+use Rattle.circuit_commands.specs.Circuits.{IsWritten, lines_of}
+use Rattle.workspace.specs.CellCircuits.{IsCircuitAt}
+use Rattle.extract_commands.specs.CommandCircuits.{IsWrittenAt}
+
+-- what is written of the circuit of a cell
+pub written_at : (file : CircuitFile) (library : LibraryView) (cell : ℕ) (name : List ℕ) (circuit : Circuit) (written : Written)
+    → IsCircuitAt library cell circuit → IsWritten file name circuit written → IsWrittenAt file library cell name written
+written_at file library cell name circuit (Stored lines store) at is = (circuit, at, is)
+written_at file library cell name circuit (Passed limit) at is = inr (circuit, at, is)
+
+-- its lines come from inside
+pub written_at_inside : (file : CircuitFile) (number : ℕ) (library : LibraryView) (cell : ℕ) (name : List ℕ) (written : Written)
+    → IsWrittenAt file library cell name written → IsOfInside (lines_of number written)
+written_at_inside file number library cell name (Stored lines store) is = written_inside file number name is.0 (Stored lines store) is.2
+written_at_inside file number library cell name (Passed limit) is = record { present = refl; fits = refl }

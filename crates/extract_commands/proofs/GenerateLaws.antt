@@ -1,0 +1,96 @@
+-- What `generate` does in each case.
+use Rattle.std.proofs.Common.{◌≡◌, ◌<◌, ◌+◌, ◌∙◌, ℕ, [], ◌∷◌, length, map, Option, Some, None, inl, inr, refl, sym, ap, subst, arith, length-append}
+use Rattle.std.specs.Prelude.{ℤ, pos, negsuc, ◌≤◌, IsTrue}
+use Rattle.std.specs.Int.RustNames.{unsigned_abs}
+use Rattle.std.proofs.lemmas.Bool.Decides.{nat_tests}
+use Rattle.std.proofs.lemmas.List.{length-map}
+use Rattle.script_lines.specs.declared.limits.TheConstants.{MOST_GENERATED}
+use Rattle.script_lines.specs.Arguments.{is_between}
+use Rattle.layout_gen.specs.declared.limits.TheConstants.{MOST_TILES}
+use Rattle.session_model.specs.declared.answer.Answer.{Answer}
+use Rattle.session_model.specs.Effects.{Answers, Effect}
+use Rattle.ext_model.specs.declared.tables.CellKey.{CellKey}
+use Rattle.cell_library.specs.Additions.{kept_cell, names_with, with_all}
+use Rattle.cell_library.specs.Libraries.{IsLawfulLibrary, LibraryParts, edits_of, seen}
+use Rattle.cell_library.proofs.ViewLaws.{count_seen}
+use Rattle.layout_gen.specs.declared.faults.GenerateFault.{GenerateFault}
+use Rattle.layout_gen.specs.Generated.{CameAtOnce, IsGenerated}
+use Rattle.layout_gen.specs.Refusals.{generate_fault}
+use Rattle.ext_cache.specs.Caches.{Agrees, Records}
+use Rattle.ext_cache.proofs.ArrivalLaws.{agrees_all, dirty_cells}
+use Rattle.line_answers.proofs.AnswerLaws.{answers_refusal}
+use Rattle.line_answers.specs.Refusals.{refusal_line}
+use Rattle.library_answers.specs.Refusals.{generate_refusal}
+use Rattle.network_commands.specs.declared.network_runs.NetworkRun.TheVariants.{Stack}
+use Rattle.workspace.proofs.WorkspaceLaws.{workspace_of}
+use Rattle.workspace.specs.States.{State, Workspace}
+use Rattle.extract_commands.specs.CellRuns.{RunsExtracted}
+use Rattle.extract_commands.specs.CommandGenerate.{GeneratesStack, stack_cell}
+use Rattle.extract_commands.specs.MadeStacks.{StackCame}
+
+-- the number of rows is one of those that there may be
+pub rows_between : (count : ℤ) → IsTrue (is_between (pos 1) MOST_GENERATED count) → (1 ≤ unsigned_abs count) × (unsigned_abs count ≤ MOST_TILES)
+rows_between (pos n) is = (grind (arith, nat_tests, is), grind (arith, nat_tests, is))
+rows_between (negsuc n) is = absurd (let no : ⊥ = cc in no)
+
+-- ---- the cells
+
+module _ (old new : LibraryParts) (records : Records) (n : ℕ) (lawful : IsLawfulLibrary old) (agrees : Agrees old records)
+    (generated : IsGenerated (seen old) n (seen new)) (came : CameAtOnce old new) where
+  -- the stack came
+  pub stack_came : (current : Option CellKey) (key : CellKey) → key.0 ≡ length old.contents + 2 → generate_fault (seen old) (edits_of old) ≡ None
+      → StackCame n (workspace_of old current records) (workspace_of new (Some key) records) key.0
+  stack_came current key key_is accepted =
+      let place : key.0 ≡ length (seen old).cells + 2 = key_is ∙ ap (λ (count : ℕ). count + 2) (sym (count_seen old)) in
+      let dirty = dirty_cells old new records came.cells lawful came.next agrees in
+      record {
+        accepted = accepted;
+        after = seen new;
+        generated = generated;
+        is = λ i. record {
+          editing = record { library = seen new; edits = came.next.edits i; current = Some (place i) };
+          dirty = λ cell. dirty cell i;
+        };
+        place = place;
+      }
+
+  -- it is one of the cells
+  pub stack_there : (key : CellKey) → key.0 ≡ length old.contents + 2 → key.0 < length new.contents
+  stack_there key key_is =
+      let kept = kept_cell (names_with (seen old) came.cells) in
+      let long : length (seen new).cells ≡ length (with_all (seen old) came.cells).cells = λ i. length (came.after i).cells in
+      omega
+      (arith, key_is, count_seen old, count_seen new, long, length-append (seen old).cells (map kept came.cells), length-map came.cells kept, came.three)
+
+  -- and the records that are kept agree with the library
+  pub stack_agrees : Agrees new records
+  stack_agrees = agrees_all old new records came.cells lawful came.next agrees came.after
+
+-- ---- the answers
+
+-- the stack was made, and this is done with it
+pub stack_made : (budget number n : ℕ) (work now : Workspace) (cell : ℕ) (after : State) (answer : Answer) → StackCame n work now cell
+    → RunsExtracted (Stack n) budget number [] now cell
+    (record { state = after; lines = answer.lines.items; stores = answer.stores.items; fetched = [] })
+    → Answers (GeneratesStack budget number n work) after answer
+stack_made budget number n work now cell after answer came runs =
+    let effect : Effect State = record { state = after; lines = answer.lines.items; stores = answer.stores.items; fetched = [] } in
+    let here = subst (λ (c : ℕ). RunsExtracted (Stack n) budget number [] now c effect) came.place runs in (
+      [],
+      inl (record {
+        accepted = came.accepted;
+        after = came.after;
+        generated = came.generated;
+        extracts = subst (λ (w : Workspace). RunsExtracted (Stack n) budget number [] w (stack_cell work) effect) came.is here;
+      }),
+    )
+
+-- it is refused
+pub stack_refused : (budget number n : ℕ) (work now : Workspace) (fault : GenerateFault) (answer : Answer)
+    → generate_fault work.editing.library work.editing.edits ≡ Some fault → now ≡ work
+    → answer.lines.items ≡ refusal_line number (generate_refusal fault) ∷ [] → answer.stores.items ≡ []
+    → Answers (GeneratesStack budget number n work) (Some now) answer
+stack_refused budget number n work now fault answer is_fault same lines stores =
+    subst (λ (w : Workspace). Answers (GeneratesStack budget number n work) (Some w) answer) (sym same)
+    (answers_refusal (GeneratesStack budget number n work) number (Some work) (generate_refusal fault) [] answer lines stores
+    (inr (record { fault = fault; is_fault = is_fault; is = refl })))

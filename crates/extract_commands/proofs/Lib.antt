@@ -1,0 +1,4 @@
+pub mod CellRunLaws
+pub mod CircuitLaws
+pub mod ExtractionCommands
+pub mod GenerateLaws

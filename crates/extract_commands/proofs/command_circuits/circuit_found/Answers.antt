@@ -1,0 +1,73 @@
+use Rattle.std.proofs.Common.{◌≡◌, List, sym, subst, rules}
+use Rattle.std.proofs.lemmas.Result.{IfOk-weaker}
+use Rattle.session_model.specs.declared.report.ReportLine.{ReportLine}
+use Rattle.session_model.specs.Effects.{Effect}
+use Rattle.cell_library.specs.Libraries.{LibraryParts, seen}
+use Rattle.workspace.specs.declared.extractions.Extracting.{Extracting}
+use Rattle.line_answers.specs.LineEffects.{IsOfInside}
+use Rattle.workspace.specs.KeptSessions.{edited_state}
+use Rattle.circuit_commands.specs.Circuits.{lines_of}
+use Rattle.extract_commands.specs.CommandCircuits.{IsWrittenAt, WritesCircuit}
+use Rattle.workspace.specs.Extracting.{IsExtracted}
+use Rattle.workspace.specs.States.{State}
+use Rattle.line_answers.proofs.AnswerLaws.{both_ok}
+use Rattle.extract_commands.proofs.ExtractionCommands.{refuses_cell, writes_cell}
+use Rattle.workspace.proofs.ExtractionLaws.{fresh_below}
+use Rattle.extract_commands.proofs.CircuitLaws.{written_at_inside}
+use Rattle.line_answers.proofs.InsideLaws.{both_inside}
+use Rattle.workspace.proofs.ExtractionInside.{extraction_inside, unclean_inside}
+use Rattle.extract_commands.proofs.command_circuits.circuit_found.Goals as goal
+
+pub write_kept-requires-clause-fresh : goal.write_kept-requires-clause-fresh
+write_kept-requires-clause-fresh c =
+    let old = c.args.edited.now in
+    let new = c.extract_cell.new.edited in
+    let is = subst (λ (e : Extracting). IsExtracted c.args.number (edited_state old) (edited_state new) c.args.cell.0 e) c.in-Done.is
+    c.in_ok-extraction.ensures.extracted in
+    fresh_below c.args.number old new c.args.cell.0 c.in-Done.extraction c.in_ok-extraction.ensures.library is
+
+pub returns-in_ok-written-in-Done-clause-effect : goal.returns-in_ok-written-in-Done-clause-effect
+returns-in_ok-written-in-Done-clause-effect c =
+    let work = edited_state c.args.edited.now in
+    let after = edited_state c.extract_cell.new.edited in
+    let extraction = c.in-Done.extraction in
+    let written = c.in_ok-written-in-Done.written in
+    let is = subst (λ (e : Extracting). IsExtracted c.args.number work after c.args.cell.0 e) c.in-Done.is c.in_ok-extraction.ensures.extracted in
+    let is_written = subst (λ (l : LibraryParts). IsWrittenAt c.args.file (seen l) c.args.cell.0 c.args.name.now written) c.in_ok-extraction.ensures.library
+    c.in_ok-written-in-Done.ensures.written in
+    both_ok c.answer.result _ _ _
+    (λ answer lines stores. writes_cell c.args.file c.args.number c.args.name.now work after c.args.cell.0 extraction written answer is is_written lines stores)
+    c.answer.ensures.lines c.answer.ensures.stores
+
+pub returns-in_ok-written-in-Done-clause-inside : goal.returns-in_ok-written-in-Done-clause-inside
+returns-in_ok-written-in-Done-clause-inside c =
+    let work = edited_state c.args.edited.now in
+    let after = edited_state c.extract_cell.new.edited in
+    let extraction = c.in-Done.extraction in
+    let written = c.in_ok-written-in-Done.written in
+    let is = subst (λ (e : Extracting). IsExtracted c.args.number work after c.args.cell.0 e) c.in-Done.is c.in_ok-extraction.ensures.extracted in
+    IfOk-weaker c.answer.result _ _
+    (λ answer lines. subst (λ (all : List ReportLine). IsOfInside all) (sym lines)
+    (both_inside extraction.lines (lines_of c.args.number written) (extraction_inside work c.args.cell.0 extraction is.0)
+    (written_at_inside c.args.file c.args.number (seen c.extract_cell.new.edited.library) c.args.cell.0 c.args.name.now written
+    c.in_ok-written-in-Done.ensures.written)))
+    c.answer.ensures.lines
+
+pub returns-in-Refused-clause-effect : goal.returns-in-Refused-clause-effect
+returns-in-Refused-clause-effect c =
+    let work = edited_state c.args.edited.now in
+    let after = edited_state c.extract_cell.new.edited in
+    let lines = c.in-Refused.lines in
+    let refuses = subst (λ (e : Extracting). IsExtracted c.args.number work after c.args.cell.0 e) c.in-Refused.is c.in_ok-extraction.ensures.extracted in
+    let told : c.told.result.lines.items ≡ lines = search rules in
+    let Means : Effect State → Type 0 = λ effect. WritesCircuit c.args.file c.args.number c.args.name.now work c.args.cell.0 effect in
+    refuses_cell c.args.number work after c.args.cell.0 lines Means c.told.result refuses told c.told.ensures.stores
+
+pub returns-in-Refused-clause-inside : goal.returns-in-Refused-clause-inside
+returns-in-Refused-clause-inside c =
+    let work = edited_state c.args.edited.now in
+    let after = edited_state c.extract_cell.new.edited in
+    let lines = c.in-Refused.lines in
+    let refuses = subst (λ (e : Extracting). IsExtracted c.args.number work after c.args.cell.0 e) c.in-Refused.is c.in_ok-extraction.ensures.extracted in
+    let told : c.told.result.lines.items ≡ lines = search rules in
+    subst (λ (all : List ReportLine). IsOfInside all) (sym told) (unclean_inside c.args.number work after c.args.cell.0 lines refuses)

@@ -1,0 +1,32 @@
+use Rattle.std.proofs.Common.{◌≡◌, ℕ, List, [], ◌∷◌, Ok, Err, Some, subst}
+use Rattle.std.proofs.lemmas.Result.{IfOk-weaker}
+use Rattle.session_model.specs.declared.fetching.Fetched.{Fetched}
+use Rattle.session_model.specs.Fetches.{FetchMeans, text_in}
+use Rattle.network_commands.specs.declared.network_runs.NetworkRun.TheVariants.{Vectors}
+use Rattle.workspace.specs.KeptSessions.{edited_state}
+use Rattle.extract_commands.specs.CellRuns.{RunsExtracted}
+use Rattle.workspace.specs.States.{State}
+use Rattle.line_answers.proofs.AnswerLaws.{both_ok}
+use Rattle.extract_commands.proofs.CellRunLaws.{refuses_fetched, runs_fetched}
+use Rattle.extract_commands.proofs.command_vectors.fetch_vectors.Goals as goal
+
+pub returns-in-Text-clause-effect : goal.returns-in-Text-clause-effect
+returns-in-Text-clause-effect g c files told =
+    let there : text_in files c.args.file ≡ Ok c.in-Text.text.items =
+    subst (λ (fetched : Fetched). FetchMeans files c.args.file fetched) c.in-Text.is (c.in_ok-text.ensures.effect files told) in
+    let work = edited_state c.args.edited.now in
+    let after : State = Some (edited_state c.run_extracted.new.edited) in
+    IfOk-weaker c.run_extracted.result _ _
+    (λ answer runs. runs_fetched c.args.budget c.args.number c.args.file c.in-Text.text.items (text_in files c.args.file) work c.args.cell.0 after answer there
+    (subst (λ (text : List ℕ). RunsExtracted (Vectors text) c.args.budget c.args.number (c.args.file ∷ []) work c.args.cell.0
+    (record { state = after; lines = answer.lines.items; stores = answer.stores.items; fetched = c.args.file ∷ [] })) c.of.ensures runs))
+    (c.run_extracted.ensures.effect (c.args.file ∷ []))
+
+pub returns-clause-effect : goal.returns-clause-effect
+returns-clause-effect g c files told =
+    let there : text_in files c.args.file ≡ Err c.in-Refused.fault =
+    subst (λ (fetched : Fetched). FetchMeans files c.args.file fetched) c.in-Refused.is (c.in_ok-text.ensures.effect files told) in
+    both_ok c.refuse_file.result _ _ _
+    (λ answer lines stores. refuses_fetched c.args.budget c.args.number c.args.file c.in-Refused.fault (text_in files c.args.file)
+    (edited_state c.args.edited.now) c.args.cell.0 answer there lines stores)
+    c.refuse_file.ensures.lines c.refuse_file.ensures.stores

@@ -1,0 +1,94 @@
+//! `vectors c f`: runs f.vec on the network of the circuit of c.
+ghost use Rattle.std.specs.Prelude.{◌≡◌, ◌<◌, Some, length, IfOk};
+ghost use Rattle.outside_io.specs.Files.{Files};
+ghost use Rattle.session_model.specs.Causes.{HasCauses, kinds_of};
+ghost use Rattle.session_model.specs.Effects.{Answers};
+ghost use Rattle.session_model.specs.Fetches.{text_in};
+ghost use Rattle.workspace.specs.KeptSessions.{IsEdited, IsSession, edited_state, state_of};
+ghost use Rattle.extract_commands.specs.CommandVectors.{RunsFetched, VectorsMeans};
+
+use crate::cell_runs::run_extracted;
+use ext_model::CellKey;
+use line_answers::{file_name, refuse_file, refuse_no_cell, refuse_no_tech};
+use names_lists::{List, Name};
+use network_commands::NetworkRun;
+use outside_io::Shelf;
+use session_model::{Answer, Fetched, Halt, fetch_text};
+use std::alloc::Global;
+use workspace::{Edited, LayoutSession};
+
+/// `vectors c f`, the script's line of this number.
+pub fn vectors<F: Shelf>(
+    alloc: Global,
+    session: &mut LayoutSession,
+    shelf: &mut F,
+    number: usize,
+    budget: u32,
+    name: &Name,
+    file: &Name,
+) -> Result<Answer, Halt>
+    requires { IsSession session.old }
+    ensures effect { (files : Files) → F.files shelf.old ≡ Some files → IfOk result
+        (Answers (VectorsMeans budget number (state_of session.old) files name.now file.now) (state_of session.new)) }
+    ensures kept { IsSession session.new }
+    ensures files { F.files shelf.new ≡ F.files shelf.old }
+    ensures causes { HasCauses F.Shelf shelf.old shelf.new kinds_of result }
+{
+    match &mut session.edited {
+        Some(edited) => vectors_named(alloc, edited, shelf, number, budget, name, file),
+        None => refuse_no_tech(alloc, number),
+    }
+}
+
+// Runs vectors on the circuit of the cell of this name, where there is one.
+fn vectors_named<F: Shelf>(
+    alloc: Global,
+    edited: &mut Edited,
+    shelf: &mut F,
+    number: usize,
+    budget: u32,
+    name: &Name,
+    file: &Name,
+) -> Result<Answer, Halt>
+    requires { IsEdited edited.old }
+    ensures effect { (files : Files) → F.files shelf.old ≡ Some files → IfOk result
+        (Answers (VectorsMeans budget number (Some (edited_state edited.old)) files name.now file.now) (Some (edited_state edited.new))) }
+    ensures kept { IsEdited edited.new }
+    ensures files { F.files shelf.new ≡ F.files shelf.old }
+    ensures causes { HasCauses F.Shelf shelf.old shelf.new kinds_of result }
+{
+    match edited.library.find(name.bytes()) {
+        Some(cell) => {
+            let file = file_name(alloc, file, b".vec")?;
+            fetch_vectors(alloc, edited, shelf, number, budget, cell, file)
+        }
+        None => refuse_no_cell(alloc, number, name),
+    }
+}
+
+// Runs the vectors of a file on the circuit of the cell.
+fn fetch_vectors<F: Shelf>(
+    alloc: Global,
+    edited: &mut Edited,
+    shelf: &mut F,
+    number: usize,
+    budget: u32,
+    cell: CellKey,
+    file: Name,
+) -> Result<Answer, Halt>
+    requires edited { IsEdited edited.old }
+    requires cell { cell.0 < length edited.old.library.contents }
+    ensures effect { (files : Files) → F.files shelf.old ≡ Some files → IfOk result
+        (Answers (RunsFetched budget number file (text_in files file) (edited_state edited.old) cell.0) (Some (edited_state edited.new))) }
+    ensures kept { IsEdited edited.new }
+    ensures files { F.files shelf.new ≡ F.files shelf.old }
+    ensures causes { HasCauses F.Shelf shelf.old shelf.new kinds_of result }
+{
+    match fetch_text(alloc, shelf, &file)? {
+        Fetched::Text(text) => {
+            let run = NetworkRun::Vectors(List::of(text));
+            run_extracted(alloc, edited, number, budget, &run, cell)
+        }
+        Fetched::Refused(fault) => refuse_file(alloc, number, &file, fault),
+    }
+}

@@ -1,5 +1,0 @@
-use Rattle.std.proofs.Common.{length}
-use Rattle.geo_core.proofs.coverage.+uncovered.Given as goal
-
-abbrev pub decreases-uncovered : goal.decreases-uncovered
-decreases-uncovered l = length l.sides.now

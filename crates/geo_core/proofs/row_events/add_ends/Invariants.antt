@@ -1,6 +1,0 @@
-use Rattle.std.proofs.Common.{◌≡◌, ◌++◌, drop, map}
-use Rattle.geo_core.specs.RowEvents.{end_of}
-use Rattle.geo_core.proofs.row_events.add_ends.Given as goal
-
-abbrev pub invariant-loop-bar : goal.invariant-loop-bar
-invariant-loop-bar l = l.events.items ++ map end_of (drop l.bar-index l.bars) ≡ l.initial.events.items ++ map end_of l.bars

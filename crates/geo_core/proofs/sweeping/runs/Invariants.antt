@@ -1,5 +1,0 @@
-use Rattle.geo_core.proofs.SweepLaws.{IsUnderWay, lowest}
-use Rattle.geo_core.proofs.sweeping.runs.Given as goal
-
-abbrev pub invariant-loop-event : goal.invariant-loop-event
-invariant-loop-event l = IsUnderWay l.rects l.event-items l.event-index lowest l.sweep

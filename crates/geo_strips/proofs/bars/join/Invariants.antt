@@ -1,0 +1,6 @@
+use Rattle.std.proofs.Common.{◌≡◌, ◌++◌, drop}
+use Rattle.geo_strips.specs.Bars.{joined, joined_from}
+use Rattle.geo_strips.proofs.bars.join.Given as goal
+
+abbrev pub invariant-loop-next : goal.invariant-loop-next
+invariant-loop-next l = l.found.items ++ joined_from l.bar (drop l.next-index l.next-items) ≡ joined l.bars

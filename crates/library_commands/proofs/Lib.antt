@@ -1,0 +1,5 @@
+pub mod ChangedCells
+pub mod EditLaws
+pub mod LoadLaws
+pub mod MarkLaws
+pub mod TechLaws

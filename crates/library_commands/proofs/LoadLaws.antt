@@ -1,0 +1,53 @@
+-- What `load` does in each case.
+use Rattle.std.proofs.Common.{◌≡◌, ◌∙◌, ℕ, suc, List, [], ◌∷◌, length, Option, Some, inl, inr, refl, sym, subst}
+use Rattle.outside_io.specs.Files.{Files}
+use Rattle.session_model.specs.declared.answer.Answer.{Answer}
+use Rattle.session_model.specs.Effects.{Answers, Effect}
+use Rattle.ext_model.specs.declared.tables.CellKey.{CellKey}
+use Rattle.cell_library.specs.Libraries.{LibraryParts, IsSame, seen, edits_of}
+use Rattle.cell_loading.specs.declared.faults.LoadFault.{LoadFault}
+use Rattle.cell_loading.specs.Loads.{IsLoaded, LoadIsRefused}
+use Rattle.cell_library.proofs.ViewLaws.{count_seen}
+use Rattle.ext_cache.specs.Caches.{Records, is_dirty}
+use Rattle.library_answers.specs.Refusals.{load_refusal}
+use Rattle.library_answers.specs.Replies.{loaded_text}
+use Rattle.library_commands.specs.CommandLoad.{LoadMeans, with_loaded}
+use Rattle.line_answers.specs.Refusals.{refusal_line}
+use Rattle.line_answers.specs.LineEffects.{refused, reply}
+use Rattle.workspace.specs.States.{State, Workspace}
+use Rattle.line_answers.proofs.AnswerLaws.{answers_refusal, answers_with}
+use Rattle.workspace.proofs.WorkspaceLaws.{same_workspace, workspace_of}
+
+-- the load is refused, and nothing changed
+pub load_refused : (number : ℕ) (old new : LibraryParts) (current : Option CellKey) (records : Records) (files : Files) (cell : List ℕ) (fault : LoadFault)
+    (fetched : List (List ℕ)) (answer : Answer) → IsSame old new
+    → LoadIsRefused files (seen old) (edits_of old) cell fetched fault
+    → answer.lines.items ≡ refusal_line number (load_refusal fault) ∷ [] → answer.stores.items ≡ []
+    → Answers (LoadMeans number (Some (workspace_of old current records)) files cell) (Some (workspace_of new current records)) answer
+load_refused number old new current records files cell fault fetched answer same is_refused lines stores =
+    let work = workspace_of old current records in
+    let means : LoadMeans number (Some work) files cell (refused number (Some work) (load_refusal fault) fetched) =
+    inr (record { fault = fault; fetched = fetched; is_refused = is_refused; is = refl }) in
+    subst (λ (w : Workspace). Answers (LoadMeans number (Some work) files cell) (Some w) answer) (sym (same_workspace old new current records same))
+    (answers_refusal (LoadMeans number (Some work) files cell) number (Some work) (load_refusal fault) fetched answer lines stores means)
+
+-- the cells came
+pub load_done : (number : ℕ) (old new : LibraryParts) (current : Option CellKey) (records : Records) (first : ℕ) (files : Files) (cell : List ℕ) (count : ℕ)
+    (fetched : List (List ℕ)) (answer : Answer) → ((key : ℕ) → is_dirty new records key ≡ is_dirty old records key)
+    → IsLoaded files (seen old) (seen new) (edits_of old) cell count fetched → edits_of new ≡ suc (edits_of old) → first ≡ length old.contents
+    → answer.lines.items ≡ reply (loaded_text cell count) ∷ [] → answer.stores.items ≡ []
+    → Answers (LoadMeans number (Some (workspace_of old current records)) files cell)
+    (Some (workspace_of new (Some (record { 0 = first })) records)) answer
+load_done number old new current records first files cell count fetched answer dirty is_loaded next first_is lines stores =
+    let work = workspace_of old current records in
+    let now = workspace_of new (Some (record { 0 = first })) records in
+    let effect : Workspace → Effect State = λ w. record { state = Some w; lines = reply (loaded_text cell count) ∷ []; stores = []; fetched = fetched } in
+    let means : LoadMeans number (Some work) files cell (effect (with_loaded work (seen new))) =
+    inl (record { after = seen new; count = count; fetched = fetched; is_loaded = is_loaded; is = refl }) in
+    let place : first ≡ length (seen old).cells = first_is ∙ sym (count_seen old) in
+    let is : now ≡ with_loaded work (seen new) = λ i. record {
+      editing = record { library = seen new; edits = next i; current = Some (place i) };
+      dirty = λ key. dirty key i;
+    } in
+    let here = subst (λ (w : Workspace). LoadMeans number (Some work) files cell (effect w)) (sym is) means in
+    answers_with (LoadMeans number (Some work) files cell) (Some now) answer (reply (loaded_text cell count) ∷ []) [] fetched lines stores here

@@ -1,0 +1,75 @@
+use Rattle.std.proofs.Common.{◌≡◌, [], ◌∷◌, Some, sym, subst, rules}
+use Rattle.std.specs.Prelude.{codes}
+use Rattle.session_model.specs.Effects.{Answers}
+use Rattle.edit_script.specs.Editing.{editing_of}
+use Rattle.edit_script.specs.Refusals.{ApplyIsRefused}
+use Rattle.ext_cache.proofs.RecordLaws.{agrees_same}
+use Rattle.workspace.specs.KeptSessions.{IsEdited, edited_state, state_of}
+use Rattle.library_commands.specs.CommandEdits.{EditMeans}
+use Rattle.line_answers.specs.LineEffects.{reply}
+use Rattle.workspace.specs.States.{State}
+use Rattle.line_answers.proofs.AnswerLaws.{both_ok}
+use Rattle.library_commands.proofs.EditLaws.{edit_done, edit_refused}
+use Rattle.workspace.proofs.WorkspaceLaws.{workspace_of}
+use Rattle.library_commands.proofs.MarkLaws.{marks_applied}
+use Rattle.library_commands.proofs.command_edits.edit.Goals as goal
+
+pub returns-in_err-ok-in-Ok-clause-kept : goal.returns-in_err-ok-in-Ok-clause-kept
+returns-in_err-ok-in-Ok-clause-kept c =
+    let is : IsEdited c.in-Some.edited = search rules in
+    record {
+      current = c.apply.ensures.current;
+      agrees = (marks_applied c.in-Some.edited.library c.apply.new.library c.in-Some.edited.current c.apply.new.current c.in-Some.edited.cache
+          c.args.command.now c.lawful.ensures c.in-Ok.ensures.stamped c.in-Ok.ensures.done is.agrees).0;
+    }
+
+pub returns-in_ok-ok-in-Ok-clause-effect : goal.returns-in_ok-ok-in-Ok-clause-effect
+returns-in_ok-ok-in-Ok-clause-effect c =
+    let is : IsEdited c.in-Some.edited = search rules in
+    let state : state_of c.args.session.now ≡ Some (edited_state c.in-Some.edited) = search rules in
+    let lines : c.told.result.lines.items ≡ reply (codes "ok") ∷ [] = search rules in
+    subst
+    (λ (s : State). Answers (EditMeans c.args.number s c.args.command.now)
+    (Some (workspace_of c.apply.new.library c.apply.new.current c.in-Some.edited.cache)) c.told.result)
+    (sym state)
+    (edit_done c.args.number c.in-Some.edited.library c.apply.new.library c.in-Some.edited.current c.apply.new.current c.in-Some.edited.cache
+    c.args.command.now c.told.result c.lawful.ensures c.in-Ok.ensures.stamped c.in-Ok.ensures.done is.agrees c.in-Ok.ensures.accepted lines
+    c.told.ensures.stores)
+
+pub returns-in_ok-ok-in-Ok-clause-kept : goal.returns-in_ok-ok-in-Ok-clause-kept
+returns-in_ok-ok-in-Ok-clause-kept c =
+    let is : IsEdited c.in-Some.edited = search rules in
+    record {
+      current = c.apply.ensures.current;
+      agrees = (marks_applied c.in-Some.edited.library c.apply.new.library c.in-Some.edited.current c.apply.new.current c.in-Some.edited.cache
+          c.args.command.now c.lawful.ensures c.in-Ok.ensures.stamped c.in-Ok.ensures.done is.agrees).0;
+    }
+
+pub returns-in-Err-Memory-clause-kept : goal.returns-in-Err-Memory-clause-kept
+returns-in-Err-Memory-clause-kept c =
+    let is : IsEdited c.in-Some.edited = search rules in
+    record {
+      current = c.apply.ensures.current;
+      agrees = agrees_same c.in-Some.edited.library c.apply.new.library c.in-Some.edited.cache c.in-Err-Memory.ensures.same is.agrees;
+    }
+
+pub returns-in-Err-clause-effect : goal.returns-in-Err-clause-effect
+returns-in-Err-clause-effect c =
+    let state : state_of c.args.session.now ≡ Some (edited_state c.in-Some.edited) = search rules in
+    let refused : ApplyIsRefused (editing_of c.in-Some.edited.library c.in-Some.edited.current) c.args.command.now c.in-Err.fault = search rules in
+    both_ok c.refuse_edit.result _ _ _
+    (λ answer lines stores. subst
+    (λ (s : State). Answers (EditMeans c.args.number s c.args.command.now)
+    (Some (workspace_of c.apply.new.library c.apply.new.current c.in-Some.edited.cache)) answer)
+    (sym state)
+    (edit_refused c.args.number c.in-Some.edited.library c.apply.new.library c.in-Some.edited.current c.apply.new.current c.in-Some.edited.cache
+    c.args.command.now c.in-Err.fault answer c.in-Err.ensures.same c.in-Err.ensures.kept refused lines stores))
+    c.refuse_edit.ensures.lines c.refuse_edit.ensures.stores
+
+pub returns-in-Err-clause-kept : goal.returns-in-Err-clause-kept
+returns-in-Err-clause-kept c =
+    let is : IsEdited c.in-Some.edited = search rules in
+    record {
+      current = c.apply.ensures.current;
+      agrees = agrees_same c.in-Some.edited.library c.apply.new.library c.in-Some.edited.cache c.in-Err.ensures.same is.agrees;
+    }

@@ -1,0 +1,79 @@
+use Rattle.std.proofs.Common.{◌≡◌, [], ◌∷◌, subst, rules}
+use Rattle.session_model.specs.declared.answer.Answer.{Answer}
+use Rattle.cell_library.specs.Libraries.{IsSame}
+use Rattle.cell_loading.specs.declared.loading.Loaded.{Loaded}
+use Rattle.cell_loading.specs.Arrivals.{ArriveWithStamps}
+use Rattle.cell_loading.specs.Loads.{HasMoreIfLoaded, KeepsIfRefused, LoadGives}
+use Rattle.ext_cache.proofs.ArrivalLaws.{agrees_all, dirty_cells}
+use Rattle.ext_cache.proofs.RecordLaws.{agrees_same}
+use Rattle.library_answers.specs.Replies.{loaded_text}
+use Rattle.line_answers.specs.LineEffects.{reply}
+use Rattle.line_answers.proofs.AnswerLaws.{both_ok}
+use Rattle.workspace.proofs.WorkspaceLaws.{same_current}
+use Rattle.library_commands.proofs.LoadLaws.{load_done, load_refused}
+use Rattle.library_commands.proofs.command_load.load_into.Goals as goal
+
+pub returns-in_err-count-clause-kept : goal.returns-in_err-count-clause-kept
+returns-in_err-count-clause-kept g c =
+    let old = c.args.edited.now.library in
+    let new = c.load_cells.new.library in
+    let same = c.in_err-count.ensures.halted in
+    record {
+      current = same_current old new c.args.edited.now.current same c.requires.edited.current;
+      agrees = agrees_same old new c.args.edited.now.cache same c.requires.edited.agrees;
+    }
+
+pub returns-in_err-lines-in-Cells-clause-kept : goal.returns-in_err-lines-in-Cells-clause-kept
+returns-in_err-lines-in-Cells-clause-kept g c =
+    let old = c.args.edited.now.library in
+    let new = c.load_cells.new.library in
+    let came = subst (λ (given : Loaded). ArriveWithStamps old new given) c.in-Cells.is c.in_ok-count.ensures.stamped in
+    let more = subst (λ (given : Loaded). HasMoreIfLoaded old new given) c.in-Cells.is c.in_ok-count.ensures.more in
+    record {
+      current = rw c.cell_count-first.ensures more;
+      agrees = agrees_all old new c.args.edited.now.cache came.0 c.lawful.ensures came.1 c.requires.edited.agrees came.2;
+    }
+
+pub returns-in_ok-lines-in-Cells-clause-effect : goal.returns-in_ok-lines-in-Cells-clause-effect
+returns-in_ok-lines-in-Cells-clause-effect g c files told =
+    let old = c.args.edited.now.library in
+    let new = c.load_cells.new.library in
+    let h = subst (λ (given : Loaded). LoadGives files old new c.args.cell.now given) c.in-Cells.is (c.in_ok-count.ensures.effect files told) in
+    let came = subst (λ (given : Loaded). ArriveWithStamps old new given) c.in-Cells.is c.in_ok-count.ensures.stamped in
+    let answer : Answer = c.told.result in
+    let lines : answer.lines.items ≡ reply (loaded_text c.args.cell.now c.in-Cells.count) ∷ [] = search rules in
+    load_done c.args.number old new c.args.edited.now.current c.args.edited.now.cache c.cell_count-first.result files c.args.cell.now c.in-Cells.count h.1.0
+    answer (dirty_cells old new c.args.edited.now.cache came.0 c.lawful.ensures came.1 c.requires.edited.agrees)
+    h.1.1 h.0 c.cell_count-first.ensures lines c.told.ensures.stores
+
+pub returns-in_ok-lines-in-Cells-clause-kept : goal.returns-in_ok-lines-in-Cells-clause-kept
+returns-in_ok-lines-in-Cells-clause-kept g c =
+    let old = c.args.edited.now.library in
+    let new = c.load_cells.new.library in
+    let came = subst (λ (given : Loaded). ArriveWithStamps old new given) c.in-Cells.is c.in_ok-count.ensures.stamped in
+    let more = subst (λ (given : Loaded). HasMoreIfLoaded old new given) c.in-Cells.is c.in_ok-count.ensures.more in
+    record {
+      current = rw c.cell_count-first.ensures more;
+      agrees = agrees_all old new c.args.edited.now.cache came.0 c.lawful.ensures came.1 c.requires.edited.agrees came.2;
+    }
+
+pub returns-in-Refused-clause-effect : goal.returns-in-Refused-clause-effect
+returns-in-Refused-clause-effect g c files told =
+    let old = c.args.edited.now.library in
+    let new = c.load_cells.new.library in
+    let h = subst (λ (given : Loaded). LoadGives files old new c.args.cell.now given) c.in-Refused.is (c.in_ok-count.ensures.effect files told) in
+    let same : IsSame old new = subst (λ (given : Loaded). KeepsIfRefused old new given) c.in-Refused.is c.in_ok-count.ensures.kept in
+    both_ok c.refuse_load.result _ _ _
+    (λ answer lines stores. load_refused c.args.number old new c.args.edited.now.current c.args.edited.now.cache files c.args.cell.now c.in-Refused.fault h.0
+    answer same h.1 lines stores)
+    c.refuse_load.ensures.lines c.refuse_load.ensures.stores
+
+pub returns-in-Refused-clause-kept : goal.returns-in-Refused-clause-kept
+returns-in-Refused-clause-kept g c =
+    let old = c.args.edited.now.library in
+    let new = c.load_cells.new.library in
+    let same : IsSame old new = subst (λ (given : Loaded). KeepsIfRefused old new given) c.in-Refused.is c.in_ok-count.ensures.kept in
+    record {
+      current = same_current old new c.args.edited.now.current same c.requires.edited.current;
+      agrees = agrees_same old new c.args.edited.now.cache same c.requires.edited.agrees;
+    }

@@ -1,0 +1,4 @@
+pub mod CommandEdits
+pub mod CommandLoad
+pub mod CommandLooks
+pub mod CommandTech

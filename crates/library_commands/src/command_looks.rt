@@ -1,0 +1,35 @@
+//! `nodes c`, `save c` and `squares c`: they tell something of c, and leave the session as it is.
+ghost use Rattle.std.specs.Prelude.{IfOk, IsOkUnless};
+ghost use Rattle.session_model.specs.Effects.{Answers};
+ghost use Rattle.line_answers.specs.LineEffects.{IsOfInside};
+ghost use Rattle.workspace.specs.KeptSessions.{IsSession, state_of};
+ghost use Rattle.library_commands.specs.CommandLooks.{LookMeans};
+
+use line_answers::{refuse_no_cell, refuse_no_tech};
+use look_commands::{Look, tell};
+use names_lists::Name;
+use session_model::{Answer, Halt};
+use std::alloc::Global;
+use workspace::LayoutSession;
+
+/// A look at the cell of this name, the script's line of this number.
+pub fn look_at(
+    alloc: Global,
+    session: &LayoutSession,
+    number: usize,
+    name: &Name,
+    at: Look,
+) -> Result<Answer, Halt>
+    requires { IsSession session.now }
+    ensures effect { IfOk result (Answers (LookMeans at number (state_of session.now) name.now) (state_of session.now)) }
+    ensures inside { IfOk result (λ answer. IsOfInside answer.lines.items) }
+    ensures memory { IsOkUnless result Halt.Memory }
+{
+    let Some(edited) = &session.edited else {
+        return refuse_no_tech(alloc, number);
+    };
+    let Some(cell) = edited.library.find(name.bytes()) else {
+        return refuse_no_cell(alloc, number, name);
+    };
+    tell(alloc, &edited.library, cell, name, at)
+}

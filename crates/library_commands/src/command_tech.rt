@@ -1,0 +1,82 @@
+//! `tech f`: makes the text of f.tech the technology.
+ghost use Rattle.std.specs.Prelude.{◌≡◌, ◌∷◌, [], None, Some, IfOk, IsOkUnless};
+ghost use Rattle.outside_io.specs.Files.{Files};
+ghost use Rattle.session_model.specs.Causes.{HasCauses, kinds_of};
+ghost use Rattle.session_model.specs.Effects.{Answers};
+ghost use Rattle.tech_file.specs.Reading.{technology_of};
+ghost use Rattle.line_answers.specs.LineEffects.{IsOfInside};
+ghost use Rattle.workspace.specs.KeptSessions.{IsSession, state_of};
+ghost use Rattle.library_commands.specs.CommandTech.{TechMeans, tech_effect};
+
+use cell_library::Library;
+use ext_cache::Cache;
+use library_answers::{refuse_tech, refuse_tech_again, tech_reply};
+use line_answers::{file_name, refuse_file, told};
+use names_lists::Name;
+use outside_io::Shelf;
+use session_model::{Answer, Fetched, Halt, fetch_text};
+use std::alloc::Global;
+use tech_file::{TechAt, read_tech};
+use tech_model::TechFault;
+use workspace::{Edited, LayoutSession};
+
+/// `tech f`, the script's line of this number.
+pub fn tech<F: Shelf>(
+    alloc: Global,
+    session: &mut LayoutSession,
+    shelf: &mut F,
+    number: usize,
+    name: &Name,
+) -> Result<Answer, Halt>
+    requires { IsSession session.old }
+    ensures effect { (files : Files) → F.files shelf.old ≡ Some files → IfOk result
+        (Answers (TechMeans number (state_of session.old) files name.now) (state_of session.new)) }
+    ensures kept { IsSession session.new }
+    ensures files { F.files shelf.new ≡ F.files shelf.old }
+    ensures causes { HasCauses F.Shelf shelf.old shelf.new kinds_of result }
+{
+    if session.edited.is_some() {
+        return refuse_tech_again(alloc, number);
+    }
+    let file = file_name(alloc, name, b".tech")?;
+    match fetch_text(alloc, shelf, &file)? {
+        Fetched::Text(text) => accept_tech(alloc, session, number, file, &text),
+        Fetched::Refused(fault) => refuse_file(alloc, number, &file, fault),
+    }
+}
+
+// Makes a text the technology, where it has no fault.
+fn accept_tech(
+    alloc: Global,
+    session: &mut LayoutSession,
+    number: usize,
+    file: Name,
+    text: &[u8],
+) -> Result<Answer, Halt>
+    requires { session.old.edited ≡ None }
+    ensures effect { IfOk result (λ answer.
+        record { state = state_of session.new; lines = answer.lines.items; stores = answer.stores.items; fetched = file ∷ [] }
+        ≡ tech_effect number file (technology_of text.now)) }
+    ensures kept { IsSession session.new }
+    ensures inside { IfOk result (λ answer. IsOfInside answer.lines.items) }
+    ensures memory { IsOkUnless result Halt.Memory }
+{
+    match read_tech(alloc, text) {
+        Ok(read) => {
+            let lines = tech_reply(alloc, &read)?;
+            session.edited = Some(Edited {
+                library: Library::new(alloc, read),
+                current: None,
+                cache: Cache::new(alloc),
+            });
+            Ok(told(alloc, lines))
+        }
+        Err(
+            TechAt {
+                line: _,
+                fault: TechFault::Memory,
+            },
+        ) => Err(Halt::Memory),
+        Err(at) => refuse_tech(alloc, number, &file, &at),
+    }
+}

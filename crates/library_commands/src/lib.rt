@@ -1,0 +1,18 @@
+//! Commands on the library that a session keeps: `tech`, `load`, those that edit, and those that look at a cell.
+//!
+//! # How the proof goes
+//!
+//! A load adds cells, of which no record is kept, and each edit of a cell changes that cell alone (`ChangedCells`). So the records that are kept
+//! agree with the library after it, and exactly the cell and those above it are dirty (`MarkLaws`). `TechLaws`, `LoadLaws` and `EditLaws` have
+//! the cases of each command.
+#![tactic(auto)]
+
+mod command_edits;
+mod command_load;
+mod command_looks;
+mod command_tech;
+
+pub use command_edits::edit;
+pub use command_load::load;
+pub use command_looks::look_at;
+pub use command_tech::tech;

@@ -1,0 +1,4 @@
+pub mod AnswerLaws
+pub mod CauseLaws
+pub mod InsideLaws
+pub mod TextLaws

@@ -1,0 +1,2 @@
+pub mod LineEffects
+pub mod Refusals

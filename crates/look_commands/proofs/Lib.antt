@@ -1,0 +1,3 @@
+pub mod NodesLaws
+pub mod OffendingLaws
+pub mod SquaresLaws

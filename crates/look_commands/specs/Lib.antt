@@ -1,0 +1,5 @@
+pub mod CommandNodes
+pub mod CommandSave
+pub mod CommandSquares
+pub mod Looks
+pub mod Offending

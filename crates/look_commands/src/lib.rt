@@ -1,0 +1,11 @@
+//! Commands that look at a cell of the library and leave the session as it is: `nodes`, `save` and `squares`.
+#![tactic(auto)]
+
+mod command_nodes;
+mod command_save;
+mod command_squares;
+mod looks;
+mod offending;
+
+pub use looks::{Look, tell};
+pub use offending::offending_lines;

@@ -1,0 +1,4 @@
+pub mod NetworkRunLaws
+pub mod SimulationCommands
+pub mod SimulationLaws
+pub mod ShownLines

@@ -1,0 +1,5 @@
+pub mod CommandSimrun
+pub mod NetworkRuns
+pub mod Refusals
+pub mod Simulations
+pub mod Headline

@@ -1,0 +1,90 @@
+//! Why sim files and vector files are refused.
+ghost use Rattle.std.specs.Prelude.{◌≡◌, ◌++◌, ◌∷◌, [], pos, IfOk, IsOkUnless, OnOk};
+ghost use Rattle.text_scan.specs.Decimal.{decimal};
+ghost use Rattle.line_answers.specs.Refusals.{refusal_line};
+ghost use Rattle.network_commands.specs.Refusals.{sim_code, sim_limit_word, sim_refusal, vec_fault_text, vec_refusal};
+
+use line_answers::{Refusal, append_with_name, at_line, refuse, worded};
+use names_lists::Name;
+use session_model::{Answer, Halt};
+use sim_text::{SimAt, SimFault, SimLimit};
+use std::alloc::{AllocError, Global};
+use text_scan::append_decimal;
+use vector_files::{VecAt, VecFault};
+
+// The fault of a sim file.
+fn sim_refusal(alloc: Global, file: &Name, at: &SimAt) -> Result<Refusal, AllocError>
+    ensures { IfOk result (λ refusal. refusal ≡ sim_refusal file.now at.now) }
+{
+    at_line(alloc, b"E25 ", file, at.line as usize, sim_code(at.fault))
+}
+
+fn sim_code(fault: SimFault) -> &'static [u8]
+    ensures { result.now ≡ sim_code fault }
+{
+    match fault {
+        SimFault::Header => b"S1",
+        SimFault::BadLine => b"S2",
+        SimFault::Letter => b"S3",
+        SimFault::Range => b"S4",
+        SimFault::Name => b"S5",
+        SimFault::TooLong => b"",
+        SimFault::TooMany(_) => b"",
+        SimFault::Memory => b"",
+    }
+}
+
+/// What there would be too many of.
+pub fn sim_limit_word(limit: SimLimit) -> &'static [u8]
+    ensures { result.now ≡ sim_limit_word limit }
+{
+    match limit {
+        SimLimit::Nodes => b"Nodes",
+        SimLimit::Switches => b"Switches",
+    }
+}
+
+/// The fault of a vector file.
+pub fn vec_refusal(alloc: Global, at: &VecAt) -> Result<Refusal, AllocError>
+    ensures { IfOk result (λ refusal. refusal ≡ vec_refusal at.now) }
+{
+    match &at.fault {
+        VecFault::Vector => {
+            let mut text = Vec::new(alloc);
+            append_numbered(&mut text, b"E21 vector ", at.line)?;
+            worded(alloc, &text)
+        }
+        VecFault::NoNode(name) => {
+            let mut text = Vec::new(alloc);
+            append_no_node(&mut text, at.line, name)?;
+            worded(alloc, &text)
+        }
+        VecFault::Memory => worded(alloc, b""),
+    }
+}
+
+// Writes words and then a number.
+fn append_numbered(text: &mut Vec<u8>, words: &[u8], number: u32) -> Result<(), AllocError>
+    ensures { OnOk result (text.new.items ≡ text.old.items ++ (words.now ++ decimal (pos number))) }
+{
+    text.extend_from_slice(words)?;
+    append_decimal(text, i128::from(number))
+}
+
+// Writes that the network has no node of a name, which a line asks for.
+fn append_no_node(text: &mut Vec<u8>, line: u32, name: &Name) -> Result<(), AllocError>
+    ensures { OnOk result (text.new.items ≡ text.old.items ++ vec_fault_text line (VecFault.NoNode name.now)) }
+{
+    append_numbered(text, b"E20 no node ", line)?;
+    append_with_name(text, b" ", name)
+}
+
+/// The answer where a sim file has a fault.
+pub fn refuse_sim(alloc: Global, number: usize, file: &Name, at: &SimAt) -> Result<Answer, Halt>
+    ensures lines { IfOk result (λ answer. answer.lines.items ≡ refusal_line number (sim_refusal file.now at.now) ∷ []) }
+    ensures stores { IfOk result (λ answer. answer.stores.items ≡ []) }
+    ensures memory { IsOkUnless result Halt.Memory }
+{
+    let refusal = sim_refusal(alloc, file, at)?;
+    refuse(alloc, number, refusal)
+}

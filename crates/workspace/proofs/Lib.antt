@@ -1,0 +1,9 @@
+pub mod CellCircuitLaws
+pub mod CellCommands
+pub mod CellNames
+pub mod ExtractionInside
+pub mod ExtractionLaws
+pub mod KeptLaws
+pub mod SessionLaws
+pub mod StandingLaws
+pub mod WorkspaceLaws

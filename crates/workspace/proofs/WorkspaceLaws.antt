@@ -1,0 +1,33 @@
+-- What is edited and which cells are dirty, as the program keeps them.
+use Rattle.std.proofs.Common.{◌≡◌, ◌<◌, ◌∙◌, ℕ, length, Option, sym, ap, subst}
+use Rattle.std.specs.Prelude.{IfSome}
+use Rattle.ext_model.specs.declared.tables.CellKey.{CellKey}
+use Rattle.cell_library.specs.Libraries.{IsSame, LibraryParts}
+use Rattle.cell_library.specs.Views.{LibraryView}
+use Rattle.edit_script.specs.Editing.{IsCurrent, editing_of}
+use Rattle.cell_library.proofs.ViewLaws.{count_seen}
+use Rattle.ext_cache.specs.Caches.{Records, is_dirty}
+use Rattle.ext_cache.proofs.RecordLaws.{dirty_same}
+use Rattle.workspace.specs.States.{Workspace}
+
+-- what is edited and what is dirty, where the program keeps this
+abbrev pub workspace_of : LibraryParts → Option CellKey → Records → Workspace
+workspace_of library current records = record { editing = editing_of library current; dirty = is_dirty library records }
+
+-- where nothing changed, the same is edited
+pub same_editing : (old new : LibraryParts) (current : Option CellKey) → IsSame old new → editing_of new current ≡ editing_of old current
+same_editing old new current same =
+    λ i. record { library = same.seen i; edits = (same.tree i).edits; current = (editing_of old current).current }
+
+-- and the same is dirty
+pub same_workspace : (old new : LibraryParts) (current : Option CellKey) (records : Records) → IsSame old new
+    → workspace_of new current records ≡ workspace_of old current records
+same_workspace old new current records same =
+    λ i. record { editing = same_editing old new current same i; dirty = λ cell. dirty_same old new records cell same i }
+
+-- the current cell stays one of the library's where nothing changed
+pub same_current : (old new : LibraryParts) (current : Option CellKey) → IsSame old new → IsCurrent old current → IsCurrent new current
+same_current old new current same is =
+    let count : length old.contents ≡ length new.contents =
+    sym (count_seen old) ∙ ap (λ (view : LibraryView). length view.cells) (sym same.seen) ∙ count_seen new in
+    subst (λ (n : ℕ). IfSome current (λ key. key.0 < n)) count is

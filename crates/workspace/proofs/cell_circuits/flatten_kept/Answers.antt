@@ -1,0 +1,68 @@
+use Rattle.std.proofs.Common.{◌<◌, List, length, sym, subst}
+use Rattle.std.specs.Prelude.{All, IfOk, IsSome}
+use Rattle.ext_model.specs.declared.records.CellExt.{CellExt}
+use Rattle.ext_model.specs.declared.tables.CellKey.{CellKey}
+use Rattle.circuit_model.specs.Elements.{AreRecords}
+use Rattle.cell_library.specs.Libraries.{LibraryParts, seen}
+use Rattle.ext_cache.specs.Caches.{Agrees, record_in}
+use Rattle.library_trees.specs.NamedCells.{named_tree_at}
+use Rattle.tree_records.specs.TreeRecords.{HasTreeRecords}
+use Rattle.workspace.specs.CellCircuits.{IsFlattenedAt}
+use Rattle.workspace.specs.Extracting.{IsFreshBelow}
+use Rattle.workspace.proofs.KeptLaws.{are_records, order_kept, root_clean, tree_records}
+use Rattle.workspace.proofs.cell_circuits.flatten_kept.Goals as goal
+
+pub copies-requires : goal.copies-requires
+copies-requires c =
+    let library = c.reader-library.result in
+    let cache = c.args.edited.now.cache in
+    let back = sym c.reader-library.ensures in
+    let agrees = subst (λ (l : LibraryParts). Agrees l cache) back c.requires.agrees in
+    let there = subst (λ (l : LibraryParts). c.args.cell.0 < length l.contents) back c.requires.cell in
+    let fresh = subst (λ (l : LibraryParts). IsFreshBelow l cache c.args.cell.0) back c.requires.fresh in
+    subst (λ (order : List CellKey). All (λ (cell : CellKey). IsSome (record_in cache cell.0)) order) (sym c.as_slice.ensures.value)
+    (order_kept library c.lawful.ensures cache agrees c.args.cell.0 there fresh c.in_ok-order.order.items c.in_ok-order.ensures)
+
+pub flatten_records-requires-clause-cell : goal.flatten_records-requires-clause-cell
+flatten_records-requires-clause-cell c =
+    subst (λ (l : LibraryParts). c.args.cell.0 < length l.contents) (sym c.reader-library.ensures) c.requires.cell
+
+pub flatten_records-requires-clause-clean : goal.flatten_records-requires-clause-clean
+flatten_records-requires-clause-clean c =
+    let library = c.reader-library.result in
+    let cache = c.args.edited.now.cache in
+    let back = sym c.reader-library.ensures in
+    let agrees = subst (λ (l : LibraryParts). Agrees l cache) back c.requires.agrees in
+    let there = subst (λ (l : LibraryParts). c.args.cell.0 < length l.contents) back c.requires.cell in
+    let fresh = subst (λ (l : LibraryParts). IsFreshBelow l cache c.args.cell.0) back c.requires.fresh in
+    root_clean library c.lawful.ensures cache agrees c.args.cell.0 there fresh
+
+pub flatten_records-requires-clause-records : goal.flatten_records-requires-clause-records
+flatten_records-requires-clause-records c =
+    let library = c.reader-library.result in
+    let cache = c.args.edited.now.cache in
+    let back = sym c.reader-library.ensures in
+    let agrees = subst (λ (l : LibraryParts). Agrees l cache) back c.requires.agrees in
+    let there = subst (λ (l : LibraryParts). c.args.cell.0 < length l.contents) back c.requires.cell in
+    let fresh = subst (λ (l : LibraryParts). IsFreshBelow l cache c.args.cell.0) back c.requires.fresh in
+    let copied = rw c.as_slice.ensures.value at c.in_ok-exts.ensures in
+    subst (λ (exts : List CellExt). AreRecords exts) (sym c.as_slice-2.ensures.value)
+    (are_records library c.lawful.ensures cache agrees c.args.cell.0 there fresh c.in_ok-order.order.items c.in_ok-order.ensures c.in_ok-exts.exts.items copied)
+
+pub flatten_records-requires-clause-tree : goal.flatten_records-requires-clause-tree
+flatten_records-requires-clause-tree c =
+    let library = c.reader-library.result in
+    let cache = c.args.edited.now.cache in
+    let back = sym c.reader-library.ensures in
+    let agrees = subst (λ (l : LibraryParts). Agrees l cache) back c.requires.agrees in
+    let there = subst (λ (l : LibraryParts). c.args.cell.0 < length l.contents) back c.requires.cell in
+    let fresh = subst (λ (l : LibraryParts). IsFreshBelow l cache c.args.cell.0) back c.requires.fresh in
+    let copied = rw c.as_slice.ensures.value at c.in_ok-exts.ensures in
+    subst (λ (exts : List CellExt). HasTreeRecords library.tech exts (named_tree_at (seen library) c.args.cell.0)) (sym c.as_slice-2.ensures.value)
+    (tree_records library c.lawful.ensures cache agrees c.args.cell.0 there fresh c.in_ok-order.order.items c.in_ok-order.ensures c.in_ok-exts.exts.items copied
+    c.listed_records_are_of_the_tree.ensures)
+
+pub returns-clause-flattened : goal.returns-clause-flattened
+returns-clause-flattened c =
+    subst (λ (l : LibraryParts). IfOk c.flatten_records.result (IsFlattenedAt (seen l) c.args.cell.0)) c.reader-library.ensures
+    c.flatten_records.ensures.flattened

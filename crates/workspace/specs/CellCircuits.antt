@@ -1,0 +1,34 @@
+-- The circuits of cells.
+use Rattle.std.specs.Prelude.{ℕ, List, All}
+use Rattle.ext_model.specs.declared.circuits.Circuit.{Circuit}
+use Rattle.ext_model.specs.declared.records.CellExt.{CellExt}
+use Rattle.sim_records.specs.SimRecords.{HasLetterAndLengths}
+use Rattle.circuit_model.specs.declared.faults.FlatFault.TheVariants.{TooMany as FlatTooMany}
+use Rattle.circuit_model.specs.declared.limits.CircuitLimit.{CircuitLimit}
+use Rattle.circuit_model.specs.Refusals.{IsFlatFaultOf, IsFlatOf}
+use Rattle.cell_library.specs.Views.{LibraryView, view_at}
+use Rattle.tree_records.specs.TreeCircuits.{IsFlatCircuit}
+use Rattle.tree_records.specs.TreeRecords.{HasTreeRecords}
+use Rattle.library_trees.specs.NamedCells.{named_tree_at}
+use Rattle.network_commands.specs.NetworkRuns.{CanBeSimulated}
+use Rattle.workspace.specs.declared.cell_circuits.Flattened.{Flattened}
+use Rattle.workspace.specs.declared.cell_circuits.Flattened.TheVariants.{Circuit as OneCircuit, Passed as TooMuch}
+
+-- The circuit is that of the cell's layout painted flat, and what the records of the cell and of all below it mean.
+pub record IsCircuitAt (library : LibraryView) (cell : ℕ) (circuit : Circuit) : Type 0 where
+  pub exts : List CellExt
+  pub are_records : HasTreeRecords library.tech exts (named_tree_at library cell)
+  pub is_flat : IsFlatOf exts (view_at library cell).name circuit
+  pub is_circuit : IsFlatCircuit library.tech (named_tree_at library cell) circuit
+
+-- The cell has too many nodes for a circuit, or too long names: the records of the cell and of all below it say so.
+pub record PassesAt (library : LibraryView) (cell : ℕ) (limit : CircuitLimit) : Type 0 where
+  pub exts : List CellExt
+  pub are_records : HasTreeRecords library.tech exts (named_tree_at library cell)
+  pub is_fault : IsFlatFaultOf exts (view_at library cell).name (FlatTooMany limit)
+
+-- The circuit of the cell, with transistors of which sim records can be made; or the limit that it passes.
+abbrev pub IsFlattenedAt : LibraryView → ℕ → Flattened → Type 0
+IsFlattenedAt library cell (OneCircuit circuit) =
+    IsCircuitAt library cell circuit × All HasLetterAndLengths circuit.fets × CanBeSimulated circuit
+IsFlattenedAt library cell (TooMuch limit) = PassesAt library cell limit

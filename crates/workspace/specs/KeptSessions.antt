@@ -1,0 +1,24 @@
+-- The state of a session as the program keeps it.
+use Rattle.std.specs.Prelude.{IfSome}
+use Rattle.std.specs.Option.{option_map}
+use Rattle.edit_script.specs.Editing.{IsCurrent, editing_of}
+use Rattle.ext_cache.specs.Caches.{Agrees, is_dirty}
+use Rattle.workspace.specs.declared.cells.Edited.{Edited}
+use Rattle.workspace.specs.declared.cells.LayoutSession.{LayoutSession}
+use Rattle.workspace.specs.States.{State, Workspace}
+
+-- what is edited, and which cells are dirty
+abbrev pub edited_state : Edited → Workspace
+edited_state edited =
+    record { editing = editing_of edited.library edited.current; dirty = is_dirty edited.library edited.cache }
+
+abbrev pub state_of : LayoutSession → State
+state_of session = option_map edited_state session.edited
+
+-- The current cell is one of the library's, and the records that are kept are those of the library.
+pub record IsEdited (edited : Edited) : Type 0 where
+  pub current : IsCurrent edited.library edited.current
+  pub agrees : Agrees edited.library edited.cache
+
+abbrev pub IsSession : LayoutSession → Type 0
+IsSession session = IfSome session.edited IsEdited

@@ -1,0 +1,5 @@
+pub mod CellCircuits
+pub mod Extracting
+pub mod Extractions
+pub mod KeptSessions
+pub mod States

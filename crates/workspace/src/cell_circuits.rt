@@ -1,0 +1,78 @@
+//! The circuits of cells.
+ghost use Rattle.std.specs.Prelude.{◌<◌, IfOk, IsOkUnless, length};
+ghost use Rattle.cell_library.specs.Libraries.{seen};
+ghost use Rattle.circuit_model.specs.Elements.{AreRecords};
+ghost use Rattle.ext_cache.specs.Caches.{Agrees};
+ghost use Rattle.hier_merge.specs.UncleanCells.{IsCleanCell};
+ghost use Rattle.library_trees.specs.NamedCells.{named_tree_at};
+ghost use Rattle.tree_records.specs.TreeRecords.{HasTreeRecords};
+ghost use Rattle.workspace.specs.CellCircuits.{IsFlattenedAt};
+ghost use Rattle.workspace.specs.Extracting.{IsFreshBelow};
+
+use crate::cells::Edited;
+use cell_library::Reader;
+use circuit_laws::flat_transistors_have_letter_and_lengths;
+use circuit_model::{CircuitLimit, FlatFault};
+use ext_model::{CellExt, CellKey, Circuit};
+use flatten::flatten;
+use kept_records::listed_records_are_of_the_tree;
+use library_trees::{chains_are_short, clean_cell_has_clean_tree};
+use network_laws::{flat_circuits_have_letters, flat_networks_fit};
+use session_model::Halt;
+use std::alloc::Global;
+use tree_circuits::{records_stand_for_the_flat_layout, tree_records_have_no_other_fault};
+
+/// The circuit of a cell, or the limit that it passes.
+#[derive(Debug, Drop)]
+pub enum Flattened {
+    Circuit(Circuit),
+    Passed(CircuitLimit),
+}
+
+/// The circuit of a cell where none at and below it is dirty.
+pub fn flatten_kept(alloc: Global, edited: &Edited, cell: CellKey) -> Result<Flattened, Halt>
+    requires agrees { Agrees edited.now.library edited.now.cache }
+    requires cell { cell.0 < length edited.now.library.contents }
+    requires fresh { IsFreshBelow edited.now.library edited.now.cache cell.0 }
+    ensures flattened { IfOk result (IsFlattenedAt (seen edited.now.library) cell.0) }
+    ensures memory { IsOkUnless result Halt.Memory }
+{
+    let library = edited.library.reader();
+    let order = library.below(cell)?;
+    // The laws by which these are the records of the cell's tree.
+    library.lawful();
+    listed_records_are_of_the_tree(&library);
+    let exts = edited.cache.copies(order.as_slice())?;
+    flatten_records(alloc, &library, cell, exts.as_slice())
+}
+
+// The circuit of a clean cell, where these are the records of it and of all below it.
+fn flatten_records(
+    alloc: Global,
+    library: &Reader<'_>,
+    cell: CellKey,
+    exts: &[CellExt],
+) -> Result<Flattened, Halt>
+    requires cell { cell.0 < length library.now.contents }
+    requires clean { IsCleanCell (seen library.now) cell.0 }
+    requires records { AreRecords exts.now }
+    requires tree { HasTreeRecords library.now.tech exts.now (named_tree_at (seen library.now) cell.0) }
+    ensures flattened { IfOk result (IsFlattenedAt (seen library.now) cell.0) }
+    ensures memory { IsOkUnless result Halt.Memory }
+{
+    // The laws of what is flattened here.
+    library.lawful();
+    clean_cell_has_clean_tree(library, cell);
+    chains_are_short(library);
+    records_stand_for_the_flat_layout();
+    tree_records_have_no_other_fault();
+    flat_transistors_have_letter_and_lengths();
+    flat_networks_fit();
+    flat_circuits_have_letters(library.tech());
+    match flatten(alloc, exts, library.name_of(cell)) {
+        Ok(circuit) => Ok(Flattened::Circuit(circuit)),
+        Err(FlatFault::TooMany(limit)) => Ok(Flattened::Passed(limit)),
+        Err(FlatFault::Memory) => Err(Halt::Memory),
+        Err(_) => unreachable!(),
+    }
+}

@@ -1,0 +1,31 @@
+//! What a session keeps between two lines.
+ghost use Rattle.std.specs.Prelude.{◌≡◌};
+ghost use Rattle.workspace.specs.KeptSessions.{IsSession, state_of};
+ghost use Rattle.workspace.specs.States.{first_state};
+
+use cell_library::Library;
+use ext_cache::Cache;
+use ext_model::CellKey;
+
+/// A library, the current one of its cells, and the records that were made of its cells.
+#[derive(Drop)]
+pub struct Edited {
+    pub library: Library,
+    pub current: Option<CellKey>,
+    pub cache: Cache,
+}
+
+/// What a session keeps between two lines.
+#[derive(Drop)]
+pub struct LayoutSession {
+    /// What is edited, once a technology was read.
+    pub edited: Option<Edited>,
+}
+
+/// The session at the start of a script: without a technology.
+pub fn new_session() -> LayoutSession
+    ensures state { state_of result ≡ first_state }
+    ensures sound { IsSession result }
+{
+    LayoutSession { edited: None }
+}

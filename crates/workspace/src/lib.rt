@@ -1,0 +1,18 @@
+//! What a session keeps between two lines: a library, its current cell, and the records that were made of its cells; and how a cell of it is
+//! extracted and flattened.
+//!
+//! # How the proof goes
+//!
+//! The state of a session is what is edited and which cells are dirty (`WorkspaceLaws`). An extraction makes the records of the dirty cells of
+//! a library order, one after another, and none of these is dirty then (`ExtractionLaws`). So a record is kept of the cell and of all below
+//! it, each that of the cell as it is (`KeptLaws`), and these records have the cell's circuit as their meaning (`CellCircuitLaws`), since no
+//! more cells stand below a cell than a circuit may have elements (`StandingLaws`), and names tell cells (`CellNames`).
+#![tactic(auto)]
+
+mod cell_circuits;
+mod cells;
+mod extractions;
+
+pub use cell_circuits::{Flattened, flatten_kept};
+pub use cells::{Edited, LayoutSession, new_session};
+pub use extractions::{Extracting, Extraction, extract_cell};
