@@ -16,8 +16,8 @@ use Rattle.cell_library.proofs.ViewLaws.{count_seen}
 use Rattle.layout_gen.specs.declared.faults.GenerateFault.{GenerateFault}
 use Rattle.layout_gen.specs.Generated.{CameAtOnce, IsGenerated}
 use Rattle.layout_gen.specs.Refusals.{generate_fault}
-use Rattle.ext_cache.specs.Caches.{Agrees, Records}
-use Rattle.ext_cache.proofs.ArrivalLaws.{agrees_all, dirty_cells}
+use Rattle.workspace.specs.Caches.{Agrees, Records}
+use Rattle.workspace.proofs.ArrivalLaws.{agrees_all, dirty_cells}
 use Rattle.line_answers.proofs.AnswerLaws.{answers_refusal}
 use Rattle.line_answers.specs.Refusals.{refusal_line}
 use Rattle.library_answers.specs.Refusals.{generate_refusal}

@@ -1,7 +1,7 @@
 //! What the commands have in common that run something on the network of a cell's circuit.
 ghost use Rattle.std.specs.Prelude.{◌<◌, ℕ, List as Words, Some, length, IfOk, IsOkUnless};
 ghost use Rattle.cell_library.specs.Libraries.{seen};
-ghost use Rattle.ext_cache.specs.Caches.{Agrees};
+ghost use Rattle.workspace.specs.Caches.{Agrees};
 ghost use Rattle.line_answers.specs.LineEffects.{IsOfInside};
 ghost use Rattle.workspace.specs.Extracting.{IsFreshBelow};
 ghost use Rattle.workspace.specs.KeptSessions.{IsEdited, edited_state};

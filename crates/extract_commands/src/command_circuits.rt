@@ -1,7 +1,7 @@
 //! `flat c` and `sim c`: extract c, and store the flat file or the sim file of its circuit.
 ghost use Rattle.std.specs.Prelude.{◌≡◌, ◌<◌, ◌⊎◌, ◌++◌, Some, [], length, IfOk, IsOkUnless};
 ghost use Rattle.cell_library.specs.Libraries.{seen};
-ghost use Rattle.ext_cache.specs.Caches.{Agrees};
+ghost use Rattle.workspace.specs.Caches.{Agrees};
 ghost use Rattle.session_model.specs.Effects.{Answers};
 ghost use Rattle.line_answers.specs.LineEffects.{IsOfInside};
 ghost use Rattle.workspace.specs.KeptSessions.{IsEdited, IsSession, edited_state, state_of};

@@ -11,7 +11,7 @@ use Rattle.edit_script.specs.Editing.{editing_of}
 use Rattle.edit_script.specs.Edits.{applied}
 use Rattle.edit_script.specs.Refusals.{ApplyIsRefused}
 use Rattle.edit_script.specs.Stamps.{IsStamped}
-use Rattle.ext_cache.specs.Caches.{Agrees, Records, is_dirty}
+use Rattle.workspace.specs.Caches.{Agrees, Records, is_dirty}
 use Rattle.library_answers.specs.Refusals.{edit_refusal}
 use Rattle.library_commands.specs.CommandEdits.{EditMeans}
 use Rattle.line_answers.specs.Refusals.{refusal_line}

@@ -8,7 +8,7 @@ use Rattle.cell_library.specs.Libraries.{LibraryParts, IsSame, seen, edits_of}
 use Rattle.cell_loading.specs.declared.faults.LoadFault.{LoadFault}
 use Rattle.cell_loading.specs.Loads.{IsLoaded, LoadIsRefused}
 use Rattle.cell_library.proofs.ViewLaws.{count_seen}
-use Rattle.ext_cache.specs.Caches.{Records, is_dirty}
+use Rattle.workspace.specs.Caches.{Records, is_dirty}
 use Rattle.library_answers.specs.Refusals.{load_refusal}
 use Rattle.library_answers.specs.Replies.{loaded_text}
 use Rattle.library_commands.specs.CommandLoad.{LoadMeans, with_loaded}

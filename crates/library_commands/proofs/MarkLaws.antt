@@ -11,10 +11,10 @@ use Rattle.edit_script.specs.Editing.{editing_of}
 use Rattle.edit_script.specs.Edits.{applied}
 use Rattle.edit_script.specs.Stamps.{IsCurrentEdit, IsStamped}
 use Rattle.edit_script.proofs.KeptCells.{cells_kept}
-use Rattle.ext_cache.specs.Caches.{Agrees, Records, is_dirty}
-use Rattle.ext_cache.proofs.ArrivalLaws.{agrees_cell, dirty_cell}
-use Rattle.ext_cache.proofs.EditLaws.{agrees_edit, dirty_edit, dirty_unedited}
-use Rattle.ext_cache.proofs.RecordLaws.{agrees_same, dirty_same}
+use Rattle.workspace.specs.Caches.{Agrees, Records, is_dirty}
+use Rattle.workspace.proofs.ArrivalLaws.{agrees_cell, dirty_cell}
+use Rattle.workspace.proofs.EditLaws.{agrees_edit, dirty_edit, dirty_unedited}
+use Rattle.workspace.proofs.RecordLaws.{agrees_same, dirty_same}
 use Rattle.library_commands.specs.CommandEdits.{MarksAfter, MarksCurrent}
 use Rattle.library_commands.proofs.ChangedCells.{ChangesCell, ChangesCells, ChangesCurrent, cells_changed}
 

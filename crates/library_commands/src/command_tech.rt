@@ -9,7 +9,6 @@ ghost use Rattle.workspace.specs.KeptSessions.{IsSession, state_of};
 ghost use Rattle.library_commands.specs.CommandTech.{TechMeans, tech_effect};
 
 use cell_library::Library;
-use ext_cache::Cache;
 use library_answers::{refuse_tech, refuse_tech_again, tech_reply};
 use line_answers::{file_name, refuse_file, told};
 use names_lists::Name;
@@ -18,7 +17,7 @@ use session_model::{Answer, Fetched, Halt, fetch_text};
 use std::alloc::Global;
 use tech_file::{TechAt, read_tech};
 use tech_model::TechFault;
-use workspace::{Edited, LayoutSession};
+use workspace::{Cache, Edited, LayoutSession};
 
 /// `tech f`, the script's line of this number.
 pub fn tech<F: Shelf>(

@@ -1,3 +1,2 @@
 pub mod NodesLaws
-pub mod OffendingLaws
 pub mod SquaresLaws

@@ -2,4 +2,3 @@ pub mod CommandNodes
 pub mod CommandSave
 pub mod CommandSquares
 pub mod Looks
-pub mod Offending

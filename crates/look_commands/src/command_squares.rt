@@ -7,7 +7,6 @@ ghost use Rattle.hier_merge.specs.UncleanCells.{IsCleanCell, IsUncleanBelow};
 ghost use Rattle.line_answers.specs.LineEffects.{IsOfInside, reply};
 ghost use Rattle.look_commands.specs.CommandSquares.{TellsSquares, clean_text};
 
-use crate::offending::offending_lines;
 use cell_library::{Library, Opened, Reader};
 use ext_model::CellKey;
 use geo_core::Rect;
@@ -15,6 +14,7 @@ use hier_merge::offending_of;
 use line_answers::{append_with_name, one_line, reply};
 use names_lists::{List, Name};
 use session_model::{Halt, ReportLine};
+use square_lines::offending_lines;
 use std::alloc::{AllocError, Global};
 use std::marker::Brand;
 use std::sync::ledger::{Blank, Ledger};

@@ -5,7 +5,5 @@ mod command_nodes;
 mod command_save;
 mod command_squares;
 mod looks;
-mod offending;
 
 pub use looks::{Look, tell};
-pub use offending::offending_lines;

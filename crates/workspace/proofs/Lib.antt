@@ -1,3 +1,7 @@
+-- laws of the records that are kept
+pub use Rattle.ext_cache.proofs.ArrivalLaws
+pub use Rattle.ext_cache.proofs.EditLaws
+pub use Rattle.ext_cache.proofs.RecordLaws
 pub mod CellCircuitLaws
 pub mod CellCommands
 pub mod CellNames

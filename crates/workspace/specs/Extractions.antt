@@ -18,7 +18,7 @@ use Rattle.ext_loading.specs.ExtFiles.{ext_file}
 use Rattle.line_answers.specs.declared.refusals.Refusal.{Refusal}
 use Rattle.line_answers.specs.LineEffects.{refused, reply}
 use Rattle.line_answers.specs.Refusals.{no_cell, no_tech, of_inside, refusal_line}
-use Rattle.look_commands.specs.Offending.{offending_line}
+use Rattle.square_lines.specs.Offending.{offending_line}
 use Rattle.workspace.specs.declared.extractions.Extraction.{Extraction}
 use Rattle.workspace.specs.States.{State, Workspace}
 

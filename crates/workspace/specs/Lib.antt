@@ -1,3 +1,5 @@
+-- what a command of the session says of the records that are kept
+pub use Rattle.ext_cache.specs.Caches
 pub mod CellCircuits
 pub mod Extracting
 pub mod Extractions

@@ -15,4 +15,5 @@ mod extractions;
 
 pub use cell_circuits::{Flattened, flatten_kept};
 pub use cells::{Edited, LayoutSession, new_session};
+pub use ext_cache::Cache;
 pub use extractions::{Extracting, Extraction, extract_cell};

@@ -1,4 +1,4 @@
-use Rattle.ext_cache.proofs.RecordLaws.{agrees_same}
+use Rattle.workspace.proofs.RecordLaws.{agrees_same}
 use Rattle.extract_commands.proofs.GenerateLaws.{stack_agrees, stack_came, stack_there}
 use Rattle.workspace.proofs.WorkspaceLaws.{same_current}
 use Rattle.extract_commands.proofs.command_generate.make_stack.Goals as goal

@@ -3,7 +3,7 @@ use Rattle.std.specs.Prelude.{codes}
 use Rattle.session_model.specs.Effects.{Answers}
 use Rattle.edit_script.specs.Editing.{editing_of}
 use Rattle.edit_script.specs.Refusals.{ApplyIsRefused}
-use Rattle.ext_cache.proofs.RecordLaws.{agrees_same}
+use Rattle.workspace.proofs.RecordLaws.{agrees_same}
 use Rattle.workspace.specs.KeptSessions.{IsEdited, edited_state, state_of}
 use Rattle.library_commands.specs.CommandEdits.{EditMeans}
 use Rattle.line_answers.specs.LineEffects.{reply}

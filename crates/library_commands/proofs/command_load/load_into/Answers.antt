@@ -4,8 +4,8 @@ use Rattle.cell_library.specs.Libraries.{IsSame}
 use Rattle.cell_loading.specs.declared.loading.Loaded.{Loaded}
 use Rattle.cell_loading.specs.Arrivals.{ArriveWithStamps}
 use Rattle.cell_loading.specs.Loads.{HasMoreIfLoaded, KeepsIfRefused, LoadGives}
-use Rattle.ext_cache.proofs.ArrivalLaws.{agrees_all, dirty_cells}
-use Rattle.ext_cache.proofs.RecordLaws.{agrees_same}
+use Rattle.workspace.proofs.ArrivalLaws.{agrees_all, dirty_cells}
+use Rattle.workspace.proofs.RecordLaws.{agrees_same}
 use Rattle.library_answers.specs.Replies.{loaded_text}
 use Rattle.line_answers.specs.LineEffects.{reply}
 use Rattle.line_answers.proofs.AnswerLaws.{both_ok}

@@ -1,7 +1,7 @@
 use Rattle.std.proofs.Common.{◌≡◌, [], ◌∷◌, Ok, Err, None, sym, subst, rules}
 use Rattle.tech_file.specs.Reading.{technology_of}
-use Rattle.ext_cache.specs.Caches.{Agrees}
-use Rattle.ext_cache.proofs.RecordLaws.{agrees_none}
+use Rattle.workspace.specs.Caches.{Agrees}
+use Rattle.workspace.proofs.RecordLaws.{agrees_none}
 use Rattle.library_answers.specs.Replies.{tech_text}
 use Rattle.line_answers.specs.LineEffects.{reply}
 use Rattle.line_answers.proofs.AnswerLaws.{both_ok}

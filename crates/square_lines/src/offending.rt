@@ -3,7 +3,7 @@ ghost use Rattle.std.specs.Prelude.{◌≡◌, ◌<◌, ◌++◌, All, map, leng
 ghost use Rattle.text_scan.specs.Decimal.{decimal};
 ghost use Rattle.cell_library.specs.Libraries.{seen};
 ghost use Rattle.cell_library.specs.Views.{view_at};
-ghost use Rattle.look_commands.specs.Offending.{bounds_text, offending_line};
+ghost use Rattle.square_lines.specs.Offending.{bounds_text, offending_line};
 
 use cell_library::Reader;
 use ext_model::CellKey;

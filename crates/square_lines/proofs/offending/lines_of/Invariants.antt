@@ -1,6 +1,6 @@
 use Rattle.std.proofs.Common.{◌≡◌, ◌++◌, drop, map}
-use Rattle.look_commands.specs.Offending.{offending_line}
-use Rattle.look_commands.proofs.offending.lines_of.Given as goal
+use Rattle.square_lines.specs.Offending.{offending_line}
+use Rattle.square_lines.proofs.offending.lines_of.Given as goal
 
 -- the lines so far and those of the strips that are left are the lines of all
 abbrev pub invariant-loop-strip : goal.invariant-loop-strip

@@ -4,7 +4,7 @@ use Rattle.geo_core.specs.declared.squares.Rect.{Rect}
 use Rattle.tech_model.specs.declared.raw.RawTech.{RawTech}
 use Rattle.line_answers.proofs.InsideLaws.{no_lines_inside}
 use Rattle.line_answers.specs.LineEffects.{IsOfInside}
-use Rattle.look_commands.specs.Offending.{offending_line}
+use Rattle.square_lines.specs.Offending.{offending_line}
 
 -- those of strips that offend
 pub offending_inside : (raw : RawTech) (cell : List ℕ) (strips : List (ℕ × Rect)) → IsOfInside (map (offending_line raw cell) strips)

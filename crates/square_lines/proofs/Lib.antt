@@ -1,0 +1,2 @@
+pub mod OffendingLaws
+pub mod UncleanLaws
