@@ -32,11 +32,11 @@ meant_at_first number session files name effect none is =
     subst (λ (s : State). TechMeans number s files name effect) (sym (state_of_nothing session none)) is
 
 -- the file is refused
-pub tech_refused : (number : ℕ) (session : LayoutSession) (files : Files) (name file : List ℕ) (fault : FetchFault) (answer : Answer)
+pub tech_file_refused : (number : ℕ) (session : LayoutSession) (files : Files) (name file : List ℕ) (fault : FetchFault) (answer : Answer)
     → session.edited ≡ None → file ≡ tech_file name → text_in files file ≡ Err fault
     → answer.lines.items ≡ refusal_line number (file_refusal file fault) ∷ [] → answer.stores.items ≡ []
     → Answers (TechMeans number (state_of session) files name) (state_of session) answer
-tech_refused number session files name file fault answer none file_is there lines stores =
+tech_file_refused number session files name file fault answer none file_is there lines stores =
     let here = subst (λ (f : List ℕ). text_in files f ≡ Err fault) file_is there in
     let told = subst (λ (f : List ℕ). answer.lines.items ≡ refusal_line number (file_refusal f fault) ∷ []) file_is lines in
     let effect = refused number (state_of session) (file_refusal (tech_file name) fault) (tech_file name ∷ []) in
@@ -80,11 +80,11 @@ tech_accepted number file read raw library records answer is library_is none lin
     ∙ ap (tech_effect number file) (sym is)
 
 -- a technology's text is refused
-pub text_refused : (number : ℕ) (file : List ℕ) (read : Result RawTech TechAt) (at : TechAt) (state : State) (answer : Answer)
+pub tech_text_refused : (number : ℕ) (file : List ℕ) (read : Result RawTech TechAt) (at : TechAt) (state : State) (answer : Answer)
     → read ≡ Err at → state ≡ None → answer.lines.items ≡ refusal_line number (tech_refusal file at) ∷ [] → answer.stores.items ≡ []
     → ◌≡◌ {A = Effect State}
     (record { state = state; lines = answer.lines.items; stores = answer.stores.items; fetched = file ∷ [] })
     (tech_effect number file read)
-text_refused number file read at state answer is none lines stores =
+tech_text_refused number file read at state answer is none lines stores =
     (λ i. record { state = none i; lines = lines i; stores = stores i; fetched = file ∷ [] })
     ∙ ap (tech_effect number file) (sym is)

@@ -6,7 +6,7 @@ use Rattle.library_answers.specs.Replies.{tech_text}
 use Rattle.line_answers.specs.LineEffects.{reply}
 use Rattle.line_answers.proofs.AnswerLaws.{both_ok}
 use Rattle.workspace.specs.KeptSessions.{state_of}
-use Rattle.library_commands.proofs.TechLaws.{tech_accepted, text_refused}
+use Rattle.library_commands.proofs.TechLaws.{tech_accepted, tech_text_refused}
 use Rattle.library_commands.proofs.command_tech.accept_tech.Goals as goal
 
 pub returns-in-Ok-clause-effect : goal.returns-in-Ok-clause-effect
@@ -25,6 +25,6 @@ returns-clause-effect c =
     let is : technology_of c.args.text.now ≡ Err c.in-Err.at = search rules in
     let none : state_of c.args.session.now ≡ None = search rules in
     both_ok c.refuse_tech.result _ _ _
-    (λ answer lines stores. text_refused c.args.number c.args.file (technology_of c.args.text.now) c.in-Err.at (state_of c.args.session.now) answer is none
+    (λ answer lines stores. tech_text_refused c.args.number c.args.file (technology_of c.args.text.now) c.in-Err.at (state_of c.args.session.now) answer is none
     lines stores)
     c.refuse_tech.ensures.lines c.refuse_tech.ensures.stores

@@ -4,7 +4,7 @@ use Rattle.session_model.specs.declared.fetching.Fetched.{Fetched}
 use Rattle.session_model.specs.Fetches.{FetchMeans, text_in}
 use Rattle.library_commands.specs.CommandTech.{tech_file}
 use Rattle.line_answers.proofs.AnswerLaws.{both_ok}
-use Rattle.library_commands.proofs.TechLaws.{tech_read, tech_refused}
+use Rattle.library_commands.proofs.TechLaws.{tech_read, tech_file_refused}
 use Rattle.library_commands.proofs.command_tech.tech.Goals as goal
 
 pub returns-in-Text-clause-effect : goal.returns-in-Text-clause-effect
@@ -25,6 +25,6 @@ returns-in-Refused-clause-effect g c files told =
     let none : c.args.session.now.edited ≡ None = search rules in
     let file : c.in_ok-file.file ≡ tech_file c.args.name.now = search rules in
     both_ok c.refuse_file.result _ _ _
-    (λ answer lines stores. tech_refused c.args.number c.args.session.now files c.args.name.now c.in_ok-file.file c.in-Refused.fault answer none file there
+    (λ answer lines stores. tech_file_refused c.args.number c.args.session.now files c.args.name.now c.in_ok-file.file c.in-Refused.fault answer none file there
     lines stores)
     c.refuse_file.ensures.lines c.refuse_file.ensures.stores
