@@ -132,16 +132,25 @@ class Network:
             now = tuple(self.states)
             if now in place:
                 first = place[now]
-                self.states = list(passed[first + (BUDGET - first) % (len(passed) - first)])
-                return None
+                return self.forced(list(passed[first + (BUDGET - first) % (len(passed) - first)]))
             place[now] = len(passed)
             passed.append(now)
             after = self.step()
             if after == self.states:
                 return len(passed) - 1
             self.states = after
-        self.states = list(passed[BUDGET])
-        return None
+        return self.forced(list(passed[BUDGET]))
+
+    def forced(self, states):
+        """From the last states of a phase that did not settle: what a step would change becomes X and stays so, until nothing more would change."""
+        self.states, forced = states, set()
+        while True:
+            after = self.step()
+            taken = {node for node in self.nodes if after[node] != self.states[node]} - forced
+            if not taken:
+                return None
+            forced |= taken
+            self.states = ["X" if node in taken else state for node, state in enumerate(self.states)]
 
 
 class Refused(Exception):

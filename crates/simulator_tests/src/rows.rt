@@ -15,8 +15,8 @@ const BUDGET: u32 = 5;
 enum Asked {
     /// A phase, which settles after so many steps.
     Settles(u32),
-    /// A phase that has this budget, and is unsettled when it is used up.
-    Runs(u32),
+    /// A phase that is unsettled when this budget is used up, and then takes so many rounds.
+    Forces(u32, u32),
     /// One step.
     Step,
     /// A step of the vicinities of these nodes alone.
@@ -51,6 +51,94 @@ const RING: &[Entry] = &[
     (SwitchKind::D, 3, POWER, 3),
     (SwitchKind::N, 3, GROUND, 4),
     (SwitchKind::D, 4, POWER, 4),
+];
+
+/// That ring, and an inverter from its node 4 to node 5.
+const RING_AND_INVERTER: &[Entry] = &[
+    (SwitchKind::N, 4, GROUND, 2),
+    (SwitchKind::D, 2, POWER, 2),
+    (SwitchKind::N, 2, GROUND, 3),
+    (SwitchKind::D, 3, POWER, 3),
+    (SwitchKind::N, 3, GROUND, 4),
+    (SwitchKind::D, 4, POWER, 4),
+    (SwitchKind::N, 4, GROUND, 5),
+    (SwitchKind::D, 5, POWER, 5),
+];
+
+/// That ring, and a nand of its node 2 and of node 7: its output is node 5, and node 6 stands between its switches.
+const RING_AND_NAND: &[Entry] = &[
+    (SwitchKind::N, 4, GROUND, 2),
+    (SwitchKind::D, 2, POWER, 2),
+    (SwitchKind::N, 2, GROUND, 3),
+    (SwitchKind::D, 3, POWER, 3),
+    (SwitchKind::N, 3, GROUND, 4),
+    (SwitchKind::D, 4, POWER, 4),
+    (SwitchKind::D, 5, POWER, 5),
+    (SwitchKind::N, 2, 6, 5),
+    (SwitchKind::N, 7, GROUND, 6),
+];
+
+/// That ring, and one of nodes 5, 6 and 7.
+const TWO_RINGS: &[Entry] = &[
+    (SwitchKind::N, 4, GROUND, 2),
+    (SwitchKind::D, 2, POWER, 2),
+    (SwitchKind::N, 2, GROUND, 3),
+    (SwitchKind::D, 3, POWER, 3),
+    (SwitchKind::N, 3, GROUND, 4),
+    (SwitchKind::D, 4, POWER, 4),
+    (SwitchKind::N, 7, GROUND, 5),
+    (SwitchKind::D, 5, POWER, 5),
+    (SwitchKind::N, 5, GROUND, 6),
+    (SwitchKind::D, 6, POWER, 6),
+    (SwitchKind::N, 6, GROUND, 7),
+    (SwitchKind::D, 7, POWER, 7),
+];
+
+/// A ring of three inverters that is closed by a switch of node 6 between nodes 4 and 5.
+const RING_WITH_SWITCH: &[Entry] = &[
+    (SwitchKind::N, 5, GROUND, 2),
+    (SwitchKind::D, 2, POWER, 2),
+    (SwitchKind::N, 2, GROUND, 3),
+    (SwitchKind::D, 3, POWER, 3),
+    (SwitchKind::N, 3, GROUND, 4),
+    (SwitchKind::D, 4, POWER, 4),
+    (SwitchKind::N, 6, 4, 5),
+];
+
+/// An inverter whose output is its input.
+const OWN_INVERTER: &[Entry] = &[(SwitchKind::N, 2, GROUND, 2), (SwitchKind::D, 2, POWER, 2)];
+
+/// The same of an n and a p device.
+const OWN_PAIR: &[Entry] = &[(SwitchKind::N, 2, GROUND, 2), (SwitchKind::P, 2, POWER, 2)];
+
+/// Two inverters, of nodes 2 and 3, each of which has the other's output.
+const LATCH: &[Entry] = &[
+    (SwitchKind::N, 2, GROUND, 3),
+    (SwitchKind::D, 3, POWER, 3),
+    (SwitchKind::N, 3, GROUND, 2),
+    (SwitchKind::D, 2, POWER, 2),
+];
+
+/// Five inverters in a row, from node 2 to node 7.
+const INVERTERS: &[Entry] = &[
+    (SwitchKind::N, 2, GROUND, 3),
+    (SwitchKind::D, 3, POWER, 3),
+    (SwitchKind::N, 3, GROUND, 4),
+    (SwitchKind::D, 4, POWER, 4),
+    (SwitchKind::N, 4, GROUND, 5),
+    (SwitchKind::D, 5, POWER, 5),
+    (SwitchKind::N, 5, GROUND, 6),
+    (SwitchKind::D, 6, POWER, 6),
+    (SwitchKind::N, 6, GROUND, 7),
+    (SwitchKind::D, 7, POWER, 7),
+];
+
+/// Two inverters in a row, of n and p devices, from node 2 to node 4.
+const PAIRS: &[Entry] = &[
+    (SwitchKind::N, 2, GROUND, 3),
+    (SwitchKind::P, 2, POWER, 3),
+    (SwitchKind::N, 3, GROUND, 4),
+    (SwitchKind::P, 3, POWER, 4),
 ];
 
 /// A switch of node 2 that joins nodes 3 and 4.
@@ -205,7 +293,7 @@ const ROWS: &[Row] = &[
         asked: Asked::Settles(1),
         after: &[Zero, One, X, One, One, One],
     },
-    // A ring of three inverters whose nodes are all low goes up and down with each step.
+    // A ring of three inverters whose nodes are all low goes up and down with each step. All of them would change in the step past the budget.
     Row {
         circuit: Circuit {
             switches: RING,
@@ -213,8 +301,8 @@ const ROWS: &[Row] = &[
             sizes: &[],
         },
         before: &[Zero, One, Zero, Zero, Zero],
-        asked: Asked::Runs(0),
-        after: &[Zero, One, Zero, Zero, Zero],
+        asked: Asked::Forces(100, 1),
+        after: &[Zero, One, X, X, X],
     },
     Row {
         circuit: Circuit {
@@ -223,8 +311,8 @@ const ROWS: &[Row] = &[
             sizes: &[],
         },
         before: &[Zero, One, Zero, Zero, Zero],
-        asked: Asked::Runs(1),
-        after: &[Zero, One, One, One, One],
+        asked: Asked::Forces(7, 1),
+        after: &[Zero, One, X, X, X],
     },
     Row {
         circuit: Circuit {
@@ -233,18 +321,187 @@ const ROWS: &[Row] = &[
             sizes: &[],
         },
         before: &[Zero, One, Zero, Zero, Zero],
-        asked: Asked::Runs(10),
-        after: &[Zero, One, Zero, Zero, Zero],
+        asked: Asked::Forces(0, 1),
+        after: &[Zero, One, X, X, X],
     },
+    // Where its states differ one node would change, and then each behind a node that is X.
     Row {
         circuit: Circuit {
             switches: RING,
             inputs: RAILS,
             sizes: &[],
         },
-        before: &[Zero, One, Zero, Zero, Zero],
-        asked: Asked::Runs(11),
-        after: &[Zero, One, One, One, One],
+        before: &[Zero, One, Zero, Zero, One],
+        asked: Asked::Forces(0, 3),
+        after: &[Zero, One, X, X, X],
+    },
+    // From X it rests.
+    Row {
+        circuit: Circuit {
+            switches: RING,
+            inputs: RAILS,
+            sizes: &[],
+        },
+        before: &[Zero, One, X, X, X],
+        asked: Asked::Settles(0),
+        after: &[Zero, One, X, X, X],
+    },
+    // What hangs on the ring is forced with it, but not where it is held by something else.
+    Row {
+        circuit: Circuit {
+            switches: RING_AND_INVERTER,
+            inputs: RAILS,
+            sizes: &[],
+        },
+        before: &[Zero, One, Zero, Zero, Zero, One],
+        asked: Asked::Forces(100, 1),
+        after: &[Zero, One, X, X, X, X],
+    },
+    Row {
+        circuit: Circuit {
+            switches: RING_AND_NAND,
+            inputs: &[GROUND, POWER, 7],
+            sizes: &[],
+        },
+        before: &[Zero, One, Zero, Zero, Zero, One, X, Zero],
+        asked: Asked::Forces(100, 1),
+        after: &[Zero, One, X, X, X, One, One, Zero],
+    },
+    Row {
+        circuit: Circuit {
+            switches: TWO_RINGS,
+            inputs: &[GROUND, POWER, 5],
+            sizes: &[],
+        },
+        before: &[Zero, One, Zero, Zero, Zero, Zero, One, Zero],
+        asked: Asked::Forces(100, 1),
+        after: &[Zero, One, X, X, X, Zero, One, Zero],
+    },
+    // A ring that is X stays so when it is cut.
+    Row {
+        circuit: Circuit {
+            switches: RING_WITH_SWITCH,
+            inputs: &[GROUND, POWER, 6],
+            sizes: &[],
+        },
+        before: &[Zero, One, Zero, Zero, Zero, Zero, One],
+        asked: Asked::Forces(100, 1),
+        after: &[Zero, One, X, X, X, X, One],
+    },
+    Row {
+        circuit: Circuit {
+            switches: RING_WITH_SWITCH,
+            inputs: &[GROUND, POWER, 6],
+            sizes: &[],
+        },
+        before: &[Zero, One, X, X, X, X, Zero],
+        asked: Asked::Settles(0),
+        after: &[Zero, One, X, X, X, X, Zero],
+    },
+    // Inverters into themselves.
+    Row {
+        circuit: Circuit {
+            switches: OWN_INVERTER,
+            inputs: RAILS,
+            sizes: &[],
+        },
+        before: &[Zero, One, Zero],
+        asked: Asked::Forces(100, 1),
+        after: &[Zero, One, X],
+    },
+    Row {
+        circuit: Circuit {
+            switches: OWN_PAIR,
+            inputs: RAILS,
+            sizes: &[],
+        },
+        before: &[Zero, One, One],
+        asked: Asked::Forces(100, 1),
+        after: &[Zero, One, X],
+    },
+    // A latch whose nodes are equal, and one that holds.
+    Row {
+        circuit: Circuit {
+            switches: LATCH,
+            inputs: RAILS,
+            sizes: &[],
+        },
+        before: &[Zero, One, One, One],
+        asked: Asked::Forces(100, 1),
+        after: &[Zero, One, X, X],
+    },
+    Row {
+        circuit: Circuit {
+            switches: LATCH,
+            inputs: RAILS,
+            sizes: &[],
+        },
+        before: &[Zero, One, One, Zero],
+        asked: Asked::Settles(0),
+        after: &[Zero, One, One, Zero],
+    },
+    // A chain from X, with a budget for two of its inverters: the third would become 0, and is X already. The next phase goes on, and the third ends.
+    Row {
+        circuit: Circuit {
+            switches: INVERTERS,
+            inputs: DRIVEN,
+            sizes: &[],
+        },
+        before: &[Zero, One, One, X, X, X, X, X],
+        asked: Asked::Forces(2, 1),
+        after: &[Zero, One, One, Zero, One, X, X, X],
+    },
+    Row {
+        circuit: Circuit {
+            switches: INVERTERS,
+            inputs: DRIVEN,
+            sizes: &[],
+        },
+        before: &[Zero, One, One, Zero, One, X, X, X],
+        asked: Asked::Forces(2, 1),
+        after: &[Zero, One, One, Zero, One, Zero, One, X],
+    },
+    Row {
+        circuit: Circuit {
+            switches: INVERTERS,
+            inputs: DRIVEN,
+            sizes: &[],
+        },
+        before: &[Zero, One, One, Zero, One, Zero, One, X],
+        asked: Asked::Settles(1),
+        after: &[Zero, One, One, Zero, One, Zero, One, Zero],
+    },
+    // The same chain at rest, whose input turns over: behind the node that is taken each becomes X in a round of its own.
+    Row {
+        circuit: Circuit {
+            switches: INVERTERS,
+            inputs: DRIVEN,
+            sizes: &[],
+        },
+        before: &[Zero, One, One, One, Zero, One, Zero, One],
+        asked: Asked::Forces(2, 3),
+        after: &[Zero, One, One, Zero, One, X, X, X],
+    },
+    // Two inverters of n and p devices whose input turns over: the second comes one step late, and settles in the next phase.
+    Row {
+        circuit: Circuit {
+            switches: PAIRS,
+            inputs: DRIVEN,
+            sizes: &[],
+        },
+        before: &[Zero, One, Zero, Zero, One],
+        asked: Asked::Forces(1, 1),
+        after: &[Zero, One, Zero, One, X],
+    },
+    Row {
+        circuit: Circuit {
+            switches: PAIRS,
+            inputs: DRIVEN,
+            sizes: &[],
+        },
+        before: &[Zero, One, Zero, One, X],
+        asked: Asked::Settles(1),
+        after: &[Zero, One, Zero, One, Zero],
     },
     // One step of two nodes that are joined: one of size 2 at 1 wins over one of size 1 at 0, and equal ones are X.
     Row {
@@ -362,8 +619,28 @@ fn holds(alloc: Global, row: Row) -> Result<bool, AllocError> {
         return Ok(false);
     };
     match row.asked {
-        Asked::Settles(steps) => ends(alloc, net, row, BUDGET, Settled { steps, done: true }),
-        Asked::Runs(steps) => ends(alloc, net, row, steps, Settled { steps, done: false }),
+        Asked::Settles(steps) => ends(
+            alloc,
+            net,
+            row,
+            BUDGET,
+            Settled {
+                steps,
+                done: true,
+                forced: 0,
+            },
+        ),
+        Asked::Forces(steps, forced) => ends(
+            alloc,
+            net,
+            row,
+            steps,
+            Settled {
+                steps,
+                done: false,
+                forced,
+            },
+        ),
         Asked::Step => steps(alloc, &net, row),
         Asked::StepWithin(seeds) => steps_within(alloc, net, row, seeds),
     }

@@ -5,3 +5,4 @@ pub mod Collecting
 pub mod Moving
 pub mod Wires
 pub mod Resting
+pub mod Rounds

@@ -6,3 +6,4 @@ pub mod Parts
 pub mod Spreading
 pub mod Passing
 pub mod Levels
+pub mod Rounds

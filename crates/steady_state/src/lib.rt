@@ -4,6 +4,8 @@
 //! nodes that store charge, and at the switches of all those. So a phase costs a walk over the
 //! network once, and then what its changes cost. Where inputs alone were set since the network
 //! rested, the first step looks at what they lead to, and the walk is spared. It takes no memory.
+//! Where a phase has not settled within its budget, the nodes that would still change are forced to
+//! X, in rounds; each but the first looks at the vicinities of what the one before took.
 //!
 //! # How the proof goes
 //!
@@ -18,12 +20,15 @@
 //! zero. A step of the marked vicinities is a step of the network where all other nodes are quiet
 //! (`Collecting`, `Moving`), and after it the nodes are quiet that are in no vicinity of what changed.
 //! Where a network rests and an input is set, the nodes are quiet that are in no vicinity of the ends
-//! of switches at which the input stands (`Resting`).
+//! of switches at which the input stands (`Resting`). In the rounds each node rests that is not forced
+//! and in no vicinity of what the last one took, and each forced node is X, so a node is taken once, and
+//! there are at most as many rounds as nodes that store charge (`Rounds`).
 #![tactic(auto)]
 
 mod adjacent;
 mod beginning;
 mod changes;
+mod forcing;
 mod kinds;
 mod marking;
 mod part;

@@ -1,26 +1,31 @@
 //! Steps and phases of a network.
 
-ghost use Rattle.std.specs.Prelude.{◌≡◌, ◌<◌, ℕ, All, IfOk, IfSome, length};
+ghost use Rattle.std.specs.Prelude.{◌≡◌, ◌<◌, ◌≤◌, ℕ, All, IfOk, IfSome, count_by, false, length, not};
 ghost use Rattle.switch_net.specs.Arrays.{AreStrengthsFor};
 ghost use Rattle.switch_net.specs.Net.{network_of};
 ghost use Rattle.switch_net.specs.Path.{state_of};
 ghost use Rattle.switch_net.specs.Steady.{IsStep, IsSteadyValue};
-ghost use Rattle.switch_net.specs.Phase.{IsPhase};
+ghost use Rattle.switch_net.specs.Phase.{AreSteadyOrX, HasRounds, IsPhase};
 ghost use Rattle.switch_net.specs.Vicinity.{IsReached};
+ghost use Rattle.steady_state.specs.Rounds.{DoStepsEnd};
+ghost use Rattle.steady_state.specs.Levels.{AreLowStrengths};
 ghost use Rattle.steady_state.specs.Marked.{AreMarked, IsQuiet, IsRestedBut, States};
 ghost use Rattle.steady_state.specs.Wired.{network_in};
 
 use crate::changes::{changes, commit, mark_all_touched, mark_changed};
+use crate::forcing::force_all;
 use crate::stepping::{clear_strengths, mark_afresh, step_all, step_marked, step_seeds};
 use crate::wiring::Wiring;
 use std::alloc::{AllocError, Global};
 use switch_net::{Level, Net, NodeSet, Strengths};
 
-/// How a phase ended: after how many steps, and whether it had settled then.
+/// How a phase ended: after how many steps, whether it had settled then, and how many rounds forced
+/// nodes to X where it had not.
 #[derive(Clone, Copy, Debug, PartialEq, Eq)]
 pub struct Settled {
     pub steps: u32,
     pub done: bool,
+    pub forced: u32,
 }
 
 /// The states after one step: each node that stores charge has its steady value, and the inputs are
@@ -44,12 +49,18 @@ pub fn step(alloc: Global, net: &Net, state: &[Level]) -> Result<Vec<Level>, All
 }
 
 /// Takes steps until a step changes nothing, at most as many as the budget. The states are then
-/// those that it settled in, or those after as many steps as the budget. It takes one state for
-/// each node, and no memory.
+/// those that it settled in. If it has not settled, rounds follow those steps until there is nothing
+/// left to take: each takes the nodes that are not forced yet and that a step would change, makes
+/// them X and forces them to stay X to the end of the phase. Then each node that stores charge is
+/// steady, or X. It takes one state for each node, and no memory.
 pub fn settle(net: &mut Net, state: &mut [Level], budget: u32) -> Settled
     requires { length state.old ≡ net.old.nodes }
     ensures phase { IsPhase (network_of net.old) budget state.old
         result.done result.steps state.new }
+    ensures rounds { HasRounds (network_of net.old) budget state.old
+        result.done result.forced state.new }
+    ensures few { result.forced ≤ count_by not net.old.inputs }
+    ensures steady { result.done ≡ false → AreSteadyOrX (network_of net.old) state.new }
     ensures net { network_of net.new ≡ network_of net.old }
 {
     settle_from(net, state, None, budget)
@@ -69,6 +80,10 @@ pub fn settle_from(
     requires rested { IfSome touched (λ nodes. IsRestedBut (network_of net.old) state.old nodes.now) }
     ensures phase { IsPhase (network_of net.old) budget state.old
         result.done result.steps state.new }
+    ensures rounds { HasRounds (network_of net.old) budget state.old
+        result.done result.forced state.new }
+    ensures few { result.forced ≤ count_by not net.old.inputs }
+    ensures steady { result.done ≡ false → AreSteadyOrX (network_of net.old) state.new }
     ensures net { network_of net.new ≡ network_of net.old }
 {
     let wiring = Wiring {
@@ -78,16 +93,31 @@ pub fn settle_from(
         inputs: net.inputs.items(),
         adjacency: &net.work.adjacency,
     };
-    mark_first(&wiring, touched, &mut net.work.marks);
-    take_steps(
-        &wiring,
-        state,
-        budget,
-        &mut net.work.marks,
-        &mut net.work.strengths,
-        net.work.next.items_mut(),
-        net.work.changed.items_mut(),
-    )
+    let marks = &mut net.work.marks;
+    let strengths = &mut net.work.strengths;
+    let next = net.work.next.items_mut();
+    let changed = net.work.changed.items_mut();
+    mark_first(&wiring, touched, marks);
+    match take_steps(&wiring, state, budget, marks, strengths, next, changed) {
+        Some(steps) => Settled {
+            steps,
+            done: true,
+            forced: 0,
+        },
+        None => Settled {
+            steps: budget,
+            done: false,
+            forced: force_all(
+                &wiring,
+                state,
+                &mut net.work.forced,
+                marks,
+                strengths,
+                next,
+                changed,
+            ),
+        },
+    }
 }
 
 /// Gives each node in the vicinity of a seed, by the old states, its steady value for these in the
@@ -138,7 +168,8 @@ fn mark_first(net: &Wiring<'_>, touched: Option<&[u32]>, marks: &mut NodeSet)
 }
 
 /// Takes steps until a step changes nothing, at most as many as the budget, whatever the other
-/// arrays hold. Each step works on the vicinities alone in which something may change.
+/// arrays hold. Each step works on the vicinities alone in which something may change. Says after how
+/// many steps the network has settled, if it has. If not, one step more is worked out, and not made.
 fn take_steps(
     net: &Wiring<'_>,
     state: &mut [Level],
@@ -147,17 +178,17 @@ fn take_steps(
     strengths: &mut Strengths,
     next: &mut [Level],
     changed: &mut [u32],
-) -> Settled
+) -> Option<u32>
     requires state { length state.old ≡ net.now.nodes }
     requires marks { AreMarked (network_in net.now) marks.old }
     requires quiet { IsQuiet (network_in net.now) state.old marks.old.inside }
     requires strengths { AreStrengthsFor net.now.nodes strengths.old }
     requires next { length next.old ≡ net.now.nodes }
     requires changed { length changed.old ≡ net.now.nodes }
-    ensures marks { length marks.new.inside ≡ net.now.nodes }
-    ensures strengths { AreStrengthsFor net.now.nodes strengths.new }
-    ensures phase { IsPhase (network_in net.now) budget state.old
-        result.done result.steps state.new }
+    ensures ends { DoStepsEnd (network_in net.now) budget state.old
+        result state.new next.new marks.new.inside }
+    ensures marks { AreMarked (network_in net.now) marks.new }
+    ensures strengths { AreLowStrengths net.now.nodes strengths.new }
 {
     clear_strengths(strengths);
     next.copy_from_slice(state);
@@ -166,10 +197,10 @@ fn take_steps(
         step_marked(net, state, marks, strengths, next);
         let moved = changes(marks.nodes(), state, next, changed);
         if moved == 0 {
-            return Settled { steps, done: true };
+            return Some(steps);
         }
         if steps == budget {
-            return Settled { steps, done: false };
+            return None;
         }
         commit(&changed[..moved], next, state);
         marks.clear();

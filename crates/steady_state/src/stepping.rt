@@ -4,7 +4,7 @@ ghost use Rattle.std.specs.Prelude.{◌≡◌, ◌<◌, ℕ, All, length, slice_
 ghost use Rattle.switch_net.specs.Arrays.{AreStrengthsFor};
 ghost use Rattle.switch_net.specs.Path.{state_of};
 ghost use Rattle.switch_net.specs.Steady.{IsStep, IsSteadyValue};
-ghost use Rattle.switch_net.specs.Vicinity.{IsReached};
+ghost use Rattle.switch_net.specs.Vicinity.{IsInVicinity, IsReached};
 ghost use Rattle.steady_state.specs.Levels.{AreLow, AreLowStrengths, AreSteady, KeepsOthers};
 ghost use Rattle.steady_state.specs.Levels.{IsLevelOf, IsWritten};
 ghost use Rattle.switch_net.specs.Sets.{IsInside};
@@ -148,7 +148,8 @@ fn clear(entries: &mut [u8])
     entries.fill(0);
 }
 
-/// A step of the vicinities of the marked nodes, where all other nodes keep their states.
+/// A step of the vicinities of the marked nodes, in which all others keep their states. It is a step
+/// of the network where those are quiet.
 pub(crate) fn step_marked(
     net: &Wiring<'_>,
     state: &[Level],
@@ -159,10 +160,13 @@ pub(crate) fn step_marked(
     requires state { length state.now ≡ net.now.nodes }
     requires same { next.old ≡ state.now }
     requires marks { AreMarked (network_in net.now) marks.old }
-    requires quiet { IsQuiet (network_in net.now) state.now marks.old.inside }
     requires strengths { AreLowStrengths net.now.nodes strengths.old }
-    ensures step { IsStep (network_in net.now) state.now next.new }
+    ensures step { IsQuiet (network_in net.now) state.now marks.old.inside
+        → IsStep (network_in net.now) state.now next.new }
     ensures marks { AreMarked (network_in net.now) marks.new }
+    ensures joined { (m v : ℕ) → IsInside marks.old.inside m
+        → IsInVicinity (network_in net.now) state.now m v → IsInside marks.new.inside v }
+    ensures steady { AreSteady (network_in net.now) state.now marks.new.inside next.new }
     ensures kept { KeepsOthers marks.new.inside state.now next.new }
     ensures strengths { AreLowStrengths net.now.nodes strengths.new }
 {

@@ -1,6 +1,7 @@
 pub mod Paths
 pub mod Ranges
 pub mod Unique
+pub mod Forcing
 pub mod Phases
 pub mod Locality
 pub mod Sound

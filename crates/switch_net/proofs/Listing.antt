@@ -1,5 +1,5 @@
 -- Sets of nodes.
-use Rattle.std.proofs.Common.{◌≡◌, ◌≢◌, ℕ, zero, suc, ◌+◌, ◌-◌, ◌<◌, ◌≤◌, List, Bool, true, false, ◌⊎◌, inl, inr, sym, ap, subst, arith, length}
+use Rattle.std.proofs.Common.{◌≡◌, ◌≢◌, ℕ, zero, suc, ◌+◌, ◌-◌, ◌<◌, ◌≤◌, List, Bool, true, false, inl, inr, sym, ap, subst, arith, length}
 use Rattle.std.proofs.Common.{slice_index, slice_index_or, slice_set, get_or-set_same, get_or-set_other, ◌∙◌}
 use Rattle.std.specs.Prelude.{count_by, cond}
 use Rattle.std.proofs.lemmas.Bool.{cases_eq, cases_lt}

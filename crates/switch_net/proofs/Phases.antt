@@ -4,7 +4,8 @@ use Rattle.std.proofs.lemmas.Bool.{cases_eq, cases_lt}
 use Rattle.switch_net.specs.declared.switches.Level.{Level}
 use Rattle.switch_net.specs.Network.{Network, IsSound}
 use Rattle.switch_net.specs.Steady.{IsStep}
-use Rattle.switch_net.specs.Phase.{Steps, NoneRests, SettlesAfter, IsPhase}
+use Rattle.switch_net.specs.Phase.{AreForced, HasRounds, IsPhase, IsUnsettled, NoneRests, SettlesAfter, Steps}
+use Rattle.switch_net.proofs.Forcing.{one_forcing}
 use Rattle.switch_net.proofs.Unique.{one_step}
 
 module _ (net : Network) (sound : IsSound net) (s : List Level) (len : length s ≡ net.nodes) where
@@ -38,10 +39,24 @@ module _ (net : Network) (sound : IsSound net) (s : List Level) (len : length s 
     | inr ne ↦ elim (cases_lt n m) [ inl lt ↦ absurd (no_sooner m n u t b a lt) | inr le ↦ absurd (no_sooner n m t u a b (omega (arith, ne))) ]
   ]
 
+  -- a phase that does not settle ends after one number of rounds, in one state
+  one_end : (budget n m : ℕ) (t u : List Level) → IsUnsettled net budget s n t → IsUnsettled net budget s m u → (n ≡ m) × (t ≡ u)
+  one_end budget n m t u a b =
+      let same : b.last ≡ a.last = one_way budget b.last a.last b.reached a.reached in
+      one_forcing net a.last t u n m a.forced (subst (λ (x : List Level). AreForced net m x u) same b.forced)
+
   -- a phase ends in one way
   pub one_phase : (budget : ℕ) (done other : Bool) (n m : ℕ) (t u : List Level) → IsPhase net budget s done n t → IsPhase net budget s other m u →
       (done ≡ other) × (n ≡ m) × (t ≡ u)
   one_phase budget true true n m t u a b = let r = one_rest n m t u a.0 b.0 in (refl, r.0, r.1)
-  one_phase budget true false n m t u a b = absurd (b.2 n t (omega (arith, a.1)) a.0.reached a.0.rests)
-  one_phase budget false true n m t u a b = absurd (a.2 m u (omega (arith, b.1)) b.0.reached b.0.rests)
-  one_phase budget false false n m t u a b = (refl, omega (arith, a.0, b.0), one_way budget t u a.1 b.1)
+  one_phase budget true false n m t u a b = absurd (b.2.none_rests n t (omega (arith, a.1)) a.0.reached a.0.rests)
+  one_phase budget false true n m t u a b = absurd (a.2.none_rests m u (omega (arith, b.1)) b.0.reached b.0.rests)
+  one_phase budget false false n m t u a b = (refl, omega (arith, a.0, b.0), (one_end budget a.1 b.1 t u a.2 b.2).1)
+
+  -- and after one number of rounds
+  pub one_count : (budget : ℕ) (done other : Bool) (n m rounds more : ℕ) (t u : List Level) → IsPhase net budget s done n t →
+      HasRounds net budget s done rounds t → IsPhase net budget s other m u → HasRounds net budget s other more u → rounds ≡ more
+  one_count budget true true n m rounds more t u a r b q = omega (arith, r, q)
+  one_count budget true false n m rounds more t u a r b q = absurd (q.none_rests n t (omega (arith, a.1)) a.0.reached a.0.rests)
+  one_count budget false true n m rounds more t u a r b q = absurd (r.none_rests m u (omega (arith, b.1)) b.0.reached b.0.rests)
+  one_count budget false false n m rounds more t u a r b q = (one_end budget rounds more t u r q).0

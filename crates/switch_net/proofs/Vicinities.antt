@@ -6,7 +6,7 @@ use Rattle.switch_net.specs.declared.switches.Level.{Level}
 use Rattle.switch_net.specs.declared.switches.Switch.{Switch}
 use Rattle.switch_net.specs.Network.{Network, IsSound}
 use Rattle.switch_net.specs.Path.{Hop, Joins, is_input, state_of, end_of, is_closed_or_unknown}
-use Rattle.switch_net.specs.Steady.{IsStep, IsNextLevel}
+use Rattle.switch_net.specs.Steady.{IsNextLevel, IsSteadyValue, IsStep}
 use Rattle.switch_net.specs.Vicinity.{IsStorage, IsChain, IsInVicinity}
 use Rattle.switch_net.specs.Laws.{HoldsSeeds}
 use Rattle.switch_net.proofs.Ranges.{level_cases, input_in_range, ends_in_range}
@@ -48,8 +48,9 @@ module _ (net : Network) (s : List Level) where
   pub in_turn : (n v : ℕ) → IsInVicinity net s n v → IsInVicinity net s v n
   in_turn n v i = let b = back n i.chain i.is_chain in rw i.ends at b
 
-module _ (net : Network) (sound : IsSound net) (s t : List Level) (step : IsStep net s t) (IsSeed : ℕ →
-    Type 0) (seeds : HoldsSeeds net s t IsSeed) (v : ℕ) (storage : IsStorage net v)
+-- two states with the same inputs, and a node that is in no vicinity, by the second, of what differs between them
+module _ (net : Network) (sound : IsSound net) (s t : List Level) (same_inputs : (a : ℕ) → is_input net a ≡ true → state_of t a ≡ state_of s a)
+    (IsSeed : ℕ → Type 0) (seeds : HoldsSeeds net s t IsSeed) (v : ℕ) (storage : IsStorage net v)
     (outside : (n : ℕ) → IsSeed n → IsInVicinity net t n v → ⊥) where
   -- no node of its vicinity is a seed
   none_seed : (u : ℕ) → IsInVicinity net t v u → IsSeed u → ⊥
@@ -65,13 +66,18 @@ module _ (net : Network) (sound : IsSound net) (s t : List Level) (step : IsStep
       | inl e ↦ sym e
       | inr ne ↦ absurd (none_seed b i (elim j [ inl x ↦ rw (← x.1) (seeds.right w c ne) | inr x ↦ rw (← x.1) (seeds.left w c ne) ]))
     ];
-    inputs = λ w a b c j o e i. (step.each a (input_in_range net sound a e)).input e;
+    inputs = λ w a b c j o e i. same_inputs a e;
     nodes = λ u i. elim (level_cases (state_of s u) (state_of t u)) [ inl e ↦ sym e | inr ne ↦ absurd (none_seed u i (seeds.changed u ne)) ];
   }
 
-  pub keeps_value : IsNextLevel net t v (state_of t v)
-  keeps_value =
-      let st = (step.each v storage.0).storage storage.1 in
-      let moved = same_steady net s t (IsInVicinity net t v) sound (other_way net t s (IsInVicinity net t v) quiet_part) v (state_of t v)
-      (in_self net t v storage) st in
-      record { input = λ e. absurd (let f = storage.1 in cc); storage = λ e. moved }
+  -- its steady value is the same in both
+  pub keeps_steady : (x : Level) → IsSteadyValue net s v x → IsSteadyValue net t v x
+  keeps_steady x st = same_steady net s t (IsInVicinity net t v) sound (other_way net t s (IsInVicinity net t v) quiet_part) v x (in_self net t v storage) st
+
+-- after a step, it keeps its value
+pub keeps_value : (net : Network) → IsSound net → (s t : List Level) → IsStep net s t → (IsSeed : ℕ → Type 0) → HoldsSeeds net s t IsSeed → (v : ℕ) →
+    IsStorage net v → ((n : ℕ) → IsSeed n → IsInVicinity net t n v → ⊥) → IsNextLevel net t v (state_of t v)
+keeps_value net sound s t step IsSeed seeds v storage outside =
+    let st = (step.each v storage.0).storage storage.1 in
+    let kept = keeps_steady net sound s t (λ a e. (step.each a (input_in_range net sound a e)).input e) IsSeed seeds v storage outside (state_of t v) st in
+    record { input = λ e. absurd (let f = storage.1 in cc); storage = λ e. kept }

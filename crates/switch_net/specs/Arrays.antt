@@ -16,6 +16,7 @@ pub record AreStrengthsFor (nodes : ℕ) (strengths : Strengths) : Type 0 where
 pub record IsWorkFor (nodes : ℕ) (switches : List Switch) (work : Work) : Type 0 where
   pub adjacency : AreAllSorted nodes switches work.adjacency
   pub marks : length work.marks.inside ≡ nodes
+  pub forced : length work.forced.inside ≡ nodes
   pub strengths : AreStrengthsFor nodes work.strengths
   pub next : length work.next ≡ nodes
   pub changed : length work.changed ≡ nodes

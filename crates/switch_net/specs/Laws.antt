@@ -1,11 +1,11 @@
 -- Laws over the definitions alone.
-use Rattle.std.specs.Prelude.{◌≡◌, ◌≢◌, ℕ, ◌<◌, ◌≤◌, List, Bool, length, Contains}
+use Rattle.std.specs.Prelude.{◌≡◌, ◌≢◌, ℕ, ◌<◌, ◌≤◌, List, Bool, false, length, Contains}
 use Rattle.finite_sets.specs.Lists.{Distinct}
 use Rattle.switch_net.specs.declared.switches.Level.{Level}
 use Rattle.switch_net.specs.declared.switches.Switch.{Switch}
 use Rattle.switch_net.specs.Network.{Network, IsSound}
 use Rattle.switch_net.specs.Path.{Hop, IsPath, IsDefinite, IsBlocked, strength, state_of, end_of, nodes_of}
-use Rattle.switch_net.specs.Phase.{IsPhase}
+use Rattle.switch_net.specs.Phase.{AreForced, AreSteadyOrX, HasRounds, IsPhase}
 use Rattle.switch_net.specs.Steady.{IsSteadyValue, IsNextLevel, IsStep}
 use Rattle.switch_net.specs.Vicinity.{IsStorage, IsReached}
 
@@ -26,11 +26,21 @@ abbrev pub EachHasOneSteadyValue : Type 0
 EachHasOneSteadyValue =
     (net : Network) (s : List Level) (v : ℕ) (x y : Level) → IsSound net → v < net.nodes → IsSteadyValue net s v x → IsSteadyValue net s v y → x ≡ y
 
+-- rounds from one state end in one way: after as many, in the same state
+abbrev pub EachForcingHasOneOutcome : Type 0
+EachForcingHasOneOutcome =
+    (net : Network) (s t u : List Level) (n m : ℕ) → AreForced net n s t → AreForced net m s u → (n ≡ m) × (t ≡ u)
+
 -- a phase from one state, within one budget, ends in one way
 abbrev pub EachPhaseHasOneOutcome : Type 0
 EachPhaseHasOneOutcome =
-    (net : Network) (s : List Level) (budget : ℕ) (done other : Bool) (n m : ℕ) (t u : List Level) → IsSound net → length s ≡ net.nodes →
-    IsPhase net budget s done n t → IsPhase net budget s other m u → (done ≡ other) × (n ≡ m) × (t ≡ u)
+    (net : Network) (s : List Level) (budget : ℕ) (done other : Bool) (n m rounds more : ℕ) (t u : List Level) → IsSound net → length s ≡ net.nodes →
+    IsPhase net budget s done n t → HasRounds net budget s done rounds t → IsPhase net budget s other m u → HasRounds net budget s other more u →
+    (done ≡ other) × (n ≡ m) × (rounds ≡ more) × (t ≡ u)
+
+-- where a phase ends that does not settle, each storage node has its steady value or is X
+abbrev pub EachUnsettledPhaseIsSteadyOrX : Type 0
+EachUnsettledPhaseIsSteadyOrX = (net : Network) (s : List Level) (budget n : ℕ) (t : List Level) → IsPhase net budget s false n t → AreSteadyOrX net t
 
 -- the seeds of a step are among those with this fact: the nodes that changed, and the ends of the switches whose gates did
 pub record HoldsSeeds (net : Network) (s t : List Level) (IsSeed : ℕ → Type 0) : Type 0 where

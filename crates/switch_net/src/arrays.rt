@@ -24,12 +24,13 @@ pub struct Strengths {
     pub waiting: NodeSet,
 }
 
-/// All arrays of a network: the switches sorted by their nodes, the nodes that are marked, the
-/// strengths, the states after a step and the nodes that the step changed.
+/// All arrays of a network: the switches sorted by their nodes, the nodes that are marked and those
+/// that are forced, the strengths, the states after a step and the nodes that the step changed.
 #[derive(Debug, Drop)]
 pub struct Work {
     pub adjacency: Adjacency,
     pub marks: NodeSet,
+    pub forced: NodeSet,
     pub strengths: Strengths,
     pub next: List<Level>,
     pub changed: List<u32>,
@@ -46,6 +47,7 @@ impl Work {
         Ok(Work {
             adjacency: Adjacency::build(alloc, nodes, switches)?,
             marks: NodeSet::build(alloc, count)?,
+            forced: NodeSet::build(alloc, count)?,
             strengths: Strengths::build(alloc, count)?,
             next: List::of(vec![in alloc; Level::X; count]?),
             changed: List::of(vec![in alloc; 0; count]?),

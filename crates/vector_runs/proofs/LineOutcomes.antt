@@ -1,11 +1,12 @@
 -- What lines do: they have one outcome, and they keep a network sound.
-use Rattle.std.proofs.Common.{◌≡◌, ℕ, List, [], ◌∷◌, ◌++◌, Bool, true, false, refl, sym, ap, subst, ◌∙◌, length}
+use Rattle.std.proofs.Common.{◌≡◌, ℕ, List, [], ◌∷◌, ◌++◌, Bool, true, false, refl, sym, ap, subst, ◌∙◌, length, replicate}
 use Rattle.std.specs.Prelude.{All}
 use Rattle.std.proofs.lemmas.List.{length-set}
 use Rattle.std.proofs.lemmas.List.Elements.{All-head, All-tail, All-set}
 use Rattle.switch_net.specs.declared.switches.Level.{Level}
 use Rattle.switch_net.specs.Network.{Network, IsSize, IsSound}
 use Rattle.switch_net.specs.Phase.{IsPhase}
+use Rattle.switch_net.proofs.Forcing.{rounds_length}
 use Rattle.switch_net.proofs.Phases.{one_phase, steps_length}
 use Rattle.vector_files.specs.declared.files.VecLine.{VecLine}
 use Rattle.vector_files.specs.declared.files.VecLine.TheVariants.{Set, Free, Size, Phase, Show}
@@ -30,7 +31,9 @@ same_standing a b net states phases =
 pub phase_length : (net : Network) (budget : ℕ) (s : List Level) (done : Bool) (n : ℕ) (t : List Level) → IsSound net →
     length s ≡ net.nodes → IsPhase net budget s done n t → length t ≡ net.nodes
 phase_length net budget s true n t sound len ran = steps_length net sound s len n t ran.0.reached
-phase_length net budget s false n t sound len ran = steps_length net sound s len budget t ran.1
+phase_length net budget s false n t sound len ran =
+    let forced = ran.2.forced in
+    rounds_length net ran.1 (replicate net.nodes false) forced.forced ran.2.last t forced.reached ∙ steps_length net sound s len budget ran.2.last ran.2.reached
 
 -- a network stays sound where a node becomes an input or stores charge
 pub input_sound : (net : Network) (v : ℕ) (input : Bool) → IsSound net → IsSound (with_input net v input)

@@ -1,5 +1,5 @@
 -- A run of lines, cut in two; what lines leave as it is, and the states that a settled phase leaves.
-use Rattle.std.proofs.Common.{◌≡◌, ℕ, zero, suc, ◌<◌, List, [], ◌∷◌, ◌++◌, Bool, true, false, refl, sym, ap, subst, ◌∙◌, arith, append_assoc}
+use Rattle.std.proofs.Common.{◌≡◌, ℕ, zero, suc, ◌<◌, List, [], ◌∷◌, ◌++◌, Bool, true, false, refl, sym, ap, subst, ◌∙◌, arith, append_assoc, replicate}
 use Rattle.std.specs.Prelude.{All}
 use Rattle.std.proofs.lemmas.List.Elements.{All-head, All-tail}
 use Rattle.switch_net.specs.declared.switches.Level.{Level}
@@ -7,6 +7,7 @@ use Rattle.switch_net.specs.Network.{Network}
 use Rattle.switch_net.specs.Path.{is_input, state_of}
 use Rattle.switch_net.specs.Phase.{IsPhase, Steps}
 use Rattle.switch_net.specs.Steady.{IsStep}
+use Rattle.switch_net.proofs.Forcing.{rounds_keep}
 use Rattle.vector_files.specs.declared.files.VecLine.{VecLine}
 use Rattle.vector_files.specs.declared.files.VecLine.TheVariants.{Set, Free, Size, Phase, Show}
 use Rattle.vector_runs.specs.declared.replies.VecReply.{VecReply}
@@ -125,4 +126,7 @@ module _ (net : Network) (v : ℕ) (within : v < net.nodes) (input : is_input ne
   -- and so over a phase
   pub phase_keeps : (budget : ℕ) (s t : List Level) (done : Bool) (n : ℕ) → IsPhase net budget s done n t → state_of t v ≡ state_of s v
   phase_keeps budget s t true n phase = steps_keep n s t phase.0.reached
-  phase_keeps budget s t false n phase = steps_keep budget s t phase.1
+  phase_keeps budget s t false n phase =
+      let forced = phase.2.forced in
+      rounds_keep net phase.1 (replicate net.nodes false) forced.forced phase.2.last t v input forced.reached
+      ∙ steps_keep budget s phase.2.last phase.2.reached

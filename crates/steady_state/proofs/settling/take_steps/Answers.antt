@@ -23,14 +23,14 @@ found c =
     (omega (arith, few, marks.listed.room, c.step_marked.ensures.marks.fits)) (λ v ins. known marks.inside marks.order marks.count v marks.listed ins)
     c.step_marked.ensures.kept (rw c.nodes.ensures at c.changes-moved.ensures.found)
 
-pub returns-then-moved-eq0-clause-phase : goal.returns-then-moved-eq0-clause-phase
-returns-then-moved-eq0-clause-phase c =
-    let f = found (goal.at.returns-then-moved-eq0-clause-phase c).After-changes-moved in
+pub returns-then-moved-eq0-clause-ends : goal.returns-then-moved-eq0-clause-ends
+returns-then-moved-eq0-clause-ends c =
+    let f = found (goal.at.returns-then-moved-eq0-clause-ends c).After-changes-moved in
     let same : c.steps.state ≡ c.step_marked.new.next = same_states c.steps.state c.step_marked.new.next
-    (omega (arith, c.step_marked.ensures.step.same_length)) (λ v ne. let q = f v ne in absurd (omega (arith, q.1))) in (
+    (omega (arith, (c.step_marked.ensures.step c.steps.invariant.quiet).same_length)) (λ v ne. let q = f v ne in absurd (omega (arith, q.1))) in (
       record {
         reached = c.steps.invariant.reached;
-        rests = subst (λ (x : List Level). IsStep (network_in c.args.net.now) c.steps.state x) (sym same) c.step_marked.ensures.step;
+        rests = subst (λ (x : List Level). IsStep (network_in c.args.net.now) c.steps.state x) (sym same) (c.step_marked.ensures.step c.steps.invariant.quiet);
         first = c.steps.invariant.none;
       },
       c.steps.invariant.within,
@@ -39,14 +39,19 @@ returns-then-moved-eq0-clause-phase c =
 -- the state still changes
 moved : (c : Else-moved-eq0) → NoneRests (network_in c.args.net.now) (suc c.steps.steps) c.args.state.now
 moved c = none_more (network_in c.args.net.now) (sound_of c.args.net.now) c.args.state.now c.requires.state c.steps.steps c.steps.state
-    c.step_marked.new.next c.steps.invariant.reached c.step_marked.ensures.step
+    c.step_marked.new.next c.steps.invariant.reached (c.step_marked.ensures.step c.steps.invariant.quiet)
     (λ e. let d = c.changes-moved.ensures.differ 0 (omega arith) in d (ap (λ (x : List Level). state_of x (slice_index c.changes-moved.new.changed 0))
     (sym e))) c.steps.invariant.none
 
-pub returns-then-steps-budget-clause-phase : goal.returns-then-steps-budget-clause-phase
-returns-then-steps-budget-clause-phase c =
-    let m = moved (goal.at.returns-then-steps-budget-clause-phase c).Else-moved-eq0 in
-    (c.if-steps-budget.true, rw (← c.if-steps-budget.true) c.steps.invariant.reached, rw (← c.if-steps-budget.true) m)
+pub returns-then-steps-budget-clause-ends : goal.returns-then-steps-budget-clause-ends
+returns-then-steps-budget-clause-ends c =
+    let m = moved (goal.at.returns-then-steps-budget-clause-ends c).Else-moved-eq0 in
+    record {
+      reached = rw (← c.if-steps-budget.true) c.steps.invariant.reached;
+      none_rests = rw (← c.if-steps-budget.true) m;
+      step = c.step_marked.ensures.step c.steps.invariant.quiet;
+      kept = c.step_marked.ensures.kept;
+    }
 
 pub commit-requires-clause-changed : goal.commit-requires-clause-changed
 commit-requires-clause-changed c = below_take c.changes-moved.new.changed c.changes-moved.result (length c.steps.state) c.changes-moved.ensures.few
@@ -60,7 +65,7 @@ commit-requires-clause-found c = λ v ne.
 pub mark_changed-requires-clause-changed : goal.mark_changed-requires-clause-changed
 mark_changed-requires-clause-changed c =
     below_take c.changes-moved.new.changed c.changes-moved.result c.args.net.now.nodes c.changes-moved.ensures.few
-    (λ i lt. let b = c.changes-moved.ensures.below i lt in omega (arith, b, c.step_marked.ensures.step.same_length))
+    (λ i lt. let b = c.changes-moved.ensures.below i lt in omega (arith, b, (c.step_marked.ensures.step c.steps.invariant.quiet).same_length))
 
 pub mark_changed-requires-clause-marks : goal.mark_changed-requires-clause-marks
 mark_changed-requires-clause-marks c =
@@ -73,13 +78,13 @@ steps-preserved c =
     let e = c.commit.ensures in
     record {
       reached = steps_more (network_in c.args.net.now) c.args.state.now c.steps.state c.step_marked.new.next c.commit.new.state c.steps.steps
-          c.steps.invariant.reached c.step_marked.ensures.step e;
+          c.steps.invariant.reached (c.step_marked.ensures.step c.steps.invariant.quiet) e;
       none = rw add-one m;
       within = omega arith;
       same = sym e;
       marks = c.mark_changed.ensures.marks;
       quiet = rw e (quiet_next (network_in c.args.net.now) c.steps.state c.step_marked.new.next c.mark_changed.new.marks.inside (sound_of c.args.net.now)
-          c.step_marked.ensures.step
+          (c.step_marked.ensures.step c.steps.invariant.quiet)
           (λ v ne st. let q = waiting_take c.changes-moved.new.changed c.changes-moved.result v c.changes-moved.ensures.few (f v ne) in let at = q.2 in rw at
           at (c.mark_changed.ensures.changed q.0 q.1 (rw at st)))
           (λ v ne. let q = waiting_take c.changes-moved.new.changed c.changes-moved.result v c.changes-moved.ensures.few (f v ne) in let at = q.2 in rw at at

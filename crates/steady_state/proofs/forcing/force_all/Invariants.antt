@@ -1,0 +1,20 @@
+use Rattle.std.proofs.Common.{◌≤◌, ◌-◌, false, replicate}
+use Rattle.switch_net.specs.Phase.{Rounds}
+use Rattle.steady_state.specs.Rounds.{IsRoundDue}
+use Rattle.steady_state.specs.Levels.{AreLowStrengths}
+use Rattle.steady_state.specs.Marked.{AreMarked}
+use Rattle.steady_state.specs.Wired.{network_in}
+use Rattle.steady_state.proofs.forcing.force_all.Given as goal
+
+abbrev pub invariant-rounds : goal.invariant-rounds
+invariant-rounds l = record {
+  reached : Rounds (network_in l.net) l.rounds (replicate l.net.nodes false) l.fn.state l.forced.inside l.state;
+  forced : AreMarked (network_in l.net) l.forced;
+  few : l.rounds ≤ l.forced.count;
+  marks : AreMarked (network_in l.net) l.marks;
+  due : IsRoundDue (network_in l.net) l.forced.inside l.state l.next l.marks.inside;
+  strengths : AreLowStrengths l.net.nodes l.strengths;
+}
+
+abbrev pub decreases-rounds : goal.decreases-rounds
+decreases-rounds l = l.net.nodes - l.forced.count
