@@ -1,4 +1,4 @@
-//! Steps and phases of networks, as worked out by hand, and phases of two large networks.
+//! Steps and phases of networks, as worked out by hand, and phases of large networks.
 #![tactic(auto)]
 
 #[cfg(test)]
