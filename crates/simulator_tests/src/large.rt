@@ -1,5 +1,8 @@
 //! Phases of large networks, which take the time that their changes take.
 
+ghost use Rattle.std.specs.Prelude.{◌≤◌};
+ghost use Rattle.switch_net.specs.declared.limits.TheConstants.{MOST_NODES};
+
 use crate::circuits::{GROUND, POWER, build, inverter, states};
 use std::alloc::{AllocError, Global};
 use std::test::Fail;
@@ -43,7 +46,9 @@ fn run(
 }
 
 /// A ring of three inverters, the first at this node.
-fn ring(first: u32) -> [Switch; 6] {
+fn ring(first: u32) -> [Switch; 6]
+    requires { first ≤ MOST_NODES }
+{
     let [down_1, load_1] = inverter(first + 2, first);
     let [down_2, load_2] = inverter(first, first + 1);
     let [down_3, load_3] = inverter(first + 1, first + 2);
@@ -77,8 +82,8 @@ fn rings_oscillate(alloc: Global) -> Result<bool, AllocError> {
         switches.extend_from_slice(&ring(3 * place + 2))?;
     }
     let nodes = 3 * RINGS as usize + 2;
-    let mut first = vec![in alloc; Zero; nodes]?;
-    first[POWER as usize] = One;
+    let mut first = Vec::from_slice(alloc, &[Zero, One])?;
+    first.resize(nodes, Zero)?;
     let rails = [GROUND, POWER];
     let unsettled = Settled {
         steps: 2,
