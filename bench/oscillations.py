@@ -36,7 +36,7 @@ def let_go(names):
 def beside():
     """A ring of three inverters beside 1,000,000 nodes without a switch: 200,000 steps, and a round of 3 nodes."""
     names = ["a", "b", "c"]
-    return ring(names) + [f"C i{k} GND! 5" for k in range(1000000)], let_go(names), 200000, {name: "X" for name in names}
+    return ring(names) + [f"C i{k:x} GND! 5" for k in range(1000000)], let_go(names), 200000, {name: "X" for name in names}
 
 
 def rings():
