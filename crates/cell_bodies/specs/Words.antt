@@ -3,16 +3,7 @@ use Rattle.std.specs.Prelude.{◌==◌, ◌&&◌, not, nat_le, ℕ, Bool, false,
 use Rattle.std.specs.List.{list_all}
 use Rattle.text_scan.specs.Words.{is_blank}
 use Rattle.tech_model.specs.declared.limits.TheConstants.{LONGEST_LABEL}
-use Rattle.cell_bodies.specs.declared.limits.TheConstants.{LONGEST_USE_ID}
-
--- a printing byte other than a blank, `/`, `[`, `]`, `,` and `"`
-abbrev pub is_use_id_byte : ℕ → Bool
-is_use_id_byte byte =
-    nat_le 33 byte && nat_le byte 126 && not (byte == 47) && not (byte == 91) && not (byte == 93) && not (byte == 44) && not (byte == 34)
-
--- one or more of them, and no more than an id may have
-abbrev pub is_use_id : List ℕ → Bool
-is_use_id word = nat_le 1 (length word) && nat_le (length word) LONGEST_USE_ID && list_all is_use_id_byte word
+pub use Rattle.ext_model.specs.ElementNames.{is_use_id, is_use_id_byte}
 
 -- a printing byte or a blank
 abbrev pub is_text_byte : ℕ → Bool

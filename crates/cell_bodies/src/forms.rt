@@ -3,37 +3,17 @@ ghost use Rattle.std.specs.Prelude.{◌≡◌, ◌&&◌, IsTrue};
 ghost use Rattle.std.specs.List.{list_all};
 ghost use Rattle.geo_core.specs.declared.grids.Grid.{Grid as OneGrid};
 ghost use Rattle.geo_core.specs.Elements.{indices, IsLawful};
-ghost use Rattle.cell_bodies.specs.Words.{is_use_id_byte, is_use_id, is_text_byte, begins_with_blank, ends_with_blank, is_label_text};
+ghost use Rattle.cell_bodies.specs.Words.{is_text_byte, begins_with_blank, ends_with_blank, is_label_text};
 ghost use Rattle.cell_bodies.specs.Words.{without_first_blanks, without_last_blanks, without_outer_blanks};
 ghost use Rattle.cell_bodies.specs.Numbers.{is_displacement, are_displacements, is_index, are_indices, are_few_elements, are_elements, is_grid};
 ghost use Rattle.cell_bodies.specs.Numbers.{is_position};
 ghost use Rattle.cell_paint.specs.Painting.{is_in_range};
 ghost use Rattle.cell_bodies.specs.Numbers.{has_sides, is_label_area, is_scale_number};
 
-use crate::limits::{DISPLACEMENT_EDGE, LARGEST_SCALE, LAST_POSITION, LONGEST_USE_ID};
+use crate::limits::{DISPLACEMENT_EDGE, LARGEST_SCALE, LAST_POSITION};
 use cell_paint::is_coordinate;
 use geo_core::{Grid, MOST_ELEMENTS, Rect};
 use tech_model::LONGEST_LABEL;
-
-fn is_use_id_byte(byte: u8) -> bool
-    ensures { result ≡ is_use_id_byte byte }
-{
-    byte.is_ascii_graphic() && !matches!(byte, b'/' | b'[' | b']' | b',' | b'"')
-}
-
-fn has_use_id_bytes(word: &[u8]) -> bool
-    ensures { result ≡ list_all is_use_id_byte word.now }
-{
-    word.iter().all(|&byte| is_use_id_byte(byte))
-}
-
-/// Whether a word is an id of a use: 1 to [`LONGEST_USE_ID`] printing bytes without blanks, `/`, `[`, `]`, `,` and `"`.
-pub fn is_use_id(word: &[u8]) -> bool
-    ensures { result ≡ is_use_id word.now }
-{
-    let length = word.len();
-    1 <= length && length <= LONGEST_USE_ID && has_use_id_bytes(word)
-}
 
 fn has_text_bytes(text: &[u8]) -> bool
     ensures { result ≡ list_all is_text_byte text.now }

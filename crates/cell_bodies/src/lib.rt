@@ -9,8 +9,9 @@ mod forms;
 mod limits;
 
 pub use bodies::{CellBody, CellUse};
+pub use ext_model::{LONGEST_USE_ID, is_use_id};
 pub use forms::{
     are_few_elements, grids_of_uses_are_lawful, has_sides, is_displacement, is_grid, is_index,
-    is_label_area, is_label_text, is_position, is_scale_number, is_use_id, without_outer_blanks,
+    is_label_area, is_label_text, is_position, is_scale_number, without_outer_blanks,
 };
-pub use limits::{DISPLACEMENT_EDGE, LARGEST_SCALE, LAST_POSITION, LONGEST_USE_ID, MOST_USES};
+pub use limits::{DISPLACEMENT_EDGE, LARGEST_SCALE, LAST_POSITION, MOST_USES};

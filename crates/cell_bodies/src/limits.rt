@@ -5,9 +5,6 @@ use geo_core::PAINT_EDGE;
 /// The uses that a cell of a library may have. A body may have more: it is a library that refuses them.
 pub const MOST_USES: usize = 65_535;
 
-/// The greatest number of bytes of the id of a use.
-pub const LONGEST_USE_ID: usize = 64;
-
 /// How far a use may be displaced, and how far apart the elements of a grid may be: they are at most this in absolute
 /// value, in lambda.
 pub const DISPLACEMENT_EDGE: i64 = 2 * PAINT_EDGE;

@@ -5,9 +5,10 @@ use Rattle.session_model.specs.declared.answer.Answer.{Answer}
 use Rattle.session_model.specs.Effects.{Answers}
 use Rattle.session_model.specs.FileTrees.{All, fetched_by}
 use Rattle.ext_model.specs.declared.circuits.Circuit.{Circuit}
-use Rattle.ext_model.specs.declared.records.CellExt.{CellExt}
+use Rattle.ext_model.specs.declared.arrays.ArrayExt.{ArrayExt}
 use Rattle.circuit_model.specs.declared.faults.FlatFault.{FlatFault}
 use Rattle.circuit_model.specs.Refusals.{IsFlatFaultOf, IsFlatOf}
+use Rattle.plain_records.specs.Plains.{plains}
 use Rattle.ext_loading.specs.Loads.{AreRead}
 use Rattle.ext_loading.specs.Readings.{circuit_files}
 use Rattle.line_answers.proofs.AnswerLaws.{answers_refusal}
@@ -18,8 +19,8 @@ use Rattle.circuit_commands.specs.CommandExt2sim.{Ext2simMeans}
 use Rattle.circuit_commands.specs.Refusals.{flat_refusal}
 
 -- the circuit of the records is written, or passes a limit
-pub writes_tree : (number : ℕ) (files : Files) (cell : List ℕ) (exts : List CellExt) (circuit : Circuit) (written : Written) (answer : Answer)
-    → AreRead files cell exts → IsFlatOf exts cell circuit → IsSimWritten cell circuit written
+pub writes_tree : (number : ℕ) (files : Files) (cell : List ℕ) (exts : List ArrayExt) (circuit : Circuit) (written : Written) (answer : Answer)
+    → AreRead files cell exts → IsFlatOf (plains exts) cell circuit → IsSimWritten cell circuit written
     → answer.lines.items ≡ lines_of number written → answer.stores.items ≡ stores_of written → Answers (Ext2simMeans number files cell) tt answer
 writes_tree number files cell exts circuit written answer read flat is lines stores = (
   fetched_by circuit_files (All exts),
@@ -35,8 +36,8 @@ writes_tree number files cell exts circuit written answer read flat is lines sto
 )
 
 -- the records mean no circuit
-pub refuses_records : (number : ℕ) (files : Files) (cell : List ℕ) (exts : List CellExt) (fault : FlatFault) (answer : Answer)
-    → AreRead files cell exts → IsFlatFaultOf exts cell fault
+pub refuses_records : (number : ℕ) (files : Files) (cell : List ℕ) (exts : List ArrayExt) (fault : FlatFault) (answer : Answer)
+    → AreRead files cell exts → IsFlatFaultOf (plains exts) cell fault
     → answer.lines.items ≡ refusal_line number (flat_refusal fault) ∷ [] → answer.stores.items ≡ [] → Answers (Ext2simMeans number files cell) tt answer
 refuses_records number files cell exts fault answer read is lines stores =
     answers_refusal (Ext2simMeans number files cell) number tt (flat_refusal fault) (fetched_by circuit_files (All exts)) answer lines stores

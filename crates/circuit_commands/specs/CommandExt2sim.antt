@@ -3,9 +3,10 @@ use Rattle.std.specs.Prelude.{◌≡◌, ◌⊎◌, ℕ, List}
 use Rattle.outside_io.specs.Files.{Files}
 use Rattle.session_model.specs.FileTrees.{All, fetched_by}
 use Rattle.ext_model.specs.declared.circuits.Circuit.{Circuit}
-use Rattle.ext_model.specs.declared.records.CellExt.{CellExt}
+use Rattle.ext_model.specs.declared.arrays.ArrayExt.{ArrayExt}
 use Rattle.circuit_model.specs.declared.faults.FlatFault.{FlatFault}
 use Rattle.circuit_model.specs.Refusals.{IsFlatFaultOf, IsFlatOf}
+use Rattle.plain_records.specs.Plains.{plains}
 use Rattle.ext_loading.specs.declared.faults.ExtLoadFault.{ExtLoadFault}
 use Rattle.ext_loading.specs.Loads.{AreRead, LoadIsRefused}
 use Rattle.ext_loading.specs.Readings.{circuit_files}
@@ -21,20 +22,20 @@ pub record RefusesTree (number : ℕ) (files : Files) (cell : List ℕ) (effect 
   pub is_refused : LoadIsRefused files cell fetched fault
   pub is : effect ≡ refused number tt (tree_refusal fault) fetched
 
--- All files were read, and their records mean no circuit.
+-- All files were read, and the plain forms of their records mean no circuit.
 pub record RefusesRecords (number : ℕ) (files : Files) (cell : List ℕ) (effect : FreeEffect) : Type 0 where
-  pub exts : List CellExt
+  pub exts : List ArrayExt
   pub are_read : AreRead files cell exts
   pub fault : FlatFault
-  pub is_fault : IsFlatFaultOf exts cell fault
+  pub is_fault : IsFlatFaultOf (plains exts) cell fault
   pub is : effect ≡ refused number tt (flat_refusal fault) (fetched_by circuit_files (All exts))
 
--- All files were read, and the circuit that their records mean is written.
+-- All files were read, and the circuit that the plain forms of their records mean is written.
 pub record WritesTree (number : ℕ) (files : Files) (cell : List ℕ) (effect : FreeEffect) : Type 0 where
-  pub exts : List CellExt
+  pub exts : List ArrayExt
   pub are_read : AreRead files cell exts
   pub circuit : Circuit
-  pub is_flat : IsFlatOf exts cell circuit
+  pub is_flat : IsFlatOf (plains exts) cell circuit
   pub written : Written
   pub is_written : IsSimWritten cell circuit written
   pub is : effect ≡ record {

@@ -13,7 +13,7 @@ use crate::refusals::{refuse_flat, refuse_tree};
 use circuit_laws::flat_transistors_have_letter_and_lengths;
 use circuit_model::FlatFault;
 use ext_loading::{LoadedExts, load_exts};
-use ext_model::CellExt;
+use ext_model::ArrayExt;
 use flatten::flatten;
 use names_lists::Name;
 use outside_io::Shelf;
@@ -43,7 +43,7 @@ pub fn ext2sim<F: Shelf>(
 fn sim_of_records(
     alloc: Global,
     number: usize,
-    exts: &[CellExt],
+    exts: &[ArrayExt],
     cell: &Name,
 ) -> Result<Answer, Halt>
     requires { CanBeFlattened cell.now exts.now }

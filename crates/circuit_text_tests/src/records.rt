@@ -1,5 +1,5 @@
-// Records and circuits of const tables.
-use ext_model::{CellExt, Circuit, FetRec, MergeRec, NodeRec, TermRec, UseRec};
+// Circuits of const tables.
+use ext_model::{Circuit, FetRec, NodeRec, TermRec};
 use names_lists::{List, Name};
 use std::alloc::Global;
 use std::test::Fail;
@@ -25,20 +25,11 @@ pub struct FetRow {
     pub terminals: &'static [(&'static [u8], i128)],
 }
 
-// A merge: its paths, its capacitance and its measures.
-pub struct MergeRow {
-    pub paths: (&'static [u8], &'static [u8]),
-    pub cap: i128,
-    pub measures: Measures,
-}
-
-// A record in the technology nm, or a flat circuit, which has no uses and no merges.
-pub struct RecordRow {
+// A flat circuit in the technology nm.
+pub struct CircuitRow {
     pub classes: &'static [u64],
-    pub uses: &'static [(&'static [u8], &'static [u8], [i64; 6])],
     pub nodes: &'static [NodeRow],
     pub fets: &'static [FetRow],
-    pub merges: &'static [MergeRow],
 }
 
 fn node(alloc: Global, row: &NodeRow) -> Result<NodeRec, Fail> {
@@ -81,15 +72,6 @@ fn fet(alloc: Global, row: &FetRow) -> Result<FetRec, Fail> {
     })
 }
 
-fn merge(alloc: Global, row: &MergeRow) -> Result<MergeRec, Fail> {
-    Ok(MergeRec {
-        first: Name::of(alloc, row.paths.0)?,
-        second: Name::of(alloc, row.paths.1)?,
-        cap: row.cap,
-        measures: List::of(Vec::from_slice(alloc, row.measures)?),
-    })
-}
-
 fn nodes(alloc: Global, rows: &[NodeRow]) -> Result<List<NodeRec>, Fail> {
     let mut nodes = Vec::new(alloc);
     for row in rows {
@@ -106,33 +88,8 @@ fn fets(alloc: Global, rows: &[FetRow]) -> Result<List<FetRec>, Fail> {
     Ok(List::of(fets))
 }
 
-// The record of a cell.
-pub fn record(alloc: Global, row: &RecordRow) -> Result<CellExt, Fail> {
-    let mut uses = Vec::new(alloc);
-    for (cell, id, six) in row.uses {
-        uses.push(UseRec {
-            cell: Name::of(alloc, cell)?,
-            id: Name::of(alloc, id)?,
-            six: *six,
-        })?;
-    }
-    let mut merges = Vec::new(alloc);
-    for row in row.merges {
-        merges.push(merge(alloc, row)?)?;
-    }
-    Ok(CellExt {
-        cell: Name::of(alloc, b"c")?,
-        tech: Name::of(alloc, b"nm")?,
-        classes: List::of(Vec::from_slice(alloc, row.classes)?),
-        uses: List::of(uses),
-        nodes: nodes(alloc, row.nodes)?,
-        fets: fets(alloc, row.fets)?,
-        merges: List::of(merges),
-    })
-}
-
 // The flat circuit of a row.
-pub fn circuit(alloc: Global, row: &RecordRow) -> Result<Circuit, Fail> {
+pub fn circuit(alloc: Global, row: &CircuitRow) -> Result<Circuit, Fail> {
     Ok(Circuit {
         tech: Name::of(alloc, b"nm")?,
         classes: List::of(Vec::from_slice(alloc, row.classes)?),

@@ -11,7 +11,7 @@ use Rattle.geo_core.specs.Images.{image, six_of, composed, identity}
 use Rattle.geo_core.specs.Reach.{MovesInReach}
 use Rattle.geo_core.proofs.SquareLaws.{square_is}
 use Rattle.geo_core.proofs.ImageLaws.{image-moved}
-use Rattle.ext_model.specs.declared.limits.TheConstants.{SHIFT_EDGE}
+use Rattle.ext_model.specs.declared.limits.TheConstants.{ELEMENT_EDGE}
 use Rattle.ext_model.specs.Lawful.{IsPlacement}
 use Rattle.circuit_model.specs.declared.limits.TheConstants.{LONGEST_CHAIN}
 use Rattle.circuit_model.specs.Elements.{transform_of}
@@ -55,12 +55,12 @@ composed_moves inner outer n h k = composed_by_orient inner.orient outer.orient 
 pub reach_from_count : (t : Transform) (n : ℕ) → n ≤ LONGEST_CHAIN → MovesByAtMost n t → MovesInReach t
 reach_from_count t n few h = record { dx = (omega (arith, ints), omega (arith, ints)); dy = (omega (arith, ints), omega (arith, ints)) }
 
-at_most_edge : (z : ℤ) → unsigned_abs z < SHIFT_EDGE → (neg_ℤ (pos (1 * SHIFT_EDGE)) ≤ℤ z) × (z ≤ℤ pos (1 * SHIFT_EDGE))
+at_most_edge : (z : ℤ) → unsigned_abs z < ELEMENT_EDGE → (neg_ℤ (pos (1 * ELEMENT_EDGE)) ≤ℤ z) × (z ≤ℤ pos (1 * ELEMENT_EDGE))
 at_most_edge (pos n) h = (omega (arith, ints), omega (arith, ints))
 at_most_edge _ h = (omega (arith, ints), omega (arith, ints))
 
 -- a lawful use moves by one displacement at most
-pub placement_moves : (six : List ℤ) → IsPlacement six → MovesByAtMost 1 (transform_of six)
+pub placement_moves : (six : List ℤ) → IsPlacement ELEMENT_EDGE six → MovesByAtMost 1 (transform_of six)
 placement_moves six h =
     let across = at_most_edge h.transform.dx h.dx in
     let upward = at_most_edge h.transform.dy h.dy in

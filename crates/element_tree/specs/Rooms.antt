@@ -3,7 +3,7 @@ use Rattle.std.specs.Prelude.{◌≡◌, ℕ, suc, ◌<◌, ◌≤◌, ◌+◌, 
 use Rattle.finite_sets.specs.Lists.{In, Distinct}
 use Rattle.geo_core.specs.declared.transforms.Transform.{Transform}
 use Rattle.ext_model.specs.declared.records.CellExt.{CellExt}
-use Rattle.ext_model.specs.declared.limits.TheConstants.{SHIFT_EDGE}
+use Rattle.ext_model.specs.declared.limits.TheConstants.{ELEMENT_EDGE}
 use Rattle.ext_model.specs.Lawful.{IsPlacement}
 use Rattle.circuit_model.specs.declared.limits.TheConstants.{LONGEST_CHAIN, MOST_FLAT_ELEMENTS}
 use Rattle.circuit_model.specs.Elements.{ext_of}
@@ -16,10 +16,10 @@ use Rattle.element_tree.specs.Forests.{lesser}
 
 -- The displacement is no longer than so many of uses.
 pub record MovesByAtMost (count : ℕ) (transform : Transform) : Type 0 where
-  pub left : neg_ℤ (pos (count * SHIFT_EDGE)) ≤ℤ transform.dx
-  pub right : transform.dx ≤ℤ pos (count * SHIFT_EDGE)
-  pub down : neg_ℤ (pos (count * SHIFT_EDGE)) ≤ℤ transform.dy
-  pub up : transform.dy ≤ℤ pos (count * SHIFT_EDGE)
+  pub left : neg_ℤ (pos (count * ELEMENT_EDGE)) ≤ℤ transform.dx
+  pub right : transform.dx ≤ℤ pos (count * ELEMENT_EDGE)
+  pub down : neg_ℤ (pos (count * ELEMENT_EDGE)) ≤ℤ transform.dy
+  pub up : transform.dy ≤ℤ pos (count * ELEMENT_EDGE)
 
 -- The elements of the links stand one behind the other.
 abbrev pub AreInSteps : (ℕ → ℕ) → ℕ → List Link → Type 0
@@ -44,7 +44,7 @@ pub record AreForest (exts : List CellExt) (branches : List (List Branch)) (orde
   pub ranks : (cell : ℕ) (link : Link) → Fits order sizes cell → In link (links_of exts branches cell)
       → link.branch.rank_step ≡ suc (lesser (value_at sizes) link.used.id (links_of exts branches cell))
   pub names : (cell : ℕ) → Fits order sizes cell → Distinct (map (λ link. link.used.id) (links_of exts branches cell))
-  pub placed : (cell : ℕ) (link : Link) → Fits order sizes cell → In link (links_of exts branches cell) → IsPlacement link.used.six
+  pub placed : (cell : ℕ) (link : Link) → Fits order sizes cell → In link (links_of exts branches cell) → IsPlacement ELEMENT_EDGE link.used.six
 
 -- There is room for an element with this number and all below it, through at most so many records.
 pub record HasRoom (exts : List CellExt) (branches : List (List Branch)) (levels number : ℕ) (flat : TreeElement) : Type 0 where

@@ -1,6 +1,7 @@
 //! The elements, depth first.
 ghost use Rattle.std.specs.Prelude.{◌≡◌, ◌<◌, ◌≤◌, ◌+◌, ◌++◌, suc, length, IfOk, IfErr, OnOk, slice_index_or};
 ghost use Rattle.ext_model.specs.Lawful.{IsPlacement};
+ghost use Rattle.ext_model.specs.declared.limits.TheConstants.{ELEMENT_EDGE};
 ghost use Rattle.circuit_model.specs.Elements.{transform_of};
 ghost use Rattle.element_tree.specs.Links.{Link, flat_below, flats_below, links_of};
 ghost use Rattle.element_tree.specs.Rooms.{MovesByAtMost, HasRoom};
@@ -13,7 +14,7 @@ use names_lists::List;
 
 // The transform of a use.
 fn transform_of(used: &UseRec) -> Transform
-    requires placed { IsPlacement used.now.six }
+    requires placed { IsPlacement ELEMENT_EDGE used.now.six }
     ensures value { result ≡ transform_of used.now.six }
     ensures moves { MovesByAtMost 1 result }
 {
@@ -42,7 +43,7 @@ fn element_below(
     used: &UseRec,
     branch: &Branch,
 ) -> Result<TreeElement, FlatFault>
-    requires placed { IsPlacement used.now.six }
+    requires placed { IsPlacement ELEMENT_EDGE used.now.six }
     requires ranks { element.now.rank + branch.now.rank_step ≤ MOST_FLAT_ELEMENTS }
     requires deep { element.now.depth < LONGEST_CHAIN }
     requires moves { MovesByAtMost element.now.depth element.now.to_root }

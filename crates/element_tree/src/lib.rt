@@ -28,4 +28,5 @@ mod name_order;
 mod sizes;
 mod tree;
 
+pub use sizes::chain_lengths;
 pub use tree::{Branch, ElementTree, TreeElement, element_tree};

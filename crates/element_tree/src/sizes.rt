@@ -35,8 +35,8 @@ fn size_of(sizes: &[usize], children: &[usize]) -> usize
     size
 }
 
-// How many records the longest chain of uses from each record on has.
-fn chain_lengths(
+/// How many records the longest chain of uses from each record on has. Want of memory alone refuses.
+pub fn chain_lengths(
     alloc: Global,
     exts: &[CellExt],
     graph: &RecordGraph,

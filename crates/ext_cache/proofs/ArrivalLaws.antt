@@ -8,11 +8,9 @@ use Rattle.cell_library.specs.Additions.{AreNextCells, kept_cell, names_with, wi
 use Rattle.cell_library.specs.Libraries.{LibraryParts, IsLawfulLibrary, IsNextCell, edits_of, seen}
 use Rattle.cell_library.specs.Views.{no_cell, view_at}
 use Rattle.cell_library.proofs.ViewLaws.{count_seen}
-use Rattle.library_trees.specs.NamedCells.{named_tree_at}
-use Rattle.library_trees.proofs.AgreeingViews.{agreeing_views}
 use Rattle.library_trees.proofs.EditedTrees.{below_is_cell}
 use Rattle.ext_cache.specs.Caches.{Agrees, Records, entry_in, is_dirty, is_stale, stamp_in}
-use Rattle.ext_cache.proofs.RecordLaws.{agrees_with}
+use Rattle.ext_cache.proofs.RecordLaws.{StaysBelow, agrees_with}
 
 module _ (old new : LibraryParts) (records : Records) (more : List ℕ) (lawful : IsLawfulLibrary old)
     (stamps : new.tree.stamps ≡ old.tree.stamps ++ more) (agrees : Agrees old records) where
@@ -22,13 +20,12 @@ module _ (old new : LibraryParts) (records : Records) (more : List ℕ) (lawful 
       ap (λ (all : List ℕ). stamp_at all cell) stamps
       ∙ get_or_append_left old.tree.stamps more 0 cell (omega (arith, agrees.known cell entry is, lawful.so_many, lawful.tree.stamps))
 
-  -- a cell that was there keeps its tree, where all that were there stay
+  -- what is seen of a cell that was there and of those below it is the same, where all that were there stay
   tree_kept : ((cell : ℕ) → cell < length (seen old).cells → view_at (seen new) cell ≡ view_at (seen old) cell) → (cell : ℕ)
-      → cell < length old.contents → named_tree_at (seen new) cell ≡ named_tree_at (seen old) cell
-  tree_kept earlier cell there =
-      sym (agreeing_views (seen old) (seen new) cell (λ below chain.
+      → cell < length old.contents → StaysBelow (seen old) (seen new) cell
+  tree_kept earlier cell there below chain =
       let known = below_is_cell old lawful cell below there chain in
-      sym (earlier below (omega (arith, known, count_seen old)))))
+      sym (earlier below (omega (arith, known, count_seen old)))
 
   -- records agree where the cells that were there stay
   agrees_more : length (seen old).cells ≤ length (seen new).cells → (seen new).tech ≡ (seen old).tech

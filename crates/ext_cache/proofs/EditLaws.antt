@@ -7,7 +7,7 @@ use Rattle.cell_tree.specs.Cells.{IsAbove}
 use Rattle.cell_library.specs.Additions.{children_in}
 use Rattle.cell_library.specs.Libraries.{LibraryParts, IsLawfulLibrary, IsNextEdit, seen}
 use Rattle.cell_library.specs.Views.{CellView, with_cell_changed}
-use Rattle.library_trees.proofs.StampedTrees.{stamps_tell}
+use Rattle.library_trees.proofs.StampedTrees.{stamps_keep_views}
 use Rattle.ext_cache.specs.Caches.{Agrees, Records, entry_in, is_dirty, is_stale, stamp_in}
 use Rattle.ext_cache.proofs.AboveLaws.{above_leads_down, leads_down_from_above}
 use Rattle.ext_cache.proofs.RecordLaws.{agrees_with, stale_if}
@@ -36,7 +36,7 @@ module _ (old new : LibraryParts) (records : Records) (cell : ℕ) (lawful : IsL
       agrees_with old new records (omega arith) tech past_edit (λ key entry is stamp.
       let free : IsAbove old.tree.cells cell key → ⊥ = λ above. earlier_above key entry is above stamp in
       let kept : stamp_in new key ≡ stamp_in old key = edit.stamps.others key free in
-      (kept, stamps_tell old lawful new cell change edit after key kept)) agrees
+      (kept, stamps_keep_views old lawful new cell change edit after key kept)) agrees
 
   -- A cell that has the edited one at or below itself is dirty.
   pub dirty_edit : (key : ℕ) → IsAtOrBelow (children_in (seen old)) key cell → is_dirty new records key ≡ true

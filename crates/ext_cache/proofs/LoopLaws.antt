@@ -7,7 +7,7 @@ use Rattle.std.proofs.lemmas.List.Elements.{All-more, filter-append, filter_more
 use Rattle.finite_sets.specs.Lists.{Distinct, In}
 use Rattle.finite_sets.proofs.Distincts.{Distinct-places}
 use Rattle.finite_sets.proofs.Members.{In-filter, In-filter_passes, In-filter_source}
-use Rattle.ext_model.specs.declared.records.CellExt.{CellExt}
+use Rattle.ext_model.specs.declared.arrays.ArrayExt.{ArrayExt}
 use Rattle.names.specs.Attachments.{AreUnattached}
 use Rattle.use_orders.specs.Uses.{AreBehindChildren, UsesCell}
 use Rattle.cell_library.specs.Additions.{children_in}
@@ -126,7 +126,7 @@ module _ (library : LibraryParts) (order : List ℕ) (place : ℕ) (before recor
       let listed : In key (take place order) =
       below_is_before library order behind place below key (subst (λ (upper : ℕ). IsBelow (seen library) upper key) (sym at) is) in
       let known = kept_clean library records key made.agrees (clean_now key listed) in
-      record { ext = known.0; is_kept = known.1.0; is = known.1.1.is }
+      record { ext = known.0; is_kept = known.1.0; lawful = known.1.1.lawful; is = known.1.1.is.means }
 
   -- where the cell is not dirty, it is passed over
   pub passed : is_dirty library records cell ≡ false → IsMadeTo library order (place + 1) before records told log
@@ -140,7 +140,7 @@ module _ (library : LibraryParts) (order : List ℕ) (place : ℕ) (before recor
   }
 
   -- and else a new record of it is made
-  pub renewed : (ext : CellExt) (unattached : List (List ℕ)) → is_dirty library records cell ≡ true → cell < length library.contents
+  pub renewed : (ext : ArrayExt) (unattached : List (List ℕ)) → is_dirty library records cell ≡ true → cell < length library.contents
       → IsRecordNow (seen library) cell ext
       → AreUnattached (seen library).tech (view_at (seen library) cell).own (view_at (seen library) cell).labels unattached
       → IsMadeTo library order (place + 1) before (with_record records cell ext (stamp_in library cell))

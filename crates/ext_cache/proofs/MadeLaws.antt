@@ -1,5 +1,6 @@
--- A record that is put together of a cell's own paint, its elements and its merges is the cell's.
-use Rattle.std.proofs.Common.{◌≡◌, ◌==◌, ◌∙◌, ℕ, Bool, true, List, [], ◌∷◌, length, refl, sym, ap, subst, arith}
+-- A record that is put together of a cell's own paint, its uses and its merges is the cell's.
+use Rattle.std.proofs.Common.{◌≡◌, ◌==◌, ◌∙◌, ℕ, ◌<◌, Bool, true, List, [], ◌∷◌, length, refl, sym, ap, subst, arith}
+use Rattle.std.specs.List.{flat_map}
 use Rattle.std.proofs.lemmas.Bool.Decides.{nat_tests}
 use Rattle.geo_core.specs.declared.squares.Rect.{Rect}
 use Rattle.tech_model.specs.declared.raw.Label.{Label}
@@ -8,18 +9,24 @@ use Rattle.layout_model.specs.Layouts.{Layout}
 use Rattle.own_records.specs.OwnRecords.{IsOwnRecord}
 use Rattle.own_records.specs.FetRecords.{AreFetRecords, IsNodeBefore}
 use Rattle.cell_nodes.specs.NodeRecords.{AreNodeRecords}
-use Rattle.named_trees.specs.NamedTrees.{OwnBody, own_body}
+use Rattle.named_trees.specs.NamedTrees.{OwnBody, named_elements_in, own_body}
 use Rattle.tree_records.specs.Merges.{AreGroupMerges}
-use Rattle.tree_records.specs.TreeRecords.{IsTreeRecord}
-use Rattle.cell_library.specs.Libraries.{LibraryParts, seen}
+use Rattle.tree_records.specs.TreeRecords.{use_records}
+use Rattle.cell_library.specs.Libraries.{IsLawfulLibrary, LibraryParts, seen}
 use Rattle.cell_library.specs.Views.{LibraryView, view_at}
 use Rattle.library_trees.specs.NamedCells.{named_tree_at, own_body_of}
 use Rattle.hier_merge.specs.UncleanCells.{IsCleanCell}
-use Rattle.lawful_trees.specs.Laws.{TreeRecordIsLawful}
+use Rattle.lawful_trees.specs.Laws.{RecordIsLawful}
 use Rattle.ext_model.specs.declared.records.CellExt.{CellExt}
+use Rattle.ext_model.specs.declared.records.MergeRec.{MergeRec}
+use Rattle.ext_model.specs.Plain.{plain_uses}
+use Rattle.ext_model.specs.Rows.{AreRowsOf}
+use Rattle.kept_records.specs.CellRecords.{IsRecordOf, library_uses}
+use Rattle.use_records.proofs.RecordLaws.{uses_are_elements}
 use Rattle.cell_records.specs.declared.records.CellRecord.{CellRecord}
 use Rattle.tree_merges.specs.declared.relating.Related.{Related}
 use Rattle.tree_merges.proofs.CellMerges.{body_at}
+use Rattle.ext_cache.specs.declared.extraction.MadeRecord.{MadeRecord}
 use Rattle.ext_cache.specs.Caches.{IsRecordNow}
 use Rattle.ext_cache.specs.MadeRecords.{IsMadeOf}
 
@@ -37,34 +44,41 @@ pub found_empty : (strips items : List (ℕ × Rect)) (empty : Bool) → items �
 found_empty [] items empty same is holds = refl
 found_empty (strip ∷ strips) items empty same is holds = absurd (grind (arith, nat_tests, ap length same))
 
-module _ (view : LibraryView) (cell : ℕ) (own : CellRecord) (related : Related) (made : CellRecord)
+module _ (view : LibraryView) (cell : ℕ) (own : CellRecord) (related : Related) (made : MadeRecord)
     (is_own : IsOwnRecord view.tech (view_at view cell).own (view_at view cell).labels (view_at view cell).name own.ext)
     (is_made : IsMadeOf view cell own related made) where
-  -- the record has the cell's merges, so it is the record of the cell's tree
-  pub made_is_of_tree : AreGroupMerges view.tech (named_tree_at view cell) related.merges → IsTreeRecord view.tech (named_tree_at view cell) made.ext
-  made_is_of_tree merges =
+  -- the record has the cell's uses, and its merges in rows, so it is the record of the cell
+  pub made_is_of_cell : flat_map plain_uses (library_uses view cell) ≡ use_records (named_elements_in (named_tree_at view cell))
+      → (merges : List MergeRec) → AreGroupMerges view.tech (named_tree_at view cell) merges → AreRowsOf merges related.merges
+      → IsRecordOf view cell made.ext
+  made_is_of_cell elements merges are rows =
       let there : OwnBody = own_body (named_tree_at view cell) in
       let body : own_body_of view cell ≡ there = sym (body_at view cell) in
-      let Nodes : OwnBody → CellExt → Type 0 = λ own_of ext. AreNodeRecords view.tech own_of.layout own_of.labels ext.nodes in
-      let Fets : OwnBody → CellExt → Type 0 =
-      λ own_of ext. AreFetRecords view.tech own_of.layout own_of.labels (IsNodeBefore view.tech own_of.layout own_of.labels) ext.fets in
-      record {
-        cell = ap (λ (ext : CellExt). ext.cell) is_made.ext ∙ is_own.cell ∙ ap (λ (own : OwnBody). own.name) body;
-        tech = ap (λ (ext : CellExt). ext.tech) is_made.ext ∙ is_own.tech;
-        classes = ap (λ (ext : CellExt). ext.classes) is_made.ext ∙ is_own.classes;
-        uses = ap (λ (ext : CellExt). ext.uses) is_made.ext;
-        nodes = subst (Nodes there) (sym is_made.ext) (subst (λ (own_of : OwnBody). Nodes own_of own.ext) body is_own.nodes);
-        fets = subst (Fets there) (sym is_made.ext) (subst (λ (own_of : OwnBody). Fets own_of own.ext) body is_own.fets);
-        merges = subst (λ (ext : CellExt). AreGroupMerges view.tech (named_tree_at view cell) ext.merges) (sym is_made.ext) merges;
-      }
+      let Nodes : OwnBody → Type 0 = λ own_of. AreNodeRecords view.tech own_of.layout own_of.labels own.ext.nodes in
+      let Fets : OwnBody → Type 0 =
+      λ own_of. AreFetRecords view.tech own_of.layout own_of.labels (IsNodeBefore view.tech own_of.layout own_of.labels) own.ext.fets in
+      subst (IsRecordOf view cell) (sym is_made.ext)
+      (record {
+        means = record {
+          cell = is_own.cell ∙ ap (λ (own : OwnBody). own.name) body;
+          tech = is_own.tech;
+          classes = is_own.classes;
+          uses = elements;
+          nodes = subst Nodes body is_own.nodes;
+          fets = subst Fets body is_own.fets;
+          merges = subst (AreGroupMerges view.tech (named_tree_at view cell)) (sym rows.are) are;
+        };
+        uses = refl;
+        merges = record { each = rows.each; are = refl; longest = rows.longest };
+      })
 
 -- Where the cell is clean, that is its record now.
-pub made_is_now : (library : LibraryParts) (cell : ℕ) (own : CellRecord) (related : Related) (made : CellRecord)
-    → TreeRecordIsLawful library cell → IsCleanCell (seen library) cell
+pub made_is_now : (library : LibraryParts) (cell : ℕ) (own : CellRecord) (related : Related) (made : MadeRecord)
+    → IsLawfulLibrary library → cell < length library.contents → RecordIsLawful library cell → IsCleanCell (seen library) cell
     → IsOwnRecord library.tech (view_at (seen library) cell).own (view_at (seen library) cell).labels (view_at (seen library) cell).name own.ext
-    → AreGroupMerges library.tech (named_tree_at (seen library) cell) related.merges → IsMadeOf (seen library) cell own related made
-    → IsRecordNow (seen library) cell made.ext
-made_is_now library cell own related made law clean is_own merges is_made =
-    let is : IsTreeRecord library.tech (named_tree_at (seen library) cell) made.ext =
-    made_is_of_tree (seen library) cell own related made is_own is_made merges in
+    → ((merges : List MergeRec) × AreGroupMerges library.tech (named_tree_at (seen library) cell) merges × AreRowsOf merges related.merges)
+    → IsMadeOf (seen library) cell own related made → IsRecordNow (seen library) cell made.ext
+made_is_now library cell own related made lawful below law clean is_own merges is_made =
+    let is : IsRecordOf (seen library) cell made.ext =
+    made_is_of_cell (seen library) cell own related made is_own is_made (uses_are_elements library lawful cell below) merges.0 merges.1 merges.2 in
     record { clean = clean; is = is; lawful = law made.ext clean is }

@@ -2,7 +2,7 @@
 use Rattle.std.proofs.Common.{◌≡◌, ◌⊎◌, ◌<◌, ℕ, false, List, [], ◌∷◌, ◌++◌, length, inl, inr, refl, sym, ap, subst, ◌∙◌}
 use Rattle.std.proofs.lemmas.Bool.Decides.{eqb_tells}
 use Rattle.finite_sets.specs.Lists.{In}
-use Rattle.ext_model.specs.declared.records.CellExt.{CellExt}
+use Rattle.ext_model.specs.declared.arrays.ArrayExt.{ArrayExt}
 use Rattle.names.specs.Attachments.{AreUnattached}
 use Rattle.cell_library.specs.Libraries.{LibraryParts, seen}
 use Rattle.cell_library.specs.Views.{view_at}
@@ -53,7 +53,7 @@ module _ (library : LibraryParts) where
       ]
 
   -- one more record
-  pub makes_more : (cells : List ℕ) (cell : ℕ) (records mid : Records) (told : List Extracted) (ext : CellExt) (unattached : List (List ℕ))
+  pub makes_more : (cells : List ℕ) (cell : ℕ) (records mid : Records) (told : List Extracted) (ext : ArrayExt) (unattached : List (List ℕ))
       → MakesRecords library cells records mid told → IsRecordNow (seen library) cell ext
       → AreUnattached (seen library).tech (view_at (seen library) cell).own (view_at (seen library) cell).labels unattached
       → MakesRecords library (cells ++ cell ∷ []) records (with_record mid cell ext (stamp_in library cell))

@@ -1,5 +1,5 @@
 -- Records that are kept, one more of them, and which cells are dirty then.
-use Rattle.std.proofs.Common.{◌≡◌, ◌≢◌, ◌⊎◌, ◌<◌, ◌≤◌, ◌==◌, not, ℕ, Bool, true, false, cond, length, Option, Some, None}
+use Rattle.std.proofs.Common.{◌≡◌, ◌≢◌, ◌⊎◌, ◌<◌, ◌≤◌, ◌==◌, not, ℕ, Bool, true, false, cond, length, map, Option, Some, None}
 use Rattle.std.proofs.Common.{refl, sym, ap, subst, ◌∙◌, inl, inr, arith}
 use Rattle.std.specs.Prelude.{option_map}
 use Rattle.std.specs.Cmp.{unsigned_tied}
@@ -8,7 +8,7 @@ use Rattle.std.specs.Ordering.{nat_cmp}
 use Rattle.std.proofs.lemmas.Bool.{eq-eqb, ne_eqb}
 use Rattle.std.proofs.lemmas.Bool.Decides.{eqb_tells}
 use Rattle.std.proofs.lemmas.Cmp.{nat_cmp_total}
-use Rattle.ext_model.specs.declared.records.CellExt.{CellExt}
+use Rattle.ext_model.specs.declared.arrays.ArrayExt.{ArrayExt}
 use Rattle.ext_model.specs.declared.tables.ExtEntry.{ExtEntry}
 use Rattle.tech_model.specs.declared.raw.RawTech.{RawTech}
 use Rattle.layout_trees.specs.CellTrees.{CellTree}
@@ -16,11 +16,20 @@ use Rattle.hierarchy_model.specs.CleanCells.{IsClean}
 use Rattle.cell_library.specs.LayoutTrees.{tree_at}
 use Rattle.named_trees.specs.NamedTrees.{NamedTree, layouts_of}
 use Rattle.tree_records.specs.TreeRecords.{IsTreeRecord}
-use Rattle.library_trees.specs.NamedCells.{named_tree_at}
+use Rattle.library_trees.specs.NamedCells.{IsAtOrBelow, named_tree_at}
+use Rattle.library_trees.proofs.AgreeingViews.{agreeing_views}
 use Rattle.library_trees.proofs.LayoutLaws.{layouts_of_cell}
+use Rattle.finite_sets.specs.Chain.Chain.{stay, go}
+use Rattle.finite_sets.proofs.Images.{map-same}
+use Rattle.finite_sets.proofs.Places.{slice_get-In}
+use Rattle.geo_core.specs.Images.{six_of}
+use Rattle.ext_model.specs.declared.arrays.ArrayUse.{ArrayUse}
+use Rattle.ext_model.specs.Plain.{plain}
+use Rattle.kept_records.specs.CellRecords.{library_use, library_uses}
 use Rattle.cell_tree.specs.Trees.{stamp_at}
+use Rattle.cell_tree.specs.Uses.{HasChild}
 use Rattle.cell_library.specs.Libraries.{LibraryParts, IsSame, seen}
-use Rattle.cell_library.specs.Views.{LibraryView}
+use Rattle.cell_library.specs.Views.{CellView, LibraryView, view_at}
 use Rattle.cell_library.proofs.ViewLaws.{count_seen}
 use Rattle.ext_cache.specs.Caches.{Agrees, IsRecordNow, Records, entry_in, is_dirty, is_stale, next_serial, no_records}
 use Rattle.ext_cache.specs.Caches.{record_in, stamp_in, with_record}
@@ -48,16 +57,35 @@ dirty_none library cell = ap (λ (found : Option ExtEntry). is_stale found (stam
 
 -- ---- cells that stay as they are
 
--- a record of a cell as it is stays one, where the technology and the cell's tree stay
-pub record_stays : (old new : LibraryView) (cell : ℕ) (ext : CellExt) → new.tech ≡ old.tech → named_tree_at new cell ≡ named_tree_at old cell
-    → IsRecordNow old cell ext → IsRecordNow new cell ext
-record_stays old new cell ext tech same now =
+-- What is seen of each cell at and below the cell is the same.
+abbrev pub StaysBelow : LibraryView → LibraryView → ℕ → Type 0
+StaysBelow old new cell = (below : ℕ) → IsAtOrBelow old cell below → view_at old below ≡ view_at new below
+
+-- then it has the same uses
+uses_stay : (old new : LibraryView) (cell : ℕ) → StaysBelow old new cell → library_uses new cell ≡ library_uses old cell
+uses_stay old new cell same =
+    ap (λ (own : CellView). map (library_use new) own.uses) (sym (same cell stay))
+    ∙ sym (map-same (library_use old) (library_use new) (view_at old cell).uses (λ entry listed.
+    let at = slice_get-In entry (view_at old cell).uses listed in
+    let has : HasChild (view_at old cell).uses entry.1.child.0 = record { k = at.0; entry = entry; stands = at.1; same = refl } in
+    let use_of : CellView → ArrayUse = λ child. record { cell = child.name; id = entry.0; six = six_of entry.1.placed; grid = entry.1.grid } in
+    ap use_of (same entry.1.child.0 (go has stay))))
+
+-- a record of a cell as it is stays one, where the technology and what is seen of the cell and of those below it stay
+pub record_stays : (old new : LibraryView) (cell : ℕ) (ext : ArrayExt) → new.tech ≡ old.tech → StaysBelow old new cell → IsRecordNow old cell ext
+    → IsRecordNow new cell ext
+record_stays old new cell ext tech stays now =
+    let same : named_tree_at new cell ≡ named_tree_at old cell = sym (agreeing_views old new cell stays) in
     let layouts : tree_at new cell ≡ tree_at old cell = sym (layouts_of_cell new cell) ∙ ap layouts_of same ∙ layouts_of_cell old cell in
     record {
       clean = subst (λ (raw : RawTech). IsClean raw (tree_at new cell)) (sym tech)
           (subst (λ (tree : CellTree). IsClean old.tech tree) (sym layouts) now.clean);
-      is = subst (λ (raw : RawTech). IsTreeRecord raw (named_tree_at new cell) ext) (sym tech)
-          (subst (λ (tree : NamedTree). IsTreeRecord old.tech tree ext) (sym same) now.is);
+      is = record {
+        means = subst (λ (raw : RawTech). IsTreeRecord raw (named_tree_at new cell) (plain ext)) (sym tech)
+            (subst (λ (tree : NamedTree). IsTreeRecord old.tech tree (plain ext)) (sym same) now.is.means);
+        uses = now.is.uses ∙ sym (uses_stay old new cell stays);
+        merges = now.is.merges;
+      };
       lawful = now.lawful;
     }
 
@@ -67,7 +95,7 @@ pub agrees_with : (old new : LibraryParts) (records : Records) → length (seen 
     → (seen new).tech ≡ (seen old).tech
     → ((cell : ℕ) (entry : ExtEntry) → entry_in records cell ≡ Some entry → entry.stamp ≤ stamp_in new cell)
     → ((cell : ℕ) (entry : ExtEntry) → entry_in records cell ≡ Some entry → entry.stamp ≡ stamp_in new cell
-    → (stamp_in new cell ≡ stamp_in old cell) × (named_tree_at (seen new) cell ≡ named_tree_at (seen old) cell))
+    → (stamp_in new cell ≡ stamp_in old cell) × StaysBelow (seen old) (seen new) cell)
     → Agrees old records → Agrees new records
 agrees_with old new records more tech past now agrees = record {
   known = λ cell entry is. omega (arith, agrees.known cell entry is, count_seen old, count_seen new);
@@ -83,7 +111,7 @@ agrees_same old new records same agrees =
     let stamps : (cell : ℕ) → stamp_in new cell ≡ stamp_in old cell = λ cell i. stamp_at (same.tree i).stamps cell in
     agrees_with old new records (let long : length (seen new).cells ≡ length (seen old).cells = λ i. length (same.seen i).cells in omega arith)
     (λ i. (same.seen i).tech) (λ cell entry is. omega (arith, agrees.past cell entry is, stamps cell))
-    (λ cell entry is stamp. (stamps cell, λ i. named_tree_at (same.seen i) cell)) agrees
+    (λ cell entry is stamp. (stamps cell, λ below chain. sym (λ i. view_at (same.seen i) below))) agrees
 
 -- And the same cells are dirty.
 pub dirty_same : (old new : LibraryParts) (records : Records) (cell : ℕ) → IsSame old new → is_dirty new records cell ≡ is_dirty old records cell
@@ -106,7 +134,7 @@ pub stale_if : (found : Option ExtEntry) (stamp : ℕ) → ((entry : ExtEntry) �
 stale_if None stamp other = refl
 stale_if (Some entry) stamp other = ap not (ne_eqb entry.stamp stamp (other entry refl))
 
-module _ (records : Records) (cell : ℕ) (ext : CellExt) (stamp : ℕ) where
+module _ (records : Records) (cell : ℕ) (ext : ArrayExt) (stamp : ℕ) where
   -- the entry of the record that was made
   abbrev pub entry_made : ExtEntry
   entry_made = record { ext = ext; serial = next_serial records.made; stamp = stamp }
@@ -136,7 +164,7 @@ module _ (records : Records) (cell : ℕ) (ext : CellExt) (stamp : ℕ) where
     | inr other ↦ inr (sym (found_there key other.1) ∙ is)
   ]
 
-module _ (library : LibraryParts) (records : Records) (cell : ℕ) (ext : CellExt) where
+module _ (library : LibraryParts) (records : Records) (cell : ℕ) (ext : ArrayExt) where
   -- Records with a new one of a cell as it is agree with the library.
   pub agrees_made : cell < length library.contents → IsRecordNow (seen library) cell ext → Agrees library records
       → Agrees library (with_record records cell ext (stamp_in library cell))
@@ -174,11 +202,11 @@ module _ (library : LibraryParts) (records : Records) (cell : ℕ) (ext : CellEx
 
 -- A cell that is not dirty has a record, which is that of the cell as it is.
 pub kept_clean : (library : LibraryParts) (records : Records) (cell : ℕ) → Agrees library records → is_dirty library records cell ≡ false
-    → (ext : CellExt) × ((record_in records cell ≡ Some ext) × IsRecordNow (seen library) cell ext)
+    → (ext : ArrayExt) × ((record_in records cell ≡ Some ext) × IsRecordNow (seen library) cell ext)
 kept_clean library records cell agrees clean = go (entry_in records cell) refl clean
   where
     go : (found : Option ExtEntry) → entry_in records cell ≡ found → is_stale found (stamp_in library cell) ≡ false
-        → (ext : CellExt) × ((record_in records cell ≡ Some ext) × IsRecordNow (seen library) cell ext)
+        → (ext : ArrayExt) × ((record_in records cell ≡ Some ext) × IsRecordNow (seen library) cell ext)
     go None is clean = absurd (cc clean)
     go (Some entry) is clean = (
       entry.ext,

@@ -6,7 +6,7 @@ use Rattle.std.specs.FinMap as fin_map
 use Rattle.std.specs.Ordering.{nat_cmp}
 use Rattle.std.proofs.lemmas.Bool.Decides.{eqb_tells}
 use Rattle.std.proofs.lemmas.Cmp.{nat_cmp_total}
-use Rattle.ext_model.specs.declared.records.CellExt.{CellExt}
+use Rattle.ext_model.specs.declared.arrays.ArrayExt.{ArrayExt}
 use Rattle.ext_model.specs.declared.tables.ExtEntry.{ExtEntry}
 use Rattle.ext_cache.specs.declared.undo.Undo.{Undo}
 use Rattle.ext_cache.specs.Caches.{Records, entry_in, with_record}
@@ -34,13 +34,13 @@ put_back_same entries cell entry =
     ])
 
 -- a new record that is put back leaves the records as they were
-pub undone_same : (before : Records) (cell : ℕ) (ext : CellExt) (stamp : ℕ) → undone (with_record before cell ext stamp) (undo_of before cell) ≡ before
+pub undone_same : (before : Records) (cell : ℕ) (ext : ArrayExt) (stamp : ℕ) → undone (with_record before cell ext stamp) (undo_of before cell) ≡ before
 undone_same before cell ext stamp =
     let entry : ExtEntry = record { ext = ext; serial = (with_record before cell ext stamp).made; stamp = stamp } in
     λ i. record { entries = put_back_same before.entries cell entry i; made = before.made }
 
 -- one more record in the log
-pub log_more : (before mid : Records) (log : List Undo) (cell : ℕ) (ext : CellExt) (stamp : ℕ) → IsLogOf before log mid
+pub log_more : (before mid : Records) (log : List Undo) (cell : ℕ) (ext : ArrayExt) (stamp : ℕ) → IsLogOf before log mid
     → IsLogOf before (log ++ undo_of mid cell ∷ []) (with_record mid cell ext stamp)
 log_more before mid [] cell ext stamp same =
     subst (λ (r : Records). IsLogOf before (undo_of r cell ∷ []) (with_record r cell ext stamp)) (sym same) (ext, stamp, refl, refl)
@@ -50,7 +50,7 @@ log_more before mid (undo ∷ log) cell ext stamp (first, at, is, later) =
 -- What the last note of a log says: the records before the last of them was kept.
 pub record HasLast (before : Records) (log : List Undo) (undo : Undo) (records : Records) : Type 0 where
   pub mid : Records
-  pub ext : CellExt
+  pub ext : ArrayExt
   pub stamp : ℕ
   pub is : undo ≡ undo_of mid undo.cell.0
   pub logged : IsLogOf before log mid

@@ -4,10 +4,10 @@ use Rattle.std.specs.Prelude.{None, option_map, refl}
 use Rattle.std.specs.Coded.{Coded, code_by, coded×, coded_ℕ}
 use Rattle.std.specs.FinMap as fin_map
 use Rattle.std.specs.Ordering.{nat_cmp}
-use Rattle.ext_model.specs.declared.records.CellExt.{CellExt}
+use Rattle.ext_model.specs.declared.arrays.ArrayExt.{ArrayExt}
 use Rattle.ext_model.specs.declared.tables.ExtEntry.{ExtEntry}
 use Rattle.ext_model.specs.contracts.tables.ExtEntry.{the_row as entry_row}
-use Rattle.ext_model.specs.Lawful.{IsLawful}
+use Rattle.ext_model.specs.LawfulArrays.{IsLawfulArrayExt}
 use Rattle.names.specs.Attachments.{AreUnattached}
 use Rattle.cell_tree.specs.Trees.{stamp_at}
 use Rattle.cell_library.specs.Libraries.{LibraryParts, seen}
@@ -16,8 +16,7 @@ use Rattle.use_orders.specs.LibraryOrder.{IsLibraryOrder}
 use Rattle.hierarchy_model.specs.CleanCells.{IsClean}
 use Rattle.cell_library.specs.Additions.{children_in}
 use Rattle.cell_library.specs.LayoutTrees.{tree_at}
-use Rattle.tree_records.specs.TreeRecords.{IsTreeRecord}
-use Rattle.library_trees.specs.NamedCells.{named_tree_at}
+use Rattle.kept_records.specs.CellRecords.{IsRecordOf}
 use Rattle.hier_merge.specs.Interactions.{IsWork}
 use Rattle.ext_cache.specs.declared.extraction.Extracted.{Extracted}
 use Rattle.ext_cache.specs.declared.limits.TheConstants.{LAST_SERIAL}
@@ -41,7 +40,7 @@ abbrev pub entry_in : Records → ℕ → Option ExtEntry
 entry_in records cell = fin_map.get records.entries cell
 
 -- the record of a cell
-abbrev pub record_in : Records → ℕ → Option CellExt
+abbrev pub record_in : Records → ℕ → Option ArrayExt
 record_in records cell = option_map (λ entry. entry.ext) (entry_in records cell)
 
 -- the stamp that a cell has now
@@ -49,10 +48,10 @@ abbrev pub stamp_in : LibraryParts → ℕ → ℕ
 stamp_in library cell = stamp_at library.tree.stamps cell
 
 -- The cell is clean, and the record is that of the cell as it is.
-pub record IsRecordNow (view : LibraryView) (cell : ℕ) (ext : CellExt) : Type 0 where
+pub record IsRecordNow (view : LibraryView) (cell : ℕ) (ext : ArrayExt) : Type 0 where
   pub clean : IsClean view.tech (tree_at view cell)
-  pub is : IsTreeRecord view.tech (named_tree_at view cell) ext
-  pub lawful : IsLawful ext
+  pub is : IsRecordOf view cell ext
+  pub lawful : IsLawfulArrayExt ext
 
 -- Records are kept of cells of the library alone, none is of a later stamp than its cell has, and one of its cell's stamp is that of the
 -- cell as it is.
@@ -76,7 +75,7 @@ abbrev pub next_serial : ℕ → ℕ
 next_serial made = if nat_lt made LAST_SERIAL then suc made else made
 
 -- the records with this one of a cell, which has the next serial
-abbrev pub with_record : Records → ℕ → CellExt → ℕ → Records
+abbrev pub with_record : Records → ℕ → ArrayExt → ℕ → Records
 with_record records cell ext stamp = record {
   entries = fin_map.insert records.entries cell (record { ext = ext; serial = next_serial records.made; stamp = stamp });
   made = next_serial records.made;
@@ -86,7 +85,7 @@ with_record records cell ext stamp = record {
 abbrev pub MakesRecords : LibraryParts → List ℕ → Records → Records → List Extracted → Type 0
 MakesRecords library [] records after told = (after ≡ records) × (told ≡ [])
 MakesRecords library (cell ∷ cells) records after told =
-    (ext : CellExt) × (unattached : List (List ℕ)) × (rest : List Extracted)
+    (ext : ArrayExt) × (unattached : List (List ℕ)) × (rest : List Extracted)
     × IsRecordNow (seen library) cell ext
     × AreUnattached (seen library).tech (view_at (seen library) cell).own (view_at (seen library) cell).labels unattached
     × (told ≡ record { cell = record { 0 = cell }; unattached = unattached } ∷ rest)

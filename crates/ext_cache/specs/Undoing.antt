@@ -2,7 +2,7 @@
 use Rattle.std.specs.Prelude.{◌≡◌, ℕ, List, [], ◌∷◌, Option, Some, None}
 use Rattle.std.specs.FinMap as fin_map
 use Rattle.std.specs.Ordering.{nat_cmp}
-use Rattle.ext_model.specs.declared.records.CellExt.{CellExt}
+use Rattle.ext_model.specs.declared.arrays.ArrayExt.{ArrayExt}
 use Rattle.ext_model.specs.declared.tables.ExtEntry.{ExtEntry}
 use Rattle.ext_cache.specs.declared.undo.Undo.{Undo}
 use Rattle.ext_cache.specs.Caches.{Records, entry_in, with_record}
@@ -24,4 +24,4 @@ undone records undo = record { entries = with_entry records.entries undo.cell.0 
 abbrev pub IsLogOf : Records → List Undo → Records → Type 0
 IsLogOf before [] records = records ≡ before
 IsLogOf before (undo ∷ log) records =
-    (ext : CellExt) × (stamp : ℕ) × (undo ≡ undo_of before undo.cell.0) × IsLogOf (with_record before undo.cell.0 ext stamp) log records
+    (ext : ArrayExt) × (stamp : ℕ) × (undo ≡ undo_of before undo.cell.0) × IsLogOf (with_record before undo.cell.0 ext stamp) log records

@@ -5,7 +5,7 @@ ghost use Rattle.ext_cache.specs.Caches.{next_serial};
 ghost use Rattle.ext_cache.specs.Undoing.{with_entry};
 
 use crate::limits::LAST_SERIAL;
-use ext_model::{CellExt, CellKey, ExtEntry, ExtTable};
+use ext_model::{ArrayExt, CellKey, ExtEntry, ExtTable};
 use std::alloc::{AllocError, Global};
 use std::marker::Model;
 
@@ -50,14 +50,14 @@ impl Cache {
     }
 
     /// The record that is kept of a cell. None exactly where there is none.
-    pub fn kept(&self, cell: CellKey) -> Option<&CellExt>
+    pub fn kept(&self, cell: CellKey) -> Option<&ArrayExt>
         ensures { option_copied result ≡ record_in self.now cell.0 }
     {
         self.table.get(cell)
     }
 
     /// Copies of the records that are kept of these cells, in their order. Each of them has one. Want of memory alone refuses.
-    pub fn copies(&self, cells: &[CellKey]) -> Result<Vec<CellExt>, AllocError>
+    pub fn copies(&self, cells: &[CellKey]) -> Result<Vec<ArrayExt>, AllocError>
         requires { All (λ cell. IsSome (record_in self.now cell.0)) cells.now }
         ensures { IfOk result (λ exts. map (λ ext. Some ext) exts.items ≡ map (λ cell. record_in self.now cell.0) cells.now) }
     {
@@ -101,7 +101,7 @@ impl Cache {
     pub(crate) fn keep(
         &mut self,
         cell: CellKey,
-        ext: CellExt,
+        ext: ArrayExt,
         stamp: u64,
     ) -> Result<Option<ExtEntry>, AllocError>
         ensures kept { OnOk result (self.new ≡ with_record self.old cell.0 ext stamp) }

@@ -20,8 +20,8 @@ use crate::faults::{ExtractFault, Unclean};
 use crate::undo::Undo;
 use cell_library::{Opened, Reader};
 use cell_records::{CellRecord, cell_record};
-use ext_model::{CellExt, CellKey};
-use lawful_trees::tree_record_is_lawful;
+use ext_model::{ArrayExt, CellExt, CellKey};
+use lawful_trees::record_is_lawful;
 use names_lists::{List, Name};
 use std::alloc::{AllocError, Global};
 use std::sync::ledger::Ledger;
@@ -33,6 +33,13 @@ use use_records::use_records;
 #[derive(Debug, Drop)]
 pub struct Extracted {
     pub cell: CellKey,
+    pub unattached: List<Name>,
+}
+
+/// The record that is made of a cell, and the texts of its labels that name none of its nodes, in the order of the labels.
+#[derive(Debug, Drop)]
+pub struct MadeRecord {
+    pub ext: ArrayExt,
     pub unattached: List<Name>,
 }
 
@@ -129,7 +136,7 @@ fn tree_record<L: Ledger>(
     library: &Reader<'_>,
     cell: CellKey,
     steps: &mut Opened<L>,
-) -> Result<CellRecord, ExtractFault>
+) -> Result<MadeRecord, ExtractFault>
     requires cell { cell.0 < length library.now.contents }
     requires clean { IsCleanBelow library.now.tech (tree_at (seen library.now) cell.0) }
     requires records { HaveKeptRecordsBelow (seen library.now) (record_in cache.now) cell.0 }
@@ -140,7 +147,7 @@ fn tree_record<L: Ledger>(
     ensures steps { (work : ℕ) → IsWork (seen library.now) cell.0 work → steps.new ≤ steps.old + (2 * work + 2) }
 {
     library.lawful();
-    tree_record_is_lawful(library, cell);
+    record_is_lawful(library, cell);
     let alloc = cache.allocator();
     let own = cell_record(
         alloc,
@@ -159,19 +166,19 @@ fn tree_record<L: Ledger>(
     with_relations(alloc, library, cell, own, related)
 }
 
-// The record of a cell's own paint, with its elements and its merges.
+// The record of a cell's own paint, with its uses and its merges.
 fn with_relations(
     alloc: Global,
     library: &Reader<'_>,
     cell: CellKey,
     own: CellRecord,
     related: Related,
-) -> Result<CellRecord, ExtractFault>
+) -> Result<MadeRecord, ExtractFault>
     requires cell { cell.0 < length library.now.contents }
     ensures made { IfOk result (IsMadeOf (seen library.now) cell.0 own related) }
     ensures memory { IfErr result (λ fault. fault ≡ Memory) }
 {
-    let elements = use_records(alloc, library, cell)?;
+    let uses = use_records(alloc, library, cell)?;
     let CellRecord { ext, unattached } = own;
     let CellExt {
         cell: name,
@@ -182,12 +189,12 @@ fn with_relations(
         fets,
         merges: _,
     } = ext;
-    Ok(CellRecord {
-        ext: CellExt {
+    Ok(MadeRecord {
+        ext: ArrayExt {
             cell: name,
             tech,
             classes,
-            uses: List::of(elements),
+            uses: List::of(uses),
             nodes,
             fets,
             merges: related.merges,

@@ -4,7 +4,7 @@ ghost use Rattle.ext_cache.specs.Caches.{Records, entry_in, with_record};
 ghost use Rattle.ext_cache.specs.Undoing.{IsLogOf, undo_of, undone};
 
 use crate::caches::Cache;
-use ext_model::{CellExt, CellKey, ExtEntry};
+use ext_model::{ArrayExt, CellKey, ExtEntry};
 use std::alloc::AllocError;
 
 /// The entry that a cell had before a new record of it was kept, and how many records were made then.
@@ -21,7 +21,7 @@ impl Cache {
     pub(crate) fn keep_logged(
         &mut self,
         cell: CellKey,
-        ext: CellExt,
+        ext: ArrayExt,
         stamp: u64,
         log: &mut Vec<Undo>,
     ) -> Result<(), AllocError>

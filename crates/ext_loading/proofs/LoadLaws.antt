@@ -3,7 +3,7 @@ use Rattle.std.proofs.Common.{ℕ, List, [], ◌∷◌, inl, inr, refl, sym, sub
 use Rattle.outside_io.specs.Files.{Files}
 use Rattle.session_model.specs.FileTrees.{All, Reads, Stopped, StopsAt, fetched_by}
 use Rattle.session_model.proofs.FileTreeLaws.{file_refused}
-use Rattle.ext_model.specs.declared.records.CellExt.{CellExt}
+use Rattle.ext_model.specs.declared.arrays.ArrayExt.{ArrayExt}
 use Rattle.ext_loading.specs.declared.faults.ExtLoadFault.{ExtLoadFault}
 use Rattle.ext_loading.specs.declared.loading.LoadedExts.{LoadedExts}
 use Rattle.ext_loading.specs.declared.loading.LoadedExts.TheVariants as loaded
@@ -13,7 +13,7 @@ use Rattle.ext_loading.specs.Trees.{GivesTree, IsTree}
 use Rattle.ext_loading.proofs.CycleLaws.{may_be_flattened}
 
 -- what is given of a tree that was read is what the files say
-pub tree_given : (files : Files) (root : List ℕ) (read : List CellExt) (given : LoadedExts) → Reads circuit_files files [] (root ∷ []) (All read)
+pub tree_given : (files : Files) (root : List ℕ) (read : List ArrayExt) (given : LoadedExts) → Reads circuit_files files [] (root ∷ []) (All read)
     → GivesTree read given → LoadGives files root given
 tree_given files root read (loaded.Records exts) reads gives =
     subst (AreRead files root) (sym gives.0) (record { reads = reads; acyclic = gives.1 })
@@ -31,7 +31,7 @@ tree_given files root read (loaded.Refused told) reads gives = (
 )
 
 -- and may be flattened
-pub tree_fits : (root : List ℕ) (read : List CellExt) (given : LoadedExts) → IsTree root read → GivesTree read given → IsFitTree root given
+pub tree_fits : (root : List ℕ) (read : List ArrayExt) (given : LoadedExts) → IsTree root read → GivesTree read given → IsFitTree root given
 tree_fits root read (loaded.Records exts) tree gives =
     subst (CanBeFlattened root) (sym gives.0) (may_be_flattened root read tree gives.1)
 tree_fits root read (loaded.Refused told) tree gives = tt

@@ -12,8 +12,8 @@ use Rattle.finite_sets.proofs.Searches.{In-from_list_any, absent-from_list_any}
 use Rattle.outside_io.specs.Files.{Files}
 use Rattle.session_model.specs.FileTrees.{GoesOn, Reads}
 use Rattle.session_model.proofs.FileTreeLaws.{goes_by}
-use Rattle.ext_model.specs.declared.records.CellExt.{CellExt}
-use Rattle.ext_model.specs.Lawful.{IsLawful}
+use Rattle.ext_model.specs.declared.arrays.ArrayExt.{ArrayExt}
+use Rattle.ext_model.specs.LawfulArrays.{IsLawfulArrayExt}
 use Rattle.ext_loading.specs.ExtFiles.{cells_read, file_gives, is_read}
 use Rattle.ext_loading.specs.Readings.{cells_used, circuit_files}
 use Rattle.ext_loading.specs.Trees.{AreSoFar, IsTree, MayFollow}
@@ -31,7 +31,7 @@ map-reverse f (x ∷ xs) =
 pub next_name : (left : List (List ℕ)) (name : List ℕ) → reverse (left ++ name ∷ []) ≡ name ∷ reverse left
 next_name left name = reverse-append left (name ∷ [])
 
-module _ (read read_after : List CellExt) (left left_after : List (List ℕ)) (name : List ℕ) (ext : CellExt) (read_is : read_after ≡ read ++ ext ∷ [])
+module _ (read read_after : List ArrayExt) (left left_after : List (List ℕ)) (name : List ℕ) (ext : ArrayExt) (read_is : read_after ≡ read ++ ext ∷ [])
     (left_is : left_after ≡ left ++ reverse (cells_used ext)) (new : is_read read name ≡ false) where
   -- the cells that it uses come first
   names_are : reverse left_after ≡ cells_used ext ++ reverse left
@@ -45,12 +45,12 @@ module _ (read read_after : List CellExt) (left left_after : List (List ℕ)) (n
   goes_on_by files gives reading rest =
       goes_by circuit_files files read name ext (reverse left) new gives reading
       (subst (λ (names : List (List ℕ)). Reads circuit_files files (read ++ ext ∷ []) names reading) names_are
-      (subst (λ (exts : List CellExt). Reads circuit_files files exts (reverse left_after) reading) read_is rest))
+      (subst (λ (exts : List ArrayExt). Reads circuit_files files exts (reverse left_after) reading) read_is rest))
 
   -- ---- whatever the files are
 
   cells_are : cells_read read_after ≡ cells_read read ++ ext.cell ∷ []
-  cells_are = ap cells_read read_is ∙ map-append (λ (e : CellExt). e.cell) read (ext ∷ [])
+  cells_are = ap cells_read read_is ∙ map-append (λ (e : ArrayExt). e.cell) read (ext ∷ [])
 
   -- a cell that was read or left is so still
   still_there : ext.cell ≡ name → (other : List ℕ) → In other (cells_read read ++ (name ∷ reverse left))
@@ -78,16 +78,16 @@ module _ (read read_after : List CellExt) (left left_after : List (List ℕ)) (n
   pub so_far_read : (root : List ℕ) → MayFollow read name ext → AreSoFar root read (name ∷ reverse left) → AreSoFar root read_after (reverse left_after)
   so_far_read root follows are = record {
     records = record {
-      lawful = subst (All IsLawful) (sym read_is) (All-push IsLawful read ext are.records.lawful follows.lawful);
+      lawful = subst (All IsLawfulArrayExt) (sym read_is) (All-push IsLawfulArrayExt read ext are.records.lawful follows.lawful);
       cells_differ = subst Distinct (sym cells_are) (Distinct-push (cells_read read) ext.cell are.records.cells_differ
           (λ there. absent-from_list_any bytes_eq bytes_eq-Decides name (cells_read read) new
           (subst (λ (n : List ℕ). In n (cells_read read)) follows.cell there)));
     };
     asked = λ other asked. elim asked [
       | inl is ↦ still_there follows.cell other (are.asked other (inl is))
-      | inr by ↦ elim (In-push_cases by.0 read ext (subst (λ (exts : List CellExt). In by.0 exts) read_is by.1.0)) [
+      | inr by ↦ elim (In-push_cases by.0 read ext (subst (λ (exts : List ArrayExt). In by.0 exts) read_is by.1.0)) [
         | inl old ↦ still_there follows.cell other (are.asked other (inr (by.0, (old, by.1.1))))
-        | inr is ↦ used_is_left other (subst (λ (e : CellExt). In other (cells_used e)) (sym is) by.1.1)
+        | inr is ↦ used_is_left other (subst (λ (e : ArrayExt). In other (cells_used e)) (sym is) by.1.1)
       ]
     ];
   }
@@ -95,12 +95,12 @@ module _ (read read_after : List CellExt) (left left_after : List (List ℕ)) (n
 -- before the first file
 pub so_far_start : (root : List ℕ) → AreSoFar root [] (root ∷ [])
 so_far_start root = record {
-  records = record { lawful = All-nil IsLawful; cells_differ = tt };
+  records = record { lawful = All-nil IsLawfulArrayExt; cells_differ = tt };
   asked = λ name asked. elim asked [ inl is ↦ inl is | inr by ↦ absurd by.1.0 ];
 }
 
 -- a name that was read is passed over
-pub so_far_passed : (root : List ℕ) (read : List CellExt) (name : List ℕ) (left : List (List ℕ)) → is_read read name ≡ true
+pub so_far_passed : (root : List ℕ) (read : List ArrayExt) (name : List ℕ) (left : List (List ℕ)) → is_read read name ≡ true
     → AreSoFar root read (name ∷ left) → AreSoFar root read left
 so_far_passed root read name left known are = record {
   records = are.records;
@@ -115,7 +115,7 @@ so_far_passed root read name left known are = record {
 }
 
 -- where no name is left the records are those of a tree
-pub so_far_end : (root : List ℕ) (read : List CellExt) → AreSoFar root read [] → IsTree root read
+pub so_far_end : (root : List ℕ) (read : List ArrayExt) → AreSoFar root read [] → IsTree root read
 so_far_end root read are = record {
   records = are.records;
   asked = λ name asked. subst (λ (names : List (List ℕ)). In name names) (append-nil (cells_read read)) (are.asked name asked);

@@ -12,8 +12,10 @@ use Rattle.session_model.specs.declared.report.LineKind.TheVariants.{Refusal}
 use Rattle.session_model.specs.Fetches.{cause_of_fault}
 use Rattle.session_model.specs.FileTrees.{All, FileIsRefused, Reads, fetched_by}
 use Rattle.ext_model.specs.declared.records.CellExt.{CellExt}
-use Rattle.circuit_model.specs.Elements.{AreRecords, ext_of}
+use Rattle.ext_model.specs.declared.arrays.ArrayExt.{ArrayExt}
+use Rattle.circuit_model.specs.Elements.{ext_of}
 use Rattle.circuit_model.specs.Refusals.{walk_fault}
+use Rattle.plain_records.specs.Plains.{AreArrayRecords, plains}
 use Rattle.ext_loading.specs.declared.faults.ExtLoadFault.{ExtLoadFault}
 use Rattle.ext_loading.specs.declared.faults.ExtLoadFault.TheVariants as fault
 use Rattle.ext_loading.specs.declared.loading.LoadedExts.{LoadedExts}
@@ -22,27 +24,27 @@ use Rattle.ext_loading.specs.ExtFiles.{cells_read}
 use Rattle.ext_loading.specs.Readings.{cells_used, circuit_files}
 
 -- the cells that a record uses, by the positions of their records
-abbrev pub positions_used : List CellExt → CellExt → List ℕ
+abbrev pub positions_used : List ArrayExt → ArrayExt → List ℕ
 positions_used read ext = map (λ name. position_or_len (bytes_eq name) (cells_read read)) (cells_used ext)
 
 -- for each record the positions of those that it uses, in the order of its uses
-abbrev pub children_in : List CellExt → List (List ℕ)
+abbrev pub children_in : List ArrayExt → List (List ℕ)
 children_in read = map (positions_used read) read
 
 -- the record at this position is of the first cell, in the order of reading, that stands below itself
-abbrev pub IsFirstBelowItself : List CellExt → ℕ → Type 0
+abbrev pub IsFirstBelowItself : List ArrayExt → ℕ → Type 0
 IsFirstBelowItself read cell = IsLeast ◌≤◌ (IsOwnDescendant (children_in read) 0) cell
 
 -- All files at and below the root were read, and no cell stands below itself.
-pub record AreRead (files : Files) (root : List ℕ) (read : List CellExt) : Type 0 where
+pub record AreRead (files : Files) (root : List ℕ) (read : List ArrayExt) : Type 0 where
   pub reads : Reads circuit_files files [] (root ∷ []) (All read)
   pub acyclic : (cell : ℕ) → IsOwnDescendant (children_in read) 0 cell → ⊥
 
 -- All files were read, and a cell stands below itself.
 pub record TreeIsRefused (files : Files) (root : List ℕ) (fetched : List (List ℕ)) (told : ExtLoadFault) : Type 0 where
-  pub read : List CellExt
+  pub read : List ArrayExt
   pub reads : Reads circuit_files files [] (root ∷ []) (All read)
-  pub ext : CellExt
+  pub ext : ArrayExt
   pub cell : ℕ
   pub first : IsFirstBelowItself read cell
   pub is : told ≡ fault.Cycle (slice_index_or read cell ext).cell
@@ -58,13 +60,13 @@ abbrev pub LoadGives : Files → List ℕ → LoadedExts → Type 0
 LoadGives files root (Records exts) = AreRead files root exts.items
 LoadGives files root (Refused told) = (fetched : List (List ℕ)) × LoadIsRefused files root fetched told
 
--- The records may be flattened at the root: they are lawful, no two are of one cell, the root's is among them, and each use leads to one
--- of them and none back.
-pub record CanBeFlattened (root : List ℕ) (exts : List CellExt) : Type 0 where
-  pub records : AreRecords exts
+-- The records may be flattened at the root: they are lawful, no two are of one cell, and of their plain forms the root's is among them, and
+-- each use leads to one of them and none back.
+pub record CanBeFlattened (root : List ℕ) (exts : List ArrayExt) : Type 0 where
+  pub records : AreArrayRecords exts
   pub top : CellExt
-  pub found : ext_of exts root ≡ Some top
-  pub leads : walk_fault exts top ≡ None
+  pub found : ext_of (plains exts) root ≡ Some top
+  pub leads : walk_fault (plains exts) top ≡ None
 
 abbrev pub IsFitTree : List ℕ → LoadedExts → Type 0
 IsFitTree root (Records exts) = CanBeFlattened root exts.items

@@ -11,7 +11,7 @@ ghost use Rattle.ext_loading.specs.Trees.{MayFollow};
 
 use crate::faults::ExtLoadFault;
 use crate::read_exts::ReadExts;
-use ext_model::CellExt;
+use ext_model::ArrayExt;
 use ext_reading::{ExtAt, ExtReadFault, read_ext};
 use names_lists::Name;
 use outside_io::Shelf;
@@ -25,7 +25,7 @@ pub fn read_ext_file<F: Shelf>(
     shelf: &mut F,
     read: &ReadExts,
     name: &Name,
-) -> Result<CellExt, Stop<ExtLoadFault>>
+) -> Result<ArrayExt, Stop<ExtLoadFault>>
     ensures read { (files : Files) → F.files shelf.old ≡ Some files → IfOk result (λ ext. file_gives files read.now name.now ≡ Ok ext) }
     ensures refused { (files : Files) → F.files shelf.old ≡ Some files → IfRefused result (λ told. file_gives files read.now name.now ≡ Err told) }
     ensures follows { IfOk result (MayFollow read.now name.now) }
@@ -58,7 +58,7 @@ fn read_record(
     name: &Name,
     file: Name,
     text: &[u8],
-) -> Result<CellExt, Stop<ExtLoadFault>>
+) -> Result<ArrayExt, Stop<ExtLoadFault>>
     requires { length text.now ≤ LONGEST_READ_TEXT }
     ensures read { IfOk result (λ ext. read_gives read.now file (ext_in name.now text.now) ≡ Ok ext) }
     ensures refused { IfRefused result (λ told. read_gives read.now file (ext_in name.now text.now) ≡ Err told) }

@@ -13,7 +13,7 @@ ghost use Rattle.ext_loading.specs.Trees.{GivesTree, IsTree};
 use crate::faults::ExtLoadFault;
 use crate::read_exts::ReadExts;
 use crate::walks::Walk;
-use ext_model::CellExt;
+use ext_model::ArrayExt;
 use names_lists::Name;
 use outside_io::Shelf;
 use session_model::{Halt, Stop};
@@ -24,7 +24,7 @@ use use_orders::{Order, children_first};
 #[derive(Debug, Drop)]
 pub enum LoadedExts {
     /// The records of the cells, in the order in which their files were read.
-    Records(Vec<CellExt>),
+    Records(Vec<ArrayExt>),
     /// The tree is refused.
     Refused(ExtLoadFault),
 }

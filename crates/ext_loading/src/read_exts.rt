@@ -5,7 +5,7 @@ ghost use Rattle.std.specs.Str.{bytes_eq};
 ghost use Rattle.ext_loading.specs.ExtFiles.{cells_read, is_read};
 
 use crate::limits::MOST_READ_CELLS;
-use ext_model::{CellExt, UseRec};
+use ext_model::{ArrayExt, ArrayUse};
 use name_index::NameIndex;
 use std::alloc::{AllocError, Global};
 use std::marker::Model;
@@ -15,16 +15,16 @@ use use_orders::UseGraph;
 /// same time however many there are.
 #[derive(Drop)]
 pub struct ReadExts {
-    exts: Vec<CellExt>,
+    exts: Vec<ArrayExt>,
     cells: NameIndex,
 }
 
 impl Model for ReadExts {
     ghost use Rattle.std.specs.Prelude.{◌≡◌, List};
-    ghost use Rattle.ext_model.specs.declared.records.CellExt.{CellExt};
+    ghost use Rattle.ext_model.specs.declared.arrays.ArrayExt.{ArrayExt};
     ghost use Rattle.ext_loading.specs.ExtFiles.{cells_read};
 
-    ghost Value = { List CellExt };
+    ghost Value = { List ArrayExt };
 
     ghost view = { λ read. read.exts.items };
 
@@ -64,7 +64,7 @@ impl ReadExts {
     }
 
     /// Adds a record at the end.
-    pub fn push(&mut self, ext: CellExt) -> Result<(), AllocError>
+    pub fn push(&mut self, ext: ArrayExt) -> Result<(), AllocError>
         requires { is_read self.old ext.cell ≡ false }
         ensures { OnOk result (self.new ≡ self.old ++ ext ∷ []) }
     {
@@ -76,14 +76,14 @@ impl ReadExts {
     }
 
     /// The records.
-    pub fn exts(&self) -> &[CellExt]
+    pub fn exts(&self) -> &[ArrayExt]
         ensures { result.now ≡ self.now }
     {
         self.exts.as_slice()
     }
 
     /// The records.
-    pub fn into_vec(self) -> Vec<CellExt>
+    pub fn into_vec(self) -> Vec<ArrayExt>
         ensures { result.items ≡ self }
     {
         let ReadExts { exts, cells: _ } = self;

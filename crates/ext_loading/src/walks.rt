@@ -12,7 +12,7 @@ ghost use Rattle.ext_loading.specs.Trees.{work_left, AreSoFar};
 use crate::ext_files::read_ext_file;
 use crate::faults::ExtLoadFault;
 use crate::read_exts::ReadExts;
-use ext_model::{CellExt, UseRec};
+use ext_model::{ArrayExt, ArrayUse};
 use names_lists::Name;
 use outside_io::Shelf;
 use session_model::Stop;
@@ -26,7 +26,7 @@ pub struct Walk {
 }
 
 // Puts the cells of uses on top of the names that are left, so that the first of them is the next.
-fn ask_for(alloc: Global, left: &mut Vec<Name>, uses: &[UseRec]) -> Result<(), Stop<ExtLoadFault>>
+fn ask_for(alloc: Global, left: &mut Vec<Name>, uses: &[ArrayUse]) -> Result<(), Stop<ExtLoadFault>>
     ensures asked { OnOk result (left.new.items ≡ left.old.items ++ reverse (map (λ used. used.cell) uses.now)) }
     ensures inside { ComesFromInside cause_of_load result }
     ensures unrefused { IfRefused result (λ _. ⊥) }
@@ -54,7 +54,7 @@ impl Walk {
     }
 
     // Adds a record, the cells of whose uses come next.
-    fn add(&mut self, alloc: Global, ext: CellExt) -> Result<(), Stop<ExtLoadFault>>
+    fn add(&mut self, alloc: Global, ext: ArrayExt) -> Result<(), Stop<ExtLoadFault>>
         requires { is_read self.old.read ext.cell ≡ false }
         ensures read { OnOk result (self.new.read ≡ self.old.read ++ ext ∷ []) }
         ensures left { OnOk result (self.new.left.items ≡ self.old.left.items ++ reverse (cells_used ext)) }

@@ -5,3 +5,8 @@ pub mod EntryLaws
 pub mod PathNames
 pub mod PartOrders
 pub mod RecordNameLaws
+pub mod TextCuts
+pub mod IndexedNames
+pub mod ElementForms
+pub mod NearSteps
+pub mod PlainUses

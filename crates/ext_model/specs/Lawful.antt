@@ -6,7 +6,7 @@ use Rattle.finite_sets.specs.Lists.{In, Distinct}
 use Rattle.text_scan.specs.PlainNames.{is_plain_name}
 use Rattle.geo_core.specs.declared.transforms.Transform.{Transform}
 use Rattle.geo_core.specs.Images.{six_of}
-use Rattle.ext_model.specs.declared.limits.TheConstants.{MOST_CLASSES, MEASURE_EDGE, LENGTHS_EDGE, SHIFT_EDGE, FET_EDGE}
+use Rattle.ext_model.specs.declared.limits.TheConstants.{MOST_CLASSES, MEASURE_EDGE, LENGTHS_EDGE, ELEMENT_EDGE, FET_EDGE}
 use Rattle.ext_model.specs.declared.records.UseRec.{UseRec}
 use Rattle.ext_model.specs.declared.records.NodeRec.{NodeRec}
 use Rattle.ext_model.specs.declared.records.TermRec.{TermRec}
@@ -27,17 +27,17 @@ pub record AreMeasures (classes : ℕ) (measures : List (ℤ × ℤ)) : Type 0 w
   pub areas : All (λ measure. IsMeasure measure.0) measures
   pub perimeters : All (λ measure. IsMeasure measure.1) measures
 
--- The six numbers are those of an orientation and a displacement within the range.
-pub record IsPlacement (six : List ℤ) : Type 0 where
+-- The six numbers are those of an orientation and a displacement below the edge.
+pub record IsPlacement (edge : ℕ) (six : List ℤ) : Type 0 where
   pub transform : Transform
   pub numbers : six_of transform ≡ six
-  pub dx : unsigned_abs transform.dx < SHIFT_EDGE
-  pub dy : unsigned_abs transform.dy < SHIFT_EDGE
+  pub dx : unsigned_abs transform.dx < edge
+  pub dy : unsigned_abs transform.dy < edge
 
 pub record IsLawfulUse (element : UseRec) : Type 0 where
   pub cell : IsTrue (is_plain_name element.cell)
   pub id : IsTrue (is_node_name element.id)
-  pub six : IsPlacement element.six
+  pub six : IsPlacement ELEMENT_EDGE element.six
 
 pub record IsLawfulNode (classes : ℕ) (node : NodeRec) : Type 0 where
   pub names : All (λ name. IsTrue (is_node_name name)) (names_of node)

@@ -3,7 +3,11 @@ pub mod NameOrder
 pub mod Paths
 pub mod NameParts
 pub mod NameLaws
+pub mod ElementNames
 pub mod RecordNames
 pub mod Lawful
+pub mod Plain
+pub mod LawfulArrays
+pub mod Rows
 pub mod Tables
 pub mod RecordLaws

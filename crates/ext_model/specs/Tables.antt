@@ -3,7 +3,7 @@ use Rattle.std.specs.Prelude.{◌⊎◌, ◌≤◌, ℕ, Option, IsSome, option_
 use Rattle.std.specs.Ordering.{nat_cmp}
 use Rattle.std.specs.FinMap as fin_map
 use Rattle.std.specs.Coded.{Coded, code_by, coded×, coded_ℕ}
-use Rattle.ext_model.specs.declared.records.CellExt.{CellExt}
+use Rattle.ext_model.specs.declared.arrays.ArrayExt.{ArrayExt}
 use Rattle.ext_model.specs.declared.tables.CellKey.{CellKey}
 use Rattle.ext_model.specs.declared.tables.ExtEntry.{ExtEntry}
 
@@ -23,7 +23,7 @@ abbrev pub entry_of : Table → CellKey → Option ExtEntry
 entry_of table cell = fin_map.get table.entries cell.0
 
 -- the record of a cell
-abbrev pub ext_of : Table → CellKey → Option CellExt
+abbrev pub ext_of : Table → CellKey → Option ArrayExt
 ext_of table cell = option_map (λ entry. entry.ext) (entry_of table cell)
 
 -- the stamp that a cell had when its record was made

@@ -15,19 +15,27 @@
 //! of one entry changes as it should.
 #![tactic(auto)]
 
+mod arrays;
 mod circuits;
+mod ids;
 mod laws;
 mod limits;
 mod names;
 mod records;
 mod tables;
 
+pub use arrays::{ArrayExt, ArrayUse, MergeRow};
 pub use circuits::Circuit;
+pub use ids::is_use_id;
 pub use laws::{
     full_names_go_by_parts, kinds_tell_global_names, name_order_is_total,
     paths_name_nodes_or_lead_into_elements,
 };
-pub use limits::{FET_EDGE, LENGTHS_EDGE, MEASURE_EDGE, MOST_CLASSES, SHIFT_EDGE};
+pub use limits::{
+    ELEMENT_EDGE, FET_EDGE, LENGTHS_EDGE, LONGEST_USE_ID, MEASURE_EDGE, MOST_CLASSES, SHIFT_EDGE,
+};
 pub use names::{GENERATED_MARK, GLOBAL_MARK, NameKind, SLASH, compare_names, kind_of_name};
-pub use records::{CellExt, FetRec, MergeRec, NodeRec, TermRec, UseRec};
+pub use records::{
+    CellExt, FetRec, MergeRec, NodeRec, Part, TermRec, UseRec, copy_numbers, copy_parts,
+};
 pub use tables::{CellKey, ExtEntry, ExtTable};

@@ -1,4 +1,4 @@
-//! The record of a cell, as its circuit file has it.
+//! The record of a cell in its plain form: each element is a use, and each merge a record of its own.
 ghost use Rattle.std.specs.Prelude.{◌≡◌, IfOk};
 
 use names_lists::{List, Name};
@@ -83,14 +83,14 @@ pub struct CellExt {
 }
 
 /// What the lists of a record have.
-trait Part: Drop {
+pub trait Part: Drop {
     /// An equal part.
     fn copy(&self, alloc: Global) -> Result<Self, AllocError>
         ensures { IfOk result (λ copy. copy ≡ self.now) };
 }
 
-// the list of equal parts
-fn copy_parts<P: Part>(alloc: Global, parts: &List<P>) -> Result<List<P>, AllocError>
+/// The list of equal parts.
+pub fn copy_parts<P: Part>(alloc: Global, parts: &List<P>) -> Result<List<P>, AllocError>
     ensures { IfOk result (λ copy. copy ≡ parts.now) }
 {
     let parts = parts.items();
@@ -101,8 +101,8 @@ fn copy_parts<P: Part>(alloc: Global, parts: &List<P>) -> Result<List<P>, AllocE
     Ok(List::of(copies))
 }
 
-// the list of the same numbers
-fn copy_numbers<N: Copy>(alloc: Global, numbers: &List<N>) -> Result<List<N>, AllocError>
+/// The list of the same numbers.
+pub fn copy_numbers<N: Copy>(alloc: Global, numbers: &List<N>) -> Result<List<N>, AllocError>
     ensures { IfOk result (λ copy. copy ≡ numbers.now) }
 {
     Ok(List::of(Vec::from_slice(alloc, numbers.items())?))
@@ -111,16 +111,6 @@ fn copy_numbers<N: Copy>(alloc: Global, numbers: &List<N>) -> Result<List<N>, Al
 impl Part for Name {
     fn copy(&self, alloc: Global) -> Result<Name, AllocError> {
         Name::copy(self, alloc)
-    }
-}
-
-impl Part for UseRec {
-    fn copy(&self, alloc: Global) -> Result<UseRec, AllocError> {
-        Ok(UseRec {
-            cell: self.cell.copy(alloc)?,
-            id: self.id.copy(alloc)?,
-            six: self.six,
-        })
     }
 }
 
@@ -158,34 +148,6 @@ impl Part for FetRec {
             substrate: self.substrate.copy(alloc)?,
             gate: self.gate.copy(alloc)?,
             terminals: copy_parts(alloc, &self.terminals)?,
-        })
-    }
-}
-
-impl Part for MergeRec {
-    fn copy(&self, alloc: Global) -> Result<MergeRec, AllocError> {
-        Ok(MergeRec {
-            first: self.first.copy(alloc)?,
-            second: self.second.copy(alloc)?,
-            cap: self.cap,
-            measures: copy_numbers(alloc, &self.measures)?,
-        })
-    }
-}
-
-impl CellExt {
-    /// An equal record.
-    pub fn copy(&self, alloc: Global) -> Result<CellExt, AllocError>
-        ensures { IfOk result (λ copy. copy ≡ self.now) }
-    {
-        Ok(CellExt {
-            cell: self.cell.copy(alloc)?,
-            tech: self.tech.copy(alloc)?,
-            classes: copy_numbers(alloc, &self.classes)?,
-            uses: copy_parts(alloc, &self.uses)?,
-            nodes: copy_parts(alloc, &self.nodes)?,
-            fets: copy_parts(alloc, &self.fets)?,
-            merges: copy_parts(alloc, &self.merges)?,
         })
     }
 }

@@ -3,7 +3,7 @@ ghost use Rattle.std.specs.Prelude.{◌≡◌, ◌+◌, ◌≤◌, OnOk, OnErr};
 ghost use Rattle.std.specs.Option.{option_copied};
 ghost use Rattle.std.specs.FinMap as fin_map;
 
-use crate::records::CellExt;
+use crate::arrays::ArrayExt;
 use std::alloc::{AllocError, Global};
 use std::collections::HashMap;
 use std::marker::Model;
@@ -15,7 +15,7 @@ pub struct CellKey(pub usize);
 /// A record with its serial, and the stamp that the cell had when the record was made.
 #[derive(Debug, Drop)]
 pub struct ExtEntry {
-    pub ext: CellExt,
+    pub ext: ArrayExt,
     pub serial: u64,
     pub stamp: u64,
 }
@@ -103,7 +103,7 @@ impl ExtTable {
     }
 
     /// The record of a cell. It takes no memory.
-    pub fn get(&self, cell: CellKey) -> Option<&CellExt>
+    pub fn get(&self, cell: CellKey) -> Option<&ArrayExt>
         ensures { option_copied result ≡ ext_of self.now cell }
     {
         match self.entries.get(&cell.0) {

@@ -4,31 +4,33 @@ use Rattle.std.proofs.Common.{length, Result, Ok, Err, refl, sym, ap, ◌∙◌,
 use Rattle.std.specs.Prelude.{Some, None, ◌+ℤ◌, ◌<ℤ◌, nat_lt, nat_le, sum_by}
 use Rattle.std.specs.Int.{w32}
 use Rattle.std.specs.Int.RustNames.{FitsSigned, unsigned_abs}
-use Rattle.std.proofs.lemmas.Bool.{and_parts, ltb-true}
+use Rattle.std.proofs.lemmas.Bool.{and_parts, ltb-true, leb-true}
 use Rattle.std.proofs.lemmas.Bool.Decides.{Decides-int_eq, nat_tests}
 use Rattle.std.proofs.lemmas.Int.{ints}
 use Rattle.std.proofs.lemmas.List.Sums.{sum_by-cons}
+use Rattle.geo_core.specs.declared.grids.Grid.{Grid}
+use Rattle.geo_core.specs.declared.limits.TheConstants.{MOST_ELEMENTS}
+use Rattle.geo_core.specs.Elements.{indices}
 use Rattle.geo_core.specs.Images.{six_of}
 use Rattle.geo_core.specs.Orientation.{matrix, is_orientation}
 use Rattle.ext_model.specs.declared.limits.TheConstants.{MOST_CLASSES, MEASURE_EDGE, LENGTHS_EDGE, SHIFT_EDGE, FET_EDGE}
 use Rattle.ext_model.specs.declared.records.TermRec.{TermRec}
 use Rattle.ext_model.specs.Lawful.{IsMeasure, IsPlacement}
+use Rattle.ext_model.specs.LawfulArrays.{HasIdForm}
 use Rattle.ext_reading.specs.declared.faults.ExtReadFault.{ExtReadFault}
 use Rattle.ext_reading.specs.declared.faults.ExtReadFault.TheVariants.{Range, Transform as NoOrientation}
 use Rattle.ext_reading.specs.declared.limits.TheConstants.{LONGEST_READ_TEXT}
 use Rattle.ext_reading.specs.declared.lines.SideLine.{SideLine}
 use Rattle.ext_reading.specs.declared.lines.Corners.{Corners}
-use Rattle.ext_reading.specs.Parts.{is_next}
-use Rattle.ext_reading.specs.LineForms.{Six, are_corners}
-use Rattle.ext_reading.specs.Ranges.{is_short, short_in, measure_in, pair_in, measures_from, class_value_in, class_values_from, class_values_in}
-use Rattle.ext_reading.specs.Ranges.{six_in, point_in, term_in, terms_from}
+use Rattle.ext_reading.specs.Parts.{is_short, is_next}
+use Rattle.ext_reading.specs.LineForms.{Six, HasNameForm, are_corners}
+use Rattle.ext_reading.specs.Ranges.{short_in, measure_in, pair_in, measures_from, class_value_in, class_values_from, class_values_in}
+use Rattle.ext_reading.specs.Ranges.{six_in, grid_in, point_in, term_in, terms_from}
 use Rattle.geo_core.proofs.OrientationLaws.{six_of-is_orientation}
 use Rattle.ext_reading.proofs.Outcomes.{OkHas, next_has, given_has, passed_has, Each, each_none, each_push}
+use Rattle.ext_reading.proofs.UseNames.{short_fits}
 
 -- numbers in their ranges
-short_fits : (z : ℤ) → is_short z ≡ true → FitsSigned w32 z
-short_fits z is = grind (arith, ints)
-
 if_short : (z w : ℤ) (test : Bool) → is_short z ≡ test → cond test (Ok z) (Err Range) ≡ Ok w → (z ≡ w) × FitsSigned w32 w
 if_short z w true is e = let same : z ≡ w = cc in (same, subst (FitsSigned w32) same (short_fits z is))
 if_short z w false is e = absurd (let no : ⊥ = cc in no)
@@ -113,7 +115,7 @@ class_values_in-has numerals =
     bounded (Err fault) is few = tt
 
 -- the six numbers of a use
-placement_of : (a b c d e f : ℤ) → FitsSigned w32 c → FitsSigned w32 f → is_orientation a b d e ≡ true → IsPlacement (a ∷ b ∷ c ∷ d ∷ e ∷ f ∷ [])
+placement_of : (a b c d e f : ℤ) → FitsSigned w32 c → FitsSigned w32 f → is_orientation a b d e ≡ true → IsPlacement SHIFT_EDGE (a ∷ b ∷ c ∷ d ∷ e ∷ f ∷ [])
 placement_of a b c d e f across up is =
     let one = six_of-is_orientation a b d e is in
     let o = one.0.orient in
@@ -129,16 +131,41 @@ placement_of a b c d e f across up is =
       dy = short_shift f up;
     }
 
-pub six_in-has : (six : Six) → OkHas IsPlacement (six_in six)
+pub six_in-has : (six : Six) → OkHas (IsPlacement SHIFT_EDGE) (six_in six)
 six_in-has six =
-    given_has IsPlacement (short_in six.0) _ (λ a e1.
-    given_has IsPlacement (short_in six.1) _ (λ b e2.
-    given_has IsPlacement (short_in six.2) _ (λ c e3.
-    given_has IsPlacement (short_in six.3) _ (λ d e4.
-    given_has IsPlacement (short_in six.4) _ (λ e e5.
-    given_has IsPlacement (short_in six.5) _ (λ f e6.
-    passed_has IsPlacement (is_orientation a b d e) (Ok (a ∷ b ∷ c ∷ d ∷ e ∷ f ∷ [])) NoOrientation
+    given_has (IsPlacement SHIFT_EDGE) (short_in six.0) _ (λ a e1.
+    given_has (IsPlacement SHIFT_EDGE) (short_in six.1) _ (λ b e2.
+    given_has (IsPlacement SHIFT_EDGE) (short_in six.2) _ (λ c e3.
+    given_has (IsPlacement SHIFT_EDGE) (short_in six.3) _ (λ d e4.
+    given_has (IsPlacement SHIFT_EDGE) (short_in six.4) _ (λ e e5.
+    given_has (IsPlacement SHIFT_EDGE) (short_in six.5) _ (λ f e6.
+    passed_has (IsPlacement SHIFT_EDGE) (is_orientation a b d e) (Ok (a ∷ b ∷ c ∷ d ∷ e ∷ f ∷ [])) NoOrientation
     (λ is. placement_of a b c d e f (short_in-Ok six.2 c e3).1 (short_in-Ok six.5 f e6).1 is)))))))
+
+-- the grid of a use with a name of its form
+pub grid_in-has : (numbers : Option Six) (id : List ℕ) → HasNameForm numbers id → OkHas (λ grid. HasIdForm grid id) (grid_in numbers)
+grid_in-has None id form = form
+grid_in-has (Some six) id form =
+    let P : Option Grid → Type 0 = λ grid. HasIdForm grid id in
+    given_has P (short_in six.0) _ (λ xlo e1.
+    given_has P (short_in six.1) _ (λ xhi e2.
+    given_has P (short_in six.2) _ (λ xsep e3.
+    given_has P (short_in six.3) _ (λ ylo e4.
+    given_has P (short_in six.4) _ (λ yhi e5.
+    given_has P (short_in six.5) _ (λ ysep e6.
+    passed_has P (nat_le (indices xlo xhi * indices ylo yhi) MOST_ELEMENTS)
+    (Ok (Some (record { xlo = xlo; xhi = xhi; xsep = xsep; ylo = ylo; yhi = yhi; ysep = ysep }))) Range (λ few. (
+      form,
+      record {
+        xlo = (short_in-Ok six.0 xlo e1).1;
+        xhi = (short_in-Ok six.1 xhi e2).1;
+        xsep = (short_in-Ok six.2 xsep e3).1;
+        ylo = (short_in-Ok six.3 ylo e4).1;
+        yhi = (short_in-Ok six.4 yhi e5).1;
+        ysep = (short_in-Ok six.5 ysep e6).1;
+        count = leb-true (indices xlo xhi * indices ylo yhi) MOST_ELEMENTS few;
+      },
+    ))))))))
 
 -- the point of a transistor
 pub record IsPoint (point : ℤ × ℤ) : Type 0 where

@@ -18,10 +18,12 @@ use Rattle.ext_reading.specs.declared.lines.HeaderLine.{HeaderLine}
 use Rattle.ext_reading.specs.declared.lines.HeaderLine.TheVariants.{Tech, Classes}
 use Rattle.ext_reading.specs.declared.lines.ExtLine.{ExtLine}
 use Rattle.ext_reading.specs.declared.lines.ExtLine.TheVariants.{Nothing, Header, Use, Node, Equiv, Fet, Merge}
-use Rattle.ext_reading.specs.Parts.{is_path, unquoted, if_formed, word_in, cell_in, element_in, substrate_in, node_name_in, path_in, numeral_in, numerals_in}
-use Rattle.ext_reading.specs.LineForms.{tech_line, version_line, classes_line, six_numerals, use_line, node_of, node_line, equiv_line, side_in, sides_from}
+use Rattle.ext_reading.specs.Parts.{is_path, unquoted, if_formed, word_in, cell_in, substrate_in, node_name_in, path_in, numeral_in, numerals_in}
+use Rattle.ext_reading.specs.LineForms.{tech_line, version_line, classes_line, six_numerals, use_name_in, NamesUse, use_line, node_of, node_line}
+use Rattle.ext_reading.specs.LineForms.{equiv_line, side_in, sides_from}
 use Rattle.ext_reading.specs.LineForms.{are_corners, corners_in, fet_at, fet_line, merge_line, header_line, body_line, line_by_key, words_say, says}
-use Rattle.ext_reading.proofs.Outcomes.{OkHas, next_has, given_has, passed_has}
+use Rattle.ext_reading.proofs.Outcomes.{OkHas, next_has, given_has, passed_has, value_has}
+use Rattle.ext_reading.proofs.UseNames.{IsNamed, use_name-formed}
 
 -- a word of its form
 formed_has : (test : List ℕ → Bool) (word : List ℕ) → OkHas (λ name. test name ≡ true) (if_formed (test word) word)
@@ -34,7 +36,7 @@ IsFormedHeader _ = Unit {0}
 
 pub record IsFormedUse (line : UseLine) : Type 0 where
   pub cell : is_plain_name line.cell ≡ true
-  pub id : is_node_name line.id ≡ true
+  pub named : IsNamed line.name
 
 pub record IsFormedNode (line : NodeLine) : Type 0 where
   pub name : is_node_name line.name ≡ true
@@ -76,13 +78,13 @@ classes_formed words = given_has IsFormedHeader (numerals_in words) (λ values. 
 header_formed : (most : ℕ) (found : Result HeaderLine ExtReadFault) → OkHas IsFormedHeader found → OkHas (IsFormed most) (header_line found)
 header_formed most found is = next_has IsFormedHeader (IsFormed most) found (λ header. Ok (Header header)) is (λ header formed. formed)
 
-use_formed : (most : ℕ) (words : List (List ℕ)) → OkHas (IsFormed most) (use_line words)
+pub use_formed : (most : ℕ) (words : List (List ℕ)) → OkHas (IsFormed most) (use_line words)
 use_formed most [] = tt
 use_formed most (cell ∷ []) = tt
-use_formed most (cell ∷ id ∷ words) =
+use_formed most (cell ∷ name ∷ words) =
     next_has (λ n. is_plain_name n ≡ true) (IsFormed most) (cell_in cell) _ (formed_has is_plain_name cell) (λ c plain.
-    next_has (λ n. is_node_name n ≡ true) (IsFormed most) (element_in id) _ (formed_has is_node_name id) (λ i named.
-    given_has (IsFormed most) (six_numerals words) _ (λ six is. record { cell = plain; id = named })))
+    next_has IsNamed (IsFormed most) (use_name_in name) _ (use_name-formed name) (λ n named.
+    given_has (IsFormed most) (six_numerals words) _ (λ six is. record { cell = plain; named = named })))
 
 node_formed : (most : ℕ) (name cap x y kind : List ℕ) (measures : List (Option ℤ)) → OkHas (IsFormed most) (node_of name cap x y kind measures)
 node_formed most name cap x y kind measures =
@@ -204,3 +206,20 @@ words_formed most (key ∷ words) few = key_formed most key words (omega arith)
 -- what a line says is of its form
 pub says-formed : (most : ℕ) (line : List ℕ) → length line ≤ most → OkHas (IsFormed most) (says line)
 says-formed most line short = words_formed most (words_of line) (let few = length-words_of line in omega arith)
+
+names_use : (most : ℕ) (said : ExtLine) → IsFormed most said → NamesUse said
+names_use most (Use line) formed = formed.named
+names_use most Nothing formed = tt
+names_use most (Header header) formed = tt
+names_use most (Node line) formed = tt
+names_use most (Equiv name alias) formed = tt
+names_use most (Fet line) formed = tt
+names_use most (Merge line) formed = tt
+
+-- a use that a line says has a name of its form
+pub says-named : (line : List ℕ) (said : ExtLine) → says line ≡ Ok said → NamesUse said
+says-named line said e =
+    names_use (length line) said (value_has (IsFormed (length line)) (says line) said (says-formed (length line) line (omega arith)) e)
+
+pub use_line-named : (words : List (List ℕ)) (said : ExtLine) → use_line words ≡ Ok said → NamesUse said
+use_line-named words said e = names_use 0 said (value_has (IsFormed 0) (use_line words) said (use_formed 0 words) e)

@@ -1,8 +1,9 @@
 -- What a text without a fault says is lawful.
-use Rattle.std.proofs.Common.{◌≡◌, ◌⊎◌, ◌≤◌, ◌<◌, ◌+◌, ◌-◌, ◌==◌, ◌&&◌, ℕ, zero, suc, Bool, true, false, not, cond, Option, List, [], ◌∷◌, ◌++◌}
+use Rattle.std.proofs.Common.{◌≡◌, ◌≤◌, ◌<◌, ◌+◌, ◌-◌, ◌==◌, ◌&&◌, ℕ, zero, suc, Bool, true, false, not, cond, Option, List, [], ◌∷◌, ◌++◌}
+use Rattle.geo_core.specs.declared.grids.Grid.{Grid}
 use Rattle.std.proofs.Common.{length, take, Result, Ok, Err, refl, sym, ap, ◌∙◌, subst, arith, inl, inr}
 use Rattle.std.specs.Prelude.{codes, Some, None, fold, nat_lt, slice_index}
-use Rattle.std.specs.List.{list_all, list_any, position, position_or_len, slice_split, before_first, after_first, join_with_byte}
+use Rattle.std.specs.List.{list_all, list_any, range_with_len, position, position_or_len, slice_split, before_first, after_first, join_with_byte}
 use Rattle.std.specs.Str.{bytes_eq}
 use Rattle.std.specs.Str.Lines.{strip_carriage_return}
 use Rattle.std.proofs.lemmas.Bool.{ltb-true}
@@ -10,7 +11,8 @@ use Rattle.std.proofs.lemmas.List.{length-take, length-drop}
 use Rattle.std.proofs.lemmas.List.Splits.{slice_split_first, length-slice_split, join_with_byte-slice_split}
 use Rattle.std.proofs.lemmas.Slice.Eq.{bytes_eq-Decides}
 use Rattle.finite_sets.specs.Lists.{In, Distinct}
-use Rattle.finite_sets.proofs.Members.{In-append_left, In-push, In-push_cases}
+use Rattle.finite_sets.proofs.Images.{In-flat_map_source}
+use Rattle.finite_sets.proofs.Members.{In-append_left, In-append_right, In-push, In-map_source}
 use Rattle.finite_sets.proofs.Searches.{list_all-In, All-from_In, In-from_list_any}
 use Rattle.text_scan.specs.Lines.{lines_of, is_line_feed}
 use Rattle.text_scan.specs.Words.{words_of}
@@ -19,34 +21,45 @@ use Rattle.text_form.specs.Folds.{first_fault_or}
 use Rattle.text_form.specs.SaidLines.{and_then}
 use Rattle.text_form.proofs.FoldLaws.{passed, text_state-Ok}
 use Rattle.ext_model.specs.declared.names.TheConstants.{SLASH}
+use Rattle.ext_model.specs.declared.records.UseRec.{UseRec}
 use Rattle.ext_model.specs.declared.records.FetRec.{FetRec}
 use Rattle.ext_model.specs.declared.records.MergeRec.{MergeRec}
 use Rattle.ext_model.specs.declared.records.CellExt.{CellExt}
+use Rattle.ext_model.specs.declared.arrays.ArrayUse.{ArrayUse}
+use Rattle.ext_model.specs.declared.arrays.MergeRow.{MergeRow}
 use Rattle.ext_model.specs.NodeNames.{is_node_name}
 use Rattle.ext_model.specs.RecordNames.{node_names, element_names}
 use Rattle.ext_model.specs.Paths.{path_text}
-use Rattle.ext_model.specs.Lawful.{IsLawful, IsLawfulUse, IsLawfulNode, IsLawfulTerm, IsLawfulFet, IsLawfulMerge, LeadsIntoElement, IsPathIn}
+use Rattle.ext_model.specs.LawfulArrays.{IsArrayUse, IsMergeRow, IsLawfulArrayExt}
+use Rattle.ext_model.specs.Plain.{plain, plain_uses, plain_merge, plain_merges, raised}
+use Rattle.ext_model.proofs.PlainUses.{elements_are_lawful}
+use Rattle.element_index.specs.declared.uses.UseElements.{UseElements}
+use Rattle.element_index.specs.GivenNames.{element_ids, names_in, is_among, gives_again}
+use Rattle.ext_model.specs.Lawful.{IsLawfulUse, IsLawfulNode, IsLawfulTerm, IsLawfulFet, IsLawfulMerge, LeadsIntoElement, IsPathIn}
 use Rattle.ext_reading.specs.declared.faults.ExtReadFault.{ExtReadFault}
 use Rattle.ext_reading.specs.declared.faults.ExtReadFault.TheVariants.{BadLine, NoHeader, Version as OtherVersion, NameTwice, Range, UseTwice, NoName}
 use Rattle.ext_reading.specs.declared.limits.TheConstants.{LONGEST_READ_TEXT, MOST_USES}
 use Rattle.ext_reading.specs.declared.lines.HeaderLine.{HeaderLine}
 use Rattle.ext_reading.specs.declared.lines.HeaderLine.TheVariants.{Tech, Timestamp, Version, Style, Scale, Classes}
+use Rattle.ext_reading.specs.declared.lines.Version as lines
+use Rattle.ext_reading.specs.declared.lines.Version.TheVariants.{One, Two, Other}
 use Rattle.ext_reading.specs.declared.lines.UseLine.{UseLine}
 use Rattle.ext_reading.specs.declared.lines.ExtLine.{ExtLine}
 use Rattle.ext_reading.specs.declared.lines.ExtLine.TheVariants.{Nothing, Header, Use, Node, Equiv, Fet, Merge}
 use Rattle.ext_reading.specs.declared.outlines.Outline.{Outline}
 use Rattle.ext_reading.specs.Parts.{is_slash, is_path}
 use Rattle.ext_reading.specs.LineForms.{use_line, words_say, says}
-use Rattle.ext_reading.specs.Ranges.{class_values_in, six_in}
-use Rattle.ext_reading.specs.Drafts.{Draft, nothing_yet, is_among, is_incomplete, was_seen, with_seen, is_other_version, with_header, takes_header, takes_use}
-use Rattle.ext_reading.specs.Drafts.{node_from, takes_alias, fet_from, has_its_nodes, leads, merge_from}
-use Rattle.ext_reading.specs.Drafts.{takes_record, fits_classes, takes_body, takes, step, finish}
-use Rattle.ext_reading.specs.ExtTexts.{with_name, with_element_said, with_words, with_element, outline_of, draft_in, record_of}
+use Rattle.ext_reading.specs.Ranges.{class_values_in, grid_in, six_in}
+use Rattle.ext_reading.specs.Drafts.{Draft, nothing_yet, is_incomplete, was_seen, with_seen, is_other_version, with_header, takes_header, takes_use}
+use Rattle.ext_reading.specs.Drafts.{node_from, takes_alias, fet_from, has_its_nodes, leads, all_lead, range_in, merge_from, elements_known}
+use Rattle.ext_reading.specs.Drafts.{takes_record, fits_classes, fits_version, takes_body, takes, step, finish}
+use Rattle.ext_reading.specs.ExtTexts.{with_use_said, with_words, with_line, outline_of, draft_in, record_of}
 use Rattle.ext_reading.proofs.NameLaws.{place_found}
-use Rattle.ext_reading.proofs.OutlineLaws.{kept_element}
-use Rattle.ext_reading.proofs.Outcomes.{OkHas, next_has, given_has, passed_has, failed_has, value_has, Each, each_none}
+use Rattle.ext_reading.proofs.ElementIds.{names_push, names_given}
+use Rattle.ext_reading.proofs.OutlineLaws.{kept_use, IsNameOf, use_cases}
+use Rattle.ext_reading.proofs.Outcomes.{OkHas, next_has, given_has, passed_has, failed_has, value_has, Each, each_none, range_in_bounds}
 use Rattle.ext_reading.proofs.LawfulLines.{IsFormed, says-formed}
-use Rattle.ext_reading.proofs.SoundRecords.{IsSoundFet, IsSoundMerge, IsSound}
+use Rattle.ext_reading.proofs.SoundRecords.{IsSoundFet, IsSoundMerge, IsSoundUse, IsSound}
 use Rattle.ext_reading.proofs.SoundDrafts.{takes-sound, has_tech}
 
 -- no line is longer than its text
@@ -78,168 +91,189 @@ lines_short : (text : List ℕ) → Each (λ line. length line ≤ length text) 
 lines_short text = lines_short_within (length text) text (omega arith)
 
 -- each line keeps what is read sound
-step-sound : (outline : Outline) (number : ℕ) (draft : Draft) (line : List ℕ) → IsSound outline.elements draft → length line ≤ LONGEST_READ_TEXT
-    → OkHas (IsSound outline.elements) (step outline number draft line)
+step-sound : (outline : Outline) (number : ℕ) (draft : Draft) (line : List ℕ) → IsSound outline draft → length line ≤ LONGEST_READ_TEXT
+    → OkHas (IsSound outline) (step outline number draft line)
 step-sound outline number draft line is short =
-    next_has (IsFormed LONGEST_READ_TEXT) (IsSound outline.elements) (says line) (takes outline.elements (number == outline.last) draft)
-    (says-formed LONGEST_READ_TEXT line short) (λ said formed. takes-sound outline.elements (number == outline.last) draft said is formed)
+    next_has (IsFormed LONGEST_READ_TEXT) (IsSound outline) (says line) (takes outline (number == outline.last) draft)
+    (says-formed LONGEST_READ_TEXT line short) (λ said formed. takes-sound outline (number == outline.last) draft said is formed)
 
-lines-sound : (outline : Outline) (number : ℕ) (start : Draft) (lines : List (List ℕ)) (last : Draft) → IsSound outline.elements start
-    → Each (λ line. length line ≤ LONGEST_READ_TEXT) lines → first_fault_or (step outline) number start lines ≡ Ok last → IsSound outline.elements last
-lines-sound outline number start [] last is short e = let same : start ≡ last = cc in subst (IsSound outline.elements) same is
+lines-sound : (outline : Outline) (number : ℕ) (start : Draft) (lines : List (List ℕ)) (last : Draft) → IsSound outline start
+    → Each (λ line. length line ≤ LONGEST_READ_TEXT) lines → first_fault_or (step outline) number start lines ≡ Ok last → IsSound outline last
+lines-sound outline number start [] last is short e = let same : start ≡ last = cc in subst (IsSound outline) same is
 lines-sound outline number start (line ∷ lines) last is short e =
     let p = passed number (step outline number start line) (λ next. first_fault_or (step outline) (number + 1) next lines) last e in
     lines-sound outline (number + 1) p.0 lines last
-    (value_has (IsSound outline.elements) (step outline number start line) p.0 (step-sound outline number start line is (short line (inl refl))) p.1)
+    (value_has (IsSound outline) (step outline number start line) p.0 (step-sound outline number start line is (short line (inl refl))) p.1)
     (λ l h. short l (inr h)) p.2
 
-nothing_sound : (elements : List (List ℕ)) → IsSound elements nothing_yet
-nothing_sound elements = record {
+nothing_sound : (outline : Outline) → IsSound outline nothing_yet
+nothing_sound outline = record {
   tech = λ e. absurd (let no : ⊥ = cc in no);
   classes = omega arith;
   no_nodes = λ e. refl;
   no_merges = λ e. refl;
   uses = λ x h. absurd h;
-  ids = refl;
-  ids_differ = tt;
+  given = refl;
+  given_differ = tt;
   nodes = λ x h. absurd h;
   names = record { known = λ x h. absurd h; listed = λ x h. absurd h; differ = tt; count = refl; within = λ x h. absurd h };
   fets = λ x h. absurd h;
   merges = λ x h. absurd h;
 }
 
--- only a use changes which elements there are
-abbrev SameIds : Draft → Draft → Type 0
-SameIds draft next = next.ids ≡ draft.ids
+-- only a use changes which uses there are
+abbrev SameUses : Draft → Draft → Type 0
+SameUses draft next = next.given ≡ draft.given
 
-header_ids : (draft : Draft) (header : HeaderLine) → OkHas (SameIds draft) (with_header (record draft { seen = with_seen draft.seen header }) header)
-header_ids draft (Tech name) = refl
-header_ids draft Timestamp = refl
-header_ids draft (Version is_one) = refl
-header_ids draft Style = refl
-header_ids draft Scale = refl
-header_ids draft (Classes values) = given_has (SameIds draft) (class_values_in values) _ (λ found e. refl)
+header_uses : (draft : Draft) (header : HeaderLine) → OkHas (SameUses draft) (with_header (record draft { seen = with_seen draft.seen header }) header)
+header_uses draft (Tech name) = refl
+header_uses draft Timestamp = refl
+header_uses draft (Version version) = refl
+header_uses draft Style = refl
+header_uses draft Scale = refl
+header_uses draft (Classes values) = given_has (SameUses draft) (class_values_in values) _ (λ found e. refl)
 
-takes_header-ids : (is_last : Bool) (draft : Draft) (header : HeaderLine) → OkHas (SameIds draft) (takes_header is_last draft header)
-takes_header-ids is_last draft header =
-    failed_has (SameIds draft) draft.begun _ BadLine (λ e.
-    failed_has (SameIds draft) (is_last && is_incomplete (with_seen draft.seen header)) _ NoHeader (λ e1.
-    failed_has (SameIds draft) (is_other_version header) _ OtherVersion (λ e2.
-    failed_has (SameIds draft) (was_seen draft.seen header) _ NameTwice (λ e3. header_ids draft header))))
+takes_header-uses : (is_last : Bool) (draft : Draft) (header : HeaderLine) → OkHas (SameUses draft) (takes_header is_last draft header)
+takes_header-uses is_last draft header =
+    failed_has (SameUses draft) draft.begun _ BadLine (λ e.
+    failed_has (SameUses draft) (is_last && is_incomplete (with_seen draft.seen header)) _ NoHeader (λ e1.
+    failed_has (SameUses draft) (is_other_version header) _ OtherVersion (λ e2.
+    failed_has (SameUses draft) (was_seen draft.seen header) _ NameTwice (λ e3. header_uses draft header))))
 
-alias_ids : (draft : Draft) (place : Option ℕ) (alias : List ℕ) → OkHas (SameIds draft) (takes_alias draft place alias)
-alias_ids draft (Some place) alias = refl
-alias_ids draft None alias = tt
+alias_uses : (draft : Draft) (place : Option ℕ) (alias : List ℕ) → OkHas (SameUses draft) (takes_alias draft place alias)
+alias_uses draft (Some place) alias = refl
+alias_uses draft None alias = tt
 
--- the line says a use of this name
+-- the line says a use that has this name
 abbrev SaysUse : List ℕ → ExtLine → Type 0
-SaysUse id (Use line) = line.id ≡ id
-SaysUse id _ = ⊥
+SaysUse name (Use line) = IsNameOf name line.name
+SaysUse name _ = ⊥
 
--- the elements so far, and the one that the line says
-record HasIds (draft : Draft) (said : ExtLine) (next : Draft) : Type 0 where
-  kept : Each (λ id. In id next.ids) draft.ids
-  added : (id : List ℕ) → SaysUse id said → In id next.ids
+-- the names so far, and those of the use that the line says
+record HasNames (draft : Draft) (said : ExtLine) (next : Draft) : Type 0 where
+  kept : Each (λ name. In name (names_in next.given)) (names_in draft.given)
+  added : (name : List ℕ) → SaysUse name said → In name (names_in next.given)
 
-same_has : (draft : Draft) (said : ExtLine) (next : Draft) → ((id : List ℕ) → SaysUse id said → ⊥) → SameIds draft next → HasIds draft said next
+same_has : (draft : Draft) (said : ExtLine) (next : Draft) → ((name : List ℕ) → SaysUse name said → ⊥) → SameUses draft next → HasNames draft said next
 same_has draft said next none same = record {
-  kept = λ id h. subst (λ (l : List (List ℕ)). In id l) (sym same) h;
-  added = λ id is. absurd (none id is);
+  kept = λ name h. subst (λ (l : List UseElements). In name (names_in l)) (sym same) h;
+  added = λ name is. absurd (none name is);
 }
 
-same_ids : (draft : Draft) (said : ExtLine) (found : Result Draft ExtReadFault) → ((id : List ℕ) → SaysUse id said → ⊥) → OkHas (SameIds draft) found
-    → OkHas (HasIds draft said) found
-same_ids draft said (Ok next) none same = same_has draft said next none same
-same_ids draft said (Err fault) none same = tt
+same_names : (draft : Draft) (said : ExtLine) (found : Result Draft ExtReadFault) → ((name : List ℕ) → SaysUse name said → ⊥)
+    → OkHas (SameUses draft) found → OkHas (HasNames draft said) found
+same_names draft said (Ok next) none same = same_has draft said next none same
+same_names draft said (Err fault) none same = tt
 
-use_ids : (draft : Draft) (line : UseLine) → OkHas (HasIds draft (Use line)) (takes_use (record draft { begun = true }) line)
-use_ids draft line =
-    passed_has (HasIds draft (Use line)) (nat_lt (length draft.uses) MOST_USES) _ Range (λ few.
-    given_has (HasIds draft (Use line)) (six_in line.six) _ (λ six e.
-    failed_has (HasIds draft (Use line)) (is_among line.id draft.ids) _ UseTwice (λ new. record {
-      kept = λ id h. In-append_left id draft.ids (line.id ∷ []) h;
-      added = λ id is. subst (λ (n : List ℕ). In n (draft.ids ++ line.id ∷ [])) is (In-push draft.ids line.id);
-    })))
+use_added : (draft : Draft) (line : UseLine) (used : UseElements) → used.id ≡ line.name.id → grid_in line.name.grid ≡ Ok used.grid
+    → (next : Draft) → next.given ≡ draft.given ++ used ∷ [] → HasNames draft (Use line) next
+use_added draft line used same_id read next more =
+    let names = names_in draft.given in
+    let whole = ap names_in more ∙ names_push draft.given used in
+    record {
+      kept = λ name h. subst (λ (l : List (List ℕ)). In name l) (sym whole) (In-append_left name names (element_ids used.id used.grid) h);
+      added = λ name is.
+          let grid : is.grid ≡ used.grid = same_Ok is.grid used.grid (sym is.read ∙ read) in
+          let there : In name (element_ids used.id used.grid) =
+          subst (λ (id : List ℕ). In name (element_ids id used.grid)) (sym same_id)
+          (subst (λ (g : Option Grid). In name (element_ids line.name.id g)) grid is.there) in
+          subst (λ (l : List (List ℕ)). In name l) (sym whole) (In-append_right name names (element_ids used.id used.grid) there);
+    }
+  where
+    same_Ok : (a b : Option Grid) → ◌≡◌ {A = Result (Option Grid) ExtReadFault} (Ok a) (Ok b) → a ≡ b
+    same_Ok a b e = cc
 
-record_ids : (elements : List (List ℕ)) (draft : Draft) (said : ExtLine) → OkHas (HasIds draft said)
-    (takes_record elements (record draft { begun = true }) said)
-record_ids elements draft Nothing = same_has draft Nothing (record draft { begun = true }) (λ id no. no) refl
-record_ids elements draft (Header header) = same_has draft (Header header) (record draft { begun = true }) (λ id no. no) refl
-record_ids elements draft (Use line) = use_ids draft line
-record_ids elements draft (Node line) =
-    same_ids draft (Node line) _ (λ id no. no)
-    (failed_has (SameIds draft) (is_among line.name draft.names) _ NameTwice (λ e. given_has (SameIds draft) (node_from line) _ (λ node e1. refl)))
-record_ids elements draft (Equiv name alias) =
-    same_ids draft (Equiv name alias) _ (λ id no. no)
-    (failed_has (SameIds draft) (is_among alias draft.names) _ NameTwice (λ e. alias_ids (record draft { begun = true })
+use_names : (draft : Draft) (line : UseLine) → OkHas (HasNames draft (Use line)) (takes_use (record draft { begun = true }) line)
+use_names draft line =
+    passed_has (HasNames draft (Use line)) (nat_lt (length draft.uses) MOST_USES) _ Range (λ few.
+    given_has (HasNames draft (Use line)) (grid_in line.name.grid) _ (λ grid read.
+    given_has (HasNames draft (Use line)) (six_in line.six) _ (λ six e.
+    let used : UseElements = record { id = line.name.id; grid = grid } in
+    failed_has (HasNames draft (Use line)) (gives_again draft.given used) _ UseTwice (λ new. use_added draft line used refl read _ refl))))
+
+record_names : (outline : Outline) (draft : Draft) (said : ExtLine) → OkHas (HasNames draft said)
+    (takes_record outline (record draft { begun = true }) said)
+record_names outline draft Nothing = same_has draft Nothing (record draft { begun = true }) (λ name no. no) refl
+record_names outline draft (Header header) = same_has draft (Header header) (record draft { begun = true }) (λ name no. no) refl
+record_names outline draft (Use line) = use_names draft line
+record_names outline draft (Node line) =
+    same_names draft (Node line) _ (λ name no. no)
+    (failed_has (SameUses draft) (is_among line.name draft.names) _ NameTwice (λ e. given_has (SameUses draft) (node_from line) _ (λ node e1. refl)))
+record_names outline draft (Equiv name alias) =
+    same_names draft (Equiv name alias) _ (λ name no. no)
+    (failed_has (SameUses draft) (is_among alias draft.names) _ NameTwice (λ e. alias_uses (record draft { begun = true })
     (position (bytes_eq name) draft.names) alias))
-record_ids elements draft (Fet line) =
-    same_ids draft (Fet line) _ (λ id no. no)
-    (given_has (SameIds draft) (fet_from line) _ (λ fet e. passed_has (SameIds draft) (has_its_nodes draft.names fet) _ NoName (λ e1. refl)))
-record_ids elements draft (Merge line) =
-    same_ids draft (Merge line) _ (λ id no. no)
-    (given_has (SameIds draft) (merge_from line) _ (λ merge e.
-    passed_has (SameIds draft) (leads elements draft.names merge.first && leads elements draft.names merge.second) _ NoName (λ e1. refl)))
+record_names outline draft (Fet line) =
+    same_names draft (Fet line) _ (λ name no. no)
+    (given_has (SameUses draft) (fet_from line) _ (λ fet e. passed_has (SameUses draft) (has_its_nodes draft.names fet) _ NoName (λ e1. refl)))
+record_names outline draft (Merge line) =
+    let elements = elements_known draft.version outline in
+    same_names draft (Merge line) _ (λ name no. no)
+    (given_has (SameUses draft) (merge_from line (range_in draft.version line.second)) _ (λ row e.
+    passed_has (SameUses draft) (leads elements draft.names row.first && all_lead elements draft.names row.second row.count) _ NoName (λ e1. refl)))
 
-body_ids : (elements : List (List ℕ)) (draft : Draft) (said : ExtLine) → OkHas (HasIds draft said) (takes_body elements draft said)
-body_ids elements draft said =
-    failed_has (HasIds draft said) (not (fits_classes draft said)) _ BadLine (λ e.
-    failed_has (HasIds draft said) (is_incomplete draft.seen) _ NoHeader (λ e1. record_ids elements draft said))
+body_names : (outline : Outline) (draft : Draft) (said : ExtLine) → OkHas (HasNames draft said) (takes_body outline draft said)
+body_names outline draft said =
+    failed_has (HasNames draft said) (not (fits_classes draft said && fits_version draft.version said)) _ BadLine (λ e.
+    failed_has (HasNames draft said) (is_incomplete draft.seen) _ NoHeader (λ e1. record_names outline draft said))
 
-takes-ids : (elements : List (List ℕ)) (is_last : Bool) (draft : Draft) (said : ExtLine) → OkHas (HasIds draft said) (takes elements is_last draft said)
-takes-ids elements is_last draft Nothing = same_has draft Nothing draft (λ id no. no) refl
-takes-ids elements is_last draft (Header header) = same_ids draft (Header header) _ (λ id no. no) (takes_header-ids is_last draft header)
-takes-ids elements is_last draft (Use line) = body_ids elements draft (Use line)
-takes-ids elements is_last draft (Node line) = body_ids elements draft (Node line)
-takes-ids elements is_last draft (Equiv name alias) = body_ids elements draft (Equiv name alias)
-takes-ids elements is_last draft (Fet line) = body_ids elements draft (Fet line)
-takes-ids elements is_last draft (Merge line) = body_ids elements draft (Merge line)
+takes-names : (outline : Outline) (is_last : Bool) (draft : Draft) (said : ExtLine) → OkHas (HasNames draft said) (takes outline is_last draft said)
+takes-names outline is_last draft Nothing = same_has draft Nothing draft (λ name no. no) refl
+takes-names outline is_last draft (Header header) = same_names draft (Header header) _ (λ name no. no) (takes_header-uses is_last draft header)
+takes-names outline is_last draft (Use line) = body_names outline draft (Use line)
+takes-names outline is_last draft (Node line) = body_names outline draft (Node line)
+takes-names outline is_last draft (Equiv name alias) = body_names outline draft (Equiv name alias)
+takes-names outline is_last draft (Fet line) = body_names outline draft (Fet line)
+takes-names outline is_last draft (Merge line) = body_names outline draft (Merge line)
 
--- the names that a line adds are those of uses
-name_cases : (names : List (List ℕ)) (name id : List ℕ) → In id (with_name names name) → In id names ⊎ (name ≡ id)
-name_cases names name id h = step (is_among name names) h
+-- the names of known uses are names of the draft
+abbrev Met : List UseElements → Draft → Type 0
+Met known draft = Each (λ name. In name (names_in draft.given)) (names_in known)
+
+said_names : (arrays : Bool) (outline : Outline) (known : List UseElements) (is_last : Bool) (draft next : Draft) (found : Result ExtLine ExtReadFault)
+    → Met known draft → and_then found (takes outline is_last draft) ≡ Ok next → Met (with_use_said arrays known found) next
+said_names arrays outline known is_last draft next (Err fault) met e = absurd (let no : ⊥ = cc in no)
+said_names arrays outline known is_last draft next (Ok said) met e =
+    step said (value_has (HasNames draft said) (takes outline is_last draft said) next (takes-names outline is_last draft said) e)
   where
-    step : (t : Bool) → In id (cond t names (names ++ name ∷ [])) → In id names ⊎ (name ≡ id)
-    step true h = inl h
-    step false h = In-push_cases id names name h
+    step : (said : ExtLine) → HasNames draft said next → Met (with_use_said arrays known (Ok said)) next
+    step (Use line) has = λ name h. elim (use_cases arrays known line.name name h) [ inl there ↦ has.kept name (met name there) | inr is ↦ has.added name is ]
+    step Nothing has = λ name h. has.kept name (met name h)
+    step (Header header) has = λ name h. has.kept name (met name h)
+    step (Node line) has = λ name h. has.kept name (met name h)
+    step (Equiv one alias) has = λ name h. has.kept name (met name h)
+    step (Fet line) has = λ name h. has.kept name (met name h)
+    step (Merge line) has = λ name h. has.kept name (met name h)
 
-said_ids : (elements known : List (List ℕ)) (is_last : Bool) (draft next : Draft) (found : Result ExtLine ExtReadFault)
-    → Each (λ id. In id draft.ids) known → and_then found (takes elements is_last draft) ≡ Ok next → Each (λ id. In id next.ids) (with_element_said known found)
-said_ids elements known is_last draft next (Err fault) met e = absurd (let no : ⊥ = cc in no)
-said_ids elements known is_last draft next (Ok said) met e = step said (value_has (HasIds draft said) (takes elements is_last draft said) next
-    (takes-ids elements is_last draft said) e)
+words_names : (arrays : Bool) (outline : Outline) (known : List UseElements) (is_last : Bool) (draft next : Draft) (words : List (List ℕ)) → Met known draft
+    → and_then (words_say words) (takes outline is_last draft) ≡ Ok next → Met (with_words arrays known words) next
+words_names arrays outline known is_last draft next [] met e = said_names arrays outline known is_last draft next (Ok Nothing) met e
+words_names arrays outline known is_last draft next (key ∷ words) met e = by_key (bytes_eq key (codes "use")) refl
   where
-    step : (said : ExtLine) → HasIds draft said next → Each (λ id. In id next.ids) (with_element_said known (Ok said))
-    step (Use line) has = λ id h. elim (name_cases known line.id id h) [ inl there ↦ has.kept id (met id there) | inr e ↦ has.added id e ]
-    step Nothing has = λ id h. has.kept id (met id h)
-    step (Header header) has = λ id h. has.kept id (met id h)
-    step (Node line) has = λ id h. has.kept id (met id h)
-    step (Equiv name alias) has = λ id h. has.kept id (met id h)
-    step (Fet line) has = λ id h. has.kept id (met id h)
-    step (Merge line) has = λ id h. has.kept id (met id h)
-
-words_ids : (elements known : List (List ℕ)) (is_last : Bool) (draft next : Draft) (words : List (List ℕ)) → Each (λ id. In id draft.ids) known
-    → and_then (words_say words) (takes elements is_last draft) ≡ Ok next → Each (λ id. In id next.ids) (with_words known words)
-words_ids elements known is_last draft next [] met e = said_ids elements known is_last draft next (Ok Nothing) met e
-words_ids elements known is_last draft next (key ∷ words) met e = by_key (bytes_eq key (codes "use")) refl
-  where
-    by_key : (t : Bool) → bytes_eq key (codes "use") ≡ t → Each (λ id. In id next.ids) (cond t (with_element_said known (use_line words)) known)
+    by_key : (t : Bool) → bytes_eq key (codes "use") ≡ t → Met (cond t (with_use_said arrays known (use_line words)) known) next
     by_key true is =
         let same : key ≡ codes "use" = (bytes_eq-Decides key (codes "use")).0 is in
-        said_ids elements known is_last draft next (use_line words) met
-        (ap (λ (k : List ℕ). and_then (words_say (k ∷ words)) (takes elements is_last draft)) (sym same) ∙ e)
-    by_key false is = λ id h.
-        said_ids elements known is_last draft next (words_say (key ∷ words)) met e id (kept_element known (words_say (key ∷ words)) id h)
+        said_names arrays outline known is_last draft next (use_line words) met
+        (ap (λ (k : List ℕ). and_then (words_say (k ∷ words)) (takes outline is_last draft)) (sym same) ∙ e)
+    by_key false is = λ name h.
+        said_names arrays outline known is_last draft next (words_say (key ∷ words)) met e name
+        (kept_use arrays known (words_say (key ∷ words)) name h)
 
 -- where all lines are read, each element of the outline is there
-lines_ids : (outline : Outline) (number : ℕ) (known : List (List ℕ)) (start : Draft) (lines : List (List ℕ)) (last : Draft) → Each (λ id. In id start.ids) known
-    → first_fault_or (step outline) number start lines ≡ Ok last → Each (λ id. In id last.ids) (fold with_element known lines)
-lines_ids outline number known start [] last met e =
-    let same : start ≡ last = cc in subst (λ (d : Draft). Each (λ id. In id d.ids) known) same met
-lines_ids outline number known start (line ∷ lines) last met e =
+lines_names : (arrays : Bool) (outline : Outline) (number : ℕ) (known : List UseElements) (start : Draft) (lines : List (List ℕ)) (last : Draft)
+    → Met known start → first_fault_or (step outline) number start lines ≡ Ok last → Met (fold (with_line arrays) known lines) last
+lines_names arrays outline number known start [] last met e = let same : start ≡ last = cc in subst (λ (d : Draft). Met known d) same met
+lines_names arrays outline number known start (line ∷ lines) last met e =
     let p = passed number (step outline number start line) (λ next. first_fault_or (step outline) (number + 1) next lines) last e in
-    lines_ids outline (number + 1) (with_element known line) p.0 lines last
-    (words_ids outline.elements known (number == outline.last) start p.0 (words_of line) met p.1) p.2
+    lines_names arrays outline (number + 1) (with_line arrays known line) p.0 lines last
+    (words_names arrays outline known (number == outline.last) start p.0 (words_of line) met p.1) p.2
+
+known_met : (version : Option lines.Version) (outline : Outline) (draft : Draft) → Met outline.singles draft → Met outline.all draft
+    → Each (λ name. In name (names_in draft.given)) (elements_known version outline)
+known_met (Some One) outline draft singles all = singles
+known_met (Some Two) outline draft singles all = all
+known_met (Some Other) outline draft singles all = all
+known_met None outline draft singles all = all
 
 -- a path with a slash, by its names
 record IsPathOf (parts : List (List ℕ)) : Type 0 where
@@ -306,29 +340,49 @@ lawful_fet ext names fet known is = record {
   lengths = is.lengths;
 }
 
-lawful_merge : (ext : CellExt) (elements names : List (List ℕ)) (merge : MergeRec) → Each (λ id. In id (element_names ext)) elements
-    → Each (λ name. In name (node_names ext)) names → IsSoundMerge (length ext.classes) elements names merge → IsLawfulMerge ext merge
-lawful_merge ext elements names merge met known is = record {
-  first = path_leads ext elements names merge.first met known is.first_path is.first;
-  second = path_leads ext elements names merge.second met known is.second_path is.second;
-  cap = is.cap;
-  measures = is.measures;
-}
+-- each merge of a row that is sound
+lawful_merge : (ext : CellExt) (elements names : List (List ℕ)) (row : MergeRow) → Each (λ id. In id (element_names ext)) elements
+    → Each (λ name. In name (node_names ext)) names → IsSoundMerge (length ext.classes) elements names row
+    → (merge : MergeRec) → In merge (plain_merges row) → IsLawfulMerge ext merge
+lawful_merge ext elements names row met known is merge here =
+    let found = In-map_source (plain_merge row) merge (range_with_len 0 row.count) here in
+    let n = found.0 in
+    let below : n < row.count = (let within = range_in_bounds 0 row.count n found.1.0 in omega (arith, within)) in
+    let leads_there = list_all-In (λ k. leads elements names (raised row.second k)) (range_with_len 0 row.count) n is.seconds found.1.0 in
+    subst (IsLawfulMerge ext) found.1.1 (record {
+      first = path_leads ext elements names row.first met known is.first_path is.first;
+      second = path_leads ext elements names (raised row.second n) met known (is.second_paths n below) leads_there;
+      cap = is.cap;
+      measures = is.measures;
+    })
 
-lawful_record : (cell : List ℕ) (elements : List (List ℕ)) (draft : Draft) → IsSound elements draft → is_incomplete draft.seen ≡ false
-    → Each (λ id. In id draft.ids) elements → IsLawful (record_of cell draft)
-lawful_record cell elements draft is has met =
-    let ext = record_of cell draft in
-    let met' : Each (λ id. In id (element_names ext)) elements = λ id h. subst (λ (l : List (List ℕ)). In id l) is.ids (met id h) in
+lawful_use : (used : ArrayUse) → IsSoundUse used → (one : UseRec) → In one (plain_uses used) → IsLawfulUse one
+lawful_use used is one here = elements_are_lawful used is.cell is.is_use one here
+
+lawful_record : (cell : List ℕ) (outline : Outline) (draft : Draft) → IsSound outline draft → is_incomplete draft.seen ≡ false
+    → Each (λ name. In name (names_in draft.given)) (elements_known draft.version outline) → IsLawfulArrayExt (record_of cell draft)
+lawful_record cell outline draft is has met =
+    let ext = plain (record_of cell draft) in
+    let elements = elements_known draft.version outline in
+    let same : names_in draft.given ≡ element_names ext = ap names_in is.given ∙ names_given draft.uses in
+    let met' : Each (λ id. In id (element_names ext)) elements = λ id h. subst (λ (l : List (List ℕ)). In id l) same (met id h) in
     record {
-      tech = is.tech (has_tech draft has);
-      classes = is.classes;
-      uses = All-from_In IsLawfulUse draft.uses is.uses;
-      nodes = All-from_In (IsLawfulNode (length draft.classes)) draft.nodes is.nodes;
-      fets = All-from_In (IsLawfulFet ext) draft.fets (λ fet h. lawful_fet ext draft.names fet is.names.known (is.fets fet h));
-      merges = All-from_In (IsLawfulMerge ext) draft.merges (λ merge h. lawful_merge ext elements draft.names merge met' is.names.known (is.merges merge h));
-      node_names_differ = is.names.differ;
-      element_names_differ = subst Distinct is.ids is.ids_differ;
+      uses = All-from_In IsArrayUse draft.uses (λ used h. (is.uses used h).is_use);
+      rows = All-from_In IsMergeRow draft.merges (λ row h. (is.merges row h).is_row);
+      plain = record {
+        tech = is.tech (has_tech draft has);
+        classes = is.classes;
+        uses = All-from_In IsLawfulUse ext.uses (λ one h.
+            let found = In-flat_map_source plain_uses one draft.uses h in
+            lawful_use found.0 (is.uses found.0 found.1.0) one found.1.1);
+        nodes = All-from_In (IsLawfulNode (length draft.classes)) draft.nodes is.nodes;
+        fets = All-from_In (IsLawfulFet ext) draft.fets (λ fet h. lawful_fet ext draft.names fet is.names.known (is.fets fet h));
+        merges = All-from_In (IsLawfulMerge ext) ext.merges (λ merge h.
+            let found = In-flat_map_source plain_merges merge draft.merges h in
+            lawful_merge ext elements draft.names found.0 met' is.names.known (is.merges found.0 found.1.0) merge found.1.1);
+        node_names_differ = is.names.differ;
+        element_names_differ = subst Distinct same is.given_differ;
+      };
     }
 
 finished : (draft last : Draft) → finish draft ≡ Ok last → (is_incomplete draft.seen ≡ false) × (draft ≡ last)
@@ -339,7 +393,8 @@ finished draft last e = step (is_incomplete draft.seen) e
     step false e = (refl, (let same : draft ≡ last = cc in same))
 
 -- the record of a text that is not too long is lawful
-pub draft_in-lawful : (cell text : List ℕ) (draft : Draft) → length text ≤ LONGEST_READ_TEXT → draft_in text ≡ Ok draft → IsLawful (record_of cell draft)
+pub draft_in-lawful : (cell text : List ℕ) (draft : Draft) → length text ≤ LONGEST_READ_TEXT → draft_in text ≡ Ok draft
+    → IsLawfulArrayExt (record_of cell draft)
 unfolding draft_in
 draft_in-lawful cell text draft short e =
     let lines = lines_of text in
@@ -347,6 +402,8 @@ draft_in-lawful cell text draft short e =
     let p = text_state-Ok (step outline) finish nothing_yet lines draft e in
     let end = finished p.0 draft p.2 in
     let each : Each (λ line. length line ≤ LONGEST_READ_TEXT) lines = λ line h. (let below = lines_short text line h in omega arith) in
-    let sound = lines-sound outline 1 nothing_yet lines p.0 (nothing_sound outline.elements) each p.1 in
-    let met = lines_ids outline 1 [] nothing_yet lines p.0 (λ id h. absurd h) p.1 in
-    subst (λ (d : Draft). IsLawful (record_of cell d)) end.1 (lawful_record cell outline.elements p.0 sound end.0 met)
+    let sound = lines-sound outline 1 nothing_yet lines p.0 (nothing_sound outline) each p.1 in
+    let singles = lines_names false outline 1 [] nothing_yet lines p.0 (λ name h. absurd h) p.1 in
+    let all = lines_names true outline 1 [] nothing_yet lines p.0 (λ name h. absurd h) p.1 in
+    let met = known_met p.0.version outline p.0 singles all in
+    subst (λ (d : Draft). IsLawfulArrayExt (record_of cell d)) end.1 (lawful_record cell outline p.0 sound end.0 met)

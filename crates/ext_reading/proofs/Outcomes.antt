@@ -1,9 +1,10 @@
 -- What holds of the value of a result, where it has one.
-use Rattle.std.proofs.Common.{◌≡◌, suc, arith, Bool, true, false, cond, List, [], ◌∷◌, ◌++◌, Result, Ok, Err, inl, inr, refl, subst}
-use Rattle.std.specs.Prelude.{All}
-use Rattle.std.specs.List.{AllByRecursion}
+use Rattle.std.proofs.Common.{◌≡◌, ◌<◌, ◌+◌, ℕ, suc, get_or, arith, Bool, true, false, cond, List, [], ◌∷◌, ◌++◌, Result, Ok, Err, inl, inr, refl, subst}
+use Rattle.std.specs.Prelude.{All, IfOk}
+use Rattle.std.specs.List.{AllByRecursion, range_with_len}
+use Rattle.std.proofs.lemmas.List.FromFn.{length-range_with_len, get_or-range_with_len}
 use Rattle.finite_sets.specs.Lists.{In}
-use Rattle.finite_sets.proofs.Members.{In-push_cases}
+use Rattle.finite_sets.proofs.Members.{In-push_cases, In-index}
 use Rattle.text_form.specs.SaidLines.{and_then}
 
 -- where there is a value, it has the fact
@@ -61,3 +62,18 @@ each_of_All {X} P (y ∷ ys) all = λ x h. elim h [
 pub by_recursion : {X : Type 0} (P : X → Type 0) (xs : List X) → Each P xs → AllByRecursion P xs
 by_recursion P [] all = tt
 by_recursion P (x ∷ xs) all = (all x (inl refl), by_recursion P xs (λ y h. all y (inr h)))
+
+-- a number of a range is below its end
+pub range_in_bounds : (a n k : ℕ) → In k (range_with_len a n) → k < a + n
+range_in_bounds a n k h =
+    let found = In-index k (range_with_len a n) h in
+    let long = length-range_with_len a n in
+    let inside : found.0 < n = (let within = found.1.0 in omega (arith, within, long)) in
+    let place : get_or (range_with_len a n) found.0 0 ≡ a + found.0 = get_or-range_with_len a n found.0 0 inside in
+    let same = found.1.1 0 in
+    omega (arith, place, same, inside)
+
+-- what a value has besides
+pub if_ok-more : {T E : Type 0} (P Q : T → Type 0) (result : Result T E) → ((x : T) → P x → Q x) → IfOk result P → IfOk result Q
+if_ok-more P Q (Ok x) more has = more x has
+if_ok-more P Q (Err e) more has = has

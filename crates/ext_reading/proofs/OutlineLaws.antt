@@ -1,34 +1,97 @@
--- What a line adds to the names of the elements.
-use Rattle.std.proofs.Common.{ℕ, Bool, true, false, cond, List, [], ◌∷◌, ◌++◌, Result, Ok, Err}
+-- What a line adds to the uses of the outline.
+use Rattle.std.proofs.Common.{◌≡◌, ◌⊎◌, ◌||◌, ℕ, Bool, true, false, not, cond, Option, List, [], ◌∷◌, ◌++◌, Result, Ok, Err, sym, subst, inl, inr, refl}
 use Rattle.std.specs.Prelude.{codes}
+use Rattle.std.specs.Option.{is_some}
 use Rattle.std.specs.Str.{bytes_eq}
 use Rattle.finite_sets.specs.Lists.{In}
-use Rattle.finite_sets.proofs.Members.{In-append_left}
+use Rattle.finite_sets.proofs.Members.{In-append_left, In-append_cases}
+use Rattle.geo_core.specs.declared.grids.Grid.{Grid}
+use Rattle.element_index.specs.declared.uses.UseElements.{UseElements}
+use Rattle.element_index.specs.GivenNames.{element_ids, names_in, gives_again}
 use Rattle.ext_reading.specs.declared.faults.ExtReadFault.{ExtReadFault}
+use Rattle.ext_reading.specs.declared.lines.UseName.{UseName}
 use Rattle.ext_reading.specs.declared.lines.ExtLine.{ExtLine}
 use Rattle.ext_reading.specs.declared.lines.ExtLine.TheVariants.{Use}
 use Rattle.ext_reading.specs.LineForms.{use_line}
-use Rattle.ext_reading.specs.Drafts.{is_among}
-use Rattle.ext_reading.specs.ExtTexts.{with_name, with_element_said, with_words}
+use Rattle.ext_reading.specs.Ranges.{grid_in}
+use Rattle.ext_reading.specs.ExtTexts.{with_elements, with_allowed, with_use_name, with_use_said, with_words}
+use Rattle.ext_reading.proofs.ElementIds.{names_push}
 use Rattle.ext_reading.proofs.Outcomes.{Each}
 
 -- the names so far stay
-kept_name : (names : List (List ℕ)) (name : List ℕ) → Each (λ n. In n (with_name names name)) names
-kept_name names name = λ n h. step (is_among name names) n h
-  where
-    step : (t : Bool) → (n : List ℕ) → In n names → In n (cond t names (names ++ name ∷ []))
-    step true n h = h
-    step false n h = In-append_left n names (name ∷ []) h
+abbrev Keeps : List UseElements → List UseElements → Type 0
+Keeps known more = Each (λ name. In name (names_in more)) (names_in known)
 
-pub kept_element : (known : List (List ℕ)) (found : Result ExtLine ExtReadFault) → Each (λ n. In n (with_element_said known found)) known
-kept_element known (Ok (Use line)) = kept_name known line.id
-kept_element known (Ok _) = λ n h. h
-kept_element known (Err fault) = λ n h. h
+kept_push : (known : List UseElements) (used : UseElements) → Keeps known (known ++ used ∷ [])
+kept_push known used = λ name h.
+    subst (λ (l : List (List ℕ)). In name l) (sym (names_push known used)) (In-append_left name (names_in known) (element_ids used.id used.grid) h)
 
-pub kept_words : (known words : List (List ℕ)) → Each (λ n. In n (with_words known words)) known
-kept_words known [] = λ n h. h
-kept_words known (key ∷ words) = step (bytes_eq key (codes "use"))
+kept_elements : (known : List UseElements) (used : UseElements) → Keeps known (with_elements known used)
+kept_elements known used = step (gives_again known used)
   where
-    step : (t : Bool) → Each (λ n. In n (cond t (with_element_said known (use_line words)) known)) known
-    step true = kept_element known (use_line words)
-    step false = λ n h. h
+    step : (t : Bool) → Keeps known (cond t known (known ++ used ∷ []))
+    step true = λ name h. h
+    step false = kept_push known used
+
+kept_allowed : (arrays : Bool) (known : List UseElements) (used : UseElements) → Keeps known (with_allowed arrays known used)
+kept_allowed arrays known used = step (arrays || not (is_some used.grid))
+  where
+    step : (t : Bool) → Keeps known (cond t (with_elements known used) known)
+    step true = kept_elements known used
+    step false = λ name h. h
+
+kept_said : (arrays : Bool) (known : List UseElements) (id : List ℕ) (found : Result (Option Grid) ExtReadFault)
+    → Keeps known (elim found [ Ok grid ↦ with_allowed arrays known (record { id = id; grid = grid }) | Err fault ↦ known ])
+kept_said arrays known id (Ok grid) = kept_allowed arrays known (record { id = id; grid = grid })
+kept_said arrays known id (Err fault) = λ name h. h
+
+pub kept_use : (arrays : Bool) (known : List UseElements) (found : Result ExtLine ExtReadFault) → Keeps known (with_use_said arrays known found)
+kept_use arrays known (Ok (Use line)) = kept_said arrays known line.name.id (grid_in line.name.grid)
+kept_use arrays known (Ok _) = λ name h. h
+kept_use arrays known (Err fault) = λ name h. h
+
+pub kept_words : (arrays : Bool) (known : List UseElements) (words : List (List ℕ)) → Keeps known (with_words arrays known words)
+kept_words arrays known [] = λ name h. h
+kept_words arrays known (key ∷ words) = step (bytes_eq key (codes "use"))
+  where
+    step : (t : Bool) → Keeps known (cond t (with_use_said arrays known (use_line words)) known)
+    step true = kept_use arrays known (use_line words)
+    step false = λ name h. h
+
+-- the names of a use that is added, and no others, come to those so far
+name_cases : (known : List UseElements) (used : UseElements) (name : List ℕ) → In name (names_in (with_elements known used))
+    → In name (names_in known) ⊎ In name (element_ids used.id used.grid)
+name_cases known used name h = step (gives_again known used) h
+  where
+    step : (t : Bool) → In name (names_in (cond t known (known ++ used ∷ []))) → In name (names_in known) ⊎ In name (element_ids used.id used.grid)
+    step true h = inl h
+    step false h =
+        In-append_cases name (names_in known) (element_ids used.id used.grid) (subst (λ (l : List (List ℕ)). In name l) (names_push known used) h)
+
+allowed_cases : (arrays : Bool) (known : List UseElements) (used : UseElements) (name : List ℕ) → In name (names_in (with_allowed arrays known used))
+    → In name (names_in known) ⊎ In name (element_ids used.id used.grid)
+allowed_cases arrays known used name h = step (arrays || not (is_some used.grid)) h
+  where
+    step : (t : Bool) → In name (names_in (cond t (with_elements known used) known)) → In name (names_in known) ⊎ In name (element_ids used.id used.grid)
+    step true h = name_cases known used name h
+    step false h = inl h
+
+-- The name is one of the use that has this name.
+pub record IsNameOf (name : List ℕ) (use_name : UseName) : Type 0 where
+  pub grid : Option Grid
+  pub read : grid_in use_name.grid ≡ Ok grid
+  pub there : In name (element_ids use_name.id grid)
+
+said_cases : (arrays : Bool) (known : List UseElements) (use_name : UseName) (name : List ℕ) (found : Result (Option Grid) ExtReadFault)
+    → grid_in use_name.grid ≡ found
+    → In name (names_in (elim found [ Ok grid ↦ with_allowed arrays known (record { id = use_name.id; grid = grid }) | Err fault ↦ known ]))
+    → In name (names_in known) ⊎ IsNameOf name use_name
+said_cases arrays known use_name name (Ok grid) e h = elim (allowed_cases arrays known (record { id = use_name.id; grid = grid }) name h) [
+  | inl old ↦ inl old
+  | inr there ↦ inr (record { grid = grid; read = e; there = there })
+]
+said_cases arrays known use_name name (Err fault) e h = inl h
+
+pub use_cases : (arrays : Bool) (known : List UseElements) (use_name : UseName) (name : List ℕ) → In name (names_in (with_use_name arrays known use_name))
+    → In name (names_in known) ⊎ IsNameOf name use_name
+use_cases arrays known use_name name h = said_cases arrays known use_name name (grid_in use_name.grid) refl h

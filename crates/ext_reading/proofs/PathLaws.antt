@@ -1,11 +1,13 @@
 -- Paths by their names.
-use Rattle.std.proofs.Common.{◌≡◌, ◌<◌, ◌≤◌, ◌+◌, ◌-◌, ℕ, Bool, true, false, cond, List, [], ◌∷◌, length, refl, sym, ap, ◌∙◌, arith, take, drop}
+use Rattle.std.proofs.Common.{◌≡◌, ◌<◌, ◌≤◌, ◌+◌, ◌-◌, ◌==◌, ℕ, Bool, true, false, cond, List, [], ◌∷◌, length, refl, sym, ap, ◌∙◌, arith, take, drop}
 use Rattle.std.specs.Prelude.{Some, None, nat_lt}
 use Rattle.std.specs.List.{position, position_or_len, slice_split, before_first, after_first}
 use Rattle.std.proofs.lemmas.Bool.Decides.{nat_tests}
-use Rattle.std.proofs.lemmas.List.{take_rest}
+use Rattle.std.proofs.lemmas.List.{take_all, take_rest, drop_all}
 use Rattle.std.proofs.lemmas.List.Splits.{slice_split_first, slice_split_none}
 use Rattle.std.proofs.lemmas.List.Sums.{fails_before_first}
+use Rattle.ext_model.specs.Plain.{before, behind}
+use Rattle.ext_text.proofs.PathCuts.{behind-after_first}
 
 place_is : (test : Bool) (k i : ℕ) → cond test (Some k) None ≡ Some i → (test ≡ true) × (k ≡ i)
 place_is true k i e = (refl, cc)
@@ -38,3 +40,32 @@ split_at_place test (x ∷ xs) i e =
     split_found test (x ∷ xs) i (omega arith) e
     ∙ ap (λ (k : ℕ). take k (x ∷ xs) ∷ slice_split test (drop (k + 1) (x ∷ xs))) found.1
     ∙ ap (λ l. take i (x ∷ xs) ∷ slice_split test l) (sym (take_rest (x ∷ xs) (i + 1)))
+
+-- what stands before the first such byte, and behind it, by its place
+pub before_found : (mark : ℕ) (text : List ℕ) (at : ℕ) → position (λ byte. byte == mark) text ≡ Some at → take at text ≡ before mark text
+before_found mark text at e =
+    let test : ℕ → Bool = λ byte. byte == mark in
+    let found = place_is (nat_lt (position_or_len test text) (length text)) (position_or_len test text) at e in
+    ap (λ (k : ℕ). take k text) (sym found.1)
+
+pub behind_found : (mark : ℕ) (text : List ℕ) (at : ℕ) → position (λ byte. byte == mark) text ≡ Some at
+    → take (length text - (at + 1)) (drop (at + 1) text) ≡ behind mark text
+behind_found mark text at e =
+    let test : ℕ → Bool = λ byte. byte == mark in
+    let found = place_is (nat_lt (position_or_len test text) (length text)) (position_or_len test text) at e in
+    take_rest text (at + 1) ∙ (ap (λ (k : ℕ). drop (k + 1) text) (sym found.1) ∙ behind-after_first mark text)
+
+-- and where there is none
+far : (test : ℕ → Bool) (text : List ℕ) → position test text ≡ None → length text ≤ position_or_len test text
+far test text e = let none = no_place (nat_lt (position_or_len test text) (length text)) (position_or_len test text) e in grind (arith, nat_tests)
+
+pub before_whole : (mark : ℕ) (text : List ℕ) → position (λ byte. byte == mark) text ≡ None → text ≡ before mark text
+before_whole mark text e =
+    let test : ℕ → Bool = λ byte. byte == mark in
+    sym (take_all (position_or_len test text) text (far test text e))
+
+pub behind_nothing : (mark : ℕ) (text : List ℕ) → position (λ byte. byte == mark) text ≡ None → [] ≡ behind mark text
+behind_nothing mark text e =
+    let test : ℕ → Bool = λ byte. byte == mark in
+    let past = far test text e in
+    sym (drop_all (position_or_len test text + 1) text (omega (arith, past))) ∙ behind-after_first mark text

@@ -1,6 +1,6 @@
 -- What a circuit file has said so far is sound: each line keeps it so.
 use Rattle.std.proofs.Common.{◌≡◌, ◌<◌, ◌+◌, ◌*◌, ◌==◌, ◌&&◌, ◌||◌, ℕ, ℤ, Bool, true, false, not, Option, List, [], ◌∷◌, ◌++◌}
-use Rattle.std.proofs.Common.{length, refl, ap, ◌∙◌, arith}
+use Rattle.std.proofs.Common.{length, refl, arith}
 use Rattle.std.specs.Prelude.{sum_by}
 use Rattle.std.specs.Int.RustNames.{unsigned_abs}
 use Rattle.std.specs.List.{list_all}
@@ -12,26 +12,33 @@ use Rattle.finite_sets.proofs.Searches.{list_all-In, In-from_list_any}
 use Rattle.ext_model.specs.declared.limits.TheConstants.{LENGTHS_EDGE}
 use Rattle.ext_model.specs.declared.records.TermRec.{TermRec}
 use Rattle.ext_model.specs.declared.records.FetRec.{FetRec}
-use Rattle.ext_model.specs.declared.records.MergeRec.{MergeRec}
+use Rattle.ext_model.specs.declared.arrays.MergeRow.{MergeRow}
 use Rattle.ext_model.specs.NodeNames.{is_word}
 use Rattle.ext_model.specs.Lawful.{IsMeasure, AreMeasures}
+use Rattle.ext_model.specs.LawfulArrays.{IsMergeRow}
+use Rattle.ext_model.specs.Plain.{raised}
+use Rattle.element_index.specs.GivenNames.{is_among}
 use Rattle.ext_reading.specs.declared.faults.ExtReadFault.TheVariants.{BadLine, NoHeader, NoName}
 use Rattle.ext_reading.specs.declared.limits.TheConstants.{LONGEST_READ_TEXT}
 use Rattle.ext_reading.specs.declared.lines.FetLine.{FetLine}
 use Rattle.ext_reading.specs.declared.lines.MergeLine.{MergeLine}
+use Rattle.ext_reading.specs.declared.lines.ElementRange.{ElementRange}
 use Rattle.ext_reading.specs.declared.lines.ExtLine.{ExtLine}
 use Rattle.ext_reading.specs.declared.lines.ExtLine.TheVariants.{Nothing, Header, Use, Node, Equiv, Fet, Merge}
 use Rattle.ext_reading.specs.Parts.{is_path}
 use Rattle.ext_reading.specs.Ranges.{measure_in, measures_in, point_in, term_in, terms_from}
-use Rattle.ext_reading.specs.Drafts.{Draft, is_among, is_incomplete}
+use Rattle.ext_reading.specs.declared.outlines.Outline.{Outline}
+use Rattle.ext_reading.specs.Drafts.{Draft, is_incomplete}
 use Rattle.ext_reading.specs.Drafts.{fet_from}
-use Rattle.ext_reading.specs.Drafts.{has_its_nodes, takes_fet, leads, merge_from, takes_merge, takes_record, has_measures, fits_classes, takes_body, takes}
+use Rattle.ext_reading.specs.Drafts.{has_its_nodes, takes_fet, leads, all_lead, range_in, merge_from, elements_known, takes_merge, takes_record, has_measures}
+use Rattle.ext_reading.specs.Drafts.{fits_classes, fits_version, takes_body, takes}
 use Rattle.ext_reading.proofs.Outcomes.{OkHas, next_has, passed_has, failed_has, Each, each_none, each_push}
 use Rattle.ext_reading.proofs.LawfulLines.{IsFormedFet, IsFormedMerge, IsFormed}
 use Rattle.ext_reading.proofs.LawfulDrafts.{measure_in-has, AreCounted, measures_in-has, IsPoint, point_in-has}
 use Rattle.ext_reading.proofs.LawfulDrafts.{IsMeasuredTerm, term_in-has, AreTerms, terms_from-has, lengths_below}
 use Rattle.ext_reading.proofs.SoundRecords.{are_measures, IsSoundFet, IsSoundMerge, IsSound, takes_header-sound, begun_sound}
 use Rattle.ext_reading.proofs.SoundRecords.{takes_use-sound}
+use Rattle.ext_reading.proofs.RowPaths.{AreSeconds, seconds_in}
 use Rattle.ext_reading.proofs.SoundNodes.{takes_node-sound, takes_equiv-sound}
 
 -- a transistor as its line has it, whatever its nodes are
@@ -64,9 +71,9 @@ fet_from-has line formed =
       lengths = lengths_below terminals are.measured (omega (arith, are.count, formed.count));
     })))))
 
-pub fet_sound : (elements : List (List ℕ)) (draft : Draft) (fet : FetRec) → IsSound elements draft → IsNewFet fet → has_its_nodes draft.names fet ≡ true
-    → IsSound elements (record draft { fets = draft.fets ++ fet ∷ [] })
-fet_sound elements draft fet is new its =
+pub fet_sound : (outline : Outline) (draft : Draft) (fet : FetRec) → IsSound outline draft → IsNewFet fet → has_its_nodes draft.names fet ≡ true
+    → IsSound outline (record draft { fets = draft.fets ++ fet ∷ [] })
+fet_sound outline draft fet is new its =
     let both = and_parts (is_among fet.gate.node draft.names) (list_all (λ side. is_among side.node draft.names) fet.terminals) its in
     record {
       tech = is.tech;
@@ -74,8 +81,8 @@ fet_sound elements draft fet is new its =
       no_nodes = is.no_nodes;
       no_merges = is.no_merges;
       uses = is.uses;
-      ids = is.ids;
-      ids_differ = is.ids_differ;
+      given = is.given;
+      given_differ = is.given_differ;
       nodes = is.nodes;
       names = is.names;
       fets = each_push (IsSoundFet draft.names) draft.fets fet is.fets (record {
@@ -94,57 +101,69 @@ fet_sound elements draft fet is new its =
       merges = is.merges;
     }
 
-pub takes_fet-sound : (elements : List (List ℕ)) (draft : Draft) (line : FetLine) → IsSound elements draft → IsFormedFet LONGEST_READ_TEXT line
-    → OkHas (IsSound elements) (takes_fet draft line)
-takes_fet-sound elements draft line is formed =
-    next_has IsNewFet (IsSound elements) (fet_from line) _ (fet_from-has line formed) (λ fet new.
-    passed_has (IsSound elements) (has_its_nodes draft.names fet) _ NoName (λ its. fet_sound elements draft fet is new its))
+pub takes_fet-sound : (outline : Outline) (draft : Draft) (line : FetLine) → IsSound outline draft → IsFormedFet LONGEST_READ_TEXT line
+    → OkHas (IsSound outline) (takes_fet draft line)
+takes_fet-sound outline draft line is formed =
+    next_has IsNewFet (IsSound outline) (fet_from line) _ (fet_from-has line formed) (λ fet new.
+    passed_has (IsSound outline) (has_its_nodes draft.names fet) _ NoName (λ its. fet_sound outline draft fet is new its))
 
--- a merge as its line has it, wherever its paths lead
-pub record IsNewMerge (classes : ℕ) (line : MergeLine) (merge : MergeRec) : Type 0 where
-  first : merge.first ≡ line.first
-  second : merge.second ≡ line.second
-  cap : IsMeasure merge.cap
-  measures : AreMeasures classes merge.measures
+-- a row of merges as its line has it, wherever its paths lead
+pub record IsNewMerge (classes : ℕ) (row : MergeRow) : Type 0 where
+  is_row : IsMergeRow row
+  first_path : is_path row.first ≡ true
+  second_paths : (n : ℕ) → n < row.count → is_path (raised row.second n) ≡ true
+  cap : IsMeasure row.cap
+  measures : AreMeasures classes row.measures
 
-pub merge_from-has : (classes : ℕ) (line : MergeLine) → length line.measures ≡ 2 * classes → OkHas (IsNewMerge classes line) (merge_from line)
-merge_from-has classes line twice =
-    next_has IsMeasure (IsNewMerge classes line) (measure_in line.cap) _ (measure_in-has line.cap) (λ cap within.
-    next_has (AreCounted classes) (IsNewMerge classes line) (measures_in line.measures) _ (measures_in-has classes line.measures twice) (λ measures counted.
-    record { first = refl; second = refl; cap = within; measures = are_measures classes measures counted }))
+pub merge_from-has : (classes : ℕ) (line : MergeLine) (range : Option ElementRange) → IsFormedMerge line → AreSeconds line.second range
+    → length line.measures ≡ 2 * classes → OkHas (IsNewMerge classes) (merge_from line range)
+merge_from-has classes line range formed seconds twice =
+    next_has IsMeasure (IsNewMerge classes) (measure_in line.cap) _ (measure_in-has line.cap) (λ cap within.
+    next_has (AreCounted classes) (IsNewMerge classes) (measures_in line.measures) _ (measures_in-has classes line.measures twice) (λ measures counted.
+    record {
+      is_row = record { some = seconds.some; indexed = seconds.indexed };
+      first_path = formed.first;
+      second_paths = seconds.paths;
+      cap = within;
+      measures = are_measures classes measures counted;
+    }))
 
-pub merge_sound : (elements : List (List ℕ)) (draft : Draft) (line : MergeLine) (merge : MergeRec) → IsSound elements draft → draft.begun ≡ true
-    → IsFormedMerge line
-    → IsNewMerge (length draft.classes) line merge → leads elements draft.names merge.first ≡ true → leads elements draft.names merge.second ≡ true
-    → IsSound elements (record draft { merges = draft.merges ++ merge ∷ [] })
-merge_sound elements draft line merge is late formed new one two = record {
+pub merge_sound : (outline : Outline) (draft : Draft) (row : MergeRow) → IsSound outline draft → draft.begun ≡ true
+    → IsNewMerge (length draft.classes) row → leads (elements_known draft.version outline) draft.names row.first ≡ true
+    → all_lead (elements_known draft.version outline) draft.names row.second row.count ≡ true
+    → IsSound outline (record draft { merges = draft.merges ++ row ∷ [] })
+merge_sound outline draft row is late new one two = record {
   tech = is.tech;
   classes = is.classes;
   no_nodes = is.no_nodes;
   no_merges = λ e. absurd (let no : ⊥ = cc in no);
   uses = is.uses;
-  ids = is.ids;
-  ids_differ = is.ids_differ;
+  given = is.given;
+  given_differ = is.given_differ;
   nodes = is.nodes;
   names = is.names;
   fets = is.fets;
-  merges = each_push (IsSoundMerge (length draft.classes) elements draft.names) draft.merges merge is.merges (record {
-    first_path = ap is_path new.first ∙ formed.first;
-    second_path = ap is_path new.second ∙ formed.second;
+  merges = each_push (IsSoundMerge (length draft.classes) (elements_known draft.version outline) draft.names) draft.merges row is.merges (record {
+    is_row = new.is_row;
+    first_path = new.first_path;
+    second_paths = new.second_paths;
     first = one;
-    second = two;
+    seconds = two;
     cap = new.cap;
     measures = new.measures;
   });
 }
 
-pub takes_merge-sound : (elements : List (List ℕ)) (draft : Draft) (line : MergeLine) → IsSound elements draft → draft.begun ≡ true → IsFormedMerge line
-    → length line.measures ≡ 2 * length draft.classes → OkHas (IsSound elements) (takes_merge elements draft line)
-takes_merge-sound elements draft line is late formed twice =
-    next_has (IsNewMerge (length draft.classes) line) (IsSound elements) (merge_from line) _ (merge_from-has (length draft.classes) line twice) (λ merge new.
-    passed_has (IsSound elements) (leads elements draft.names merge.first && leads elements draft.names merge.second) _ NoName (λ both.
-    let parts = and_parts (leads elements draft.names merge.first) (leads elements draft.names merge.second) both in
-    merge_sound elements draft line merge is late formed new parts.0 parts.1))
+pub takes_merge-sound : (outline : Outline) (draft : Draft) (line : MergeLine) → IsSound outline draft → draft.begun ≡ true → IsFormedMerge line
+    → length line.measures ≡ 2 * length draft.classes → OkHas (IsSound outline) (takes_merge outline draft line)
+takes_merge-sound outline draft line is late formed twice =
+    let elements = elements_known draft.version outline in
+    let range = range_in draft.version line.second in
+    next_has (IsNewMerge (length draft.classes)) (IsSound outline) (merge_from line range) _
+    (merge_from-has (length draft.classes) line range formed (seconds_in draft.version line.second formed.second) twice) (λ row new.
+    passed_has (IsSound outline) (leads elements draft.names row.first && all_lead elements draft.names row.second row.count) _ NoName (λ both.
+    let parts = and_parts (leads elements draft.names row.first) (all_lead elements draft.names row.second row.count) both in
+    merge_sound outline draft row is late new parts.0 parts.1))
 
 -- where the header is complete, the classes are known
 pub complete : (tech version classes : Bool) → not (tech && version && classes) ≡ false → (tech ≡ true) × (classes ≡ true)
@@ -163,38 +182,43 @@ counted draft measures known e = step draft.seen.classes known (length measures 
     step true k false is fine = absurd (let wrong : ⊥ = cc in wrong)
     step false k test is fine = absurd (let wrong : ⊥ = cc in wrong)
 
-pub takes_record-sound : (elements : List (List ℕ)) (draft : Draft) (said : ExtLine) → IsSound elements draft → IsFormed LONGEST_READ_TEXT said
+pub takes_record-sound : (outline : Outline) (draft : Draft) (said : ExtLine) → IsSound outline draft → IsFormed LONGEST_READ_TEXT said
     → not (fits_classes draft said) ≡ false → draft.seen.classes ≡ true
-    → OkHas (IsSound elements) (takes_record elements (record draft { begun = true }) said)
-takes_record-sound elements draft Nothing is formed fits known = begun_sound elements draft is
-takes_record-sound elements draft (Header header) is formed fits known = begun_sound elements draft is
-takes_record-sound elements draft (Use line) is formed fits known = takes_use-sound elements (record draft { begun = true }) line
-    (begun_sound elements draft is) formed
-takes_record-sound elements draft (Node line) is formed fits known =
-    takes_node-sound elements (record draft { begun = true }) line (begun_sound elements draft is) refl formed (counted draft line.measures known fits)
-takes_record-sound elements draft (Equiv name alias) is formed fits known =
-    takes_equiv-sound elements (record draft { begun = true }) name alias (begun_sound elements draft is) refl formed
-takes_record-sound elements draft (Fet line) is formed fits known = takes_fet-sound elements (record draft { begun = true }) line
-    (begun_sound elements draft is) formed
-takes_record-sound elements draft (Merge line) is formed fits known =
-    takes_merge-sound elements (record draft { begun = true }) line (begun_sound elements draft is) refl formed (counted draft line.measures known fits)
+    → OkHas (IsSound outline) (takes_record outline (record draft { begun = true }) said)
+takes_record-sound outline draft Nothing is formed fits known = begun_sound outline draft is
+takes_record-sound outline draft (Header header) is formed fits known = begun_sound outline draft is
+takes_record-sound outline draft (Use line) is formed fits known = takes_use-sound outline (record draft { begun = true }) line
+    (begun_sound outline draft is) formed
+takes_record-sound outline draft (Node line) is formed fits known =
+    takes_node-sound outline (record draft { begun = true }) line (begun_sound outline draft is) refl formed (counted draft line.measures known fits)
+takes_record-sound outline draft (Equiv name alias) is formed fits known =
+    takes_equiv-sound outline (record draft { begun = true }) name alias (begun_sound outline draft is) refl formed
+takes_record-sound outline draft (Fet line) is formed fits known = takes_fet-sound outline (record draft { begun = true }) line
+    (begun_sound outline draft is) formed
+takes_record-sound outline draft (Merge line) is formed fits known =
+    takes_merge-sound outline (record draft { begun = true }) line (begun_sound outline draft is) refl formed (counted draft line.measures known fits)
 
-pub takes_body-sound : (elements : List (List ℕ)) (draft : Draft) (said : ExtLine) → IsSound elements draft → IsFormed LONGEST_READ_TEXT said
-    → OkHas (IsSound elements) (takes_body elements draft said)
-takes_body-sound elements draft said is formed =
-    failed_has (IsSound elements) (not (fits_classes draft said)) _ BadLine (λ fits.
-    failed_has (IsSound elements) (is_incomplete draft.seen) _ NoHeader (λ has.
-    takes_record-sound elements draft said is formed fits (complete draft.seen.tech draft.seen.version draft.seen.classes has).1))
+first_fits : (a b : Bool) → not (a && b) ≡ false → not a ≡ false
+first_fits true b e = refl
+first_fits false b e = e
 
-pub takes-sound : (elements : List (List ℕ)) (is_last : Bool) (draft : Draft) (said : ExtLine) → IsSound elements draft → IsFormed LONGEST_READ_TEXT said
-    → OkHas (IsSound elements) (takes elements is_last draft said)
-takes-sound elements is_last draft Nothing is formed = is
-takes-sound elements is_last draft (Header header) is formed = takes_header-sound elements is_last draft header is formed
-takes-sound elements is_last draft (Use line) is formed = takes_body-sound elements draft (Use line) is formed
-takes-sound elements is_last draft (Node line) is formed = takes_body-sound elements draft (Node line) is formed
-takes-sound elements is_last draft (Equiv name alias) is formed = takes_body-sound elements draft (Equiv name alias) is formed
-takes-sound elements is_last draft (Fet line) is formed = takes_body-sound elements draft (Fet line) is formed
-takes-sound elements is_last draft (Merge line) is formed = takes_body-sound elements draft (Merge line) is formed
+pub takes_body-sound : (outline : Outline) (draft : Draft) (said : ExtLine) → IsSound outline draft → IsFormed LONGEST_READ_TEXT said
+    → OkHas (IsSound outline) (takes_body outline draft said)
+takes_body-sound outline draft said is formed =
+    failed_has (IsSound outline) (not (fits_classes draft said && fits_version draft.version said)) _ BadLine (λ fits.
+    failed_has (IsSound outline) (is_incomplete draft.seen) _ NoHeader (λ has.
+    takes_record-sound outline draft said is formed (first_fits (fits_classes draft said) (fits_version draft.version said) fits)
+    (complete draft.seen.tech draft.seen.version draft.seen.classes has).1))
+
+pub takes-sound : (outline : Outline) (is_last : Bool) (draft : Draft) (said : ExtLine) → IsSound outline draft → IsFormed LONGEST_READ_TEXT said
+    → OkHas (IsSound outline) (takes outline is_last draft said)
+takes-sound outline is_last draft Nothing is formed = is
+takes-sound outline is_last draft (Header header) is formed = takes_header-sound outline is_last draft header is formed
+takes-sound outline is_last draft (Use line) is formed = takes_body-sound outline draft (Use line) is formed
+takes-sound outline is_last draft (Node line) is formed = takes_body-sound outline draft (Node line) is formed
+takes-sound outline is_last draft (Equiv name alias) is formed = takes_body-sound outline draft (Equiv name alias) is formed
+takes-sound outline is_last draft (Fet line) is formed = takes_body-sound outline draft (Fet line) is formed
+takes-sound outline is_last draft (Merge line) is formed = takes_body-sound outline draft (Merge line) is formed
 
 -- a header that is complete has a technology
 pub has_tech : (draft : Draft) → is_incomplete draft.seen ≡ false → draft.seen.tech ≡ true

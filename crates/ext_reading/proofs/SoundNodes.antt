@@ -2,7 +2,7 @@
 use Rattle.std.proofs.Common.{◌≡◌, ◌<◌, ◌*◌, ◌||◌, ℕ, zero, suc, Bool, true, false, cond, Option, List, [], ◌∷◌, ◌++◌}
 use Rattle.std.proofs.Common.{length, refl, sym, ap, ◌∙◌, subst, arith, inl, inr, length-append, append_assoc}
 use Rattle.std.specs.Prelude.{Some, None, slice_index, All}
-use Rattle.std.specs.List.{list_any, position, before_first}
+use Rattle.std.specs.List.{list_any, position, before_first, range_with_len}
 use Rattle.std.specs.Str.{bytes_eq}
 use Rattle.std.proofs.lemmas.Grind.{flat_map-append}
 use Rattle.std.proofs.lemmas.List.Quantifiers.{position-Some}
@@ -10,20 +10,23 @@ use Rattle.std.proofs.lemmas.Slice.Eq.{bytes_eq-Decides}
 use Rattle.finite_sets.specs.Lists.{In, Distinct}
 use Rattle.finite_sets.proofs.Members.{In-append_left, In-push, In-push_cases, In-get_or}
 use Rattle.finite_sets.proofs.Distincts.{Distinct-push, In-cut, In-cut_cases, In-cut_rest}
-use Rattle.finite_sets.proofs.Searches.{All-from_In, absent-from_list_any}
+use Rattle.finite_sets.proofs.Searches.{All-from_In, absent-from_list_any, list_all-In, list_all-from_In}
 use Rattle.ext_model.specs.declared.records.NodeRec.{NodeRec}
 use Rattle.ext_model.specs.declared.records.FetRec.{FetRec}
-use Rattle.ext_model.specs.declared.records.MergeRec.{MergeRec}
+use Rattle.ext_model.specs.declared.arrays.MergeRow.{MergeRow}
 use Rattle.ext_model.specs.NodeNames.{is_node_name}
 use Rattle.ext_model.specs.RecordNames.{names_of}
 use Rattle.ext_model.specs.Lawful.{IsMeasure, IsLawfulNode}
+use Rattle.ext_model.specs.Plain.{raised}
+use Rattle.element_index.specs.GivenNames.{is_among}
 use Rattle.ext_reading.specs.declared.faults.ExtReadFault.TheVariants.{NameTwice}
 use Rattle.ext_reading.specs.declared.lines.NodeLine.{NodeLine}
 use Rattle.ext_reading.specs.Parts.{is_slash}
 use Rattle.ext_reading.specs.Ranges.{short_in, measure_in, measures_in}
-use Rattle.ext_reading.specs.Drafts.{Draft, is_among}
+use Rattle.ext_reading.specs.declared.outlines.Outline.{Outline}
+use Rattle.ext_reading.specs.Drafts.{Draft}
 use Rattle.ext_reading.specs.Drafts.{node_from, with_node, takes_node, named_too, with_alias_at, with_alias, takes_alias, takes_equiv}
-use Rattle.ext_reading.specs.Drafts.{leads}
+use Rattle.ext_reading.specs.Drafts.{leads, all_lead, elements_known}
 use Rattle.ext_reading.proofs.Outcomes.{OkHas, next_has, given_has, failed_has, Each, each_push}
 use Rattle.ext_reading.proofs.LawfulLines.{IsFormedNode}
 use Rattle.ext_reading.proofs.LawfulDrafts.{short_in-Ok, measure_in-has, AreCounted, measures_in-has}
@@ -61,13 +64,21 @@ leads-more elements names name path e = step (list_any is_slash path) e
     step true e = e
     step false e = is_among-more path names name e
 
-pub more_merges : (classes : ℕ) (elements names : List (List ℕ)) (name : List ℕ) (merges : List MergeRec)
+all_lead-more : (elements names : List (List ℕ)) (name path : List ℕ) (count : ℕ) → all_lead elements names path count ≡ true
+    → all_lead elements (names ++ name ∷ []) path count ≡ true
+all_lead-more elements names name path count e =
+    list_all-from_In (λ n. leads elements (names ++ name ∷ []) (raised path n)) (range_with_len 0 count) (λ n h.
+    leads-more elements names name (raised path n)
+    (list_all-In (λ n. leads elements names (raised path n)) (range_with_len 0 count) n e h))
+
+pub more_merges : (classes : ℕ) (elements names : List (List ℕ)) (name : List ℕ) (merges : List MergeRow)
     → Each (IsSoundMerge classes elements names) merges → Each (IsSoundMerge classes elements (names ++ name ∷ [])) merges
-more_merges classes elements names name merges all = λ merge h. let is = all merge h in record {
+more_merges classes elements names name merges all = λ row h. let is = all row h in record {
+  is_row = is.is_row;
   first_path = is.first_path;
-  second_path = is.second_path;
-  first = leads-more elements names name merge.first is.first;
-  second = leads-more elements names name merge.second is.second;
+  second_paths = is.second_paths;
+  first = leads-more elements names name row.first is.first;
+  seconds = all_lead-more elements names name row.second row.count is.seconds;
   cap = is.cap;
   measures = is.measures;
 }
@@ -101,21 +112,21 @@ node_names_sound nodes names owners node is alone new =
           (λ owner h. let below = is.within owner h in omega (arith, below, length-append nodes (node ∷ []))) (omega (arith, length-append nodes (node ∷ [])));
     }
 
-pub node_sound : (elements : List (List ℕ)) (draft : Draft) (node : NodeRec) → IsSound elements draft → draft.begun ≡ true
+pub node_sound : (outline : Outline) (draft : Draft) (node : NodeRec) → IsSound outline draft → draft.begun ≡ true
     → IsLawfulNode (length draft.classes) node
-    → node.aliases ≡ [] → is_among node.name draft.names ≡ false → IsSound elements (with_node draft node)
-node_sound elements draft node is late lawful alone new = record {
+    → node.aliases ≡ [] → is_among node.name draft.names ≡ false → IsSound outline (with_node draft node)
+node_sound outline draft node is late lawful alone new = record {
   tech = is.tech;
   classes = is.classes;
   no_nodes = λ e. absurd (let no : ⊥ = cc in no);
   no_merges = is.no_merges;
   uses = is.uses;
-  ids = is.ids;
-  ids_differ = is.ids_differ;
+  given = is.given;
+  given_differ = is.given_differ;
   nodes = each_push (IsLawfulNode (length draft.classes)) draft.nodes node is.nodes lawful;
   names = node_names_sound draft.nodes draft.names draft.owners node is.names alone new;
   fets = more_fets draft.names node.name draft.fets is.fets;
-  merges = more_merges (length draft.classes) elements draft.names node.name draft.merges is.merges;
+  merges = more_merges (length draft.classes) (elements_known draft.version outline) draft.names node.name draft.merges is.merges;
 }
 
 -- a node as its line has it
@@ -148,13 +159,13 @@ node_from-has classes line formed twice =
     one_name = All-from_In (λ name. is_node_name name ≡ true) (line.name ∷ []) (λ name h.
         elim h [ inl e ↦ subst (λ n. is_node_name n ≡ true) e formed.name | inr absent ↦ absurd absent ])
 
-pub takes_node-sound : (elements : List (List ℕ)) (draft : Draft) (line : NodeLine) → IsSound elements draft → draft.begun ≡ true → IsFormedNode line
-    → length line.measures ≡ 2 * length draft.classes → OkHas (IsSound elements) (takes_node draft line)
-takes_node-sound elements draft line is late formed twice =
-    failed_has (IsSound elements) (is_among line.name draft.names) _ NameTwice (λ new.
-    next_has (IsNewNode (length draft.classes) line.name) (IsSound elements) (node_from line) _ (node_from-has (length draft.classes) line formed twice)
+pub takes_node-sound : (outline : Outline) (draft : Draft) (line : NodeLine) → IsSound outline draft → draft.begun ≡ true → IsFormedNode line
+    → length line.measures ≡ 2 * length draft.classes → OkHas (IsSound outline) (takes_node draft line)
+takes_node-sound outline draft line is late formed twice =
+    failed_has (IsSound outline) (is_among line.name draft.names) _ NameTwice (λ new.
+    next_has (IsNewNode (length draft.classes) line.name) (IsSound outline) (node_from line) _ (node_from-has (length draft.classes) line formed twice)
     (λ node one.
-    node_sound elements draft node is late one.lawful one.alone (ap (λ n. is_among n draft.names) one.named ∙ new)))
+    node_sound outline draft node is late one.lawful one.alone (ap (λ n. is_among n draft.names) one.named ∙ new)))
 
 -- another name of a node
 pub lawful_too : (classes : ℕ) (alias : List ℕ) (node : NodeRec) → IsLawfulNode classes node → is_node_name alias ≡ true
@@ -242,9 +253,9 @@ alias_names_sound classes nodes names owners k alias is below new at =
           (λ owner h. let there = is.within owner h in omega (arith, there, at.count)) (omega (arith, below, at.count));
     }
 
-pub alias_sound : (elements : List (List ℕ)) (draft : Draft) (k : ℕ) (alias : List ℕ) → IsSound elements draft → draft.begun ≡ true → k < length draft.nodes
-    → is_node_name alias ≡ true → is_among alias draft.names ≡ false → IsSound elements (with_alias draft k alias)
-alias_sound elements draft k alias is late below formed new =
+pub alias_sound : (outline : Outline) (draft : Draft) (k : ℕ) (alias : List ℕ) → IsSound outline draft → draft.begun ≡ true → k < length draft.nodes
+    → is_node_name alias ≡ true → is_among alias draft.names ≡ false → IsSound outline (with_alias draft k alias)
+alias_sound outline draft k alias is late below formed new =
     let at = named_at (length draft.classes) k draft.nodes alias below is.nodes formed in
     record {
       tech = is.tech;
@@ -252,26 +263,26 @@ alias_sound elements draft k alias is late below formed new =
       no_nodes = λ e. absurd (let no : ⊥ = cc in no);
       no_merges = is.no_merges;
       uses = is.uses;
-      ids = is.ids;
-      ids_differ = is.ids_differ;
+      given = is.given;
+      given_differ = is.given_differ;
       nodes = at.lawful;
       names = alias_names_sound (length draft.classes) draft.nodes draft.names draft.owners k alias is.names below new at;
       fets = more_fets draft.names alias draft.fets is.fets;
-      merges = more_merges (length draft.classes) elements draft.names alias draft.merges is.merges;
+      merges = more_merges (length draft.classes) (elements_known draft.version outline) draft.names alias draft.merges is.merges;
     }
 
-pub takes_alias-sound : (elements : List (List ℕ)) (draft : Draft) (name alias : List ℕ) (place : Option ℕ) → IsSound elements draft → draft.begun ≡ true
+pub takes_alias-sound : (outline : Outline) (draft : Draft) (name alias : List ℕ) (place : Option ℕ) → IsSound outline draft → draft.begun ≡ true
     → is_node_name alias ≡ true → is_among alias draft.names ≡ false → position (bytes_eq name) draft.names ≡ place
-    → OkHas (IsSound elements) (takes_alias draft place alias)
-takes_alias-sound elements draft name alias None is late formed new at = tt
-takes_alias-sound elements draft name alias (Some place) is late formed new at =
+    → OkHas (IsSound outline) (takes_alias draft place alias)
+takes_alias-sound outline draft name alias None is late formed new at = tt
+takes_alias-sound outline draft name alias (Some place) is late formed new at =
     let found = position-Some (bytes_eq name) draft.names place [] at in
     let inside : place < length draft.owners = omega (arith, found.0, is.names.count) in
-    alias_sound elements draft (slice_index draft.owners place) alias is late (is.names.within
+    alias_sound outline draft (slice_index draft.owners place) alias is late (is.names.within
     (slice_index draft.owners place) (In-get_or draft.owners place 0 inside)) formed new
 
-pub takes_equiv-sound : (elements : List (List ℕ)) (draft : Draft) (name alias : List ℕ) → IsSound elements draft → draft.begun ≡ true
-    → is_node_name alias ≡ true → OkHas (IsSound elements) (takes_equiv draft name alias)
-takes_equiv-sound elements draft name alias is late formed =
-    failed_has (IsSound elements) (is_among alias draft.names) _ NameTwice (λ new.
-    takes_alias-sound elements draft name alias (position (bytes_eq name) draft.names) is late formed new refl)
+pub takes_equiv-sound : (outline : Outline) (draft : Draft) (name alias : List ℕ) → IsSound outline draft → draft.begun ≡ true
+    → is_node_name alias ≡ true → OkHas (IsSound outline) (takes_equiv draft name alias)
+takes_equiv-sound outline draft name alias is late formed =
+    failed_has (IsSound outline) (is_among alias draft.names) _ NameTwice (λ new.
+    takes_alias-sound outline draft name alias (position (bytes_eq name) draft.names) is late formed new refl)

@@ -1,35 +1,39 @@
 -- When what a circuit file has said so far is sound; lines of the header and of uses keep it so.
 use Rattle.std.proofs.Common.{◌≡◌, ◌≤◌, ◌<◌, ◌&&◌, ℕ, ℤ, Bool, true, false, List, [], ◌∷◌, ◌++◌}
 use Rattle.std.proofs.Common.{length, map, sym, ap, ◌∙◌, subst}
-use Rattle.std.specs.Prelude.{nat_lt, sum_by}
+use Rattle.std.specs.Prelude.{nat_lt, sum_by, Some}
 use Rattle.std.specs.Int.RustNames.{unsigned_abs}
 use Rattle.std.specs.List.{flat_map}
 use Rattle.std.proofs.lemmas.List.{map-append}
-use Rattle.std.proofs.lemmas.Slice.Eq.{bytes_eq-Decides}
-use Rattle.std.specs.Str.{bytes_eq}
 use Rattle.finite_sets.specs.Lists.{In, Distinct}
-use Rattle.finite_sets.proofs.Distincts.{Distinct-push}
-use Rattle.finite_sets.proofs.Searches.{All-from_In, absent-from_list_any}
+use Rattle.finite_sets.proofs.Searches.{All-from_In}
+use Rattle.text_scan.specs.PlainNames.{is_plain_name}
 use Rattle.ext_model.specs.declared.limits.TheConstants.{MOST_CLASSES, LENGTHS_EDGE}
-use Rattle.ext_model.specs.declared.records.UseRec.{UseRec}
 use Rattle.ext_model.specs.declared.records.NodeRec.{NodeRec}
 use Rattle.ext_model.specs.declared.records.FetRec.{FetRec}
-use Rattle.ext_model.specs.declared.records.MergeRec.{MergeRec}
+use Rattle.ext_model.specs.declared.arrays.ArrayUse.{ArrayUse}
+use Rattle.ext_model.specs.declared.arrays.MergeRow.{MergeRow}
 use Rattle.ext_model.specs.NodeNames.{is_word}
 use Rattle.ext_model.specs.RecordNames.{names_of}
-use Rattle.ext_model.specs.Lawful.{IsMeasure, AreMeasures, IsLawfulUse, IsLawfulNode}
+use Rattle.ext_model.specs.Lawful.{IsMeasure, AreMeasures, IsLawfulNode}
+use Rattle.ext_model.specs.LawfulArrays.{HasIdForm, IsArrayUse, IsMergeRow}
+use Rattle.ext_model.specs.Plain.{raised}
+use Rattle.element_index.specs.GivenNames as given_names
+use Rattle.element_index.specs.GivenNames.{gives_again}
 use Rattle.ext_reading.specs.declared.faults.ExtReadFault.TheVariants.{BadLine, NoHeader, Version as OtherVersion, NameTwice, Range, UseTwice}
 use Rattle.ext_reading.specs.declared.limits.TheConstants.{MOST_USES}
 use Rattle.ext_reading.specs.declared.lines.HeaderLine.{HeaderLine}
 use Rattle.ext_reading.specs.declared.lines.HeaderLine.TheVariants.{Tech, Timestamp, Version, Style, Scale, Classes}
 use Rattle.ext_reading.specs.declared.lines.UseLine.{UseLine}
 use Rattle.ext_reading.specs.Parts.{is_path}
-use Rattle.ext_reading.specs.Ranges.{class_values_in, six_in}
-use Rattle.ext_reading.specs.Drafts.{Draft, is_among, is_incomplete, was_seen, with_seen, is_other_version, with_header, takes_header, with_use, takes_use}
-use Rattle.ext_reading.specs.Drafts.{leads}
+use Rattle.ext_reading.specs.Ranges.{class_values_in, grid_in, six_in}
+use Rattle.ext_reading.specs.declared.outlines.Outline.{Outline}
+use Rattle.ext_reading.specs.Drafts.{Draft, is_incomplete, was_seen, with_seen, is_other_version, with_header, takes_header, with_use, takes_use}
+use Rattle.ext_reading.specs.Drafts.{elements_of, leads, all_lead, elements_known}
 use Rattle.ext_reading.proofs.Outcomes.{OkHas, next_has, passed_has, failed_has, Each, each_none, each_push}
+use Rattle.ext_reading.proofs.ElementIds.{distinct_push}
 use Rattle.ext_reading.proofs.LawfulLines.{IsFormedHeader, IsFormedUse}
-use Rattle.ext_reading.proofs.LawfulDrafts.{AreCounted, class_values_in-has, six_in-has, IsPoint}
+use Rattle.ext_reading.proofs.LawfulDrafts.{AreCounted, class_values_in-has, grid_in-has, six_in-has, IsPoint}
 use Rattle.ext_reading.proofs.LawfulDrafts.{IsMeasuredTerm}
 
 -- an area and a perimeter for each class
@@ -54,13 +58,19 @@ pub record IsSoundFet (names : List (List ℕ)) (fet : FetRec) : Type 0 where
   pub lengths : sum_by (λ side. unsigned_abs side.length) fet.terminals < LENGTHS_EDGE
 
 -- a merge of nodes with these names and of nodes below these elements
-pub record IsSoundMerge (classes : ℕ) (elements names : List (List ℕ)) (merge : MergeRec) : Type 0 where
-  pub first_path : is_path merge.first ≡ true
-  pub second_path : is_path merge.second ≡ true
-  pub first : leads elements names merge.first ≡ true
-  pub second : leads elements names merge.second ≡ true
-  pub cap : IsMeasure merge.cap
-  pub measures : AreMeasures classes merge.measures
+pub record IsSoundMerge (classes : ℕ) (elements names : List (List ℕ)) (row : MergeRow) : Type 0 where
+  pub is_row : IsMergeRow row
+  pub first_path : is_path row.first ≡ true
+  pub second_paths : (n : ℕ) → n < row.count → is_path (raised row.second n) ≡ true
+  pub first : leads elements names row.first ≡ true
+  pub seconds : all_lead elements names row.second row.count ≡ true
+  pub cap : IsMeasure row.cap
+  pub measures : AreMeasures classes row.measures
+
+-- a use of its form
+pub record IsSoundUse (used : ArrayUse) : Type 0 where
+  pub cell : is_plain_name used.cell ≡ true
+  pub is_use : IsArrayUse used
 
 -- all names of nodes
 abbrev pub names_in : List NodeRec → List (List ℕ)
@@ -74,124 +84,124 @@ pub record AreNames (nodes : List NodeRec) (names : List (List ℕ)) (owners : L
   pub count : length owners ≡ length names
   pub within : Each (λ owner. owner < length nodes) owners
 
-pub record IsSound (elements : List (List ℕ)) (draft : Draft) : Type 0 where
+pub record IsSound (outline : Outline) (draft : Draft) : Type 0 where
   pub tech : draft.seen.tech ≡ true → is_word draft.tech ≡ true
   pub classes : length draft.classes ≤ MOST_CLASSES
   pub no_nodes : draft.begun ≡ false → draft.nodes ≡ []
   pub no_merges : draft.begun ≡ false → draft.merges ≡ []
-  pub uses : Each IsLawfulUse draft.uses
-  pub ids : draft.ids ≡ map (λ element. element.id) draft.uses
-  pub ids_differ : Distinct draft.ids
+  pub uses : Each IsSoundUse draft.uses
+  pub given : draft.given ≡ map elements_of draft.uses
+  pub given_differ : Distinct (given_names.names_in draft.given)
   pub nodes : Each (IsLawfulNode (length draft.classes)) draft.nodes
   pub names : AreNames draft.nodes draft.names draft.owners
   pub fets : Each (IsSoundFet draft.names) draft.fets
-  pub merges : Each (IsSoundMerge (length draft.classes) elements draft.names) draft.merges
+  pub merges : Each (IsSoundMerge (length draft.classes) (elements_known draft.version outline) draft.names) draft.merges
 
 pub absent_in : {X : Type 0} (P : X → Type 0) (xs : List X) → xs ≡ [] → Each P xs
 absent_in {X} P xs none = let Q : List X → Type 0 = λ l. Each P l in subst Q (sym none) (each_none P)
 
 -- lines of the header
-pub header_sound : (elements : List (List ℕ)) (draft : Draft) (header : HeaderLine) → IsSound elements draft → IsFormedHeader header → draft.begun ≡ false
-    → OkHas (IsSound elements) (with_header (record draft { seen = with_seen draft.seen header }) header)
-header_sound elements draft (Tech name) is formed early = record {
+pub header_sound : (outline : Outline) (draft : Draft) (header : HeaderLine) → IsSound outline draft → IsFormedHeader header → draft.begun ≡ false
+    → OkHas (IsSound outline) (with_header (record draft { seen = with_seen draft.seen header }) header)
+header_sound outline draft (Tech name) is formed early = record {
   tech = λ e. formed;
   classes = is.classes;
   no_nodes = is.no_nodes;
   no_merges = is.no_merges;
   uses = is.uses;
-  ids = is.ids;
-  ids_differ = is.ids_differ;
+  given = is.given;
+  given_differ = is.given_differ;
   nodes = is.nodes;
   names = is.names;
   fets = is.fets;
   merges = is.merges;
 }
-header_sound elements draft (Classes values) is formed early =
-    next_has (λ found. length found ≤ MOST_CLASSES) (IsSound elements) (class_values_in values) _ (class_values_in-has values) (λ found few. record {
+header_sound outline draft (Classes values) is formed early =
+    next_has (λ found. length found ≤ MOST_CLASSES) (IsSound outline) (class_values_in values) _ (class_values_in-has values) (λ found few. record {
       tech = is.tech;
       classes = few;
       no_nodes = is.no_nodes;
       no_merges = is.no_merges;
       uses = is.uses;
-      ids = is.ids;
-      ids_differ = is.ids_differ;
+      given = is.given;
+      given_differ = is.given_differ;
       nodes = absent_in (IsLawfulNode (length found)) draft.nodes (is.no_nodes early);
       names = is.names;
       fets = is.fets;
-      merges = absent_in (IsSoundMerge (length found) elements draft.names) draft.merges (is.no_merges early);
+      merges = absent_in (IsSoundMerge (length found) (elements_known draft.version outline) draft.names) draft.merges (is.no_merges early);
     })
-header_sound elements draft Timestamp is formed early = record {
+header_sound outline draft Timestamp is formed early = record {
   tech = is.tech;
   classes = is.classes;
   no_nodes = is.no_nodes;
   no_merges = is.no_merges;
   uses = is.uses;
-  ids = is.ids;
-  ids_differ = is.ids_differ;
+  given = is.given;
+  given_differ = is.given_differ;
   nodes = is.nodes;
   names = is.names;
   fets = is.fets;
   merges = is.merges;
 }
-header_sound elements draft (Version is_one) is formed early = record {
+header_sound outline draft (Version version) is formed early = record {
   tech = is.tech;
   classes = is.classes;
   no_nodes = is.no_nodes;
   no_merges = is.no_merges;
   uses = is.uses;
-  ids = is.ids;
-  ids_differ = is.ids_differ;
+  given = is.given;
+  given_differ = is.given_differ;
+  nodes = is.nodes;
+  names = is.names;
+  fets = is.fets;
+  merges = absent_in (IsSoundMerge (length draft.classes) (elements_known (Some version) outline) draft.names) draft.merges (is.no_merges early);
+}
+header_sound outline draft Style is formed early = record {
+  tech = is.tech;
+  classes = is.classes;
+  no_nodes = is.no_nodes;
+  no_merges = is.no_merges;
+  uses = is.uses;
+  given = is.given;
+  given_differ = is.given_differ;
   nodes = is.nodes;
   names = is.names;
   fets = is.fets;
   merges = is.merges;
 }
-header_sound elements draft Style is formed early = record {
+header_sound outline draft Scale is formed early = record {
   tech = is.tech;
   classes = is.classes;
   no_nodes = is.no_nodes;
   no_merges = is.no_merges;
   uses = is.uses;
-  ids = is.ids;
-  ids_differ = is.ids_differ;
-  nodes = is.nodes;
-  names = is.names;
-  fets = is.fets;
-  merges = is.merges;
-}
-header_sound elements draft Scale is formed early = record {
-  tech = is.tech;
-  classes = is.classes;
-  no_nodes = is.no_nodes;
-  no_merges = is.no_merges;
-  uses = is.uses;
-  ids = is.ids;
-  ids_differ = is.ids_differ;
+  given = is.given;
+  given_differ = is.given_differ;
   nodes = is.nodes;
   names = is.names;
   fets = is.fets;
   merges = is.merges;
 }
 
-pub takes_header-sound : (elements : List (List ℕ)) (is_last : Bool) (draft : Draft) (header : HeaderLine) → IsSound elements draft → IsFormedHeader header
-    → OkHas (IsSound elements) (takes_header is_last draft header)
-takes_header-sound elements is_last draft header is formed =
-    failed_has (IsSound elements) draft.begun _ BadLine (λ early.
-    failed_has (IsSound elements) (is_last && is_incomplete (with_seen draft.seen header)) _ NoHeader (λ e1.
-    failed_has (IsSound elements) (is_other_version header) _ OtherVersion (λ e2.
-    failed_has (IsSound elements) (was_seen draft.seen header) _ NameTwice (λ e3.
-    header_sound elements draft header is formed early))))
+pub takes_header-sound : (outline : Outline) (is_last : Bool) (draft : Draft) (header : HeaderLine) → IsSound outline draft → IsFormedHeader header
+    → OkHas (IsSound outline) (takes_header is_last draft header)
+takes_header-sound outline is_last draft header is formed =
+    failed_has (IsSound outline) draft.begun _ BadLine (λ early.
+    failed_has (IsSound outline) (is_last && is_incomplete (with_seen draft.seen header)) _ NoHeader (λ e1.
+    failed_has (IsSound outline) (is_other_version header) _ OtherVersion (λ e2.
+    failed_has (IsSound outline) (was_seen draft.seen header) _ NameTwice (λ e3.
+    header_sound outline draft header is formed early))))
 
 -- a line behind the header begins
-pub begun_sound : (elements : List (List ℕ)) (draft : Draft) → IsSound elements draft → IsSound elements (record draft { begun = true })
-begun_sound elements draft is = record {
+pub begun_sound : (outline : Outline) (draft : Draft) → IsSound outline draft → IsSound outline (record draft { begun = true })
+begun_sound outline draft is = record {
   tech = is.tech;
   classes = is.classes;
   no_nodes = λ e. absurd (let no : ⊥ = cc in no);
   no_merges = λ e. absurd (let no : ⊥ = cc in no);
   uses = is.uses;
-  ids = is.ids;
-  ids_differ = is.ids_differ;
+  given = is.given;
+  given_differ = is.given_differ;
   nodes = is.nodes;
   names = is.names;
   fets = is.fets;
@@ -199,27 +209,29 @@ begun_sound elements draft is = record {
 }
 
 -- a use
-pub use_sound : (elements : List (List ℕ)) (draft : Draft) (element : UseRec) → IsSound elements draft → IsLawfulUse element
-    → is_among element.id draft.ids ≡ false
-    → IsSound elements (with_use draft element)
-use_sound elements draft element is lawful new = record {
+pub use_sound : (outline : Outline) (draft : Draft) (used : ArrayUse) → IsSound outline draft → IsSoundUse used
+    → gives_again draft.given (elements_of used) ≡ false → IsSound outline (with_use draft used)
+use_sound outline draft used is sound new = record {
   tech = is.tech;
   classes = is.classes;
   no_nodes = is.no_nodes;
   no_merges = is.no_merges;
-  uses = each_push IsLawfulUse draft.uses element is.uses lawful;
-  ids = ap (λ l. l ++ element.id ∷ []) is.ids ∙ sym (map-append (λ (e : UseRec). e.id) draft.uses (element ∷ []));
-  ids_differ = Distinct-push draft.ids element.id is.ids_differ (absent-from_list_any bytes_eq bytes_eq-Decides element.id draft.ids new);
+  uses = each_push IsSoundUse draft.uses used is.uses sound;
+  given = ap (λ l. l ++ elements_of used ∷ []) is.given ∙ sym (map-append elements_of draft.uses (used ∷ []));
+  given_differ = distinct_push draft.given (elements_of used) is.given_differ sound.is_use.id new;
   nodes = is.nodes;
   names = is.names;
   fets = is.fets;
   merges = is.merges;
 }
 
-pub takes_use-sound : (elements : List (List ℕ)) (draft : Draft) (line : UseLine) → IsSound elements draft → IsFormedUse line
-    → OkHas (IsSound elements) (takes_use draft line)
-takes_use-sound elements draft line is formed =
-    passed_has (IsSound elements) (nat_lt (length draft.uses) MOST_USES) _ Range (λ few.
-    next_has _ (IsSound elements) (six_in line.six) _ (six_in-has line.six) (λ six placed.
-    failed_has (IsSound elements) (is_among line.id draft.ids) _ UseTwice (λ new.
-    use_sound elements draft (record { cell = line.cell; id = line.id; six = six }) is (record { cell = formed.cell; id = formed.id; six = placed }) new)))
+pub takes_use-sound : (outline : Outline) (draft : Draft) (line : UseLine) → IsSound outline draft → IsFormedUse line
+    → OkHas (IsSound outline) (takes_use draft line)
+takes_use-sound outline draft line is formed =
+    passed_has (IsSound outline) (nat_lt (length draft.uses) MOST_USES) _ Range (λ few.
+    next_has (λ grid. HasIdForm grid line.name.id) (IsSound outline) (grid_in line.name.grid) _ (grid_in-has line.name.grid line.name.id formed.named)
+    (λ grid form.
+    next_has _ (IsSound outline) (six_in line.six) _ (six_in-has line.six) (λ six placed.
+    let used : ArrayUse = record { cell = line.cell; id = line.name.id; six = six; grid = grid } in
+    failed_has (IsSound outline) (gives_again draft.given (elements_of used)) _ UseTwice (λ new.
+    use_sound outline draft used is (record { cell = formed.cell; is_use = record { id = form; six = placed } }) new))))

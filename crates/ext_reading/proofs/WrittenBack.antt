@@ -1,37 +1,41 @@
 -- A record is read back from its written text.
-use Rattle.std.proofs.Common.{◌≡◌, ◌≤◌, ◌+◌, ℕ, Bool, true, false, List, [], ◌∷◌, ◌++◌, length, map, Ok, refl, ap, ◌∙◌, subst, arith}
-use Rattle.std.proofs.Common.{inl, inr, length-append}
-use Rattle.std.specs.Prelude.{codes}
+use Rattle.std.proofs.Common.{◌≡◌, ◌≤◌, ◌+◌, ℕ, Bool, true, false, List, [], ◌∷◌, ◌++◌, length, map, Ok, refl, sym, ap, ◌∙◌, subst, arith}
+use Rattle.std.proofs.Common.{length-append}
+use Rattle.std.specs.Prelude.{codes, fold}
 use Rattle.std.specs.List.{AllByRecursion, flat_map}
 use Rattle.std.proofs.lemmas.List.{map-append, length-map}
-use Rattle.finite_sets.specs.Lists.{In}
-use Rattle.finite_sets.proofs.Members.{In-append_left, In-append_right, In-map, In-map_source}
+use Rattle.std.proofs.lemmas.List.Sums.{fold-append}
+use Rattle.finite_sets.specs.Lists.{In, Distinct}
 use Rattle.finite_sets.proofs.Searches.{AllByRecursion-append}
-use Rattle.text_scan.specs.Decimal.{decimal}
 use Rattle.text_scan.specs.Lines.{lines_of}
 use Rattle.text_scan.specs.Written.{IsWord, IsLine, line_of}
-use Rattle.text_scan.proofs.WrittenLemmas.{IsWord-test, words_of-line_of, lines_of-text_of, IsLine-line_of}
+use Rattle.text_scan.proofs.WrittenLemmas.{IsWord-test, lines_of-text_of, IsLine-line_of}
 use Rattle.text_form.specs.Folds.{first_fault_or, text_state}
 use Rattle.text_form.specs.SaidLines.{and_then}
 use Rattle.text_form.proofs.FoldLaws.{first_fault_or-append, text_state-ended}
-use Rattle.ext_model.specs.declared.records.UseRec.{UseRec}
 use Rattle.ext_model.specs.declared.records.NodeRec.{NodeRec}
 use Rattle.ext_model.specs.declared.records.FetRec.{FetRec}
-use Rattle.ext_model.specs.declared.records.CellExt.{CellExt}
+use Rattle.ext_model.specs.declared.arrays.ArrayExt.{ArrayExt}
 use Rattle.ext_model.specs.NodeNames.{is_word, is_node_name}
+use Rattle.ext_model.specs.LawfulArrays.{IsLawfulArrayExt}
+use Rattle.ext_model.specs.Plain.{plain}
 use Rattle.ext_model.specs.RecordNames.{node_names, element_names}
+use Rattle.element_index.specs.declared.uses.UseElements.{UseElements}
+use Rattle.element_index.specs.GivenNames as given_names
 use Rattle.ext_text.specs.WrittenTexts.{header_words, use_words, equiv_words, node_lines, fet_words, merge_words, ext_lines, lines_text, ext_text}
 use Rattle.ext_reading.specs.declared.limits.TheConstants.{GREATEST_CLASS_VALUE}
 use Rattle.ext_reading.specs.declared.outlines.Outline.{Outline}
-use Rattle.ext_reading.specs.Drafts.{has_its_nodes, step, finish, nothing_yet}
-use Rattle.ext_reading.specs.ExtTexts.{outline_of, draft_in, record_of, ext_in}
+use Rattle.ext_reading.specs.Drafts.{elements_of, has_its_nodes, step, finish, nothing_yet}
+use Rattle.ext_reading.specs.ExtTexts.{with_line, outline_of, draft_in, record_of, ext_in}
 use Rattle.ext_reading.specs.ReadBack.{IsReadable}
 use Rattle.ext_reading.proofs.Outcomes.{Each, each_of_All, by_recursion}
 use Rattle.ext_reading.proofs.WrittenWords.{IsWord-word, words-values}
 use Rattle.ext_reading.proofs.WrittenLines.{words_node, words_equiv, IsWrittenFet, words_fet, words_merge}
 use Rattle.ext_reading.proofs.WrittenSteps.{made}
-use Rattle.ext_reading.proofs.WrittenParts.{IsWrittenUse, use_read, IsWrittenNamed, IsWrittenJoin, uses_back, nodes_back, fets_back, merges_back, added_element}
+use Rattle.ext_reading.proofs.WrittenParts.{IsWrittenUse, use_read, IsWrittenNamed, IsWrittenJoin, names_of_both, uses_back, nodes_back, fets_back, merges_back}
 use Rattle.ext_reading.proofs.WrittenHeaders.{header_back}
+use Rattle.ext_reading.proofs.WrittenOutlines.{none_said, uses_added, kept_lines}
+use Rattle.ext_reading.proofs.ElementIds.{names_given}
 use Rattle.ext_reading.proofs.WrittenRecords.{written_uses, written_nodes, written_fets, written_merges}
 
 -- lines of words
@@ -54,7 +58,7 @@ words_named classes (n ∷ nodes) all =
           (words_named classes nodes all.1),
     )
 
-header_lines : (tech classes : List ℕ) → is_word tech ≡ true → AllByRecursion AreWords (header_words tech classes)
+header_lines : (tech classes : List ℕ) → is_word tech ≡ true → AllByRecursion AreWords (header_words (codes "2") tech classes)
 header_lines tech classes named =
     let one = IsWord-test (codes "1") refl in
     let name = IsWord-word tech named in (
@@ -62,7 +66,7 @@ header_lines tech classes named =
       (
         (IsWord-test (codes "timestamp") refl, (IsWord-test (codes "0") refl, tt)),
         (
-          (IsWord-test (codes "version") refl, (one, tt)),
+          (IsWord-test (codes "version") refl, (IsWord-test (codes "2") refl, tt)),
           (
             (IsWord-test (codes "style") refl, (name, tt)),
             ((IsWord-test (codes "scale") refl, (one, (one, (one, tt)))), ((IsWord-test (codes "resistclasses") refl, words-values classes), tt)),
@@ -71,54 +75,58 @@ header_lines tech classes named =
       ),
     )
 
-use_lines : (ext : CellExt) → AllByRecursion IsWrittenUse ext.uses → AllByRecursion AreWords (map use_words ext.uses)
+-- the names of the elements differ
+names_apart : (ext : ArrayExt) → IsLawfulArrayExt ext → Distinct (names_of_both [] ext.uses)
+names_apart ext lawful = subst Distinct (sym (names_given ext.uses)) lawful.plain.element_names_differ
+
+use_lines : (ext : ArrayExt) → AllByRecursion IsWrittenUse ext.uses → AllByRecursion AreWords (map use_words ext.uses)
 use_lines ext all =
-    let outline : Outline = record { elements = []; last = 0 } in
+    let outline : Outline = record { singles = []; all = []; last = 0 } in
     all_map AreWords IsWrittenUse use_words ext.uses all (λ u is. (use_read outline 0 true [] [] [] u is).words)
 
-all_lines : (ext : CellExt) → IsReadable ext → AllByRecursion AreWords (ext_lines ext)
+all_lines : (ext : ArrayExt) → IsReadable ext → AllByRecursion AreWords (ext_lines ext)
 all_lines ext is =
-    let fets = all_map AreWords (λ (fet : FetRec). IsWrittenFet fet × (has_its_nodes (node_names ext) fet ≡ true)) fet_words ext.fets
+    let fets = all_map AreWords (λ (fet : FetRec). IsWrittenFet fet × (has_its_nodes (node_names (plain ext)) fet ≡ true)) fet_words ext.fets
     (written_fets ext is) (λ f one. words_fet f one.0) in
-    let joins = written_merges ext (element_names ext) is (λ id h. h) in
-    let merges = all_map AreWords (IsWrittenJoin ext.classes (element_names ext) (node_names ext)) merge_words ext.merges joins
+    let joins = written_merges ext (element_names (plain ext)) is (λ id h. h) in
+    let merges = all_map AreWords (IsWrittenJoin ext.classes (element_names (plain ext)) (node_names (plain ext))) merge_words ext.merges joins
     (λ m one. words_merge m one.merge_is) in
-    AllByRecursion-append AreWords (header_words ext.tech ext.classes) _ (header_lines ext.tech ext.classes is.lawful.tech)
+    AllByRecursion-append AreWords (header_words (codes "2") ext.tech ext.classes) _ (header_lines ext.tech ext.classes is.lawful.plain.tech)
     (AllByRecursion-append AreWords (map use_words ext.uses) _ (use_lines ext (written_uses ext is))
     (AllByRecursion-append AreWords (flat_map node_lines ext.nodes) _ (words_named ext.classes ext.nodes (written_nodes ext is))
     (AllByRecursion-append AreWords (map fet_words ext.fets) (map merge_words ext.merges) fets merges)))
 
-lines_written : (ext : CellExt) → IsReadable ext → lines_of (ext_text ext) ≡ map line_of (ext_lines ext)
+lines_written : (ext : ArrayExt) → IsReadable ext → lines_of (ext_text ext) ≡ map line_of (ext_lines ext)
 unfolding lines_text
 lines_written ext is = lines_of-text_of (map line_of (ext_lines ext)) (all_map IsLine AreWords line_of (ext_lines ext) (all_lines ext is)
     (λ words all. IsLine-line_of words all))
 
 -- the elements of the outline
-elements_met : (ext : CellExt) → IsReadable ext → Each (λ id. In id (outline_of (map line_of (ext_lines ext))).elements) (element_names ext)
+elements_met : (ext : ArrayExt) → IsReadable ext
+    → Each (λ id. In id (given_names.names_in (outline_of (map line_of (ext_lines ext))).all)) (element_names (plain ext))
 elements_met ext is = λ id h.
-    let source = In-map_source (λ (element : UseRec). element.id) id ext.uses h in
-    let u = source.0 in
-    let outline : Outline = record { elements = []; last = 0 } in
-    let uses : Each IsWrittenUse ext.uses = each_by_recursion IsWrittenUse ext.uses (written_uses ext is) in
-    let read = use_read outline 0 true [] [] [] u (uses u source.1.0) in
-    let there : In (use_words u) (ext_lines ext) =
-    In-append_right (use_words u) (header_words ext.tech ext.classes) _ (In-append_left (use_words u) (map use_words ext.uses) _
-    (In-map use_words u ext.uses source.1.0)) in
-    subst (λ (n : List ℕ). In n (outline_of (map line_of (ext_lines ext))).elements) (read.says_it.1.1 ∙ source.1.1)
-    (added_element [] (map line_of (ext_lines ext)) (line_of (use_words u)) (u.cell ∷ u.id ∷ map decimal u.six) read.says_it.0
-    (In-map line_of (use_words u) (ext_lines ext) there) (words_of-line_of (use_words u) read.words) read.says_it.1.0)
-  where
-    each_by_recursion : {X : Type 0} (P : X → Type 0) (xs : List X) → AllByRecursion P xs → Each P xs
-    each_by_recursion P [] all = λ x h. absurd h
-    each_by_recursion {X} P (y ∷ ys) all = λ x h. elim h [ inl e ↦ subst P e all.0 | inr there ↦ each_by_recursion P ys all.1 x there ]
+    let add = with_line true in
+    let header = header_words (codes "2") ext.tech ext.classes in
+    let uses = map use_words ext.uses in
+    let rest = flat_map node_lines ext.nodes ++ (map fet_words ext.fets ++ map merge_words ext.merges) in
+    let none = none_said header (header_lines ext.tech ext.classes is.lawful.plain.tech) (refl, (refl, (refl, (refl, (refl, (refl, tt)))))) in
+    let all = uses_added [] ext.uses (written_uses ext is) (names_apart ext is.lawful) in
+    let whole : fold add [] (map line_of (ext_lines ext)) ≡ fold add (map elements_of ext.uses) (map line_of rest) =
+    ap (fold add []) (map-append line_of header (uses ++ rest) ∙ ap (λ l. map line_of header ++ l) (map-append line_of uses rest))
+    ∙ (fold-append add [] (map line_of header) (map line_of uses ++ map line_of rest)
+    ∙ (ap (λ (known : List UseElements). fold add known (map line_of uses ++ map line_of rest)) none
+    ∙ (fold-append add [] (map line_of uses) (map line_of rest)
+    ∙ ap (λ (known : List UseElements). fold add known (map line_of rest)) all))) in
+    let there : In id (given_names.names_in (map elements_of ext.uses)) = subst (λ (l : List (List ℕ)). In id l) (sym (names_given ext.uses)) h in
+    subst (λ (known : List UseElements). In id (given_names.names_in known)) (sym whole) (kept_lines (map elements_of ext.uses) (map line_of rest) id there)
 
 -- the lines are read one kind after another
-lines_back : (ext : CellExt) → IsReadable ext
+lines_back : (ext : ArrayExt) → IsReadable ext
     → (b : Bool) × ((owners : List ℕ) × (first_fault_or (step (outline_of (map line_of (ext_lines ext)))) 1 nothing_yet (map line_of (ext_lines ext))
-    ≡ Ok (made b ext.tech ext.classes ext.uses ext.nodes (node_names ext) owners ext.fets ext.merges)))
+    ≡ Ok (made b ext.tech ext.classes ext.uses ext.nodes (node_names (plain ext)) owners ext.fets ext.merges)))
 lines_back ext is =
     let outline = outline_of (map line_of (ext_lines ext)) in
-    let header = header_words ext.tech ext.classes in
+    let header = header_words (codes "2") ext.tech ext.classes in
     let uses = map use_words ext.uses in
     let nodes = flat_map node_lines ext.nodes in
     let fets = map fet_words ext.fets in
@@ -130,12 +138,12 @@ lines_back ext is =
     let k2 = k1 + length (map line_of uses) in
     let k3 = k2 + length (map line_of nodes) in
     let k4 = k3 + length (map line_of fets) in
-    let zero = header_back outline ext.tech ext.classes is.lawful.tech values is.lawful.classes long in
-    let one = uses_back outline k1 false ext.tech ext.classes [] ext.uses (written_uses ext is) (omega (arith, is.uses)) is.lawful.element_names_differ in
-    let two = nodes_back outline k2 one.0 ext.tech ext.classes ext.uses [] ext.nodes [] [] (written_nodes ext is) refl is.lawful.node_names_differ in
-    let three = fets_back outline k3 two.begun ext.tech ext.classes ext.uses ext.nodes (node_names ext) two.owners [] ext.fets (written_fets ext is) in
-    let joins = written_merges ext outline.elements is (elements_met ext is) in
-    let four = merges_back outline k4 three.0 ext.tech ext.classes ext.uses ext.nodes (node_names ext) two.owners ext.fets [] ext.merges joins in
+    let zero = header_back outline ext.tech ext.classes is.lawful.plain.tech values is.lawful.plain.classes long in
+    let one = uses_back outline k1 false ext.tech ext.classes [] ext.uses (written_uses ext is) (omega (arith, is.uses)) (names_apart ext is.lawful) in
+    let two = nodes_back outline k2 one.0 ext.tech ext.classes ext.uses [] ext.nodes [] [] (written_nodes ext is) refl is.lawful.plain.node_names_differ in
+    let three = fets_back outline k3 two.begun ext.tech ext.classes ext.uses ext.nodes (node_names (plain ext)) two.owners [] ext.fets (written_fets ext is) in
+    let joins = written_merges ext (given_names.names_in outline.all) is (elements_met ext is) in
+    let four = merges_back outline k4 three.0 ext.tech ext.classes ext.uses ext.nodes (node_names (plain ext)) two.owners ext.fets [] ext.merges joins in
     let s = step outline in (
       four.0,
       (
@@ -146,21 +154,21 @@ lines_back ext is =
             ∙ (first_fault_or-append s k1 _ (map line_of uses) (map line_of (nodes ++ (fets ++ merges))) _ one.1
             ∙ (ap (first_fault_or s k2 (made one.0 ext.tech ext.classes ext.uses [] [] [] [] [])) (map-append line_of nodes (fets ++ merges))
             ∙ (first_fault_or-append s k2 _ (map line_of nodes) (map line_of (fets ++ merges)) _ two.read
-            ∙ (ap (first_fault_or s k3 (made two.begun ext.tech ext.classes ext.uses ext.nodes (node_names ext) two.owners [] []))
+            ∙ (ap (first_fault_or s k3 (made two.begun ext.tech ext.classes ext.uses ext.nodes (node_names (plain ext)) two.owners [] []))
             (map-append line_of fets merges)
             ∙ (first_fault_or-append s k3 _ (map line_of fets) (map line_of merges) _ three.1
             ∙ four.1))))))),
       ),
     )
 
-draft_back : (ext : CellExt) → IsReadable ext
-    → (b : Bool) × ((owners : List ℕ) × (draft_in (ext_text ext) ≡ Ok (made b ext.tech ext.classes ext.uses ext.nodes (node_names ext) owners ext.fets
+draft_back : (ext : ArrayExt) → IsReadable ext
+    → (b : Bool) × ((owners : List ℕ) × (draft_in (ext_text ext) ≡ Ok (made b ext.tech ext.classes ext.uses ext.nodes (node_names (plain ext)) owners ext.fets
     ext.merges)))
 unfolding draft_in
 draft_back ext is =
     let lines = map line_of (ext_lines ext) in
     let read = lines_back ext is in
-    let draft = made read.0 ext.tech ext.classes ext.uses ext.nodes (node_names ext) read.1.0 ext.fets ext.merges in (
+    let draft = made read.0 ext.tech ext.classes ext.uses ext.nodes (node_names (plain ext)) read.1.0 ext.fets ext.merges in (
       read.0,
       (
         read.1.0,
@@ -169,5 +177,5 @@ draft_back ext is =
       ),
     )
 
-pub read_back : (ext : CellExt) → IsReadable ext → ext_in ext.cell (ext_text ext) ≡ Ok ext
+pub read_back : (ext : ArrayExt) → IsReadable ext → ext_in ext.cell (ext_text ext) ≡ Ok ext
 read_back ext is = let read = draft_back ext is in ap (λ found. and_then found (λ draft. Ok (record_of ext.cell draft))) read.1.1

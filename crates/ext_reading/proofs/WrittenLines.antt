@@ -1,22 +1,30 @@
 -- Lines as they are written say what they were written from.
-use Rattle.std.proofs.Common.{◌≡◌, ◌≤◌, ◌&&◌, ℕ, ℤ, Bool, true, false, cond, List, [], ◌∷◌, ◌++◌, map, Ok, Err, FitsSigned, refl, ap, ◌∙◌, arith}
-use Rattle.std.specs.Prelude.{Some, pos, ◌+ℤ◌, ◌<ℤ◌, codes}
+use Rattle.std.proofs.Common.{◌≡◌, ◌≤◌, ◌&&◌, subst, inl, inr, length-append, ℕ, ℤ, Bool, true, false, cond, List, [], ◌∷◌, ◌++◌, map, Ok, Err}
+use Rattle.std.proofs.Common.{FitsSigned, refl, ap, ◌∙◌, arith}
+use Rattle.std.specs.Prelude.{Option, Some, None, pos, ◌+ℤ◌, ◌<ℤ◌, codes}
 use Rattle.std.specs.Int.{w32}
 use Rattle.std.specs.List.{AllByRecursion, flat_map, list_all}
 use Rattle.std.proofs.lemmas.Bool.Decides.{Decides-int_eq}
 use Rattle.std.proofs.lemmas.Int.{ints}
+use Rattle.finite_sets.proofs.Members.{In-append_cases}
+use Rattle.finite_sets.proofs.Searches.{All-from_In}
 use Rattle.text_scan.specs.Decimal.{decimal}
 use Rattle.text_scan.specs.PlainNames.{is_plain_name}
-use Rattle.text_scan.specs.Written.{IsWord}
+use Rattle.text_scan.specs.Written.{is_separator, IsWord}
 use Rattle.text_scan.proofs.WrittenLemmas.{IsWord-decimal, IsWord-test}
 use Rattle.ext_model.specs.declared.limits.TheConstants.{FET_EDGE}
 use Rattle.ext_model.specs.declared.records.NodeRec.{NodeRec}
 use Rattle.ext_model.specs.declared.records.FetRec.{FetRec}
-use Rattle.ext_model.specs.declared.records.MergeRec.{MergeRec}
+use Rattle.ext_model.specs.declared.arrays.MergeRow.{MergeRow}
 use Rattle.ext_model.specs.NodeNames.{is_word_byte, is_word, is_node_name}
 use Rattle.ext_model.specs.Lawful.{IsMeasure}
+use Rattle.ext_model.specs.LawfulArrays.{HasIdForm}
+use Rattle.ext_model.proofs.ElementForms.{id_form, whole_form}
+use Rattle.geo_core.specs.declared.grids.Grid.{Grid}
+use Rattle.text_form.specs.SaidLines.{and_then}
 use Rattle.ext_text.specs.NodeLines.{quoted, measure_words, node_words}
-use Rattle.ext_text.specs.WrittenTexts.{equiv_words, term_words, fet_words, merge_words}
+use Rattle.ext_text.specs.WrittenTexts.{span_text, use_name, equiv_words, term_words, fet_words, row_path, merge_words}
+use Rattle.ext_reading.specs.Drafts.{range_of, second_of, count_of}
 use Rattle.ext_reading.specs.declared.faults.ExtReadFault.TheVariants.{BadLine}
 use Rattle.ext_reading.specs.declared.limits.TheConstants.{GREATEST_CLASS_VALUE}
 use Rattle.ext_reading.specs.declared.lines.Corners.{Corners}
@@ -26,39 +34,82 @@ use Rattle.ext_reading.specs.declared.lines.FetLine.{FetLine}
 use Rattle.ext_reading.specs.declared.lines.MergeLine.{MergeLine}
 use Rattle.ext_reading.specs.declared.lines.HeaderLine.TheVariants.{Tech, Classes}
 use Rattle.ext_reading.specs.declared.lines.ExtLine.TheVariants.{Header, Use, Node, Equiv, Fet, Merge}
-use Rattle.ext_reading.specs.Parts.{is_path, is_next, if_formed, word_in, cell_in, element_in, substrate_in, node_name_in, path_in, numerals_in}
-use Rattle.ext_reading.specs.LineForms.{six_numerals, side_in, sides_from}
+use Rattle.ext_reading.specs.Parts.{is_path, is_next, if_formed, word_in, cell_in, substrate_in, node_name_in, path_in, numerals_in}
+use Rattle.ext_reading.specs.LineForms.{six_numerals, use_name_in, side_in, sides_from}
 use Rattle.ext_reading.specs.LineForms.{if_corners, corners_in, words_say}
 use Rattle.ext_reading.proofs.WrittenWords.{IsWord-word, IsWord-plain, IsWord-quoted, node_name_word, word_bytes, unquoted-quoted, formed, node_name_in-quoted}
 use Rattle.ext_reading.proofs.WrittenWords.{numeral_in-measure, numeral_in-short, IsMeasured, numerals_of, numerals_from-measures, words-measures}
 use Rattle.ext_reading.proofs.WrittenWords.{values_said, numerals_from-values, IsWrittenTerm, side_said, side_in-term, sides_from-terms, words-term}
 use Rattle.ext_reading.proofs.WrittenWords.{words-terms}
+use Rattle.ext_reading.proofs.WrittenNames.{grid_said, use_name_back}
+use Rattle.ext_reading.proofs.Outcomes.{Each, each_of_All}
 
--- a use with these six numbers
-abbrev pub use_said : List ℕ → List ℕ → ℤ → ℤ → ℤ → ℤ → ℤ → ℤ → UseLine
-use_said cell id a b c d e f = record { cell = cell; id = id; six = (Some a, Some b, Some c, Some d, Some e, Some f) }
+-- a use with this grid and these six numbers
+abbrev pub use_said : List ℕ → List ℕ → Option Grid → ℤ → ℤ → ℤ → ℤ → ℤ → ℤ → UseLine
+use_said cell id grid a b c d e f = record {
+  cell = cell;
+  name = record { id = id; grid = grid_said grid };
+  six = (Some a, Some b, Some c, Some d, Some e, Some f);
+}
 
-pub says_use : (cell id : List ℕ) (a b c d e f : ℤ) → is_plain_name cell ≡ true → is_node_name id ≡ true → FitsSigned w32 a → FitsSigned w32 b
-    → FitsSigned w32 c
-    → FitsSigned w32 d → FitsSigned w32 e → FitsSigned w32 f
-    → words_say (codes "use" ∷ cell ∷ id ∷ decimal a ∷ decimal b ∷ decimal c ∷ decimal d ∷ decimal e ∷ decimal f ∷ []) ≡ Ok (Use (use_said cell id a b c d e f))
-says_use cell id a b c d e f plain named fa fb fc fd fe ff =
+pub says_use : (cell id : List ℕ) (grid : Option Grid) (a b c d e f : ℤ) → is_plain_name cell ≡ true → HasIdForm grid id → FitsSigned w32 a
+    → FitsSigned w32 b → FitsSigned w32 c → FitsSigned w32 d → FitsSigned w32 e → FitsSigned w32 f
+    → words_say (codes "use" ∷ cell ∷ use_name id grid ∷ decimal a ∷ decimal b ∷ decimal c ∷ decimal d ∷ decimal e ∷ decimal f ∷ [])
+    ≡ Ok (Use (use_said cell id grid a b c d e f))
+says_use cell id grid a b c d e f plain form fa fb fc fd fe ff =
+    let word = use_name id grid in
+    let numbers = decimal a ∷ decimal b ∷ decimal c ∷ decimal d ∷ decimal e ∷ decimal f ∷ [] in
     let first : cell_in cell ≡ Ok cell = formed (is_plain_name cell) cell plain in
-    let second : element_in id ≡ Ok id = formed (is_node_name id) id named in
-    let six : six_numerals (decimal a ∷ decimal b ∷ decimal c ∷ decimal d ∷ decimal e ∷ decimal f ∷ []) ≡ Ok (Some a, Some b, Some c, Some d, Some e, Some f) =
+    let second : use_name_in word ≡ Ok (record { id = id; grid = grid_said grid }) = use_name_back id grid form in
+    let six : six_numerals numbers ≡ Ok (Some a, Some b, Some c, Some d, Some e, Some f) =
     rw (numeral_in-short a fa, numeral_in-short b fb, numeral_in-short c fc, numeral_in-short d fd, numeral_in-short e fe, numeral_in-short f ff) refl in
-    rw (first, second, six) refl
+    ap (λ found. and_then found (λ cell. and_then (use_name_in word) (λ name. and_then (six_numerals numbers) (λ six.
+    Ok (Use (record { cell = cell; name = name; six = six })))))) first
+    ∙ (ap (λ found. and_then found (λ name. and_then (six_numerals numbers) (λ six. Ok (Use (record { cell = cell; name = name; six = six }))))) second
+    ∙ ap (λ found. and_then found (λ six. Ok (Use (record { cell = cell; name = record { id = id; grid = grid_said grid }; six = six })))) six)
 
-pub words_use : (cell id : List ℕ) (numbers : List ℤ) → is_plain_name cell ≡ true → is_node_name id ≡ true
-    → AllByRecursion IsWord (codes "use" ∷ cell ∷ id ∷ map decimal numbers)
-words_use cell id numbers plain named = (
-  IsWord-test (codes "use") refl,
-  (
-    IsWord-plain
-        cell plain,
-    (IsWord-word id (node_name_word id named), decimals numbers),
-  ),
-)
+-- bytes that end no word
+abbrev Plain : List ℕ → Type 0
+Plain text = Each (λ byte. is_separator byte ≡ false) text
+
+plain_append : (text more : List ℕ) → Plain text → Plain more → Plain (text ++ more)
+plain_append text more one two = λ byte h. elim (In-append_cases byte text more h) [ inl here ↦ one byte here | inr there ↦ two byte there ]
+
+plain_mark : (mark : ℕ) (text : List ℕ) → is_separator mark ≡ false → Plain text → Plain (mark ∷ text)
+plain_mark mark text is all = λ byte h. elim h [ inl e ↦ subst (λ (b : ℕ). is_separator b ≡ false) e is | inr there ↦ all byte there ]
+
+plain_word : (word : List ℕ) → IsWord word → Plain word
+plain_word word is = each_of_All (λ byte. is_separator byte ≡ false) word is.plain
+
+plain_number : (z : ℤ) (rest : List ℕ) → Plain rest → Plain (decimal z ++ rest)
+plain_number z rest all = plain_append (decimal z) rest (plain_word (decimal z) (IsWord-decimal z)) all
+
+plain_span : (lo hi sep : ℤ) → Plain (span_text lo hi sep)
+plain_span lo hi sep =
+    let last = decimal sep ++ 93 ∷ [] in
+    let two = decimal hi ++ 58 ∷ last in
+    plain_mark 91 (decimal lo ++ 58 ∷ two) refl
+    (plain_number lo (58 ∷ two) (plain_mark 58 two refl
+    (plain_number hi (58 ∷ last) (plain_mark 58 last refl (plain_number sep (93 ∷ []) (plain_mark 93 [] refl (λ byte h. absurd h)))))))
+
+-- the name of a use is a word
+word_named : (id : List ℕ) (grid : Option Grid) → HasIdForm grid id → IsWord (use_name id grid)
+word_named id None form = IsWord-word id (node_name_word id (whole_form id form))
+word_named id (Some grid) form =
+    let is = IsWord-word id (node_name_word id (id_form id form.0)) in
+    let x = span_text grid.xlo grid.xhi grid.xsep in
+    let y = span_text grid.ylo grid.yhi grid.ysep in
+    record {
+      some = let first = is.some in omega (arith, first, length-append id (x ++ y));
+      plain = All-from_In (λ byte. is_separator byte ≡ false) (id ++ (x ++ y))
+          (plain_append id (x ++ y) (plain_word id is)
+          (plain_append x y (plain_span grid.xlo grid.xhi grid.xsep) (plain_span grid.ylo grid.yhi grid.ysep)));
+    }
+
+pub words_use : (cell id : List ℕ) (grid : Option Grid) (numbers : List ℤ) → is_plain_name cell ≡ true → HasIdForm grid id
+    → AllByRecursion IsWord (codes "use" ∷ cell ∷ use_name id grid ∷ map decimal numbers)
+words_use cell id grid numbers plain form =
+    (IsWord-test (codes "use") refl, (IsWord-plain cell plain, (word_named id grid form, decimals numbers)))
   where
     decimals : (numbers : List ℤ) → AllByRecursion IsWord (map decimal numbers)
     decimals [] = tt
@@ -189,32 +240,53 @@ words_fet fet is =
       ),
     )
 
--- a merge
-pub record IsWrittenMerge (merge : MergeRec) : Type 0 where
-  pub first : is_path merge.first ≡ true
-  pub second : is_path merge.second ≡ true
-  pub first_bytes : list_all is_word_byte merge.first ≡ true
-  pub second_bytes : list_all is_word_byte merge.second ≡ true
-  pub cap : IsMeasure merge.cap
-  pub measures : AllByRecursion IsMeasured merge.measures
+-- The word is read as the second path of so many merges.
+pub record IsReadRow (second : List ℕ) (count : ℕ) (word : List ℕ) : Type 0 where
+  pub form : is_path word ≡ true
+  pub bytes : list_all is_word_byte word ≡ true
+  pub second_is : second_of word (range_of word) ≡ second
+  pub count_is : count_of (range_of word) ≡ count
 
-abbrev pub merge_said : MergeRec → MergeLine
-merge_said merge = record { first = merge.first; second = merge.second; cap = Some merge.cap; measures = numerals_of merge.measures }
+-- a row of merges
+pub record IsWrittenMerge (row : MergeRow) : Type 0 where
+  pub first : is_path row.first ≡ true
+  pub first_bytes : list_all is_word_byte row.first ≡ true
+  pub second : IsReadRow row.second row.count (row_path row.second row.count)
+  pub cap : IsMeasure row.cap
+  pub measures : AllByRecursion IsMeasured row.measures
+
+abbrev pub merge_said : MergeRow → MergeLine
+merge_said row = record {
+  first = row.first;
+  second = row_path row.second row.count;
+  cap = Some row.cap;
+  measures = numerals_of row.measures;
+}
 
 path_in-quoted : (path : List ℕ) → is_path path ≡ true → path_in (quoted path) ≡ Ok path
 path_in-quoted path is = ap (λ p. if_formed (is_path p) p) (unquoted-quoted path) ∙ formed (is_path path) path is
 
-pub says_merge : (merge : MergeRec) → IsWrittenMerge merge → words_say (merge_words merge) ≡ Ok (Merge (merge_said merge))
-says_merge merge is =
-    let one : path_in (quoted merge.first) ≡ Ok merge.first = path_in-quoted merge.first is.first in
-    let two : path_in (quoted merge.second) ≡ Ok merge.second = path_in-quoted merge.second is.second in
-    let measures : numerals_in (measure_words merge.measures) ≡ Ok (numerals_of merge.measures) = numerals_from-measures [] merge.measures is.measures in
-    rw (one, two, numeral_in-measure merge.cap is.cap, measures) refl
+-- a line of these words with a second path
+says_joined : (row : MergeRow) (second : List ℕ) → is_path row.first ≡ true → is_path second ≡ true → IsMeasure row.cap
+    → AllByRecursion IsMeasured row.measures
+    → words_say (codes "merge" ∷ quoted row.first ∷ quoted second ∷ decimal row.cap ∷ measure_words row.measures)
+    ≡ Ok (Merge (record { first = row.first; second = second; cap = Some row.cap; measures = numerals_of row.measures }))
+says_joined row second a b c d =
+    let one : path_in (quoted row.first) ≡ Ok row.first = path_in-quoted row.first a in
+    let two : path_in (quoted second) ≡ Ok second = path_in-quoted second b in
+    let measures : numerals_in (measure_words row.measures) ≡ Ok (numerals_of row.measures) = numerals_from-measures [] row.measures d in
+    rw (one, two, numeral_in-measure row.cap c, measures) refl
 
-pub words_merge : (merge : MergeRec) → IsWrittenMerge merge → AllByRecursion IsWord (merge_words merge)
-words_merge merge is = (
+pub says_merge : (row : MergeRow) → IsWrittenMerge row → words_say (merge_words row) ≡ Ok (Merge (merge_said row))
+says_merge row is = says_joined row (row_path row.second row.count) is.first is.second.form is.cap is.measures
+
+pub words_merge : (row : MergeRow) → IsWrittenMerge row → AllByRecursion IsWord (merge_words row)
+words_merge row is = (
   IsWord-test (codes "merge") refl,
-  (IsWord-quoted merge.first is.first_bytes, (IsWord-quoted merge.second is.second_bytes, (IsWord-decimal merge.cap, words-measures merge.measures))),
+  (
+    IsWord-quoted row.first is.first_bytes,
+    (IsWord-quoted (row_path row.second row.count) is.second.bytes, (IsWord-decimal row.cap, words-measures row.measures)),
+  ),
 )
 
 -- lines of the header with words of their own

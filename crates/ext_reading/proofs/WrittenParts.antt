@@ -1,47 +1,48 @@
 -- The records of a written text are read back, kind by kind.
-use Rattle.std.proofs.Common.{◌≡◌, ◌≤◌, ◌<◌, ◌+◌, ◌==◌, ℕ, ℤ, Bool, true, false, cond, List, [], ◌∷◌, ◌++◌, length, map, Ok, FitsSigned}
+use Rattle.std.proofs.Common.{◌≡◌, ◌≤◌, ◌<◌, ◌+◌, ◌==◌, ℕ, ℤ, Bool, true, false, List, [], ◌∷◌, ◌++◌, length, map, Ok, FitsSigned}
 use Rattle.std.proofs.Common.{refl, sym, ap, ◌∙◌, subst, arith, inl, inr, length-append, append_assoc, append-nil}
-use Rattle.std.specs.Prelude.{codes, fold, All}
+use Rattle.std.specs.Prelude.{All}
 use Rattle.std.specs.Int.{w32}
 use Rattle.std.specs.List.{AllByRecursion, flat_map}
 use Rattle.std.proofs.lemmas.List.{map-append}
-use Rattle.std.proofs.lemmas.Slice.Eq.{bytes_eq-Decides}
-use Rattle.std.specs.Str.{bytes_eq}
 use Rattle.finite_sets.specs.Lists.{In, Distinct}
-use Rattle.finite_sets.proofs.Members.{In-append_left, In-push}
+use Rattle.finite_sets.proofs.Members.{In-append_left}
 use Rattle.finite_sets.proofs.Distincts.{Distinct-cut, Distinct-append_left}
-use Rattle.finite_sets.proofs.Searches.{In-from_list_any}
 use Rattle.text_scan.specs.PlainNames.{is_plain_name}
-use Rattle.text_scan.specs.Words.{words_of}
 use Rattle.text_scan.specs.Written.{IsWord, line_of}
 use Rattle.text_form.specs.Folds.{first_fault_or, unless_faulty}
 use Rattle.text_form.proofs.FoldLaws.{first_fault_or-append}
 use Rattle.geo_core.specs.Images.{six_of}
 use Rattle.geo_core.specs.Orientation.{matrix}
-use Rattle.ext_model.specs.declared.records.UseRec.{UseRec}
 use Rattle.ext_model.specs.declared.records.NodeRec.{NodeRec}
 use Rattle.ext_model.specs.declared.records.FetRec.{FetRec}
-use Rattle.ext_model.specs.declared.records.MergeRec.{MergeRec}
+use Rattle.ext_model.specs.declared.arrays.ArrayUse.{ArrayUse}
+use Rattle.ext_model.specs.declared.arrays.MergeRow.{MergeRow}
 use Rattle.ext_model.specs.NodeNames.{is_node_name}
+use Rattle.ext_model.specs.declared.limits.TheConstants.{SHIFT_EDGE}
 use Rattle.ext_model.specs.Lawful.{IsPlacement}
+use Rattle.ext_model.specs.LawfulArrays.{HasIdForm}
 use Rattle.ext_text.specs.NodeLines.{node_words}
 use Rattle.ext_text.specs.WrittenTexts.{use_words, equiv_words, node_lines, fet_words, merge_words}
 use Rattle.ext_reading.specs.declared.limits.TheConstants.{MOST_USES}
 use Rattle.ext_reading.specs.declared.lines.UseLine.{UseLine}
 use Rattle.ext_reading.specs.declared.lines.ExtLine.TheVariants.{Use, Node, Equiv, Fet, Merge}
 use Rattle.ext_reading.specs.declared.outlines.Outline.{Outline}
-use Rattle.ext_reading.specs.LineForms.{words_say, use_line}
-use Rattle.ext_reading.specs.Drafts.{Draft, is_among, leads, has_its_nodes, step}
-use Rattle.ext_reading.specs.ExtTexts.{with_name, with_element_said, with_words, with_element}
+use Rattle.ext_reading.specs.LineForms.{words_say}
+use Rattle.ext_reading.specs.Ranges.{grid_in}
+use Rattle.element_index.specs.declared.uses.UseElements.{UseElements}
+use Rattle.element_index.specs.GivenNames as given_names
+use Rattle.element_index.specs.GivenNames.{element_ids, is_among, gives_again}
+use Rattle.ext_reading.specs.Drafts.{Draft, elements_of, leads, all_lead, has_its_nodes, step}
 use Rattle.geo_core.proofs.OrientationLaws.{is_orientation-six_of}
-use Rattle.ext_reading.proofs.OutlineLaws.{kept_words}
+use Rattle.ext_reading.proofs.ElementIds.{names_push, new_use}
 use Rattle.ext_reading.proofs.Outcomes.{Each, each_of_All}
 use Rattle.ext_reading.proofs.SoundRecords.{names_in}
 use Rattle.ext_reading.proofs.WrittenPaths.{is_among-not}
 use Rattle.ext_reading.proofs.WrittenLines.{use_said, says_use, words_use, IsWrittenNode, node_said, says_node, words_node, says_equiv, words_equiv}
 use Rattle.ext_reading.proofs.WrittenLines.{IsWrittenFet}
 use Rattle.ext_reading.proofs.WrittenLines.{fet_said, says_fet, words_fet, IsWrittenMerge, merge_said, says_merge, words_merge}
-use Rattle.ext_reading.proofs.WrittenSteps.{made, step_is, use_from, takes_use-is, takes_node-is, takes_equiv-is, takes_fet-is, takes_merge-is}
+use Rattle.ext_reading.proofs.WrittenSteps.{made, step_is, use_from, grid_back, takes_use-is, takes_node-is, takes_equiv-is, takes_fet-is, takes_merge-is}
 
 -- a line without a fault, and those behind it
 pub passes : (outline : Outline) (number : ℕ) (draft next : Draft) (line : List ℕ) (lines : List (List ℕ)) → step outline number draft line ≡ Ok next
@@ -49,26 +50,33 @@ pub passes : (outline : Outline) (number : ℕ) (draft next : Draft) (line : Lis
 passes outline number draft next line lines e = ap (λ found. unless_faulty number found (λ state. first_fault_or (step outline) (number + 1) state lines)) e
 
 -- uses
-pub record IsWrittenUse (element : UseRec) : Type 0 where
-  pub cell : is_plain_name element.cell ≡ true
-  pub id : is_node_name element.id ≡ true
-  pub six : IsPlacement element.six
-  pub fits : All (FitsSigned w32) element.six
+pub record IsWrittenUse (used : ArrayUse) : Type 0 where
+  pub cell : is_plain_name used.cell ≡ true
+  pub id : HasIdForm used.grid used.id
+  pub six : IsPlacement SHIFT_EDGE used.six
+  pub fits : All (FitsSigned w32) used.six
 
-pub record IsUseRead (outline : Outline) (number : ℕ) (begun : Bool) (tech classes : List ℕ) (done : List UseRec) (element : UseRec) : Type 0 where
-  pub says_it : (line : UseLine) × ((words_say (use_words element) ≡ Ok (Use line)) × (line.id ≡ element.id))
-  pub words : AllByRecursion IsWord (use_words element)
-  pub step_it : length done < MOST_USES → is_among element.id (map (λ e. e.id) done) ≡ false
-      → step outline number (made begun tech classes done [] [] [] [] []) (line_of (use_words element))
-      ≡ Ok (made true tech classes (done ++ element ∷ []) [] [] [] [] [])
+-- The line says the use.
+pub record IsUseSaid (used : ArrayUse) (line : UseLine) : Type 0 where
+  pub says_it : words_say (use_words used) ≡ Ok (Use line)
+  pub id : line.name.id ≡ used.id
+  pub grid : grid_in line.name.grid ≡ Ok used.grid
 
-pub use_read : (outline : Outline) (number : ℕ) (begun : Bool) (tech classes : List ℕ) (done : List UseRec) (element : UseRec) → IsWrittenUse element
-    → IsUseRead outline number begun tech classes done element
-use_read outline number begun tech classes done element is =
+pub record IsUseRead (outline : Outline) (number : ℕ) (begun : Bool) (tech classes : List ℕ) (done : List ArrayUse) (used : ArrayUse) : Type 0 where
+  pub line : UseLine
+  pub said : IsUseSaid used line
+  pub words : AllByRecursion IsWord (use_words used)
+  pub step_it : length done < MOST_USES → gives_again (map elements_of done) (elements_of used) ≡ false
+      → step outline number (made begun tech classes done [] [] [] [] []) (line_of (use_words used))
+      ≡ Ok (made true tech classes (done ++ used ∷ []) [] [] [] [] [])
+
+pub use_read : (outline : Outline) (number : ℕ) (begun : Bool) (tech classes : List ℕ) (done : List ArrayUse) (used : ArrayUse) → IsWrittenUse used
+    → IsUseRead outline number begun tech classes done used
+use_read outline number begun tech classes done used is =
     let t = is.six.transform in
     let m = matrix t.orient in
-    let same : use_from element.cell element.id m.a m.b t.dx m.d m.e t.dy ≡ element =
-    ap (λ (s : List ℤ). record { cell = element.cell; id = element.id; six = s }) is.six.numbers in
+    let made_use = use_from used.cell used.id used.grid m.a m.b t.dx m.d m.e t.dy in
+    let same : made_use ≡ used = ap (λ (s : List ℤ). record { cell = used.cell; id = used.id; six = s; grid = used.grid }) is.six.numbers in
     let fits : Each (FitsSigned w32) (six_of t) =
     each_of_All (FitsSigned w32) (six_of t) (subst (λ (s : List ℤ). All (FitsSigned w32) s) (sym is.six.numbers) is.fits) in
     let fa = fits m.a (inl refl) in
@@ -77,34 +85,44 @@ use_read outline number begun tech classes done element is =
     let fd = fits m.d (inr (inr (inr (inl refl)))) in
     let fe = fits m.e (inr (inr (inr (inr (inl refl))))) in
     let ff = fits t.dy (inr (inr (inr (inr (inr (inl refl)))))) in
-    let says = says_use element.cell element.id m.a m.b t.dx m.d m.e t.dy is.cell is.id fa fb fc fd fe ff in
-    let words = words_use element.cell element.id (six_of t) is.cell is.id in
+    let said = use_said used.cell used.id used.grid m.a m.b t.dx m.d m.e t.dy in
+    let says = says_use used.cell used.id used.grid m.a m.b t.dx m.d m.e t.dy is.cell is.id fa fb fc fd fe ff in
+    let words = words_use used.cell used.id used.grid (six_of t) is.cell is.id in
     subst (IsUseRead outline number begun tech classes done) same (record {
-      says_it = (use_said element.cell element.id m.a m.b t.dx m.d m.e t.dy, (says, refl));
+      line = said;
+      said = record { says_it = says; id = refl; grid = grid_back used.id used.grid is.id };
       words = words;
       step_it = λ few new. step_is outline number (made begun tech classes done [] [] [] [] [])
-          (made true tech classes (done ++ use_from element.cell element.id m.a m.b t.dx m.d m.e t.dy ∷ []) [] [] [] [] [])
-          (use_words (use_from element.cell element.id m.a m.b t.dx m.d m.e t.dy))
-          (Use (use_said element.cell element.id m.a m.b t.dx m.d m.e t.dy)) words says
-          (takes_use-is begun tech classes done outline.elements (number == outline.last) element.cell element.id m.a m.b t.dx m.d m.e t.dy fa fb fc fd fe ff
+          (made true tech classes (done ++ made_use ∷ []) [] [] [] [] [])
+          (use_words made_use) (Use said) words says
+          (takes_use-is begun tech classes done outline (number == outline.last) used.cell used.id used.grid m.a m.b t.dx m.d m.e t.dy is.id fa fb fc fd fe ff
           (is_orientation-six_of t m.a m.b t.dx m.d m.e t.dy refl) few new);
     })
 
-abbrev id_of : UseRec → List ℕ
-id_of element = element.id
+-- the names of the elements of these uses, and then those of the others
+abbrev pub names_of_both : List ArrayUse → List ArrayUse → List (List ℕ)
+names_of_both done uses = given_names.names_in (map elements_of done) ++ given_names.names_in (map elements_of uses)
 
-pub uses_back : (outline : Outline) (number : ℕ) (begun : Bool) (tech classes : List ℕ) (done uses : List UseRec) → AllByRecursion IsWrittenUse uses
-    → length done + length uses ≤ MOST_USES → Distinct (map id_of done ++ map id_of uses)
+pub names_moved : (done : List ArrayUse) (used : ArrayUse) (uses : List ArrayUse) → names_of_both (done ++ used ∷ []) uses ≡ names_of_both done (used ∷ uses)
+names_moved done used uses =
+    let others = given_names.names_in (map elements_of uses) in
+    ap (λ (l : List UseElements). given_names.names_in l ++ others) (map-append elements_of done (used ∷ []))
+    ∙ (ap (λ (l : List (List ℕ)). l ++ others) (names_push (map elements_of done) (elements_of used))
+    ∙ append_assoc (given_names.names_in (map elements_of done)) (element_ids used.id used.grid) others)
+
+pub new_here : (done : List ArrayUse) (used : ArrayUse) (uses : List ArrayUse) → Distinct (names_of_both done (used ∷ uses))
+    → gives_again (map elements_of done) (elements_of used) ≡ false
+new_here done used uses differ = new_use (map elements_of done) (elements_of used) (given_names.names_in (map elements_of uses)) differ
+
+pub uses_back : (outline : Outline) (number : ℕ) (begun : Bool) (tech classes : List ℕ) (done uses : List ArrayUse) → AllByRecursion IsWrittenUse uses
+    → length done + length uses ≤ MOST_USES → Distinct (names_of_both done uses)
     → (b : Bool) × (first_fault_or (step outline) number (made begun tech classes done [] [] [] [] []) (map line_of (map use_words uses))
     ≡ Ok (made b tech classes (done ++ uses) [] [] [] [] []))
 uses_back outline number begun tech classes done [] all few differ = (begun, ap (λ l. Ok (made begun tech classes l [] [] [] [] [])) (sym (append-nil done)))
 uses_back outline number begun tech classes done (u ∷ uses) all few differ =
-    let cut = Distinct-cut (map id_of done) (map id_of uses) u.id differ in
-    let new = is_among-not u.id (map id_of done) (λ h. cut.0 (In-append_left u.id (map id_of done) (map id_of uses) h)) in
-    let one = (use_read outline number begun tech classes done u all.0).step_it (omega arith) new in
-    let ids = ap (λ l. l ++ map id_of uses) (map-append id_of done (u ∷ [])) ∙ append_assoc (map id_of done) (u.id ∷ []) (map id_of uses) in
+    let one = (use_read outline number begun tech classes done u all.0).step_it (omega arith) (new_here done u uses differ) in
     let rest = uses_back outline (number + 1) true tech classes (done ++ u ∷ []) uses all.1 (omega (arith, length-append done (u ∷ [])))
-    (subst Distinct (sym ids) differ) in (
+    (subst Distinct (sym (names_moved done u uses)) differ) in (
       rest.0,
       passes outline number (made begun tech classes done [] [] [] [] []) (made true tech classes (done ++ u ∷ []) [] [] [] [] []) (line_of (use_words u))
           (map line_of (map use_words uses)) one
@@ -112,7 +130,7 @@ uses_back outline number begun tech classes done (u ∷ uses) all few differ =
     )
 
 -- the other names of a node
-record AreRead (outline : Outline) (number : ℕ) (tech classes : List ℕ) (uses : List UseRec) (done : List NodeRec) (node : NodeRec)
+record AreRead (outline : Outline) (number : ℕ) (tech classes : List ℕ) (uses : List ArrayUse) (done : List NodeRec) (node : NodeRec)
     (before so_far aliases : List (List ℕ))
     (owners more : List ℕ) : Type 0 where
   all_more : List ℕ
@@ -123,7 +141,7 @@ record AreRead (outline : Outline) (number : ℕ) (tech classes : List ℕ) (use
       ≡ Ok (made true tech classes uses (done ++ (record node { aliases = so_far ++ aliases }) ∷ []) (before ++ node.name ∷ (so_far ++ aliases))
       (owners ++ length done ∷ all_more) [] [])
 
-aliases_back : (outline : Outline) (number : ℕ) (tech classes : List ℕ) (uses : List UseRec) (done : List NodeRec) (node : NodeRec)
+aliases_back : (outline : Outline) (number : ℕ) (tech classes : List ℕ) (uses : List ArrayUse) (done : List NodeRec) (node : NodeRec)
     (before so_far aliases : List (List ℕ))
     (owners more : List ℕ) → is_node_name node.name ≡ true → AllByRecursion (λ alias. is_node_name alias ≡ true) aliases → length owners ≡ length before
     → length more ≡ length so_far → (In node.name before → ⊥) → Distinct ((before ++ node.name ∷ so_far) ++ aliases)
@@ -144,7 +162,7 @@ aliases_back outline number tech classes uses done node before so_far (a ∷ ali
     (made true tech classes uses (done ++ (record node { aliases = so_far ++ a ∷ [] }) ∷ []) (before ++ node.name ∷ (so_far ++ a ∷ []))
     (owners ++ length done ∷ (more ++ length done ∷ [])) [] [])
     (equiv_words node.name a) (Equiv node.name a) words (says_equiv node.name a named all.0)
-    (takes_equiv-is tech classes uses done so_named before so_far owners more outline.elements (number == outline.last) a count absent new) in
+    (takes_equiv-is tech classes uses done so_named before so_far owners more outline (number == outline.last) a count absent new) in
     let names = ap (λ l. l ++ aliases) (sym (append_assoc before (node.name ∷ so_far) (a ∷ [])))
     ∙ append_assoc (before ++ node.name ∷ so_far) (a ∷ []) aliases in
     let rest = aliases_back outline (number + 1) tech classes uses done node before (so_far ++ a ∷ []) aliases owners (more ++ length done ∷ []) named
@@ -165,13 +183,13 @@ pub record IsWrittenNamed (classes : List ℕ) (node : NodeRec) : Type 0 where
   pub count : length node.measures ≡ length classes
   pub aliases_are : AllByRecursion (λ alias. is_node_name alias ≡ true) node.aliases
 
-pub record NodesRead (outline : Outline) (number : ℕ) (start : Draft) (tech classes : List ℕ) (uses : List UseRec) (all nodes : List NodeRec)
+pub record NodesRead (outline : Outline) (number : ℕ) (start : Draft) (tech classes : List ℕ) (uses : List ArrayUse) (all nodes : List NodeRec)
     (names : List (List ℕ)) : Type 0 where
   pub begun : Bool
   pub owners : List ℕ
   pub read : first_fault_or (step outline) number start (map line_of (flat_map node_lines nodes)) ≡ Ok (made begun tech classes uses all names owners [] [])
 
-pub nodes_back : (outline : Outline) (number : ℕ) (begun : Bool) (tech classes : List ℕ) (uses : List UseRec) (done nodes : List NodeRec)
+pub nodes_back : (outline : Outline) (number : ℕ) (begun : Bool) (tech classes : List ℕ) (uses : List ArrayUse) (done nodes : List NodeRec)
     (names : List (List ℕ)) (owners : List ℕ)
     → AllByRecursion (IsWrittenNamed classes) nodes → length owners ≡ length names → Distinct (names ++ names_in nodes)
     → NodesRead outline number (made begun tech classes uses done names owners [] []) tech classes uses (done ++ nodes) nodes (names ++ names_in nodes)
@@ -188,7 +206,7 @@ nodes_back outline number begun tech classes uses done (n ∷ nodes) names owner
     let first : Draft = made true tech classes uses (done ++ (record n { aliases = [] }) ∷ []) (names ++ n.name ∷ []) (owners ++ length done ∷ []) [] [] in
     let one = step_is outline number (made begun tech classes uses done names owners [] []) first (node_words n) (Node (node_said n))
     (words_node n is.node_is) (says_node n is.node_is)
-    (takes_node-is begun tech classes uses done names owners outline.elements (number == outline.last) n is.node_is is.count
+    (takes_node-is begun tech classes uses done names owners outline (number == outline.last) n is.node_is is.count
     (is_among-not n.name names absent)) in
     let named = append_assoc names (n.name ∷ n.aliases) (names_in nodes) in
     let apart : Distinct ((names ++ n.name ∷ n.aliases) ++ names_in nodes) = subst Distinct (sym named) differ in
@@ -213,7 +231,7 @@ nodes_back outline number begun tech classes uses done (n ∷ nodes) names owner
     }
 
 -- transistors
-pub fets_back : (outline : Outline) (number : ℕ) (begun : Bool) (tech classes : List ℕ) (uses : List UseRec) (nodes : List NodeRec)
+pub fets_back : (outline : Outline) (number : ℕ) (begun : Bool) (tech classes : List ℕ) (uses : List ArrayUse) (nodes : List NodeRec)
     (names : List (List ℕ)) (owners : List ℕ)
     (done fets : List FetRec) → AllByRecursion (λ fet. IsWrittenFet fet × (has_its_nodes names fet ≡ true)) fets
     → (b : Bool) × (first_fault_or (step outline) number (made begun tech classes uses nodes names owners done []) (map line_of (map fet_words fets))
@@ -224,7 +242,7 @@ fets_back outline number begun tech classes uses nodes names owners done (f ∷ 
     let one = step_is outline number (made begun tech classes uses nodes names owners done [])
     (made true tech classes uses nodes names owners (done ++ f ∷ []) [])
     (fet_words f) (Fet (fet_said f)) (words_fet f all.0.0) (says_fet f all.0.0)
-    (takes_fet-is begun tech classes uses nodes names owners done outline.elements (number == outline.last) f all.0.0 all.0.1) in
+    (takes_fet-is begun tech classes uses nodes names owners done outline (number == outline.last) f all.0.0 all.0.1) in
     let rest = fets_back outline (number + 1) true tech classes uses nodes names owners (done ++ f ∷ []) fets all.1 in (
       rest.0,
       passes outline number (made begun tech classes uses nodes names owners done []) (made true tech classes uses nodes names owners (done ++ f ∷ []) [])
@@ -233,15 +251,15 @@ fets_back outline number begun tech classes uses nodes names owners done (f ∷ 
     )
 
 -- merges
-pub record IsWrittenJoin (classes : List ℕ) (elements names : List (List ℕ)) (merge : MergeRec) : Type 0 where
-  pub merge_is : IsWrittenMerge merge
-  pub count : length merge.measures ≡ length classes
-  pub first : leads elements names merge.first ≡ true
-  pub second : leads elements names merge.second ≡ true
+pub record IsWrittenJoin (classes : List ℕ) (elements names : List (List ℕ)) (row : MergeRow) : Type 0 where
+  pub merge_is : IsWrittenMerge row
+  pub count : length row.measures ≡ length classes
+  pub first : leads elements names row.first ≡ true
+  pub seconds : all_lead elements names row.second row.count ≡ true
 
-pub merges_back : (outline : Outline) (number : ℕ) (begun : Bool) (tech classes : List ℕ) (uses : List UseRec) (nodes : List NodeRec)
+pub merges_back : (outline : Outline) (number : ℕ) (begun : Bool) (tech classes : List ℕ) (uses : List ArrayUse) (nodes : List NodeRec)
     (names : List (List ℕ)) (owners : List ℕ)
-    (fets : List FetRec) (done merges : List MergeRec) → AllByRecursion (IsWrittenJoin classes outline.elements names) merges
+    (fets : List FetRec) (done merges : List MergeRow) → AllByRecursion (IsWrittenJoin classes (given_names.names_in outline.all) names) merges
     → (b : Bool) × (first_fault_or (step outline) number (made begun tech classes uses nodes names owners fets done) (map line_of (map merge_words merges))
     ≡ Ok (made b tech classes uses nodes names owners fets (done ++ merges)))
 merges_back outline number begun tech classes uses nodes names owners fets done [] all =
@@ -251,31 +269,10 @@ merges_back outline number begun tech classes uses nodes names owners fets done 
     let one = step_is outline number (made begun tech classes uses nodes names owners fets done)
     (made true tech classes uses nodes names owners fets (done ++ m ∷ []))
     (merge_words m) (Merge (merge_said m)) (words_merge m is.merge_is) (says_merge m is.merge_is)
-    (takes_merge-is begun tech classes uses nodes names owners fets done outline.elements (number == outline.last) m is.merge_is is.count is.first is.second) in
+    (takes_merge-is begun tech classes uses nodes names owners fets done outline (number == outline.last) m is.merge_is is.count is.first is.seconds) in
     let rest = merges_back outline (number + 1) true tech classes uses nodes names owners fets (done ++ m ∷ []) merges all.1 in (
       rest.0,
       passes outline number (made begun tech classes uses nodes names owners fets done)
           (made true tech classes uses nodes names owners fets (done ++ m ∷ [])) (line_of (merge_words m)) (map line_of (map merge_words merges)) one
           ∙ (rest.1 ∙ ap (λ l. Ok (made rest.0 tech classes uses nodes names owners fets l)) (append_assoc done (m ∷ []) merges)),
     )
-
--- each element is in the outline
-added_name : (names : List (List ℕ)) (name : List ℕ) → In name (with_name names name)
-added_name names name = step (is_among name names) refl
-  where
-    step : (t : Bool) → is_among name names ≡ t → In name (cond t names (names ++ name ∷ []))
-    step true is = In-from_list_any bytes_eq bytes_eq-Decides name names is
-    step false is = In-push names name
-
-kept_elements : (known : List (List ℕ)) (lines : List (List ℕ)) → Each (λ n. In n (fold with_element known lines)) known
-kept_elements known [] = λ n h. h
-kept_elements known (line ∷ lines) = λ n h. kept_elements (with_element known line) lines n (kept_words known (words_of line) n h)
-
-pub added_element : (known : List (List ℕ)) (lines : List (List ℕ)) (line : List ℕ) (words : List (List ℕ)) (said : UseLine) → In line lines
-    → words_of line ≡ codes "use" ∷ words → use_line words ≡ Ok (Use said) → In said.id (fold with_element known lines)
-added_element known [] line words said h is says = absurd h
-added_element known (l ∷ lines) line words said (inl e) is says =
-    kept_elements (with_element known l) lines said.id
-    (subst (λ (w : List (List ℕ)). In said.id (with_words known w)) (sym (ap words_of e ∙ is))
-    (subst (λ found. In said.id (with_element_said known found)) (sym says) (added_name known said.id)))
-added_element known (l ∷ lines) line words said (inr h) is says = added_element (with_element known l) lines line words said h is says

@@ -18,8 +18,9 @@ use Rattle.finite_sets.proofs.Searches.{All-from_In, list_any-of_absent}
 use Rattle.ext_model.specs.declared.names.TheConstants.{SLASH}
 use Rattle.ext_model.specs.NodeNames.{is_word_byte, is_word, slashes_in, is_node_name}
 use Rattle.ext_model.specs.Paths.{path_text}
+use Rattle.element_index.specs.GivenNames.{is_among}
 use Rattle.ext_reading.specs.Parts.{is_slash, is_path}
-use Rattle.ext_reading.specs.Drafts.{is_among, leads}
+use Rattle.ext_reading.specs.Drafts.{leads}
 use Rattle.ext_reading.proofs.Outcomes.{Each}
 use Rattle.ext_reading.proofs.WrittenWords.{word_bytes, node_name_word}
 
@@ -80,14 +81,14 @@ bytes_of_path (id ∷ ids) name all is =
     ∙ bytes_of_path ids name (λ n h. all n (inr h)) is)
 
 -- a path with a slash, by its first name
-slashed : (id rest : List ℕ) → list_any is_slash (id ++ SLASH ∷ rest) ≡ true
+pub slashed : (id rest : List ℕ) → list_any is_slash (id ++ SLASH ∷ rest) ≡ true
 slashed id rest = list_any-append is_slash id (SLASH ∷ rest) ∙ either (list_any is_slash id)
   where
     either : (t : Bool) → (t || true) ≡ true
     either true = refl
     either false = refl
 
-first_name_is : (id rest : List ℕ) → All (λ byte. is_slash byte ≡ false) id → before_first is_slash (id ++ SLASH ∷ rest) ≡ id
+pub first_name_is : (id rest : List ℕ) → All (λ byte. is_slash byte ≡ false) id → before_first is_slash (id ++ SLASH ∷ rest) ≡ id
 first_name_is id rest none =
     let place : position_or_len is_slash (id ++ SLASH ∷ rest) ≡ length id =
     position_or_len_is is_slash (id ++ SLASH ∷ rest) (length id) 0 (omega (arith, length-append id (SLASH ∷ rest)))

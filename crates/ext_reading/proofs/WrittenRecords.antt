@@ -1,39 +1,116 @@
 -- A lawful record within the limits of files that are read has what its lines need.
-use Rattle.std.proofs.Common.{◌≡◌, ◌&&◌, ℕ, ℤ, Bool, true, List, [], ◌∷◌, length, refl, sym, ap, ◌∙◌, subst, FitsSigned, inl, inr}
-use Rattle.std.specs.Prelude.{All}
+use Rattle.std.proofs.Common.{◌≡◌, ◌⊎◌, ◌<◌, ◌+◌, ◌-◌, ◌*◌, ◌&&◌, ℕ, suc, ℤ, pos, ◌+ℤ◌, Bool, true, false, cond, Option, List, [], ◌∷◌, ◌++◌}
+use Rattle.std.proofs.Common.{length, map}
+use Rattle.std.proofs.Common.{get_or, refl, sym, ap, ◌∙◌, subst, FitsSigned, inl, inr, arith, IsTrue}
+use Rattle.std.specs.Prelude.{All, Some, None, ◌-ℤ◌, ◌<ℤ◌, nat_le}
 use Rattle.std.specs.Int.{w32}
-use Rattle.std.specs.List.{AllByRecursion, list_all}
+use Rattle.std.specs.Int.RustNames.{unsigned_abs}
+use Rattle.std.specs.List.{AllByRecursion, list_all, range_with_len}
+use Rattle.std.proofs.lemmas.Bool.{leb-true, true≢false}
+use Rattle.std.proofs.lemmas.Bool.Decides.{nat_tests}
+use Rattle.std.proofs.lemmas.Int.{ints}
+use Rattle.std.proofs.lemmas.List.Folds.{list_any_none}
+use Rattle.std.proofs.lemmas.List.FromFn.{length-range_with_len, get_or-range_with_len}
 use Rattle.finite_sets.specs.Lists.{In}
-use Rattle.finite_sets.proofs.Members.{In-append_cases, In-map_source}
+use Rattle.finite_sets.proofs.Images.{In-flat_map}
+use Rattle.finite_sets.proofs.Members.{In-append_cases, In-map, In-map_source, In-get_or}
 use Rattle.finite_sets.proofs.Searches.{list_all-from_In}
+use Rattle.text_scan.specs.Decimal.{decimal}
+use Rattle.text_scan.specs.PlainNames.{is_plain_name}
+use Rattle.geo_core.specs.declared.grids.Grid.{Grid}
+use Rattle.geo_core.specs.Elements.{elements_of as elements_of_grid}
+use Rattle.geo_core.proofs.ElementLaws.{length-elements_of}
+use Rattle.ext_model.specs.declared.names.TheConstants.{SLASH}
 use Rattle.ext_model.specs.declared.records.UseRec.{UseRec}
 use Rattle.ext_model.specs.declared.records.NodeRec.{NodeRec}
 use Rattle.ext_model.specs.declared.records.TermRec.{TermRec}
 use Rattle.ext_model.specs.declared.records.FetRec.{FetRec}
-use Rattle.ext_model.specs.declared.records.MergeRec.{MergeRec}
 use Rattle.ext_model.specs.declared.records.CellExt.{CellExt}
+use Rattle.ext_model.specs.declared.arrays.ArrayUse.{ArrayUse}
+use Rattle.ext_model.specs.declared.arrays.MergeRow.{MergeRow}
+use Rattle.ext_model.specs.declared.arrays.ArrayExt.{ArrayExt}
+use Rattle.ext_model.specs.ElementNames.{is_use_id, indexed_name}
 use Rattle.ext_model.specs.NodeNames.{is_word_byte, is_node_name}
 use Rattle.ext_model.specs.RecordNames.{names_of, node_names, element_names}
+use Rattle.ext_model.specs.Paths.{path_text}
 use Rattle.ext_model.specs.Lawful.{IsMeasure, AreMeasures, IsLawfulUse, IsLawfulNode, IsLawfulTerm, IsLawfulFet, IsLawfulMerge, IsPathIn, IsLawful}
-use Rattle.ext_reading.specs.Parts.{is_path}
-use Rattle.ext_reading.specs.Drafts.{is_among, leads, has_its_nodes}
+use Rattle.ext_model.specs.LawfulArrays.{HasIdForm, IsArrayUse, IsMergeRow, IsLawfulArrayExt}
+use Rattle.ext_model.specs.Plain.{plain, plain_uses, uses_of_grid, element_use, plain_merge, plain_merges, raised, first_index}
+use Rattle.ext_model.proofs.IndexedNames.{id_plain, indexed_told}
+use Rattle.ext_model.proofs.TextCuts.{Lacks, one_cut}
+use Rattle.ext_text.specs.WrittenTexts.{row_path, ranged}
+use Rattle.element_index.specs.declared.uses.UseElements.{UseElements}
+use Rattle.element_index.specs.GivenNames.{is_among}
+use Rattle.ext_reading.specs.declared.lines.ElementRange.{ElementRange}
+use Rattle.ext_reading.specs.Parts.{is_slash, is_path}
+use Rattle.ext_reading.specs.Drafts.{elements_of, leads, has_its_nodes, IsElementRange, range_path, second_of, count_of}
 use Rattle.ext_reading.specs.ReadBack.{IsReadable}
-use Rattle.ext_reading.proofs.Outcomes.{Each, each_of_All, by_recursion}
+use Rattle.ext_reading.proofs.Outcomes.{Each, each_of_All, by_recursion, range_in_bounds}
+use Rattle.ext_reading.proofs.ElementIds.{IsElementName, HaveForms, names_given, names_formed}
+use Rattle.ext_reading.proofs.RowPaths.{all_whole, indexed_lacks, split_bytes, joined_bytes, range_name, range_path-name, path_with}
+use Rattle.ext_reading.proofs.RowPaths.{path_rest, range_named}
 use Rattle.ext_reading.proofs.SoundRecords.{names_in}
-use Rattle.ext_reading.proofs.WrittenPaths.{is_among-In, is_path-text, bytes_of_path, leads-text, is_path-name, leads-name}
+use Rattle.ext_reading.proofs.UseNames.{raised-is}
+use Rattle.ext_reading.proofs.WrittenNames.{has_it, range_back, row_path-range, name_whole, BeginsNamed, no_range}
+use Rattle.ext_reading.proofs.WrittenPaths.{is_among-In, is_path-text, bytes_of_path, leads-text, is_path-name, leads-name, no_slash, slashed}
 use Rattle.ext_reading.proofs.WrittenWords.{IsMeasured, IsWrittenTerm, node_name_word, word_bytes}
-use Rattle.ext_reading.proofs.WrittenLines.{IsWrittenFet}
+use Rattle.ext_reading.proofs.WrittenLines.{IsWrittenFet, IsReadRow}
 use Rattle.ext_reading.proofs.WrittenParts.{IsWrittenUse, IsWrittenNamed, IsWrittenJoin}
 
 abbrev IsName : List ℕ → Type 0
 IsName name = is_node_name name ≡ true
 
 -- uses
-pub written_uses : (ext : CellExt) → IsReadable ext → AllByRecursion IsWrittenUse ext.uses
+
+-- The use has an element in the plain form, and it is of the same cell.
+record HasElement (used : ArrayUse) (uses : List UseRec) : Type 0 where
+  element : UseRec
+  there : In element uses
+  cell : element.cell ≡ used.cell
+
+first_of : (used : ArrayUse) (elements : List (ℤ × ℤ × ℤ × ℤ)) → 0 < length elements → HasElement used (map (element_use used) elements)
+first_of used [] some = absurd (omega arith)
+first_of used (e ∷ elements) some = record { element = element_use used e; there = inl refl; cell = refl }
+
+has_element : (used : ArrayUse) (grid : Option Grid) → HasElement used (uses_of_grid used grid)
+has_element used None = record { element = record { cell = used.cell; id = used.id; six = used.six }; there = inl refl; cell = refl }
+has_element used (Some grid) =
+    let some = product (unsigned_abs (grid.yhi -ℤ grid.ylo)) (unsigned_abs (grid.xhi -ℤ grid.xlo)) in
+    first_of used (elements_of_grid grid) (omega (arith, length-elements_of grid, some))
+  where
+    product : (a b : ℕ) → 0 < suc a * suc b
+    product a b = omega arith
+
+-- the cell of a use of a lawful record
+cell_plain : (ext : ArrayExt) → IsLawful (plain ext) → (used : ArrayUse) → In used ext.uses → is_plain_name used.cell ≡ true
+cell_plain ext lawful used here =
+    let has = has_element used used.grid in
+    let uses = (plain ext).uses in
+    let all = each_of_All IsLawfulUse uses lawful.uses in
+    subst (λ (name : List ℕ). is_plain_name name ≡ true) has.cell
+    (all has.element (In-flat_map plain_uses used has.element ext.uses here has.there)).cell
+
+pub written_uses : (ext : ArrayExt) → IsReadable ext → AllByRecursion IsWrittenUse ext.uses
 written_uses ext is =
-    let lawful = each_of_All IsLawfulUse ext.uses is.lawful.uses in
-    let fits = each_of_All (λ (element : UseRec). All (FitsSigned w32) element.six) ext.uses is.numbers in
-    by_recursion IsWrittenUse ext.uses (λ u h. record { cell = (lawful u h).cell; id = (lawful u h).id; six = (lawful u h).six; fits = fits u h })
+    let lawful = each_of_All IsArrayUse ext.uses is.lawful.uses in
+    let fits = each_of_All (λ (used : ArrayUse). All (FitsSigned w32) used.six) ext.uses is.numbers in
+    by_recursion IsWrittenUse ext.uses (λ u h. record {
+      cell = cell_plain ext is.lawful.plain u h;
+      id = (lawful u h).id;
+      six = (lawful u h).six;
+      fits = fits u h;
+    })
+
+-- the ids of the uses have their forms, and so have the names of their elements
+pub have_forms : (ext : ArrayExt) → IsLawfulArrayExt ext → HaveForms (map elements_of ext.uses)
+have_forms ext lawful = λ used h.
+    let found = In-map_source elements_of used ext.uses h in
+    let all = each_of_All IsArrayUse ext.uses lawful.uses in
+    subst (λ (one : UseElements). HasIdForm one.grid one.id) found.1.1 (all found.0 found.1.0).id
+
+pub elements_formed : (ext : ArrayExt) → IsLawfulArrayExt ext → Each IsElementName (element_names (plain ext))
+elements_formed ext lawful =
+    subst (λ (names : List (List ℕ)). Each IsElementName names) (names_given ext.uses) (names_formed (map elements_of ext.uses) (have_forms ext lawful))
 
 -- measures
 measured : (classes : ℕ) (measures : List (ℤ × ℤ)) → AreMeasures classes measures → AllByRecursion IsMeasured measures
@@ -59,9 +136,9 @@ written_node classes node is =
       aliases_are = by_recursion IsName node.aliases (λ a h. names a (inr h));
     }
 
-pub written_nodes : (ext : CellExt) → IsReadable ext → AllByRecursion (IsWrittenNamed ext.classes) ext.nodes
+pub written_nodes : (ext : ArrayExt) → IsReadable ext → AllByRecursion (IsWrittenNamed ext.classes) ext.nodes
 written_nodes ext is =
-    let lawful = each_of_All (IsLawfulNode (length ext.classes)) ext.nodes is.lawful.nodes in
+    let lawful = each_of_All (IsLawfulNode (length ext.classes)) ext.nodes is.lawful.plain.nodes in
     by_recursion (IsWrittenNamed ext.classes) ext.nodes (λ n h. written_node ext.classes n (lawful n h))
 
 names_named : (classes : ℕ) (nodes : List NodeRec) → Each (IsLawfulNode classes) nodes → Each IsName (names_in nodes)
@@ -97,10 +174,11 @@ written_fet ext fet lawful is =
           (λ side h. is_among-In side.node (node_names ext) (terminals side h).node),
     )
 
-pub written_fets : (ext : CellExt) → IsReadable ext → AllByRecursion (λ fet. IsWrittenFet fet × (has_its_nodes (node_names ext) fet ≡ true)) ext.fets
+pub written_fets : (ext : ArrayExt) → IsReadable ext → AllByRecursion (λ fet. IsWrittenFet fet × (has_its_nodes (node_names (plain ext)) fet ≡ true)) ext.fets
 written_fets ext is =
-    let lawful = each_of_All (IsLawfulFet ext) ext.fets is.lawful.fets in
-    by_recursion (λ (fet : FetRec). IsWrittenFet fet × (has_its_nodes (node_names ext) fet ≡ true)) ext.fets (λ f h. written_fet ext f is.lawful (lawful f h))
+    let lawful = each_of_All (IsLawfulFet (plain ext)) ext.fets is.lawful.plain.fets in
+    by_recursion (λ (fet : FetRec). IsWrittenFet fet × (has_its_nodes (node_names (plain ext)) fet ≡ true)) ext.fets
+    (λ f h. written_fet (plain ext) f is.lawful.plain (lawful f h))
 
 -- merges
 record IsWrittenPath (elements names : List (List ℕ)) (path : List ℕ) : Type 0 where
@@ -133,28 +211,140 @@ written_path ext elements path lawful met (inr into) =
       leads_there = leads-text elements (node_names ext) into.id into.ids into.name id_named (met into.id into.element);
     })
 
-written_merge : (ext : CellExt) (elements : List (List ℕ)) (merge : MergeRec) → IsLawful ext → Each (λ id. In id elements) (element_names ext)
-    → IsLawfulMerge ext merge
-    → IsWrittenJoin ext.classes elements (node_names ext) merge
-written_merge ext elements merge lawful met is =
-    let one = written_path ext elements merge.first lawful met is.first in
-    let two = written_path ext elements merge.second lawful met is.second in
+-- one merge is written with its own path
+alone_read : (ext : ArrayExt) (second : List ℕ) (count : ℕ) → IsLawfulArrayExt ext → IsPathIn (plain ext) second → is_path second ≡ true
+    → list_all is_word_byte second ≡ true → count ≡ 1 → IsReadRow second count (row_path second count)
+alone_read ext second count lawful is form bytes one =
+    let few : nat_le count 1 ≡ true = grind (arith, nat_tests) in
+    let whole : second ≡ row_path second count =
+    sym (ap (λ (t : Bool). cond t second (ranged second (first_index second) (first_index second +ℤ pos count -ℤ pos 1))) few) in
+    let none = no_range second (begins is) in
+    subst (IsReadRow second count) whole (record {
+      form = form;
+      bytes = bytes;
+      second_is = ap (second_of second) none;
+      count_is = ap count_of none ∙ sym one;
+    })
+  where
+    begins : IsPathIn (plain ext) second → (is_node_name second ≡ true) ⊎ BeginsNamed second
+    begins (inl there) = inl (node_names_named (plain ext) lawful.plain second there)
+    begins (inr into) = inr (record {
+      name = into.id;
+      rest = path_text into.ids into.name;
+      form = elements_formed ext lawful into.id into.element;
+      text = into.text;
+    })
+
+-- the index of an indexed path that leads
+index_fits : (name id : List ℕ) (i j : ℤ) → IsTrue (is_use_id id) → IsElementName name → indexed_name id i j ≡ name → FitsSigned w32 i
+index_fits name id i j form (inl is) same =
+    absurd (has_it 91 id (decimal i ++ 44 ∷ (decimal j ++ 93 ∷ [])) (subst (Lacks 91) (sym same) (id_plain name is)))
+index_fits name id i j form (inr is) same =
+    let told = indexed_told id is.id i j is.i is.j form is.id_form (same ∙ is.text) in
+    subst (FitsSigned w32) (sym told.1) is.i_fits
+
+path_index_fits : (ext : ArrayExt) (id : List ℕ) (i j : ℤ) (rest : List ℕ) → IsLawfulArrayExt ext → IsTrue (is_use_id id)
+    → IsPathIn (plain ext) (indexed_name id i j ++ SLASH ∷ rest) → FitsSigned w32 i
+path_index_fits ext id i j rest lawful form (inl there) =
+    let path = indexed_name id i j ++ SLASH ∷ rest in
+    absurd (true≢false (sym (slashed (indexed_name id i j) rest)
+    ∙ list_any_none is_slash path (no_slash path (node_names_named (plain ext) lawful.plain path there))))
+path_index_fits ext id i j rest lawful form (inr into) =
+    let name = elements_formed ext lawful into.id into.element in
+    let same = one_cut SLASH (indexed_name id i j) into.id rest (path_text into.ids into.name) (indexed_lacks id i j form)
+    (name_whole into.id name) into.text in
+    index_fits into.id id i j form name same.0
+
+-- a row of more merges is written as a range
+range_read : (ext : ArrayExt) (second id : List ℕ) (i j : ℤ) (rest : List ℕ) (count : ℕ) → IsLawfulArrayExt ext → 1 < count → IsTrue (is_use_id id)
+    → FitsSigned w32 i → FitsSigned w32 j → second ≡ indexed_name id i j ++ SLASH ∷ rest → is_path second ≡ true → list_all is_word_byte second ≡ true
+    → (last : ℕ) → last + 1 ≡ count → IsPathIn (plain ext) (raised second last)
+    → IsReadRow second count (row_path second count)
+range_read ext second id i j rest count lawful more form fi fj text path_form bytes last end leads_there =
+    let hi = i +ℤ pos count -ℤ pos 1 in
+    let far : raised second last ≡ indexed_name id hi j ++ SLASH ∷ rest =
+    ap (λ (p : List ℕ). raised p last) text
+    ∙ (raised-is id i j (SLASH ∷ rest) form fi last
+    ∙ ap (λ (k : ℤ). indexed_name id k j ++ SLASH ∷ rest) (let same : i +ℤ pos last ≡ i +ℤ pos count -ℤ pos 1 = omega (arith, ints, end) in same)) in
+    let fits = path_index_fits ext id hi j rest lawful form (subst (IsPathIn (plain ext)) far leads_there) in
+    let range : ElementRange = record { id = id; lo = i; hi = hi; j = j; rest = rest } in
+    let up : i <ℤ (i +ℤ pos count -ℤ pos 1) = omega (arith, ints, more) in
+    let is : IsElementRange range = record { id = form; lo = fi; hi = fits; j = fj; upward = up } in
+    let whole : range_path range ≡ row_path second count =
+    sym (ap (λ (p : List ℕ). row_path p count) text ∙ row_path-range id i j rest count form fi more) in
+    let back = range_back range is in
+    let name = range_name range in
+    let behind_slash = path_rest (indexed_name id i j) rest (all_whole (indexed_name id i j) (indexed_lacks id i j form))
+    (ap is_path (sym text) ∙ path_form) in
+    let named = range_named range form in
+    subst (IsReadRow second count) whole (record {
+      form = ap is_path (range_path-name range) ∙ path_with name rest named behind_slash;
+      bytes = ap (list_all is_word_byte) (range_path-name range)
+          ∙ joined_bytes name (SLASH ∷ rest) (word_bytes name (node_name_word name named))
+          (split_bytes (indexed_name id i j) (SLASH ∷ rest) (ap (list_all is_word_byte) (sym text) ∙ bytes)).1;
+      second_is = ap (second_of (range_path range)) back ∙ sym text;
+      count_is = ap count_of back ∙ counted i count more;
+    })
+  where
+    counted : (lo : ℤ) (n : ℕ) → 1 < n → suc (unsigned_abs ((lo +ℤ pos n -ℤ pos 1) -ℤ lo)) ≡ n
+    counted lo n many = grind (arith, ints)
+
+row_read : (ext : ArrayExt) (row : MergeRow) → IsLawfulArrayExt ext → IsMergeRow row → ((n : ℕ) → n < row.count → IsPathIn (plain ext) (raised row.second n))
+    → is_path row.second ≡ true → list_all is_word_byte row.second ≡ true → IsReadRow row.second row.count (row_path row.second row.count)
+row_read ext row lawful is leads_there form bytes = by_count (nat_le row.count 1) refl
+  where
+    by_count : (t : Bool) → nat_le row.count 1 ≡ t → IsReadRow row.second row.count (row_path row.second row.count)
+    by_count true few =
+        let most = leb-true row.count 1 few in
+        alone_read ext row.second row.count lawful (leads_there 0 is.some) form bytes (omega (arith, most, is.some))
+    by_count false many =
+        let more : 1 < row.count = grind (arith, nat_tests) in
+        let begins = is.indexed more in
+        let one = begins.indexed in
+        range_read ext row.second one.id one.i one.j begins.rest row.count lawful more one.id_form one.i_fits one.j_fits
+        (begins.text ∙ ap (λ (name : List ℕ). name ++ SLASH ∷ begins.rest) one.text) form bytes (row.count - 1) (omega (arith, more))
+        (leads_there (row.count - 1) (omega (arith, more)))
+
+-- each merge of a row is one of the plain form
+in_range : (n k : ℕ) → k < n → In k (range_with_len 0 n)
+in_range n k below =
+    let place : k < length (range_with_len 0 n) = (let long = length-range_with_len 0 n in omega arith) in
+    let there : get_or (range_with_len 0 n) k 0 ≡ k = (let at = get_or-range_with_len 0 n k 0 below in omega (arith, at)) in
+    subst (λ (z : ℕ). In z (range_with_len 0 n)) there (In-get_or (range_with_len 0 n) k 0 place)
+
+lawful_merge : (ext : ArrayExt) (row : MergeRow) → IsLawful (plain ext) → In row ext.merges → (n : ℕ) → n < row.count
+    → IsLawfulMerge (plain ext) (plain_merge row n)
+lawful_merge ext row lawful here n below =
+    let merges = (plain ext).merges in
+    each_of_All (IsLawfulMerge (plain ext)) merges lawful.merges (plain_merge row n)
+    (In-flat_map plain_merges row (plain_merge row n) ext.merges here (In-map (plain_merge row) n (range_with_len 0 row.count) (in_range row.count n below)))
+
+written_merge : (ext : ArrayExt) (elements : List (List ℕ)) (row : MergeRow) → IsLawfulArrayExt ext → IsMergeRow row → In row ext.merges
+    → Each (λ id. In id elements) (element_names (plain ext))
+    → IsWrittenJoin ext.classes elements (node_names (plain ext)) row
+written_merge ext elements row lawful is here met =
+    let names = node_names (plain ext) in
+    let each = lawful_merge ext row lawful.plain here in
+    let first = each 0 is.some in
+    let one = written_path (plain ext) elements row.first lawful.plain met first.first in
+    let two = written_path (plain ext) elements row.second lawful.plain met first.second in
     record {
       merge_is = record {
         first = one.form;
-        second = two.form;
         first_bytes = one.bytes;
-        second_bytes = two.bytes;
-        cap = is.cap;
-        measures = measured (length ext.classes) merge.measures is.measures;
+        second = row_read ext row lawful is (λ n below. (each n below).second) two.form two.bytes;
+        cap = first.cap;
+        measures = measured (length ext.classes) row.measures first.measures;
       };
-      count = is.measures.count;
+      count = first.measures.count;
       first = one.leads_there;
-      second = two.leads_there;
+      seconds = list_all-from_In (λ n. leads elements names (raised row.second n)) (range_with_len 0 row.count) (λ n h.
+          let below : n < row.count = (let within = range_in_bounds 0 row.count n h in omega (arith, within)) in
+          (written_path (plain ext) elements (raised row.second n) lawful.plain met (each n below).second).leads_there);
     }
 
-pub written_merges : (ext : CellExt) (elements : List (List ℕ)) → IsReadable ext → Each (λ id. In id elements) (element_names ext)
-    → AllByRecursion (IsWrittenJoin ext.classes elements (node_names ext)) ext.merges
+pub written_merges : (ext : ArrayExt) (elements : List (List ℕ)) → IsReadable ext → Each (λ id. In id elements) (element_names (plain ext))
+    → AllByRecursion (IsWrittenJoin ext.classes elements (node_names (plain ext))) ext.merges
 written_merges ext elements is met =
-    let lawful = each_of_All (IsLawfulMerge ext) ext.merges is.lawful.merges in
-    by_recursion (IsWrittenJoin ext.classes elements (node_names ext)) ext.merges (λ m h. written_merge ext elements m is.lawful met (lawful m h))
+    let rows = each_of_All IsMergeRow ext.merges is.lawful.rows in
+    by_recursion (IsWrittenJoin ext.classes elements (node_names (plain ext))) ext.merges (λ m h. written_merge ext elements m is.lawful (rows m h) h met)

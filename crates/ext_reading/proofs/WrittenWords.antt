@@ -27,9 +27,9 @@ use Rattle.ext_text.specs.WrittenTexts.{term_words}
 use Rattle.ext_reading.specs.declared.faults.ExtReadFault.TheVariants.{BadLine, Range}
 use Rattle.ext_reading.specs.declared.limits.TheConstants.{GREATEST_CLASS_VALUE}
 use Rattle.ext_reading.specs.declared.lines.SideLine.{SideLine}
-use Rattle.ext_reading.specs.Parts.{is_quoted, unquoted, if_formed, element_in, node_name_in, numeral_of, numeral_in, numerals_from}
+use Rattle.ext_reading.specs.Parts.{is_short, is_quoted, unquoted, if_formed, node_name_in, numeral_of, numeral_in, numerals_from}
 use Rattle.ext_reading.specs.LineForms.{side_in, sides_from}
-use Rattle.ext_reading.specs.Ranges.{is_short, short_in, measure_in, pair_in, measures_from, class_value_in, class_values_from, term_in, terms_from}
+use Rattle.ext_reading.specs.Ranges.{short_in, measure_in, pair_in, measures_from, class_value_in, class_values_from, term_in, terms_from}
 
 -- words
 byte_plain : (byte : ℕ) → is_word_byte byte ≡ true → is_separator byte ≡ false
@@ -102,7 +102,7 @@ pub formed : (test : Bool) (word : List ℕ) → test ≡ true → if_formed tes
 formed test word is = ap (λ (b : Bool). cond b (Ok word) (Err BadLine)) is
 
 pub node_name_in-quoted : (name : List ℕ) → is_node_name name ≡ true → node_name_in (quoted name) ≡ Ok name
-node_name_in-quoted name is = ap element_in (unquoted-quoted name) ∙ formed (is_node_name name) name is
+node_name_in-quoted name is = ap (λ (n : List ℕ). if_formed (is_node_name n) n) (unquoted-quoted name) ∙ formed (is_node_name name) name is
 
 -- numbers
 pub numeral_in-decimal : (z : ℤ) → FitsSigned w128 z → numeral_in (decimal z) ≡ Ok (Some z)
@@ -120,7 +120,7 @@ numeral_in-measure z is = numeral_in-decimal z (measure_fits z is)
 pub numeral_in-short : (z : ℤ) → FitsSigned w32 z → numeral_in (decimal z) ≡ Ok (Some z)
 numeral_in-short z is = numeral_in-decimal z (short_fits_wide z is)
 
-is_short-fits : (z : ℤ) → FitsSigned w32 z → is_short z ≡ true
+pub is_short-fits : (z : ℤ) → FitsSigned w32 z → is_short z ≡ true
 is_short-fits z fits = grind (arith, ints)
 
 pub short_in-short : (z : ℤ) → FitsSigned w32 z → short_in (Some z) ≡ Ok z

@@ -6,7 +6,8 @@
 --     style ..
 --     scale ..
 --     resistclasses VALUE ..
---     use CELL ID a b c d e f                                an element
+--     use CELL ID a b c d e f                                a use
+--     use CELL ID[xlo:xhi:xsep][ylo:yhi:ysep] a b c d e f    an array, in version 2
 --     node NAME WORD C x y TYPE a1 p1 .. aN pN               a node
 --     equiv NAME ALIAS                                       another name of a node
 --     fet KIND x y x+1 y+1 AREA PERIMETER SUBSTRATE GATE n WORD TERMINAL LENGTH WORD ..
@@ -14,28 +15,37 @@
 --
 -- A WORD may be any word, and behind `timestamp`, `style` and `scale` any words may stand. A blank line says nothing. That a number is out
 -- of its range is no matter of form.
-use Rattle.std.specs.Prelude.{◌&&◌, ℕ, ℤ, Bool, if◌then◌else◌, List, [], ◌∷◌, ◌++◌, Option, Result, Ok, Err, codes}
+use Rattle.std.specs.Prelude.{◌&&◌, ◌||◌, ◌⊎◌, IsTrue, ℕ, ℤ, Bool, if◌then◌else◌, List, [], ◌∷◌, ◌++◌, Option, Some, None, Result, Ok, Err, codes}
 use Rattle.std.specs.Str.{bytes_eq}
 use Rattle.text_scan.specs.Words.{words_of}
 use Rattle.text_form.specs.SaidLines.{and_then}
+use Rattle.ext_model.specs.ElementNames.{is_use_id, IsIndexed}
+use Rattle.ext_model.specs.Plain.{before, behind}
 use Rattle.ext_reading.specs.declared.faults.ExtReadFault.{ExtReadFault}
 use Rattle.ext_reading.specs.declared.faults.ExtReadFault.TheVariants.{BadLine}
 use Rattle.ext_reading.specs.declared.lines.Corners.{Corners}
 use Rattle.ext_reading.specs.declared.lines.SideLine.{SideLine}
 use Rattle.ext_reading.specs.declared.lines.HeaderLine.{HeaderLine}
 use Rattle.ext_reading.specs.declared.lines.HeaderLine.TheVariants.{Tech, Timestamp, Version, Style, Scale, Classes}
+use Rattle.ext_reading.specs.declared.lines.Version as lines
+use Rattle.ext_reading.specs.declared.lines.Version.TheVariants.{One, Two, Other}
+use Rattle.ext_reading.specs.declared.lines.UseName.{UseName}
 use Rattle.ext_reading.specs.declared.lines.ExtLine.{ExtLine}
 use Rattle.ext_reading.specs.declared.lines.ExtLine.TheVariants.{Nothing, Header, Use, Node, Equiv, Fet, Merge}
-use Rattle.ext_reading.specs.Parts.{word_in, cell_in, element_in, substrate_in, node_name_in, path_in, numeral_in, numerals_in, is_next}
+use Rattle.ext_reading.specs.Parts.{word_in, cell_in, is_indexed, substrate_in, node_name_in, path_in, numeral_in, numerals_in, is_next}
 
 -- the technology's name
 abbrev pub tech_line : List (List ℕ) → Result HeaderLine ExtReadFault
 tech_line (name ∷ []) = and_then (word_in name) (λ name. Ok (Tech name))
 tech_line _ = Err BadLine
 
--- any one word, which tells whether it is version 1
+-- the version that a word says
+abbrev pub version_of : List ℕ → lines.Version
+version_of word = if bytes_eq word (codes "1") then One else if bytes_eq word (codes "2") then Two else Other
+
+-- any one word
 abbrev pub version_line : List (List ℕ) → Result HeaderLine ExtReadFault
-version_line (word ∷ []) = Ok (Version (bytes_eq word (codes "1")))
+version_line (word ∷ []) = Ok (Version (version_of word))
 version_line _ = Err BadLine
 
 -- the values of the classes, of which there may be none
@@ -57,12 +67,48 @@ six_numerals (a ∷ b ∷ c ∷ d ∷ e ∷ f ∷ []) =
     Ok (a, b, c, d, e, f)))))))
 six_numerals _ = Err BadLine
 
+-- the numbers of one direction of a grid: `lo:hi:sep`
+abbrev pub Span : Type 0
+Span = Option ℤ × Option ℤ × Option ℤ
+
+abbrev pub span_in : List ℕ → Result Span ExtReadFault
+span_in text =
+    and_then (numeral_in (before 58 text)) (λ lo.
+    and_then (numeral_in (before 58 (behind 58 text))) (λ hi.
+    and_then (numeral_in (behind 58 (behind 58 text))) (λ sep.
+    Ok (lo, hi, sep))))
+
+-- the name of an array, where the word is this id with these two texts in brackets behind it
+abbrev pub array_in : List ℕ → List ℕ → List ℕ → List ℕ → Result UseName ExtReadFault
+array_in word id x y =
+    if is_use_id id && bytes_eq word (id ++ 91 ∷ (x ++ 93 ∷ 91 ∷ (y ++ 93 ∷ [])))
+    then and_then (span_in x) (λ x.
+    and_then (span_in y) (λ y.
+    Ok (record { id = id; grid = Some (x.0, x.1, x.2, y.0, y.1, y.2) })))
+    else Err BadLine
+
+-- the name of a use: an id, one with two indices, or that of an array
+abbrev pub use_name_in : List ℕ → Result UseName ExtReadFault
+use_name_in word =
+    if is_use_id word || is_indexed word then Ok (record { id = word; grid = None })
+    else array_in word (before 91 word) (before 93 (behind 91 word)) (before 93 (behind 91 (behind 91 word)))
+
+-- The id is one of a use of this form: that of an array is the id alone, and another one may have indices of its own.
+abbrev pub HasNameForm : Option Six → List ℕ → Type 0
+HasNameForm None id = IsTrue (is_use_id id) ⊎ IsIndexed id
+HasNameForm (Some numbers) id = IsTrue (is_use_id id)
+
+-- the name of a use, where the line says one, has its form
+abbrev pub NamesUse : ExtLine → Type 0
+NamesUse (Use line) = HasNameForm line.name.grid line.name.id
+NamesUse said = Unit {0}
+
 abbrev pub use_line : List (List ℕ) → Result ExtLine ExtReadFault
-use_line (cell ∷ id ∷ words) =
+use_line (cell ∷ name ∷ words) =
     and_then (cell_in cell) (λ cell.
-    and_then (element_in id) (λ id.
+    and_then (use_name_in name) (λ name.
     and_then (six_numerals words) (λ six.
-    Ok (Use (record { cell = cell; id = id; six = six })))))
+    Ok (Use (record { cell = cell; name = name; six = six })))))
 use_line _ = Err BadLine
 
 -- a node with these measures

@@ -1,14 +1,18 @@
 -- The names and numbers of a circuit file.
-use Rattle.std.specs.Prelude.{◌==◌, ◌&&◌, ◌-◌, ◌+ℤ◌, nat_le, ℕ, ℤ, pos, Bool, true, if◌then◌else◌, List, [], ◌∷◌, ◌++◌, length, drop, take}
+use Rattle.std.specs.Prelude.{◌==◌, ◌&&◌, ◌-◌, ◌^◌, ◌+ℤ◌, nat_le, ℕ, ℤ, pos, neg_ℤ, int_le, int_lt, Bool, true, if◌then◌else◌, List, [], ◌∷◌, ◌++◌, length}
+use Rattle.std.specs.Prelude.{drop, take}
 use Rattle.std.specs.Prelude.{slice_index, Option, Some, None, Result, Ok, Err}
 use Rattle.std.specs.List.{list_all, slice_split}
 use Rattle.std.specs.Ordering.{int_eq}
+use Rattle.std.specs.Str.{bytes_eq}
 use Rattle.text_scan.specs.Numbers.{wide_of}
 use Rattle.text_scan.specs.PlainNames.{is_plain_name}
 use Rattle.text_scan.specs.declared.numeral.NumFault.{NumFault}
 use Rattle.text_scan.specs.declared.numeral.NumFault.TheVariants.{Empty, Digit, Range as TooWide}
 use Rattle.text_form.specs.SaidLines.{and_then}
 use Rattle.ext_model.specs.declared.names.TheConstants.{SLASH}
+use Rattle.ext_model.specs.ElementNames.{is_use_id, indexed_name}
+use Rattle.ext_model.specs.Plain.{before, behind, index_of}
 use Rattle.ext_model.specs.NodeNames.{is_word, is_node_name}
 use Rattle.ext_reading.specs.declared.faults.ExtReadFault.{ExtReadFault}
 use Rattle.ext_reading.specs.declared.faults.ExtReadFault.TheVariants.{BadLine}
@@ -41,9 +45,17 @@ word_in word = if_formed (is_word word) word
 abbrev pub cell_in : List ℕ → Result (List ℕ) ExtReadFault
 cell_in word = if_formed (is_plain_name word) word
 
--- the name of an element
-abbrev pub element_in : List ℕ → Result (List ℕ) ExtReadFault
-element_in word = if_formed (is_node_name word) word
+-- a number of 32 bits with sign
+abbrev pub is_short : ℤ → Bool
+is_short z = int_le (neg_ℤ (pos (2 ^ 31))) z && int_lt z (pos (2 ^ 31))
+
+-- an id with two indices of 32 bits with sign, each as it is written
+abbrev pub is_indexed : List ℕ → Bool
+is_indexed word =
+    let id = before 91 word in
+    let i = index_of (before 44 (behind 91 word)) in
+    let j = index_of (before 93 (behind 44 (behind 91 word))) in
+    is_use_id id && is_short i && is_short j && bytes_eq word (indexed_name id i j)
 
 -- the name of a substrate, with quotes or without
 abbrev pub substrate_in : List ℕ → Result (List ℕ) ExtReadFault
@@ -51,7 +63,7 @@ substrate_in word = word_in (unquoted word)
 
 -- the name of a node, with quotes or without
 abbrev pub node_name_in : List ℕ → Result (List ℕ) ExtReadFault
-node_name_in word = element_in (unquoted word)
+node_name_in word = if_formed (is_node_name (unquoted word)) (unquoted word)
 
 -- a path, with quotes or without
 abbrev pub path_in : List ℕ → Result (List ℕ) ExtReadFault

@@ -1,8 +1,12 @@
 -- The numbers of a circuit file within their ranges.
-use Rattle.std.specs.Prelude.{◌&&◌, ◌^◌, nat_le, nat_lt, ℕ, ℤ, pos, neg_ℤ, int_le, int_lt, Bool, if◌then◌else◌, List, [], ◌∷◌, ◌++◌, length, Option}
+use Rattle.std.specs.Prelude.{◌*◌, nat_le, nat_lt, ℕ, ℤ, pos, if◌then◌else◌, List, [], ◌∷◌, ◌++◌, length, Option}
 use Rattle.std.specs.Prelude.{Some, None, Result, Ok, Err}
-use Rattle.std.specs.Int.RustNames.{unsigned_abs}
+use Rattle.std.specs.Int.{w32}
+use Rattle.std.specs.Int.RustNames.{unsigned_abs, FitsSigned}
 use Rattle.text_form.specs.SaidLines.{and_then}
+use Rattle.geo_core.specs.declared.grids.Grid.{Grid}
+use Rattle.geo_core.specs.declared.limits.TheConstants.{MOST_ELEMENTS}
+use Rattle.geo_core.specs.Elements.{indices}
 use Rattle.geo_core.specs.Orientation.{is_orientation}
 use Rattle.ext_model.specs.declared.limits.TheConstants.{MOST_CLASSES, MEASURE_EDGE}
 use Rattle.ext_model.specs.declared.records.TermRec.{TermRec}
@@ -11,11 +15,8 @@ use Rattle.ext_reading.specs.declared.faults.ExtReadFault.TheVariants.{Range, Tr
 use Rattle.ext_reading.specs.declared.limits.TheConstants.{GREATEST_CLASS_VALUE}
 use Rattle.ext_reading.specs.declared.lines.Corners.{Corners}
 use Rattle.ext_reading.specs.declared.lines.SideLine.{SideLine}
+use Rattle.ext_reading.specs.Parts.{is_short}
 use Rattle.ext_reading.specs.LineForms.{Six}
-
--- a number of 32 bits with sign
-abbrev pub is_short : ℤ → Bool
-is_short z = int_le (neg_ℤ (pos (2 ^ 31))) z && int_lt z (pos (2 ^ 31))
 
 abbrev pub short_in : Option ℤ → Result ℤ ExtReadFault
 short_in (Some z) = if is_short z then Ok z else Err Range
@@ -60,7 +61,7 @@ class_values_in numerals = if nat_le (length numerals) MOST_CLASSES then class_v
 abbrev pub if_orientation : ℤ → ℤ → ℤ → ℤ → ℤ → ℤ → Result (List ℤ) ExtReadFault
 if_orientation a b c d e f = if is_orientation a b d e then Ok (a ∷ b ∷ c ∷ d ∷ e ∷ f ∷ []) else Err Transform
 
--- the numbers by which an element stands: an orientation, and a displacement as the third and the sixth
+-- the numbers by which a use stands: an orientation, and a displacement as the third and the sixth
 abbrev pub six_in : Six → Result (List ℤ) ExtReadFault
 six_in six =
     and_then (short_in six.0) (λ a.
@@ -70,6 +71,29 @@ six_in six =
     and_then (short_in six.4) (λ e.
     and_then (short_in six.5) (λ f.
     if_orientation a b c d e f))))))
+
+-- The indices of the grid begin and end within 32 bits with sign.
+pub record HasShortEnds (grid : Grid) : Type 0 where
+  pub xlo : FitsSigned w32 grid.xlo
+  pub xhi : FitsSigned w32 grid.xhi
+  pub ylo : FitsSigned w32 grid.ylo
+  pub yhi : FitsSigned w32 grid.yhi
+
+-- a grid of no more elements than there may be
+abbrev pub if_few : Grid → Result (Option Grid) ExtReadFault
+if_few grid = if nat_le (indices grid.xlo grid.xhi * indices grid.ylo grid.yhi) MOST_ELEMENTS then Ok (Some grid) else Err Range
+
+-- the grid of a use, where it has one
+abbrev pub grid_in : Option Six → Result (Option Grid) ExtReadFault
+grid_in None = Ok None
+grid_in (Some six) =
+    and_then (short_in six.0) (λ xlo.
+    and_then (short_in six.1) (λ xhi.
+    and_then (short_in six.2) (λ xsep.
+    and_then (short_in six.3) (λ ylo.
+    and_then (short_in six.4) (λ yhi.
+    and_then (short_in six.5) (λ ysep.
+    if_few (record { xlo = xlo; xhi = xhi; xsep = xsep; ylo = ylo; yhi = yhi; ysep = ysep })))))))
 
 -- the point of a transistor, whose far corner is in the range too
 abbrev pub point_in : Corners → Result (ℤ × ℤ) ExtReadFault

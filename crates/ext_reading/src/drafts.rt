@@ -2,23 +2,33 @@
 ghost use Rattle.std.specs.Prelude.{◌≡◌, ◌≢◌, ◌&&◌, ◌++◌, ◌∷◌, [], false, Ok, Err, OnOk, IfOk, IfErr, pos, slice_index};
 ghost use Rattle.std.specs.List.{list_all, list_any, position, before_first};
 ghost use Rattle.std.specs.Str.{bytes_eq};
+ghost use Rattle.ext_model.specs.LawfulArrays.{HasIdForm};
+ghost use Rattle.element_index.specs.GivenNames.{is_among, gives_again};
 ghost use Rattle.ext_reading.specs.declared.faults.ExtReadFault.TheVariants.{Memory as OutOfMemory};
 ghost use Rattle.ext_reading.specs.Parts.{is_slash};
-ghost use Rattle.ext_reading.specs.Drafts.{nothing_seen, nothing_yet, is_among, is_incomplete, was_seen, with_seen, is_other_version, with_header};
-ghost use Rattle.ext_reading.specs.Drafts.{takes_header, with_use, takes_use, node_from, with_node, takes_node, named_too, with_alias_at, with_alias};
-ghost use Rattle.ext_reading.specs.Drafts.{takes_alias, takes_equiv, fet_from, has_its_nodes, takes_fet, leads, merge_from, takes_merge, takes_record};
-ghost use Rattle.ext_reading.specs.Drafts.{has_measures, fits_classes, takes_body, takes, finish};
+ghost use Rattle.ext_reading.specs.Drafts.{nothing_seen, nothing_yet, is_incomplete, was_seen, with_seen, is_other_version, with_header};
+ghost use Rattle.ext_reading.specs.Drafts.{takes_header, elements_of, with_use, takes_new_use, takes_use, node_from, with_node, takes_node, named_too};
+ghost use Rattle.ext_reading.specs.Drafts.{with_alias_at, with_alias};
+ghost use Rattle.ext_reading.specs.Drafts.{takes_alias, takes_equiv, fet_from, has_its_nodes, takes_fet, leads, all_lead, range_in, merge_from};
+ghost use Rattle.ext_reading.specs.Drafts.{elements_known, takes_merge, takes_record};
+ghost use Rattle.ext_reading.specs.Drafts.{has_measures, fits_classes, fits_version, takes_body, takes, finish};
+ghost use Rattle.ext_reading.specs.LineForms.{HasNameForm, NamesUse};
 ghost use Rattle.ext_reading.specs.ExtTexts.{record_of};
 
 use crate::faults::ExtReadFault;
 use crate::headers::{is_incomplete, is_other_version, nothing_seen, was_seen, with_seen};
-use crate::known_names::{has_its_nodes, is_among, leads};
+use crate::known_names::{has_its_nodes, is_among, leads, seconds_lead};
 use crate::limits::MOST_USES;
-use crate::lines::{ExtLine, FetLine, HeaderLine, MergeLine, NodeLine, Numeral, Seen, UseLine};
+use crate::lines::{
+    ExtLine, FetLine, HeaderLine, MergeLine, NodeLine, Numeral, Seen, UseLine, Version,
+};
+use crate::outlines::Outline;
 use crate::parts::put;
-use crate::ranges::{class_values_in, six_in};
+use crate::ranges::{class_values_in, grid_in, six_in};
 use crate::records::{fet_from, merge_from, name_node_too, node_from};
-use ext_model::{CellExt, FetRec, MergeRec, NodeRec, UseRec};
+use crate::use_names::range_in;
+use element_index::{ElementIndex, UseElements};
+use ext_model::{ArrayExt, ArrayUse, FetRec, MergeRow, NodeRec};
 use name_index::NameIndex;
 use names_lists::{List, Name};
 use std::alloc::{AllocError, Global};
@@ -30,15 +40,16 @@ pub struct ExtDraft {
     alloc: Global,
     seen: Seen,
     begun: bool,
+    version: Option<Version>,
     tech: Name,
     classes: List<u64>,
-    elements: Vec<UseRec>,
-    ids: NameIndex,
+    arrays: Vec<ArrayUse>,
+    given: ElementIndex,
     nodes: Vec<NodeRec>,
     names: NameIndex,
     owners: Vec<usize>,
     transistors: Vec<FetRec>,
-    joins: Vec<MergeRec>,
+    joins: Vec<MergeRow>,
 }
 
 impl Model for ExtDraft {
@@ -49,10 +60,11 @@ impl Model for ExtDraft {
     ghost view = { λ draft. record {
       seen = draft.seen;
       begun = draft.begun;
+      version = draft.version;
       tech = draft.tech;
       classes = draft.classes;
-      uses = draft.elements.items;
-      ids = draft.ids;
+      uses = draft.arrays.items;
+      given = draft.given;
       nodes = draft.nodes.items;
       names = draft.names;
       owners = draft.owners.items;
@@ -70,10 +82,11 @@ impl ExtDraft {
             alloc,
             seen: nothing_seen(),
             begun: false,
+            version: None,
             tech: Name::empty(alloc),
             classes: List::of(Vec::new(alloc)),
-            elements: Vec::new(alloc),
-            ids: NameIndex::new(alloc),
+            arrays: Vec::new(alloc),
+            given: ElementIndex::new(alloc),
             nodes: Vec::new(alloc),
             names: NameIndex::new(alloc),
             owners: Vec::new(alloc),
@@ -88,6 +101,7 @@ impl ExtDraft {
     {
         match header {
             HeaderLine::Tech(name) => self.tech = name,
+            HeaderLine::Version(version) => self.version = Some(version),
             HeaderLine::Classes(values) => {
                 self.classes = class_values_in(self.alloc, values.items())?;
             }
@@ -118,31 +132,40 @@ impl ExtDraft {
         self.take_what_header_has(header)
     }
 
-    fn add_use(&mut self, element: UseRec) -> Result<(), AllocError>
-        requires { is_among element.id self.old.ids ≡ false }
-        ensures { OnOk result (self.new ≡ with_use self.old element) }
+    // Adds a use, where no element has a name that another one has.
+    fn take_new_use(&mut self, used: ArrayUse) -> Result<(), ExtReadFault>
+        requires { HasIdForm used.grid used.id }
+        ensures read { OnOk result (takes_new_use self.old used ≡ Ok self.new) }
+        ensures refused { IfErr result (λ fault. fault ≢ OutOfMemory → takes_new_use self.old used ≡ Err fault) }
     {
-        let _ = self.ids.insert(element.id.bytes())?;
-        put(&mut self.elements, element)
+        let given = UseElements {
+            id: used.id.copy(self.alloc)?,
+            grid: used.grid,
+        };
+        if self.given.gives_again(&given) {
+            return Err(ExtReadFault::UseTwice);
+        }
+        self.given.add(given)?;
+        put(&mut self.arrays, used)?;
+        Ok(())
     }
 
     fn take_use(&mut self, line: UseLine) -> Result<(), ExtReadFault>
+        requires { HasNameForm line.name.grid line.name.id }
         ensures read { OnOk result (takes_use self.old line ≡ Ok self.new) }
         ensures refused { IfErr result (λ fault. fault ≢ OutOfMemory → takes_use self.old line ≡ Err fault) }
     {
-        if self.elements.len() >= MOST_USES {
+        if self.arrays.len() >= MOST_USES {
             return Err(ExtReadFault::Range);
         }
+        let grid = grid_in(line.name.grid)?;
         let six = six_in(line.six)?;
-        if is_among(line.id.bytes(), &self.ids) {
-            return Err(ExtReadFault::UseTwice);
-        }
-        self.add_use(UseRec {
+        self.take_new_use(ArrayUse {
             cell: line.cell,
-            id: line.id,
+            id: line.name.id,
             six,
-        })?;
-        Ok(())
+            grid,
+        })
     }
 
     fn add_node(&mut self, node: NodeRec) -> Result<(), AllocError>
@@ -213,32 +236,35 @@ impl ExtDraft {
         Ok(())
     }
 
-    fn take_merge(&mut self, elements: &NameIndex, line: MergeLine) -> Result<(), ExtReadFault>
-        ensures read { OnOk result (takes_merge elements.now self.old line ≡ Ok self.new) }
+    fn take_merge(&mut self, outline: &Outline, line: MergeLine) -> Result<(), ExtReadFault>
+        ensures read { OnOk result (takes_merge outline.now self.old line ≡ Ok self.new) }
         ensures refused { IfErr result (λ fault. fault ≢ OutOfMemory
-            → takes_merge elements.now self.old line ≡ Err fault) }
+            → takes_merge outline.now self.old line ≡ Err fault) }
     {
-        let merge = merge_from(self.alloc, line)?;
-        if leads(elements, &self.names, merge.first.bytes())
-            && leads(elements, &self.names, merge.second.bytes())
-        {
-            put(&mut self.joins, merge)?;
-            return Ok(());
+        let range = range_in(self.alloc, self.version, line.second.bytes())?;
+        let elements = outline.elements(self.version);
+        let leads_there = leads(elements, &self.names, line.first.bytes())
+            && seconds_lead(elements, &self.names, line.second.bytes(), &range);
+        let row = merge_from(self.alloc, line, &range)?;
+        if !leads_there {
+            return Err(ExtReadFault::NoName);
         }
-        Err(ExtReadFault::NoName)
+        put(&mut self.joins, row)?;
+        Ok(())
     }
 
-    fn take_record(&mut self, elements: &NameIndex, said: ExtLine) -> Result<(), ExtReadFault>
-        ensures read { OnOk result (takes_record elements.now self.old said ≡ Ok self.new) }
+    fn take_record(&mut self, outline: &Outline, said: ExtLine) -> Result<(), ExtReadFault>
+        requires { NamesUse said }
+        ensures read { OnOk result (takes_record outline.now self.old said ≡ Ok self.new) }
         ensures refused { IfErr result (λ fault. fault ≢ OutOfMemory
-            → takes_record elements.now self.old said ≡ Err fault) }
+            → takes_record outline.now self.old said ≡ Err fault) }
     {
         match said {
             ExtLine::Use(line) => self.take_use(line),
             ExtLine::Node(line) => self.take_node(line),
             ExtLine::Equiv(name, alias) => self.take_equiv(name, alias),
             ExtLine::Fet(line) => self.take_fet(line),
-            ExtLine::Merge(line) => self.take_merge(elements, line),
+            ExtLine::Merge(line) => self.take_merge(outline, line),
             ExtLine::Nothing | ExtLine::Header(_) => Ok(()),
         }
     }
@@ -259,36 +285,48 @@ impl ExtDraft {
         }
     }
 
-    fn take_body(&mut self, elements: &NameIndex, said: ExtLine) -> Result<(), ExtReadFault>
-        ensures read { OnOk result (takes_body elements.now self.old said ≡ Ok self.new) }
-        ensures refused { IfErr result (λ fault. fault ≢ OutOfMemory
-            → takes_body elements.now self.old said ≡ Err fault) }
+    // Whether a file of this version may have the line: there are no arrays in version 1.
+    fn fits_version(&self, said: &ExtLine) -> bool
+        ensures { result ≡ fits_version self.now.version said.now }
     {
-        if !self.fits_classes(&said) {
+        match (self.version, said) {
+            (Some(Version::One), ExtLine::Use(line)) => line.name.grid.is_none(),
+            _ => true,
+        }
+    }
+
+    fn take_body(&mut self, outline: &Outline, said: ExtLine) -> Result<(), ExtReadFault>
+        requires { NamesUse said }
+        ensures read { OnOk result (takes_body outline.now self.old said ≡ Ok self.new) }
+        ensures refused { IfErr result (λ fault. fault ≢ OutOfMemory
+            → takes_body outline.now self.old said ≡ Err fault) }
+    {
+        if !(self.fits_classes(&said) && self.fits_version(&said)) {
             return Err(ExtReadFault::BadLine);
         }
         if is_incomplete(self.seen) {
             return Err(ExtReadFault::NoHeader);
         }
         self.begun = true;
-        self.take_record(elements, said)
+        self.take_record(outline, said)
     }
 
     /// Adds what a line says; where it is the last line of the text, a header ends with it.
     pub fn take(
         &mut self,
-        elements: &NameIndex,
+        outline: &Outline,
         is_last: bool,
         said: ExtLine,
     ) -> Result<(), ExtReadFault>
-        ensures read { OnOk result (takes elements.now is_last self.old said ≡ Ok self.new) }
+        requires { NamesUse said }
+        ensures read { OnOk result (takes outline.now is_last self.old said ≡ Ok self.new) }
         ensures refused { IfErr result (λ fault. fault ≢ OutOfMemory
-            → takes elements.now is_last self.old said ≡ Err fault) }
+            → takes outline.now is_last self.old said ≡ Err fault) }
     {
         match said {
             ExtLine::Nothing => Ok(()),
             ExtLine::Header(header) => self.take_header(is_last, header),
-            said => self.take_body(elements, said),
+            said => self.take_body(outline, said),
         }
     }
 
@@ -310,14 +348,14 @@ impl ExtDraft {
     }
 
     /// The record of the cell of this name.
-    pub fn into_record(self, cell: Name) -> CellExt
+    pub fn into_record(self, cell: Name) -> ArrayExt
         ensures { result ≡ record_of cell self }
     {
-        CellExt {
+        ArrayExt {
             cell,
             tech: self.tech,
             classes: self.classes,
-            uses: List::of(self.elements),
+            uses: List::of(self.arrays),
             nodes: List::of(self.nodes),
             fets: List::of(self.transistors),
             merges: List::of(self.joins),

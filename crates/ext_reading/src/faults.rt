@@ -7,28 +7,28 @@ use thiserror::Error;
 /// Why a circuit file is not read. Of the faults of one line the first of these counts.
 #[derive(Clone, Copy, Debug, PartialEq, Eq, Error)]
 pub enum ExtReadFault {
-    /// A line of no form, a line of the header behind its end, or a number of measures other than two for each class.
+    /// A line of no form, a line of the header behind its end, a number of measures other than two for each class, or an array in version 1.
     #[error("bad line")]
     BadLine,
     /// The header ends, and the technology, the version or the classes are missing.
     #[error("no header")]
     NoHeader,
-    /// The version is not 1.
+    /// The version is neither 1 nor 2.
     #[error("another version")]
     Version,
     /// A name of a node, or a line of the header, stands a second time.
     #[error("name twice")]
     NameTwice,
-    /// A number that is out of its range, or more classes or uses than a file may have.
+    /// A number that is out of its range, or more classes, uses or elements of an array than a file may have.
     #[error("out of range")]
     Range,
     /// The numbers of a use are not those of one of the eight orientations.
     #[error("not an orientation")]
     Transform,
-    /// The name of an element stands a second time.
+    /// A use gives an element a name that another one has.
     #[error("use twice")]
     UseTwice,
-    /// A name that no node has so far, or a path that begins with the name of no element of the file.
+    /// A name that no node has so far, or a path that begins with the name of no element of the file's uses.
     #[error("no such name")]
     NoName,
     #[error("out of memory")]

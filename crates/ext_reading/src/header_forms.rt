@@ -1,10 +1,10 @@
 //! What a line of the header says by itself.
 ghost use Rattle.std.specs.Prelude.{◌≡◌, ◌≢◌, Ok, Err, IfOk, IfErr};
 ghost use Rattle.ext_reading.specs.declared.faults.ExtReadFault.TheVariants.{Memory as OutOfMemory};
-ghost use Rattle.ext_reading.specs.LineForms.{tech_line, version_line, classes_line};
+ghost use Rattle.ext_reading.specs.LineForms.{tech_line, version_of, version_line, classes_line};
 
 use crate::faults::ExtReadFault;
-use crate::lines::HeaderLine;
+use crate::lines::{HeaderLine, Version};
 use crate::parts::{numerals_in, word_in};
 use std::alloc::Global;
 use text_scan::Words;
@@ -24,6 +24,19 @@ pub fn tech_line(alloc: Global, words: Words<'_>) -> Result<HeaderLine, ExtReadF
     Ok(HeaderLine::Tech(name))
 }
 
+// The version that a word says.
+fn version_of(word: &[u8]) -> Version
+    ensures { result ≡ version_of word.now }
+{
+    if word == b"1".as_slice() {
+        Version::One
+    } else if word == b"2".as_slice() {
+        Version::Two
+    } else {
+        Version::Other
+    }
+}
+
 pub fn version_line(words: Words<'_>) -> Result<HeaderLine, ExtReadFault>
     ensures { result ≡ version_line words.entry }
 {
@@ -34,7 +47,7 @@ pub fn version_line(words: Words<'_>) -> Result<HeaderLine, ExtReadFault>
     if rest.next().is_some() {
         return Err(ExtReadFault::BadLine);
     }
-    Ok(HeaderLine::Version(word == b"1".as_slice()))
+    Ok(HeaderLine::Version(version_of(word)))
 }
 
 pub fn classes_line(alloc: Global, words: Words<'_>) -> Result<HeaderLine, ExtReadFault>

@@ -2,7 +2,7 @@
 ghost use Rattle.std.specs.Prelude.{◌≡◌};
 ghost use Rattle.ext_reading.specs.Drafts.{nothing_seen, is_incomplete, was_seen, with_seen, is_other_version};
 
-use crate::lines::{HeaderLine, Seen};
+use crate::lines::{HeaderLine, Seen, Version};
 
 pub fn nothing_seen() -> Seen
     ensures { result ≡ nothing_seen }
@@ -55,8 +55,5 @@ pub fn with_seen(seen: Seen, header: &HeaderLine) -> Seen
 pub fn is_other_version(header: &HeaderLine) -> bool
     ensures { result ≡ is_other_version header.now }
 {
-    match header {
-        HeaderLine::Version(is_one) => !*is_one,
-        _ => false,
-    }
+    matches!(header, HeaderLine::Version(Version::Other))
 }

@@ -1,10 +1,14 @@
 //! Names among those that are known.
-ghost use Rattle.std.specs.Prelude.{◌≡◌};
+ghost use Rattle.std.specs.Prelude.{◌≡◌, Some};
 ghost use Rattle.std.specs.List.{list_all, list_any, before_first};
 ghost use Rattle.ext_reading.specs.Parts.{is_slash};
-ghost use Rattle.ext_reading.specs.Drafts.{is_among, has_its_nodes, leads};
+ghost use Rattle.element_index.specs.GivenNames.{is_among, names_in};
+ghost use Rattle.ext_reading.specs.declared.lines.ElementRange.{ElementRange as IsRange};
+ghost use Rattle.ext_reading.specs.Drafts.{has_its_nodes, leads, all_lead, second_of, count_of, IsElementRange};
 
+use crate::lines::ElementRange;
 use crate::parts::slash_at;
+use element_index::KnownElements;
 use ext_model::{FetRec, SLASH, TermRec};
 use name_index::NameIndex;
 
@@ -44,12 +48,28 @@ fn first_name(path: &[u8]) -> &[u8]
     }
 }
 
-pub fn leads(elements: &NameIndex, names: &NameIndex, path: &[u8]) -> bool
-    ensures { result ≡ leads elements.now names.now path.now }
+pub fn leads(elements: &KnownElements, names: &NameIndex, path: &[u8]) -> bool
+    ensures { result ≡ leads (names_in elements.now) names.now path.now }
 {
     if is_slashed(path) {
-        is_among(first_name(path), elements)
+        elements.has(first_name(path))
     } else {
         is_among(path, names)
+    }
+}
+
+/// Whether the second paths of all merges of a row lead.
+pub fn seconds_lead(
+    elements: &KnownElements,
+    names: &NameIndex,
+    second: &[u8],
+    range: &Option<ElementRange>,
+) -> bool
+    requires { (one : IsRange) → range.now ≡ Some one → IsElementRange one }
+    ensures { result ≡ all_lead (names_in elements.now) names.now (second_of second.now range.now) (count_of range.now) }
+{
+    match range {
+        Some(range) => elements.has_row(range.id.bytes(), range.lo, range.hi, range.j),
+        None => leads(elements, names, second),
     }
 }

@@ -10,7 +10,8 @@ use crate::faults::ExtReadFault;
 use crate::fet_forms::fet_line;
 use crate::header_forms::{classes_line, tech_line, version_line};
 use crate::lines::{ExtLine, HeaderLine, MergeLine, NodeLine, Numeral, Six, UseLine};
-use crate::parts::{cell_in, element_in, node_name_in, numeral_in, numerals_in, path_in, word_in};
+use crate::parts::{cell_in, node_name_in, numeral_in, numerals_in, path_in, word_in};
+use crate::use_names::use_name_in;
 use names_lists::List;
 use std::alloc::Global;
 use text_scan::{Words, words};
@@ -66,13 +67,13 @@ pub fn use_line(alloc: Global, words: Words<'_>) -> Result<ExtLine, ExtReadFault
     let Some(cell) = rest.next() else {
         return Err(ExtReadFault::BadLine);
     };
-    let Some(id) = rest.next() else {
+    let Some(name) = rest.next() else {
         return Err(ExtReadFault::BadLine);
     };
     let cell = cell_in(alloc, cell)?;
-    let id = element_in(alloc, id)?;
+    let name = use_name_in(alloc, name)?;
     let six = six_numerals(rest)?;
-    Ok(ExtLine::Use(UseLine { cell, id, six }))
+    Ok(ExtLine::Use(UseLine { cell, name, six }))
 }
 
 fn node_line(alloc: Global, words: Words<'_>) -> Result<ExtLine, ExtReadFault>

@@ -5,8 +5,17 @@ use names_lists::{List, Name};
 /// A decimal number, or nothing where 128 bits do not hold it. What its range is counts only once the whole line has a form.
 pub type Numeral = Option<i128>;
 
-/// The numbers of a use.
+/// The numbers of a use, or of a grid.
 pub type Six = (Numeral, Numeral, Numeral, Numeral, Numeral, Numeral);
+
+/// Which version of the format a file is of.
+#[derive(Clone, Copy, Debug, PartialEq, Eq)]
+pub enum Version {
+    One,
+    Two,
+    /// Another word stands in its place.
+    Other,
+}
 
 /// A line of the header.
 #[derive(Debug, Drop)]
@@ -14,19 +23,25 @@ pub enum HeaderLine {
     /// The technology's name.
     Tech(Name),
     Timestamp,
-    /// Whether it is version 1.
-    Version(bool),
+    Version(Version),
     Style,
     Scale,
     /// The values of the classes.
     Classes(List<Numeral>),
 }
 
-/// An element of a use.
+/// The id of a use, and the numbers of its grid where it is an array.
+#[derive(Debug, Drop)]
+pub struct UseName {
+    pub id: Name,
+    pub grid: Option<Six>,
+}
+
+/// A use.
 #[derive(Debug, Drop)]
 pub struct UseLine {
     pub cell: Name,
-    pub id: Name,
+    pub name: UseName,
     pub six: Six,
 }
 
@@ -76,6 +91,16 @@ pub struct MergeLine {
     pub second: Name,
     pub cap: Numeral,
     pub measures: List<Numeral>,
+}
+
+/// The path of a range of elements: the id of their use, the first and the last index i, the index j, and what stands behind the slash.
+#[derive(Debug, Drop)]
+pub struct ElementRange {
+    pub id: Name,
+    pub lo: i64,
+    pub hi: i64,
+    pub j: i64,
+    pub rest: Name,
 }
 
 /// What a line says.

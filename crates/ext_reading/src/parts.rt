@@ -3,7 +3,7 @@ ghost use Rattle.std.specs.Prelude.{◌≡◌, ◌≢◌, ◌<◌, ◌++◌, ◌
 ghost use Rattle.std.specs.List.{list_all, position, slice_split};
 ghost use Rattle.ext_model.specs.NodeNames.{is_word_byte, is_word, slashes_in, is_node_name};
 ghost use Rattle.ext_reading.specs.declared.faults.ExtReadFault.TheVariants.{Memory as OutOfMemory};
-ghost use Rattle.ext_reading.specs.Parts.{is_slash, is_path, is_quoted, unquoted, if_formed, word_in, cell_in, element_in, substrate_in};
+ghost use Rattle.ext_reading.specs.Parts.{is_slash, is_path, is_quoted, unquoted, if_formed, word_in, cell_in, substrate_in};
 ghost use Rattle.ext_reading.specs.Parts.{node_name_in, path_in, numeral_in, numerals_in, is_next};
 
 use crate::faults::ExtReadFault;
@@ -126,14 +126,6 @@ pub fn cell_in(alloc: Global, word: &[u8]) -> Result<Name, ExtReadFault>
     if_formed(alloc, is_plain_name(word), word)
 }
 
-/// The name of an element.
-pub fn element_in(alloc: Global, word: &[u8]) -> Result<Name, ExtReadFault>
-    ensures read { IfOk result (λ name. element_in word.now ≡ Ok name) }
-    ensures refused { IfErr result (λ fault. fault ≢ OutOfMemory → element_in word.now ≡ Err fault) }
-{
-    if_formed(alloc, is_node_name(word), word)
-}
-
 /// The name of a substrate, with quotes or without.
 pub fn substrate_in(alloc: Global, word: &[u8]) -> Result<Name, ExtReadFault>
     ensures read { IfOk result (λ name. substrate_in word.now ≡ Ok name) }
@@ -147,7 +139,8 @@ pub fn node_name_in(alloc: Global, word: &[u8]) -> Result<Name, ExtReadFault>
     ensures read { IfOk result (λ name. node_name_in word.now ≡ Ok name) }
     ensures refused { IfErr result (λ fault. fault ≢ OutOfMemory → node_name_in word.now ≡ Err fault) }
 {
-    element_in(alloc, unquoted(word))
+    let name = unquoted(word);
+    if_formed(alloc, is_node_name(name), name)
 }
 
 /// A path, with quotes or without.

@@ -1,20 +1,25 @@
 //! The numbers of a line within their ranges.
-ghost use Rattle.std.specs.Prelude.{◌≡◌, ◌≢◌, [], ◌∷◌, Ok, Err, IfOk, IfErr, MatchOption};
+ghost use Rattle.std.specs.Prelude.{◌≡◌, ◌≢◌, [], ◌∷◌, ◌*◌, Ok, Err, IfOk, IfErr, MatchOption};
+ghost use Rattle.std.specs.Int.{w32};
+ghost use Rattle.std.specs.Int.RustNames.{FitsSigned};
 ghost use Rattle.ext_reading.specs.declared.faults.ExtReadFault.TheVariants.{Memory as OutOfMemory};
-ghost use Rattle.ext_reading.specs.Ranges.{is_short, short_in, measure_in, pair_in, measures_in, class_value_of, class_value_in, class_values_from};
+ghost use Rattle.ext_reading.specs.Parts.{is_short};
+ghost use Rattle.ext_reading.specs.Ranges.{short_in, measure_in, pair_in, measures_in, class_value_of, class_value_in, class_values_from};
 ghost use Rattle.ext_reading.specs.Ranges.{class_values_in};
-ghost use Rattle.ext_reading.specs.Ranges.{if_orientation, six_in, point_in, term_in, terms_from};
+ghost use Rattle.geo_core.specs.Elements.{indices};
+ghost use Rattle.ext_reading.specs.Ranges.{if_orientation, six_in, HasShortEnds, if_few, grid_in, point_in, term_in, terms_from};
 
 use crate::faults::ExtReadFault;
 use crate::limits::GREATEST_CLASS_VALUE;
 use crate::lines::{Corners, Numeral, SideLine, Six};
 use crate::parts::put;
 use ext_model::{MEASURE_EDGE, MOST_CLASSES, TermRec};
-use geo_core::Orient;
+use geo_core::{Grid, MOST_ELEMENTS, Orient};
 use names_lists::List;
 use std::alloc::Global;
 
-fn is_short(value: i128) -> bool
+/// Whether the number is one of 32 bits with sign.
+pub fn is_short(value: i128) -> bool
     ensures { result ≡ is_short value }
 {
     -(1 << 31) <= value && value < 1 << 31
@@ -132,7 +137,7 @@ fn if_orientation(a: i64, b: i64, c: i64, d: i64, e: i64, f: i64) -> Result<[i64
     }
 }
 
-/// The numbers by which an element stands.
+/// The numbers by which a use stands.
 pub fn six_in(six: Six) -> Result<[i64; 6], ExtReadFault>
     ensures { result ≡ six_in six }
 {
@@ -143,6 +148,58 @@ pub fn six_in(six: Six) -> Result<[i64; 6], ExtReadFault>
     let e = short_in(six.4)?;
     let f = short_in(six.5)?;
     if_orientation(a, b, c, d, e, f)
+}
+
+// How many values an index has that runs from one end to the other.
+fn indices(from: i64, to: i64) -> u64
+    requires from_fits { FitsSigned w32 from }
+    requires to_fits { FitsSigned w32 to }
+    ensures { result ≡ indices from to }
+{
+    from.abs_diff(to) + 1
+}
+
+// How many elements a grid has.
+fn count_in(grid: &Grid) -> u128
+    requires { HasShortEnds grid.now }
+    ensures { result ≡ indices grid.now.xlo grid.now.xhi * indices grid.now.ylo grid.now.yhi }
+{
+    u128::from(indices(grid.xlo, grid.xhi)) * u128::from(indices(grid.ylo, grid.yhi))
+}
+
+// A grid of no more elements than there may be.
+fn if_few(grid: Grid) -> Result<Option<Grid>, ExtReadFault>
+    requires { HasShortEnds grid }
+    ensures { result ≡ if_few grid }
+{
+    if count_in(&grid) <= MOST_ELEMENTS as u128 {
+        Ok(Some(grid))
+    } else {
+        Err(ExtReadFault::Range)
+    }
+}
+
+/// The grid of a use, where it has one.
+pub fn grid_in(grid: Option<Six>) -> Result<Option<Grid>, ExtReadFault>
+    ensures { result ≡ grid_in grid }
+{
+    let Some(six) = grid else {
+        return Ok(None);
+    };
+    let xlo = short_in(six.0)?;
+    let xhi = short_in(six.1)?;
+    let xsep = short_in(six.2)?;
+    let ylo = short_in(six.3)?;
+    let yhi = short_in(six.4)?;
+    let ysep = short_in(six.5)?;
+    if_few(Grid {
+        xlo,
+        xhi,
+        xsep,
+        ylo,
+        yhi,
+        ysep,
+    })
 }
 
 /// The point of a transistor.

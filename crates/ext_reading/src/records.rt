@@ -1,13 +1,16 @@
 //! The records that lines say, with their numbers within their ranges.
-ghost use Rattle.std.specs.Prelude.{◌≡◌, ◌≢◌, Ok, Err, OnOk, IfOk, IfErr};
+ghost use Rattle.std.specs.Prelude.{◌≡◌, ◌≢◌, [], Some, Ok, Err, OnOk, IfOk, IfErr};
 ghost use Rattle.ext_reading.specs.declared.faults.ExtReadFault.TheVariants.{Memory as OutOfMemory};
-ghost use Rattle.ext_reading.specs.Drafts.{node_from, named_too, with_alias_at, fet_from, merge_from};
+ghost use Rattle.ext_reading.specs.Drafts.{node_from, named_too, with_alias_at, fet_from, second_of, count_of, merge_from};
+ghost use Rattle.ext_reading.specs.Drafts.{IsElementRange};
+ghost use Rattle.ext_reading.specs.declared.lines.ElementRange.{ElementRange as IsRange};
 
 use crate::faults::ExtReadFault;
-use crate::lines::{FetLine, MergeLine, NodeLine};
+use crate::lines::{ElementRange, FetLine, MergeLine, NodeLine};
 use crate::parts::put;
 use crate::ranges::{measure_in, measures_in, point_in, short_in, term_in, terms_in};
-use ext_model::{FetRec, MergeRec, NodeRec};
+use crate::use_names::first_path;
+use ext_model::{FetRec, MergeRow, NodeRec};
 use names_lists::{List, Name};
 use std::alloc::{AllocError, Global};
 use std::mem;
@@ -79,15 +82,43 @@ pub fn fet_from(alloc: Global, line: FetLine) -> Result<FetRec, ExtReadFault>
     })
 }
 
-pub fn merge_from(alloc: Global, line: MergeLine) -> Result<MergeRec, ExtReadFault>
-    ensures read { IfOk result (λ merge. merge_from line ≡ Ok merge) }
-    ensures refused { IfErr result (λ fault. fault ≢ OutOfMemory → merge_from line ≡ Err fault) }
+// The second path of a merge, the first where it is a range.
+fn second_of(alloc: Global, path: Name, range: &Option<ElementRange>) -> Result<Name, AllocError>
+    ensures { IfOk result (λ second. second ≡ second_of path range.now) }
+{
+    match range {
+        Some(range) => first_path(alloc, range),
+        None => Ok(path),
+    }
+}
+
+// How many merges a range stands for.
+fn count_of(range: &Option<ElementRange>) -> u64
+    requires { (one : IsRange) → range.now ≡ Some one → IsElementRange one }
+    ensures { result ≡ count_of range.now }
+{
+    match range {
+        Some(range) => range.lo.abs_diff(range.hi) + 1,
+        None => 1,
+    }
+}
+
+// A row of merges, wherever its paths lead.
+pub fn merge_from(
+    alloc: Global,
+    line: MergeLine,
+    range: &Option<ElementRange>,
+) -> Result<MergeRow, ExtReadFault>
+    requires { (one : IsRange) → range.now ≡ Some one → IsElementRange one }
+    ensures read { IfOk result (λ row. merge_from line range.now ≡ Ok row) }
+    ensures refused { IfErr result (λ fault. fault ≢ OutOfMemory → merge_from line range.now ≡ Err fault) }
 {
     let cap = measure_in(line.cap)?;
     let measures = measures_in(alloc, line.measures.items())?;
-    Ok(MergeRec {
+    Ok(MergeRow {
         first: line.first,
-        second: line.second,
+        second: second_of(alloc, line.second, range)?,
+        count: count_of(range),
         cap,
         measures,
     })

@@ -1,24 +1,26 @@
 -- What is appended, one part behind the other, is the line or the text.
-use Rattle.std.proofs.Common.{◌≡◌, ◌≢◌, ◌+◌, ◌<◌, ℕ, zero, suc, ℤ, pos, ◌+ℤ◌, List, [], ◌∷◌, ◌++◌, length, map, take, drop, get_or, refl, sym, ◌∙◌, ap, subst}
+use Rattle.std.proofs.Common.{◌≡◌, ◌≢◌, ◌+◌, ◌<◌, ℕ, zero, suc, ℤ, pos, List, [], ◌∷◌, ◌++◌, length, map, take, drop, get_or, refl, sym, ◌∙◌, ap, subst}
 use Rattle.std.proofs.Common.{arith, append_assoc, append-nil}
-use Rattle.std.specs.Prelude.{codes, Result, Err, IfErr}
+use Rattle.std.specs.Prelude.{codes, Some, Result, Err, IfErr}
 use Rattle.std.specs.List.{flat_map}
 use Rattle.std.proofs.Math.Seq.{take-suc}
 use Rattle.std.proofs.lemmas.List.{map_more, flat_map_more, length-append}
 use Rattle.text_scan.specs.Decimal.{decimal}
-use Rattle.text_scan.specs.Written.{line_of, text_of}
-use Rattle.ext_model.specs.declared.records.UseRec.{UseRec}
+use Rattle.text_scan.specs.Written.{line_of}
+use Rattle.geo_core.specs.declared.grids.Grid.{Grid}
 use Rattle.ext_model.specs.declared.records.NodeRec.{NodeRec}
 use Rattle.ext_model.specs.declared.records.TermRec.{TermRec}
 use Rattle.ext_model.specs.declared.records.FetRec.{FetRec}
-use Rattle.ext_model.specs.declared.records.MergeRec.{MergeRec}
-use Rattle.ext_model.specs.declared.records.CellExt.{CellExt}
+use Rattle.ext_model.specs.declared.arrays.ArrayUse.{ArrayUse}
+use Rattle.ext_model.specs.declared.arrays.MergeRow.{MergeRow}
+use Rattle.ext_model.specs.declared.arrays.ArrayExt.{ArrayExt}
 use Rattle.ext_model.specs.declared.circuits.Circuit.{Circuit}
 use Rattle.ext_text.specs.declared.faults.ExtFault.{ExtFault}
 use Rattle.ext_text.specs.declared.faults.ExtFault.TheVariants.{Memory}
 use Rattle.ext_text.specs.NodeLines.{quoted, measure_words, node_words, node_line}
 use Rattle.ext_text.specs.Appended.{behind_blanks, whole_line}
-use Rattle.ext_text.specs.WrittenTexts.{header_words, use_words, equiv_words, node_lines, term_words, square_words, fet_words, merge_words}
+use Rattle.ext_text.specs.WrittenTexts.{header_words, span_text, use_name, use_words, equiv_words, node_lines, term_words, square_words, fet_words}
+use Rattle.ext_text.specs.WrittenTexts.{row_path, merge_words}
 use Rattle.ext_text.specs.WrittenTexts.{lines_text, ext_text, flat_text, IsTooLong}
 
 -- ---- words
@@ -142,11 +144,23 @@ alias_appended name alias first second out a b c ha hb n hc m =
     then out a c _ _ ha (then a b c _ _ (quoted_of a b first name hb n) last) ∙ ap (λ v. out ++ v) (sym (line-words (codes "equiv")
     (quoted name ∷ quoted alias ∷ [])))
 
-pub use_appended : (used : UseRec) (cell id : List ℕ) (out a b c d : List ℕ) → a ≡ out ++ codes "use" → b ≡ a ++ 32 ∷ cell → cell ≡ used.cell
-    → c ≡ b ++ 32 ∷ id → id ≡ used.id → d ≡ c ++ behind_blanks (map decimal used.six) → d ≡ out ++ line_of (use_words used)
+-- the indices of columns or of rows, and their distance
+pub span_appended : (lo hi sep : ℤ) (out a b c d e f g : List ℕ) → a ≡ out ++ 91 ∷ [] → b ≡ a ++ decimal lo → c ≡ b ++ 58 ∷ [] → d ≡ c ++ decimal hi
+    → e ≡ d ++ 58 ∷ [] → f ≡ e ++ decimal sep → g ≡ f ++ 93 ∷ [] → g ≡ out ++ span_text lo hi sep
+span_appended lo hi sep out a b c d e f g ha hb hc hd he hf hg =
+    then out a g _ _ ha (then a b g _ _ hb (then b c g _ _ hc (then c d g _ _ hd (then d e g _ _ he (then e f g _ _ hf hg)))))
+
+-- the id of a use with its grid
+pub array_appended : (id : List ℕ) (grid : Grid) (out a b c : List ℕ) → a ≡ out ++ 32 ∷ id → b ≡ a ++ span_text grid.xlo grid.xhi grid.xsep
+    → c ≡ b ++ span_text grid.ylo grid.yhi grid.ysep → c ≡ out ++ 32 ∷ use_name id (Some grid)
+array_appended id grid out a b c ha hb hc = then out a c (32 ∷ id) _ ha (then a b c _ _ hb hc)
+
+pub use_appended : (used : ArrayUse) (cell id : List ℕ) (out a b c d : List ℕ) → a ≡ out ++ codes "use" → b ≡ a ++ 32 ∷ cell → cell ≡ used.cell
+    → c ≡ b ++ 32 ∷ use_name id used.grid → id ≡ used.id → d ≡ c ++ behind_blanks (map decimal used.six) → d ≡ out ++ line_of (use_words used)
 use_appended used cell id out a b c d ha hb n hc m hd =
-    then out a d _ _ ha (then a b d _ _ (word_of a b cell used.cell hb n) (then b c d _ _ (word_of b c id used.id hc m) hd))
-    ∙ ap (λ v. out ++ v) (sym (line-words (codes "use") (used.cell ∷ used.id ∷ map decimal used.six)))
+    let name = hc ∙ ap (λ (text : List ℕ). b ++ 32 ∷ use_name text used.grid) m in
+    then out a d _ _ ha (then a b d _ _ (word_of a b cell used.cell hb n) (then b c d (32 ∷ use_name used.id used.grid) _ name hd))
+    ∙ ap (λ v. out ++ v) (sym (line-words (codes "use") (used.cell ∷ use_name used.id used.grid ∷ map decimal used.six)))
 
 pub fet_appended : (fet : FetRec) (kind substrate : List ℕ) (terminals : List TermRec) (out a b c d e f g h : List ℕ) → a ≡ out ++ codes "fet"
     → b ≡ a ++ 32 ∷ kind
@@ -166,39 +180,55 @@ fet_appended fet kind substrate terminals out a b c d e f g h ha hb k hc hd he h
     (then b c h _ _ hc (then c d h _ _ hd (then d e h _ _ he (then e f h _ _ (quoted_of e f substrate fet.substrate hf s) (then f g h _ _ hg last))))))
     ∙ ap (λ v. out ++ v) (sym whole)
 
-pub merge_appended : (merge : MergeRec) (first second : List ℕ) (measures : List (ℤ × ℤ)) (out a b c d e : List ℕ) → a ≡ out ++ codes "merge"
-    → b ≡ a ++ 32 ∷ quoted first
-    → first ≡ merge.first → c ≡ b ++ 32 ∷ quoted second → second ≡ merge.second → d ≡ c ++ 32 ∷ decimal merge.cap
-    → e ≡ d ++ behind_blanks (measure_words measures) → measures ≡ merge.measures → e ≡ out ++ line_of (merge_words merge)
-merge_appended merge first second measures out a b c d e ha hb n hc m hd he s =
-    let last = he ∙ ap (λ (list : List (ℤ × ℤ)). d ++ behind_blanks (measure_words list)) s in
-    then out a e _ _ ha
-    (then a b e _ _ (quoted_of a b first merge.first hb n) (then b c e _ _ (quoted_of b c second merge.second hc m) (then c d e _ _ hd last)))
-    ∙ ap (λ v. out ++ v) (sym (line-words (codes "merge") (quoted merge.first ∷ quoted merge.second ∷ decimal merge.cap ∷ measure_words merge.measures)))
+-- a path with a range of indices
+pub ranged_appended : (front back : List ℕ) (lo hi : ℤ) (out a b c d e f g : List ℕ) → a ≡ out ++ front → b ≡ a ++ 91 ∷ [] → c ≡ b ++ decimal lo
+    → d ≡ c ++ 58 ∷ [] → e ≡ d ++ decimal hi → f ≡ e ++ 44 ∷ [] → g ≡ f ++ back
+    → g ≡ out ++ (front ++ 91 ∷ (decimal lo ++ 58 ∷ (decimal hi ++ 44 ∷ back)))
+ranged_appended front back lo hi out a b c d e f g ha hb hc hd he hf hg =
+    then out a g _ _ ha (then a b g _ _ hb (then b c g _ _ hc (then c d g _ _ hd (then d e g _ _ he (then e f g _ _ hf hg)))))
 
-header-parts : (tech classes : List ℕ)
-    → codes "tech" ++ ((32 ∷ tech) ++ (codes "\ntimestamp 0\nversion 1\nstyle" ++ ((32 ∷ tech) ++ (codes "\nscale 1 1 1\nresistclasses"
-    ++ (behind_blanks (map (λ value. decimal (pos value)) classes) ++ 10 ∷ [])))))
-    ≡ lines_text (header_words tech classes)
+-- a name between quotes, its quotes by themselves
+pub quoted_appended : (name : List ℕ) (out a b c : List ℕ) → a ≡ out ++ codes " \"" → b ≡ a ++ name → c ≡ b ++ 34 ∷ [] → c ≡ out ++ 32 ∷ quoted name
+quoted_appended name out a b c ha hb hc = then out a c _ _ ha (then a b c _ _ hb hc)
+
+pub merge_appended : (row : MergeRow) (first second : List ℕ) (measures : List (ℤ × ℤ)) (out a b c d e : List ℕ) → a ≡ out ++ codes "merge"
+    → b ≡ a ++ 32 ∷ quoted first
+    → first ≡ row.first → c ≡ b ++ 32 ∷ quoted (row_path second row.count) → second ≡ row.second → d ≡ c ++ 32 ∷ decimal row.cap
+    → e ≡ d ++ behind_blanks (measure_words measures) → measures ≡ row.measures → e ≡ out ++ line_of (merge_words row)
+merge_appended row first second measures out a b c d e ha hb n hc m hd he s =
+    let path = row_path row.second row.count in
+    let last = he ∙ ap (λ (list : List (ℤ × ℤ)). d ++ behind_blanks (measure_words list)) s in
+    let to = hc ∙ ap (λ (text : List ℕ). b ++ 32 ∷ quoted (row_path text row.count)) m in
+    then out a e _ _ ha
+    (then a b e _ _ (quoted_of a b first row.first hb n) (then b c e (32 ∷ quoted path) _ to (then c d e _ _ hd last)))
+    ∙ ap (λ v. out ++ v) (sym (line-words (codes "merge") (quoted row.first ∷ quoted path ∷ decimal row.cap ∷ measure_words row.measures)))
+
+header-parts : (version tech classes : List ℕ)
+    → codes "tech" ++ ((32 ∷ tech) ++ (codes "\ntimestamp 0\nversion" ++ ((32 ∷ version) ++ (codes "\nstyle" ++ ((32 ∷ tech)
+    ++ (codes "\nscale 1 1 1\nresistclasses" ++ (behind_blanks (map (λ value. decimal (pos value)) classes) ++ 10 ∷ [])))))))
+    ≡ lines_text (header_words version tech classes)
 unfolding lines_text
-header-parts tech classes =
-    ap (λ v. codes "tech" ++ ((32 ∷ tech) ++ (codes "\ntimestamp 0\nversion 1\nstyle" ++ ((32 ∷ tech) ++ (codes "\nscale 1 1 1\n" ++ (v ++ 10 ∷ []))))))
+header-parts version tech classes =
+    ap (λ v. codes "tech" ++ ((32 ∷ tech) ++ (codes "\ntimestamp 0\nversion" ++ ((32 ∷ version) ++ (codes "\nstyle" ++ ((32 ∷ tech)
+    ++ (codes "\nscale 1 1 1\n" ++ (v ++ 10 ∷ []))))))))
     (sym (line-words (codes "resistclasses") (map (λ value. decimal (pos value)) classes)))
 
-pub header_written : (tech one other classes : List ℕ) (out a b c d e f g : List ℕ) → a ≡ out ++ codes "tech" → b ≡ a ++ 32 ∷ one → one ≡ tech
-    → c ≡ b ++ codes "\ntimestamp 0\nversion 1\nstyle" → d ≡ c ++ 32 ∷ other → other ≡ tech → e ≡ d ++ codes "\nscale 1 1 1\nresistclasses"
-    → f ≡ e ++ behind_blanks (map (λ value. decimal (pos value)) classes) → g ≡ f ++ 10 ∷ [] → g ≡ out ++ lines_text (header_words tech classes)
-header_written tech one other classes out a b c d e f g ha hb n hc hd m he hf hg =
-    then out a g _ _ ha
-    (then a b g _ _ (word_of a b one tech hb n) (then b c g _ _ hc (then c d g _ _ (word_of c d other tech hd m) (then d e g _ _ he (then e f g _ _ hf hg)))))
-    ∙ ap (λ v. out ++ v) (header-parts tech classes)
+pub header_written : (version tech one other classes : List ℕ) (out a b c d e f g h i : List ℕ) → a ≡ out ++ codes "tech" → b ≡ a ++ 32 ∷ one → one ≡ tech
+    → c ≡ b ++ codes "\ntimestamp 0\nversion" → d ≡ c ++ 32 ∷ version → e ≡ d ++ codes "\nstyle" → f ≡ e ++ 32 ∷ other → other ≡ tech
+    → g ≡ f ++ codes "\nscale 1 1 1\nresistclasses" → h ≡ g ++ behind_blanks (map (λ value. decimal (pos value)) classes) → i ≡ h ++ 10 ∷ []
+    → i ≡ out ++ lines_text (header_words version tech classes)
+header_written version tech one other classes out a b c d e f g h i ha hb n hc hd he hf m hg hh hi =
+    then out a i _ _ ha
+    (then a b i _ _ (word_of a b one tech hb n) (then b c i _ _ hc (then c d i _ _ hd (then d e i _ _ he
+    (then e f i _ _ (word_of e f other tech hf m) (then f g i _ _ hg (then g h i _ _ hh hi)))))))
+    ∙ ap (λ v. out ++ v) (header-parts version tech classes)
 
 -- the whole files
-pub ext_written : (ext : CellExt) (out a b c d e : List ℕ) → out ≡ [] → a ≡ out ++ lines_text (header_words ext.tech ext.classes)
+pub ext_written : (ext : ArrayExt) (out a b c d e : List ℕ) → out ≡ [] → a ≡ out ++ lines_text (header_words (codes "2") ext.tech ext.classes)
     → b ≡ a ++ lines_text (map use_words ext.uses) → c ≡ b ++ lines_text (flat_map node_lines ext.nodes) → d ≡ c ++ lines_text (map fet_words ext.fets)
     → e ≡ d ++ lines_text (map merge_words ext.merges) → e ≡ ext_text ext
 ext_written ext out a b c d e ho ha hb hc hd he =
-    let header = header_words ext.tech ext.classes in
+    let header = header_words (codes "2") ext.tech ext.classes in
     let uses = map use_words ext.uses in
     let nodes = flat_map node_lines ext.nodes in
     let fets = map fet_words ext.fets in
@@ -208,14 +238,14 @@ ext_written ext out a b c d e ho ha hb hc hd he =
     then out a e _ _ ha (then a b e _ _ hb (then b c e _ _ hc (then c d e _ _ hd he))) ∙ ap (λ v. out ++ v) (sym parts) ∙ ap (λ v. v ++ ext_text ext) ho
 
 flat-parts : (circuit : Circuit) → flat_text circuit
-    ≡ lines_text (header_words circuit.tech circuit.classes) ++ (lines_text (flat_map node_lines circuit.nodes) ++ lines_text (map fet_words circuit.fets))
+    ≡ lines_text (header_words (codes "1") circuit.tech circuit.classes) ++ (lines_text (flat_map node_lines circuit.nodes) ++ lines_text (map fet_words circuit.fets))
 flat-parts circuit =
     let nodes = flat_map node_lines circuit.nodes in
     let fets = map fet_words circuit.fets in
-    lines-append (header_words circuit.tech circuit.classes) (nodes ++ fets)
-    ∙ ap (λ v. lines_text (header_words circuit.tech circuit.classes) ++ v) (lines-append nodes fets)
+    lines-append (header_words (codes "1") circuit.tech circuit.classes) (nodes ++ fets)
+    ∙ ap (λ v. lines_text (header_words (codes "1") circuit.tech circuit.classes) ++ v) (lines-append nodes fets)
 
-pub flat_written : (circuit : Circuit) (out a b c : List ℕ) → a ≡ out ++ lines_text (header_words circuit.tech circuit.classes)
+pub flat_written : (circuit : Circuit) (out a b c : List ℕ) → a ≡ out ++ lines_text (header_words (codes "1") circuit.tech circuit.classes)
     → b ≡ a ++ lines_text (flat_map node_lines circuit.nodes) → c ≡ b ++ lines_text (map fet_words circuit.fets) → c ≡ out ++ flat_text circuit
 flat_written circuit out a b c ha hb hc = then out a c _ _ ha (then a b c _ _ hb hc) ∙ ap (λ v. out ++ v) (sym (flat-parts circuit))
 
@@ -265,7 +295,7 @@ some_nodes_too_long nodes k fault out text =
     part_too_long fault out text (flat_map node_lines (take k nodes)) (flat_map node_lines (drop k nodes)) (flat_map node_lines nodes)
     (flat_map-split node_lines nodes k)
 
-pub nodes_too_long : (circuit : Circuit) (fault : ExtFault) (out a text : List ℕ) → a ≡ out ++ lines_text (header_words circuit.tech circuit.classes)
+pub nodes_too_long : (circuit : Circuit) (fault : ExtFault) (out a text : List ℕ) → a ≡ out ++ lines_text (header_words (codes "1") circuit.tech circuit.classes)
     → text ≡ a ++ lines_text (flat_map node_lines circuit.nodes) → IsTooLong fault text → IsTooLong fault (out ++ flat_text circuit)
 nodes_too_long circuit fault out a text ha ht long =
     too_long-more fault text (lines_text (map fet_words circuit.fets)) (out ++ flat_text circuit)

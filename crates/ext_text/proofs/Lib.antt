@@ -1,1 +1,2 @@
 pub mod AppendedLines
+pub mod PathCuts

@@ -1,29 +1,41 @@
 -- Circuit files as they are written.
-use Rattle.std.specs.Prelude.{◌≡◌, ◌<◌, ℕ, ℤ, pos, ◌+ℤ◌, List, [], ◌∷◌, ◌++◌, length, map, flat_map, codes}
+use Rattle.std.specs.Prelude.{◌≡◌, ◌<◌, nat_le, if◌then◌else◌, ℕ, ℤ, pos, ◌+ℤ◌, ◌-ℤ◌, List, [], ◌∷◌, ◌++◌, length, map, flat_map, codes}
+use Rattle.std.specs.Prelude.{Option, Some, None}
 use Rattle.text_scan.specs.Decimal.{decimal}
 use Rattle.text_scan.specs.Written.{line_of, text_of}
-use Rattle.ext_model.specs.declared.records.UseRec.{UseRec}
+use Rattle.geo_core.specs.declared.grids.Grid.{Grid}
 use Rattle.ext_model.specs.declared.records.NodeRec.{NodeRec}
 use Rattle.ext_model.specs.declared.records.TermRec.{TermRec}
 use Rattle.ext_model.specs.declared.records.FetRec.{FetRec}
-use Rattle.ext_model.specs.declared.records.MergeRec.{MergeRec}
-use Rattle.ext_model.specs.declared.records.CellExt.{CellExt}
+use Rattle.ext_model.specs.declared.arrays.ArrayUse.{ArrayUse}
+use Rattle.ext_model.specs.declared.arrays.MergeRow.{MergeRow}
+use Rattle.ext_model.specs.declared.arrays.ArrayExt.{ArrayExt}
 use Rattle.ext_model.specs.declared.circuits.Circuit.{Circuit}
+use Rattle.ext_model.specs.Plain.{before, behind, first_index}
 use Rattle.ext_text.specs.declared.faults.ExtFault.{ExtFault}
 use Rattle.ext_text.specs.declared.faults.ExtFault.TheVariants.{TooLong}
 use Rattle.ext_text.specs.declared.limits.TheConstants.{LONGEST_TEXT}
 use Rattle.ext_text.specs.NodeLines.{quoted, measure_words, node_words}
 
--- `tech NAME`, `timestamp 0`, `version 1`, `style NAME`, `scale 1 1 1`, `resistclasses VALUE ..`: the technology's name, and the value of
--- each class
-abbrev pub header_words : List ℕ → List ℕ → List (List (List ℕ))
-header_words tech classes =
-    (codes "tech" ∷ tech ∷ []) ∷ (codes "timestamp" ∷ codes "0" ∷ []) ∷ (codes "version" ∷ codes "1" ∷ []) ∷ (codes "style" ∷ tech ∷ [])
+-- `tech NAME`, `timestamp 0`, `version V`, `style NAME`, `scale 1 1 1`, `resistclasses VALUE ..`: the version, the technology's name, and the
+-- value of each class
+abbrev pub header_words : List ℕ → List ℕ → List ℕ → List (List (List ℕ))
+header_words version tech classes =
+    (codes "tech" ∷ tech ∷ []) ∷ (codes "timestamp" ∷ codes "0" ∷ []) ∷ (codes "version" ∷ version ∷ []) ∷ (codes "style" ∷ tech ∷ [])
     ∷ (codes "scale" ∷ codes "1" ∷ codes "1" ∷ codes "1" ∷ []) ∷ (codes "resistclasses" ∷ map (λ value. decimal (pos value)) classes) ∷ []
 
--- `use CELL ID a b c d e f`
-abbrev pub use_words : UseRec → List (List ℕ)
-use_words used = codes "use" ∷ used.cell ∷ used.id ∷ map decimal used.six
+-- `[LO:HI:SEP]`: the indices of a grid's columns, or of its rows, and their distance
+abbrev pub span_text : ℤ → ℤ → ℤ → List ℕ
+span_text lo hi sep = 91 ∷ (decimal lo ++ 58 ∷ (decimal hi ++ 58 ∷ (decimal sep ++ 93 ∷ [])))
+
+-- the id of a use, and behind it its grid: `ID` or `ID[LO:HI:SEP][LO:HI:SEP]`
+abbrev pub use_name : List ℕ → Option Grid → List ℕ
+use_name id None = id
+use_name id (Some grid) = id ++ (span_text grid.xlo grid.xhi grid.xsep ++ span_text grid.ylo grid.yhi grid.ysep)
+
+-- `use CELL NAME a b c d e f`
+abbrev pub use_words : ArrayUse → List (List ℕ)
+use_words used = codes "use" ∷ used.cell ∷ use_name used.id used.grid ∷ map decimal used.six
 
 -- `equiv "NAME" "ALIAS"`: the preferred name and another
 abbrev pub equiv_words : List ℕ → List ℕ → List (List ℕ)
@@ -47,25 +59,33 @@ fet_words fet =
     (codes "fet" ∷ fet.kind ∷ square_words fet)
     ++ (decimal fet.area ∷ decimal fet.perimeter ∷ quoted fet.substrate ∷ term_words fet.gate ++ flat_map term_words fet.terminals)
 
--- `merge "PATH" "PATH" C a1 p1 .. aN pN`
-abbrev pub merge_words : MergeRec → List (List ℕ)
-merge_words merge = codes "merge" ∷ quoted merge.first ∷ quoted merge.second ∷ decimal merge.cap ∷ measure_words merge.measures
+-- the path with a range of indices where it has one: `ID[LO:HI,J]/REST`
+abbrev pub ranged : List ℕ → ℤ → ℤ → List ℕ
+ranged path lo hi = before 91 path ++ 91 ∷ (decimal lo ++ 58 ∷ (decimal hi ++ 44 ∷ behind 44 (behind 91 path)))
 
--- the lines of a cell's file: the header, and then its uses, nodes, transistors and merges
-abbrev pub ext_lines : CellExt → List (List (List ℕ))
+-- the second path of so many merges: the path itself of one, and of more with the first index and the last
+abbrev pub row_path : List ℕ → ℕ → List ℕ
+row_path path count = if nat_le count 1 then path else ranged path (first_index path) (first_index path +ℤ pos count -ℤ pos 1)
+
+-- `merge "PATH" "PATH" C a1 p1 .. aN pN`
+abbrev pub merge_words : MergeRow → List (List ℕ)
+merge_words row = codes "merge" ∷ quoted row.first ∷ quoted (row_path row.second row.count) ∷ decimal row.cap ∷ measure_words row.measures
+
+-- the lines of a cell's file, which is of version 2: the header, and then its uses, nodes, transistors and merges
+abbrev pub ext_lines : ArrayExt → List (List (List ℕ))
 ext_lines ext =
-    header_words ext.tech ext.classes
+    header_words (codes "2") ext.tech ext.classes
     ++ (map use_words ext.uses ++ (flat_map node_lines ext.nodes ++ (map fet_words ext.fets ++ map merge_words ext.merges)))
 
--- the lines of a flat file: the header, and then the nodes and transistors
+-- the lines of a flat file, which is of version 1: the header, and then the nodes and transistors
 abbrev pub flat_lines : Circuit → List (List (List ℕ))
-flat_lines circuit = header_words circuit.tech circuit.classes ++ (flat_map node_lines circuit.nodes ++ map fet_words circuit.fets)
+flat_lines circuit = header_words (codes "1") circuit.tech circuit.classes ++ (flat_map node_lines circuit.nodes ++ map fet_words circuit.fets)
 
 -- the text of lines of words
 unfoldable pub lines_text : List (List (List ℕ)) → List ℕ
 lines_text lines = text_of (map line_of lines)
 
-abbrev pub ext_text : CellExt → List ℕ
+abbrev pub ext_text : ArrayExt → List ℕ
 ext_text ext = lines_text (ext_lines ext)
 
 abbrev pub flat_text : Circuit → List ℕ

@@ -1,23 +1,32 @@
 //! The lines of uses, transistors and merges, and those of a header.
 ghost use Rattle.std.specs.Prelude.{◌≡◌, ◌++◌, flat_map, OnOk};
+ghost use Rattle.ext_model.specs.LawfulArrays.{IsMergeRow};
 ghost use Rattle.ext_text.specs.Appended.{behind_blanks, whole_line};
 ghost use Rattle.ext_text.specs.WrittenTexts.{header_words, use_words, term_words, square_words, fet_words, merge_words, lines_text};
 
+use crate::names::{append_row_path, append_use_name};
 use crate::words::{
     append_coordinate, append_coordinates, append_measures, append_next, append_number,
     append_quoted, append_values, append_word,
 };
-use ext_model::{FetRec, MergeRec, TermRec, UseRec};
+use ext_model::{ArrayUse, FetRec, MergeRow, TermRec};
 use names_lists::Name;
 use std::alloc::AllocError;
 
-/// Puts the lines of a header at the end of a text.
-pub fn write_header(out: &mut Vec<u8>, tech: &Name, classes: &[u64]) -> Result<(), AllocError>
-    ensures { OnOk result (out.new.items ≡ out.old.items ++ lines_text (header_words tech.now classes.now)) }
+/// Puts the lines of a header of this version at the end of a text.
+pub fn write_header(
+    out: &mut Vec<u8>,
+    version: &[u8],
+    tech: &Name,
+    classes: &[u64],
+) -> Result<(), AllocError>
+    ensures { OnOk result (out.new.items ≡ out.old.items ++ lines_text (header_words version.now tech.now classes.now)) }
 {
     out.extend_from_slice(b"tech")?;
     append_word(out, tech.bytes())?;
-    out.extend_from_slice(b"\ntimestamp 0\nversion 1\nstyle")?;
+    out.extend_from_slice(b"\ntimestamp 0\nversion")?;
+    append_word(out, version)?;
+    out.extend_from_slice(b"\nstyle")?;
     append_word(out, tech.bytes())?;
     out.extend_from_slice(b"\nscale 1 1 1\nresistclasses")?;
     append_values(out, classes)?;
@@ -26,12 +35,12 @@ pub fn write_header(out: &mut Vec<u8>, tech: &Name, classes: &[u64]) -> Result<(
 }
 
 /// Puts the line of a use at the end of a text.
-pub fn write_use(out: &mut Vec<u8>, used: &UseRec) -> Result<(), AllocError>
+pub fn write_use(out: &mut Vec<u8>, used: &ArrayUse) -> Result<(), AllocError>
     ensures { OnOk result (out.new.items ≡ out.old.items ++ whole_line (use_words used.now)) }
 {
     out.extend_from_slice(b"use")?;
     append_word(out, used.cell.bytes())?;
-    append_word(out, used.id.bytes())?;
+    append_use_name(out, used.id.bytes(), &used.grid)?;
     append_coordinates(out, &used.six)?;
     out.push(b'\n')?;
     Ok(())
@@ -84,15 +93,16 @@ pub fn write_fet(out: &mut Vec<u8>, fet: &FetRec) -> Result<(), AllocError>
     Ok(())
 }
 
-/// Puts the line of a merge at the end of a text.
-pub fn write_merge(out: &mut Vec<u8>, merge: &MergeRec) -> Result<(), AllocError>
-    ensures { OnOk result (out.new.items ≡ out.old.items ++ whole_line (merge_words merge.now)) }
+/// Puts the line of a row of merges at the end of a text.
+pub fn write_merge(out: &mut Vec<u8>, row: &MergeRow) -> Result<(), AllocError>
+    requires { IsMergeRow row.now }
+    ensures { OnOk result (out.new.items ≡ out.old.items ++ whole_line (merge_words row.now)) }
 {
     out.extend_from_slice(b"merge")?;
-    append_quoted(out, merge.first.bytes())?;
-    append_quoted(out, merge.second.bytes())?;
-    append_number(out, &merge.cap)?;
-    append_measures(out, merge.measures.items())?;
+    append_quoted(out, row.first.bytes())?;
+    append_row_path(out, row.second.bytes(), row.count)?;
+    append_number(out, &row.cap)?;
+    append_measures(out, row.measures.items())?;
     out.push(b'\n')?;
     Ok(())
 }

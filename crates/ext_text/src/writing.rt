@@ -1,5 +1,6 @@
 //! Writes circuit files.
-ghost use Rattle.std.specs.Prelude.{◌≡◌, ◌≢◌, ◌≤◌, ◌++◌, map, flat_map, length, IfOk, IfErr, OnOk};
+ghost use Rattle.std.specs.Prelude.{◌≡◌, ◌≢◌, ◌≤◌, ◌++◌, map, flat_map, length, All, IfOk, IfErr, OnOk};
+ghost use Rattle.ext_model.specs.LawfulArrays.{IsMergeRow, IsLawfulArrayExt};
 ghost use Rattle.ext_text.specs.declared.faults.ExtFault.TheVariants.{Memory as OutOfMemory};
 ghost use Rattle.ext_text.specs.WrittenTexts.{use_words, node_lines, equiv_words, fet_words, merge_words, lines_text, ext_text, flat_text, IsTooLong};
 
@@ -7,11 +8,11 @@ use crate::faults::ExtFault;
 use crate::limits::LONGEST_TEXT;
 use crate::nodes::{write_alias, write_node};
 use crate::records::{write_fet, write_header, write_merge, write_use};
-use ext_model::{CellExt, Circuit, FetRec, MergeRec, NodeRec, UseRec};
+use ext_model::{ArrayExt, ArrayUse, Circuit, FetRec, MergeRow, NodeRec};
 use names_lists::Name;
 use std::alloc::{AllocError, Global};
 
-fn write_uses(out: &mut Vec<u8>, uses: &[UseRec]) -> Result<(), AllocError>
+fn write_uses(out: &mut Vec<u8>, uses: &[ArrayUse]) -> Result<(), AllocError>
     ensures { OnOk result (out.new.items ≡ out.old.items ++ lines_text (map use_words uses.now)) }
 {
     for used in uses {
@@ -48,7 +49,8 @@ fn write_fets(out: &mut Vec<u8>, fets: &[FetRec]) -> Result<(), AllocError>
     Ok(())
 }
 
-fn write_merges(out: &mut Vec<u8>, merges: &[MergeRec]) -> Result<(), AllocError>
+fn write_merges(out: &mut Vec<u8>, merges: &[MergeRow]) -> Result<(), AllocError>
+    requires { All IsMergeRow merges.now }
     ensures { OnOk result (out.new.items ≡ out.old.items ++ lines_text (map merge_words merges.now)) }
 {
     for merge in merges {
@@ -57,14 +59,14 @@ fn write_merges(out: &mut Vec<u8>, merges: &[MergeRec]) -> Result<(), AllocError
     Ok(())
 }
 
-/// The file of a cell's record. Want of memory alone refuses. That a text can be read back is not said here: the record of a large array
-/// may have more uses, and that of a wide one larger numbers, than a file that is read may have.
-pub fn write_ext(alloc: Global, ext: &CellExt) -> Result<Vec<u8>, ExtFault>
+/// The file of a cell's record, in version 2. Want of memory alone refuses.
+pub fn write_ext(alloc: Global, ext: &ArrayExt) -> Result<Vec<u8>, ExtFault>
+    requires { IsLawfulArrayExt ext.now }
     ensures written { IfOk result (λ text. text.items ≡ ext_text ext.now) }
     ensures refused { IfErr result (λ fault. fault ≡ OutOfMemory) }
 {
     let mut out = Vec::new(alloc);
-    write_header(&mut out, &ext.tech, ext.classes.items())?;
+    write_header(&mut out, b"2", &ext.tech, ext.classes.items())?;
     write_uses(&mut out, ext.uses.items())?;
     write_nodes(&mut out, ext.nodes.items())?;
     write_fets(&mut out, ext.fets.items())?;
@@ -127,7 +129,7 @@ fn write_circuit(out: &mut Vec<u8>, circuit: &Circuit) -> Result<(), ExtFault>
     ensures refused { IfErr result (λ fault. fault ≢ OutOfMemory
         → IsTooLong fault (out.old.items ++ flat_text circuit.now)) }
 {
-    write_header(out, &circuit.tech, circuit.classes.items())?;
+    write_header(out, b"1", &circuit.tech, circuit.classes.items())?;
     write_nodes_within(out, circuit.nodes.items())?;
     write_fets_within(out, circuit.fets.items())?;
     Ok(())

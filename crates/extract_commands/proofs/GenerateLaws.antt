@@ -21,7 +21,7 @@ use Rattle.workspace.proofs.ArrivalLaws.{agrees_all, dirty_cells}
 use Rattle.line_answers.proofs.AnswerLaws.{answers_refusal}
 use Rattle.line_answers.specs.Refusals.{refusal_line}
 use Rattle.library_answers.specs.Refusals.{generate_refusal}
-use Rattle.network_commands.specs.declared.network_runs.NetworkRun.TheVariants.{Stack}
+use Rattle.network_runs.specs.declared.network_runs.NetworkRun.TheVariants.{Stack}
 use Rattle.workspace.proofs.WorkspaceLaws.{workspace_of}
 use Rattle.workspace.specs.States.{State, Workspace}
 use Rattle.extract_commands.specs.CellRuns.{RunsExtracted}

@@ -7,8 +7,8 @@ use Rattle.ext_model.specs.declared.circuits.Circuit.{Circuit}
 use Rattle.circuit_model.specs.declared.limits.CircuitLimit.{CircuitLimit}
 use Rattle.cell_library.specs.Views.{LibraryView}
 use Rattle.circuit_commands.specs.Refusals.{circuit_limit_word}
-use Rattle.network_commands.specs.declared.network_runs.NetworkRun.{NetworkRun}
-use Rattle.network_commands.specs.NetworkRuns.{TellsCircuit}
+use Rattle.network_runs.specs.declared.network_runs.NetworkRun.{NetworkRun}
+use Rattle.network_runs.specs.NetworkRuns.{TellsCircuit}
 use Rattle.workspace.specs.declared.extractions.Extraction.{Extraction}
 use Rattle.workspace.specs.CellCircuits.{IsCircuitAt, PassesAt}
 use Rattle.workspace.specs.Extractions.{IsExtraction, RefusesUnclean, with_clean}

@@ -9,7 +9,7 @@ use Rattle.layout_gen.specs.Refusals.{generate_fault}
 use Rattle.line_answers.specs.LineEffects.{refused}
 use Rattle.line_answers.specs.Refusals.{no_tech}
 use Rattle.library_answers.specs.Refusals.{generate_refusal}
-use Rattle.network_commands.specs.declared.network_runs.NetworkRun.TheVariants.{Stack}
+use Rattle.network_runs.specs.declared.network_runs.NetworkRun.TheVariants.{Stack}
 use Rattle.workspace.specs.States.{State, Workspace}
 use Rattle.extract_commands.specs.CellRuns.{RunsExtracted}
 

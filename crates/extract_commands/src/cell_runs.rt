@@ -10,7 +10,7 @@ ghost use Rattle.extract_commands.specs.CellRuns.{RunsExtracted, TellsAt};
 use circuit_commands::circuit_limit_word;
 use ext_model::CellKey;
 use line_answers::{joined, told};
-use network_commands::{NetworkRun, limit_passed, run_circuit};
+use network_runs::{NetworkRun, limit_passed, run_circuit};
 use session_model::{Answer, Halt, ReportLine};
 use std::alloc::Global;
 use workspace::{Edited, Extracting, Flattened, extract_cell, flatten_kept};

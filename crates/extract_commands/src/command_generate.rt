@@ -13,7 +13,7 @@ use ext_model::CellKey;
 use layout_gen::{GenerateFault, MOST_TILES, generate as make_cells};
 use library_answers::refuse_generate;
 use line_answers::refuse_no_tech;
-use network_commands::NetworkRun;
+use network_runs::NetworkRun;
 use script_lines::MOST_GENERATED;
 use session_model::{Answer, Halt};
 use std::alloc::Global;

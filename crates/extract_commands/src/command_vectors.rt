@@ -11,7 +11,7 @@ use crate::cell_runs::run_extracted;
 use ext_model::CellKey;
 use line_answers::{file_name, refuse_file, refuse_no_cell, refuse_no_tech};
 use names_lists::{List, Name};
-use network_commands::NetworkRun;
+use network_runs::NetworkRun;
 use outside_io::Shelf;
 use session_model::{Answer, Fetched, Halt, fetch_text};
 use std::alloc::Global;

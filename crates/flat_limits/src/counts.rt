@@ -8,8 +8,8 @@ use element_tree::{ElementTree, TreeElement};
 use ext_model::CellExt;
 use std::alloc::{AllocError, Global};
 
-// whether the sizes of the elements' records add up to more than so much
-fn is_past(most: usize, sizes: &[usize], elements: &[TreeElement]) -> bool
+/// Whether the sizes of the elements' records add up to more than so much. It takes a step for each element.
+pub fn is_past(most: usize, sizes: &[usize], elements: &[TreeElement]) -> bool
     requires { All (λ element. element.cell < length sizes.now) elements.now }
     ensures { result ≡ nat_lt most (sum_by (λ element. slice_index sizes.now element.cell) elements.now) }
 {

@@ -9,5 +9,5 @@ mod counts;
 mod roots;
 
 pub use classes::check_classes;
-pub use counts::{check_merges, check_nodes};
+pub use counts::{check_merges, check_nodes, is_past};
 pub use roots::root_number;

@@ -1,2 +1,3 @@
 pub mod FlatNodeLaws
 pub mod FaultLaws
+pub mod ArrayLaws

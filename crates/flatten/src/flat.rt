@@ -1,4 +1,4 @@
-//! Flattening.
+//! Flattening of plain records.
 ghost use Rattle.std.specs.Prelude.{◌≡◌, ◌⊎◌, ◌<◌, length, IsSome, IfOk, IfErr};
 ghost use Rattle.circuit_model.specs.Elements.{AreRecords, ext_of};
 ghost use Rattle.circuit_model.specs.Refusals.{IsFlatOf, IsFlatFaultOf};
@@ -17,8 +17,8 @@ use names_lists::Name;
 use record_graph::record_graph;
 use std::alloc::Global;
 
-// the elements of the tree at a record, where it has no fault up to their number
-fn elements_at(alloc: Global, exts: &[CellExt], root: usize) -> Result<ElementTree, FlatFault>
+/// The elements of the tree at a record, where it has no fault up to their number.
+pub fn elements_at(alloc: Global, exts: &[CellExt], root: usize) -> Result<ElementTree, FlatFault>
     requires records { AreRecords exts.now }
     requires root { root < length exts.now }
     ensures sound { IfOk result (λ tree. HasNoUseFault exts.now root) }
@@ -74,15 +74,8 @@ fn meant_circuit(
     Ok(circuit_of(alloc, exts, &exts[root], tree, names, &classes)?)
 }
 
-/// The flat circuit of the tree of records whose root is this cell's. It takes time near-linear in the names, merges and transistors of
-/// all elements.
-///
-/// The records are lawful, no two are of one cell, and one is the root's. They are refused where they have a fault at or below the root:
-/// the first use, depth first, that leads to no record (`NoCell`) or back (`Cycle`); then the first number past its limit, of the longest
-/// chain, elements, records of nodes, bytes of names and records of merges (`TooMany`); then the first cell, in the order of elements, whose
-/// number of classes is not the root's (`Classes`); then the first path, by element and merge, that leads to no node (`NoPath`). Beside that
-/// `Memory` alone refuses.
-pub fn flatten(alloc: Global, exts: &[CellExt], root: &Name) -> Result<Circuit, FlatFault>
+/// The flat circuit of the tree of plain records whose root is this cell's.
+pub fn flatten_plain(alloc: Global, exts: &[CellExt], root: &Name) -> Result<Circuit, FlatFault>
     requires records { AreRecords exts.now }
     requires root { IsSome (ext_of exts.now root.now) }
     ensures meaning { IfOk result (λ circuit. IsFlatOf exts.now root.now circuit) }

@@ -4,12 +4,15 @@ use Rattle.std.proofs.Common.{refl, sym, ◌∙◌, ap, arith}
 use Rattle.std.specs.Prelude.{pos}
 use Rattle.std.specs.List.{flat_map, range_with_len}
 use Rattle.std.proofs.lemmas.Bool.{cond-true, cond-false}
-use Rattle.std.proofs.lemmas.List.{append-nil, append_assoc, get_or_default, map-append}
+use Rattle.std.proofs.lemmas.List.{append-nil, get_or_default, map-append}
 use Rattle.std.proofs.lemmas.List.Concat.{flat_map-append}
 use Rattle.std.proofs.lemmas.List.Elements.{filter-append}
 use Rattle.finite_sets.proofs.Searches.{range_push}
 use Rattle.layout_model.specs.Technologies.{Class}
 use Rattle.ext_model.specs.declared.records.MergeRec.{MergeRec}
+use Rattle.ext_model.specs.declared.arrays.MergeRow.{MergeRow}
+use Rattle.merge_rows.specs.AddedMerges.{AddsToRows}
+use Rattle.merge_rows.proofs.AddedRows.{add_none, add_same, add_then}
 use Rattle.tree_records.specs.Merges.{Adjustment, MemberGroup, group_merges, is_zero_adjustment, merge_of, zero_adjustment}
 use Rattle.meeting_sums.specs.declared.sums.MeetingSum.{MeetingSum}
 use Rattle.group_merges.specs.declared.members.Member.{Member}
@@ -25,7 +28,7 @@ sum_read members sums place member sum within marked is_member is_sum =
     is_sum ∙ ap (λ (mark : ℕ). get_or sums mark sum) (mark_read members place member within is_member)
     ∙ get_or_default sums (mark_at members place) sum (record { cap = pos 0; measures = [] }) marked
 
-module _ (members : List Member) (sums : List MeetingSum) (nothing : MeetingSum) (first : ℕ) (old : List MergeRec) where
+module _ (members : List Member) (sums : List MeetingSum) (nothing : MeetingSum) (first : ℕ) (old : List MergeRow) where
   abbrev added : Adjustment
   added = adjustment_of (sum_at sums (mark_at members first))
 
@@ -41,15 +44,15 @@ module _ (members : List Member) (sums : List MeetingSum) (nothing : MeetingSum)
       → flat_map (group_merges classes) (group_at members sums first ∷ []) ≡ cond (is_zero_adjustment added) [] (alone ∷ [])
   one_member classes none = ap (merges_with classes) none ∙ append-nil (cond (is_zero_adjustment added) [] (alone ∷ []))
 
-  pub adds_merge : (name : List ℕ) (sum : MeetingSum) (merge : MergeRec) (new : List MergeRec) → names_behind members first ≡ []
+  pub adds_merge : (name : List ℕ) (sum : MeetingSum) (merge : MergeRec) (new : List MergeRow) → names_behind members first ≡ []
       → name ≡ name_at members first → sum ≡ sum_at sums (mark_at members first) → is_zero_adjustment (adjustment_of sum) ≡ false
-      → merge ≡ merge_of name name (adjustment_of sum) → new ≡ old ++ merge ∷ [] → AddsMerges nothing (group_at members sums first ∷ []) old new
+      → merge ≡ merge_of name name (adjustment_of sum) → AddsToRows (merge ∷ []) old new → AddsMerges nothing (group_at members sums first ∷ []) old new
   adds_merge name sum merge new none is_name is_sum some is_merge is_new = record {
     are = λ classes is_nothing.
         let made : merge ≡ alone = is_merge ∙ (λ i. merge_of (is_name i) (is_name i) (adjustment_of (is_sum i))) in
         let not_zero : is_zero_adjustment added ≡ false = ap (λ (s : MeetingSum). is_zero_adjustment (adjustment_of s)) (sym is_sum) ∙ some in
-        is_new ∙ ap (λ (merges : List MergeRec). old ++ merges)
-        ((λ i. made i ∷ []) ∙ sym (one_member classes none ∙ cond-false (is_zero_adjustment added) [] (alone ∷ []) not_zero));
+        add_same (merge ∷ []) (merges_with classes (names_behind members first)) old new
+        ((λ i. made i ∷ []) ∙ sym (one_member classes none ∙ cond-false (is_zero_adjustment added) [] (alone ∷ []) not_zero)) is_new;
   }
 
   pub adds_none : (sum : MeetingSum) → names_behind members first ≡ [] → sum ≡ sum_at sums (mark_at members first)
@@ -57,23 +60,25 @@ module _ (members : List Member) (sums : List MeetingSum) (nothing : MeetingSum)
   adds_none sum none is_sum all_zero = record {
     are = λ classes is_nothing.
         let is_zero : is_zero_adjustment added ≡ true = ap (λ (s : MeetingSum). is_zero_adjustment (adjustment_of s)) (sym is_sum) ∙ all_zero in
-        sym (ap (λ (merges : List MergeRec). old ++ merges)
-        (one_member classes none ∙ cond-true (is_zero_adjustment added) [] (alone ∷ []) is_zero) ∙ append-nil old);
+        add_same [] (merges_with classes (names_behind members first)) old old
+        (sym (one_member classes none ∙ cond-true (is_zero_adjustment added) [] (alone ∷ []) is_zero)) (add_none old);
   }
 
   -- a group of more
-  pub adds_more : (name other : List ℕ) (sum : MeetingSum) (merge : MergeRec) (second : ℕ) (middle new : List MergeRec) → IsNext members first second
+  pub adds_more : (name other : List ℕ) (sum : MeetingSum) (merge : MergeRec) (second : ℕ) (middle new : List MergeRow) → IsNext members first second
       → name ≡ name_at members first → other ≡ name_at members second → sum ≡ sum_at sums (mark_at members first)
-      → merge ≡ merge_of name other (adjustment_of sum) → middle ≡ old ++ merge ∷ []
-      → new ≡ middle ++ merges_behind members (adjustment_of nothing) first second → AddsMerges nothing (group_at members sums first ∷ []) old new
+      → merge ≡ merge_of name other (adjustment_of sum) → AddsToRows (merge ∷ []) old middle
+      → AddsToRows (merges_behind members (adjustment_of nothing) first second) middle new → AddsMerges nothing (group_at members sums first ∷ []) old new
   adds_more name other sum merge second middle new next is_name is_other is_sum is_merge is_middle is_new = record {
     are = λ classes is_nothing.
         let one = merge_of (name_at members first) (name_at members second) added in
         let others = merges_behind members (zero_adjustment classes) first second in
         let made : merge ≡ one = is_merge ∙ (λ i. merge_of (is_name i) (is_other i) (adjustment_of (is_sum i))) in
-        let before : middle ≡ old ++ one ∷ [] = is_middle ∙ (λ i. old ++ made i ∷ []) in
-        is_new ∙ (λ i. before i ++ merges_behind members (is_nothing i) first second) ∙ append_assoc old (one ∷ []) others
-        ∙ ap (λ (merges : List MergeRec). old ++ merges) (sym (append-nil (one ∷ others)) ∙ ap (merges_with classes) (sym next.names));
+        let all : merge ∷ merges_behind members (adjustment_of nothing) first second ≡ one ∷ others =
+        λ i. made i ∷ merges_behind members (is_nothing i) first second in
+        add_same (merge ∷ merges_behind members (adjustment_of nothing) first second) (merges_with classes (names_behind members first)) old new
+        (all ∙ sym (append-nil (one ∷ others)) ∙ ap (merges_with classes) (sym next.names))
+        (add_then (merge ∷ []) (merges_behind members (adjustment_of nothing) first second) old middle new is_middle is_new);
   }
 
 range_one_more : (n : ℕ) → range_with_len 0 (n + 1) ≡ range_with_len 0 n ++ n ∷ []
@@ -92,27 +97,32 @@ groups_more members sums place =
       last false = refl
 
 -- behind the merges of the groups before stand those of the group that begins here
-pub groups_added : (members : List Member) (sums : List MeetingSum) (nothing : MeetingSum) (place : ℕ) (merges later : List MergeRec)
-    → is_first members place ≡ true → AddsMerges nothing (group_at members sums place ∷ []) merges later
-    → AddsMerges nothing (groups_before members sums place) [] merges → AddsMerges nothing (groups_before members sums (place + 1)) [] later
-groups_added members sums nothing place merges later first added so_far = record {
+pub groups_added : (members : List Member) (sums : List MeetingSum) (nothing : MeetingSum) (place : ℕ) (rows later : List MergeRow)
+    → is_first members place ≡ true → AddsMerges nothing (group_at members sums place ∷ []) rows later
+    → AddsMerges nothing (groups_before members sums place) [] rows → AddsMerges nothing (groups_before members sums (place + 1)) [] later
+groups_added members sums nothing place rows later first added so_far = record {
   are = λ classes is_nothing.
       let before = groups_before members sums place in
       let here = group_at members sums place ∷ [] in
-      added.are classes is_nothing ∙ ap (λ (front : List MergeRec). front ++ flat_map (group_merges classes) here) (so_far.are classes is_nothing)
-      ∙ sym (flat_map-append (group_merges classes) before here)
-      ∙ ap (flat_map (group_merges classes)) (sym (groups_more members sums place
-      ∙ ap (λ (groups : List MemberGroup). before ++ groups) (cond-true (is_first members place) here [] first)));
+      let merges_of = flat_map (group_merges classes) in
+      add_same (merges_of before ++ merges_of here) (merges_of (groups_before members sums (place + 1))) [] later
+      (sym (flat_map-append (group_merges classes) before here)
+      ∙ ap merges_of (sym (groups_more members sums place
+      ∙ ap (λ (groups : List MemberGroup). before ++ groups) (cond-true (is_first members place) here [] first))))
+      (add_then (merges_of before) (merges_of here) [] rows later (so_far.are classes is_nothing) (added.are classes is_nothing));
 }
 
 -- where none begins here, nothing is added
-pub groups_kept : (members : List Member) (sums : List MeetingSum) (nothing : MeetingSum) (place : ℕ) (merges : List MergeRec)
-    → is_first members place ≡ false → AddsMerges nothing (groups_before members sums place) [] merges
-    → AddsMerges nothing (groups_before members sums (place + 1)) [] merges
-groups_kept members sums nothing place merges later so_far = record {
+pub groups_kept : (members : List Member) (sums : List MeetingSum) (nothing : MeetingSum) (place : ℕ) (rows : List MergeRow)
+    → is_first members place ≡ false → AddsMerges nothing (groups_before members sums place) [] rows
+    → AddsMerges nothing (groups_before members sums (place + 1)) [] rows
+groups_kept members sums nothing place rows later so_far = record {
   are = λ classes is_nothing.
       let before = groups_before members sums place in
-      so_far.are classes is_nothing ∙ ap (flat_map (group_merges classes)) (sym (groups_more members sums place
+      let merges_of = flat_map (group_merges classes) in
+      add_same (merges_of before) (merges_of (groups_before members sums (place + 1))) [] rows
+      (ap merges_of (sym (groups_more members sums place
       ∙ ap (λ (groups : List MemberGroup). before ++ groups) (cond-false (is_first members place) (group_at members sums place ∷ []) [] later)
-      ∙ append-nil before));
+      ∙ append-nil before)))
+      (so_far.are classes is_nothing);
 }

@@ -14,6 +14,9 @@ use Rattle.tech_model.proofs.WellFormedLaws.{In-range_with_len, range_bounds}
 use Rattle.tech_model.specs.declared.raw.RawTech.{RawTech}
 use Rattle.layout_model.specs.Technologies.{rules_of}
 use Rattle.ext_model.specs.declared.records.MergeRec.{MergeRec}
+use Rattle.ext_model.specs.declared.arrays.MergeRow.{MergeRow}
+use Rattle.ext_model.specs.Rows.{AreRowsOf}
+use Rattle.merge_rows.proofs.AddedRows.{add_same, rows_made}
 use Rattle.circuit_model.specs.FullNames.{AreInNameOrder}
 use Rattle.full_names.proofs.ListOrders.{names_in_order}
 use Rattle.own_records.specs.FetRecords.{IsNameBefore}
@@ -162,11 +165,13 @@ module _ (names : List (List ℕ)) (marks : List ℕ) (sums : List MeetingSum) (
 -- the merges of these groups, of members that are linked, are those of the marks
 pub merges_marked : (raw : RawTech) (names : List (List ℕ)) (marks : List ℕ) (sums : List MeetingSum) (members linked : List Member) (nothing : MeetingSum)
     → AreMembers names marks members → ((number : ℕ) → number < length names → slice_index marks number < length sums) → linked ≡ members
-    → adjustment_of nothing ≡ zero_adjustment (rules_of raw).classes → (merges : List MergeRec)
-    → AddsMerges nothing (all_groups linked sums) [] merges → AreMergesOfMarks raw names marks sums merges
-merges_marked raw names marks sums members linked nothing are within same is_nothing merges adds = record {
-  groups = all_groups members sums;
-  marked = groups_marked names marks sums members are within;
-  are = adds.are (rules_of raw).classes is_nothing
-      ∙ ap (λ (list : List Member). flat_map (group_merges (rules_of raw).classes) (all_groups list sums)) same;
-}
+    → adjustment_of nothing ≡ zero_adjustment (rules_of raw).classes → (rows : List MergeRow)
+    → AddsMerges nothing (all_groups linked sums) [] rows
+    → (merges : List MergeRec) × AreMergesOfMarks raw names marks sums merges × AreRowsOf merges rows
+merges_marked raw names marks sums members linked nothing are within same is_nothing rows adds =
+    let merges_of = λ (list : List Member). flat_map (group_merges (rules_of raw).classes) (all_groups list sums) in (
+      merges_of members,
+      record { groups = all_groups members sums; marked = groups_marked names marks sums members are within; are = refl },
+      rows_made (merges_of members) rows
+          (add_same (merges_of linked) (merges_of members) [] rows (ap merges_of same) (adds.are (rules_of raw).classes is_nothing)),
+    )

@@ -10,6 +10,9 @@ use Rattle.std.proofs.lemmas.List.Elements.{All-get_or}
 use Rattle.finite_sets.proofs.Searches.{drop_split}
 use Rattle.finite_sets.proofs.Places.{slice_get-below}
 use Rattle.ext_model.specs.declared.records.MergeRec.{MergeRec}
+use Rattle.ext_model.specs.declared.arrays.MergeRow.{MergeRow}
+use Rattle.merge_rows.specs.AddedMerges.{AddsToRows}
+use Rattle.merge_rows.proofs.AddedRows.{add_none, add_same, add_then}
 use Rattle.group_merges.specs.declared.links.LinkedMembers.{LinkedMembers}
 use Rattle.group_merges.specs.declared.members.Member.{Member}
 use Rattle.group_merges.specs.Groups.{name_at, mark_at, names_with, names_behind}
@@ -177,36 +180,42 @@ next_none linked are place d within next =
     are.next place (omega arith) (omega (arith, long)) in
     found_none members (place + 1) (mark_at members place) (sym link ∙ get_or_default linked.nexts.items place None d (omega (arith, are.long, long)) ∙ next)
 
--- The walk from one member to the next has come to the place: the merges that are made and those with the members behind it are all.
-pub record IsUpTo (members : List Member) (merge_with : List ℕ → MergeRec) (second place : ℕ) (old merges : List MergeRec) : Type 0 where
+-- The walk from one member to the next has come to the place: the merges that are added and those with the members behind it are all.
+pub record IsUpTo (members : List Member) (merge_with : List ℕ → MergeRec) (second place : ℕ) (old rows : List MergeRow) : Type 0 where
   pub within : place < length members
-  pub are : merges ++ map merge_with (names_behind members place) ≡ old ++ map merge_with (names_behind members second)
+  pub added : List MergeRec
+  pub adds : AddsToRows added old rows
+  pub are : added ++ map merge_with (names_behind members place) ≡ map merge_with (names_behind members second)
 
-pub up_to_none : (members : List Member) (merge_with : List ℕ → MergeRec) (second : ℕ) (old : List MergeRec) → second < length members
+pub up_to_none : (members : List Member) (merge_with : List ℕ → MergeRec) (second : ℕ) (old : List MergeRow) → second < length members
     → IsUpTo members merge_with second second old old
-up_to_none members merge_with second old within = record { within = within; are = refl }
+up_to_none members merge_with second old within = record { within = within; added = []; adds = add_none old; are = refl }
 
 pub up_to_more : (linked : LinkedMembers) (merge_with : List ℕ → MergeRec) (second place other : ℕ) (d : Option ℕ)
-    (old merges later : List MergeRec) (merge : MergeRec)
+    (old rows later : List MergeRow) (merge : MergeRec)
     → AreLinked linked → get_or linked.nexts.items place d ≡ Some other → merge ≡ merge_with (name_at linked.members.items other)
-    → later ≡ merges ++ merge ∷ [] → IsUpTo linked.members.items merge_with second place old merges
+    → AddsToRows (merge ∷ []) rows later → IsUpTo linked.members.items merge_with second place old rows
     → IsUpTo linked.members.items merge_with second other old later
-up_to_more linked merge_with second place other d old merges later merge are next is_merge is so_far =
+up_to_more linked merge_with second place other d old rows later merge are next is_merge one so_far =
     let members = linked.members.items in
+    let added = so_far.added in
     let step = next_is linked are place other d so_far.within next in record {
       within = step.within;
-      are = (λ i. is i ++ map merge_with (names_behind members other))
-          ∙ append_assoc merges (merge ∷ []) (map merge_with (names_behind members other))
-          ∙ (λ i. merges ++ (is_merge i ∷ map merge_with (names_behind members other)))
-          ∙ ap (λ (names : List (List ℕ)). merges ++ map merge_with names) (sym step.names) ∙ so_far.are;
+      added = added ++ merge ∷ [];
+      adds = add_then added (merge ∷ []) old rows later so_far.adds one;
+      are = append_assoc added (merge ∷ []) (map merge_with (names_behind members other))
+          ∙ (λ i. added ++ (is_merge i ∷ map merge_with (names_behind members other)))
+          ∙ ap (λ (names : List (List ℕ)). added ++ map merge_with names) (sym step.names) ∙ so_far.are;
     }
 
-pub up_to_all : (linked : LinkedMembers) (merge_with : List ℕ → MergeRec) (second place : ℕ) (d : Option ℕ) (old merges : List MergeRec)
-    → AreLinked linked → get_or linked.nexts.items place d ≡ None → IsUpTo linked.members.items merge_with second place old merges
-    → merges ≡ old ++ map merge_with (names_behind linked.members.items second)
-up_to_all linked merge_with second place d old merges are next so_far =
+pub up_to_all : (linked : LinkedMembers) (merge_with : List ℕ → MergeRec) (second place : ℕ) (d : Option ℕ) (old rows : List MergeRow)
+    → AreLinked linked → get_or linked.nexts.items place d ≡ None → IsUpTo linked.members.items merge_with second place old rows
+    → AddsToRows (map merge_with (names_behind linked.members.items second)) old rows
+up_to_all linked merge_with second place d old rows are next so_far =
     let none = next_none linked are place d so_far.within next in
-    sym (append-nil merges) ∙ ap (λ (names : List (List ℕ)). merges ++ map merge_with names) (sym none) ∙ so_far.are
+    let all = map merge_with (names_behind linked.members.items second) in
+    add_same so_far.added all old rows
+    (sym (append-nil so_far.added) ∙ ap (λ (names : List (List ℕ)). so_far.added ++ map merge_with names) (sym none) ∙ so_far.are) so_far.adds
 
 -- a member that is read has the name at its place
 pub name_read : (members : List Member) (place : ℕ) (member : Member) → place < length members → member ≡ get_or members place member

@@ -1,8 +1,10 @@
 -- The groups that members in name order make by their marks.
-use Rattle.std.specs.Prelude.{◌≡◌, ◌+◌, ◌==◌, ℕ, pos, Bool, false, None, Some, List, [], ◌∷◌, ◌++◌, map, filter, drop, length, slice_index, slice_index_or}
+use Rattle.std.specs.Prelude.{◌≡◌, ◌+◌, ◌==◌, ℕ, pos, Bool, false, None, Some, List, [], ◌∷◌, map, filter, drop, length, slice_index, slice_index_or}
 use Rattle.std.specs.List.{flat_map, range_with_len}
 use Rattle.layout_model.specs.Technologies.{Class}
 use Rattle.ext_model.specs.declared.records.MergeRec.{MergeRec}
+use Rattle.ext_model.specs.declared.arrays.MergeRow.{MergeRow}
+use Rattle.merge_rows.specs.AddedMerges.{AddsToRows}
 use Rattle.tree_records.specs.Merges.{Adjustment, MemberGroup, group_merges, merge_of, zero_adjustment}
 use Rattle.meeting_sums.specs.declared.sums.MeetingSum.{MeetingSum}
 use Rattle.group_merges.specs.declared.members.Member.{Member}
@@ -53,6 +55,6 @@ groups_before members sums end = map (group_at members sums) (filter (is_first m
 abbrev pub all_groups : List Member → List MeetingSum → List MemberGroup
 all_groups members sums = groups_before members sums (length members)
 
--- Behind the merges from before stand those of the groups, where nothing is what adds nothing.
-pub record AddsMerges (nothing : MeetingSum) (groups : List MemberGroup) (old new : List MergeRec) : Type 0 where
-  pub are : (classes : List Class) → adjustment_of nothing ≡ zero_adjustment classes → new ≡ old ++ flat_map (group_merges classes) groups
+-- The rows of the merges from before have become those of these and of the merges of the groups, where nothing is what adds nothing.
+pub record AddsMerges (nothing : MeetingSum) (groups : List MemberGroup) (old new : List MergeRow) : Type 0 where
+  pub are : (classes : List Class) → adjustment_of nothing ≡ zero_adjustment classes → AddsToRows (flat_map (group_merges classes) groups) old new

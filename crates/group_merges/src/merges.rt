@@ -1,9 +1,12 @@
 //! The merges of groups.
-ghost use Rattle.std.specs.Prelude.{◌≡◌, ◌<◌, ◌≤◌, ◌&&◌, ◌∷◌, ◌++◌, [], ℕ, pos, All, IfOk, OnOk, length, slice_index};
+ghost use Rattle.std.specs.Prelude.{◌≡◌, ◌<◌, ◌≤◌, ◌&&◌, ◌∷◌, ◌++◌, [], ℕ, pos, List, All, IfOk, OnOk, length, slice_index};
 ghost use Rattle.std.specs.List.{list_all};
 ghost use Rattle.std.specs.Ordering.{int_eq};
 ghost use Rattle.finite_sets.specs.Lists.{Distinct};
 ghost use Rattle.layout_model.specs.Technologies.{rules_of};
+ghost use Rattle.ext_model.specs.declared.records.MergeRec.{MergeRec};
+ghost use Rattle.ext_model.specs.Rows.{AreRowsOf};
+ghost use Rattle.merge_rows.specs.AddedMerges.{AddsToRows};
 ghost use Rattle.tree_records.specs.Merges.{is_zero_adjustment, merge_of, zero_adjustment};
 ghost use Rattle.group_merges.specs.Groups.{merges_behind, mark_at, group_at, all_groups, AddsMerges};
 ghost use Rattle.group_merges.specs.Links.{AreLinked};
@@ -12,8 +15,9 @@ ghost use Rattle.group_merges.specs.MarkMerges.{AreMergesOfMarks};
 
 use crate::links::{LinkedMembers, link};
 use crate::members::members_in_order;
-use ext_model::MergeRec;
+use ext_model::{MergeRec, MergeRow};
 use meeting_sums::MeetingSum;
+use merge_rows::push_merge;
 use names_lists::{List, Name};
 use std::alloc::{AllocError, Global};
 use tech_model::Tech;
@@ -69,18 +73,22 @@ fn add_others(
     first: usize,
     second: usize,
     nothing: &MeetingSum,
-    merges: &mut Vec<MergeRec>,
+    merges: &mut Vec<MergeRow>,
 ) -> Result<(), AllocError>
     requires linked { AreLinked linked.now }
     requires first { first < length linked.now.members.items }
     requires second { second < length linked.now.members.items }
-    ensures { OnOk result (merges.new.items ≡ merges.old.items
-        ++ merges_behind linked.now.members.items (adjustment_of nothing.now) first second) }
+    ensures { OnOk result (AddsToRows (merges_behind linked.now.members.items (adjustment_of nothing.now) first second)
+        merges.old.items merges.new.items) }
 {
     let name = linked.members[first].name;
     let mut place = second;
     while let Some(other) = linked.nexts[place] {
-        merges.push(merge(alloc, name, linked.members[other].name, nothing)?)?;
+        push_merge(
+            alloc,
+            merges,
+            merge(alloc, name, linked.members[other].name, nothing)?,
+        )?;
         place = other;
     }
     Ok(())
@@ -93,7 +101,7 @@ fn add_group(
     sums: &[MeetingSum],
     nothing: &MeetingSum,
     first: usize,
-    merges: &mut Vec<MergeRec>,
+    merges: &mut Vec<MergeRow>,
 ) -> Result<(), AllocError>
     requires linked { AreLinked linked.now }
     requires first { first < length linked.now.members.items }
@@ -104,53 +112,57 @@ fn add_group(
     let sum = &sums[member.mark];
     let Some(second) = linked.nexts[first] else {
         if !is_zero(sum) {
-            merges.push(merge(alloc, member.name, member.name, sum)?)?;
+            push_merge(alloc, merges, merge(alloc, member.name, member.name, sum)?)?;
         }
         return Ok(());
     };
-    merges.push(merge(alloc, member.name, linked.members[second].name, sum)?)?;
+    push_merge(
+        alloc,
+        merges,
+        merge(alloc, member.name, linked.members[second].name, sum)?,
+    )?;
     add_others(alloc, linked, first, second, nothing, merges)
 }
 
-// The merges of all groups.
+// The rows of the merges of all groups.
 fn merges_of_groups(
     alloc: Global,
     linked: &LinkedMembers<'_>,
     sums: &[MeetingSum],
     nothing: &MeetingSum,
-) -> Result<Vec<MergeRec>, AllocError>
+) -> Result<Vec<MergeRow>, AllocError>
     requires linked { AreLinked linked.now }
     requires as_many { length linked.now.firsts.items ≡ length sums.now }
     requires within { All (λ member. member.mark < length sums.now) linked.now.members.items }
-    ensures { IfOk result (λ merges. AddsMerges nothing.now (all_groups linked.now.members.items sums.now) [] merges.items) }
+    ensures { IfOk result (λ rows. AddsMerges nothing.now (all_groups linked.now.members.items sums.now) [] rows.items) }
 {
-    let mut merges = Vec::new(alloc);
+    let mut rows = Vec::new(alloc);
     for place in 0..linked.members.len() {
         if linked.is_first(place) {
-            add_group(alloc, linked, sums, nothing, place, &mut merges)?;
+            add_group(alloc, linked, sums, nothing, place, &mut rows)?;
         }
     }
-    Ok(merges)
+    Ok(rows)
 }
 
-/// The merges of the groups that members with one mark make.
+/// The rows of the merges of the groups that members with one mark make.
 ///
 /// Each member has its name at its number and its mark at the same number; marks of something else may follow. What is to be added to a
 /// group stands at the number of its mark. A group of several members has a merge of the first in name order with each of the others, the
 /// first of which has what is to be added and the others zeros; a group of one has a merge of it with itself, where what is to be added is
 /// not all zero. Groups stand in the name order of their first members. It takes time for a sort of the names, and a step for each mark.
-/// Want of memory alone refuses.
+/// No list of the merges is held: each is pushed onto the rows. Want of memory refuses, and so does a row of 2^64 merges.
 pub fn merges_of_marks(
     alloc: Global,
     tech: &Tech,
     names: &[Name],
     marks: &[usize],
     sums: &[MeetingSum],
-) -> Result<Vec<MergeRec>, AllocError>
+) -> Result<Vec<MergeRow>, AllocError>
     requires distinct { Distinct names.now }
     requires marked { length names.now ≤ length marks.now }
     requires within { (number : ℕ) → number < length names.now → slice_index marks.now number < length sums.now }
-    ensures { IfOk result (λ merges. AreMergesOfMarks tech.now names.now marks.now sums.now merges.items) }
+    ensures { IfOk result (λ rows. (merges : List MergeRec) × AreMergesOfMarks tech.now names.now marks.now sums.now merges × AreRowsOf merges rows.items) }
 {
     let members = members_in_order(alloc, names, marks)?;
     let linked = link(alloc, members, sums.len())?;

@@ -10,7 +10,10 @@ use Rattle.finite_sets.specs.Lists.{In}
 use Rattle.finite_sets.proofs.Members.{In-append_cases, In-append_left, In-append_right}
 use Rattle.ext_model.specs.declared.records.CellExt.{CellExt}
 use Rattle.circuit_model.specs.Elements.{ext_of}
-use Rattle.kept_records.specs.KeptRecords.{KeptRecords}
+
+-- the record of a cell, by its position, with each element and each merge by itself
+abbrev pub PlainRecords : Type 0
+PlainRecords = ℕ → Option CellExt
 
 -- a record of the name among some is found under it, where there is no other
 pub found_under : (exts : List CellExt) (name : List ℕ) (ext : CellExt) → In ext exts → ext.cell ≡ name
@@ -58,19 +61,19 @@ one_named (Some first) name ext is =
     rw passes (inl same)
 
 -- The record is kept at a position below the count, and is of the name there.
-pub record IsKeptAt (names : ℕ → List ℕ) (kept : KeptRecords) (count : ℕ) (ext : CellExt) : Type 0 where
+pub record IsKeptAt (names : ℕ → List ℕ) (kept : PlainRecords) (count : ℕ) (ext : CellExt) : Type 0 where
   pub position : ℕ
   pub below : position < count
   pub is : kept position ≡ Some ext
   pub named : ext.cell ≡ names position
 
 -- the records that are kept at positions below the count, of the names there
-abbrev pub records_to : (ℕ → List ℕ) → KeptRecords → ℕ → List CellExt
+abbrev pub records_to : (ℕ → List ℕ) → PlainRecords → ℕ → List CellExt
 records_to names kept zero = []
 records_to names kept (suc count) = named_record (kept count) (names count) ++ records_to names kept count
 
 -- each of them is kept there
-pub kept_there : (names : ℕ → List ℕ) (kept : KeptRecords) (count : ℕ) (ext : CellExt) → In ext (records_to names kept count)
+pub kept_there : (names : ℕ → List ℕ) (kept : PlainRecords) (count : ℕ) (ext : CellExt) → In ext (records_to names kept count)
     → IsKeptAt names kept count ext
 kept_there names kept zero ext none = absurd none
 kept_there names kept (suc count) ext listed =
@@ -84,7 +87,7 @@ kept_there names kept (suc count) ext listed =
     ]
 
 -- and each that is kept there is one of them
-pub listed_there : (names : ℕ → List ℕ) (kept : KeptRecords) (count : ℕ) (ext : CellExt) → IsKeptAt names kept count ext
+pub listed_there : (names : ℕ → List ℕ) (kept : PlainRecords) (count : ℕ) (ext : CellExt) → IsKeptAt names kept count ext
     → In ext (records_to names kept count)
 listed_there names kept zero ext at = absurd (let within = at.below in omega arith)
 listed_there names kept (suc count) ext at = elim (cases_lt at.position count) [

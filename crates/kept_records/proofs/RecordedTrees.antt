@@ -1,15 +1,19 @@
 -- The records of the tree of a cell, from the records that are kept of cells.
 use Rattle.std.proofs.Common.{◌≡◌, ◌<◌, ◌≤◌, ℕ, zero, suc, List, [], ◌∷◌, length, map, get_or, inl, inr, refl, sym, ap, subst, ◌∙◌, arith}
-use Rattle.std.specs.Prelude.{Some, slice_get}
+use Rattle.std.specs.Prelude.{Option, Some, slice_get}
+use Rattle.std.specs.Option.{option_map}
 use Rattle.std.proofs.lemmas.Bool.{cases_lt, cases_eq}
 use Rattle.std.proofs.lemmas.Option.{same_Some}
 use Rattle.std.proofs.lemmas.List.{get_or-map, length-map}
 use Rattle.finite_sets.specs.Chain.Chain.{stay, go}
 use Rattle.finite_sets.specs.Lists.{In}
 use Rattle.finite_sets.proofs.Distincts.{Distinct-places}
+use Rattle.finite_sets.proofs.Members.{In-map, In-map_source}
 use Rattle.geo_core.specs.declared.transforms.Transform.{Transform}
 use Rattle.tech_model.specs.declared.raw.RawTech.{RawTech}
+use Rattle.ext_model.specs.declared.arrays.ArrayExt.{ArrayExt}
 use Rattle.ext_model.specs.declared.records.CellExt.{CellExt}
+use Rattle.ext_model.specs.Plain.{plain}
 use Rattle.circuit_model.specs.Elements.{ext_of}
 use Rattle.cell_tree.specs.declared.use_tables.UseBody.{UseBody}
 use Rattle.cell_tree.specs.Sizes.{CellState, size_at}
@@ -19,18 +23,32 @@ use Rattle.cell_tree.specs.declared.sizes.Size.{Size}
 use Rattle.cell_tree.proofs.SizeLaws.{child_is_lower}
 use Rattle.cell_library.specs.Contents.{Held}
 use Rattle.cell_library.specs.Libraries.{LibraryParts, IsLawfulLibrary, cells_seen, seen, uses_in}
-use Rattle.cell_library.specs.Views.{no_cell, view_at}
+use Rattle.cell_library.specs.Views.{LibraryView, no_cell, view_at}
 use Rattle.cell_library.proofs.LayoutTreeLaws.{children_are_cells, uses_seen, depth_is, state_is}
 use Rattle.cell_library.proofs.ViewLaws.{length-cell_views, names_seen}
 use Rattle.named_trees.specs.NamedTrees.{NamedTree, NamedElements, named_elements_in, own_body}
-use Rattle.tree_records.specs.TreeRecords.{HasTreeRecord, HasTreeRecords, HaveTreeRecords}
+use Rattle.tree_records.specs.TreeRecords.{HasTreeRecord, HasTreeRecords, HaveTreeRecords, IsTreeRecord}
 use Rattle.library_trees.specs.ElementNames.{UseElement, use_elements}
 use Rattle.library_trees.specs.NamedCells.{IsAtOrBelow, named_elements_at, named_elements_from, named_tree_at}
 use Rattle.library_trees.proofs.EditedTrees.{below_is_cell}
 use Rattle.library_trees.proofs.WholeTrees.{UsesWithIds, named_tree_unfolds}
 use Rattle.kept_records.specs.KeptRecords.{KeptRecords, HasKeptRecord}
 use Rattle.kept_records.specs.Laws.{KeptRecordsAreOfTheTree, ListedRecordsAreOfTheTree}
-use Rattle.kept_records.proofs.NamedRecords.{IsKeptAt, found_under, kept_there, listed_there, records_to}
+use Rattle.kept_records.proofs.NamedRecords.{IsKeptAt, PlainRecords, found_under, kept_there, listed_there, records_to}
+
+-- The same of a record with each element and each merge by itself.
+pub record HasPlainRecord (view : LibraryView) (kept : PlainRecords) (cell : ℕ) : Type 0 where
+  pub ext : CellExt
+  pub is_kept : kept cell ≡ Some ext
+  pub is : IsTreeRecord view.tech (named_tree_at view cell) ext
+
+-- the records that are kept, in their plain forms
+abbrev plain_kept : KeptRecords → PlainRecords
+plain_kept kept cell = option_map plain (kept cell)
+
+-- the plain form of a kept record is the cell's
+abbrev plain_record : (view : LibraryView) (kept : KeptRecords) (cell : ℕ) → HasKeptRecord view kept cell → HasPlainRecord view (plain_kept kept) cell
+plain_record view kept cell has = record { ext = plain has.ext; is_kept = ap (option_map plain) has.is_kept; is = has.is }
 
 -- elements of one child have records where the child and the others have
 have_at : (raw : RawTech) (exts : List CellExt) (tree : NamedTree) (placed : Transform) (elements : List UseElement) (rest : NamedElements)
@@ -93,9 +111,9 @@ module _ (library : LibraryParts) (lawful : IsLawfulLibrary library) where
       let size = ap (λ (s : Size). s.depth) (lawful.tree.sizes.right cell state (state_is library lawful cell below)) in
       omega (arith, size, child_is_lower (size_at library.tree.sizes) state k entry there)
 
-  module _ (kept : KeptRecords) (exts : List CellExt) (of : (ext : CellExt) → In ext exts → IsKeptAt name_at kept count ext) where
+  module _ (kept : PlainRecords) (exts : List CellExt) (of : (ext : CellExt) → In ext exts → IsKeptAt name_at kept count ext) where
     -- the kept record of a cell, which is among the records, is found under its name
-    has_record : (cell : ℕ) → cell < count → (has : HasKeptRecord (seen library) kept cell) → In has.ext exts
+    has_record : (cell : ℕ) → cell < count → (has : HasPlainRecord (seen library) kept cell) → In has.ext exts
         → HasTreeRecord library.tech exts (named_tree_at (seen library) cell)
     has_record cell below has listed = record {
       ext = has.ext;
@@ -112,7 +130,7 @@ module _ (library : LibraryParts) (lawful : IsLawfulLibrary library) where
 
     -- The kept records of all cells at and below the cell are among the records.
     abbrev AreListedBelow : ℕ → Type 0
-    AreListedBelow cell = (below : ℕ) → IsAtOrBelow (seen library) cell below → (has : HasKeptRecord (seen library) kept below) × In has.ext exts
+    AreListedBelow cell = (below : ℕ) → IsAtOrBelow (seen library) cell below → (has : HasPlainRecord (seen library) kept below) × In has.ext exts
 
     -- the records are those of the tree, where they are of all cells at and below the cell
     pub has_all : (depth cell : ℕ) → cell < count → (size_at library.tree.sizes cell).depth ≤ depth → AreListedBelow cell
@@ -137,7 +155,7 @@ module _ (library : LibraryParts) (lawful : IsLawfulLibrary library) where
   -- of records that are kept
   pub kept_are : KeptRecordsAreOfTheTree library
   kept_are kept cell below have =
-      let exts = records_to name_at kept count in
+      let exts = records_to name_at (plain_kept kept) count in
       let view = seen library in
       let P : NamedTree → Type 0 = λ tree. HaveTreeRecords library.tech exts (named_elements_in tree) in (
         exts,
@@ -145,30 +163,36 @@ module _ (library : LibraryParts) (lawful : IsLawfulLibrary library) where
             (have_from library.tech exts (named_tree_at view) (view_at view cell).uses (λ k entry is.
             let child = entry.1.child.0 in
             let child_below = children_are_cells library lawful cell below k entry is in
-            has_all kept exts (kept_there name_at kept count) (size_at library.tree.sizes child).depth child child_below (omega arith)
+            has_all (plain_kept kept) exts (kept_there name_at (plain_kept kept) count) (size_at library.tree.sizes child).depth child child_below (omega arith)
             (λ lower chain. listed child child_below (record { k = k; entry = entry; stands = is; same = refl }) lower chain))),
       )
     where
       listed : (child : ℕ) → child < count → HasChild (view_at (seen library) cell).uses child → (lower : ℕ) → IsAtOrBelow (seen library) child lower
-          → (has : HasKeptRecord (seen library) kept lower) × In has.ext (records_to name_at kept count)
+          → (has : HasPlainRecord (seen library) (plain_kept kept) lower) × In has.ext (records_to name_at (plain_kept kept) count)
       listed child child_below uses lower chain =
-          let has = have lower (record { child = child; uses = uses; at_or_below = chain }) in
+          let has = plain_record (seen library) kept lower (have lower (record { child = child; uses = uses; at_or_below = chain })) in
           let within = below_is_cell library lawful child lower child_below chain in (
             has,
-            listed_there name_at kept count has.ext
+            listed_there name_at (plain_kept kept) count has.ext
                 (record { position = lower; below = within; is = has.is_kept; named = has.is.cell ∙ own_is lower within }),
           )
 
   -- and of lists of them
   pub listed_are : ListedRecordsAreOfTheTree library
   listed_are kept cell exts below listed of =
-      has_all kept exts (λ ext among. at ext (of ext among)) (size_at library.tree.sizes cell).depth cell below (omega arith) listed
+      has_all (plain_kept kept) (map plain exts) at (size_at library.tree.sizes cell).depth cell below (omega arith) (λ lower chain.
+      let has = listed lower chain in
+      (plain_record (seen library) kept lower has.0, In-map plain has.0.ext exts has.1))
     where
-      at : (ext : CellExt) → ((lower : ℕ) × (lower < count) × (has : HasKeptRecord (seen library) kept lower) × (has.ext ≡ ext))
-          → IsKeptAt name_at kept count ext
-      at ext found = record {
-        position = found.0;
-        below = found.1;
-        is = found.2.is_kept ∙ ap (λ (e : CellExt). Some e) found.3;
-        named = ap (λ (e : CellExt). e.cell) (sym found.3) ∙ found.2.is.cell ∙ own_is found.0 found.1;
-      }
+      at : (ext : CellExt) → In ext (map plain exts) → IsKeptAt name_at (plain_kept kept) count ext
+      at ext among =
+          let made = In-map_source plain ext exts among in
+          let found = of made.0 made.1.0 in
+          let has = plain_record (seen library) kept found.0 found.2 in
+          let same : has.ext ≡ ext = ap plain found.3 ∙ made.1.1 in
+          record {
+            position = found.0;
+            below = found.1;
+            is = has.is_kept ∙ ap (λ (e : CellExt). Some e) same;
+            named = ap (λ (e : CellExt). e.cell) (sym same) ∙ has.is.cell ∙ own_is found.0 found.1;
+          }

@@ -1,7 +1,9 @@
 -- The laws of records that are kept, as statements.
-use Rattle.std.specs.Prelude.{◌≡◌, ◌<◌, ℕ, List, length}
+use Rattle.std.specs.Prelude.{◌≡◌, ◌<◌, ℕ, List, length, map}
 use Rattle.finite_sets.specs.Lists.{In}
+use Rattle.ext_model.specs.declared.arrays.ArrayExt.{ArrayExt}
 use Rattle.ext_model.specs.declared.records.CellExt.{CellExt}
+use Rattle.ext_model.specs.Plain.{plain}
 use Rattle.cell_library.specs.Libraries.{LibraryParts, seen}
 use Rattle.tree_records.specs.TreeRecords.{HasTreeRecords, HaveTreeRecords}
 use Rattle.named_trees.specs.NamedTrees.{named_elements_in}
@@ -15,10 +17,10 @@ KeptRecordsAreOfTheTree library =
     → (exts : List CellExt) × HaveTreeRecords library.tech exts (named_elements_in (named_tree_at (seen library) cell))
 
 -- a list that has the kept record of each cell at and below a cell of the library, and records of other names or the same besides, has the
--- records of the cell's tree
+-- records of the cell's tree, with each element and each merge by itself
 abbrev pub ListedRecordsAreOfTheTree : LibraryParts → Type 0
 ListedRecordsAreOfTheTree library =
-    (kept : KeptRecords) (cell : ℕ) (exts : List CellExt) → cell < length library.contents
+    (kept : KeptRecords) (cell : ℕ) (exts : List ArrayExt) → cell < length library.contents
     → ((below : ℕ) → IsAtOrBelow (seen library) cell below → (has : HasKeptRecord (seen library) kept below) × In has.ext exts)
-    → ((ext : CellExt) → In ext exts → (below : ℕ) × (below < length library.contents) × (has : HasKeptRecord (seen library) kept below) × (has.ext ≡ ext))
-    → HasTreeRecords library.tech exts (named_tree_at (seen library) cell)
+    → ((ext : ArrayExt) → In ext exts → (below : ℕ) × (below < length library.contents) × (has : HasKeptRecord (seen library) kept below) × (has.ext ≡ ext))
+    → HasTreeRecords library.tech (map plain exts) (named_tree_at (seen library) cell)

@@ -1,2 +1,3 @@
+pub mod CellRecords
 pub mod KeptRecords
 pub mod Laws

@@ -17,7 +17,7 @@ use Rattle.cell_tree.specs.declared.use_tables.UseBody.{UseBody}
 use Rattle.cell_tree.specs.Uses.{IsLawfulUse, IsShift}
 use Rattle.cell_library.specs.LayoutTrees.{element_transform}
 use Rattle.cell_library.proofs.GridSteps.{IsNearStep, element_is_near}
-use Rattle.ext_model.specs.declared.limits.TheConstants.{SHIFT_EDGE}
+use Rattle.ext_model.specs.declared.limits.TheConstants.{ELEMENT_EDGE}
 use Rattle.ext_model.specs.Lawful.{IsPlacement}
 use Rattle.library_trees.specs.ElementNames.{UseElement, array_element, use_elements}
 
@@ -44,8 +44,8 @@ near_step id used lawful (Some grid) is element listed =
 
 -- The transform displaces no farther than a record may have it.
 record IsNearTransform (transform : Transform) : Type 0 where
-  dx : unsigned_abs transform.dx < SHIFT_EDGE
-  dy : unsigned_abs transform.dy < SHIFT_EDGE
+  dx : unsigned_abs transform.dx < ELEMENT_EDGE
+  dy : unsigned_abs transform.dy < ELEMENT_EDGE
 
 -- whichever way the use turns its child
 near_by_orient : (o : Orient) (dx dy x y : ℤ) → IsShift dx → IsShift dy → IsNearStep x → IsNearStep y
@@ -61,7 +61,7 @@ near_by_orient _ dx dy x y shift_x shift_y near_x near_y = record {
 
 -- the transform of an element of a lawful use is one that a record may have
 pub element_placement : (id : List ℕ) (used : UseBody) → IsLawfulUse used → (element : UseElement) → In element (use_elements id used.grid)
-    → IsPlacement (six_of (element_transform used.placed element.step))
+    → IsPlacement ELEMENT_EDGE (six_of (element_transform used.placed element.step))
 element_placement id used lawful element listed =
     let step = near_step id used lawful used.grid refl element listed in
     let near = near_by_orient used.placed.orient used.placed.dx used.placed.dy element.step.0 element.step.1 lawful.dx lawful.dy step.x step.y in

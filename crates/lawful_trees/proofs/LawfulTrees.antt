@@ -6,11 +6,14 @@ use Rattle.finite_sets.specs.Lists.{In, Distinct}
 use Rattle.finite_sets.proofs.Searches.{All-from_In}
 use Rattle.finite_sets.proofs.Images.{In-flat_map_source}
 use Rattle.tech_model.specs.declared.raw.RawTech.{RawTech}
+use Rattle.ext_model.specs.declared.arrays.ArrayUse.{ArrayUse}
 use Rattle.ext_model.specs.declared.records.CellExt.{CellExt}
 use Rattle.ext_model.specs.declared.records.MergeRec.{MergeRec}
 use Rattle.ext_model.specs.declared.records.UseRec.{UseRec}
 use Rattle.ext_model.specs.NodeNames.{is_word}
 use Rattle.ext_model.specs.Lawful.{AreMeasures, IsLawful, IsLawfulMerge, IsLawfulUse}
+use Rattle.ext_model.specs.LawfulArrays.{IsArrayUse, IsLawfulArrayExt}
+use Rattle.ext_model.specs.Plain.{plain}
 use Rattle.layout_model.specs.LayerTypes.{HasTypesOf}
 use Rattle.layout_model.specs.Technologies.{class_of, rules_of}
 use Rattle.layout_trees.specs.CellTrees.{CellTree}
@@ -30,9 +33,11 @@ use Rattle.group_meetings.specs.Members.{tree_parts}
 use Rattle.library_trees.specs.NamedCells.{named_tree_at}
 use Rattle.library_trees.proofs.CleanTrees.{clean_tree}
 use Rattle.library_trees.proofs.LayoutLaws.{layouts_of_cell}
-use Rattle.lawful_trees.specs.Laws.{TreeRecordIsLawful}
+use Rattle.kept_records.specs.CellRecords.{IsRecordOf}
+use Rattle.lawful_trees.specs.Laws.{RecordIsLawful}
 use Rattle.lawful_trees.proofs.LawfulMerges.{group_merge_small}
 use Rattle.lawful_trees.proofs.LibraryElements.{forms_below, lawful_uses}
+use Rattle.lawful_trees.proofs.LibraryUses.{array_uses}
 use Rattle.lawful_trees.proofs.NearPlaces.{flat_is_near, own_in_range}
 use Rattle.lawful_trees.proofs.OwnParts.{among, class_limit, lawful_fets, lawful_nodes, node_names_apart}
 use Rattle.lawful_trees.proofs.TreePaths.{element_ids, member_path}
@@ -121,5 +126,9 @@ module _ (library : LibraryParts) (lawful : IsLawfulLibrary library) (cell : ℕ
         }
 
   -- the record of a cell whose types are the technology's
-  pub tree_record_lawful : IsTyped library.tech (tree_at (seen library) cell) → TreeRecordIsLawful library cell
-  tree_record_lawful typed ext clean is = lawful_record typed clean ext is
+  pub record_lawful : IsTyped library.tech (tree_at (seen library) cell) → RecordIsLawful library cell
+  record_lawful typed ext clean is = record {
+    uses = All-from_In IsArrayUse ext.uses (λ used here. array_uses library lawful cell below used (subst (In used) is.uses here));
+    rows = is.merges.each;
+    plain = lawful_record typed clean (plain ext) is.means;
+  }

@@ -1,6 +1,7 @@
 pub mod ElementForms
 pub mod ElementPlaces
 pub mod LibraryElements
+pub mod LibraryUses
 pub mod OwnParts
 pub mod NearPlaces
 pub mod TreePaths

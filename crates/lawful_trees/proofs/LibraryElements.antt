@@ -82,7 +82,7 @@ forms_of_each no_more each = tt
 forms_of_each (element_then id placed tree rest) each = (each.0.0, each.0.1, forms_of_each rest each.1)
 
 -- The ids of these uses are of their form.
-abbrev AreUseIds : UsesWithIds → Type 0
+abbrev pub AreUseIds : UsesWithIds → Type 0
 AreUseIds uses = (entry : List ℕ × UseBody) → In entry uses → IsTrue (is_use_id entry.0)
 
 -- the names of the elements of trees have it where ids are of their form
@@ -96,7 +96,7 @@ forms_to view formed (suc depth) cell =
 
 module _ (library : LibraryParts) (lawful : IsLawfulLibrary library) where
   -- the ids of the uses of each cell
-  use_ids : (cell : ℕ) → AreUseIds (view_at (seen library) cell).uses
+  pub use_ids : (cell : ℕ) → AreUseIds (view_at (seen library) cell).uses
   use_ids cell entry listed =
       elim (cases_lt cell (length library.contents)) [
         | inl below ↦

@@ -6,9 +6,9 @@
 //! The material of a cell lies in its hull, and so within the range of paint, on the planes of the technology (`NearPlaces`). So the nodes
 //! and the transistors of the own layout are lawful as in a record without uses (`OwnParts`, over laws of `own_record_laws`).
 //!
-//! An id, and what stands behind it in the name of an element of an array, has bytes of words and no slash (`ElementForms`). A grid of a
-//! lawful use has at most a million elements whose separations are below 2^27, so it displaces them by less than 2^47, and the use by less
-//! than 2^27 more: less than the 2^48 that a record may have (`ElementPlaces`). `LibraryElements` has that of each element of a cell, and
+//! The uses of a cell have the form that they have in a record (`LibraryUses`). An id, and what stands behind it in the name of an element of
+//! an array, has bytes of words and no slash (`ElementForms`). A grid of a lawful use has at most a million elements whose separations are below 2^27, so it displaces them by less than 2^47, and the use by less
+//! than 2^27 more: less than the 2^52 that an element may have (`ElementPlaces`). `LibraryElements` has that of each element of a cell, and
 //! the forms of the names of all elements at and below it.
 //!
 //! The paths of a merge are members of a group: names of nodes of the own layout, or an element's name before the name of a group of its
@@ -23,15 +23,15 @@
 #![tactic(auto)]
 
 ghost use Rattle.std.specs.Prelude.{◌<◌, length};
-ghost use Rattle.lawful_trees.specs.Laws.{TreeRecordIsLawful};
+ghost use Rattle.lawful_trees.specs.Laws.{RecordIsLawful};
 
 use cell_library::Reader;
 use ext_model::CellKey;
 
 /// The record of the cell is lawful where the cell is clean. It does nothing.
-pub fn tree_record_is_lawful(library: &Reader<'_>, cell: CellKey)
+pub fn record_is_lawful(library: &Reader<'_>, cell: CellKey)
     requires { cell.0 < length library.now.contents }
-    ensures { TreeRecordIsLawful library.now cell.0 }
+    ensures { RecordIsLawful library.now cell.0 }
 {
     library.lawful();
     library.typed(cell);

@@ -26,12 +26,17 @@ changed_elsewhere (cell ∷ cells) zero (suc place) change apart = refl
 changed_elsewhere (cell ∷ cells) (suc k) zero change apart = refl
 changed_elsewhere (cell ∷ cells) (suc k) (suc place) change apart = changed_elsewhere cells k place change (λ same. apart (ap suc same))
 
--- a change of a cell keeps the tree of another that it does not stand below
+-- a change of a cell keeps what is seen of each cell at and below another that it does not stand below
+pub change_keeps_views : (view : LibraryView) (cell other : ℕ) → (IsAtOrBelow view other cell → ⊥) → (change : CellView → CellView) → (below : ℕ)
+    → IsAtOrBelow view other below → view_at view below ≡ view_at (with_cell_changed view cell change) below
+change_keeps_views view cell other apart change below chain =
+    changed_elsewhere view.cells cell below change (λ same. apart (subst (IsAtOrBelow view other) same chain))
+
+-- so it keeps the tree of the other
 pub change_keeps : (view : LibraryView) (cell other : ℕ) → (IsAtOrBelow view other cell → ⊥) → (change : CellView → CellView)
     → HaveOneTree (with_cell_changed view cell change) view other
 change_keeps view cell other apart change =
-    sym (agreeing_views view (with_cell_changed view cell change) other (λ below chain.
-    changed_elsewhere view.cells cell below change (λ same. apart (subst (IsAtOrBelow view other) same chain))))
+    sym (agreeing_views view (with_cell_changed view cell change) other (change_keeps_views view cell other apart change))
 
 -- a change that may be none
 change_may_keep : (view : LibraryView) (other : ℕ) (change : Transform → LibraryView)

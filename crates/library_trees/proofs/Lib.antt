@@ -1,6 +1,5 @@
 pub mod LayoutLaws
 pub mod WholeTrees
-pub mod TextCuts
 pub mod ElementNameLaws
 pub mod TreeNameLaws
 pub mod TreeDepths

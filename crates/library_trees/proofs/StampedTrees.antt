@@ -8,12 +8,13 @@ use Rattle.cell_tree.specs.declared.use_tables.UseBody.{UseBody}
 use Rattle.cell_tree.specs.Cells.{IsAbove, Uses}
 use Rattle.cell_tree.specs.Trees.{cell_at, stamp_at}
 use Rattle.cell_tree.specs.Uses.{HasChild}
-use Rattle.cell_library.specs.Libraries.{LibraryParts, IsLawfulLibrary, edits_of, seen}
-use Rattle.cell_library.specs.Views.{CellView, LibraryView, view_at}
+use Rattle.cell_library.specs.Libraries.{LibraryParts, IsLawfulLibrary, IsNextEdit, edits_of, seen}
+use Rattle.cell_library.specs.Views.{CellView, LibraryView, view_at, with_cell_changed}
 use Rattle.cell_library.proofs.LayoutTreeLaws.{uses_seen, state_is}
 use Rattle.library_trees.specs.Laws.{StampsTellChangedTrees}
-use Rattle.library_trees.specs.NamedCells.{IsAtOrBelow, named_tree_at}
-use Rattle.library_trees.proofs.EditedTrees.{change_keeps}
+use Rattle.library_trees.specs.NamedCells.{IsAtOrBelow}
+use Rattle.library_trees.proofs.AgreeingViews.{agreeing_views}
+use Rattle.library_trees.proofs.EditedTrees.{change_keeps_views}
 use Rattle.library_trees.proofs.WholeTrees.{no_cell_seen}
 
 -- where a child is seen, the cell uses it
@@ -42,10 +43,18 @@ is_above : (library : LibraryParts) → IsLawfulLibrary library → {upper lower
 is_above library lawful stay = stay
 is_above library lawful (go has chain) = Chain-push (is_above library lawful chain) (child_is_used library lawful _ _ has)
 
--- an edit keeps the tree of each cell whose stamp it keeps
+-- an edit keeps what is seen of each cell at and below one whose stamp it keeps
+pub stamps_keep_views : (library : LibraryParts) → IsLawfulLibrary library → (new : LibraryParts) (cell : ℕ) (change : CellView → CellView)
+    → IsNextEdit library new cell → seen new ≡ with_cell_changed (seen library) cell change → (other : ℕ)
+    → stamp_at new.tree.stamps other ≡ stamp_at library.tree.stamps other → (below : ℕ) → IsAtOrBelow (seen library) other below
+    → view_at (seen library) below ≡ view_at (seen new) below
+stamps_keep_views library lawful new cell change next is other kept below chain =
+    change_keeps_views (seen library) cell other (λ edited.
+    let raised : stamp_at new.tree.stamps other ≡ edits_of new = next.stamps.raised other (is_above library lawful edited) in
+    omega (arith, raised, kept, lawful.tree.past other, next.edits)) change below chain
+    ∙ ap (λ (view : LibraryView). view_at view below) (sym is)
+
+-- and so the tree of each such cell
 pub stamps_tell : (library : LibraryParts) → IsLawfulLibrary library → StampsTellChangedTrees library
 stamps_tell library lawful new cell change next is other kept =
-    ap (λ (view : LibraryView). named_tree_at view other) is
-    ∙ change_keeps (seen library) cell other (λ chain.
-    let raised : stamp_at new.tree.stamps other ≡ edits_of new = next.stamps.raised other (is_above library lawful chain) in
-    omega (arith, raised, kept, lawful.tree.past other, next.edits)) change
+    sym (agreeing_views (seen library) (seen new) other (stamps_keep_views library lawful new cell change next is other kept))

@@ -21,7 +21,7 @@ use Rattle.library_trees.specs.ElementNames.{UseElement, use_elements}
 use Rattle.library_trees.specs.Laws.{ElementNamesTellElements}
 use Rattle.library_trees.specs.NamedCells.{named_elements_at, named_elements_from, named_tree_at, named_tree_to}
 use Rattle.library_trees.proofs.ElementNameLaws.{names_differ, names_in, names_tell_id, names_whole}
-use Rattle.library_trees.proofs.TextCuts.{front_of}
+use Rattle.ext_model.proofs.TextCuts.{front_of}
 use Rattle.library_trees.proofs.WholeTrees.{UsesWithIds, no_cell_seen}
 use Rattle.cell_tree.specs.declared.limits.TheConstants.{MOST_DEPTH}
 

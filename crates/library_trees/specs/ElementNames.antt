@@ -1,17 +1,13 @@
 -- The names of the elements of a use.
-use Rattle.std.specs.Prelude.{ℕ, ℤ, pos, List, [], ◌∷◌, ◌++◌, map, Option, Some, None}
+use Rattle.std.specs.Prelude.{ℕ, ℤ, pos, List, [], ◌∷◌, map, Option, Some, None}
 use Rattle.geo_core.specs.declared.grids.Grid.{Grid}
 use Rattle.geo_core.specs.Elements.{elements_of}
-use Rattle.text_scan.specs.Decimal.{decimal}
+pub use Rattle.ext_model.specs.ElementNames.{indexed_name}
 
 -- An element of a use: its name, and how far it is displaced, in the child's coordinates and before the transform.
 pub record UseElement : Type 0 where
   pub name : List ℕ
   pub step : ℤ × ℤ
-
--- the name of an element of an array: the use's id, and behind it in brackets its two indices in decimal, with a comma between them
-abbrev pub indexed_name : List ℕ → ℤ → ℤ → List ℕ
-indexed_name id i j = id ++ 91 ∷ (decimal i ++ 44 ∷ (decimal j ++ 93 ∷ []))
 
 -- an element of an array, of these two indices and this displacement
 abbrev pub array_element : List ℕ → ℤ × ℤ × ℤ × ℤ → UseElement

@@ -21,7 +21,7 @@ use Rattle.text_form.specs.SaidLines.{and_then}
 use Rattle.tech_model.specs.declared.raw.RawTech.{RawTech}
 use Rattle.cell_paint.specs.Painting.{is_coordinate, is_in_range}
 use Rattle.cell_bodies.specs.Words.{is_use_id_byte, is_use_id}
-use Rattle.cell_bodies.specs.declared.limits.TheConstants.{LONGEST_USE_ID}
+use Rattle.ext_model.specs.declared.limits.TheConstants.{LONGEST_USE_ID}
 use Rattle.geo_core.proofs.OrientationLaws.{six_of-is_orientation}
 use Rattle.geo_core.specs.declared.orients.Orient.{Orient}
 use Rattle.geo_core.specs.declared.orients.Orient.TheVariants.{R0, R90, R180, R270, Mx, My, Mx90, My90}

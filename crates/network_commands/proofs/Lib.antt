@@ -1,4 +1,1 @@
-pub mod NetworkRunLaws
 pub mod SimulationCommands
-pub mod SimulationLaws
-pub mod ShownLines

@@ -5,6 +5,7 @@ use Rattle.outside_io.specs.Files.{Files}
 use Rattle.text_form.specs.declared.reading.At.{At}
 use Rattle.session_model.specs.declared.answer.Answer.{Answer}
 use Rattle.session_model.specs.declared.fetching.FetchFault.{FetchFault}
+use Rattle.session_model.specs.declared.report.ReportLine.{ReportLine}
 use Rattle.session_model.specs.Effects.{Answers}
 use Rattle.session_model.specs.Fetches.{text_in}
 use Rattle.sim_text.specs.declared.faults.SimFault.{SimFault}
@@ -13,11 +14,17 @@ use Rattle.sim_text.specs.declared.limits.SimLimit.{SimLimit}
 use Rattle.sim_text.specs.SimTexts.{sim_in}
 use Rattle.switch_net.specs.Network.{Network}
 use Rattle.line_answers.proofs.AnswerLaws.{answers_refusal}
-use Rattle.line_answers.specs.LineEffects.{FreeEffect, refused}
+use Rattle.line_answers.specs.LineEffects.{FreeEffect, IsOfInside, refused}
 use Rattle.line_answers.specs.Refusals.{file_refusal, refusal_line, too_many}
 use Rattle.network_commands.specs.CommandSimrun.{RunsRead, RunsRecords, RunsSource, RunsVectors, SimrunMeans, sim_file}
-use Rattle.network_commands.specs.Refusals.{sim_limit_word, sim_refusal}
-use Rattle.network_commands.specs.Simulations.{IsNetOf, PassesNet, TellsVectors, vec_file}
+use Rattle.network_commands.specs.Refusals.{sim_refusal}
+use Rattle.network_runs.specs.Refusals.{sim_limit_word}
+use Rattle.network_runs.specs.Simulations.{IsNetOf, PassesNet, TellsVectors, vec_file}
+
+-- the refusal of a sim file
+pub sim_inside : (number : ℕ) (file : List ℕ) (at : At SimFault) (lines : List ReportLine)
+    → lines ≡ refusal_line number (sim_refusal file at) ∷ [] → IsOfInside lines
+sim_inside number file at lines are = subst (λ (all : List ReportLine). IsOfInside all) (sym are) (record { present = refl; fits = refl })
 
 -- `simrun`: the vector file was fetched
 pub vectors_run : (budget number : ℕ) (file text : List ℕ) (fetch : Result (List ℕ) FetchFault) (net : Network) (names : List (List ℕ × ℕ))

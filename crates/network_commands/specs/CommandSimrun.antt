@@ -12,8 +12,9 @@ use Rattle.sim_text.specs.SimTexts.{sim_in}
 use Rattle.switch_net.specs.Network.{Network}
 use Rattle.line_answers.specs.LineEffects.{FreeEffect, accepted, refused}
 use Rattle.line_answers.specs.Refusals.{file_refusal, too_many}
-use Rattle.network_commands.specs.Refusals.{sim_limit_word, sim_refusal}
-use Rattle.network_commands.specs.Simulations.{IsNetOf, PassesNet, TellsVectors, vec_file}
+use Rattle.network_commands.specs.Refusals.{sim_refusal}
+use Rattle.network_runs.specs.Refusals.{sim_limit_word}
+use Rattle.network_runs.specs.Simulations.{IsNetOf, PassesNet, TellsVectors, vec_file}
 
 -- the sim file of this name
 abbrev pub sim_file : List ℕ → List ℕ

@@ -1,5 +1,2 @@
 pub mod CommandSimrun
-pub mod NetworkRuns
 pub mod Refusals
-pub mod Simulations
-pub mod Headline

@@ -10,12 +10,12 @@ ghost use Rattle.switch_net.specs.Net.{network_of};
 ghost use Rattle.vector_runs.specs.Runs.{IsFresh};
 ghost use Rattle.line_answers.specs.LineEffects.{IsOfInside};
 ghost use Rattle.network_commands.specs.CommandSimrun.{RunsRead, RunsRecords, RunsVectors, SimrunMeans};
-ghost use Rattle.network_commands.specs.Simulations.{TellsVectors};
+ghost use Rattle.network_runs.specs.Simulations.{TellsVectors};
 
-use crate::refusals::{refuse_sim, sim_limit_word};
-use crate::simulations::{MadeNet, make_network, vector_lines};
+use crate::refusals::refuse_sim;
 use line_answers::{file_name, refuse_file, refuse_too_many, told};
 use names_lists::Name;
+use network_runs::{MadeNet, make_network, sim_limit_word, vector_lines};
 use outside_io::Shelf;
 use session_model::{Answer, Fetched, Halt, fetch_text};
 use sim_networks::read_records_have_letters;

@@ -1,16 +1,13 @@
-//! Why sim files and vector files are refused.
-ghost use Rattle.std.specs.Prelude.{◌≡◌, ◌++◌, ◌∷◌, [], pos, IfOk, IsOkUnless, OnOk};
-ghost use Rattle.text_scan.specs.Decimal.{decimal};
+//! Why sim files are refused.
+ghost use Rattle.std.specs.Prelude.{◌≡◌, ◌∷◌, [], IfOk, IsOkUnless};
 ghost use Rattle.line_answers.specs.Refusals.{refusal_line};
-ghost use Rattle.network_commands.specs.Refusals.{sim_code, sim_limit_word, sim_refusal, vec_fault_text, vec_refusal};
+ghost use Rattle.network_commands.specs.Refusals.{sim_code, sim_refusal};
 
-use line_answers::{Refusal, append_with_name, at_line, refuse, worded};
+use line_answers::{Refusal, at_line, refuse};
 use names_lists::Name;
 use session_model::{Answer, Halt};
-use sim_text::{SimAt, SimFault, SimLimit};
+use sim_text::{SimAt, SimFault};
 use std::alloc::{AllocError, Global};
-use text_scan::append_decimal;
-use vector_files::{VecAt, VecFault};
 
 // The fault of a sim file.
 fn sim_refusal(alloc: Global, file: &Name, at: &SimAt) -> Result<Refusal, AllocError>
@@ -32,51 +29,6 @@ fn sim_code(fault: SimFault) -> &'static [u8]
         SimFault::TooMany(_) => b"",
         SimFault::Memory => b"",
     }
-}
-
-/// What there would be too many of.
-pub fn sim_limit_word(limit: SimLimit) -> &'static [u8]
-    ensures { result.now ≡ sim_limit_word limit }
-{
-    match limit {
-        SimLimit::Nodes => b"Nodes",
-        SimLimit::Switches => b"Switches",
-    }
-}
-
-/// The fault of a vector file.
-pub fn vec_refusal(alloc: Global, at: &VecAt) -> Result<Refusal, AllocError>
-    ensures { IfOk result (λ refusal. refusal ≡ vec_refusal at.now) }
-{
-    match &at.fault {
-        VecFault::Vector => {
-            let mut text = Vec::new(alloc);
-            append_numbered(&mut text, b"E21 vector ", at.line)?;
-            worded(alloc, &text)
-        }
-        VecFault::NoNode(name) => {
-            let mut text = Vec::new(alloc);
-            append_no_node(&mut text, at.line, name)?;
-            worded(alloc, &text)
-        }
-        VecFault::Memory => worded(alloc, b""),
-    }
-}
-
-// Writes words and then a number.
-fn append_numbered(text: &mut Vec<u8>, words: &[u8], number: u32) -> Result<(), AllocError>
-    ensures { OnOk result (text.new.items ≡ text.old.items ++ (words.now ++ decimal (pos number))) }
-{
-    text.extend_from_slice(words)?;
-    append_decimal(text, i128::from(number))
-}
-
-// Writes that the network has no node of a name, which a line asks for.
-fn append_no_node(text: &mut Vec<u8>, line: u32, name: &Name) -> Result<(), AllocError>
-    ensures { OnOk result (text.new.items ≡ text.old.items ++ vec_fault_text line (VecFault.NoNode name.now)) }
-{
-    append_numbered(text, b"E20 no node ", line)?;
-    append_with_name(text, b" ", name)
 }
 
 /// The answer where a sim file has a fault.

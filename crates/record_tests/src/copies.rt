@@ -1,16 +1,26 @@
 // A record with a part of every kind, and its copy.
-use ext_model::{CellExt, FetRec, MergeRec, NodeRec, TermRec, UseRec};
+use ext_model::{ArrayExt, ArrayUse, FetRec, MergeRow, NodeRec, TermRec};
+use geo_core::Grid;
 use names_lists::{List, Name};
 use std::alloc::Global;
 use std::test::Fail;
 
-fn element(alloc: Global) -> Result<UseRec, Fail> {
+fn array(alloc: Global) -> Result<ArrayUse, Fail> {
     let cell = Name::of(alloc, b"inv")?;
-    let id = Name::of(alloc, b"gate[0,1]")?;
-    Ok(UseRec {
+    let id = Name::of(alloc, b"gate")?;
+    let grid = Grid {
+        xlo: 0,
+        xhi: 7,
+        xsep: 12,
+        ylo: 1,
+        yhi: -1,
+        ysep: -20,
+    };
+    Ok(ArrayUse {
         cell,
         id,
         six: [0, -1, 12, 1, 0, -7],
+        grid: Some(grid),
     })
 }
 
@@ -52,22 +62,23 @@ fn transistor(alloc: Global) -> Result<FetRec, Fail> {
     })
 }
 
-fn merge(alloc: Global) -> Result<MergeRec, Fail> {
+fn row(alloc: Global) -> Result<MergeRow, Fail> {
     let measures = List::of(vec![in alloc; (-3, -4), (5, 6)]?);
-    Ok(MergeRec {
+    Ok(MergeRow {
         first: Name::of(alloc, b"out")?,
         second: Name::of(alloc, b"gate[0,1]/in")?,
+        count: 8,
         cap: -17,
         measures,
     })
 }
 
-fn record(alloc: Global) -> Result<CellExt, Fail> {
-    let uses = List::of(vec![in alloc; element(alloc)?]?);
+fn record(alloc: Global) -> Result<ArrayExt, Fail> {
+    let uses = List::of(vec![in alloc; array(alloc)?]?);
     let nodes = List::of(vec![in alloc; node(alloc)?]?);
     let fets = List::of(vec![in alloc; transistor(alloc)?]?);
-    let merges = List::of(vec![in alloc; merge(alloc)?]?);
-    Ok(CellExt {
+    let merges = List::of(vec![in alloc; row(alloc)?]?);
+    Ok(ArrayExt {
         cell: Name::of(alloc, b"top")?,
         tech: Name::of(alloc, b"nm")?,
         classes: List::of(vec![in alloc; 30000, 10000, 30]?),

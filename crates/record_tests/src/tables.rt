@@ -1,5 +1,5 @@
 // Calls on one table, one after another, with what each is to answer.
-use ext_model::{CellExt, CellKey, ExtEntry, ExtTable};
+use ext_model::{ArrayExt, CellKey, ExtEntry, ExtTable};
 use names_lists::{List, Name};
 use std::alloc::Global;
 use std::test::Fail;
@@ -52,7 +52,7 @@ const CALLS: &[Asked] = &[
 
 pub(crate) fn new_entry(alloc: Global, serial: u64, stamp: u64) -> Result<ExtEntry, Fail> {
     let classes = List::of(vec![in alloc; serial]?);
-    let ext = CellExt {
+    let ext = ArrayExt {
         cell: Name::empty(alloc),
         tech: Name::empty(alloc),
         classes,
@@ -64,7 +64,7 @@ pub(crate) fn new_entry(alloc: Global, serial: u64, stamp: u64) -> Result<ExtEnt
     Ok(ExtEntry { ext, serial, stamp })
 }
 
-pub(crate) fn class_of(ext: Option<&CellExt>) -> Option<u64> {
+pub(crate) fn class_of(ext: Option<&ArrayExt>) -> Option<u64> {
     ext?.classes.items().first().copied()
 }
 

@@ -1,8 +1,11 @@
 -- What goes round both sides of a fork has a square in each area in which one of their rectangles has one.
-use Rattle.std.proofs.Common.{◌≡◌, ℕ, false, List, [], ◌∷◌, ◌++◌, inl, inr, filter, cond, sym, ◌∙◌, ap, arith}
+use Rattle.std.proofs.Common.{◌≡◌, ℕ, false, List, [], ◌∷◌, ◌++◌, None, inl, inr, filter, find, cond, sym, ◌∙◌, ap, subst, arith}
 use Rattle.std.proofs.lemmas.Bool.{cases_Bool, false≢true}
 use Rattle.std.proofs.lemmas.Int.{ints, clamps}
 use Rattle.std.proofs.lemmas.List.Elements.{filter-append}
+use Rattle.finite_sets.specs.Lists.{In}
+use Rattle.finite_sets.proofs.Members.{In-filter}
+use Rattle.finite_sets.proofs.Searches.{none_found}
 use Rattle.geo_core.specs.declared.squares.Rect.{Rect}
 use Rattle.geo_core.specs.Areas.{common_rect, has_square, joined_rect}
 use Rattle.geo_core.specs.Covering.{IsProper}
@@ -51,3 +54,15 @@ none_meets rects area (Fork' p hull left right) hulls missed =
     filter-append (meets_at rects area) (positions_of left) (positions_of right)
     ∙ ap (λ (v : List ℕ). v ++ filter (meets_at rects area) (positions_of right)) on_left
     ∙ on_right
+
+-- so a search finds nothing there
+pub none_first : (rects : List Rect) (area : Rect) (node : Node) → AreHulls rects node → has_square (common_rect (hull_of rects node) area) ≡ false
+    → find (meets_at rects area) (positions_of node) ≡ None
+none_first rects area node hulls missed = none_found (meets_at rects area) (positions_of node) (λ position here. fails position here)
+  where
+    fails : (position : ℕ) → In position (positions_of node) → meets_at rects area position ≡ false
+    fails position here = elim (cases_Bool (meets_at rects area position)) [
+      | inl meets ↦ absurd (subst (In position) (none_meets rects area node hulls missed)
+          (In-filter (meets_at rects area) position (positions_of node) here meets))
+      | inr misses ↦ misses
+    ]

@@ -1,6 +1,7 @@
 -- What a search of a tree finds, in order.
-use Rattle.std.proofs.Common.{◌≡◌, ◌≢◌, ℕ, ◌<◌, ◌≤◌, false, List, inl, inr, filter, get_or, sym, ◌∙◌, ap, subst, arith}
-use Rattle.std.specs.Prelude.{AllPairs, IsPermutation, IsSorted, Option}
+use Rattle.std.proofs.Common.{◌≡◌, ◌≢◌, ℕ, ◌<◌, ◌≤◌, false, List, Some, None, inl, inr, filter, find, length, get_or, sym, ◌∙◌, ap, subst, arith}
+use Rattle.std.specs.Prelude.{AllPairs, IsPermutation, IsSorted, Option, slice_get}
+use Rattle.std.proofs.lemmas.Bool.{false≢true}
 use Rattle.std.specs.Ordering.{nat_cmp}
 use Rattle.std.proofs.lemmas.Cmp.{nat_cmp_total}
 use Rattle.std.proofs.lemmas.Int.{ints, clamps}
@@ -8,7 +9,8 @@ use Rattle.std.proofs.lemmas.Option.{slice_get-get_or, slice_get_within, get_or_
 use Rattle.std.proofs.lemmas.List.Sorted.{IsPermutation-sym}
 use Rattle.std.proofs.lemmas.Map.Keys.{ge_from_not_lt}
 use Rattle.finite_sets.specs.Lists.{In, Distinct}
-use Rattle.finite_sets.proofs.Members.{In-permutation, In-filter, In-filter_source, In-filter_passes}
+use Rattle.finite_sets.proofs.Members.{In-permutation, In-filter, In-filter_source, In-filter_passes, In-get_or, In-index}
+use Rattle.finite_sets.proofs.Searches.{find-In, find-passes, find-none}
 use Rattle.finite_sets.proofs.Distincts.{Distinct-places, Distinct-filter}
 use Rattle.finite_sets.proofs.Orders.{IsSorted-pairs}
 use Rattle.finite_sets.proofs.Images.{Distinct-permutation}
@@ -19,7 +21,7 @@ use Rattle.geo_core.proofs.CoveringLaws.{IsProper-has_square, has_square-IsPrope
 use Rattle.rect_trees.specs.declared.nodes.Node.{Node}
 use Rattle.rect_trees.specs.Positions.{no_rect, rect_at, meets_at, HasSquareAt}
 use Rattle.rect_trees.specs.Nodes.{root_positions, IsRoot}
-use Rattle.rect_trees.specs.Meetings.{MeetsAt, AreMeeting}
+use Rattle.rect_trees.specs.Meetings.{MeetsAt, AreMeeting, IsMeeting, MissesAll}
 
 -- a rectangle that has a square in an area has a square
 first_proper : (a area : Rect) → IsProper (common_rect a area) → IsProper a
@@ -73,3 +75,27 @@ module _ (rects : List Rect) (area : Rect) (root : Option Node) (found sorted : 
     exact = λ position. (found_meets position, meeting_found position);
     ordered = ascending sorted (Distinct-permutation found sorted moved found_once) in_order;
   }
+
+-- what a search finds first is met, and where it finds nothing, nothing is
+module _ (rects : List Rect) (area : Rect) (root : Option Node) (tree : IsRoot rects root) where
+  pub found_within : (position : ℕ) → find (meets_at rects area) (root_positions root) ≡ Some position → position < length rects
+  found_within position found = (tree.leaves.2 position (find-In (meets_at rects area) (root_positions root) position found)).within
+
+  pub found_meets_area : (position : ℕ) (rect : Rect) → find (meets_at rects area) (root_positions root) ≡ Some position
+      → slice_get rects position ≡ Some rect → IsMeeting rects area rect
+  found_meets_area position rect found at =
+      let is : rect_at rects position ≡ rect = get_or_from_slice_get rects position rect no_rect at in
+      let passes = find-passes (meets_at rects area) (root_positions root) position found in
+      subst (IsMeeting rects area) is (record {
+        there = In-get_or rects position no_rect (found_within position found);
+        meets = IsProper-has_square (common_rect (rect_at rects position) area) passes;
+      })
+
+  pub none_meets_area : find (meets_at rects area) (root_positions root) ≡ None → MissesAll rects area
+  none_meets_area none rect here meets =
+      let place = In-index rect rects here in
+      let is : rect_at rects place.0 ≡ rect = place.1.1 no_rect in
+      let met : IsProper (common_rect (rect_at rects place.0) area) = subst (λ (v : Rect). IsProper (common_rect v area)) (sym is) meets in
+      let leaf = tree.leaves.1 place.0 (record { within = place.1.0; proper = first_proper (rect_at rects place.0) area met }) in
+      false≢true (sym (find-none (meets_at rects area) (root_positions root) place.0 none leaf)
+      ∙ has_square-IsProper (common_rect (rect_at rects place.0) area) met)

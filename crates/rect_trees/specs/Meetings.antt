@@ -15,3 +15,12 @@ pub record MeetsAt (rects : List Rect) (position : ℕ) (area : Rect) : Type 0 w
 pub record AreMeeting (rects : List Rect) (area : Rect) (positions : List ℕ) : Type 0 where
   pub exact : (position : ℕ) → In position positions ↔ MeetsAt rects position area
   pub ordered : AllPairs ◌<◌ positions
+
+-- The rectangle is one of the list, and has a square in the area.
+pub record IsMeeting (rects : List Rect) (area : Rect) (rect : Rect) : Type 0 where
+  pub there : In rect rects
+  pub meets : IsProper (common_rect rect area)
+
+-- no rectangle of the list has a square in the area
+abbrev pub MissesAll : List Rect → Rect → Type 0
+MissesAll rects area = (rect : Rect) → In rect rects → IsProper (common_rect rect area) → ⊥

@@ -1,5 +1,5 @@
 //! Trees whose forks know what goes round all that is below them.
-ghost use Rattle.std.specs.Prelude.{◌≡◌, ◌++◌, ◌<◌, length, filter, map, All, IfOk, OnOk};
+ghost use Rattle.std.specs.Prelude.{◌≡◌, ◌++◌, ◌<◌, length, filter, find, map, All, IfOk, OnOk};
 ghost use Rattle.rect_trees.specs.Positions.{position_of, meets_at};
 ghost use Rattle.rect_trees.specs.Nodes.{positions_of, hull_of, AreHulls};
 
@@ -79,5 +79,24 @@ impl Node {
             }
         }
         Ok(())
+    }
+    /// The position of the first rectangle, from left to right, that has squares in the area, if there is one.
+    pub fn first_meeting(&self, rects: &[Rect], area: &Rect) -> Option<usize>
+        requires { AreHulls rects.now self.now }
+        ensures { result ≡ find (meets_at rects.now area.now) (positions_of self.now) }
+    {
+        if !self.hull(rects).common(area).has_square() {
+            return None;
+        }
+        match self {
+            Node::Leaf(position) => Some(*position),
+            Node::Fork(sides) => {
+                let sides = &**sides;
+                match sides.left.first_meeting(rects, area) {
+                    Some(position) => Some(position),
+                    None => sides.right.first_meeting(rects, area),
+                }
+            }
+        }
     }
 }

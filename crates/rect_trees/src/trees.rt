@@ -1,6 +1,6 @@
 //! Trees of rectangles.
-ghost use Rattle.std.specs.Prelude.{◌≡◌, IfOk};
-ghost use Rattle.rect_trees.specs.Meetings.{AreMeeting};
+ghost use Rattle.std.specs.Prelude.{◌≡◌, IfNone, IfOk, IfSome};
+ghost use Rattle.rect_trees.specs.Meetings.{AreMeeting, IsMeeting, MissesAll};
 
 use crate::nodes::{Node, grow};
 use crate::places::places;
@@ -56,5 +56,25 @@ impl RectTree {
         }
         found.sort_unstable();
         Ok(found)
+    }
+    /// A rectangle that has squares in the area, if there is one. It takes no memory, and stops at the first that it finds.
+    pub fn some_meeting(&self, area: Rect) -> Option<Rect>
+        ensures found { IfSome result (IsMeeting self.now area) }
+        ensures none { IfNone result (MissesAll self.now area) }
+    {
+        let Some(root) = &self.root else {
+            return None;
+        };
+        match root.first_meeting(&self.rects, &area) {
+            Some(position) => Some(self.rects[position]),
+            None => None,
+        }
+    }
+
+    /// The list of the rectangles.
+    pub fn rects(&self) -> &[Rect]
+        ensures { result.now ≡ self.now }
+    {
+        self.rects.as_slice()
     }
 }

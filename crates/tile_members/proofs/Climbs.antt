@@ -7,8 +7,9 @@ use Rattle.finite_sets.proofs.Searches.{All-from_In}
 use Rattle.finite_sets.proofs.Places.{slice_get-one}
 use Rattle.geo_core.specs.declared.transforms.Transform.{Transform}
 use Rattle.geo_core.specs.Images.{composed, identity}
-use Rattle.ext_model.specs.declared.records.CellExt.{CellExt}
+use Rattle.ext_model.specs.declared.arrays.ArrayExt.{ArrayExt}
 use Rattle.ext_model.specs.Paths.{path_text}
+use Rattle.ext_model.specs.Plain.{plain}
 use Rattle.ext_model.specs.Tables.{Table, ext_of}
 use Rattle.layout_trees.specs.CellTrees.{CellTree, Standing, place_back, standings, under}
 use Rattle.cell_library.specs.LayoutTrees.{own_cell, tree_at}
@@ -108,7 +109,7 @@ module _ (library : LibraryParts) (lawful : IsLawfulLibrary library) (records : 
       → HasMembers library records cell
       → LeadsDown (named_tree_at (seen library) cell) element step.position step.element (element_of library step placed)
       → LeadsToMember (seen library) step.child.0 step.element node below
-      → ((ext : CellExt) → ext_of records step.child ≡ Some ext → name ≡ path_text (step.id ∷ []) (first_member ext.merges below))
+      → ((ext : ArrayExt) → ext_of records step.child ≡ Some ext → name ≡ path_text (step.id ∷ []) (first_member (plain ext).merges below))
       → LeadsToMember (seen library) cell element node name
   climb_step tells cell element step placed node below name has leads lower named = record {
     has = λ standing place stands is.
@@ -127,14 +128,14 @@ module _ (library : LibraryParts) (lawful : IsLawfulLibrary library) (records : 
         let member = lower.has leads.lower (place_back placed place) lower_there
         (subst (IsOfNode library.tech (view_at view own).own (view_at view own).labels node) (back_on leads.lower.placed placed place) here) in
         let child = members_below cell element step placed has leads in
-        let group : IsGroupName library.tech (named_tree_at view step.child.0) (place_back placed place) (first_member kept.ext.merges below) =
-        tells lawful.well_formed lawful.rules (named_tree_at view step.child.0) kept.ext child.clean kept.is (place_back placed place) below
+        let group : IsGroupName library.tech (named_tree_at view step.child.0) (place_back placed place) (first_member (plain kept.ext).merges below) =
+        tells lawful.well_formed lawful.rules (named_tree_at view step.child.0) (plain kept.ext) child.clean kept.is (place_back placed place) below
         (member_at_part library.tech (named_tree_at view step.child.0) leads.lower.part (place_back placed place) below member) in
         let whole = element_member library.tech (named_tree_at view cell) step.position (element_of library step placed) place
-        (first_member kept.ext.merges below) leads.there group in
+        (first_member (plain kept.ext).merges below) leads.there group in
         subst (λ (n : List ℕ). IsMemberOfPart library.tech (named_tree_at view cell) standing.part place n) (sym (named kept.ext kept.is_kept))
         (subst (λ (s : Standing). IsMemberOfPart library.tech (named_tree_at view cell) s.part place
-        (path_text (step.id ∷ []) (first_member kept.ext.merges below))) (sym one) whole);
+        (path_text (step.id ∷ []) (first_member (plain kept.ext).merges below))) (sym one) whole);
   }
 
   -- ---- lists of steps
@@ -153,7 +154,7 @@ module _ (library : LibraryParts) (lawful : IsLawfulLibrary library) (records : 
   -- along one step more
   pub climbed_more : RecordsTellGroups library.tech → (steps : List Step) (step : Step) (rest : List Step) (node below name : List ℕ)
       → steps ≡ step ∷ rest → Climbs rest node below
-      → ((ext : CellExt) → ext_of records step.child ≡ Some ext → name ≡ path_text (step.id ∷ []) (first_member ext.merges below))
+      → ((ext : ArrayExt) → ext_of records step.child ≡ Some ext → name ≡ path_text (step.id ∷ []) (first_member (plain ext).merges below))
       → Climbs steps node name
   climbed_more tells steps step rest node below name same lower named cell element has are =
       along (subst (AreStepsTo (seen library) cell element) same are)

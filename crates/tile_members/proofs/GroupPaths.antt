@@ -3,10 +3,11 @@ use Rattle.std.proofs.Common.{◌≡◌, ℕ, List, [], ◌∷◌, Vec, Global, 
 use Rattle.std.specs.Prelude.{IfOk}
 use Rattle.std.specs.declared.alloc.AllocError.{AllocError}
 use Rattle.std.proofs.lemmas.Result.{IfOk-weaker}
-use Rattle.ext_model.specs.declared.records.CellExt.{CellExt}
+use Rattle.ext_model.specs.declared.arrays.ArrayExt.{ArrayExt}
 use Rattle.ext_model.specs.declared.records.MergeRec.{MergeRec}
 use Rattle.ext_model.specs.declared.tables.CellKey.{CellKey}
 use Rattle.ext_model.specs.Paths.{path_text}
+use Rattle.ext_model.specs.Plain.{plain}
 use Rattle.ext_model.specs.Tables.{Table, ext_of}
 use Rattle.record_groups.specs.MergedMembers.{first_member}
 use Rattle.tile_members.specs.MemberNames.{AreMergesOf, kept_in}
@@ -15,12 +16,12 @@ use Rattle.tile_members.specs.MemberNames.{AreMergesOf, kept_in}
 pub path_above : (table : Table) (child : CellKey) (merges : List MergeRec) (id below given first : List ℕ) (made : Result (Vec ℕ Global) AllocError)
     → AreMergesOf (kept_in table) child.0 merges → given ≡ id → first ≡ first_member merges below
     → IfOk made (λ path. path.items ≡ path_text (given ∷ []) first)
-    → IfOk made (λ name. (ext : CellExt) → ext_of table child ≡ Some ext → name.items ≡ path_text (id ∷ []) (first_member ext.merges below))
+    → IfOk made (λ name. (ext : ArrayExt) → ext_of table child ≡ Some ext → name.items ≡ path_text (id ∷ []) (first_member (plain ext).merges below))
 path_above table child merges id below given first made are same is named =
     IfOk-weaker made (λ (path : Vec ℕ Global). path.items ≡ path_text (given ∷ []) first)
-    (λ (name : Vec ℕ Global). (ext : CellExt) → ext_of table child ≡ Some ext → name.items ≡ path_text (id ∷ []) (first_member ext.merges below))
+    (λ (name : Vec ℕ Global). (ext : ArrayExt) → ext_of table child ≡ Some ext → name.items ≡ path_text (id ∷ []) (first_member (plain ext).merges below))
     (λ path at ext kept.
     let one : Some are.ext ≡ Some ext = sym are.is_kept ∙ kept in
     let record_is : are.ext ≡ ext = cc in
     at ∙ ap (λ (i : List ℕ). path_text (i ∷ []) first) same
-    ∙ ap (path_text (id ∷ [])) (is ∙ ap (λ (ms : List MergeRec). first_member ms below) (are.are ∙ ap (λ (e : CellExt). e.merges) record_is))) named
+    ∙ ap (path_text (id ∷ [])) (is ∙ ap (λ (ms : List MergeRec). first_member ms below) (are.are ∙ ap (λ (e : ArrayExt). (plain e).merges) record_is))) named

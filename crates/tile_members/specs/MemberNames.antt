@@ -1,8 +1,9 @@
 -- Names of members, by the elements that lead down to what has a node.
 use Rattle.std.specs.Prelude.{◌≡◌, ℕ, nat_eq, List, Some, slice_get}
 use Rattle.std.specs.HashMap.{get}
-use Rattle.ext_model.specs.declared.records.CellExt.{CellExt}
+use Rattle.ext_model.specs.declared.arrays.ArrayExt.{ArrayExt}
 use Rattle.ext_model.specs.declared.records.MergeRec.{MergeRec}
+use Rattle.ext_model.specs.Plain.{plain}
 use Rattle.ext_model.specs.Tables.{Table, ext_of}
 use Rattle.layout_model.specs.Places.{Place}
 use Rattle.layout_trees.specs.CellTrees.{Standing, place_back, standings}
@@ -20,9 +21,9 @@ kept_in table position = ext_of table (record { 0 = position })
 
 -- These are the merges of the record that is kept of the cell.
 pub record AreMergesOf (kept : KeptRecords) (cell : ℕ) (merges : List MergeRec) : Type 0 where
-  pub ext : CellExt
+  pub ext : ArrayExt
   pub is_kept : kept cell ≡ Some ext
-  pub are : merges ≡ ext.merges
+  pub are : merges ≡ (plain ext).merges
 
 -- What is kept under a cell are the groups of its record.
 abbrev pub AreGroupsOf : KeptRecords → GroupTable → Type 0

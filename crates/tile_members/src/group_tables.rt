@@ -1,8 +1,9 @@
 //! The groups of the members of cells, told by the records that are kept of them.
 ghost use Rattle.std.specs.Prelude.{◌≡◌, [], ◌∷◌, nat_eq, IfOk, IsSome, OnOk, Some};
 ghost use Rattle.std.specs.HashMap.{get as entry_at};
-ghost use Rattle.ext_model.specs.declared.records.CellExt.{CellExt as IsRecord};
+ghost use Rattle.ext_model.specs.declared.arrays.ArrayExt.{ArrayExt as IsRecord};
 ghost use Rattle.ext_model.specs.Paths.{path_text};
+ghost use Rattle.ext_model.specs.Plain.{plain};
 ghost use Rattle.ext_model.specs.Tables.{ext_of};
 ghost use Rattle.record_groups.specs.MergedMembers.{first_member};
 ghost use Rattle.tile_members.specs.MemberNames.{kept_in, AreGroupsOf};
@@ -74,7 +75,7 @@ impl<'a> GroupTable<'a> {
         requires kept { IsSome (ext_of records.now step.now.child) }
         ensures groups { AreGroupsOf (kept_in records.now) self.new }
         ensures name { IfOk result (λ name. (ext : IsRecord) → ext_of records.now step.now.child ≡ Some ext
-            → name.items ≡ path_text (step.now.id ∷ []) (first_member ext.merges below.now)) }
+            → name.items ≡ path_text (step.now.id ∷ []) (first_member (plain ext).merges below.now)) }
     {
         self.enter(alloc, records, step.child)?;
         match self.entries.get(&step.child.0) {

@@ -1,7 +1,9 @@
-//! The merges of a clean cell.
+//! The rows of the merges of a clean cell.
 ghost use Rattle.std.specs.Prelude.{◌≤◌, ◌+◌, ◌<◌, ℕ, List, IfOk, length};
 ghost use Rattle.finite_sets.specs.Lists.{Distinct};
+ghost use Rattle.ext_model.specs.declared.records.MergeRec.{MergeRec};
 ghost use Rattle.ext_model.specs.declared.records.NodeRec.{NodeRec};
+ghost use Rattle.ext_model.specs.Rows.{AreRowsOf};
 ghost use Rattle.cell_nodes.specs.NodeRecords.{AreNodeRecords};
 ghost use Rattle.hierarchy_model.specs.CleanCells.{IsClean};
 ghost use Rattle.cell_library.specs.Libraries.{seen};
@@ -18,7 +20,7 @@ ghost use Rattle.tree_merges.specs.Relations.{records_in};
 use crate::marking::{marks_of, marks_of_pieces};
 use crate::piece_tiles::regions_of_pieces;
 use cell_library::{Opened, Reader};
-use ext_model::{CellKey, ExtTable, MergeRec};
+use ext_model::{CellKey, ExtTable, MergeRow};
 use flood_nodes::Regions;
 use group_meetings::recorded_parts_have_members;
 use group_merges::merges_of_marks;
@@ -32,19 +34,20 @@ use std::sync::ledger::Ledger;
 use tech_model::Tech;
 use tile_members::{TileMembers, tile_members};
 
-/// The merges of the groups that members make which stand together, with what is to be added to each group.
+/// The rows of the merges of the groups that members make which stand together, with what is to be added to each group.
 fn merges_of_members(
     alloc: Global,
     tech: &Tech,
     meeting: &Meeting,
     members: &TileMembers,
     regions: &Regions,
-) -> Result<Vec<MergeRec>, AllocError>
+) -> Result<Vec<MergeRow>, AllocError>
     requires pieces { ArePieces tech.now meeting.now.stacks.items }
     requires regions { ArePieceRegions tech.now meeting.now.stacks.items regions.now }
     requires distinct { Distinct members.now.names.items }
     requires numbered { AreNumbered meeting.now members.now regions.now }
-    ensures { IfOk result (λ merges. AreMarkedMerges tech.now meeting.now members.now regions.now merges.items) }
+    ensures { IfOk result (λ rows. (merges : List MergeRec)
+        × AreMarkedMerges tech.now meeting.now members.now regions.now merges × AreRowsOf merges rows.items) }
 {
     let marks = marks_of(alloc, meeting, members, regions)?;
     let groups = marks_of_pieces(alloc, regions, members.names.len(), marks.labels.as_slice())?;
@@ -66,7 +69,7 @@ fn merges_of_members(
     Ok(merges)
 }
 
-/// The merges of a clean cell, by the pieces at which its parts meet.
+/// The rows of the merges of a clean cell, by the pieces at which its parts meet.
 ///
 /// The records of all cells below the cell are kept. It opens each cell once that has a tile which covers a piece. Want of memory alone refuses.
 pub fn merges_of<L: Ledger>(
@@ -76,7 +79,7 @@ pub fn merges_of<L: Ledger>(
     cell: CellKey,
     meeting: &Meeting,
     steps: &mut Opened<L>,
-) -> Result<Vec<MergeRec>, AllocError>
+) -> Result<Vec<MergeRow>, AllocError>
     requires cell { cell.0 < length library.now.contents }
     requires clean { IsClean library.now.tech (tree_at (seen library.now) cell.0) }
     requires records { HaveKeptRecordsBelow (seen library.now) (records_in records.now) cell.0 }
@@ -84,7 +87,8 @@ pub fn merges_of<L: Ledger>(
         (nodes : List NodeRec) × AreNodeRecords library.now.tech body.own body.labels nodes }
     requires pieces { AreMeetingPieces library.now.tech (tree_at (seen library.now) cell.0)
         meeting.now.tiles.items meeting.now.starts.items meeting.now.stacks.items }
-    ensures merges { IfOk result (λ merges. AreGroupMerges library.now.tech (named_tree_at (seen library.now) cell.0) merges.items) }
+    ensures merges { IfOk result (λ rows. (merges : List MergeRec)
+        × AreGroupMerges library.now.tech (named_tree_at (seen library.now) cell.0) merges × AreRowsOf merges rows.items) }
     ensures steps { steps.new ≤ steps.old + length meeting.now.tiles.items }
 {
     let tech = library.tech();

@@ -1,6 +1,8 @@
-//! What the parts of a cell do to each other: its merges, or the squares at which its parts spoil each other.
+//! What the parts of a cell do to each other: its merges in rows, or the squares at which its parts spoil each other.
 ghost use Rattle.std.specs.Prelude.{◌≡◌, ◌≢◌, ◌↔◌, ◌≤◌, ◌+◌, ◌*◌, ◌<◌, ℕ, List, [], IfOk, length};
+ghost use Rattle.ext_model.specs.declared.records.MergeRec.{MergeRec as OneMerge};
 ghost use Rattle.ext_model.specs.declared.records.NodeRec.{NodeRec as OneNode};
+ghost use Rattle.ext_model.specs.Rows.{AreRowsOf};
 ghost use Rattle.cell_nodes.specs.NodeRecords.{AreNodeRecords};
 ghost use Rattle.hierarchy_model.specs.CleanCells.{IsCleanBelow};
 ghost use Rattle.cell_library.specs.Libraries.{seen};
@@ -15,21 +17,21 @@ ghost use Rattle.hier_merge.specs.UncleanCells.{AreOffendingOf, IsCleanCell};
 
 use crate::merging::merges_of;
 use cell_library::{Opened, Reader};
-use ext_model::{CellKey, ExtTable, MergeRec};
+use ext_model::{CellKey, ExtTable, MergeRow};
 use geo_core::Rect;
 use hier_merge::meeting_of;
 use names_lists::List;
 use std::alloc::{AllocError, Global};
 use std::sync::ledger::Ledger;
 
-/// The merges of a clean cell, or the strips of the squares that offend, by plane.
+/// The rows of the merges of a clean cell, or the strips of the squares that offend, by plane.
 #[derive(Debug, Drop)]
 pub struct Related {
-    pub merges: List<MergeRec>,
+    pub merges: List<MergeRow>,
     pub offending: List<(u8, Rect)>,
 }
 
-/// The merges of a cell, or the strips of its squares that offend, by plane; there are no merges then.
+/// The rows of the merges of a cell, or the strips of its squares that offend, by plane; there are no merges then.
 ///
 /// All cells below the cell are clean, and their records are in the table. It opens the cell for a step, visits the areas in which its parts
 /// interact, for a step each tile, and opens each cell once that has such a tile. Want of memory alone refuses.
@@ -48,7 +50,7 @@ pub fn relate<L: Ledger>(
     ensures squares { IfOk result (λ found. AreOffendingOf (seen library.now) cell.0 found.offending) }
     ensures clean { IfOk result (λ found. (found.offending ≡ []) ↔ IsCleanCell (seen library.now) cell.0) }
     ensures merges { IfOk result (λ found. found.offending ≡ []
-        → AreGroupMerges library.now.tech (named_tree_at (seen library.now) cell.0) found.merges) }
+        → (merges : List OneMerge) × AreGroupMerges library.now.tech (named_tree_at (seen library.now) cell.0) merges × AreRowsOf merges found.merges) }
     ensures none { IfOk result (λ found. found.offending ≢ [] → found.merges ≡ []) }
     ensures steps { (work : ℕ) → IsWork (seen library.now) cell.0 work → steps.new ≤ steps.old + (2 * work + 1) }
 {

@@ -1,20 +1,23 @@
--- The records of the elements of a cell, element by element and use by use.
-use Rattle.std.proofs.Common.{◌≡◌, ℕ, ℤ, zero, suc, ◌+◌, ◌<◌, ◌≤◌, List, [], ◌∷◌, ◌++◌, length, map, drop, take, append_assoc, Some, None}
-use Rattle.std.proofs.Common.{refl, sym, ap, ◌∙◌, arith}
+-- The uses of a cell as its record has them, and their elements.
+use Rattle.std.proofs.Common.{◌≡◌, ℕ, ℤ, pos, zero, suc, ◌+◌, ◌<◌, ◌≤◌, List, [], ◌∷◌, ◌++◌, length, map, take, append_assoc, Some, None}
+use Rattle.std.proofs.Common.{◌+ℤ◌, ◌*ℤ◌, inl, inr, refl, sym, ap, ◌∙◌, arith}
 use Rattle.std.specs.Prelude.{Option, slice_get}
-use Rattle.std.specs.Option.{option_map}
-use Rattle.std.proofs.lemmas.List.{append-nil, drop_all, length-map, take_more}
-use Rattle.std.proofs.lemmas.Option.{get_or_from_slice_get, same_Some, slice_get-map, slice_get_within}
+use Rattle.std.specs.List.{flat_map}
+use Rattle.std.proofs.lemmas.Int.{ints}
+use Rattle.std.proofs.lemmas.List.{length-map, take_more}
+use Rattle.std.proofs.lemmas.Option.{get_or_from_slice_get, none-some, slice_get_cases, slice_get_within}
 use Rattle.std.proofs.lemmas.Simd.{map-map}
-use Rattle.finite_sets.proofs.Places.{drop-slice_get}
 use Rattle.geo_core.specs.declared.grids.Grid.{Grid}
+use Rattle.geo_core.specs.declared.orients.Orient.{Orient}
+use Rattle.geo_core.specs.declared.orients.Orient.TheVariants.{R0}
 use Rattle.geo_core.specs.declared.transforms.Transform.{Transform}
 use Rattle.geo_core.specs.Elements.{elements_of}
 use Rattle.geo_core.specs.Images.{six_of}
+use Rattle.geo_core.specs.Orientation.{matrix}
 use Rattle.geo_core.proofs.ElementLaws.{length-elements_of}
 use Rattle.ext_model.specs.declared.records.UseRec.{UseRec}
+use Rattle.ext_model.specs.Plain.{plain_uses, uses_of_grid}
 use Rattle.cell_tree.specs.declared.limits.TheConstants.{MOST_DEPTH, MOST_ELEMENTS_BELOW}
-use Rattle.cell_tree.specs.declared.use_tables.UseBody.{UseBody}
 use Rattle.cell_tree.specs.Uses.{displacements}
 use Rattle.cell_library.specs.LayoutTrees.{element_transform}
 use Rattle.cell_library.specs.Libraries.{IsLawfulLibrary, LibraryParts, seen}
@@ -25,38 +28,10 @@ use Rattle.named_trees.specs.NamedTrees.{NamedElements, NamedTree, named_element
 use Rattle.tree_records.specs.TreeRecords.{use_records}
 use Rattle.library_trees.specs.ElementNames.{UseElement, array_element, use_elements}
 use Rattle.library_trees.specs.NamedCells.{named_elements_at, named_elements_from, named_tree_at, named_tree_to}
-use Rattle.library_trees.proofs.WholeTrees.{named_tree_unfolds}
-use Rattle.element_paths.specs.UseStarts.{HasNameAt}
-use Rattle.element_paths.proofs.UseLaws.{UsesWithIds, length-use_elements}
-use Rattle.use_records.specs.ElementRecords.{StandsAt, element_record, records_of_use}
+use Rattle.library_trees.proofs.WholeTrees.{UsesWithIds, named_tree_unfolds}
+use Rattle.kept_records.specs.CellRecords.{library_use, library_uses}
 
--- ---- one element
-
--- how far an element is displaced
-abbrev step_in : UseElement → ℤ × ℤ
-step_in element = element.step
-
--- the elements of a use are displaced as its grid says
-steps_of : (id : List ℕ) (grid : Option Grid) → map step_in (use_elements id grid) ≡ displacements grid
-steps_of id None = refl
-steps_of id (Some grid) = map-map step_in (array_element id) (elements_of grid)
-
--- what has the n-th name and stands at the n-th transform is the n-th element
-pub record_there : (name id : List ℕ) (used : UseBody) (n : ℕ) (own : List ℕ) (placed : Transform) (six : List ℤ) (cell : List ℕ)
-    → cell ≡ name → HasNameAt id used.grid n own → StandsAt used n placed → six ≡ six_of placed
-    → slice_get (records_of_use name id used) n ≡ Some (record { cell = cell; id = own; six = six })
-record_there name id used n own placed six cell same named stands six_is =
-    let elements = use_elements id used.grid in
-    let displaced : Some named.displaced ≡ Some stands.step =
-    sym (slice_get-map step_in elements n ∙ ap (option_map step_in) named.there)
-    ∙ ap (λ (steps : List (ℤ × ℤ)). slice_get steps n) (steps_of id used.grid)
-    ∙ stands.there in
-    let step = same_Some named.displaced stands.step displaced in
-    let numbers : six_of (element_transform used.placed named.displaced) ≡ six =
-    ap (λ (s : ℤ × ℤ). six_of (element_transform used.placed s)) step ∙ ap six_of (sym stands.is) ∙ sym six_is in
-    slice_get-map (element_record name used.placed) elements n
-    ∙ ap (option_map (element_record name used.placed)) named.there
-    ∙ (λ i. Some (record { cell = sym same i; id = own; six = numbers i }))
+-- ---- the first uses
 
 -- with the next of a list, the first of it were added so far
 pub added_on : {X : Type 0} (all : List X) (n : ℕ) (next : X) (before so_far after : List X) → slice_get all n ≡ Some next
@@ -69,7 +44,32 @@ added_on {X} all n next before so_far after at is more =
     ∙ append_assoc before (take n all) (next ∷ [])
     ∙ ap (λ (xs : List X). before ++ xs) (sym one_more)
 
--- ---- one use of many
+-- where nothing is found all is past
+pub none_past : {X : Type 0} (xs : List X) (k : ℕ) → slice_get xs k ≡ None → length xs ≤ k
+none_past xs k none = elim (slice_get_cases xs k).1 [ inl there ↦ absurd (none-some there.0 (sym none ∙ there.2)) | inr past ↦ past.0 ]
+
+-- ---- elements
+
+-- by each orientation, what isn't displaced stays
+still : (o : Orient) (dx dy : ℤ) → ((matrix o).a *ℤ pos 0 +ℤ (matrix o).b *ℤ pos 0 +ℤ dx ≡ dx) × ((matrix o).d *ℤ pos 0 +ℤ (matrix o).e *ℤ pos 0 +ℤ dy ≡ dy)
+still R0 dx dy = (omega (arith, ints), omega (arith, ints))
+still _ dx dy = (omega (arith, ints), omega (arith, ints))
+
+-- so a use without a grid stands where its one element does
+still_six : (placed : Transform) → six_of placed ≡ six_of (element_transform placed (pos 0, pos 0))
+still_six placed =
+    let stays = still placed.orient placed.dx placed.dy in
+    λ i. (matrix placed.orient).a ∷ (matrix placed.orient).b ∷ sym stays.0 i ∷ (matrix placed.orient).d ∷ (matrix placed.orient).e ∷ sym stays.1 i ∷ []
+
+-- the record of an element of a use that is placed so, of a cell with this name
+abbrev element_record : List ℕ → Transform → UseElement → UseRec
+element_record name placed element = record { cell = name; id = element.name; six = six_of (element_transform placed element.step) }
+
+-- the elements of a use as it stands in a record
+elements_at : (name id : List ℕ) (placed : Transform) (grid : Option Grid)
+    → uses_of_grid (record { cell = name; id = id; six = six_of placed; grid = grid }) grid ≡ map (element_record name placed) (use_elements id grid)
+elements_at name id placed None = λ i. record { cell = name; id = id; six = still_six placed i } ∷ []
+elements_at name id placed (Some grid) = sym (map-map (element_record name placed) (array_element id) (elements_of grid))
 
 -- the records of elements of one child, and of those behind them
 records_behind : (tree : NamedTree) (placed : Transform) (elements : List UseElement) (rest : NamedElements)
@@ -88,44 +88,26 @@ name_at : (view : LibraryView) (cell : ℕ) → (own_body (named_tree_at view ce
 unfolding named_tree_at
 name_at view cell = name_to view MOST_DEPTH cell
 
-module _ (view : LibraryView) where
-  -- the records of the elements of these uses
-  abbrev pub records_from : UsesWithIds → List UseRec
-  records_from uses = use_records (named_elements_from (named_tree_at view) uses)
+-- the elements of uses are those of their trees
+elements_from : (view : LibraryView) (uses : UsesWithIds)
+    → flat_map plain_uses (map (library_use view) uses) ≡ use_records (named_elements_from (named_tree_at view) uses)
+elements_from view [] = refl
+elements_from view (entry ∷ rest) =
+    let tree = named_tree_at view entry.1.child.0 in
+    let elements = use_elements entry.0 entry.1.grid in
+    ap (λ (own : List UseRec). own ++ flat_map plain_uses (map (library_use view) rest))
+    (elements_at (view_at view entry.1.child.0).name entry.0 entry.1.placed entry.1.grid)
+    ∙ ap (λ (name : List ℕ). map (element_record name entry.1.placed) elements ++ flat_map plain_uses (map (library_use view) rest))
+    (sym (name_at view entry.1.child.0))
+    ∙ ap (λ (records : List UseRec). map (element_record (own_body tree).name entry.1.placed) elements ++ records) (elements_from view rest)
+    ∙ sym (records_behind tree entry.1.placed elements (named_elements_from (named_tree_at view) rest))
 
-  -- the records from a use on are its own and those of later uses
-  records_more : (uses : UsesWithIds) (k : ℕ) (id : List ℕ) (used : UseBody) → slice_get uses k ≡ Some (id, used)
-      → records_from (drop k uses) ≡ records_of_use (view_at view used.child.0).name id used ++ records_from (drop (k + 1) uses)
-  records_more uses k id used is =
-      ap records_from (drop-slice_get uses k (id, used) is)
-      ∙ records_behind (named_tree_at view used.child.0) used.placed (use_elements id used.grid)
-      (named_elements_from (named_tree_at view) (drop (k + 1) uses))
-      ∙ ap (λ (name : List ℕ). records_of_use name id used ++ records_from (drop (k + 1) uses)) (name_at view used.child.0)
-
-  -- with those of one use more, the records so far and those of the uses that are left are the same
-  pub records_on : (uses : UsesWithIds) (k : ℕ) (id : List ℕ) (used : UseBody) (so_far after all : List UseRec)
-      → slice_get uses k ≡ Some (id, used) → so_far ++ records_from (drop k uses) ≡ all
-      → after ≡ so_far ++ records_of_use (view_at view used.child.0).name id used → after ++ records_from (drop (k + 1) uses) ≡ all
-  records_on uses k id used so_far after all is before next =
-      let own = records_of_use (view_at view used.child.0).name id used in
-      ap (λ (records : List UseRec). records ++ records_from (drop (k + 1) uses)) next
-      ∙ append_assoc so_far own (records_from (drop (k + 1) uses))
-      ∙ ap (λ (records : List UseRec). so_far ++ records) (sym (records_more uses k id used is))
-      ∙ before
-
-  -- past the last use they are all
-  pub records_all : (uses : UsesWithIds) (k : ℕ) (so_far all : List UseRec) → length uses ≤ k → so_far ++ records_from (drop k uses) ≡ all
-      → so_far ≡ all
-  records_all uses k so_far all past before =
-      sym (append-nil so_far)
-      ∙ ap (λ (left : UsesWithIds). so_far ++ records_from left) (sym (drop_all k uses past))
-      ∙ before
-
--- the elements of the cell's tree are those of its uses
-pub records_in : (library : LibraryParts) → IsLawfulLibrary library → (cell : ℕ) → cell < length library.contents
-    → records_from (seen library) (view_at (seen library) cell).uses ≡ use_records (named_elements_in (named_tree_at (seen library) cell))
-records_in library lawful cell below =
-    sym (ap (λ (tree : NamedTree). use_records (named_elements_in tree)) (named_tree_unfolds library lawful cell below))
+-- element by element the uses of a cell are those of its tree
+pub uses_are_elements : (library : LibraryParts) → IsLawfulLibrary library → (cell : ℕ) → cell < length library.contents
+    → flat_map plain_uses (library_uses (seen library) cell) ≡ use_records (named_elements_in (named_tree_at (seen library) cell))
+uses_are_elements library lawful cell below =
+    elements_from (seen library) (view_at (seen library) cell).uses
+    ∙ sym (ap (λ (tree : NamedTree). use_records (named_elements_in tree)) (named_tree_unfolds library lawful cell below))
 
 -- ---- how many uses
 

@@ -1,43 +1,52 @@
-//! The elements of a cell, as its record has them.
+//! The uses of a cell, as its record has them.
 //!
 //! # How the proof goes
 //!
-//! The names of the elements of a use and their displacements stand in one order. So what is made of the n-th name and the n-th displacement is
-//! the record of the n-th element. The uses of a library are lawful, and a displacement is small, so its transform and the use's move within
-//! reach, and one may follow the other.
-//!
-//! The records of the elements of the first uses, and behind them those of the uses that are left, are all records. Each use moves its own from
-//! the second to the first. Past the last use nothing is left. The uses are counted in 64 bits, since a use has an element and a cell has few
-//! of them (`RecordLaws`).
+//! The uses so far are the first ones of the cell, and each adds the next. They are counted in 64 bits, since a use has an element and a cell
+//! has few of them. An element of a use stands where it is displaced before the use's transform, and has the use's id with its indices: so
+//! element by element the uses are what the cell's tree has (`RecordLaws`).
 #![tactic(auto)]
 
-mod elements;
-
 ghost use Rattle.std.specs.Prelude.{◌≡◌, ◌<◌, IfOk, length};
+ghost use Rattle.geo_core.specs.Images.{six_of};
 ghost use Rattle.cell_library.specs.Libraries.{seen};
-ghost use Rattle.named_trees.specs.NamedTrees.{named_elements_in};
-ghost use Rattle.tree_records.specs.TreeRecords.{use_records};
-ghost use Rattle.library_trees.specs.NamedCells.{named_tree_at};
+ghost use Rattle.kept_records.specs.CellRecords.{library_uses};
 
-use crate::elements::push_elements;
 use cell_library::Reader;
-use ext_model::{CellKey, UseRec};
+use cell_tree::UseBody;
+use ext_model::{ArrayUse, CellKey};
+use names_lists::Name;
 use std::alloc::{AllocError, Global};
 
-/// The elements of a cell in order, each with its name, its cell's name and the six numbers of its transform. Want of memory alone refuses.
+// The use with this id, of a cell with this name. Want of memory alone refuses.
+fn use_record(alloc: Global, name: &Name, id: &[u8], used: &UseBody) -> Result<ArrayUse, AllocError>
+    ensures { IfOk result (λ made.
+        made ≡ record { cell = name.now; id = id.now; six = six_of used.now.placed; grid = used.now.grid }) }
+{
+    Ok(ArrayUse {
+        cell: name.copy(alloc)?,
+        id: Name::of(alloc, id)?,
+        six: used.placed.six(),
+        grid: used.grid,
+    })
+}
+
+/// The uses of a cell in order, each with its cell's name, its id, the six numbers of its transform and its grid. It takes a step for each
+/// use, however many elements it has. Want of memory alone refuses.
 pub fn use_records(
     alloc: Global,
     library: &Reader<'_>,
     cell: CellKey,
-) -> Result<Vec<UseRec>, AllocError>
+) -> Result<Vec<ArrayUse>, AllocError>
     requires { cell.0 < length library.now.contents }
-    ensures { IfOk result (λ made. made.items ≡ use_records (named_elements_in (named_tree_at (seen library.now) cell.0))) }
+    ensures { IfOk result (λ made. made.items ≡ library_uses (seen library.now) cell.0) }
 {
     library.lawful();
     let mut records = Vec::new(alloc);
     let mut k = 0;
     while let Some((id, used)) = library.use_at(cell, k) {
-        push_elements(alloc, library, &mut records, id, used)?;
+        let record = use_record(alloc, library.name_of(used.child), id, used)?;
+        records.push(record)?;
         k += 1;
     }
     Ok(records)

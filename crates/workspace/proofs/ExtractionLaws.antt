@@ -1,7 +1,7 @@
 -- What an extraction comes to, and what is dirty after it.
 use Rattle.std.proofs.Common.{◌≡◌, ◌⊎◌, ◌<◌, ◌∙◌, ◌==◌, ◌&&◌, not, ℕ, suc, Bool, true, false, List, [], ◌∷◌, length, map}
 use Rattle.std.proofs.Common.{Option, Some, refl, sym, ap, subst, inl, inr}
-use Rattle.std.specs.Prelude.{All, IsSome, option_map}
+use Rattle.std.specs.Prelude.{All, option_map}
 use Rattle.std.specs.List.{flat_map, list_any}
 use Rattle.std.proofs.lemmas.Bool.{eq-eqb, ne_eqb, true≢false}
 use Rattle.std.proofs.lemmas.Bool.Decides.{eqb_tells}
@@ -13,7 +13,7 @@ use Rattle.use_orders.specs.Uses.{IsAtOrBelow}
 use Rattle.use_orders.proofs.Visiting.{library_order-lists}
 use Rattle.session_model.specs.declared.answer.Store.{Store}
 use Rattle.session_model.specs.declared.report.ReportLine.{ReportLine}
-use Rattle.ext_model.specs.declared.records.CellExt.{CellExt}
+use Rattle.ext_model.specs.declared.arrays.ArrayExt.{ArrayExt}
 use Rattle.ext_model.specs.declared.tables.CellKey.{CellKey}
 use Rattle.cell_library.specs.Additions.{children_in}
 use Rattle.cell_library.specs.Libraries.{IsLawfulLibrary, LibraryParts, seen}
@@ -27,7 +27,7 @@ use Rattle.workspace.specs.declared.cells.Edited.{Edited}
 use Rattle.workspace.specs.declared.extractions.Extracting.TheVariants.{Done}
 use Rattle.workspace.specs.declared.extractions.Extraction.{Extraction}
 use Rattle.workspace.specs.KeptSessions.{edited_state}
-use Rattle.workspace.specs.Extracting.{HasKeptRecord, IsExtracted, IsFreshBelow, kept_store, told_lines}
+use Rattle.workspace.specs.Extracting.{HasLawfulRecord, IsExtracted, IsFreshBelow, kept_store, told_lines}
 use Rattle.workspace.specs.Extractions.{MakesRecords, ext_store, with_clean}
 use Rattle.workspace.specs.States.{Workspace}
 use Rattle.workspace.proofs.WorkspaceLaws.{workspace_of}
@@ -152,7 +152,7 @@ module _ (library : LibraryParts) (after : Records) (agrees : Agrees library aft
       let stored = first_store stores (kept_store view after one) (map (kept_store view after) rest)
       (stores_are ∙ ap (λ (all : List Extracted). map (kept_store view after) all) told_is) in
       let same : Some stored.0 ≡ Some (ext_store (view_at view cell).name kept.0) =
-      stored.3 ∙ ap (λ (found : Option CellExt). option_map (ext_store (view_at view cell).name) found) kept.1.0 in (
+      stored.3 ∙ ap (λ (found : Option ArrayExt). option_map (ext_store (view_at view cell).name) found) kept.1.0 in (
         told_lines view one,
         stored.0,
         flat_map (told_lines view) rest,
@@ -192,12 +192,12 @@ module _ (library : LibraryParts) (records : Records) (root : ℕ) (after : Reco
       below_there library lawful root one.cell.0 there
       ((library_order-lists (children_in (seen library)) root extracts.order extracts.is_order).2 one.cell.0 (told_ordered one listed)))
 
-  -- of which a record is kept
-  pub told_kept : Agrees library after → All (HasKeptRecord after) told
+  -- of which a lawful record is kept
+  pub told_kept : Agrees library after → All (HasLawfulRecord after) told
   told_kept agrees =
-      All-from_In (HasKeptRecord after) told (λ one listed.
+      All-from_In (HasLawfulRecord after) told (λ one listed.
       let kept = kept_clean library after one.cell.0 agrees (fresh_then one.cell.0 (told_ordered one listed)) in
-      subst (λ (found : Option CellExt). IsSome found) (sym kept.1.0) refl)
+      record { ext = kept.0; is_kept = kept.1.0; lawful = kept.1.1.lawful })
 
   -- what the program tells of it is what it comes to
   pub extraction_told : (current : Option CellKey) (number : ℕ) (extraction : Extraction) → Agrees library after

@@ -11,3 +11,4 @@ pub mod KeptLaws
 pub mod SessionLaws
 pub mod StandingLaws
 pub mod WorkspaceLaws
+pub mod ReadableRecords

@@ -10,7 +10,7 @@ use Rattle.cell_library.specs.Views.{LibraryView, view_at}
 use Rattle.tree_records.specs.TreeCircuits.{IsFlatCircuit}
 use Rattle.tree_records.specs.TreeRecords.{HasTreeRecords}
 use Rattle.library_trees.specs.NamedCells.{named_tree_at}
-use Rattle.network_commands.specs.NetworkRuns.{CanBeSimulated}
+use Rattle.network_runs.specs.NetworkRuns.{CanBeSimulated}
 use Rattle.workspace.specs.declared.cell_circuits.Flattened.{Flattened}
 use Rattle.workspace.specs.declared.cell_circuits.Flattened.TheVariants.{Circuit as OneCircuit, Passed as TooMuch}
 

@@ -1,8 +1,10 @@
 -- What the program tells of an extraction, and what it keeps then.
-use Rattle.std.specs.Prelude.{◌≡◌, ℕ, false, Option, Some, List, [], map, option_map, IsSome}
+use Rattle.std.specs.Prelude.{◌≡◌, ℕ, false, Option, Some, List, [], map, option_map}
 use Rattle.use_orders.specs.Uses.{IsAtOrBelow}
 use Rattle.session_model.specs.declared.answer.Store.{Store}
 use Rattle.session_model.specs.declared.report.ReportLine.{ReportLine}
+use Rattle.ext_model.specs.declared.arrays.ArrayExt.{ArrayExt}
+use Rattle.ext_model.specs.LawfulArrays.{IsLawfulArrayExt}
 use Rattle.cell_library.specs.Additions.{children_in}
 use Rattle.cell_library.specs.Libraries.{LibraryParts, seen}
 use Rattle.cell_library.specs.Views.{LibraryView, view_at}
@@ -17,9 +19,11 @@ use Rattle.workspace.specs.States.{Workspace}
 abbrev pub told_lines : LibraryView → Extracted → List ReportLine
 told_lines library told = map (unattached_line (view_at library told.cell.0).name) told.unattached
 
--- a record is kept of the cell
-abbrev pub HasKeptRecord : Records → Extracted → Type 0
-HasKeptRecord records told = IsSome (record_in records told.cell.0)
+-- A lawful record is kept of the cell.
+pub record HasLawfulRecord (records : Records) (told : Extracted) : Type 0 where
+  pub ext : ArrayExt
+  pub is_kept : record_in records told.cell.0 ≡ Some ext
+  pub lawful : IsLawfulArrayExt ext
 
 -- the circuit file of the cell, with the text of the record that is kept of it
 abbrev pub kept_store : LibraryView → Records → Extracted → Option Store

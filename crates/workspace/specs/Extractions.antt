@@ -6,14 +6,13 @@ use Rattle.use_orders.specs.LibraryOrder.{IsLibraryOrder}
 use Rattle.session_model.specs.declared.answer.Store.{Store}
 use Rattle.session_model.specs.declared.report.ReportLine.{ReportLine}
 use Rattle.session_model.specs.Effects.{Effect}
-use Rattle.ext_model.specs.declared.records.CellExt.{CellExt}
+use Rattle.ext_model.specs.declared.arrays.ArrayExt.{ArrayExt}
 use Rattle.ext_text.specs.WrittenTexts.{ext_text}
 use Rattle.names.specs.Attachments.{AreUnattached}
 use Rattle.cell_library.specs.Additions.{children_in}
 use Rattle.cell_library.specs.Views.{LibraryView, cell_named, view_at}
 use Rattle.hier_merge.specs.UncleanCells.{IsCleanCell, IsUncleanBelow}
-use Rattle.tree_records.specs.TreeRecords.{IsTreeRecord}
-use Rattle.library_trees.specs.NamedCells.{named_tree_at}
+use Rattle.kept_records.specs.CellRecords.{IsRecordOf}
 use Rattle.ext_loading.specs.ExtFiles.{ext_file}
 use Rattle.line_answers.specs.declared.refusals.Refusal.{Refusal}
 use Rattle.line_answers.specs.LineEffects.{refused, reply}
@@ -31,21 +30,17 @@ OnCell number state name Means effect =
     (effect ≡ refused number state (no_cell name) [])
     (λ cell. Means work cell effect))
 
--- The record is that of the cell.
-abbrev pub IsRecordOf : LibraryView → ℕ → CellExt → Type 0
-IsRecordOf library cell ext = IsTreeRecord library.tech (named_tree_at library cell) ext
-
 -- `unattached CELL TEXT`
 abbrev pub unattached_line : List ℕ → List ℕ → ReportLine
 unattached_line cell text = reply (codes "unattached " ++ cell ++ codes " " ++ text)
 
 -- the circuit file of the cell of this name with the text of its record
-abbrev pub ext_store : List ℕ → CellExt → Store
+abbrev pub ext_store : List ℕ → ArrayExt → Store
 ext_store cell ext = record { name = ext_file cell; bytes = ext_text ext }
 
 -- A record of the cell is made and stored, and these of its labels name nothing.
 pub record MakesRecord (library : LibraryView) (cell : ℕ) (lines : List ReportLine) (store : Store) : Type 0 where
-  pub ext : CellExt
+  pub ext : ArrayExt
   pub is_record : IsRecordOf library cell ext
   pub texts : List (List ℕ)
   pub are_unattached : AreUnattached library.tech (view_at library cell).own (view_at library cell).labels texts

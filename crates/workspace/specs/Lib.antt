@@ -4,4 +4,5 @@ pub mod CellCircuits
 pub mod Extracting
 pub mod Extractions
 pub mod KeptSessions
+pub mod ReadBack
 pub mod States

@@ -1,7 +1,7 @@
 //! The circuits of cells.
 ghost use Rattle.std.specs.Prelude.{◌<◌, IfOk, IsOkUnless, length};
 ghost use Rattle.cell_library.specs.Libraries.{seen};
-ghost use Rattle.circuit_model.specs.Elements.{AreRecords};
+ghost use Rattle.plain_records.specs.Plains.{AreArrayRecords, plains};
 ghost use Rattle.ext_cache.specs.Caches.{Agrees};
 ghost use Rattle.hier_merge.specs.UncleanCells.{IsCleanCell};
 ghost use Rattle.library_trees.specs.NamedCells.{named_tree_at};
@@ -13,7 +13,7 @@ use crate::cells::Edited;
 use cell_library::Reader;
 use circuit_laws::flat_transistors_have_letter_and_lengths;
 use circuit_model::{CircuitLimit, FlatFault};
-use ext_model::{CellExt, CellKey, Circuit};
+use ext_model::{ArrayExt, CellKey, Circuit};
 use flatten::flatten;
 use kept_records::listed_records_are_of_the_tree;
 use library_trees::{chains_are_short, clean_cell_has_clean_tree};
@@ -51,12 +51,12 @@ fn flatten_records(
     alloc: Global,
     library: &Reader<'_>,
     cell: CellKey,
-    exts: &[CellExt],
+    exts: &[ArrayExt],
 ) -> Result<Flattened, Halt>
     requires cell { cell.0 < length library.now.contents }
     requires clean { IsCleanCell (seen library.now) cell.0 }
-    requires records { AreRecords exts.now }
-    requires tree { HasTreeRecords library.now.tech exts.now (named_tree_at (seen library.now) cell.0) }
+    requires records { AreArrayRecords exts.now }
+    requires tree { HasTreeRecords library.now.tech (plains exts.now) (named_tree_at (seen library.now) cell.0) }
     ensures flattened { IfOk result (IsFlattenedAt (seen library.now) cell.0) }
     ensures memory { IsOkUnless result Halt.Memory }
 {

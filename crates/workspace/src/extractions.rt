@@ -6,7 +6,8 @@ ghost use Rattle.cell_library.specs.Views.{view_at};
 ghost use Rattle.ext_cache.specs.Caches.{Agrees, Extracts};
 ghost use Rattle.ext_cache.specs.Refusals.{IsUncleanFault};
 ghost use Rattle.workspace.specs.KeptSessions.{IsEdited, edited_state};
-ghost use Rattle.workspace.specs.Extracting.{HasKeptRecord, IsExtracted, kept_store, told_lines};
+ghost use Rattle.ext_model.specs.LawfulArrays.{IsLawfulArrayExt};
+ghost use Rattle.workspace.specs.Extracting.{HasLawfulRecord, IsExtracted, kept_store, told_lines};
 ghost use Rattle.workspace.specs.Extractions.{ext_store, unattached_line, unclean_refusal};
 ghost use Rattle.line_answers.specs.Refusals.{refusal_line};
 ghost use Rattle.square_lines.specs.Offending.{offending_line};
@@ -14,7 +15,7 @@ ghost use Rattle.square_lines.specs.Offending.{offending_line};
 use crate::cells::Edited;
 use cell_library::{Library, Opened, Reader};
 use ext_cache::{Cache, ExtractFault, Extracted, Unclean, extract_dirty};
-use ext_model::{CellExt, CellKey};
+use ext_model::{ArrayExt, CellKey};
 use ext_text::write_ext;
 use line_answers::{append_with_name, file_name, named, refused_line, reply};
 use names_lists::{List, Name};
@@ -99,7 +100,7 @@ fn records_made(
     made: &[Extracted],
 ) -> Result<Extraction, Halt>
     requires cells { All (λ told. told.cell.0 < length library.now.contents) made.now }
-    requires kept { All (HasKeptRecord cache.now) made.now }
+    requires kept { All (HasLawfulRecord cache.now) made.now }
     ensures lines { IfOk result (λ made_of. made_of.lines ≡ flat_map (told_lines (seen library.now)) made.now) }
     ensures stores { IfOk result (λ made_of. map (λ store. Some store) made_of.stores ≡ map (kept_store (seen library.now) cache.now) made.now) }
     ensures count { IfOk result (λ made_of. made_of.count ≡ length made.now) }
@@ -138,7 +139,7 @@ fn records_stored(
     made: &[Extracted],
 ) -> Result<Vec<Store>, Halt>
     requires cells { All (λ told. told.cell.0 < length library.now.contents) made.now }
-    requires kept { All (HasKeptRecord cache.now) made.now }
+    requires kept { All (HasLawfulRecord cache.now) made.now }
     ensures stores { IfOk result (λ stores. map (λ store. Some store) stores.items ≡ map (kept_store (seen library.now) cache.now) made.now) }
     ensures memory { IsOkUnless result Halt.Memory }
 {
@@ -157,7 +158,8 @@ fn records_stored(
 }
 
 // The file of the record of the cell of this name.
-fn record_stored(alloc: Global, name: &Name, ext: &CellExt) -> Result<Store, Halt>
+fn record_stored(alloc: Global, name: &Name, ext: &ArrayExt) -> Result<Store, Halt>
+    requires { IsLawfulArrayExt ext.now }
     ensures store { IfOk result (λ store. store ≡ ext_store name.now ext.now) }
     ensures memory { IsOkUnless result Halt.Memory }
 {

@@ -1,20 +1,20 @@
-use Rattle.std.proofs.Common.{◌≤◌, ℕ, List, length, sym, ◌∙◌, arith}
-use Rattle.std.proofs.lemmas.Option.{slice_get_within}
+use Rattle.std.proofs.Common.{◌≡◌, ◌≤◌, ℕ, List, [], length, map, ap, sym, Some, ◌∙◌, arith}
+use Rattle.std.specs.Prelude.{slice_get}
+use Rattle.std.specs.Option.{option_map}
+use Rattle.std.proofs.lemmas.List.{length-map, take_all}
+use Rattle.std.proofs.lemmas.Option.{slice_get-map, slice_get_within}
+use Rattle.geo_core.specs.Images.{six_of}
+use Rattle.ext_model.specs.declared.arrays.ArrayUse.{ArrayUse}
 use Rattle.cell_tree.specs.declared.use_tables.UseBody.{UseBody}
 use Rattle.cell_library.specs.Libraries.{seen}
 use Rattle.cell_library.specs.Views.{view_at}
 use Rattle.cell_library.proofs.ElementCounts.{use_is_lawful}
-use Rattle.element_paths.proofs.StartLaws.{none_past}
-use Rattle.use_records.proofs.RecordLaws.{few_uses, records_all, records_from, records_in, records_on}
+use Rattle.kept_records.specs.CellRecords.{library_use, library_uses}
+use Rattle.use_records.proofs.RecordLaws.{added_on, few_uses, none_past}
 use Rattle.use_records.proofs.use_records.Goals as goal
 
-pub push_elements-requires-clause-lawful : goal.push_elements-requires-clause-lawful
-push_elements-requires-clause-lawful c =
-    (use_is_lawful c.args.library.now c.lawful.ensures c.args.cell.0 c.requires c.loop-id.k c.in-Some.id.now c.in-Some.used.now
-    (sym c.in-Some.ensures)).0
-
-pub push_elements-requires-clause-child : goal.push_elements-requires-clause-child
-push_elements-requires-clause-child c =
+pub name_of-requires : goal.name_of-requires
+name_of-requires c =
     (use_is_lawful c.args.library.now c.lawful.ensures c.args.cell.0 c.requires c.loop-id.k c.in-Some.id.now c.in-Some.used.now
     (sym c.in-Some.ensures)).1
 
@@ -35,13 +35,32 @@ pub loop-id-preserved : goal.loop-id-preserved
 loop-id-preserved c =
     let view = seen c.args.library.now in
     let uses : List (List ℕ × UseBody) = (view_at view c.args.cell.0).uses in
-    records_on view uses c.loop-id.k c.in-Some.id.now c.in-Some.used.now c.loop-id.records.items c.push_elements.new.records.items
-    (records_from view uses) (sym c.in-Some.ensures) c.loop-id.invariant c.in_ok-push_elements.ensures
+    let entry : List ℕ × UseBody = (c.in-Some.id.now, c.in-Some.used.now) in
+    let at : slice_get (library_uses view c.args.cell.0) c.loop-id.k ≡ Some (library_use view entry) =
+    slice_get-map (library_use view) uses c.loop-id.k ∙ ap (option_map (library_use view)) (sym c.in-Some.ensures) in
+    let made : ArrayUse = c.in_ok-record.record in
+    let named : c.name_of.result.now ≡ (view_at view c.in-Some.used.now.child.0).name = c.name_of.ensures in
+    let full : made
+    ≡ record {
+      cell = c.name_of.result.now;
+      id = c.in-Some.id.now;
+      six = six_of c.in-Some.used.now.placed;
+      grid = c.in-Some.used.now.grid;
+    } = c.in_ok-record.ensures in
+    let same : made ≡ library_use view entry =
+    full
+    ∙ (λ i. record {
+      cell = named i;
+      id = c.in-Some.id.now;
+      six = six_of c.in-Some.used.now.placed;
+      grid = c.in-Some.used.now.grid;
+    }) in
+    added_on (library_uses view c.args.cell.0) c.loop-id.k made [] c.loop-id.records.items c.push.new.self.items (at ∙ ap Some (sym same))
+    c.loop-id.invariant c.in_ok-push.ensures.items
 
 pub returns : goal.returns
 returns c =
     let view = seen c.args.library.now in
     let uses : List (List ℕ × UseBody) = (view_at view c.args.cell.0).uses in
     let past : length uses ≤ c.loop-id.k = none_past uses c.loop-id.k (sym c.in_default.ensures) in
-    records_all view uses c.loop-id.k c.loop-id.records.items (records_from view uses) past c.loop-id.invariant
-    ∙ records_in c.args.library.now c.lawful.ensures c.args.cell.0 c.requires
+    c.loop-id.invariant ∙ take_all c.loop-id.k (library_uses view c.args.cell.0) (omega (arith, past, length-map uses (library_use view)))

@@ -1,14 +1,12 @@
-use Rattle.std.proofs.Common.{◌≡◌, ◌-◌, ◌++◌, drop, length}
+use Rattle.std.proofs.Common.{◌≡◌, ◌-◌, length, take}
 use Rattle.cell_library.specs.Libraries.{seen}
 use Rattle.cell_library.specs.Views.{view_at}
-use Rattle.use_records.proofs.RecordLaws.{records_from}
+use Rattle.kept_records.specs.CellRecords.{library_uses}
 use Rattle.use_records.proofs.use_records.Given as goal
 
--- the records so far and those of the uses that are left are all
+-- the records so far are those of the first uses
 abbrev pub invariant-loop-id : goal.invariant-loop-id
-invariant-loop-id l =
-    l.records.items ++ records_from (seen l.library) (drop l.k (view_at (seen l.library) l.cell.0).uses)
-    ≡ records_from (seen l.library) (view_at (seen l.library) l.cell.0).uses
+invariant-loop-id l = l.records.items ≡ take l.k (library_uses (seen l.library) l.cell.0)
 
 abbrev pub decreases-loop-id : goal.decreases-loop-id
 decreases-loop-id l = length (view_at (seen l.library) l.cell.0).uses - l.k

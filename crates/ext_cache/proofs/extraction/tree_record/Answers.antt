@@ -12,8 +12,8 @@ use Rattle.kept_records.specs.KeptRecords.{HaveKeptRecordsBelow}
 use Rattle.cell_library.specs.Views.{view_at}
 use Rattle.cell_paint.specs.Paints.{layout_of}
 use Rattle.own_records.specs.OwnRecords.{IsOwnRecord}
-use Rattle.cell_records.specs.declared.records.CellRecord.{CellRecord}
 use Rattle.library_labels.proofs.LabelLaws.{labels_may_name}
+use Rattle.ext_cache.specs.declared.extraction.MadeRecord.{MadeRecord}
 use Rattle.ext_cache.proofs.MadeLaws.{found_empty, made_is_now, own_record_of}
 use Rattle.ext_cache.proofs.extraction.tree_record.Goals as goal
 
@@ -47,7 +47,7 @@ returns-clause-record g c =
     own_record_of c.tech.result.now library.tech (layout_of c.open.result.now) body.own c.labels_of.result.now body.labels c.name_of.result.now body.name
     own.ext c.tech.ensures c.open.ensures.own c.labels_of.ensures c.name_of.ensures c.in_ok-own.ensures.record in
     IfOk-weaker c.with_relations.result _ _
-    (λ (made : CellRecord) is. made_is_now library c.args.cell.0 own related made c.tree_record_is_lawful.ensures
+    (λ (made : MadeRecord) is. made_is_now library c.args.cell.0 own related made c.lawful.ensures c.requires.cell c.record_is_lawful.ensures
     (c.in_ok-related.ensures.clean.0 none) is_own (c.in_ok-related.ensures.merges none) is) c.with_relations.ensures.made
 
 pub returns-clause-steps : goal.returns-clause-steps

@@ -1,7 +1,7 @@
 use Rattle.std.proofs.Common.{◌∙◌, ◌++◌, ap, ℕ, List, map}
 use Rattle.std.proofs.lemmas.Iterator.Adapters.{YieldsList-from_rev_slice}
 use Rattle.std.proofs.lemmas.Iterator.Consumers.{YieldsList-end}
-use Rattle.ext_model.specs.declared.records.UseRec.{UseRec}
+use Rattle.ext_model.specs.declared.arrays.ArrayUse.{ArrayUse}
 use Rattle.ext_loading.proofs.ReadingLaws.{map-reverse}
 use Rattle.ext_loading.proofs.walks.ask_for.Goals as goal
 
@@ -12,5 +12,5 @@ returns-clause-asked c =
     let all = YieldsList-end (YieldsList-from_rev_slice c.args.uses.now rest) c.loop-used.yielded _ c.loop-used.yielded_by _ _ c.in-None.is
     c.next.ensures.steps in
     c.loop-used.invariant
-    ∙ ap (λ (uses : List UseRec). c.args.left.now.items ++ map (λ used. used.cell) uses) all.0
-    ∙ ap (λ (names : List (List ℕ)). c.args.left.now.items ++ names) (map-reverse (λ (used : UseRec). used.cell) c.args.uses.now)
+    ∙ ap (λ (uses : List ArrayUse). c.args.left.now.items ++ map (λ used. used.cell) uses) all.0
+    ∙ ap (λ (names : List (List ℕ)). c.args.left.now.items ++ names) (map-reverse (λ (used : ArrayUse). used.cell) c.args.uses.now)

@@ -1,4 +1,3 @@
-use Rattle.ext_text.specs.NodeLines.{node_words, node_line}
 use Rattle.ext_text.proofs.AppendedLines.{node_with_end}
 use Rattle.ext_text.proofs.nodes.write_node.Goals as goal
 

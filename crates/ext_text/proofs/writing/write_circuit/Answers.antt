@@ -1,9 +1,10 @@
-use Rattle.std.proofs.Common.{ℕ, List, ◌++◌, map, refl, sym, subst, ap, ◌∙◌}
+use Rattle.std.proofs.Common.{ℕ, List, ◌++◌, map, subst, ap, ◌∙◌}
+use Rattle.std.specs.Prelude.{codes}
 use Rattle.std.specs.List.{flat_map}
 use Rattle.std.proofs.lemmas.Result.{err_from_is_err_and}
 use Rattle.ext_model.specs.declared.records.NodeRec.{NodeRec}
 use Rattle.ext_model.specs.declared.records.FetRec.{FetRec}
-use Rattle.ext_text.specs.WrittenTexts.{header_words, node_lines, fet_words, lines_text, flat_text, IsTooLong}
+use Rattle.ext_text.specs.WrittenTexts.{header_words, node_lines, fet_words, lines_text, IsTooLong}
 use Rattle.ext_text.proofs.AppendedLines.{passed_on, flat_written, nodes_too_long}
 use Rattle.ext_text.proofs.writing.write_circuit.Goals as goal
 
@@ -12,7 +13,7 @@ returns-in_err-write_nodes_within-clause-refused c =
     let circuit = c.args.circuit.now in
     let fault = c.in_err-write_nodes_within.field-0.0 in
     let header = c.in_ok-write_header.ensures ∙ ap (λ (classes : List ℕ). c.args.out.now.items ++ lines_text
-    (header_words circuit.tech classes)) c.items.ensures in
+    (header_words (codes "1") circuit.tech classes)) c.items.ensures in
     passed_on c.from_residual-in_err-write_nodes_within.result fault _
     (err_from_is_err_and c.from_residual-in_err-write_nodes_within.result c.from_residual-in_err-write_nodes_within.ensures.1)
     (λ other.
@@ -26,7 +27,7 @@ returns-in_err-write_fets_within-clause-refused c =
     let circuit = c.args.circuit.now in
     let fault = c.in_err-write_fets_within.field-0.0 in
     let header = c.in_ok-write_header.ensures ∙ ap (λ (classes : List ℕ). c.args.out.now.items ++ lines_text
-    (header_words circuit.tech classes)) c.items.ensures in
+    (header_words (codes "1") circuit.tech classes)) c.items.ensures in
     let nodes = c.in_ok-write_nodes_within.ensures.written ∙ ap (λ (nodes : List NodeRec). c.write_header.new.out.items ++ lines_text
     (flat_map node_lines nodes)) c.items-2.ensures in
     let whole = flat_written circuit c.args.out.now.items c.write_header.new.out.items c.write_nodes_within.new.out.items
@@ -40,7 +41,7 @@ pub returns-clause-written : goal.returns-clause-written
 returns-clause-written c =
     let circuit = c.args.circuit.now in
     let header = c.in_ok-write_header.ensures ∙ ap (λ (classes : List ℕ). c.args.out.now.items ++ lines_text
-    (header_words circuit.tech classes)) c.items.ensures in
+    (header_words (codes "1") circuit.tech classes)) c.items.ensures in
     let nodes = c.in_ok-write_nodes_within.ensures.written ∙ ap (λ (nodes : List NodeRec). c.write_header.new.out.items ++ lines_text
     (flat_map node_lines nodes)) c.items-2.ensures in
     flat_written circuit c.args.out.now.items c.write_header.new.out.items c.write_nodes_within.new.out.items c.write_fets_within.new.out.items header nodes

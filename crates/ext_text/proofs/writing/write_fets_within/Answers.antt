@@ -1,4 +1,4 @@
-use Rattle.std.proofs.Common.{subst, sym, ◌∙◌}
+use Rattle.std.proofs.Common.{◌∙◌}
 use Rattle.std.proofs.lemmas.Result.{err_from_is_err_and}
 use Rattle.ext_text.specs.WrittenTexts.{fet_words}
 use Rattle.ext_text.proofs.AppendedLines.{none_yet, line_more, passed_on, some_too_long}

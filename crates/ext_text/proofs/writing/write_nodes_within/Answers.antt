@@ -1,4 +1,4 @@
-use Rattle.std.proofs.Common.{◌++◌, ◌+◌, map, refl, ◌∙◌, sym}
+use Rattle.std.proofs.Common.{◌++◌, ◌+◌, map, refl, ◌∙◌}
 use Rattle.std.proofs.lemmas.Result.{err_from_is_err_and}
 use Rattle.ext_text.specs.WrittenTexts.{equiv_words, node_lines, lines_text}
 use Rattle.ext_text.proofs.AppendedLines.{none_yet, lines_more, node_written, passed_on, some_nodes_too_long}

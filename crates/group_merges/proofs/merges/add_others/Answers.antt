@@ -41,9 +41,10 @@ loop-other-preserved c =
     let first = name_read members c.args.first c.index.result.now c.requires.first c.index.ensures in
     let other = name_read members c.in-Some.other c.index-in-Some.result.now next.within c.index-in-Some.ensures in
     up_to_more c.args.linked.now (λ other. merge_of (name_at members c.args.first) other (adjustment_of c.args.nothing.now))
-    c.args.second c.loop-other.place c.in-Some.other c.index-in-loop-other.result.now c.args.merges.now.items c.loop-other.merges.items c.push.new.self.items
-    c.in_ok-merge.field-0 c.requires.linked is_next (c.in_ok-merge.ensures ∙ (λ i. merge_of (first i) (other i) (adjustment_of c.args.nothing.now)))
-    c.in_ok-push.ensures.items c.loop-other.invariant
+    c.args.second c.loop-other.place c.in-Some.other c.index-in-loop-other.result.now c.args.merges.now.items c.loop-other.merges.items
+    c.push_merge.new.rows.items c.in_ok-merge.field-0 c.requires.linked is_next
+    (c.in_ok-merge.ensures ∙ (λ i. merge_of (first i) (other i) (adjustment_of c.args.nothing.now)))
+    c.in_ok-push_merge.ensures c.loop-other.invariant
 
 pub returns : goal.returns
 returns c =

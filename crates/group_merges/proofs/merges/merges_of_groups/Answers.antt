@@ -1,6 +1,6 @@
 use Rattle.std.proofs.Common.{sym, subst, arith}
 use Rattle.std.proofs.Common.{◌+◌, Vec, Global, [], length}
-use Rattle.ext_model.specs.declared.records.MergeRec.{MergeRec}
+use Rattle.ext_model.specs.declared.arrays.MergeRow.{MergeRow}
 use Rattle.group_merges.specs.Groups.{groups_before, AddsMerges}
 use Rattle.group_merges.proofs.GroupLaws.{groups_added, groups_kept}
 use Rattle.group_merges.proofs.WalkLaws.{mark_within}
@@ -23,11 +23,11 @@ loop-place-preserved c =
     let sums = c.args.sums.now in
     let nothing = c.args.nothing.now in
     let place = c.loop-place.place in
-    let P : Vec MergeRec Global → Type 0 = λ merges. AddsMerges nothing (groups_before members sums (place + 1)) [] merges.items in
+    let P : Vec MergeRow Global → Type 0 = λ rows. AddsMerges nothing (groups_before members sums (place + 1)) [] rows.items in
     elim c.if-is_first.branch [
-      | then-is_first+in_ok-add_group w ↦ subst P (sym w.merges-is)
-          (groups_added members sums nothing place c.loop-place.merges.items w.add_group.new.merges.items (sym w.if-is_first.ensures)
+      | then-is_first+in_ok-add_group w ↦ subst P (sym w.rows-is)
+          (groups_added members sums nothing place c.loop-place.rows.items w.add_group.new.merges.items (sym w.if-is_first.ensures)
           w.in_ok-add_group.ensures c.loop-place.invariant)
-      | else-is_first w ↦ subst P (sym w.merges-is)
-          (groups_kept members sums nothing place c.loop-place.merges.items (sym w.if-is_first.ensures) c.loop-place.invariant)
+      | else-is_first w ↦ subst P (sym w.rows-is)
+          (groups_kept members sums nothing place c.loop-place.rows.items (sym w.if-is_first.ensures) c.loop-place.invariant)
     ]

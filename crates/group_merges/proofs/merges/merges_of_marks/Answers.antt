@@ -1,6 +1,8 @@
-use Rattle.std.proofs.Common.{◌<◌, [], All, Vec, Global, length, sym, subst}
+use Rattle.std.proofs.Common.{◌<◌, [], All, List, Vec, Global, length, sym, subst}
 use Rattle.std.proofs.lemmas.Result.{IfOk-weaker}
 use Rattle.ext_model.specs.declared.records.MergeRec.{MergeRec}
+use Rattle.ext_model.specs.declared.arrays.MergeRow.{MergeRow}
+use Rattle.ext_model.specs.Rows.{AreRowsOf}
 use Rattle.group_merges.specs.declared.members.Member.{Member}
 use Rattle.group_merges.specs.Groups.{all_groups, AddsMerges}
 use Rattle.group_merges.specs.MarkMerges.{AreMergesOfMarks}
@@ -20,9 +22,10 @@ returns c =
     let linked = c.in_ok-linked.linked.members.items in
     let nothing = c.in_ok-nothing.nothing in
     let sums = c.args.sums.now in
-    let P : Vec MergeRec Global → Type 0 = λ merges. AddsMerges nothing (all_groups linked sums) [] merges.items in
-    let Q : Vec MergeRec Global → Type 0 = λ merges. AreMergesOfMarks c.args.tech.now c.args.names.now c.args.marks.now sums merges.items in
+    let P : Vec MergeRow Global → Type 0 = λ rows. AddsMerges nothing (all_groups linked sums) [] rows.items in
+    let Q : Vec MergeRow Global → Type 0 = λ rows.
+    (merges : List MergeRec) × AreMergesOfMarks c.args.tech.now c.args.names.now c.args.marks.now sums merges × AreRowsOf merges rows.items in
     IfOk-weaker c.merges_of_groups.result P Q
-    (λ merges. merges_marked c.args.tech.now c.args.names.now c.args.marks.now sums c.in_ok-members.members.items linked nothing
-    c.in_ok-members.ensures c.requires.within c.in_ok-linked.ensures.members c.in_ok-nothing.ensures merges.items)
+    (λ rows. merges_marked c.args.tech.now c.args.names.now c.args.marks.now sums c.in_ok-members.members.items linked nothing
+    c.in_ok-members.ensures c.requires.within c.in_ok-linked.ensures.members c.in_ok-nothing.ensures rows.items)
     c.merges_of_groups.ensures

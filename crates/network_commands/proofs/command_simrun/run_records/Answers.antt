@@ -1,7 +1,7 @@
 use Rattle.std.proofs.Common.{rules}
 use Rattle.std.proofs.lemmas.Result.{IfOk-weaker}
 use Rattle.switch_net.specs.Net.{network_of}
-use Rattle.network_commands.specs.Simulations.{IsNetOf, PassesNet}
+use Rattle.network_runs.specs.Simulations.{IsNetOf, PassesNet}
 use Rattle.line_answers.proofs.AnswerLaws.{both_ok}
 use Rattle.network_commands.proofs.SimulationCommands.{net_refused, net_run}
 use Rattle.network_commands.proofs.command_simrun.run_records.Goals as goal

@@ -3,8 +3,7 @@ use Rattle.std.proofs.lemmas.Result.{IfOk-weaker}
 use Rattle.sim_text.specs.SimTexts.{sim_in}
 use Rattle.line_answers.proofs.AnswerLaws.{both_ok}
 use Rattle.line_answers.proofs.CauseLaws.{causes_of_inside}
-use Rattle.network_commands.proofs.SimulationCommands.{read_refused, read_run}
-use Rattle.network_commands.proofs.SimulationLaws.{sim_inside}
+use Rattle.network_commands.proofs.SimulationCommands.{read_refused, read_run, sim_inside}
 use Rattle.network_commands.proofs.command_simrun.run_text.Goals as goal
 
 pub returns-in-Ok-clause-effect : goal.returns-in-Ok-clause-effect

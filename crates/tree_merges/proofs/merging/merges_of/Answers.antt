@@ -78,9 +78,12 @@ returns-clause-merges g c =
     let records =
     records_below library c.lawful.ensures (records_in c.args.records.now) cell c.requires.cell c.kept_records_are_of_the_tree.ensures
     c.requires.records nodes.0 nodes.1 in
+    let found = c.in_ok-merges.ensures in
+    let group =
     merges_of_cell library.tech (named_tree_at (seen library) cell) (tree_at (seen library) cell)
     (c.named_trees_have_the_layouts.ensures (seen library) cell) meeting members regions c.requires.pieces are_members are_regions
     (c.clean_cell_has_clean_tree.ensures c.requires.clean) c.lawful.ensures.well_formed c.lawful.ensures.rules
     (subst RecordedPartsHaveMembers tech c.recorded_parts_have_members.ensures)
-    (subst MarkedGroupsAreRecorded tech c.marked_groups_are_recorded.ensures) records c.in_ok-merges.merges.items
-    (subst (λ (raw : RawTech). AreMarkedMerges raw meeting members regions c.in_ok-merges.merges.items) tech c.in_ok-merges.ensures)
+    (subst MarkedGroupsAreRecorded tech c.marked_groups_are_recorded.ensures) records found.0
+    (subst (λ (raw : RawTech). AreMarkedMerges raw meeting members regions found.0) tech found.1) in
+    (found.0, group, found.2)

@@ -96,12 +96,15 @@ returns c =
     subst (λ (all : List ℕ). AreMeetingSums raw parts stacks all c.in_ok-marks.marks.count c.in_ok-sums.sums.items) c.as_slice-3.ensures.value
     (subst (λ (all : List PlaneStack). AreMeetingSums raw parts all c.as_slice-3.result.now c.in_ok-marks.marks.count c.in_ok-sums.sums.items)
     c.as_slice-2.ensures.value found)) in
-    let merges : AreMergesOfMarks raw c.args.members.now.names.items labels c.in_ok-sums.sums.items c.in_ok-merges.merges.items =
-    subst (λ (all : List MeetingSum). AreMergesOfMarks raw c.args.members.now.names.items labels all c.in_ok-merges.merges.items)
+    let found = c.in_ok-merges.ensures in
+    let merges : AreMergesOfMarks raw c.args.members.now.names.items labels c.in_ok-sums.sums.items found.0 =
+    subst (λ (all : List MeetingSum). AreMergesOfMarks raw c.args.members.now.names.items labels all found.0)
     c.as_slice-6.ensures.value
-    (subst (λ (all : List ℕ). AreMergesOfMarks raw c.args.members.now.names.items all c.as_slice-6.result.now c.in_ok-merges.merges.items)
+    (subst (λ (all : List ℕ). AreMergesOfMarks raw c.args.members.now.names.items all c.as_slice-6.result.now found.0)
     c.as_slice-5.ensures.value
-    (subst (λ (all : List (List ℕ)). AreMergesOfMarks raw all c.as_slice-5.result.now c.as_slice-6.result.now c.in_ok-merges.merges.items)
-    c.as_slice-4.ensures.value c.in_ok-merges.ensures)) in
+    (subst (λ (all : List (List ℕ)). AreMergesOfMarks raw all c.as_slice-5.result.now c.as_slice-6.result.now found.0)
+    c.as_slice-4.ensures.value found.1)) in
+    let marked =
     marked_merges raw c.args.meeting.now c.args.members.now c.args.regions.now labels c.in_ok-marks.marks.count c.in_ok-groups.groups.items
-    c.in_ok-sums.sums.items c.in_ok-merges.merges.items c.requires.pieces c.requires.numbered.one_each c.in_ok-marks.ensures.marks groups sums merges
+    c.in_ok-sums.sums.items found.0 c.requires.pieces c.requires.numbered.one_each c.in_ok-marks.ensures.marks groups sums merges in
+    (found.0, marked, found.2)

@@ -1,8 +1,8 @@
 use Rattle.std.proofs.Common.{◌<◌, List, length, sym, subst}
 use Rattle.std.specs.Prelude.{All, IfOk, IsSome}
-use Rattle.ext_model.specs.declared.records.CellExt.{CellExt}
+use Rattle.ext_model.specs.declared.arrays.ArrayExt.{ArrayExt}
 use Rattle.ext_model.specs.declared.tables.CellKey.{CellKey}
-use Rattle.circuit_model.specs.Elements.{AreRecords}
+use Rattle.plain_records.specs.Plains.{AreArrayRecords, plains}
 use Rattle.cell_library.specs.Libraries.{LibraryParts, seen}
 use Rattle.ext_cache.specs.Caches.{Agrees, record_in}
 use Rattle.library_trees.specs.NamedCells.{named_tree_at}
@@ -46,7 +46,7 @@ flatten_records-requires-clause-records c =
     let there = subst (λ (l : LibraryParts). c.args.cell.0 < length l.contents) back c.requires.cell in
     let fresh = subst (λ (l : LibraryParts). IsFreshBelow l cache c.args.cell.0) back c.requires.fresh in
     let copied = rw c.as_slice.ensures.value at c.in_ok-exts.ensures in
-    subst (λ (exts : List CellExt). AreRecords exts) (sym c.as_slice-2.ensures.value)
+    subst (λ (exts : List ArrayExt). AreArrayRecords exts) (sym c.as_slice-2.ensures.value)
     (are_records library c.lawful.ensures cache agrees c.args.cell.0 there fresh c.in_ok-order.order.items c.in_ok-order.ensures c.in_ok-exts.exts.items copied)
 
 pub flatten_records-requires-clause-tree : goal.flatten_records-requires-clause-tree
@@ -58,7 +58,7 @@ flatten_records-requires-clause-tree c =
     let there = subst (λ (l : LibraryParts). c.args.cell.0 < length l.contents) back c.requires.cell in
     let fresh = subst (λ (l : LibraryParts). IsFreshBelow l cache c.args.cell.0) back c.requires.fresh in
     let copied = rw c.as_slice.ensures.value at c.in_ok-exts.ensures in
-    subst (λ (exts : List CellExt). HasTreeRecords library.tech exts (named_tree_at (seen library) c.args.cell.0)) (sym c.as_slice-2.ensures.value)
+    subst (λ (exts : List ArrayExt). HasTreeRecords library.tech (plains exts) (named_tree_at (seen library) c.args.cell.0)) (sym c.as_slice-2.ensures.value)
     (tree_records library c.lawful.ensures cache agrees c.args.cell.0 there fresh c.in_ok-order.order.items c.in_ok-order.ensures c.in_ok-exts.exts.items copied
     c.listed_records_are_of_the_tree.ensures)
 

@@ -4,6 +4,8 @@ use Rattle.tech_model.specs.declared.raw.RawTech.{RawTech}
 use Rattle.circuit_model.specs.declared.faults.FlatFault.TheVariants.{TooMany as FlatTooMany}
 use Rattle.circuit_model.specs.Elements.{ext_of}
 use Rattle.circuit_model.specs.Refusals.{IsFlatFaultOf, IsFlatOf}
+use Rattle.plain_records.specs.Plains.{plains}
+use Rattle.plain_records.proofs.PlainLaws.{plains_are_records}
 use Rattle.cell_library.specs.Libraries.{seen}
 use Rattle.cell_library.specs.Views.{view_at}
 use Rattle.network_laws.specs.NetworkLaws.{FlatCircuitsHaveLetters}
@@ -12,37 +14,38 @@ use Rattle.workspace.proofs.cell_circuits.flatten_records.Goals as goal
 
 pub flatten-requires-clause-root : goal.flatten-requires-clause-root
 flatten-requires-clause-root c =
-    let found = root_found c.args.library.now c.lawful.ensures c.args.cell.0 c.requires.cell c.requires.clean c.args.exts.now c.requires.records
-    c.requires.tree in
-    subst (λ (name : List ℕ). IsSome (ext_of c.args.exts.now name)) (sym c.name_of.ensures) found
+    let exts = plains c.args.exts.now in
+    let found = root_found c.args.library.now c.lawful.ensures c.args.cell.0 c.requires.cell c.requires.clean exts
+    (plains_are_records c.args.exts.now c.requires.records) c.requires.tree in
+    subst (λ (name : List ℕ). IsSome (ext_of exts name)) (sym c.name_of.ensures) found
 
 pub returns-in-Ok-clause-flattened : goal.returns-in-Ok-clause-flattened
 returns-in-Ok-clause-flattened c =
     let library = c.args.library.now in
-    let exts = c.args.exts.now in
+    let exts = plains c.args.exts.now in
     let flat : IsFlatOf exts (view_at (seen library) c.args.cell.0).name c.in-Ok.circuit =
     subst (λ (name : List ℕ). IsFlatOf exts name c.in-Ok.circuit) c.name_of.ensures c.in-Ok.ensures.meaning in
     let letters : FlatCircuitsHaveLetters library.tech =
     subst (λ (raw : RawTech). FlatCircuitsHaveLetters raw) c.tech.ensures c.flat_circuits_have_letters.ensures in
-    flattened_is library c.lawful.ensures c.args.cell.0 c.requires.cell c.requires.clean exts c.requires.records c.requires.tree
+    flattened_is library c.lawful.ensures c.args.cell.0 c.requires.cell c.requires.clean exts (plains_are_records c.args.exts.now c.requires.records) c.requires.tree
     c.records_stand_for_the_flat_layout.ensures c.clean_cell_has_clean_tree.ensures c.chains_are_short.ensures
     c.flat_transistors_have_letter_and_lengths.ensures c.flat_networks_fit.ensures letters c.in-Ok.circuit flat
 
 pub returns-in-Err-TooMany-clause-flattened : goal.returns-in-Err-TooMany-clause-flattened
 returns-in-Err-TooMany-clause-flattened c =
     let library = c.args.library.now in
-    let exts = c.args.exts.now in
+    let exts = plains c.args.exts.now in
     let told : IsFlatFaultOf exts c.name_of.result.now (FlatTooMany c.in-Err-TooMany.limit) = search rules in
     let fault = subst (λ (name : List ℕ). IsFlatFaultOf exts name (FlatTooMany c.in-Err-TooMany.limit)) c.name_of.ensures told in
-    passes_limit library c.lawful.ensures c.args.cell.0 c.requires.cell c.requires.clean exts c.requires.records c.requires.tree c.in-Err-TooMany.limit fault
+    passes_limit library c.lawful.ensures c.args.cell.0 c.requires.cell c.requires.clean exts (plains_are_records c.args.exts.now c.requires.records) c.requires.tree c.in-Err-TooMany.limit fault
 
 pub unreachable-requires : goal.unreachable-requires
 unreachable-requires c =
     let library = c.args.library.now in
-    let exts = c.args.exts.now in
+    let exts = plains c.args.exts.now in
     let told : IsFlatFaultOf exts c.name_of.result.now c.in-Err.field-0 = search rules in
     let fault = subst (λ (name : List ℕ). IsFlatFaultOf exts name c.in-Err.field-0) c.name_of.ensures told in
-    let why = no_other_fault library c.lawful.ensures c.args.cell.0 c.requires.cell c.requires.clean exts c.requires.records c.requires.tree
+    let why = no_other_fault library c.lawful.ensures c.args.cell.0 c.requires.cell c.requires.clean exts (plains_are_records c.args.exts.now c.requires.records) c.requires.tree
     c.tree_records_have_no_other_fault.ensures c.clean_cell_has_clean_tree.ensures c.chains_are_short.ensures c.in-Err.field-0 fault in
     let is_limit : c.in-Err.field-0 ≡ FlatTooMany why.0 = why.1 in
     search (rules, is_limit)

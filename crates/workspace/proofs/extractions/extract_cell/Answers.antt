@@ -4,7 +4,7 @@ use Rattle.std.specs.List.{flat_map}
 use Rattle.cell_library.specs.Libraries.{LibraryParts, seen}
 use Rattle.ext_cache.specs.declared.extraction.Extracted.{Extracted}
 use Rattle.ext_cache.specs.Caches.{Agrees, Extracts}
-use Rattle.workspace.specs.Extracting.{HasKeptRecord, kept_store, told_lines}
+use Rattle.workspace.specs.Extracting.{HasLawfulRecord, kept_store, told_lines}
 use Rattle.workspace.proofs.ExtractionLaws.{extraction_told, told_kept, told_there_all}
 use Rattle.square_lines.proofs.UncleanLaws.{offending_planes, unclean_is_cell}
 use Rattle.workspace.proofs.extractions.extract_cell.Goals as goal
@@ -19,7 +19,7 @@ records_made-requires-clause-cells c =
 
 pub records_made-requires-clause-kept : goal.records_made-requires-clause-kept
 records_made-requires-clause-kept c =
-    subst (λ (told : List Extracted). All (HasKeptRecord c.extract_root.new.cache) told) (sym c.as_slice.ensures.value)
+    subst (λ (told : List Extracted). All (HasLawfulRecord c.extract_root.new.cache) told) (sym c.as_slice.ensures.value)
     (told_kept c.reader-library.result c.args.edited.now.cache c.args.cell.0 c.extract_root.new.cache c.in-Ok.made.items c.in-Ok.ensures.extracted
     c.extract_root.ensures.agrees)
 

@@ -5,4 +5,4 @@ use Rattle.record_groups.specs.MergeTables.{FindFirst}
 use Rattle.record_groups.proofs.groups.RecordGroups.of.Given as goal
 
 abbrev pub invariant-loop-number : goal.invariant-loop-number
-invariant-loop-number l = FindFirst l.number (drop l.number l.merges) (λ member. get_by (λ key. bytes_eq member key.now) l.by_second)
+invariant-loop-number l = FindFirst l.number (drop l.number l.rows) (λ member. get_by (λ key. bytes_eq member key.items) l.by_second)

@@ -1,8 +1,9 @@
 use Rattle.std.proofs.Common.{◌≡◌, ◌-◌, ℕ, suc, List, [], ◌∷◌, drop, length, take, Vec, Global, Some, sym, ap, subst, ◌∙◌, arith}
 use Rattle.std.specs.Prelude.{IsSome}
 use Rattle.std.proofs.lemmas.Result.{IfOk-weaker}
-use Rattle.ext_model.specs.declared.records.CellExt.{CellExt}
+use Rattle.ext_model.specs.declared.arrays.ArrayExt.{ArrayExt}
 use Rattle.ext_model.specs.Paths.{path_text}
+use Rattle.ext_model.specs.Plain.{plain}
 use Rattle.ext_model.specs.Tables.{Table, ext_of}
 use Rattle.element_paths.specs.declared.steps.Step.{Step}
 use Rattle.record_groups.specs.Laws.{RecordsTellGroups}
@@ -43,11 +44,11 @@ returns-in_ok-below-in-len1-up-clause-leads t c =
     let same = first_split steps step c.in-len1-up.len_at_least c.step-item.is in
     let tells : RecordsTellGroups library.tech = subst RecordsTellGroups c.tech.ensures c.records_tell_groups.ensures in
     IfOk-weaker c.name_above.result
-    (λ (name : Vec ℕ Global). (ext : CellExt) → ext_of c.climb.new.self.records.now step.child ≡ Some ext
-    → name.items ≡ path_text (step.id ∷ []) (first_member ext.merges c.as_slice.result.now))
+    (λ (name : Vec ℕ Global). (ext : ArrayExt) → ext_of c.climb.new.self.records.now step.child ≡ Some ext
+    → name.items ≡ path_text (step.id ∷ []) (first_member (plain ext).merges c.as_slice.result.now))
     (λ (name : Vec ℕ Global). Climbs library c.lawful.ensures table steps node name.items)
     (λ name named. climbed_more library c.lawful.ensures table tells steps step (take (length steps - 1) (drop 1 steps)) node below name.items same
     c.in_ok-below-in-len1-up.ensures.leads
     (λ ext is.
     named ext (subst (λ (r : Table). ext_of r step.child ≡ Some ext) (sym (ap (λ r. r.now) c.climb.ensures.records)) is)
-    ∙ ap (λ (b : List ℕ). path_text (step.id ∷ []) (first_member ext.merges b)) c.as_slice.ensures.value)) c.name_above.ensures.name
+    ∙ ap (λ (b : List ℕ). path_text (step.id ∷ []) (first_member (plain ext).merges b)) c.as_slice.ensures.value)) c.name_above.ensures.name

@@ -1,5 +1,0 @@
-use Rattle.lawful_trees.proofs.LawfulTrees.{tree_record_lawful}
-use Rattle.lawful_trees.proofs.tree_record_is_lawful.Goals as goal
-
-pub returns : goal.returns
-returns c = tree_record_lawful c.args.library.now c.lawful.ensures c.args.cell.0 c.requires c.typed.ensures

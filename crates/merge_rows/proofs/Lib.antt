@@ -1,0 +1,6 @@
+pub mod AddedRows
+pub mod Tests
+pub mod CutLaws
+pub mod IndexedPaths
+pub mod PushedRows
+pub mod UniqueRows

@@ -1,0 +1,3 @@
+pub mod IndexTexts
+pub mod AddedMerges
+pub mod Laws

@@ -1,0 +1,3 @@
+pub mod NetworkRunLaws
+pub mod SimulationLaws
+pub mod ShownLines

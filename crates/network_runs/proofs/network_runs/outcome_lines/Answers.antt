@@ -1,0 +1,10 @@
+use Rattle.std.proofs.Common.{◌≡◌, ◌∙◌, ◌++◌, ◌∷◌, [], ap}
+use Rattle.stack_runs.specs.Summaries.{summary_of, summary_text}
+use Rattle.line_answers.specs.LineEffects.{reply}
+use Rattle.network_runs.proofs.network_runs.outcome_lines.Goals as goal
+
+pub returns : goal.returns
+returns c =
+    let told : c.reply.result ≡ reply (summary_text (summary_of c.args.n c.args.circuit.now c.args.outcome)) =
+    c.reply.ensures ∙ ap reply (c.in_ok-text.ensures ∙ ap summary_text c.in_ok-summary.ensures) in
+    c.in_ok-push.ensures.items ∙ (λ i. c.in_ok-lines.ensures i ++ told i ∷ [])

@@ -1,0 +1,26 @@
+use Rattle.std.proofs.Common.{ℕ, List, sym, subst}
+use Rattle.std.proofs.lemmas.Result.{IfOk-weaker}
+use Rattle.sim_records.specs.SimRecords.{sim_of}
+use Rattle.switch_net.specs.Net.{network_of}
+use Rattle.network_runs.specs.declared.network_runs.NetworkRun.{NetworkRun}
+use Rattle.network_runs.specs.NetworkRuns.{TellsOn}
+use Rattle.network_runs.specs.Simulations.{TellsVectors}
+use Rattle.network_runs.proofs.SimulationLaws.{tells_net}
+use Rattle.network_runs.proofs.network_runs.run_network.Goals as goal
+
+pub returns-in-Vectors-clause-tells : goal.returns-in-Vectors-clause-tells
+returns-in-Vectors-clause-tells c =
+    let circuit = c.args.circuit.now in
+    let net = network_of c.args.named.now.net in
+    let names = c.args.named.now.names in
+    IfOk-weaker c.vector_lines.result _ _
+    (λ lines tells. subst (λ (run : NetworkRun). TellsOn run c.args.budget c.args.number circuit lines.items) (sym c.in-Vectors.is)
+    (tells_net c.args.budget c.args.number (sim_of circuit) c.in-Vectors.text net names lines.items c.requires.net
+    (subst (λ (text : List ℕ). TellsVectors c.args.budget c.args.number text net names lines.items) c.items.ensures tells)))
+    c.vector_lines.ensures.tells
+
+pub returns-in-Stack-clause-tells : goal.returns-in-Stack-clause-tells
+returns-in-Stack-clause-tells c =
+    IfOk-weaker c.stack_lines.result _ _
+    (λ lines tells. subst (λ (run : NetworkRun). TellsOn run c.args.budget c.args.number c.args.circuit.now lines.items) (sym c.in-Stack.is) tells)
+    c.stack_lines.ensures.tells

@@ -1,0 +1,4 @@
+pub mod NetworkRuns
+pub mod Refusals
+pub mod Simulations
+pub mod Headline

@@ -1,0 +1,13 @@
+pub mod CutLaws
+pub mod StepLaws
+pub mod UseLaws
+pub mod ThinLaws
+pub mod WalkLaws
+pub mod GraphLaws
+pub mod SizeLaws
+pub mod FoundLaws
+pub mod ExpansionLaws
+pub mod PlaceLaws
+pub mod ReachLaws
+pub mod RowLaws
+pub mod PlainLaws

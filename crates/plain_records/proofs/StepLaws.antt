@@ -1,0 +1,32 @@
+-- How far the elements of lawful grids are displaced, and where elements are placed.
+use Rattle.std.proofs.Common.{◌≡◌, ℤ, pos, List, ◌∷◌, refl, ◌∙◌, ap, subst, arith}
+use Rattle.std.proofs.lemmas.Int.{ints}
+use Rattle.finite_sets.specs.Lists.{In}
+use Rattle.geo_core.specs.declared.grids.Grid.{Grid}
+use Rattle.geo_core.specs.Elements.{elements_of, IsLawful}
+use Rattle.geo_core.specs.Images.{identity, six_of}
+use Rattle.ext_model.specs.declared.limits.TheConstants.{SHIFT_EDGE}
+use Rattle.ext_model.specs.Lawful.{IsPlacement}
+use Rattle.ext_model.proofs.NearSteps.{element_placement}
+use Rattle.plain_records.specs.Steps.{IsShortStep}
+
+-- the place at which a cell stands as it is
+still : IsPlacement SHIFT_EDGE (six_of identity)
+still = record { transform = identity; numbers = refl; dx = omega arith; dy = omega arith }
+
+abbrev dx_of : List ℤ → ℤ
+dx_of (a ∷ b ∷ c ∷ rest) = c
+dx_of six = pos 0
+
+abbrev dy_of : List ℤ → ℤ
+dy_of (a ∷ b ∷ c ∷ d ∷ e ∷ f ∷ rest) = f
+dy_of six = pos 0
+
+-- the elements of a lawful grid are displaced by short steps
+pub short_steps : (grid : Grid) → IsLawful grid → (element : ℤ × ℤ × ℤ × ℤ) → In element (elements_of grid)
+    → IsShortStep element.2 × IsShortStep element.3
+short_steps grid lawful element here =
+    let placed = element_placement (six_of identity) grid still lawful element here in
+    let x : placed.transform.dx ≡ element.2 = ap dx_of placed.numbers ∙ omega (arith, ints) in
+    let y : placed.transform.dy ≡ element.3 = ap dy_of placed.numbers ∙ omega (arith, ints) in
+    (subst IsShortStep x placed.dx, subst IsShortStep y placed.dy)

@@ -1,0 +1,7 @@
+use Rattle.std.proofs.Common.{◌≡◌, take}
+use Rattle.std.specs.List.{flat_map}
+use Rattle.ext_model.specs.Plain.{plain_uses}
+use Rattle.plain_records.proofs.expansion.all_elements.Given as goal
+
+abbrev pub invariant-loop-used : goal.invariant-loop-used
+invariant-loop-used l = l.elements.items ≡ flat_map plain_uses (take l.used-index l.uses)

@@ -1,0 +1,7 @@
+use Rattle.std.proofs.Common.{◌≡◌, take}
+use Rattle.std.specs.List.{flat_map}
+use Rattle.ext_model.specs.Plain.{plain_merges}
+use Rattle.plain_records.proofs.expansion.all_merges.Given as goal
+
+abbrev pub invariant-loop-row : goal.invariant-loop-row
+invariant-loop-row l = l.merges.items ≡ flat_map plain_merges (take l.row-index l.rows)

@@ -1,0 +1,8 @@
+use Rattle.std.proofs.Common.{◌≡◌, ◌++◌, map, take}
+use Rattle.geo_core.specs.Elements.{elements_of}
+use Rattle.ext_model.specs.Plain.{element_use}
+use Rattle.plain_records.proofs.uses.add_elements.Given as goal
+
+-- the elements before this one are appended
+abbrev pub invariant-loop-k : goal.invariant-loop-k
+invariant-loop-k l = l.uses.items ≡ l.fn.uses.items ++ map (element_use l.used) (take l.k (elements_of l.grid))
