@@ -1,14 +1,16 @@
 #!/usr/bin/env python3
 """Times the phases of `simrun` that do not settle, on circuits that are made from a number.
 
-    bench/oscillations.py [--only NAME] [--program PATH] [--before PATH] [--times 3]
+    bench/oscillations.py [--only NAME] [--program PATH] [--before PATH] [--times 3] [--instructions]
 
 Each circuit is run once up to its last phase, and once with it; the difference is what that phase takes, its steps and its rounds. It
 prints the least of some times of both, the difference, and how many of the shown states are not what they should be. With another
 program, one from before, it prints the difference of that one too, and by what part ours is above it. A program from before shows
-other states, which are not looked at.
+other states, which are not looked at. With --instructions it counts under valgrind what the processor is told, in millions, which a
+busy machine doesn't change; each run is then made once, and takes some 50 times as long.
 """
 import argparse
+import re
 import subprocess
 import sys
 import tempfile
@@ -58,11 +60,21 @@ CIRCUITS = {"beside": beside, "rings": rings, "chain": chain}
 
 
 # ---- runs
+def counted(command, script, folder):
+    """The instructions of one run, in millions."""
+    tool = ["valgrind", "--tool=cachegrind", "--cache-sim=no", "--cachegrind-out-file=/dev/null"]
+    with open(script, "rb") as source:
+        done = subprocess.run(tool + command, stdin=source, stdout=subprocess.DEVNULL, stderr=subprocess.PIPE, cwd=folder, check=False)
+    return int(re.search(rb"I\s+refs:\s+([\d,]+)", done.stderr).group(1).replace(b",", b"")) / 1e6
+
+
 def least(program, budget, vectors, folder, options):
-    """The least seconds of some runs of these vectors."""
+    """The least seconds of some runs of these vectors, or their millions of instructions."""
     (folder / "v.vec").write_text("\n".join(vectors) + "\n")
     (folder / "run.script").write_text("simrun c v\n")
     command = [program, f"--budget={budget}"]
+    if options.instructions:
+        return counted(command, folder / "run.script", folder)
     return min(timed(command, folder / "run.script", folder).seconds for _ in range(options.times))
 
 
@@ -85,10 +97,11 @@ def measured(name, options):
         both = least(options.program, budget, whole, folder, options)
         shown = shown_by(options.program, budget, folder)
         wrong = sum(shown.get(node) != state for node, state in expected.items())
-        row = f"{first:.3f} s without the phase, {both:.3f} s with it: {both - first:.3f} s; {wrong} of {len(expected)} states are wrong"
+        unit = "million instructions" if options.instructions else "s"
+        row = f"{first:.3f} {unit} without the phase, {both:.3f} with it: {both - first:.3f}; {wrong} of {len(expected)} states are wrong"
         if options.before:
             older = least(options.before, budget, whole, folder, options) - least(options.before, budget, vectors, folder, options)
-            row += f"; before {older:.3f} s, {(both - first) / older - 1:+.1%}"
+            row += f"; before {older:.3f}, {(both - first) / older - 1:+.1%}"
         print(row, flush=True)
     return wrong
 
@@ -99,6 +112,7 @@ def main():
     parser.add_argument("--program", default=str(PROGRAM))
     parser.add_argument("--before", help="a program from before, whose times are printed too")
     parser.add_argument("--times", type=int, default=3)
+    parser.add_argument("--instructions", action="store_true", help="count instructions under valgrind instead of seconds")
     options = parser.parse_args()
     return min(sum(measured(name, options) for name in CIRCUITS if options.only in (None, name)), 1)
 
