@@ -1,0 +1,3 @@
+pub mod LineGains
+pub mod SpelledFiles
+pub mod RefusedFiles
