@@ -46,12 +46,13 @@ line_refuses text at (inl first) =
 line_refuses text at (inr lacks) =
     let last = last_number (lines_of text) in
     let there : fault_at last NoHeader ≡ at =
-        ap (λ (n : ℕ). fault_at n NoHeader) (sym lacks.numbered) ∙ ap (λ f. fault_at at.line f) (sym lacks.fault) in
+    ap (λ (n : ℕ). fault_at n NoHeader) (sym lacks.numbered) ∙ ap (λ f. fault_at at.line f) (sym lacks.fault) in
     ap (finished finish last) lacks.fine
     ∙ (ap (λ (b : Bool). ended_at last (cond b (Err NoHeader) (Ok lacks.draft))) lacks.incomplete ∙ ap Err there)
 
 pub ext_in-refused : (cell text : List ℕ) (at : At ExtReadFault) → (ext_in cell text ≡ Err at) ↔ IsRefusedAt text at
 unfolding draft_in
-ext_in-refused cell text at =
-    (λ e. refused text (first_fault_or (step (outline_of (lines_of text))) 1 nothing_yet (lines_of text)) at refl (draft_refused cell (draft_in text) at e),
-    λ is. ap (λ found. and_then found (λ draft. Ok (record_of cell draft))) (line_refuses text at is))
+ext_in-refused cell text at = (
+  λ e. refused text (first_fault_or (step (outline_of (lines_of text))) 1 nothing_yet (lines_of text)) at refl (draft_refused cell (draft_in text) at e),
+  λ is. ap (λ found. and_then found (λ draft. Ok (record_of cell draft))) (line_refuses text at is),
+)

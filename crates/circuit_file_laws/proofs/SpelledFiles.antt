@@ -292,11 +292,11 @@ spelled cell text said last are leads whole =
     let version = last.version in
     let seen = three_said last.seen.tech last.seen.version last.seen.classes whole in
     let tech = said_once IsTech (filter_map tech_said said) last.seen.tech last.tech seen.0
-        (follow IsTech tech_said (λ d. once d.seen.tech d.tech) last (tech_follows version) nothing_yet said leads [] tt) in
+    (follow IsTech tech_said (λ d. once d.seen.tech d.tech) last (tech_follows version) nothing_yet said leads [] tt) in
     let word = said_once IsVersion (filter_map version_said said) last.seen.version last.version seen.1
-        (follow IsVersion version_said (λ d. once d.seen.version d.version) last (version_follows version) nothing_yet said leads [] tt) in
+    (follow IsVersion version_said (λ d. once d.seen.version d.version) last (version_follows version) nothing_yet said leads [] tt) in
     let classes = said_once AreClasses (filter_map classes_said said) last.seen.classes last.classes seen.2
-        (follow AreClasses classes_said (λ d. once d.seen.classes d.classes) last (classes_follow version) nothing_yet said leads [] tt) in
+    (follow AreClasses classes_said (λ d. once d.seen.classes d.classes) last (classes_follow version) nothing_yet said leads [] tt) in
     let merges = follow (IsReadIn version) merge_said (λ d. d.merges) last (merges_follow version) nothing_yet said leads [] tt in
     record {
       said = said;
