@@ -9,7 +9,7 @@ use Rattle.ext_reading.specs.declared.faults.ExtReadFault.{ExtReadFault}
 use Rattle.ext_reading.specs.declared.faults.ExtReadFault.TheVariants.{NoHeader}
 use Rattle.ext_reading.specs.Drafts.{Draft, nothing_yet, step, finish, is_incomplete}
 use Rattle.ext_reading.specs.ExtTexts.{outline_of, draft_in, record_of, ext_in}
-use Rattle.circuit_file_laws.specs.CircuitFiles.{IsRefusedAt}
+use Rattle.circuit_file_laws.specs.CircuitFiles.{IsRefusedFile}
 
 -- a record is made of every draft
 draft_refused : (cell : List ℕ) (found : Result Draft (At ExtReadFault)) (at : At ExtReadFault)
@@ -25,7 +25,7 @@ end_refused last draft false at is e = absurd (let no : ⊥ = cc in no)
 
 refused : (text : List ℕ) (found : Result Draft (At ExtReadFault)) (at : At ExtReadFault)
     → first_fault_or (step (outline_of (lines_of text))) 1 nothing_yet (lines_of text) ≡ found
-    → finished finish (last_number (lines_of text)) found ≡ Err at → IsRefusedAt text at
+    → finished finish (last_number (lines_of text)) found ≡ Err at → IsRefusedFile text at
 refused text (Ok draft) at is e =
     let end = end_refused (last_number (lines_of text)) draft (is_incomplete draft.seen) at refl e in
     inr (record {
@@ -39,7 +39,7 @@ refused text (Err other) at is e =
     let same : other ≡ at = cc in
     inl (first_fault_or-first (step (outline_of (lines_of text))) 1 nothing_yet (lines_of text) at (is ∙ ap Err same))
 
-line_refuses : (text : List ℕ) (at : At ExtReadFault) → IsRefusedAt text at
+line_refuses : (text : List ℕ) (at : At ExtReadFault) → IsRefusedFile text at
     → finished finish (last_number (lines_of text)) (first_fault_or (step (outline_of (lines_of text))) 1 nothing_yet (lines_of text)) ≡ Err at
 line_refuses text at (inl first) =
     ap (finished finish (last_number (lines_of text))) (first_fault_or-refused (step (outline_of (lines_of text))) 1 nothing_yet (lines_of text) at first)
@@ -50,7 +50,7 @@ line_refuses text at (inr lacks) =
     ap (finished finish last) lacks.fine
     ∙ (ap (λ (b : Bool). ended_at last (cond b (Err NoHeader) (Ok lacks.draft))) lacks.incomplete ∙ ap Err there)
 
-pub ext_in-refused : (cell text : List ℕ) (at : At ExtReadFault) → (ext_in cell text ≡ Err at) ↔ IsRefusedAt text at
+pub ext_in-refused : (cell text : List ℕ) (at : At ExtReadFault) → (ext_in cell text ≡ Err at) ↔ IsRefusedFile text at
 unfolding draft_in
 ext_in-refused cell text at = (
   λ e. refused text (first_fault_or (step (outline_of (lines_of text))) 1 nothing_yet (lines_of text)) at refl (draft_refused cell (draft_in text) at e),

@@ -3,7 +3,7 @@ use Rattle.std.proofs.Common.{◌≡◌, ◌+◌, ◌&&◌, ◌==◌, ℕ, ℤ, 
 use Rattle.std.proofs.Common.{refl, sym, ap, ◌∙◌, subst, append_assoc, append-nil}
 use Rattle.std.specs.Prelude.{Some, None, filter_map}
 use Rattle.finite_sets.specs.OneForOne.{AreOneForOne}
-use Rattle.finite_sets.proofs.OneForOne.{AreOneForOne-append}
+use Rattle.finite_sets.proofs.OneForOne.{AreOneForOne-push}
 use Rattle.text_scan.specs.Lines.{lines_of}
 use Rattle.text_form.specs.declared.reading.At.{At}
 use Rattle.text_form.specs.Folds.{first_fault_or}
@@ -108,11 +108,6 @@ follow {X} {Y} R said_of list_of last each draft (line ∷ said) leads xs are =
     let rest = follow R said_of list_of last each next said leads.2 (with_said xs (said_of line)) more in
     subst (λ (l : List X). AreOneForOne R l (list_of last)) (said_first xs line said said_of (said_of line) refl) rest
 
--- one more of each
-one_more : {X Y : Type 0} (R : X → Y → Type 0) (xs : List X) (ys : List Y) (x : X) (y : Y) → AreOneForOne R xs ys → R x y
-    → AreOneForOne R (xs ++ x ∷ []) (ys ++ y ∷ [])
-one_more R xs ys x y are is = AreOneForOne-append R xs (x ∷ []) ys (y ∷ []) are (is, tt)
-
 -- another list, which is the same
 same : {X Y : Type 0} (R : X → Y → Type 0) (xs : List X) {ys others : List Y} → others ≡ ys → AreOneForOne R xs ys → AreOneForOne R xs others
 same {X} {Y} R xs is are = subst (λ (l : List Y). AreOneForOne R xs l) (sym is) are
@@ -139,7 +134,7 @@ uses_follow : (version : Option lines.Version) → Follows IsUseOf use_said (λ 
 uses_follow version draft Nothing next gains stays xs are = same IsUseOf xs (ap (λ d. d.uses) gains) are
 uses_follow version draft (Header header) next gains stays xs are = same IsUseOf xs (header_keeps draft header next gains.2).uses are
 uses_follow version draft (Use line) next gains stays xs are =
-    same IsUseOf (xs ++ line ∷ []) (ap (λ d. d.uses) gains.2) (one_more IsUseOf xs draft.uses line gains.0 are gains.1)
+    same IsUseOf (xs ++ line ∷ []) (ap (λ d. d.uses) gains.2) (AreOneForOne-push IsUseOf xs draft.uses line gains.0 are gains.1)
 uses_follow version draft (Node line) next gains stays xs are = same IsUseOf xs (ap (λ d. d.uses) gains.2) are
 uses_follow version draft (Equiv name alias) next gains stays xs are = same IsUseOf xs (ap (λ d. d.uses) gains.1) are
 uses_follow version draft (Fet line) next gains stays xs are = same IsUseOf xs (ap (λ d. d.uses) gains.2) are
@@ -161,7 +156,7 @@ nodes_follow version draft Nothing next gains stays xs are = same IsNodeOf xs (a
 nodes_follow version draft (Header header) next gains stays xs are = same IsNodeOf xs (header_keeps draft header next gains.2).nodes are
 nodes_follow version draft (Use line) next gains stays xs are = same IsNodeOf xs (ap (λ d. d.nodes) gains.2) are
 nodes_follow version draft (Node line) next gains stays xs are =
-    same IsNodeOf (xs ++ line ∷ []) (ap (λ d. d.nodes) gains.2) (one_more IsNodeOf xs draft.nodes line gains.0 are gains.1)
+    same IsNodeOf (xs ++ line ∷ []) (ap (λ d. d.nodes) gains.2) (AreOneForOne-push IsNodeOf xs draft.nodes line gains.0 are gains.1)
 nodes_follow version draft (Equiv name alias) next gains stays xs are =
     same IsNodeOf xs (ap (λ d. d.nodes) gains.1) (alias_kept xs draft.nodes gains.0 alias are)
 nodes_follow version draft (Fet line) next gains stays xs are = same IsNodeOf xs (ap (λ d. d.nodes) gains.2) are
@@ -177,7 +172,7 @@ fets_follow version draft (Use line) next gains stays xs are = same IsFetOf xs (
 fets_follow version draft (Node line) next gains stays xs are = same IsFetOf xs (ap (λ d. d.fets) gains.2) are
 fets_follow version draft (Equiv name alias) next gains stays xs are = same IsFetOf xs (ap (λ d. d.fets) gains.1) are
 fets_follow version draft (Fet line) next gains stays xs are =
-    same IsFetOf (xs ++ line ∷ []) (ap (λ d. d.fets) gains.2) (one_more IsFetOf xs draft.fets line gains.0 are gains.1)
+    same IsFetOf (xs ++ line ∷ []) (ap (λ d. d.fets) gains.2) (AreOneForOne-push IsFetOf xs draft.fets line gains.0 are gains.1)
 fets_follow version draft (Merge line) next gains stays xs are = same IsFetOf xs (ap (λ d. d.fets) gains.2) are
 
 -- the row is that of the line, as it is read in this version
@@ -196,7 +191,7 @@ merges_follow version draft (Merge line) next gains stays xs are =
     let row = gains.0 in
     let is_read = subst (λ (v : Option lines.Version). IsReadIn v line row) same_version gains.1 in
     same (IsReadIn version) (xs ++ line ∷ []) (ap (λ d. d.merges) gains.2)
-    (one_more (IsReadIn version) xs draft.merges line row are is_read)
+    (AreOneForOne-push (IsReadIn version) xs draft.merges line row are is_read)
 
 -- what the header has said, where it has said it
 abbrev pub once : {Y : Type 0} → Bool → Y → List Y
@@ -207,7 +202,7 @@ once false y = []
 first_of_all : {X Y : Type 0} (R : X → Y → Type 0) (xs : List X) (seen : Bool) (before : Y) (x : X) (y : Y) → seen ≡ false
     → AreOneForOne R xs (once seen before) → R x y → AreOneForOne R (xs ++ x ∷ []) (once true y)
 first_of_all R xs true before x y new are is = absurd (let no : ⊥ = cc in no)
-first_of_all R xs false before x y new are is = one_more R xs [] x y are is
+first_of_all R xs false before x y new are is = AreOneForOne-push R xs [] x y are is
 
 abbrev pub IsTech : List ℕ → List ℕ → Type 0
 IsTech name tech = name ≡ tech

@@ -97,5 +97,5 @@ pub record LacksHeader (text : List ℕ) (at : At ExtReadFault) : Type 0 where
   pub fault : at.fault ≡ NoHeader
 
 -- The text is no circuit file: it has a first faulty line, and that line has this fault in what the lines before it say; or it has no header.
-abbrev pub IsRefusedAt : List ℕ → At ExtReadFault → Type 0
-IsRefusedAt text at = IsFirstFault (step (outline_of (lines_of text))) 1 nothing_yet (lines_of text) at ⊎ LacksHeader text at
+abbrev pub IsRefusedFile : List ℕ → At ExtReadFault → Type 0
+IsRefusedFile text at = IsFirstFault (step (outline_of (lines_of text))) 1 nothing_yet (lines_of text) at ⊎ LacksHeader text at

@@ -4,7 +4,7 @@ ghost use Rattle.text_form.specs.declared.reading.At.{At};
 ghost use Rattle.ext_model.specs.declared.arrays.ArrayExt.{ArrayExt};
 ghost use Rattle.ext_reading.specs.declared.faults.ExtReadFault.{ExtReadFault};
 ghost use Rattle.ext_reading.specs.ExtTexts.{ext_in};
-ghost use Rattle.circuit_file_laws.specs.CircuitFiles.{IsRefusedAt, IsSpelled};
+ghost use Rattle.circuit_file_laws.specs.CircuitFiles.{IsRefusedFile, IsSpelled};
 
 /// A circuit file that is read spells the record that it gives, but for the other names of nodes.
 pub fn circuit_files_are_read_as_what_they_spell()
@@ -14,5 +14,5 @@ pub fn circuit_files_are_read_as_what_they_spell()
 /// A circuit file is refused exactly at its first faulty line, with the first fault of that line, or at its last line where it has no
 /// header.
 pub fn circuit_files_are_refused_at_their_first_faulty_line()
-    ensures { (cell text : List ℕ) (at : At ExtReadFault) → (ext_in cell text ≡ Err at) ↔ IsRefusedAt text at }
+    ensures { (cell text : List ℕ) (at : At ExtReadFault) → (ext_in cell text ≡ Err at) ↔ IsRefusedFile text at }
 {}
