@@ -2,13 +2,13 @@
 use Rattle.std.proofs.Common.{Bool, List, inl, inr, sym, subst}
 use Rattle.geo_core.specs.declared.squares.Square.{Square}
 use Rattle.tech_model.specs.declared.raw.RawTech.{RawTech}
-use Rattle.name_classes.proofs.ClassLaws.{distinct_in_order}
-use Rattle.offences.specs.Offences.{SetLayout}
-use Rattle.hierarchy_model.specs.Restrictions.{IsRestriction}
-use Rattle.tree_records.specs.PlaceWeights.{PlaceWeight}
-use Rattle.meeting_laws.specs.Laws.{IsCountedWithin}
-use Rattle.meeting_laws.specs.PartLayouts.{Passes, HoldsAllMeetings}
-use Rattle.meeting_laws.proofs.QuantityLaws.{area_counted, perimeter_counted, capacitance_counted}
+use Rattle.group_meetings.proofs.NameClasses.ClassLaws.{distinct_in_order}
+use Rattle.group_meetings.specs.Offences.Offences.{SetLayout}
+use Rattle.group_meetings.specs.HierarchyModel.Restrictions.{IsRestriction}
+use Rattle.group_meetings.specs.TreeRecords.PlaceWeights.{PlaceWeight}
+use Rattle.group_meetings.specs.MeetingLaws.Laws.{IsCountedWithin}
+use Rattle.group_meetings.specs.MeetingLaws.PartLayouts.{Passes, HoldsAllMeetings}
+use Rattle.group_meetings.proofs.MeetingLaws.QuantityLaws.{area_counted, perimeter_counted, capacitance_counted}
 use Rattle.adjustment_laws.specs.Laws.{AdjustmentsAreCountedWithin, CountsWithinAreAdjustments, IsOfClasses}
 use Rattle.adjustment_laws.proofs.LocalQuantities.{IsLocal, area_local, perimeter_local, capacitance_local}
 use Rattle.adjustment_laws.proofs.GroupSums.{adjustment_within}

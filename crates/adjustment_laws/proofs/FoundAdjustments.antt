@@ -9,15 +9,15 @@ use Rattle.tech_model.specs.declared.raw.RawTech.{RawTech}
 use Rattle.tech_model.specs.Rules.{KeepsRules}
 use Rattle.tech_model.specs.WellFormed.{IsWellFormed}
 use Rattle.layout_model.specs.Places.{Place}
-use Rattle.offences.specs.Offences.{SetLayout}
-use Rattle.named_trees.specs.NamedTrees.{NamedTree}
-use Rattle.named_trees.specs.FlatLayouts.{flat_layout}
-use Rattle.named_trees.specs.MemberGroups.{IsGroupName}
-use Rattle.tree_records.specs.PlaceWeights.{PlaceWeight, AreMemberTotals, IsAdjustment}
-use Rattle.tree_names.specs.CleanTrees.{IsCleanTree}
-use Rattle.meeting_laws.specs.PartLayouts.{excess}
-use Rattle.meeting_laws.specs.Laws.{IsCountedWithin}
-use Rattle.meeting_laws.proofs.LinkLaws.{someone_stands}
+use Rattle.group_meetings.specs.Offences.Offences.{SetLayout}
+use Rattle.group_meetings.specs.NamedTrees.NamedTrees.{NamedTree}
+use Rattle.group_meetings.specs.NamedTrees.FlatLayouts.{flat_layout}
+use Rattle.group_meetings.specs.NamedTrees.MemberGroups.{IsGroupName}
+use Rattle.group_meetings.specs.TreeRecords.PlaceWeights.{PlaceWeight, AreMemberTotals, IsAdjustment}
+use Rattle.group_meetings.specs.TreeNames.CleanTrees.{IsCleanTree}
+use Rattle.group_meetings.specs.MeetingLaws.PartLayouts.{excess}
+use Rattle.group_meetings.specs.MeetingLaws.Laws.{IsCountedWithin}
+use Rattle.group_meetings.proofs.MeetingLaws.LinkLaws.{someone_stands}
 use Rattle.group_meetings.specs.Members.{tree_parts, PartsHaveMembers}
 use Rattle.group_meetings.proofs.PartMembers.{flat_is_of_parts}
 use Rattle.group_meetings.proofs.MemberMaterial.{named_is_material}

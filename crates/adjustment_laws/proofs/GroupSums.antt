@@ -18,18 +18,18 @@ use Rattle.tech_model.specs.WellFormed.{IsWellFormed}
 use Rattle.layout_model.specs.Places.{Place}
 use Rattle.layout_model.proofs.Families.{InFamily}
 use Rattle.rect_contacts.proofs.BothWays.{Lists-below, sum_on-nested}
-use Rattle.offences.specs.Offences.{SetLayout}
-use Rattle.hierarchy_model.specs.Restrictions.{PartStands}
-use Rattle.named_trees.specs.NamedTrees.{NamedTree}
-use Rattle.named_trees.specs.FlatLayouts.{flat_layout}
-use Rattle.named_trees.specs.MemberGroups.{IsGroupName}
-use Rattle.tree_records.specs.PlaceWeights.{PlaceWeight, AreMemberTotals, IsAdjustment}
-use Rattle.tree_names.specs.CleanTrees.{IsCleanTree}
-use Rattle.tree_names.proofs.GroupNames.{group_name_along, members_together, one_group}
-use Rattle.tree_names.proofs.GroupNodes.{group_back}
-use Rattle.meeting_laws.specs.PartLayouts.{part_layout, parts_layout, excess}
-use Rattle.meeting_laws.specs.Laws.{IsCountedWithin}
-use Rattle.meeting_laws.proofs.LinkLaws.{part_of_empty}
+use Rattle.group_meetings.specs.Offences.Offences.{SetLayout}
+use Rattle.group_meetings.specs.HierarchyModel.Restrictions.{PartStands}
+use Rattle.group_meetings.specs.NamedTrees.NamedTrees.{NamedTree}
+use Rattle.group_meetings.specs.NamedTrees.FlatLayouts.{flat_layout}
+use Rattle.group_meetings.specs.NamedTrees.MemberGroups.{IsGroupName}
+use Rattle.group_meetings.specs.TreeRecords.PlaceWeights.{PlaceWeight, AreMemberTotals, IsAdjustment}
+use Rattle.group_meetings.specs.TreeNames.CleanTrees.{IsCleanTree}
+use Rattle.group_meetings.proofs.TreeNames.GroupNames.{group_name_along, members_together, one_group}
+use Rattle.group_meetings.proofs.TreeNames.GroupNodes.{group_back}
+use Rattle.group_meetings.specs.MeetingLaws.PartLayouts.{part_layout, parts_layout, excess}
+use Rattle.group_meetings.specs.MeetingLaws.Laws.{IsCountedWithin}
+use Rattle.group_meetings.proofs.MeetingLaws.LinkLaws.{part_of_empty}
 use Rattle.group_meetings.specs.Members.{tree_parts, IsMemberOfPart, PartsHaveMembers}
 use Rattle.group_meetings.proofs.PartMembers.{flat_is_of_parts, member_at_part}
 use Rattle.group_meetings.proofs.MemberMaterial.{member_is_material, part_stands}

@@ -13,11 +13,11 @@ use Rattle.layout_model.specs.Layouts.{Layout}
 use Rattle.layout_model.specs.Places.{Place, AreNeighbours, neighbours}
 use Rattle.layout_model.specs.Technologies.{Class}
 use Rattle.layout_trees.specs.CellTrees.{place_back}
-use Rattle.flood_nodes.proofs.OpenEdges.{Lists-neighbours}
-use Rattle.named_trees.specs.NamedTrees.{place_forth}
-use Rattle.named_trees.proofs.MoveLaws.{back_from_above, above_from_back, neighbours_above, neighbours_back}
-use Rattle.tree_records.specs.PlaceWeights.{PlaceWeight, area_weight, perimeter_weight, capacitance_weight}
-use Rattle.meeting_laws.proofs.QuantityLaws.{IsByTypes, combined, area_by_types, perimeter_by_types, nothing_by_types}
+use Rattle.group_meetings.proofs.FloodNodes.OpenEdges.{Lists-neighbours}
+use Rattle.group_meetings.specs.NamedTrees.NamedTrees.{place_forth}
+use Rattle.group_meetings.proofs.NamedTrees.MoveLaws.{back_from_above, above_from_back, neighbours_above, neighbours_back}
+use Rattle.group_meetings.specs.TreeRecords.PlaceWeights.{PlaceWeight, area_weight, perimeter_weight, capacitance_weight}
+use Rattle.group_meetings.proofs.MeetingLaws.QuantityLaws.{IsByTypes, combined, area_by_types, perimeter_by_types, nothing_by_types}
 
 -- A place counts by the layout alone, nothing where it is space, and the same where a transform takes it.
 pub record IsLocal (quantity : PlaceWeight) : Type 0 where

@@ -13,19 +13,19 @@ use Rattle.layout_model.specs.Layouts.{Layout}
 use Rattle.layout_model.specs.Places.{Place}
 use Rattle.layout_trees.specs.CellTrees.{place_back}
 use Rattle.layout_trees.specs.FlatSets.{sets_in}
-use Rattle.offences.specs.Offences.{SetLayout}
-use Rattle.own_records.specs.FetRecords.{IsOfNode}
-use Rattle.named_trees.specs.NamedTrees.{NamedTree, NamedElements, place_forth}
-use Rattle.named_trees.specs.NamedTrees.NamedTree.{named_tree}
-use Rattle.named_trees.specs.NamedTrees.NamedElements.{no_more, element_then}
-use Rattle.named_trees.specs.FlatLayouts.{flat_layout}
-use Rattle.named_trees.specs.MemberGroups.{IsGroupName}
-use Rattle.named_trees.proofs.MoveLaws.{back_from_above, above_from_back}
-use Rattle.tree_records.specs.PlaceWeights.{PlaceWeight, IsGroupTotal, IsTotalBelow, IsMemberTotal}
-use Rattle.tree_names.specs.CleanTrees.{IsCleanTree, HaveElementNames, ids_in}
-use Rattle.tree_names.proofs.OwnNames.{goes_by_own, own_name_whole}
-use Rattle.tree_names.proofs.Paths.{BeginsIn, begins_later, begins_once, begins_with_slash, one_split}
-use Rattle.meeting_laws.specs.PartLayouts.{part_layout}
+use Rattle.group_meetings.specs.Offences.Offences.{SetLayout}
+use Rattle.group_meetings.specs.OwnRecords.FetRecords.{IsOfNode}
+use Rattle.group_meetings.specs.NamedTrees.NamedTrees.{NamedTree, NamedElements, place_forth}
+use Rattle.group_meetings.specs.NamedTrees.NamedTrees.NamedTree.{named_tree}
+use Rattle.group_meetings.specs.NamedTrees.NamedTrees.NamedElements.{no_more, element_then}
+use Rattle.group_meetings.specs.NamedTrees.FlatLayouts.{flat_layout}
+use Rattle.group_meetings.specs.NamedTrees.MemberGroups.{IsGroupName}
+use Rattle.group_meetings.proofs.NamedTrees.MoveLaws.{back_from_above, above_from_back}
+use Rattle.group_meetings.specs.TreeRecords.PlaceWeights.{PlaceWeight, IsGroupTotal, IsTotalBelow, IsMemberTotal}
+use Rattle.group_meetings.specs.TreeNames.CleanTrees.{IsCleanTree, HaveElementNames, ids_in}
+use Rattle.group_meetings.proofs.TreeNames.OwnNames.{goes_by_own, own_name_whole}
+use Rattle.group_meetings.proofs.TreeNames.Paths.{BeginsIn, begins_later, begins_once, begins_with_slash, one_split}
+use Rattle.group_meetings.specs.MeetingLaws.PartLayouts.{part_layout}
 use Rattle.group_meetings.specs.Members.{tree_parts, IsMemberOfElement, IsMemberOfPart}
 use Rattle.group_meetings.proofs.PartMembers.{element_part, own_part, parts_below}
 use Rattle.adjustment_laws.proofs.LocalQuantities.{IsLocal}

@@ -6,7 +6,7 @@ use Rattle.std.proofs.lemmas.Bool.{cases_eq, cases_Bool}
 use Rattle.finite_sets.specs.Lists.{In, Distinct}
 use Rattle.geo_core.proofs.SquareLaws.{square_is}
 use Rattle.layout_model.specs.Places.{Place}
-use Rattle.flood_nodes.proofs.TileEdges.{place_on}
+use Rattle.group_meetings.proofs.FloodNodes.TileEdges.{place_on}
 
 -- Two things are one, or they differ.
 abbrev pub AreTold : Type 0 → Type 0

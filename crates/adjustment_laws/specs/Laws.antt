@@ -9,13 +9,13 @@ use Rattle.tech_model.specs.WellFormed.{IsWellFormed}
 use Rattle.circuit_model.specs.FullNames.{AreInNameOrder}
 use Rattle.layout_model.specs.Places.{Place}
 use Rattle.layout_model.specs.Technologies.{Class}
-use Rattle.offences.specs.Offences.{SetLayout}
-use Rattle.hierarchy_model.specs.Restrictions.{IsRestriction}
-use Rattle.named_trees.specs.NamedTrees.{NamedTree}
-use Rattle.named_trees.specs.MemberGroups.{IsGroupName, IsMemberOf}
-use Rattle.tree_names.specs.CleanTrees.{IsCleanTree}
-use Rattle.tree_records.specs.PlaceWeights.{PlaceWeight, area_weight, perimeter_weight, capacitance_weight, AreMemberTotals, IsAdjustment}
-use Rattle.meeting_laws.specs.PartLayouts.{Passes, HoldsAllMeetings, excess}
+use Rattle.group_meetings.specs.Offences.Offences.{SetLayout}
+use Rattle.group_meetings.specs.HierarchyModel.Restrictions.{IsRestriction}
+use Rattle.group_meetings.specs.NamedTrees.NamedTrees.{NamedTree}
+use Rattle.group_meetings.specs.NamedTrees.MemberGroups.{IsGroupName, IsMemberOf}
+use Rattle.group_meetings.specs.TreeNames.CleanTrees.{IsCleanTree}
+use Rattle.group_meetings.specs.TreeRecords.PlaceWeights.{PlaceWeight, area_weight, perimeter_weight, capacitance_weight, AreMemberTotals, IsAdjustment}
+use Rattle.group_meetings.specs.MeetingLaws.PartLayouts.{Passes, HoldsAllMeetings, excess}
 use Rattle.group_meetings.specs.Members.{tree_parts, PartsHaveMembers}
 
 -- It is the area or the perimeter in a class, or the capacitance in some classes. Space is in none of them.

@@ -1,7 +1,7 @@
 -- The bodies that cells may have.
 use Rattle.std.specs.Prelude.{◌≡◌, ◌<◌, ℕ, IsTrue, List, length, map, All, IfSome}
-use Rattle.finite_sets.specs.Lists.{Distinct}
-use Rattle.text_scan.specs.PlainNames.{is_plain_name}
+use Rattle.geo_core.specs.FiniteSets.Lists.{Distinct}
+use Rattle.ext_model.specs.TextScan.PlainNames.{is_plain_name}
 use Rattle.tech_model.specs.declared.raw.Label.{Label}
 use Rattle.tech_model.specs.declared.raw.RawTech.{RawTech}
 use Rattle.cell_bodies.specs.declared.bodies.CellBody.{CellBody}

@@ -1,7 +1,7 @@
 -- The forms of the words of a cell: ids of uses and texts of labels. A cell's name is a plain name.
 use Rattle.std.specs.Prelude.{◌==◌, ◌&&◌, not, nat_le, ℕ, Bool, false, if◌then◌else◌, List, [], ◌∷◌, length, reverse}
 use Rattle.std.specs.List.{list_all}
-use Rattle.text_scan.specs.Words.{is_blank}
+use Rattle.ext_model.specs.TextScan.Words.{is_blank}
 use Rattle.tech_model.specs.declared.limits.TheConstants.{LONGEST_LABEL}
 pub use Rattle.ext_model.specs.ElementNames.{is_use_id, is_use_id_byte}
 

@@ -1,3 +1,5 @@
+-- what crates above name of those below
+pub use Rattle.cell_tree.proofs as CellTree
 pub mod AddedCells
 pub mod ArrivingCells
 pub mod ArrivingUses

@@ -1,3 +1,9 @@
+-- what crates above name of those below
+pub use Rattle.cell_bodies.specs as CellBodies
+pub use Rattle.cell_paint.specs as CellPaint
+pub use Rattle.cell_tree.specs as CellTree
+pub use Rattle.layout_trees.specs as LowerLayoutTrees
+pub use Rattle.tech_model.specs as TechModel
 pub mod AddedCells
 pub mod Additions
 pub mod CellEdits

@@ -2,7 +2,7 @@
 ghost use Rattle.std.specs.Prelude.{◌≡◌, ◌<◌, ℕ, All, map, None, [], length, IsTrue, IfOk, IfSome, OnOk, OnErr, slice_get};
 ghost use Rattle.std.specs.Option.{option_map};
 ghost use Rattle.text_scan.specs.PlainNames.{is_plain_name};
-ghost use Rattle.use_orders.specs.LibraryOrder.{IsLibraryOrder};
+ghost use Rattle.cell_tree.specs.UseOrders.LibraryOrder.{IsLibraryOrder};
 ghost use Rattle.cell_paint.specs.Paints.{layout_of, IsSoundPaint};
 ghost use Rattle.cell_bodies.specs.Words.{is_use_id, is_label_text};
 ghost use Rattle.cell_bodies.specs.Numbers.{is_index, is_position};

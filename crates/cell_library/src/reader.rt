@@ -11,7 +11,7 @@ ghost use Rattle.layout_trees.specs.FlatSets.{element_parts, elements_in, parts_
 ghost use Rattle.cell_paint.specs.Paints.{layout_of};
 ghost use Rattle.cell_tree.specs.Hulls.{IsLawfulBox};
 ghost use Rattle.cell_tree.specs.Trees.{stamp_at};
-ghost use Rattle.use_orders.specs.LibraryOrder.{IsLibraryOrder};
+ghost use Rattle.cell_tree.specs.UseOrders.LibraryOrder.{IsLibraryOrder};
 ghost use Rattle.cell_library.specs.Additions.{children_in};
 ghost use Rattle.cell_library.specs.ElementBoxes.{AreElementBoxes, HoldParts};
 ghost use Rattle.cell_library.specs.LayoutTrees.{elements_from, own_cell, tree_at};

@@ -4,7 +4,7 @@ use Rattle.std.specs.Prelude.{slice_index, All}
 use Rattle.std.proofs.lemmas.Bool.{cases_lt}
 use Rattle.std.proofs.lemmas.List.{get_or-map, get_or_default}
 use Rattle.std.proofs.lemmas.Option.{slice_get_within, slice_get-get_or, get_or_from_slice_get}
-use Rattle.geo_core.specs.Covering.{Covers}
+use Rattle.ext_model.specs.GeoCore.Covering.{Covers}
 use Rattle.finite_sets.specs.Lists.{In}
 use Rattle.finite_sets.proofs.Chains.{Chain-append}
 use Rattle.finite_sets.proofs.Members.{In-get_or}

@@ -1,3 +1,8 @@
+-- what crates above name of those below
+pub use Rattle.flood_nodes.proofs as FloodNodes
+pub use Rattle.layout_model.proofs as LayoutModel
+pub use Rattle.measures.proofs as Measures
+pub use Rattle.names.proofs as Names
 pub mod NumberLaws
 pub mod CapacitanceLaws
 pub mod GroupLaws

@@ -2,8 +2,8 @@
 use Rattle.std.proofs.Common.{◌≡◌, ◌<◌, ◌≤◌, ℕ, length, inl, inr, refl, sym, ◌∙◌, arith, IsTrue}
 use Rattle.std.proofs.lemmas.Bool.{cases_Bool, cases_eq, false≢true}
 use Rattle.std.proofs.lemmas.Int.{ints}
-use Rattle.geo_core.proofs.CoveringLaws.{is_covered-Covers}
-use Rattle.geo_core.specs.Covering.{is_covered}
+use Rattle.ext_model.proofs.GeoCore.CoveringLaws.{is_covered-Covers}
+use Rattle.ext_model.specs.GeoCore.Covering.{is_covered}
 use Rattle.tech_model.specs.declared.limits.TheConstants.{MOST_PLANES}
 use Rattle.tech_model.specs.declared.raw.RawTech.{RawTech}
 use Rattle.tech_model.specs.Types.{is_type, plane_of}

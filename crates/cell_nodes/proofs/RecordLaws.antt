@@ -5,8 +5,8 @@ use Rattle.std.specs.declared.cmp.Ordering.TheVariants.{Less}
 use Rattle.std.proofs.lemmas.Bool.{cases_lt}
 use Rattle.std.proofs.lemmas.List.{get_or-map, get_or_default, get_or_append_left, get_or_push, length-map}
 use Rattle.std.proofs.lemmas.Option.{slice_get-get_or}
-use Rattle.geo_core.specs.Areas.{corner_of}
-use Rattle.geo_core.proofs.CornerLaws.{corner_covers}
+use Rattle.ext_model.specs.GeoCore.Areas.{corner_of}
+use Rattle.ext_model.proofs.GeoCore.CornerLaws.{corner_covers}
 use Rattle.finite_sets.specs.Lists.{Lists}
 use Rattle.finite_sets.proofs.Members.{In-get_or, In-map}
 use Rattle.finite_sets.proofs.Totals.{Total-iff}

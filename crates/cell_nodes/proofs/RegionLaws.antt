@@ -3,8 +3,8 @@ use Rattle.std.proofs.Common.{◌<◌, ℕ, List, length, get_or, inl, inr, refl
 use Rattle.std.specs.Prelude.{slice_index, All}
 use Rattle.std.proofs.lemmas.List.{get_or-map, length-map}
 use Rattle.std.proofs.lemmas.Option.{slice_get_within, slice_get-get_or, get_or_from_slice_get}
-use Rattle.geo_core.specs.Areas.{corner_of}
-use Rattle.geo_core.proofs.CornerLaws.{corner_covers}
+use Rattle.ext_model.specs.GeoCore.Areas.{corner_of}
+use Rattle.ext_model.proofs.GeoCore.CornerLaws.{corner_covers}
 use Rattle.finite_sets.specs.Lists.{In}
 use Rattle.finite_sets.proofs.Members.{In-get_or, In-index}
 use Rattle.tech_model.specs.declared.raw.Label.{Label}

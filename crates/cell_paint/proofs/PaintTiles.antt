@@ -1,7 +1,7 @@
 -- Planes of a cell's paint: what is read of one, and its tiles with their types.
 use Rattle.std.proofs.Common.{◌≡◌, ℕ, ◌<◌, ◌≤◌, List, [], length, get_or, map, sym, ◌∙◌, ap, subst, arith, Some}
 use Rattle.std.proofs.lemmas.List.{get_or_default, get_or-map, length-map}
-use Rattle.finite_sets.proofs.Members.{In-map, In-map_source}
+use Rattle.geo_core.proofs.FiniteSets.Members.{In-map, In-map_source}
 use Rattle.geo_core.specs.declared.squares.Square.{Square}
 use Rattle.geo_core.specs.declared.squares.Rect.{Rect}
 use Rattle.geo_core.specs.declared.squares.Piece.{Piece}

@@ -24,7 +24,7 @@ use Rattle.layout_model.specs.Places.{Place}
 use Rattle.layout_model.specs.RegionTiles.{IsInRegion, AreRegions, regions_of}
 use Rattle.layout_model.specs.Transistors.{AreOneChannel, IsTerminalOf, Transistor, IsTransistor, AreFetsInOrder, AreTransistors, gate_length}
 use Rattle.layout_model.specs.declared.region_tiles.RegionTile.{RegionTile}
-use Rattle.measures.specs.Bounds.{IsNearPlace}
+use Rattle.fet_regions.specs.Measures.Bounds.{IsNearPlace}
 use Rattle.names.specs.NamedNodes.{AreOneNamedNode}
 use Rattle.flood_nodes.specs.TileShares.{no_tile, tile_at}
 use Rattle.flood_nodes.proofs.TileEdges.{lies_in_one}
@@ -33,7 +33,7 @@ use Rattle.fet_regions.specs.Transistors.{transistor_of}
 use Rattle.fet_regions.proofs.RoleLaws.{channel_type, type_not_space}
 use Rattle.cell_nodes.proofs.NodePlaces.{AreOneNamedNode-sym}
 use Rattle.cell_nodes.specs.RegionNodes.{AreNodesOfRegions}
-use Rattle.own_records.specs.FetRecords.{IsOfNode, IsNodeBefore, IsFetRecord, AreFetRecords, terminal_names}
+use Rattle.own_record_laws.specs.OwnRecords.FetRecords.{IsOfNode, IsNodeBefore, IsFetRecord, AreFetRecords, terminal_names}
 use Rattle.own_record_laws.proofs.FetSizes.{few_edges, terminals_total}
 use Rattle.own_record_laws.proofs.SomeEdges.{some_edge}
 use Rattle.cell_records.specs.FetsOfRegions.{name_at, term_of, IsSmallFet, IsRecordOfFet, AreRecordsOfFets}

@@ -4,13 +4,13 @@ use lib.Pointwise.{pointwise}
 use Rattle.std.specs.Ordering.{int_eq}
 use Rattle.std.specs.List.{flat_map}
 use Rattle.std.specs.Str.{bytes_eq}
-use Rattle.finite_sets.specs.Lists.{Distinct}
-use Rattle.geo_core.specs.declared.orients.Orient.{Orient}
-use Rattle.geo_core.specs.declared.orients.Orient.TheVariants.{R0}
-use Rattle.geo_core.specs.declared.transforms.Transform.{Transform}
-use Rattle.geo_core.specs.declared.squares.Square.{Square}
-use Rattle.geo_core.specs.Images.{image, six_of}
-use Rattle.geo_core.specs.Orientation.{all_orients}
+use Rattle.ext_model.specs.FiniteSets.Lists.{Distinct}
+use Rattle.ext_model.specs.GeoCore.declared.orients.Orient.{Orient}
+use Rattle.ext_model.specs.GeoCore.declared.orients.Orient.TheVariants.{R0}
+use Rattle.ext_model.specs.GeoCore.declared.transforms.Transform.{Transform}
+use Rattle.ext_model.specs.GeoCore.declared.squares.Square.{Square}
+use Rattle.ext_model.specs.GeoCore.Images.{image, six_of}
+use Rattle.ext_model.specs.GeoCore.Orientation.{all_orients}
 use Rattle.ext_model.specs.declared.records.UseRec.{UseRec}
 use Rattle.ext_model.specs.declared.records.CellExt.{CellExt}
 use Rattle.ext_model.specs.Lawful.{IsLawful}

@@ -2,8 +2,8 @@
 use Rattle.std.specs.Prelude.{◌≡◌, ◌↔◌, ◌<◌, ℕ, Bool, if◌then◌else◌, Some, ℤ, pos, ◌+ℤ◌, List, length, map, find, slice_index_or}
 use Rattle.std.specs.List.{list_any}
 use Rattle.std.specs.Str.{bytes_eq}
-use Rattle.finite_sets.specs.Lists.{In}
-use Rattle.finite_sets.specs.Total.{sum_on}
+use Rattle.ext_model.specs.FiniteSets.Lists.{In}
+use Rattle.ext_model.specs.FiniteSets.Total.{sum_on}
 use Rattle.ext_model.specs.declared.records.NodeRec.{NodeRec}
 use Rattle.ext_model.specs.declared.records.MergeRec.{MergeRec}
 use Rattle.ext_model.specs.RecordNames.{names_of}

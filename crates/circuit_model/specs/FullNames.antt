@@ -1,9 +1,9 @@
 -- The full names of a tree of records, and which of them are of one node.
 use Rattle.std.specs.Prelude.{◌≡◌, ◌⊎◌, ℕ, List, map}
 use Rattle.std.specs.declared.cmp.Ordering.TheVariants.{Less}
-use Rattle.finite_sets.specs.Lists.{In}
-use Rattle.finite_sets.specs.Chain.{Chain, EitherWay}
-use Rattle.finite_sets.specs.Order.{IsInOrder}
+use Rattle.ext_model.specs.FiniteSets.Lists.{In}
+use Rattle.ext_model.specs.FiniteSets.Chain.{Chain, EitherWay}
+use Rattle.ext_model.specs.FiniteSets.Order.{IsInOrder}
 use Rattle.ext_model.specs.declared.records.NodeRec.{NodeRec}
 use Rattle.ext_model.specs.declared.records.MergeRec.{MergeRec}
 use Rattle.ext_model.specs.NameOrder.{name_cmp}

@@ -4,7 +4,7 @@ use Rattle.std.specs.Prelude.{IsTrue}
 use Rattle.std.specs.Int.{w64}
 use Rattle.std.proofs.lemmas.Grind.{common_steps}
 use Rattle.std.proofs.lemmas.Int.{ints, to_z-of_z}
-use Rattle.cell_bodies.specs.declared.limits.TheConstants.{LAST_POSITION}
+use Rattle.script_lines.specs.CellBodies.declared.limits.TheConstants.{LAST_POSITION}
 use Rattle.script_lines.specs.Arguments.{is_between}
 use Rattle.script_lines.specs.Forms.{IsNumber}
 use mir.Val.{of_z, to_z}

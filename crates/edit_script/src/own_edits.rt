@@ -1,8 +1,8 @@
 //! The commands that change what the current cell has of its own: its paint and its labels.
 ghost use Rattle.std.specs.Prelude.{◌≡◌, pos, unsigned_abs, IsTrue, OnOk};
-ghost use Rattle.cell_bodies.specs.Numbers.{is_position};
-ghost use Rattle.cell_bodies.specs.Words.{is_label_text};
-ghost use Rattle.cell_bodies.specs.declared.limits.TheConstants.{LAST_POSITION};
+ghost use Rattle.script_lines.specs.CellBodies.Numbers.{is_position};
+ghost use Rattle.script_lines.specs.CellBodies.Words.{is_label_text};
+ghost use Rattle.script_lines.specs.CellBodies.declared.limits.TheConstants.{LAST_POSITION};
 ghost use Rattle.script_lines.specs.Arguments.{is_between};
 ghost use Rattle.edit_script.specs.Answers.{Applies};
 ghost use Rattle.edit_script.specs.Editing.{IsCurrent};

@@ -1,7 +1,7 @@
 //! The commands that change the uses of the current cell.
 ghost use Rattle.std.specs.Prelude.{◌≡◌, Some, IsTrue, OnOk};
-ghost use Rattle.cell_bodies.specs.Numbers.{is_index};
-ghost use Rattle.cell_bodies.specs.Words.{is_use_id};
+ghost use Rattle.script_lines.specs.CellBodies.Numbers.{is_index};
+ghost use Rattle.script_lines.specs.CellBodies.Words.{is_use_id};
 ghost use Rattle.script_lines.specs.Forms.{AreSixNumbers, IsNumber};
 ghost use Rattle.edit_script.specs.Answers.{Applies};
 ghost use Rattle.edit_script.specs.Editing.{IsCurrent};

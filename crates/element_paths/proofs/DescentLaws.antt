@@ -17,8 +17,8 @@ use Rattle.cell_library.specs.Libraries.{LibraryParts, IsLawfulLibrary, seen}
 use Rattle.cell_library.specs.PartCounts.{element_count}
 use Rattle.cell_library.specs.Views.{LibraryView, view_at}
 use Rattle.cell_library.proofs.ElementCounts.{use_is_lawful}
-use Rattle.named_trees.specs.NamedTrees.{NamedTree, layouts_of, named_elements_in}
-use Rattle.named_trees.specs.NamedTrees.NamedTree.{named_tree}
+use Rattle.library_trees.specs.NamedTrees.NamedTrees.{NamedTree, layouts_of, named_elements_in}
+use Rattle.library_trees.specs.NamedTrees.NamedTrees.NamedTree.{named_tree}
 use Rattle.library_trees.specs.ElementNames.{UseElement, use_elements}
 use Rattle.library_trees.specs.NamedCells.{named_elements_from, named_tree_at, own_body_of}
 use Rattle.library_trees.proofs.LayoutLaws.{layouts_of_cell}

@@ -14,7 +14,7 @@ use Rattle.cell_library.specs.Libraries.{LibraryParts, IsLawfulLibrary, seen}
 use Rattle.cell_library.specs.PartCounts.{element_count}
 use Rattle.cell_library.specs.Views.{view_at}
 use Rattle.cell_library.proofs.LayoutTreeLaws.{tree_unfolds}
-use Rattle.named_trees.specs.NamedTrees.{NamedTree, layouts_of}
+use Rattle.library_trees.specs.NamedTrees.NamedTrees.{NamedTree, layouts_of}
 use Rattle.library_trees.specs.ElementNames.{UseElement, array_element, use_elements}
 use Rattle.library_trees.specs.NamedCells.{named_elements_from}
 use Rattle.element_paths.specs.ElementPaths.{NamedElement, element_at}

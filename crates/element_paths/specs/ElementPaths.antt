@@ -3,8 +3,8 @@ use Rattle.std.specs.Prelude.{◌≡◌, ℕ, zero, suc, List, [], ◌∷◌, sl
 use Rattle.geo_core.specs.declared.transforms.Transform.{Transform}
 use Rattle.layout_trees.specs.CellTrees.{Standing, standings, under}
 use Rattle.cell_library.specs.Views.{LibraryView}
-use Rattle.named_trees.specs.NamedTrees.{NamedTree, NamedElements, named_elements_in, layouts_of}
-use Rattle.named_trees.specs.NamedTrees.NamedElements.{no_more, element_then}
+use Rattle.library_trees.specs.NamedTrees.NamedTrees.{NamedTree, NamedElements, named_elements_in, layouts_of}
+use Rattle.library_trees.specs.NamedTrees.NamedTrees.NamedElements.{no_more, element_then}
 use Rattle.library_trees.specs.NamedCells.{named_tree_at}
 use Rattle.element_paths.specs.declared.steps.Step.{Step}
 

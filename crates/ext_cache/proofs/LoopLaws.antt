@@ -13,9 +13,9 @@ use Rattle.use_orders.specs.Uses.{AreBehindChildren, UsesCell}
 use Rattle.cell_library.specs.Additions.{children_in}
 use Rattle.cell_library.specs.Libraries.{LibraryParts, seen}
 use Rattle.cell_library.specs.Views.{view_at}
-use Rattle.hier_merge.specs.Interactions.{IsWork}
-use Rattle.hier_merge.specs.UncleanCells.{IsCleanCell}
-use Rattle.kept_records.specs.KeptRecords.{HaveKeptRecordsBelow, IsBelow}
+use Rattle.tree_merges.specs.HierMerge.Interactions.{IsWork}
+use Rattle.tree_merges.specs.HierMerge.UncleanCells.{IsCleanCell}
+use Rattle.use_records.specs.KeptRecords.KeptRecords.{HaveKeptRecordsBelow, IsBelow}
 use Rattle.ext_cache.specs.declared.extraction.Extracted.{Extracted}
 use Rattle.ext_cache.specs.declared.undo.Undo.{Undo}
 use Rattle.ext_cache.specs.Caches.{Agrees, IsRecordNow, IsWorkOfAll, MakesRecords, Records, dirty_cells, entry_in, is_dirty}

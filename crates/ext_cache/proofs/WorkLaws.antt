@@ -1,7 +1,7 @@
 -- The work of several cells.
 use Rattle.std.proofs.Common.{◌≡◌, ◌≤◌, ◌+◌, ◌*◌, ℕ, List, [], ◌∷◌, ◌++◌, refl, arith}
 use Rattle.cell_library.specs.Views.{LibraryView}
-use Rattle.hier_merge.specs.Interactions.{IsWork}
+use Rattle.tree_merges.specs.HierMerge.Interactions.{IsWork}
 use Rattle.ext_cache.specs.Caches.{IsWorkOfAll}
 
 -- The work of the first cells, and that of the others.

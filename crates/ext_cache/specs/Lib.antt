@@ -1,3 +1,5 @@
+-- what crates above name of those below
+pub use Rattle.names.specs as Names
 pub mod Caches
 pub mod Refusals
 pub mod Undoing

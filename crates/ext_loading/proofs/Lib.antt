@@ -1,3 +1,5 @@
+-- what crates above name of those below
+pub use Rattle.plain_records.proofs as PlainRecords
 pub mod Positions
 pub mod ReadingLaws
 pub mod CycleLaws

@@ -6,7 +6,7 @@ use Rattle.std.specs.FinMap.{nat_cmp-IsAntisymmetric, slice_cmp-IsAntisymmetric}
 use Rattle.std.specs.Ordering.{is_gt, ordering_reverse}
 use Rattle.std.specs.declared.cmp.Ordering.{Ordering}
 use Rattle.std.specs.declared.cmp.Ordering.TheVariants.{Less, Equal, Greater}
-use Rattle.finite_sets.specs.Laws.{IsReflexive, IsTransitive}
+use Rattle.geo_core.specs.FiniteSets.Laws.{IsReflexive, IsTransitive}
 use Rattle.ext_model.specs.NameOrder.{name_rank, name_cmp, StandsNoLater}
 use Rattle.ext_model.specs.NameLaws.{NameOrderIsTotal, NameOrderIsAntisymmetric, NameOrderIsExact, RanksTellNamesApart}
 

@@ -5,7 +5,7 @@ use Rattle.std.proofs.lemmas.Cmp.{tied_itself, nat_cmp_total}
 use Rattle.std.specs.Cmp.Lexicographic.{slice_cmp}
 use Rattle.std.specs.Ordering.{nat_cmp, ordering_then}
 use Rattle.std.specs.declared.cmp.Ordering.{Ordering}
-use Rattle.finite_sets.proofs.Orders.{nat_cmp-add}
+use Rattle.geo_core.proofs.FiniteSets.Orders.{nat_cmp-add}
 use Rattle.ext_model.specs.declared.names.TheConstants.{SLASH, GLOBAL_MARK, GENERATED_MARK}
 use Rattle.ext_model.specs.NodeNames.{slashes_in, ends_in, name_kind}
 use Rattle.ext_model.specs.NameOrder.{kind_rank, name_cmp}

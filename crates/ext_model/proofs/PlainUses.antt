@@ -1,8 +1,8 @@
 -- The elements of a use of its form are lawful uses.
 use Rattle.std.proofs.Common.{inl, inr, subst, IsTrue}
 use Rattle.std.specs.Prelude.{Option, Some, None}
-use Rattle.finite_sets.specs.Lists.{In}
-use Rattle.finite_sets.proofs.Members.{In-map_source}
+use Rattle.geo_core.specs.FiniteSets.Lists.{In}
+use Rattle.geo_core.proofs.FiniteSets.Members.{In-map_source}
 use Rattle.text_scan.specs.PlainNames.{is_plain_name}
 use Rattle.geo_core.specs.declared.grids.Grid.{Grid}
 use Rattle.geo_core.specs.Elements.{elements_of}

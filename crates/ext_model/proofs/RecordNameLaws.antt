@@ -2,9 +2,9 @@
 use Rattle.std.proofs.Common.{◌≡◌, ℕ, ◌==◌, Bool, true, false, ◌&&◌, IsTrue, inl, inr, List, length, ap, arith}
 use Rattle.std.proofs.lemmas.Bool.{eqb-true}
 use Rattle.std.proofs.lemmas.List.Elements.{All-contains}
-use Rattle.finite_sets.specs.Lists.{In}
-use Rattle.finite_sets.proofs.Members.{Contains-from_In}
-use Rattle.finite_sets.proofs.Images.{In-flat_map_source}
+use Rattle.geo_core.specs.FiniteSets.Lists.{In}
+use Rattle.geo_core.proofs.FiniteSets.Members.{Contains-from_In}
+use Rattle.geo_core.proofs.FiniteSets.Images.{In-flat_map_source}
 use Rattle.ext_model.specs.declared.records.CellExt.{CellExt}
 use Rattle.ext_model.specs.NodeNames.{slashes_in, is_word, is_node_name}
 use Rattle.ext_model.specs.Paths.{path_text}

@@ -2,7 +2,7 @@
 use Rattle.std.specs.Prelude.{◌≡◌, ◌⊎◌, ◌<◌, ◌≤◌, ◌<ℤ◌, ℕ, IsTrue, ℤ, List, ◌∷◌, length, All, sum_by}
 use Rattle.std.specs.Int.{w32}
 use Rattle.std.specs.Int.RustNames.{FitsSigned, unsigned_abs}
-use Rattle.finite_sets.specs.Lists.{In, Distinct}
+use Rattle.geo_core.specs.FiniteSets.Lists.{In, Distinct}
 use Rattle.text_scan.specs.PlainNames.{is_plain_name}
 use Rattle.geo_core.specs.declared.transforms.Transform.{Transform}
 use Rattle.geo_core.specs.Images.{six_of}

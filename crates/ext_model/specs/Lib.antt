@@ -1,3 +1,7 @@
+-- what crates above name of those below
+pub use Rattle.geo_core.specs.FiniteSets as FiniteSets
+pub use Rattle.geo_core.specs as GeoCore
+pub use Rattle.text_scan.specs as TextScan
 pub mod NodeNames
 pub mod NameOrder
 pub mod Paths

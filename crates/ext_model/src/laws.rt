@@ -5,7 +5,7 @@ ghost use Rattle.ext_model.specs.NameLaws.{NameOrderIsTotal, NameOrderIsAntisymm
 ghost use Rattle.ext_model.specs.NameLaws.{PathsKeepTheOrder, PathsNameBelow, KindsTellGlobalNames};
 ghost use Rattle.ext_model.specs.NameParts.{PathsCompareByParts};
 ghost use Rattle.ext_model.specs.RecordLaws.{PathsWithoutSlashNameNodes, PathsWithSlashLeadIntoElements};
-ghost use Rattle.finite_sets.specs.Laws.{IsReflexive, IsTransitive};
+ghost use Rattle.geo_core.specs.FiniteSets.Laws.{IsReflexive, IsTransitive};
 
 /// The name order is a total order of all names, and tells any two of them apart.
 pub fn name_order_is_total()

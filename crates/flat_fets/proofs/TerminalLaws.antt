@@ -19,7 +19,7 @@ use Rattle.ext_model.specs.NameOrder.{name_cmp}
 use Rattle.circuit_model.specs.Elements.{Element}
 use Rattle.circuit_model.specs.FullNames.{name_in, AreInNameOrder}
 use Rattle.circuit_model.specs.FlatFets.{node_name, side_name}
-use Rattle.name_classes.specs.Classes.{AreLabels}
+use Rattle.node_labels.specs.NameClasses.Classes.{AreLabels}
 use Rattle.node_labels.specs.Labels.{label_of, AreNamed}
 use Rattle.node_labels.proofs.GroupLaws.{label_below}
 use Rattle.node_labels.proofs.LabelLaws.{bytes_eq-same, bytes_eq-true}

@@ -7,7 +7,7 @@ use Rattle.std.specs.Int.RustNames.{FitsSigned}
 use Rattle.std.proofs.Math.ListN.{set}
 use Rattle.std.proofs.lemmas.Int.{ints}
 use Rattle.std.proofs.lemmas.Option.{slice_get_within, get_or_from_slice_get}
-use Rattle.name_classes.proofs.TreeLaws.{tree_of_names}
+use Rattle.flat_sums.proofs.NameClasses.TreeLaws.{tree_of_names}
 use Rattle.finite_sets.proofs.Members.{In-push_cases}
 use Rattle.finite_sets.proofs.Places.{In-slice_get, slice_get-below}
 use Rattle.finite_sets.proofs.Searches.{All-In}
@@ -20,11 +20,11 @@ use Rattle.element_tree.specs.declared.tree.TreeElement.{TreeElement}
 use Rattle.full_names.specs.declared.names.FullNames.{FullNames}
 use Rattle.full_names.specs.declared.names.Origin.{Origin}
 use Rattle.full_names.specs.Names.{AreNames, ComesFrom, GivesText, elements_in}
-use Rattle.flat_limits.proofs.TreeLaws.{no_flat}
-use Rattle.node_labels.specs.Spots.{element_at}
-use Rattle.node_labels.proofs.LabelLaws.{one_list}
-use Rattle.node_labels.proofs.PlaceLaws.{place_of, place_set_cases}
-use Rattle.node_labels.proofs.SpotLaws.{IsHere, element_here, lawful_cell}
+use Rattle.flat_sums.proofs.FlatLimits.TreeLaws.{no_flat}
+use Rattle.flat_sums.specs.NodeLabels.Spots.{element_at}
+use Rattle.flat_sums.proofs.NodeLabels.LabelLaws.{one_list}
+use Rattle.flat_sums.proofs.NodeLabels.PlaceLaws.{place_of, place_set_cases}
+use Rattle.flat_sums.proofs.NodeLabels.SpotLaws.{IsHere, element_here, lawful_cell}
 use Rattle.flat_nodes.specs.Named.{HasText, HasAlias, ArePlaced}
 
 -- the text of a number is its full name

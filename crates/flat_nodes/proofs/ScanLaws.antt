@@ -13,9 +13,9 @@ use Rattle.finite_sets.proofs.Places.{same_by_places, slice_get-below, slice_get
 use Rattle.ext_model.specs.declared.records.NodeRec.{NodeRec}
 use Rattle.ext_model.specs.RecordNames.{names_of}
 use Rattle.circuit_model.specs.Elements.{Element}
-use Rattle.name_classes.specs.Classes.{AreLabels}
-use Rattle.node_labels.specs.Labels.{group_of, groups_of, AreNamed}
-use Rattle.node_labels.proofs.PlaceLaws.{place_set, place_set_other}
+use Rattle.flat_sums.specs.NameClasses.Classes.{AreLabels}
+use Rattle.flat_sums.specs.NodeLabels.Labels.{group_of, groups_of, AreNamed}
+use Rattle.flat_sums.proofs.NodeLabels.PlaceLaws.{place_set, place_set_other}
 
 -- The nodes have so many of the names, each those of its label.
 pub record AreNamedUpTo (list : List (List ℕ)) (labels : List ℕ) (n : ℕ) (nodes : List NodeRec) : Type 0 where

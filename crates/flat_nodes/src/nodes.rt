@@ -2,7 +2,7 @@
 ghost use Rattle.std.specs.Prelude.{◌≡◌, ◌<◌, ◌∷◌, [], IfOk, OnOk};
 ghost use Rattle.ext_model.specs.RecordNames.{names_of};
 ghost use Rattle.full_names.specs.Names.{AreNames};
-ghost use Rattle.node_labels.specs.Spots.{AreLabelsOf, AreNamedOf};
+ghost use Rattle.flat_sums.specs.NodeLabels.Spots.{AreLabelsOf, AreNamedOf};
 ghost use Rattle.flat_nodes.specs.Named.{HasText, IsPlacedAt, HasAlias, ArePlaced};
 
 use element_tree::ElementTree;

@@ -16,7 +16,7 @@ use Rattle.element_tree.specs.declared.tree.TreeElement.{TreeElement}
 use Rattle.full_names.specs.declared.names.FullNames.{FullNames}
 use Rattle.full_names.specs.Names.{AreNames, IsElement, IsSpotOf, elements_in}
 use Rattle.full_names.specs.NameLists.{IsFullNameList}
-use Rattle.flat_limits.proofs.TreeLaws.{no_flat}
+use Rattle.node_labels.proofs.FlatLimits.TreeLaws.{no_flat}
 use Rattle.name_classes.specs.declared.classes.NameClasses.{NameClasses}
 use Rattle.node_labels.proofs.PlaceLaws.{place_of}
 use Rattle.node_labels.proofs.SpotLaws.{flat_here, name_among}

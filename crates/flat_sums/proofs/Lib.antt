@@ -1,3 +1,7 @@
+-- what crates above name of those below
+pub use Rattle.node_labels.proofs.FlatLimits as FlatLimits
+pub use Rattle.name_classes.proofs as NameClasses
+pub use Rattle.node_labels.proofs as NodeLabels
 pub mod AmountLaws
 pub mod BoundLaws
 pub mod AddingLaws

@@ -23,7 +23,7 @@ use Rattle.circuit_model.specs.Refusals.{node_count, merge_count}
 use Rattle.circuit_model.specs.declared.limits.TheConstants.{MOST_NODES, MOST_MERGES}
 use Rattle.full_names.specs.declared.names.FullNames.{FullNames}
 use Rattle.full_names.specs.Names.{AreNames, elements_in}
-use Rattle.flat_limits.proofs.TreeLaws.{no_flat}
+use Rattle.node_labels.proofs.FlatLimits.TreeLaws.{no_flat}
 use Rattle.node_labels.specs.Labels.{label_of}
 use Rattle.node_labels.specs.Spots.{element_at, no_element}
 use Rattle.node_labels.proofs.PlaceLaws.{place_of}

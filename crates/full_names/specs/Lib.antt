@@ -1,3 +1,5 @@
+-- what crates above name of those below
+pub use Rattle.circuit_model.specs as CircuitModel
 pub mod OwnNames
 pub mod Reached
 pub mod Globals

@@ -1,3 +1,5 @@
+-- what crates above name of those below
+pub use Rattle.finite_sets.specs as FiniteSets
 pub mod Areas
 pub mod Covering
 pub mod Elements

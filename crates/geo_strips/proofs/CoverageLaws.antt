@@ -10,8 +10,8 @@ use Rattle.std.proofs.lemmas.Bool.{cases_Bool}
 use Rattle.std.proofs.lemmas.Int.{ints, clamps, by_lt_z, to_z-of_z}
 use Rattle.std.proofs.lemmas.List.{get_or-take, get_or-drop, length-take}
 use Rattle.std.proofs.Math.Seq.{take-length}
-use Rattle.finite_sets.specs.Lists.{In}
-use Rattle.finite_sets.proofs.Members.{In-append_left, In-push, In-push_cases, In-index, In-get_or}
+use Rattle.geo_core.specs.FiniteSets.Lists.{In}
+use Rattle.geo_core.proofs.FiniteSets.Members.{In-append_left, In-push, In-push_cases, In-index, In-get_or}
 use Rattle.geo_strips.specs.declared.coverage.Gap.{Gap}
 use Rattle.geo_strips.specs.declared.coverage.Coverage.{Coverage, Even, Cut'}
 use Rattle.geo_strips.specs.Coverage.{until, least_of, most_of, IsTopped, IsCut, IsCutAt, is_from, is_before, raised, begins_before}

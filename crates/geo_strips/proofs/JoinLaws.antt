@@ -2,10 +2,10 @@
 use Rattle.std.proofs.Common.{◌≡◌, ◌⊎◌, inl, inr, ℤ, ◌≤ℤ◌, ◌<ℤ◌, true, false, cond, List, [], ◌∷◌, refl, sym, ◌∙◌, ap, subst, arith}
 use Rattle.std.proofs.lemmas.Bool.{cases_Bool}
 use Rattle.std.proofs.lemmas.Int.{ints, clamps, by_lt_z}
-use Rattle.finite_sets.specs.Lists.{In}
-use Rattle.finite_sets.specs.Order.{Lexicographic}
-use Rattle.finite_sets.proofs.Orders.{Lexicographic-trans, at_most-trans}
-use Rattle.finite_sets.proofs.Pairs.{Pairwise}
+use Rattle.geo_core.specs.FiniteSets.Lists.{In}
+use Rattle.geo_core.specs.FiniteSets.Order.{Lexicographic}
+use Rattle.geo_core.proofs.FiniteSets.Orders.{Lexicographic-trans, at_most-trans}
+use Rattle.geo_core.proofs.FiniteSets.Pairs.{Pairwise}
 use Rattle.geo_strips.specs.declared.bars.Bar.{Bar}
 use Rattle.geo_strips.specs.Bars.{meets, reaching, joined_from, joined}
 

@@ -12,10 +12,10 @@ use Rattle.std.proofs.lemmas.Int.{ints}
 use Rattle.std.proofs.lemmas.List.Kept.{Contains-dedup, IsStrictlySortedBy-dedup}
 use Rattle.std.proofs.lemmas.List.Sorted.{IsPermutation-sym}
 use Rattle.std.proofs.lemmas.Map.Keys.{Less-from_sorted}
-use Rattle.finite_sets.specs.Lists.{In}
-use Rattle.finite_sets.proofs.Members.{In-append_cases, In-append_left, In-append_right, In-map, In-map_source, In-filter, In-filter_source}
-use Rattle.finite_sets.proofs.Members.{In-filter_passes, In-from_Contains, Contains-from_In, In-permutation}
-use Rattle.finite_sets.proofs.Orders.{int_then-not_less, IsSorted-pairs}
+use Rattle.geo_core.specs.FiniteSets.Lists.{In}
+use Rattle.geo_core.proofs.FiniteSets.Members.{In-append_cases, In-append_left, In-append_right, In-map, In-map_source, In-filter, In-filter_source}
+use Rattle.geo_core.proofs.FiniteSets.Members.{In-filter_passes, In-from_Contains, Contains-from_In, In-permutation}
+use Rattle.geo_core.proofs.FiniteSets.Orders.{int_then-not_less, IsSorted-pairs}
 use Rattle.geo_core.specs.declared.squares.Rect.{Rect}
 use Rattle.geo_strips.specs.declared.bars.Bar.{Bar}
 use Rattle.geo_strips.specs.declared.row_events.Event.{Event}

@@ -3,7 +3,7 @@ use Rattle.std.proofs.Common.{◌≡◌, ◌⊎◌, inl, inr, ℤ, ◌≤ℤ◌,
 use Rattle.std.specs.Ordering.{is_lt, is_eq, is_gt, int_cmp}
 use Rattle.std.specs.Int.{int_max, int_min}
 use Rattle.std.proofs.lemmas.Int.{ints, clamps, by_lt_z}
-use Rattle.finite_sets.specs.Lists.{In}
+use Rattle.geo_core.specs.FiniteSets.Lists.{In}
 use Rattle.geo_strips.specs.declared.bars.Bar.{Bar}
 use Rattle.geo_strips.specs.declared.row_runs.Run.{Run}
 use Rattle.geo_strips.specs.RowRuns.{Row, IsInRow, AreRuns, bar_of, IsWritten, Changes, IsTaken, IsLastRun, Touches, without, LiesClear, IsPlaced, IsCovered, IsUncovered}

@@ -8,13 +8,13 @@ use Rattle.std.proofs.lemmas.Cmp.{int_cmp_total, on_total, then_total}
 use Rattle.std.proofs.lemmas.Int.{ints, by_lt_z}
 use Rattle.std.proofs.lemmas.List.{length-map}
 use Rattle.std.proofs.lemmas.List.Sorted.{IsPermutation-sym}
-use Rattle.finite_sets.specs.Lists.{In}
-use Rattle.finite_sets.proofs.Members.{In-get_or, In-map, In-map_source, In-permutation}
-use Rattle.finite_sets.proofs.Orders.{Lexicographic-irreflexive, Lexicographic-trans, less-irreflexive, less-trans}
-use Rattle.finite_sets.proofs.Orders.{equal_from_both, int_then-not_less, ordering_then-not_less, IsSorted-pairs}
-use Rattle.finite_sets.proofs.Pairs.{Pairwise, AllPairs-from_Pairwise, Pairwise-from_AllPairs, Pairwise-map, AllPairs-permutation}
-use Rattle.finite_sets.proofs.InOrder.{same_by_order}
-use Rattle.finite_sets.specs.Laws.{IsTransitive}
+use Rattle.geo_core.specs.FiniteSets.Lists.{In}
+use Rattle.geo_core.proofs.FiniteSets.Members.{In-get_or, In-map, In-map_source, In-permutation}
+use Rattle.geo_core.proofs.FiniteSets.Orders.{Lexicographic-irreflexive, Lexicographic-trans, less-irreflexive, less-trans}
+use Rattle.geo_core.proofs.FiniteSets.Orders.{equal_from_both, int_then-not_less, ordering_then-not_less, IsSorted-pairs}
+use Rattle.geo_core.proofs.FiniteSets.Pairs.{Pairwise, AllPairs-from_Pairwise, Pairwise-from_AllPairs, Pairwise-map, AllPairs-permutation}
+use Rattle.geo_core.proofs.FiniteSets.InOrder.{same_by_order}
+use Rattle.geo_core.specs.FiniteSets.Laws.{IsTransitive}
 use Rattle.geo_core.specs.declared.squares.Square.{Square}
 use Rattle.geo_core.specs.declared.squares.Rect.{Rect}
 use Rattle.geo_strips.specs.declared.bars.Bar.{Bar}

@@ -1,7 +1,7 @@
 -- Up to which row columns are covered.
 use Rattle.std.specs.Prelude.{◌≡◌, ◌⊎◌, ℤ, ◌≤ℤ◌, ◌<ℤ◌, Bool, true, ◌&&◌, int_le, int_lt, if◌then◌else◌, Option, Some, None, List}
 use Rattle.std.specs.Int.{int_max}
-use Rattle.finite_sets.specs.Lists.{In}
+use Rattle.geo_core.specs.FiniteSets.Lists.{In}
 use Rattle.geo_strips.specs.declared.coverage.Gap.{Gap}
 use Rattle.geo_strips.specs.declared.coverage.Coverage.{Coverage, Even, Cut'}
 

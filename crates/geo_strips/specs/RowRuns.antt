@@ -1,7 +1,7 @@
 -- The runs of a row, and how they change from one row to the next.
 use Rattle.std.specs.Prelude.{◌≡◌, ◌⊎◌, ℤ, ◌≤ℤ◌, ◌<ℤ◌, Option, Some, None, List, cond}
 use Rattle.std.specs.Ordering.{is_eq, int_cmp}
-use Rattle.finite_sets.specs.Lists.{In}
+use Rattle.geo_core.specs.FiniteSets.Lists.{In}
 use Rattle.geo_strips.specs.declared.bars.Bar.{Bar}
 use Rattle.geo_strips.specs.declared.row_runs.Run.{Run}
 

@@ -1,7 +1,7 @@
 //! Up to which row each column is covered.
 ghost use Rattle.std.specs.Prelude.{◌≡◌, ℤ, ◌≤ℤ◌, ◌<ℤ◌, AllPairs, IfOk, OnOk};
 ghost use Rattle.std.specs.Int.{int_max, int_min};
-ghost use Rattle.finite_sets.specs.Lists.{In};
+ghost use Rattle.geo_core.specs.FiniteSets.Lists.{In};
 ghost use Rattle.geo_strips.specs.Coverage.{until, least_of, most_of, IsTopped, IsCut, IsCutAt, IsRaised, AddsColumns, IsGap};
 
 use crate::column_bounds::{begin_after, begins_before, end_before, ends_after};

@@ -1,6 +1,6 @@
 //! What happens at a row: rectangles begin there, and columns in which some ended.
 ghost use Rattle.std.specs.Prelude.{◌≡◌, ℤ, ◌≤ℤ◌, ◌++◌, IfOk, OnOk, map, filter, AllPairs};
-ghost use Rattle.finite_sets.specs.Lists.{In};
+ghost use Rattle.geo_core.specs.FiniteSets.Lists.{In};
 ghost use Rattle.geo_core.specs.Areas.{has_square};
 ghost use Rattle.geo_strips.specs.RowEvents.{begin_of, top_of, end_of, AreEvents, sides_of};
 

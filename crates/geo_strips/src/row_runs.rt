@@ -2,7 +2,7 @@
 ghost use Rattle.std.specs.Prelude.{◌≡◌, ◌⊎◌, ℤ, ◌≤ℤ◌, ◌<ℤ◌, Some, IfSome, IfNone, IfOk, OnOk};
 ghost use Rattle.std.specs.Ordering.{int_cmp};
 ghost use Rattle.std.specs.BTreeMap.{get};
-ghost use Rattle.finite_sets.specs.Lists.{In};
+ghost use Rattle.geo_core.specs.FiniteSets.Lists.{In};
 ghost use Rattle.geo_strips.specs.declared.bars.Bar.{Bar as IsBar};
 ghost use Rattle.geo_strips.specs.declared.row_runs.Run.{Run as IsRun};
 ghost use Rattle.geo_strips.specs.RowRuns.{AreRuns, bar_of, IsLastRun, Touches, IsTaken, Changes, without, LiesClear, IsPlaced, IsCovered, IsUncovered};

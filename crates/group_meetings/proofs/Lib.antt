@@ -1,3 +1,12 @@
+-- what crates above name of those below
+pub use Rattle.tree_names.proofs.FloodNodes as FloodNodes
+pub use Rattle.meeting_laws.proofs.HierarchyModel as HierarchyModel
+pub use Rattle.tree_names.proofs.Measures as Measures
+pub use Rattle.meeting_laws.proofs as MeetingLaws
+pub use Rattle.tree_names.proofs.NameClasses as NameClasses
+pub use Rattle.meeting_laws.proofs.NamedTrees as NamedTrees
+pub use Rattle.tree_names.proofs.OwnRecordLaws as OwnRecordLaws
+pub use Rattle.tree_names.proofs as TreeNames
 pub mod PartMembers
 pub mod MemberMaterial
 pub mod MemberSteps

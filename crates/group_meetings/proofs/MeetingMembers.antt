@@ -13,14 +13,14 @@ use Rattle.layout_model.specs.Layouts.{IsMaterial}
 use Rattle.layout_model.specs.Links.{AreLinked}
 use Rattle.layout_model.specs.Places.{Place}
 use Rattle.layout_trees.specs.FlatSets.{sets_in, IsTyped}
-use Rattle.names.specs.NamedNodes.{AreOneNamedNode}
-use Rattle.offences.specs.Offences.{SetLayout}
-use Rattle.hierarchy_model.specs.CleanCells.{IsClean}
-use Rattle.hierarchy_model.specs.Restrictions.{PartStands, IsRestriction}
-use Rattle.named_trees.specs.NamedTrees.{NamedTree, NamedElements, OwnBody, layouts_of}
-use Rattle.named_trees.specs.NamedTrees.NamedTree.{named_tree}
-use Rattle.named_trees.specs.FlatLayouts.{flat_layout}
-use Rattle.named_trees.specs.MemberGroups.{AreOneGroupBelow, IsMemberAt}
+use Rattle.tree_names.specs.Names.NamedNodes.{AreOneNamedNode}
+use Rattle.meeting_laws.specs.Offences.Offences.{SetLayout}
+use Rattle.meeting_laws.specs.HierarchyModel.CleanCells.{IsClean}
+use Rattle.meeting_laws.specs.HierarchyModel.Restrictions.{PartStands, IsRestriction}
+use Rattle.meeting_laws.specs.NamedTrees.NamedTrees.{NamedTree, NamedElements, OwnBody, layouts_of}
+use Rattle.meeting_laws.specs.NamedTrees.NamedTrees.NamedTree.{named_tree}
+use Rattle.meeting_laws.specs.NamedTrees.FlatLayouts.{flat_layout}
+use Rattle.meeting_laws.specs.NamedTrees.MemberGroups.{AreOneGroupBelow, IsMemberAt}
 use Rattle.meeting_laws.specs.PartLayouts.{parts_layout, HoldsAllMeetings, IsPartLink}
 use Rattle.meeting_laws.proofs.LinkLaws.{meet_near, link_of_part, material_stands, someone_stands}
 use Rattle.meeting_laws.proofs.RestrictionLaws.{layout_inside}

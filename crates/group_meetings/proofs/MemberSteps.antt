@@ -13,23 +13,23 @@ use Rattle.layout_model.specs.Links.{AreLinked}
 use Rattle.layout_model.specs.Places.{Place, IsNoLater}
 use Rattle.layout_trees.specs.CellTrees.{place_back}
 use Rattle.layout_trees.specs.FlatSets.{sets_in, IsTyped}
-use Rattle.names.specs.NamedNodes.{AreOneNamedNode}
-use Rattle.offences.specs.Offences.{SetLayout}
-use Rattle.hierarchy_model.proofs.PartSearch.{one_part}
-use Rattle.own_records.specs.FetRecords.{IsOfNode}
-use Rattle.cell_nodes.proofs.NodePlaces.{AreOneNamedNode-sym, material_along}
-use Rattle.named_trees.specs.NamedTrees.{NamedTree, NamedElements, layouts_of}
-use Rattle.named_trees.specs.NamedTrees.NamedTree.{named_tree}
-use Rattle.named_trees.specs.NamedTrees.NamedElements.{no_more, element_then}
+use Rattle.tree_names.specs.Names.NamedNodes.{AreOneNamedNode}
+use Rattle.meeting_laws.specs.Offences.Offences.{SetLayout}
+use Rattle.meeting_laws.proofs.HierarchyModel.PartSearch.{one_part}
+use Rattle.tree_names.specs.OwnRecords.FetRecords.{IsOfNode}
+use Rattle.tree_names.proofs.CellNodes.NodePlaces.{AreOneNamedNode-sym, material_along}
+use Rattle.meeting_laws.specs.NamedTrees.NamedTrees.{NamedTree, NamedElements, layouts_of}
+use Rattle.meeting_laws.specs.NamedTrees.NamedTrees.NamedTree.{named_tree}
+use Rattle.meeting_laws.specs.NamedTrees.NamedTrees.NamedElements.{no_more, element_then}
 use Rattle.ext_model.specs.Paths.{path_text}
-use Rattle.named_trees.proofs.MoveLaws.{neighbours_back, stacked_back}
+use Rattle.meeting_laws.proofs.NamedTrees.MoveLaws.{neighbours_back, stacked_back}
 use Rattle.meeting_laws.specs.PartLayouts.{part_layout}
 use Rattle.meeting_laws.proofs.PartLinks.{link_of_same}
 use Rattle.group_meetings.specs.Members.{tree_parts, IsMemberOfElement, IsMemberOfPart}
 use Rattle.group_meetings.proofs.PartMembers.{AreOneGroupOfElement, element_part, parts_below, own_part}
 use Rattle.tree_names.proofs.GroupNodes.{flat_link_group}
 use Rattle.tree_names.proofs.GroupNames.{one_group_name, group_name_along}
-use Rattle.own_record_laws.proofs.PreferredNames.{one_name}
+use Rattle.tree_names.proofs.OwnRecordLaws.PreferredNames.{one_name}
 
 -- the name of a node of an own layout goes along the node
 pub own_name_along : (raw : RawTech) → IsWellFormed raw → (layout : Layout) (labels : List Label) (a b : Place) (name : List ℕ)

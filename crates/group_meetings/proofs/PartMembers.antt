@@ -10,18 +10,18 @@ use Rattle.layout_model.specs.Layouts.{Layout, IsMaterial}
 use Rattle.layout_model.specs.Places.{Place}
 use Rattle.layout_trees.specs.CellTrees.{place_back}
 use Rattle.layout_trees.specs.FlatSets.{sets_in, flat_sets, element_parts}
-use Rattle.names.specs.Attachments.{label_at}
-use Rattle.names.specs.NamedNodes.{AreOneNamedNode}
-use Rattle.names.proofs.AttachLaws.{suits_material}
-use Rattle.offences.specs.Offences.{SetLayout}
-use Rattle.hierarchy_model.proofs.CleanLaws.{flat_of_parts}
-use Rattle.hierarchy_model.proofs.KindLaws.{type_in_layout}
-use Rattle.named_trees.specs.NamedTrees.{NamedTree, NamedElements, OwnBody, layouts_of, layouts_below, place_forth}
-use Rattle.named_trees.specs.NamedTrees.NamedTree.{named_tree}
-use Rattle.named_trees.specs.NamedTrees.NamedElements.{no_more, element_then}
-use Rattle.named_trees.specs.FlatLayouts.{flat_layout}
-use Rattle.named_trees.specs.MemberGroups.{AreOneGroup, AreOneGroupBelow, IsMemberAt, IsMemberBelow}
-use Rattle.named_trees.proofs.MoveLaws.{above_from_back}
+use Rattle.tree_names.specs.Names.Attachments.{label_at}
+use Rattle.tree_names.specs.Names.NamedNodes.{AreOneNamedNode}
+use Rattle.tree_names.proofs.Names.AttachLaws.{suits_material}
+use Rattle.meeting_laws.specs.Offences.Offences.{SetLayout}
+use Rattle.meeting_laws.proofs.HierarchyModel.CleanLaws.{flat_of_parts}
+use Rattle.meeting_laws.proofs.HierarchyModel.KindLaws.{type_in_layout}
+use Rattle.meeting_laws.specs.NamedTrees.NamedTrees.{NamedTree, NamedElements, OwnBody, layouts_of, layouts_below, place_forth}
+use Rattle.meeting_laws.specs.NamedTrees.NamedTrees.NamedTree.{named_tree}
+use Rattle.meeting_laws.specs.NamedTrees.NamedTrees.NamedElements.{no_more, element_then}
+use Rattle.meeting_laws.specs.NamedTrees.FlatLayouts.{flat_layout}
+use Rattle.meeting_laws.specs.NamedTrees.MemberGroups.{AreOneGroup, AreOneGroupBelow, IsMemberAt, IsMemberBelow}
+use Rattle.meeting_laws.proofs.NamedTrees.MoveLaws.{above_from_back}
 use Rattle.meeting_laws.specs.PartLayouts.{part_layout, parts_layout}
 use Rattle.group_meetings.specs.Members.{tree_parts, IsMemberOfElement, IsMemberOfPart}
 

@@ -12,18 +12,18 @@ use Rattle.layout_trees.specs.CellTrees.{place_back}
 use Rattle.layout_trees.specs.FlatSets.{sets_in, flat_sets}
 use Rattle.ext_model.specs.declared.records.CellExt.{CellExt}
 use Rattle.ext_model.specs.declared.records.NodeRec.{NodeRec}
-use Rattle.cell_nodes.specs.NodeRecords.{AreNodeRecords}
-use Rattle.offences.specs.Offences.{SetLayout, joined_at}
-use Rattle.hierarchy_model.specs.CleanCells.{IsClean, AreClean}
-use Rattle.hierarchy_model.specs.Restrictions.{PartStands}
-use Rattle.hierarchy_model.proofs.CleanLaws.{has_flat_type}
-use Rattle.hierarchy_model.proofs.KindLaws.{defined_or_not}
-use Rattle.hierarchy_model.proofs.PartSearch.{earlier, one_part}
-use Rattle.named_trees.specs.NamedTrees.{NamedTree, NamedElements, OwnBody, layouts_of, layouts_below}
-use Rattle.named_trees.specs.NamedTrees.NamedTree.{named_tree}
-use Rattle.named_trees.specs.NamedTrees.NamedElements.{no_more, element_then}
-use Rattle.named_trees.specs.FlatLayouts.{flat_layout}
-use Rattle.tree_records.specs.TreeRecords.{HaveTreeRecords}
+use Rattle.tree_names.specs.CellNodes.NodeRecords.{AreNodeRecords}
+use Rattle.meeting_laws.specs.Offences.Offences.{SetLayout, joined_at}
+use Rattle.meeting_laws.specs.HierarchyModel.CleanCells.{IsClean, AreClean}
+use Rattle.meeting_laws.specs.HierarchyModel.Restrictions.{PartStands}
+use Rattle.meeting_laws.proofs.HierarchyModel.CleanLaws.{has_flat_type}
+use Rattle.meeting_laws.proofs.HierarchyModel.KindLaws.{defined_or_not}
+use Rattle.meeting_laws.proofs.HierarchyModel.PartSearch.{earlier, one_part}
+use Rattle.meeting_laws.specs.NamedTrees.NamedTrees.{NamedTree, NamedElements, OwnBody, layouts_of, layouts_below}
+use Rattle.meeting_laws.specs.NamedTrees.NamedTrees.NamedTree.{named_tree}
+use Rattle.meeting_laws.specs.NamedTrees.NamedTrees.NamedElements.{no_more, element_then}
+use Rattle.meeting_laws.specs.NamedTrees.FlatLayouts.{flat_layout}
+use Rattle.meeting_laws.specs.TreeRecords.TreeRecords.{HaveTreeRecords}
 use Rattle.tree_names.proofs.GroupMerges.{has_group}
 use Rattle.tree_names.proofs.RecordedNodes.{record_at}
 use Rattle.tree_names.proofs.TreeElements.{top_record}

@@ -7,12 +7,12 @@ use Rattle.tech_model.specs.Types.{connects}
 use Rattle.layout_model.specs.Layouts.{IsMaterial}
 use Rattle.layout_model.specs.Links.{AreLinked, AreOneNode}
 use Rattle.layout_model.specs.Places.{Place}
-use Rattle.offences.specs.Offences.{SetLayout}
-use Rattle.hierarchy_model.specs.Restrictions.{IsRestriction}
-use Rattle.named_trees.specs.NamedTrees.{NamedTree}
-use Rattle.named_trees.specs.NamedTrees.NamedTree.{named_tree}
-use Rattle.named_trees.specs.FlatLayouts.{flat_layout}
-use Rattle.named_trees.specs.MemberGroups.{AreOneGroup}
+use Rattle.meeting_laws.specs.Offences.Offences.{SetLayout}
+use Rattle.meeting_laws.specs.HierarchyModel.Restrictions.{IsRestriction}
+use Rattle.meeting_laws.specs.NamedTrees.NamedTrees.{NamedTree}
+use Rattle.meeting_laws.specs.NamedTrees.NamedTrees.NamedTree.{named_tree}
+use Rattle.meeting_laws.specs.NamedTrees.FlatLayouts.{flat_layout}
+use Rattle.meeting_laws.specs.NamedTrees.MemberGroups.{AreOneGroup}
 use Rattle.meeting_laws.specs.PartLayouts.{parts_layout}
 use Rattle.meeting_laws.proofs.RestrictionLaws.{layout_inside, layout_elsewhere}
 use Rattle.meeting_laws.proofs.PartLinks.{link_of_same}

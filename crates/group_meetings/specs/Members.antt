@@ -8,13 +8,13 @@ use Rattle.layout_model.specs.Places.{Place}
 use Rattle.layout_trees.specs.CellTrees.{place_back}
 use Rattle.layout_trees.specs.FlatSets.{parts_in}
 use Rattle.ext_model.specs.Paths.{path_text}
-use Rattle.offences.specs.Offences.{SetLayout}
-use Rattle.hierarchy_model.specs.Restrictions.{PartStands}
-use Rattle.own_records.specs.FetRecords.{IsOfNode}
-use Rattle.named_trees.specs.NamedTrees.{NamedTree, NamedElements, layouts_of}
-use Rattle.named_trees.specs.NamedTrees.NamedTree.{named_tree}
-use Rattle.named_trees.specs.NamedTrees.NamedElements.{no_more, element_then}
-use Rattle.named_trees.specs.MemberGroups.{IsGroupName, IsMemberAt}
+use Rattle.meeting_laws.specs.Offences.Offences.{SetLayout}
+use Rattle.meeting_laws.specs.HierarchyModel.Restrictions.{PartStands}
+use Rattle.tree_names.specs.OwnRecords.FetRecords.{IsOfNode}
+use Rattle.meeting_laws.specs.NamedTrees.NamedTrees.{NamedTree, NamedElements, layouts_of}
+use Rattle.meeting_laws.specs.NamedTrees.NamedTrees.NamedTree.{named_tree}
+use Rattle.meeting_laws.specs.NamedTrees.NamedTrees.NamedElements.{no_more, element_then}
+use Rattle.meeting_laws.specs.NamedTrees.MemberGroups.{IsGroupName, IsMemberAt}
 use Rattle.meeting_laws.specs.PartLayouts.{parts_layout}
 
 -- the parts of a cell: its own layout, and the flat layout of each element

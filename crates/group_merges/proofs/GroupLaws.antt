@@ -13,7 +13,7 @@ use Rattle.ext_model.specs.declared.records.MergeRec.{MergeRec}
 use Rattle.ext_model.specs.declared.arrays.MergeRow.{MergeRow}
 use Rattle.merge_rows.specs.AddedMerges.{AddsToRows}
 use Rattle.merge_rows.proofs.AddedRows.{add_none, add_same, add_then}
-use Rattle.tree_records.specs.Merges.{Adjustment, MemberGroup, group_merges, is_zero_adjustment, merge_of, zero_adjustment}
+use Rattle.meeting_sums.specs.TreeRecords.Merges.{Adjustment, MemberGroup, group_merges, is_zero_adjustment, merge_of, zero_adjustment}
 use Rattle.meeting_sums.specs.declared.sums.MeetingSum.{MeetingSum}
 use Rattle.group_merges.specs.declared.members.Member.{Member}
 use Rattle.group_merges.specs.Groups.{name_at, mark_at, names_behind, merges_behind, is_first, sum_at, group_at, groups_before, AddsMerges}

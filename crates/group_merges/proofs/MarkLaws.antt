@@ -19,8 +19,8 @@ use Rattle.ext_model.specs.Rows.{AreRowsOf}
 use Rattle.merge_rows.proofs.AddedRows.{add_same, rows_made}
 use Rattle.circuit_model.specs.FullNames.{AreInNameOrder}
 use Rattle.full_names.proofs.ListOrders.{names_in_order}
-use Rattle.own_records.specs.FetRecords.{IsNameBefore}
-use Rattle.tree_records.specs.Merges.{MemberGroup, group_name, group_merges, zero_adjustment}
+use Rattle.meeting_sums.specs.OwnRecords.FetRecords.{IsNameBefore}
+use Rattle.meeting_sums.specs.TreeRecords.Merges.{MemberGroup, group_name, group_merges, zero_adjustment}
 use Rattle.meeting_sums.specs.declared.sums.MeetingSum.{MeetingSum}
 use Rattle.group_merges.specs.declared.members.Member.{Member}
 use Rattle.group_merges.specs.Groups.{name_at, mark_at, names_with, names_behind, is_first, sum_at, group_at, all_groups, AddsMerges}

@@ -19,7 +19,7 @@ use Rattle.finite_sets.proofs.Places.{In-slice_get, slice_get-In, slice_get-belo
 use Rattle.finite_sets.proofs.Images.{Distinct-permutation}
 use Rattle.ext_model.specs.NameOrder.{name_cmp}
 use Rattle.ext_model.proofs.NameOrders.{name_cmp_total, name_cmp_exact}
-use Rattle.own_records.specs.FetRecords.{IsNameBefore}
+use Rattle.meeting_sums.specs.OwnRecords.FetRecords.{IsNameBefore}
 use Rattle.group_merges.specs.declared.members.Member.{Member}
 use Rattle.group_merges.specs.Members.{names_of, marks_of, member_cmp, IsMemberAt, AreMembers}
 

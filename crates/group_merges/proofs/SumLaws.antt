@@ -4,7 +4,7 @@ use Rattle.std.specs.Prelude.{ℤ, pos}
 use Rattle.std.proofs.Math.ListN.{replicate}
 use Rattle.tech_model.specs.declared.raw.ClassRec.{ClassRec}
 use Rattle.layout_model.specs.Technologies.{class_of}
-use Rattle.tree_records.specs.Merges.{Adjustment, zero_adjustment}
+use Rattle.meeting_sums.specs.TreeRecords.Merges.{Adjustment, zero_adjustment}
 
 -- zeros, as many as there are classes
 zeros : (classes : List ClassRec) → replicate {A = ℤ × ℤ} (length classes) (pos 0, pos 0) ≡ (zero_adjustment (map class_of classes)).measures

@@ -5,7 +5,7 @@ use Rattle.layout_model.specs.Technologies.{Class}
 use Rattle.ext_model.specs.declared.records.MergeRec.{MergeRec}
 use Rattle.ext_model.specs.declared.arrays.MergeRow.{MergeRow}
 use Rattle.merge_rows.specs.AddedMerges.{AddsToRows}
-use Rattle.tree_records.specs.Merges.{Adjustment, MemberGroup, group_merges, merge_of, zero_adjustment}
+use Rattle.meeting_sums.specs.TreeRecords.Merges.{Adjustment, MemberGroup, group_merges, merge_of, zero_adjustment}
 use Rattle.meeting_sums.specs.declared.sums.MeetingSum.{MeetingSum}
 use Rattle.group_merges.specs.declared.members.Member.{Member}
 use Rattle.group_merges.specs.Links.{place_with}

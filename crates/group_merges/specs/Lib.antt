@@ -1,3 +1,9 @@
+-- what crates above name of those below
+pub use Rattle.meeting_sums.specs.HierarchyModel as HierarchyModel
+pub use Rattle.meeting_sums.specs.LowerMeetingLaws as MeetingLaws
+pub use Rattle.meeting_sums.specs as MeetingSums
+pub use Rattle.meeting_sums.specs.NamedTrees as NamedTrees
+pub use Rattle.meeting_sums.specs.TreeRecords as TreeRecords
 pub mod MarkedGroups
 pub mod Members
 pub mod Links

@@ -4,7 +4,7 @@ use Rattle.std.specs.List.{flat_map}
 use Rattle.tech_model.specs.declared.raw.RawTech.{RawTech}
 use Rattle.layout_model.specs.Technologies.{rules_of}
 use Rattle.ext_model.specs.declared.records.MergeRec.{MergeRec}
-use Rattle.tree_records.specs.Merges.{MemberGroup, group_merges}
+use Rattle.meeting_sums.specs.TreeRecords.Merges.{MemberGroup, group_merges}
 use Rattle.meeting_sums.specs.declared.sums.MeetingSum.{MeetingSum}
 use Rattle.group_merges.specs.MarkedGroups.{AreMarkedGroups}
 

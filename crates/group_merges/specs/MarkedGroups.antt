@@ -2,8 +2,8 @@
 use Rattle.std.specs.Prelude.{◌≡◌, ◌≢◌, ◌↔◌, ℕ, Some, List, [], AllPairs, slice_get, slice_index}
 use Rattle.finite_sets.specs.Lists.{In}
 use Rattle.circuit_model.specs.FullNames.{AreInNameOrder}
-use Rattle.own_records.specs.FetRecords.{IsNameBefore}
-use Rattle.tree_records.specs.Merges.{Adjustment, MemberGroup, group_name}
+use Rattle.meeting_sums.specs.OwnRecords.FetRecords.{IsNameBefore}
+use Rattle.meeting_sums.specs.TreeRecords.Merges.{Adjustment, MemberGroup, group_name}
 use Rattle.meeting_sums.specs.declared.sums.MeetingSum.{MeetingSum}
 
 -- the sum as an adjustment

@@ -3,7 +3,7 @@ use Rattle.std.specs.Prelude.{◌≡◌, ℕ, Some, List, AllPairs, map, slice_g
 use Rattle.std.specs.declared.cmp.Ordering.{Ordering}
 use Rattle.finite_sets.specs.Lists.{In}
 use Rattle.ext_model.specs.NameOrder.{name_cmp}
-use Rattle.own_records.specs.FetRecords.{IsNameBefore}
+use Rattle.meeting_sums.specs.OwnRecords.FetRecords.{IsNameBefore}
 use Rattle.group_merges.specs.declared.members.Member.{Member}
 
 -- the names of members

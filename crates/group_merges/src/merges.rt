@@ -7,7 +7,7 @@ ghost use Rattle.layout_model.specs.Technologies.{rules_of};
 ghost use Rattle.ext_model.specs.declared.records.MergeRec.{MergeRec};
 ghost use Rattle.ext_model.specs.Rows.{AreRowsOf};
 ghost use Rattle.merge_rows.specs.AddedMerges.{AddsToRows};
-ghost use Rattle.tree_records.specs.Merges.{is_zero_adjustment, merge_of, zero_adjustment};
+ghost use Rattle.meeting_sums.specs.TreeRecords.Merges.{is_zero_adjustment, merge_of, zero_adjustment};
 ghost use Rattle.group_merges.specs.Groups.{merges_behind, mark_at, group_at, all_groups, AddsMerges};
 ghost use Rattle.group_merges.specs.Links.{AreLinked};
 ghost use Rattle.group_merges.specs.MarkedGroups.{adjustment_of};

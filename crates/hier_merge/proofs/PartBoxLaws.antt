@@ -13,8 +13,8 @@ use Rattle.layout_model.specs.Layouts.{Layout}
 use Rattle.layout_trees.specs.CellTrees.{CellTree}
 use Rattle.layout_trees.specs.CellTrees.CellTree.{cell_tree}
 use Rattle.layout_trees.specs.FlatSets.{element_parts, elements_in, parts_in, sets_in}
-use Rattle.cell_paint.specs.Painting.{paint_range}
-use Rattle.cell_paint.specs.Paints.{IsPaintBox, IsSoundPaint}
+use Rattle.cell_library.specs.CellPaint.Painting.{paint_range}
+use Rattle.cell_library.specs.CellPaint.Paints.{IsPaintBox, IsSoundPaint}
 use Rattle.cell_tree.specs.Hulls.{IsLawfulBox}
 use Rattle.cell_library.specs.ElementBoxes.{HoldParts}
 use Rattle.cell_library.specs.LayoutTrees.{elements_from, own_cell, tree_at}

@@ -1,3 +1,5 @@
+-- what crates above name of those below
+pub use Rattle.offences.specs as Offences
 pub mod Interactions
 pub mod Visits
 pub mod StripLists

@@ -8,9 +8,9 @@ use Rattle.tech_model.specs.Rules.{KeepsRules}
 use Rattle.tech_model.specs.WellFormed.{IsWellFormed}
 use Rattle.tech_model.proofs.SetLaws.{set_not_empty}
 use Rattle.tech_model.proofs.JoinedLaws.{joined-type}
-use Rattle.layout_model.specs.LayerTypes.{HasTypesOf}
-use Rattle.layout_model.specs.Layouts.{Layout}
-use Rattle.layout_model.specs.Places.{Place}
+use Rattle.offences.specs.LayoutModel.LayerTypes.{HasTypesOf}
+use Rattle.offences.specs.LayoutModel.Layouts.{Layout}
+use Rattle.offences.specs.LayoutModel.Places.{Place}
 
 -- a value is defined, or not
 pub defined_or_not : (found : Option ℕ) → ((value : ℕ) × (found ≡ Some value)) ⊎ (found ≡ None)

@@ -4,13 +4,13 @@ use Rattle.std.proofs.Common.{arith}
 use Rattle.std.specs.Prelude.{◌↔◌, Some}
 use Rattle.std.proofs.lemmas.Bool.{cases_eq}
 use Rattle.std.proofs.lemmas.Option.{slice_get_within, slice_get-get_or}
-use Rattle.geo_core.specs.declared.squares.Square.{Square}
+use Rattle.tech_model.specs.GeoCore.declared.squares.Square.{Square}
 use Rattle.tech_model.specs.declared.raw.RawTech.{RawTech}
 use Rattle.tech_model.specs.Types.{joined}
 use Rattle.tech_model.specs.WellFormed.{IsWellFormed}
 use Rattle.tech_model.proofs.TypeLaws.{within_self}
-use Rattle.layout_model.specs.Places.{Place}
-use Rattle.layout_model.proofs.PlaceLaws.{AreNeighbours-sym}
+use Rattle.offences.specs.LayoutModel.Places.{Place}
+use Rattle.offences.proofs.LayoutModel.PlaceLaws.{AreNeighbours-sym}
 use Rattle.offences.specs.Roles.{role_of}
 use Rattle.offences.specs.Offences.{SetLayout, joined_at, union_of, flat_type, is_exactly, parts_with, HasKind, ChangesRole, Offends, HaveTypes}
 use Rattle.hierarchy_model.specs.Restrictions.{PartStands, IsRestriction, HoldsMeetings, MeetingsDecide}

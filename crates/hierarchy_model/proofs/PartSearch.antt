@@ -7,7 +7,7 @@ use Rattle.std.specs.Int.Bits.{or_zero_r}
 use Rattle.std.proofs.lemmas.Bool.{cases_eq}
 use Rattle.tech_model.specs.declared.raw.RawTech.{RawTech}
 use Rattle.tech_model.specs.Types.{joined}
-use Rattle.layout_model.specs.Places.{Place}
+use Rattle.offences.specs.LayoutModel.Places.{Place}
 use Rattle.offences.specs.Offences.{SetLayout, joined_at, union_of, flat_type, is_exactly, parts_with, HasKind}
 use Rattle.hierarchy_model.specs.Restrictions.{PartStands}
 use Rattle.hierarchy_model.proofs.KindLaws.{material_set}

@@ -4,21 +4,21 @@ use Rattle.std.specs.Prelude.{Some, IsTrue}
 use Rattle.std.proofs.lemmas.List.{map-append}
 use Rattle.finite_sets.specs.Lists.{In}
 use Rattle.finite_sets.proofs.Members.{In-append_cases}
-use Rattle.geo_core.specs.declared.transforms.Transform.{Transform}
-use Rattle.geo_core.specs.Images.{inverted}
-use Rattle.geo_core.proofs.ImageLaws.{neighbours-image}
+use Rattle.tech_model.specs.GeoCore.declared.transforms.Transform.{Transform}
+use Rattle.tech_model.specs.GeoCore.Images.{inverted}
+use Rattle.tech_model.proofs.GeoCore.ImageLaws.{neighbours-image}
 use Rattle.tech_model.specs.declared.raw.RawTech.{RawTech}
 use Rattle.tech_model.specs.Rules.{KeepsRules}
 use Rattle.tech_model.specs.WellFormed.{IsWellFormed}
 use Rattle.tech_model.specs.ChannelRoles.{is_channel}
-use Rattle.layout_model.specs.Places.{Place, AreNeighbours}
+use Rattle.offences.specs.LayoutModel.Places.{Place, AreNeighbours}
 use Rattle.offences.specs.Roles.{Role, role_of}
 use Rattle.offences.specs.Roles.Role.{Channel, Terminal, Other}
 use Rattle.offences.specs.Offences.{SetLayout, joined_at, flat_type, HasKind, Offends}
-use Rattle.layout_trees.specs.CellTrees.{OwnCell, CellTree, Elements, place_back, own_types, own_types_below}
-use Rattle.layout_trees.specs.CellTrees.CellTree.{cell_tree}
-use Rattle.layout_trees.specs.CellTrees.Elements.{no_elements, element_and}
-use Rattle.layout_trees.specs.FlatSets.{sets_in, flat_sets, element_parts, IsTyped, AreTyped}
+use Rattle.offences.specs.LayoutTrees.CellTrees.{OwnCell, CellTree, Elements, place_back, own_types, own_types_below}
+use Rattle.offences.specs.LayoutTrees.CellTrees.CellTree.{cell_tree}
+use Rattle.offences.specs.LayoutTrees.CellTrees.Elements.{no_elements, element_and}
+use Rattle.offences.specs.LayoutTrees.FlatSets.{sets_in, flat_sets, element_parts, IsTyped, AreTyped}
 use Rattle.hierarchy_model.specs.CleanCells.{IsClean, AreClean}
 use Rattle.hierarchy_model.specs.Laws.{own_pairs, own_pairs_below, RolesAreKept}
 use Rattle.hierarchy_model.proofs.KindLaws.{type_in_layout}

@@ -1,12 +1,12 @@
 -- Which cells are clean.
 use Rattle.std.specs.Prelude.{◌∷◌}
 use Rattle.tech_model.specs.declared.raw.RawTech.{RawTech}
-use Rattle.layout_model.specs.Places.{Place}
+use Rattle.offences.specs.LayoutModel.Places.{Place}
 use Rattle.offences.specs.Offences.{Offends}
-use Rattle.layout_trees.specs.CellTrees.{CellTree, Elements}
-use Rattle.layout_trees.specs.CellTrees.CellTree.{cell_tree}
-use Rattle.layout_trees.specs.CellTrees.Elements.{no_elements, element_and}
-use Rattle.layout_trees.specs.FlatSets.{sets_in, element_parts, elements_in}
+use Rattle.offences.specs.LayoutTrees.CellTrees.{CellTree, Elements}
+use Rattle.offences.specs.LayoutTrees.CellTrees.CellTree.{cell_tree}
+use Rattle.offences.specs.LayoutTrees.CellTrees.Elements.{no_elements, element_and}
+use Rattle.offences.specs.LayoutTrees.FlatSets.{sets_in, element_parts, elements_in}
 
 -- A cell is clean where all cells below it are and no place of it offends.
 abbrev mutual

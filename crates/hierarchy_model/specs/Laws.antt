@@ -6,13 +6,13 @@ use Rattle.tech_model.specs.Types.{is_within}
 use Rattle.tech_model.specs.Rules.{KeepsRules}
 use Rattle.tech_model.specs.WellFormed.{IsWellFormed}
 use Rattle.tech_model.specs.ChannelRoles.{is_channel}
-use Rattle.layout_model.specs.Places.{Place, AreNeighbours}
+use Rattle.offences.specs.LayoutModel.Places.{Place, AreNeighbours}
 use Rattle.offences.specs.Offences.{joined_at}
 use Rattle.offences.specs.Roles.{role_of}
-use Rattle.layout_trees.specs.CellTrees.{CellTree, Elements, place_back, own_types}
-use Rattle.layout_trees.specs.CellTrees.CellTree.{cell_tree}
-use Rattle.layout_trees.specs.CellTrees.Elements.{no_elements, element_and}
-use Rattle.layout_trees.specs.FlatSets.{flat_sets, IsTyped}
+use Rattle.offences.specs.LayoutTrees.CellTrees.{CellTree, Elements, place_back, own_types}
+use Rattle.offences.specs.LayoutTrees.CellTrees.CellTree.{cell_tree}
+use Rattle.offences.specs.LayoutTrees.CellTrees.Elements.{no_elements, element_and}
+use Rattle.offences.specs.LayoutTrees.FlatSets.{flat_sets, IsTyped}
 use Rattle.hierarchy_model.specs.CleanCells.{IsClean}
 
 -- how often the type stands in the list

@@ -1,9 +1,9 @@
 -- Parts of which a part of the grid alone is looked at.
 use Rattle.std.specs.Prelude.{◌≡◌, ◌≢◌, ◌⊎◌, ◌↔◌, ℕ, List, length, slice_get, Some}
-use Rattle.geo_core.specs.declared.squares.Square.{Square}
+use Rattle.tech_model.specs.GeoCore.declared.squares.Square.{Square}
 use Rattle.tech_model.specs.declared.raw.RawTech.{RawTech}
 use Rattle.tech_model.specs.WellFormed.{IsWellFormed}
-use Rattle.layout_model.specs.Places.{Place, AreNeighbours}
+use Rattle.offences.specs.LayoutModel.Places.{Place, AreNeighbours}
 use Rattle.offences.specs.Offences.{SetLayout, HaveTypes, Offends}
 
 -- Something of the part at this position stands at the place.

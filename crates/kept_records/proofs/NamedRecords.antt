@@ -9,7 +9,7 @@ use Rattle.std.proofs.lemmas.Slice.Eq.{bytes_eq-Decides}
 use Rattle.finite_sets.specs.Lists.{In}
 use Rattle.finite_sets.proofs.Members.{In-append_cases, In-append_left, In-append_right}
 use Rattle.ext_model.specs.declared.records.CellExt.{CellExt}
-use Rattle.circuit_model.specs.Elements.{ext_of}
+use Rattle.library_trees.specs.CircuitModel.Elements.{ext_of}
 
 -- the record of a cell, by its position, with each element and each merge by itself
 abbrev pub PlainRecords : Type 0

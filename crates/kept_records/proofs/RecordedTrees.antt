@@ -10,24 +10,24 @@ use Rattle.finite_sets.specs.Lists.{In}
 use Rattle.finite_sets.proofs.Distincts.{Distinct-places}
 use Rattle.finite_sets.proofs.Members.{In-map, In-map_source}
 use Rattle.geo_core.specs.declared.transforms.Transform.{Transform}
-use Rattle.tech_model.specs.declared.raw.RawTech.{RawTech}
+use Rattle.cell_library.specs.TechModel.declared.raw.RawTech.{RawTech}
 use Rattle.ext_model.specs.declared.arrays.ArrayExt.{ArrayExt}
 use Rattle.ext_model.specs.declared.records.CellExt.{CellExt}
 use Rattle.ext_model.specs.Plain.{plain}
-use Rattle.circuit_model.specs.Elements.{ext_of}
-use Rattle.cell_tree.specs.declared.use_tables.UseBody.{UseBody}
-use Rattle.cell_tree.specs.Sizes.{CellState, size_at}
-use Rattle.cell_tree.specs.Trees.{cell_at}
-use Rattle.cell_tree.specs.Uses.{HasChild}
-use Rattle.cell_tree.specs.declared.sizes.Size.{Size}
-use Rattle.cell_tree.proofs.SizeLaws.{child_is_lower}
+use Rattle.library_trees.specs.CircuitModel.Elements.{ext_of}
+use Rattle.cell_library.specs.CellTree.declared.use_tables.UseBody.{UseBody}
+use Rattle.cell_library.specs.CellTree.Sizes.{CellState, size_at}
+use Rattle.cell_library.specs.CellTree.Trees.{cell_at}
+use Rattle.cell_library.specs.CellTree.Uses.{HasChild}
+use Rattle.cell_library.specs.CellTree.declared.sizes.Size.{Size}
+use Rattle.cell_library.proofs.CellTree.SizeLaws.{child_is_lower}
 use Rattle.cell_library.specs.Contents.{Held}
 use Rattle.cell_library.specs.Libraries.{LibraryParts, IsLawfulLibrary, cells_seen, seen, uses_in}
 use Rattle.cell_library.specs.Views.{LibraryView, no_cell, view_at}
 use Rattle.cell_library.proofs.LayoutTreeLaws.{children_are_cells, uses_seen, depth_is, state_is}
 use Rattle.cell_library.proofs.ViewLaws.{length-cell_views, names_seen}
-use Rattle.named_trees.specs.NamedTrees.{NamedTree, NamedElements, named_elements_in, own_body}
-use Rattle.tree_records.specs.TreeRecords.{HasTreeRecord, HasTreeRecords, HaveTreeRecords, IsTreeRecord}
+use Rattle.library_trees.specs.NamedTrees.NamedTrees.{NamedTree, NamedElements, named_elements_in, own_body}
+use Rattle.library_trees.specs.TreeRecords.TreeRecords.{HasTreeRecord, HasTreeRecords, HaveTreeRecords, IsTreeRecord}
 use Rattle.library_trees.specs.ElementNames.{UseElement, use_elements}
 use Rattle.library_trees.specs.NamedCells.{IsAtOrBelow, named_elements_at, named_elements_from, named_tree_at}
 use Rattle.library_trees.proofs.EditedTrees.{below_is_cell}

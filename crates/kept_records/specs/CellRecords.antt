@@ -5,9 +5,9 @@ use Rattle.ext_model.specs.declared.arrays.ArrayUse.{ArrayUse}
 use Rattle.ext_model.specs.declared.arrays.ArrayExt.{ArrayExt}
 use Rattle.ext_model.specs.Plain.{plain}
 use Rattle.ext_model.specs.Rows.{AreRowsOf}
-use Rattle.cell_tree.specs.declared.use_tables.UseBody.{UseBody}
+use Rattle.cell_library.specs.CellTree.declared.use_tables.UseBody.{UseBody}
 use Rattle.cell_library.specs.Views.{LibraryView, view_at}
-use Rattle.tree_records.specs.TreeRecords.{IsTreeRecord}
+use Rattle.library_trees.specs.TreeRecords.TreeRecords.{IsTreeRecord}
 use Rattle.library_trees.specs.NamedCells.{named_tree_at}
 
 -- a use of a cell, with its grid where it is an array

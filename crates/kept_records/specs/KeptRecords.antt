@@ -3,9 +3,9 @@ use Rattle.std.specs.Prelude.{◌≡◌, ℕ, Option, Some}
 use Rattle.ext_model.specs.declared.arrays.ArrayExt.{ArrayExt}
 use Rattle.ext_model.specs.LawfulArrays.{IsLawfulArrayExt}
 use Rattle.ext_model.specs.Plain.{plain}
-use Rattle.cell_tree.specs.Uses.{HasChild}
+use Rattle.cell_library.specs.CellTree.Uses.{HasChild}
 use Rattle.cell_library.specs.Views.{LibraryView, view_at}
-use Rattle.tree_records.specs.TreeRecords.{IsTreeRecord}
+use Rattle.library_trees.specs.TreeRecords.TreeRecords.{IsTreeRecord}
 use Rattle.library_trees.specs.NamedCells.{IsAtOrBelow, named_tree_at}
 
 -- the record that is kept of a cell, by its position

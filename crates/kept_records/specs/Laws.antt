@@ -5,8 +5,8 @@ use Rattle.ext_model.specs.declared.arrays.ArrayExt.{ArrayExt}
 use Rattle.ext_model.specs.declared.records.CellExt.{CellExt}
 use Rattle.ext_model.specs.Plain.{plain}
 use Rattle.cell_library.specs.Libraries.{LibraryParts, seen}
-use Rattle.tree_records.specs.TreeRecords.{HasTreeRecords, HaveTreeRecords}
-use Rattle.named_trees.specs.NamedTrees.{named_elements_in}
+use Rattle.library_trees.specs.TreeRecords.TreeRecords.{HasTreeRecords, HaveTreeRecords}
+use Rattle.library_trees.specs.NamedTrees.NamedTrees.{named_elements_in}
 use Rattle.library_trees.specs.NamedCells.{IsAtOrBelow, named_tree_at}
 use Rattle.kept_records.specs.KeptRecords.{KeptRecords, HasKeptRecord, HaveKeptRecordsBelow}
 

@@ -21,18 +21,18 @@ use Rattle.layout_trees.specs.FlatSets.{IsTyped, parts_in}
 use Rattle.cell_library.specs.LayoutTrees.{tree_at}
 use Rattle.cell_library.specs.Libraries.{LibraryParts, IsLawfulLibrary, seen}
 use Rattle.cell_library.proofs.ElementCounts.{few_elements, part_count}
-use Rattle.hierarchy_model.specs.CleanCells.{IsClean}
-use Rattle.own_record_laws.proofs.NameForms.{plain_word}
-use Rattle.named_trees.specs.NamedTrees.{NamedTree, layouts_of, named_elements_in, own_body}
-use Rattle.named_trees.specs.NamedTrees.NamedTree.{named_tree}
-use Rattle.tree_records.specs.Merges.{group_merges}
-use Rattle.tree_records.specs.TreeRecords.{IsTreeRecord}
-use Rattle.tree_names.specs.CleanTrees.{HasElementNames, IsCleanTree, ids_in}
-use Rattle.tree_names.proofs.GroupMerges.{merge_members}
-use Rattle.group_meetings.specs.Members.{tree_parts}
-use Rattle.library_trees.specs.NamedCells.{named_tree_at}
-use Rattle.library_trees.proofs.CleanTrees.{clean_tree}
-use Rattle.library_trees.proofs.LayoutLaws.{layouts_of_cell}
+use Rattle.kept_records.specs.HierarchyModel.CleanCells.{IsClean}
+use Rattle.kept_records.proofs.OwnRecordLaws.NameForms.{plain_word}
+use Rattle.kept_records.specs.NamedTrees.NamedTrees.{NamedTree, layouts_of, named_elements_in, own_body}
+use Rattle.kept_records.specs.NamedTrees.NamedTrees.NamedTree.{named_tree}
+use Rattle.kept_records.specs.TreeRecords.Merges.{group_merges}
+use Rattle.kept_records.specs.TreeRecords.TreeRecords.{IsTreeRecord}
+use Rattle.kept_records.specs.TreeNames.CleanTrees.{HasElementNames, IsCleanTree, ids_in}
+use Rattle.kept_records.proofs.TreeNames.GroupMerges.{merge_members}
+use Rattle.adjustment_laws.specs.GroupMeetings.Members.{tree_parts}
+use Rattle.kept_records.specs.LibraryTrees.NamedCells.{named_tree_at}
+use Rattle.kept_records.proofs.LibraryTrees.CleanTrees.{clean_tree}
+use Rattle.kept_records.proofs.LibraryTrees.LayoutLaws.{layouts_of_cell}
 use Rattle.kept_records.specs.CellRecords.{IsRecordOf}
 use Rattle.lawful_trees.specs.Laws.{RecordIsLawful}
 use Rattle.lawful_trees.proofs.LawfulMerges.{group_merge_small}

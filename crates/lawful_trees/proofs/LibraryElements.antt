@@ -8,7 +8,7 @@ use Rattle.finite_sets.proofs.Places.{slice_get-In}
 use Rattle.geo_core.specs.declared.transforms.Transform.{Transform}
 use Rattle.geo_core.specs.Images.{six_of}
 use Rattle.text_scan.specs.PlainNames.{is_plain_name}
-use Rattle.cell_bodies.specs.Words.{is_use_id}
+use Rattle.cell_library.specs.CellBodies.Words.{is_use_id}
 use Rattle.cell_tree.specs.declared.limits.TheConstants.{MOST_DEPTH}
 use Rattle.cell_tree.specs.declared.use_tables.UseBody.{UseBody}
 use Rattle.cell_tree.specs.Trees.{cell_at, empty_cell}
@@ -22,13 +22,13 @@ use Rattle.cell_library.proofs.ViewLaws.{cell_viewed}
 use Rattle.ext_model.specs.declared.records.UseRec.{UseRec}
 use Rattle.ext_model.specs.Lawful.{IsLawfulUse}
 use Rattle.ext_model.specs.NodeNames.{is_node_name}
-use Rattle.named_trees.specs.NamedTrees.{NamedTree, NamedElements, named_elements_in, own_body}
-use Rattle.named_trees.specs.NamedTrees.NamedTree.{named_tree}
-use Rattle.named_trees.specs.NamedTrees.NamedElements.{no_more, element_then}
-use Rattle.tree_records.specs.TreeRecords.{use_records}
-use Rattle.library_trees.specs.ElementNames.{UseElement, use_elements}
-use Rattle.library_trees.specs.NamedCells.{named_elements_at, named_elements_from, named_tree_at, named_tree_to}
-use Rattle.library_trees.proofs.WholeTrees.{UsesWithIds, named_tree_unfolds, no_cell_seen}
+use Rattle.kept_records.specs.NamedTrees.NamedTrees.{NamedTree, NamedElements, named_elements_in, own_body}
+use Rattle.kept_records.specs.NamedTrees.NamedTrees.NamedTree.{named_tree}
+use Rattle.kept_records.specs.NamedTrees.NamedTrees.NamedElements.{no_more, element_then}
+use Rattle.kept_records.specs.TreeRecords.TreeRecords.{use_records}
+use Rattle.kept_records.specs.LibraryTrees.ElementNames.{UseElement, use_elements}
+use Rattle.kept_records.specs.LibraryTrees.NamedCells.{named_elements_at, named_elements_from, named_tree_at, named_tree_to}
+use Rattle.kept_records.proofs.LibraryTrees.WholeTrees.{UsesWithIds, named_tree_unfolds, no_cell_seen}
 use Rattle.lawful_trees.proofs.ElementForms.{element_form}
 use Rattle.lawful_trees.proofs.ElementPlaces.{element_placement}
 

@@ -12,15 +12,15 @@ use Rattle.ext_model.specs.Lawful.{IsMeasure}
 use Rattle.layout_model.specs.Layouts.{IsMaterial}
 use Rattle.layout_model.specs.Places.{Place}
 use Rattle.layout_model.proofs.Families.{InFamily}
-use Rattle.named_trees.specs.FlatLayouts.{flat_layout}
-use Rattle.named_trees.specs.MemberGroups.{IsGroupName}
-use Rattle.named_trees.specs.NamedTrees.{NamedTree}
-use Rattle.tree_records.specs.PlaceWeights.{PlaceWeight, AreMemberTotals, IsAdjustment}
-use Rattle.tree_names.specs.CleanTrees.{IsCleanTree}
-use Rattle.meeting_laws.specs.PartLayouts.{part_layout}
-use Rattle.group_meetings.specs.Members.{tree_parts}
-use Rattle.group_meetings.proofs.MemberMaterial.{flat_of_part, member_is_material, named_is_material}
-use Rattle.group_meetings.proofs.MemberSteps.{one_of_part}
+use Rattle.kept_records.specs.NamedTrees.FlatLayouts.{flat_layout}
+use Rattle.kept_records.specs.NamedTrees.MemberGroups.{IsGroupName}
+use Rattle.kept_records.specs.NamedTrees.NamedTrees.{NamedTree}
+use Rattle.kept_records.specs.TreeRecords.PlaceWeights.{PlaceWeight, AreMemberTotals, IsAdjustment}
+use Rattle.kept_records.specs.TreeNames.CleanTrees.{IsCleanTree}
+use Rattle.adjustment_laws.specs.MeetingLaws.PartLayouts.{part_layout}
+use Rattle.adjustment_laws.specs.GroupMeetings.Members.{tree_parts}
+use Rattle.adjustment_laws.proofs.GroupMeetings.MemberMaterial.{flat_of_part, member_is_material, named_is_material}
+use Rattle.adjustment_laws.proofs.GroupMeetings.MemberSteps.{one_of_part}
 use Rattle.adjustment_laws.proofs.GroupSums.{StandsAt}
 use Rattle.adjustment_laws.proofs.LocalQuantities.{IsLocal}
 use Rattle.adjustment_laws.proofs.MemberTotals.{counted, member_by_pairs, part_at}

@@ -22,10 +22,10 @@ use Rattle.cell_library.specs.LayoutTrees.{tree_at}
 use Rattle.cell_library.specs.Libraries.{LibraryParts, IsLawfulLibrary, seen}
 use Rattle.cell_library.specs.MaterialBelow.{HasMaterial, HasMaterialBelow}
 use Rattle.cell_library.proofs.HullsHoldMaterial.{hull_holds_material, material_of_sets}
-use Rattle.named_trees.specs.NamedTrees.{NamedTree, layouts_of, own_body}
-use Rattle.named_trees.specs.NamedTrees.NamedTree.{named_tree}
-use Rattle.named_trees.specs.FlatLayouts.{flat_layout}
-use Rattle.meeting_laws.proofs.LinkLaws.{part_of_empty}
+use Rattle.kept_records.specs.NamedTrees.NamedTrees.{NamedTree, layouts_of, own_body}
+use Rattle.kept_records.specs.NamedTrees.NamedTrees.NamedTree.{named_tree}
+use Rattle.kept_records.specs.NamedTrees.FlatLayouts.{flat_layout}
+use Rattle.adjustment_laws.proofs.MeetingLaws.LinkLaws.{part_of_empty}
 
 -- A place where there may be paint.
 pub record IsPaintPlace (place : Place) : Type 0 where

@@ -27,18 +27,18 @@ use Rattle.layout_model.specs.Places.{Place}
 use Rattle.layout_model.specs.Technologies.{class_of}
 use Rattle.layout_model.specs.Transistors.{Transistor}
 use Rattle.cell_paint.specs.Painting.{paint_range}
-use Rattle.measures.specs.Bounds.{IsSmallMeasure}
-use Rattle.measures.proofs.BoundLaws.{measures_are_small}
-use Rattle.names.specs.NamedNodes.{AreOneNamedNode}
-use Rattle.cell_nodes.specs.NodeRecords.{AreNodeRecords, IsNodeRecord}
-use Rattle.cell_nodes.proofs.NodePlaces.{material_along}
-use Rattle.own_records.specs.FetRecords.{AreFetRecords, IsNodeBefore, IsOfNode}
-use Rattle.own_records.specs.OwnRecords.{class_values}
-use Rattle.own_record_laws.proofs.LawfulFets.{fet_is_lawful}
-use Rattle.own_record_laws.proofs.NameForms.{type_word, name_form}
-use Rattle.own_record_laws.proofs.NamesDiffer.{names_differ}
-use Rattle.own_record_laws.proofs.NodeSizes.{measure_from, near_place, paint_x, paint_y, capacitance_small, record_measures}
-use Rattle.own_record_laws.proofs.PreferredNames.{recorded, in_some, goes_by}
+use Rattle.kept_records.specs.Measures.Bounds.{IsSmallMeasure}
+use Rattle.kept_records.proofs.Measures.BoundLaws.{measures_are_small}
+use Rattle.kept_records.specs.Names.NamedNodes.{AreOneNamedNode}
+use Rattle.kept_records.specs.CellNodes.NodeRecords.{AreNodeRecords, IsNodeRecord}
+use Rattle.kept_records.proofs.CellNodes.NodePlaces.{material_along}
+use Rattle.kept_records.specs.OwnRecords.FetRecords.{AreFetRecords, IsNodeBefore, IsOfNode}
+use Rattle.kept_records.specs.OwnRecords.OwnRecords.{class_values}
+use Rattle.kept_records.proofs.OwnRecordLaws.LawfulFets.{fet_is_lawful}
+use Rattle.kept_records.proofs.OwnRecordLaws.NameForms.{type_word, name_form}
+use Rattle.kept_records.proofs.OwnRecordLaws.NamesDiffer.{names_differ}
+use Rattle.kept_records.proofs.OwnRecordLaws.NodeSizes.{measure_from, near_place, paint_x, paint_y, capacitance_small, record_measures}
+use Rattle.kept_records.proofs.OwnRecordLaws.PreferredNames.{recorded, in_some, goes_by}
 
 -- a record has no more values than a technology may have classes
 pub class_limit : (raw : RawTech) → IsWellFormed raw → (values : List ℕ) → values ≡ class_values raw → length values ≤ MOST_CLASSES

@@ -13,17 +13,17 @@ use Rattle.ext_model.specs.Lawful.{IsPathIn}
 use Rattle.layout_model.specs.Places.{Place}
 use Rattle.layout_trees.specs.CellTrees.{place_back}
 use Rattle.layout_trees.specs.FlatSets.{IsTyped, AreTyped}
-use Rattle.cell_nodes.proofs.NodePlaces.{material_along}
-use Rattle.own_records.specs.FetRecords.{IsOfNode}
-use Rattle.own_record_laws.proofs.NameForms.{name_form}
-use Rattle.named_trees.specs.FlatLayouts.{HasNodePath, HasNodePathBelow}
-use Rattle.named_trees.specs.MemberGroups.{IsMemberAt, IsMemberBelow}
-use Rattle.named_trees.specs.NamedTrees.{NamedTree, NamedElements, layouts_of, layouts_below, named_elements_in, own_body}
-use Rattle.named_trees.specs.NamedTrees.NamedTree.{named_tree}
-use Rattle.named_trees.specs.NamedTrees.NamedElements.{no_more, element_then}
-use Rattle.tree_records.specs.TreeRecords.{use_records}
-use Rattle.tree_names.specs.CleanTrees.{ids_in}
-use Rattle.tree_names.proofs.Representatives.{group_has_path}
+use Rattle.kept_records.proofs.CellNodes.NodePlaces.{material_along}
+use Rattle.kept_records.specs.OwnRecords.FetRecords.{IsOfNode}
+use Rattle.kept_records.proofs.OwnRecordLaws.NameForms.{name_form}
+use Rattle.kept_records.specs.NamedTrees.FlatLayouts.{HasNodePath, HasNodePathBelow}
+use Rattle.kept_records.specs.NamedTrees.MemberGroups.{IsMemberAt, IsMemberBelow}
+use Rattle.kept_records.specs.NamedTrees.NamedTrees.{NamedTree, NamedElements, layouts_of, layouts_below, named_elements_in, own_body}
+use Rattle.kept_records.specs.NamedTrees.NamedTrees.NamedTree.{named_tree}
+use Rattle.kept_records.specs.NamedTrees.NamedTrees.NamedElements.{no_more, element_then}
+use Rattle.kept_records.specs.TreeRecords.TreeRecords.{use_records}
+use Rattle.kept_records.specs.TreeNames.CleanTrees.{ids_in}
+use Rattle.kept_records.proofs.TreeNames.Representatives.{group_has_path}
 use Rattle.lawful_trees.proofs.LibraryElements.{HasForms, HaveForms}
 
 -- The path is names of elements and a name of a node, each of its form.

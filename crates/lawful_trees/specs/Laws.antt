@@ -2,7 +2,7 @@
 use Rattle.std.specs.Prelude.{ℕ}
 use Rattle.ext_model.specs.declared.arrays.ArrayExt.{ArrayExt}
 use Rattle.ext_model.specs.LawfulArrays.{IsLawfulArrayExt}
-use Rattle.hierarchy_model.specs.CleanCells.{IsClean}
+use Rattle.kept_records.specs.HierarchyModel.CleanCells.{IsClean}
 use Rattle.cell_library.specs.LayoutTrees.{tree_at}
 use Rattle.cell_library.specs.Libraries.{LibraryParts, seen}
 use Rattle.kept_records.specs.CellRecords.{IsRecordOf}

@@ -1,8 +1,8 @@
 -- Sums over sets that are made of several sets with nothing in common.
 use Rattle.std.proofs.Common.{◌≡◌, ℤ, pos, Bool, true, false, cond, List, [], ◌∷◌, ◌⊎◌, inl, inr, refl, sym, subst}
-use Rattle.finite_sets.specs.Lists.{In, Distinct}
-use Rattle.finite_sets.specs.Total.{sum_on, Total}
-use Rattle.finite_sets.proofs.Totals.{Total-none, Total-iff, Total-union}
+use Rattle.geo_core.specs.FiniteSets.Lists.{In, Distinct}
+use Rattle.geo_core.specs.FiniteSets.Total.{sum_on, Total}
+use Rattle.geo_core.proofs.FiniteSets.Totals.{Total-none, Total-iff, Total-union}
 
 -- x is in one of the sets of these labels
 pub record InFamily {X L : Type 0} (Set : L → X → Type 0) (labels : List L) (x : X) : Type 0 where

@@ -1,10 +1,10 @@
 -- Links lead both ways, and a layout has one list of nodes.
 use Rattle.std.proofs.Common.{◌≡◌, ℕ, ℤ, Bool, List, [], ◌∷◌, inl, inr, refl, sym, subst, ap, ◌∙◌}
-use Rattle.finite_sets.specs.Lists.{In}
-use Rattle.finite_sets.proofs.Chains.{Chain-back}
-use Rattle.finite_sets.proofs.Totals.{Total-unique}
-use Rattle.finite_sets.specs.Laws.{IsTransitive}
-use Rattle.finite_sets.proofs.InOrder.{same_by_order, Pairwise-from_order}
+use Rattle.geo_core.specs.FiniteSets.Lists.{In}
+use Rattle.geo_core.proofs.FiniteSets.Chains.{Chain-back}
+use Rattle.geo_core.proofs.FiniteSets.Totals.{Total-unique}
+use Rattle.geo_core.specs.FiniteSets.Laws.{IsTransitive}
+use Rattle.geo_core.proofs.FiniteSets.InOrder.{same_by_order, Pairwise-from_order}
 use Rattle.layout_model.specs.Places.{Place, IsBefore}
 use Rattle.layout_model.specs.Layouts.{Layout}
 use Rattle.layout_model.specs.Links.{AreLinked, AreOneNode}

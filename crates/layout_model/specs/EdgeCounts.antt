@@ -1,6 +1,6 @@
 -- Unit edges from one set of places to another.
 use Rattle.std.specs.Prelude.{ℤ, pos}
-use Rattle.finite_sets.specs.Total.{Total}
+use Rattle.geo_core.specs.FiniteSets.Total.{Total}
 use Rattle.layout_model.specs.Places.{Place, AreNeighbours}
 
 -- An edge from a place of the first set to a neighbour in the second.

@@ -1,3 +1,6 @@
+-- what crates above name of those below
+pub use Rattle.geo_core.specs as GeoCore
+pub use Rattle.tech_model.specs as TechModel
 pub mod EdgeCounts
 pub mod Laws
 pub mod LayerTypes

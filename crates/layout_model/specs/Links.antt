@@ -1,6 +1,6 @@
 -- Which places are linked, and which belong to one node.
 use Rattle.std.specs.Prelude.{◌⊎◌, ℕ, Bool, IsTrue}
-use Rattle.finite_sets.specs.Chain.{Chain}
+use Rattle.geo_core.specs.FiniteSets.Chain.{Chain}
 use Rattle.layout_model.specs.Places.{Place, AreNeighbours, AreStacked}
 use Rattle.layout_model.specs.Layouts.{Layout, IsMaterial}
 

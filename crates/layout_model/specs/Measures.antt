@@ -1,6 +1,6 @@
 -- Area and perimeter of a set of places in a class of tile types.
 use Rattle.std.specs.Prelude.{ℕ, ℤ, pos, Bool, not, if◌then◌else◌}
-use Rattle.finite_sets.specs.Total.{sum_on, Total, one_if}
+use Rattle.geo_core.specs.FiniteSets.Total.{sum_on, Total, one_if}
 use Rattle.layout_model.specs.Places.{Place, neighbours}
 use Rattle.layout_model.specs.Layouts.{Layout}
 

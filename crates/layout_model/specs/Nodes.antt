@@ -1,8 +1,8 @@
 -- The nodes of a layout, as a list.
 use Rattle.std.specs.Prelude.{◌≡◌, ℕ, ℤ, List, [], ◌∷◌}
-use Rattle.finite_sets.specs.Lists.{In}
-use Rattle.finite_sets.specs.Least.{IsLeast}
-use Rattle.finite_sets.specs.Order.{IsInOrder}
+use Rattle.geo_core.specs.FiniteSets.Lists.{In}
+use Rattle.geo_core.specs.FiniteSets.Least.{IsLeast}
+use Rattle.geo_core.specs.FiniteSets.Order.{IsInOrder}
 use Rattle.layout_model.specs.Places.{Place, IsBefore, IsNoLater}
 use Rattle.layout_model.specs.Layouts.{Layout, IsMaterial}
 use Rattle.layout_model.specs.Links.{AreOneNode}

@@ -1,10 +1,10 @@
 -- The transistors of a layout.
 use Rattle.std.specs.Prelude.{◌≡◌, ℕ, ℤ, pos, ◌-ℤ◌, ◌<ℤ◌, IsTrue, List, map}
-use Rattle.finite_sets.specs.Chain.{Chain}
-use Rattle.finite_sets.specs.Lists.{In, Distinct}
-use Rattle.finite_sets.specs.Least.{IsLeast}
-use Rattle.finite_sets.specs.Total.{sum_on, Total}
-use Rattle.finite_sets.specs.Order.{IsInOrder}
+use Rattle.geo_core.specs.FiniteSets.Chain.{Chain}
+use Rattle.geo_core.specs.FiniteSets.Lists.{In, Distinct}
+use Rattle.geo_core.specs.FiniteSets.Least.{IsLeast}
+use Rattle.geo_core.specs.FiniteSets.Total.{sum_on, Total}
+use Rattle.geo_core.specs.FiniteSets.Order.{IsInOrder}
 use Rattle.layout_model.specs.Places.{Place, AreNeighbours, IsBefore, IsNoLater}
 use Rattle.layout_model.specs.Layouts.{Layout}
 use Rattle.tech_model.specs.declared.raw.RawTech.{RawTech}

@@ -1,7 +1,7 @@
 -- A cell with all that stands below it, as a tree.
 use Rattle.std.specs.Prelude.{ℕ, zero, suc, List, [], ◌∷◌, ◌++◌, map}
-use Rattle.geo_core.specs.declared.transforms.Transform.{Transform}
-use Rattle.geo_core.specs.Images.{composed, identity, image, inverted}
+use Rattle.layout_model.specs.GeoCore.declared.transforms.Transform.{Transform}
+use Rattle.layout_model.specs.GeoCore.Images.{composed, identity, image, inverted}
 use Rattle.layout_model.specs.Layouts.{Layout}
 use Rattle.layout_model.specs.Places.{Place}
 

@@ -1,7 +1,7 @@
 -- The flat layout of a cell, as the set of tile parts at each place, and the parts that it is made of.
 use Rattle.std.specs.Prelude.{ℕ, bit_or, List, [], ◌∷◌}
-use Rattle.tech_model.specs.declared.raw.RawTech.{RawTech}
-use Rattle.tech_model.specs.Types.{parts_of}
+use Rattle.layout_model.specs.TechModel.declared.raw.RawTech.{RawTech}
+use Rattle.layout_model.specs.TechModel.Types.{parts_of}
 use Rattle.layout_model.specs.Layouts.{Layout}
 use Rattle.layout_model.specs.LayerTypes.{HasTypesOf}
 use Rattle.layout_model.specs.Places.{Place}

@@ -1,3 +1,5 @@
+-- what crates above name of those below
+pub use Rattle.workspace.specs as Workspace
 pub mod CommandEdits
 pub mod CommandLoad
 pub mod CommandLooks

@@ -16,3 +16,4 @@ pub use command_edits::edit;
 pub use command_load::load;
 pub use command_looks::look_at;
 pub use command_tech::tech;
+pub use workspace::{LayoutSession, new_session};

@@ -9,9 +9,9 @@ use Rattle.tech_model.specs.declared.raw.Label.{Label}
 use Rattle.tech_model.specs.declared.raw.LayerId.{LayerId}
 use Rattle.tech_model.specs.declared.raw.RawTech.{RawTech}
 use Rattle.names.specs.Labels.{IsLabelOf, IsLayerOf}
-use Rattle.cell_paint.specs.Painting.{is_coordinate, is_in_range}
-use Rattle.cell_bodies.specs.Bodies.{IsLabel}
-use Rattle.cell_bodies.specs.Numbers.{is_label_area}
+use Rattle.cell_library.specs.CellPaint.Painting.{is_coordinate, is_in_range}
+use Rattle.cell_library.specs.CellBodies.Bodies.{IsLabel}
+use Rattle.cell_library.specs.CellBodies.Numbers.{is_label_area}
 use Rattle.cell_library.specs.Libraries.{LibraryParts, IsLawfulLibrary, seen, uses_in}
 use Rattle.cell_library.specs.Views.{CellView, view_at}
 use Rattle.cell_library.proofs.PaintEdits.{held_lawful}

@@ -1,8 +1,8 @@
 -- The named trees of clean cells.
 use Rattle.std.proofs.Common.{sym, subst, ℕ}
-use Rattle.layout_trees.specs.CellTrees.{CellTree}
-use Rattle.layout_trees.specs.FlatSets.{IsTyped}
-use Rattle.hierarchy_model.specs.CleanCells.{IsClean}
+use Rattle.cell_library.specs.LowerLayoutTrees.CellTrees.{CellTree}
+use Rattle.cell_library.specs.LowerLayoutTrees.FlatSets.{IsTyped}
+use Rattle.tree_names.specs.HierarchyModel.CleanCells.{IsClean}
 use Rattle.cell_library.specs.LayoutTrees.{tree_at}
 use Rattle.cell_library.specs.Libraries.{LibraryParts, IsLawfulLibrary, seen}
 use Rattle.library_trees.specs.Laws.{CleanCellHasCleanTree}

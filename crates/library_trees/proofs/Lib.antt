@@ -1,3 +1,9 @@
+-- what crates above name of those below
+pub use Rattle.tree_names.proofs.CellNodes as CellNodes
+pub use Rattle.tree_names.proofs.Measures as Measures
+pub use Rattle.tree_names.proofs.NameClasses as NameClasses
+pub use Rattle.tree_names.proofs.OwnRecordLaws as OwnRecordLaws
+pub use Rattle.tree_names.proofs as TreeNames
 pub mod LayoutLaws
 pub mod WholeTrees
 pub mod ElementNameLaws

@@ -2,7 +2,7 @@
 use Rattle.std.proofs.Common.{◌≡◌, ◌<◌, ◌≤◌, max, ℕ, zero, suc, List, [], ◌∷◌, length, refl, arith}
 use Rattle.std.specs.Prelude.{Some, slice_get}
 use Rattle.geo_core.specs.declared.transforms.Transform.{Transform}
-use Rattle.circuit_model.specs.declared.limits.TheConstants.{LONGEST_CHAIN}
+use Rattle.tree_names.specs.CircuitModel.declared.limits.TheConstants.{LONGEST_CHAIN}
 use Rattle.cell_tree.specs.declared.limits.TheConstants.{MOST_DEPTH}
 use Rattle.cell_tree.specs.declared.sizes.Dimension.TheVariants.{Depth}
 use Rattle.cell_tree.specs.declared.sizes.Size.{Size}
@@ -11,7 +11,7 @@ use Rattle.cell_tree.specs.Sizes.{size_at, depth_below as size_below}
 use Rattle.cell_library.specs.Libraries.{LibraryParts, IsLawfulLibrary, seen}
 use Rattle.cell_library.specs.Views.{view_at}
 use Rattle.cell_library.proofs.LayoutTreeLaws.{children_are_cells, depth_is}
-use Rattle.named_trees.specs.NamedTrees.{NamedTree, NamedElements}
+use Rattle.tree_names.specs.NamedTrees.NamedTrees.{NamedTree, NamedElements}
 use Rattle.tree_names.specs.CleanTrees.{depth_below, depth_of}
 use Rattle.library_trees.specs.ElementNames.{UseElement, use_elements}
 use Rattle.library_trees.specs.Laws.{AreChainsShort}

@@ -8,14 +8,14 @@ use Rattle.finite_sets.specs.Lists.{Distinct, In}
 use Rattle.finite_sets.proofs.Distincts.{Distinct-append}
 use Rattle.finite_sets.proofs.Members.{In-append_cases}
 use Rattle.geo_core.specs.declared.transforms.Transform.{Transform}
-use Rattle.cell_bodies.specs.Words.{is_use_id}
+use Rattle.cell_library.specs.CellBodies.Words.{is_use_id}
 use Rattle.cell_tree.specs.declared.use_tables.UseBody.{UseBody}
 use Rattle.cell_tree.specs.Trees.{cell_at, empty_cell}
 use Rattle.cell_library.specs.Libraries.{LibraryParts, IsLawfulLibrary, seen}
 use Rattle.cell_library.specs.Views.{CellView, LibraryView, view_at}
 use Rattle.cell_library.proofs.LayoutTreeLaws.{uses_seen, state_is}
 use Rattle.ext_model.specs.NodeNames.{slashes_in}
-use Rattle.named_trees.specs.NamedTrees.{NamedTree, NamedElements}
+use Rattle.tree_names.specs.NamedTrees.NamedTrees.{NamedTree, NamedElements}
 use Rattle.tree_names.specs.CleanTrees.{HasElementNames, HaveElementNames, ids_in}
 use Rattle.library_trees.specs.ElementNames.{UseElement, use_elements}
 use Rattle.library_trees.specs.Laws.{ElementNamesTellElements}

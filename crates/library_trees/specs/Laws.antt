@@ -2,17 +2,17 @@
 use Rattle.std.specs.Prelude.{◌≡◌, ◌<◌, ◌≤◌, ℕ, ℤ, List, length}
 use Rattle.geo_core.specs.declared.grids.Grid.{Grid}
 use Rattle.geo_core.specs.declared.squares.Rect.{Rect}
-use Rattle.tech_model.specs.declared.raw.Label.{Label}
+use Rattle.cell_library.specs.TechModel.declared.raw.Label.{Label}
 use Rattle.cell_tree.specs.declared.limits.TheConstants.{MOST_DEPTH}
 use Rattle.cell_tree.specs.Trees.{stamp_at}
-use Rattle.hierarchy_model.specs.CleanCells.{IsClean}
-use Rattle.circuit_model.specs.declared.limits.TheConstants.{LONGEST_CHAIN}
+use Rattle.tree_names.specs.HierarchyModel.CleanCells.{IsClean}
+use Rattle.tree_names.specs.CircuitModel.declared.limits.TheConstants.{LONGEST_CHAIN}
 use Rattle.cell_library.specs.Edits.{erased, labelled, moved, painted, placed, unlabelled, with_grid, with_new_cell, without_use}
 use Rattle.cell_library.specs.LayoutTrees.{tree_at}
 use Rattle.cell_library.specs.Libraries.{LibraryParts, IsNextEdit, seen}
 use Rattle.cell_library.specs.Views.{CellView, LibraryView, view_at, with_cell_changed}
-use Rattle.named_trees.specs.NamedTrees.{layouts_of}
-use Rattle.named_trees.specs.NamedTrees.NamedTree.{named_tree}
+use Rattle.tree_names.specs.NamedTrees.NamedTrees.{layouts_of}
+use Rattle.tree_names.specs.NamedTrees.NamedTrees.NamedTree.{named_tree}
 use Rattle.tree_names.specs.CleanTrees.{HasElementNames, IsCleanTree, depth_of}
 use Rattle.library_trees.specs.NamedCells.{IsAtOrBelow, named_elements_from, named_tree_at, own_body_of}
 

@@ -1,3 +1,13 @@
+-- what crates above name of those below
+pub use Rattle.tree_names.specs.CellNodes as CellNodes
+pub use Rattle.tree_names.specs.CircuitModel as CircuitModel
+pub use Rattle.tree_names.specs.HierarchyModel as HierarchyModel
+pub use Rattle.tree_names.specs.Measures as Measures
+pub use Rattle.tree_names.specs.NamedTrees as NamedTrees
+pub use Rattle.tree_names.specs.Names as Names
+pub use Rattle.tree_names.specs.OwnRecords as OwnRecords
+pub use Rattle.tree_names.specs as TreeNames
+pub use Rattle.tree_names.specs.TreeRecords as TreeRecords
 pub mod ElementNames
 pub mod NamedCells
 pub mod Laws

@@ -12,8 +12,8 @@ use Rattle.circuit_commands.specs.declared.circuits.CircuitFile.TheVariants as f
 use Rattle.circuit_commands.specs.CommandExt2sim.{Ext2simMeans}
 use Rattle.network_commands.specs.CommandSimrun.{SimrunMeans}
 use Rattle.look_commands.specs.declared.looks.Look.TheVariants as look
-use Rattle.workspace.specs.KeptSessions.{IsSession, state_of}
-use Rattle.workspace.specs.States.{State, first_state}
+use Rattle.library_commands.specs.Workspace.KeptSessions.{IsSession, state_of}
+use Rattle.library_commands.specs.Workspace.States.{State, first_state}
 use Rattle.extract_commands.specs.CommandCircuits.{CircuitMeans}
 use Rattle.extract_commands.specs.CommandExtract.{ExtractMeans}
 use Rattle.extract_commands.specs.CommandGenerate.{GenerateMeans}

@@ -5,13 +5,13 @@ ghost use Rattle.script_lines.specs.Forms.{IsFormed};
 ghost use Rattle.session_model.specs.Causes.{HasCauses, kinds_of};
 ghost use Rattle.session_model.specs.Effects.{Answers};
 ghost use Rattle.line_answers.specs.Refusals.{refusal_line};
-ghost use Rattle.workspace.specs.KeptSessions.{IsSession, state_of};
+ghost use Rattle.library_commands.specs.Workspace.KeptSessions.{IsSession, state_of};
 ghost use Rattle.magex_top.specs.Refusals.{line_fault_text, line_refusal};
 ghost use Rattle.magex_top.specs.Sessions.{CommandMeans, LineMeans};
 
 use circuit_commands::{CircuitFile, ext2sim};
 use extract_commands::{circuit, extract, generate, vectors};
-use library_commands::{edit, load, look_at, tech};
+use library_commands::{LayoutSession, edit, load, look_at, tech};
 use line_answers::{refuse, told, worded};
 use look_commands::Look;
 use network_commands::simrun;
@@ -19,7 +19,6 @@ use outside_io::Shelf;
 use script_lines::{Command, LineFault, read_line};
 use session_model::{Answer, Halt, Session};
 use std::alloc::Global;
-use workspace::LayoutSession;
 
 /// The session of a run: that of its lines, and the most steps of a phase.
 #[derive(Drop)]

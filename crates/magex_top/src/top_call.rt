@@ -12,13 +12,13 @@ ghost use Rattle.line_answers.specs.LineEffects.{reply};
 
 use crate::session::RunSession;
 use crate::status::Status;
+use library_commands::new_session;
 use outside_io::{LONGEST_FILE, ReadAllFault, Shelf, Sink, Source, read_all};
 use run_words::{RunWords, read_words};
 use session_model::{run_lines, write_text};
 use std::alloc::Global;
 use std::sync::ledger::Ledger;
 use step_count::Steps;
-use workspace::new_session;
 
 const USAGE_LINE: &[u8] = b"usage: magex [--budget N] [--quiet]\n";
 

@@ -4,8 +4,8 @@ use Rattle.std.specs.Prelude.{Some}
 use Rattle.std.proofs.lemmas.Int.{ints}
 use Rattle.finite_sets.specs.Total.{sum_on}
 use Rattle.tech_model.specs.declared.raw.RawTech.{RawTech}
-use Rattle.layout_model.specs.Places.{Place}
-use Rattle.offences.specs.Offences.{SetLayout}
+use Rattle.hierarchy_model.specs.LayoutModel.Places.{Place}
+use Rattle.hierarchy_model.specs.Offences.Offences.{SetLayout}
 use Rattle.hierarchy_model.specs.Restrictions.{PartStands}
 use Rattle.hierarchy_model.proofs.PartSearch.{NoneStands, empty_there}
 use Rattle.meeting_laws.specs.PartLayouts.{part_layout, parts_layout}

@@ -5,12 +5,12 @@ use Rattle.std.proofs.lemmas.Bool.{cases_eq}
 use Rattle.geo_core.specs.declared.squares.Square.{Square}
 use Rattle.tech_model.specs.declared.raw.RawTech.{RawTech}
 use Rattle.tech_model.specs.Types.{connects}
-use Rattle.layout_model.specs.LayerTypes.{or_space}
-use Rattle.layout_model.specs.Layouts.{IsMaterial}
-use Rattle.layout_model.specs.Links.{AreLinked}
-use Rattle.layout_model.specs.Places.{Place, AreNeighbours, AreStacked}
-use Rattle.layout_model.proofs.PlaceLaws.{AreNeighbours-sym, AreStacked-sym}
-use Rattle.offences.specs.Offences.{SetLayout}
+use Rattle.hierarchy_model.specs.LayoutModel.LayerTypes.{or_space}
+use Rattle.hierarchy_model.specs.LayoutModel.Layouts.{IsMaterial}
+use Rattle.hierarchy_model.specs.LayoutModel.Links.{AreLinked}
+use Rattle.hierarchy_model.specs.LayoutModel.Places.{Place, AreNeighbours, AreStacked}
+use Rattle.hierarchy_model.proofs.LayoutModel.PlaceLaws.{AreNeighbours-sym, AreStacked-sym}
+use Rattle.hierarchy_model.specs.Offences.Offences.{SetLayout}
 use Rattle.hierarchy_model.specs.Restrictions.{PartStands}
 use Rattle.hierarchy_model.proofs.PartSearch.{NoneStands, TwoStand, who_stands, flat_of_none, flat_of_one, type_of_empty}
 use Rattle.meeting_laws.specs.PartLayouts.{part_layout, parts_layout, HoldsAllMeetings, IsPartLink}

@@ -6,11 +6,11 @@ use Rattle.geo_core.specs.declared.squares.Square.{Square}
 use Rattle.tech_model.specs.declared.raw.RawTech.{RawTech}
 use Rattle.tech_model.specs.Rules.{KeepsRules}
 use Rattle.tech_model.specs.Types.{connects, is_within, joined}
-use Rattle.layout_model.specs.LayerTypes.{or_space}
-use Rattle.layout_model.specs.Layouts.{IsMaterial}
-use Rattle.layout_model.specs.Links.{AreLinked, AreOneNode}
-use Rattle.layout_model.specs.Places.{Place}
-use Rattle.offences.specs.Offences.{SetLayout, joined_at, Offends}
+use Rattle.hierarchy_model.specs.LayoutModel.LayerTypes.{or_space}
+use Rattle.hierarchy_model.specs.LayoutModel.Layouts.{IsMaterial}
+use Rattle.hierarchy_model.specs.LayoutModel.Links.{AreLinked, AreOneNode}
+use Rattle.hierarchy_model.specs.LayoutModel.Places.{Place}
+use Rattle.hierarchy_model.specs.Offences.Offences.{SetLayout, joined_at, Offends}
 use Rattle.hierarchy_model.specs.Restrictions.{IsRestriction}
 use Rattle.hierarchy_model.proofs.CleanLaws.{part_within}
 use Rattle.hierarchy_model.proofs.KindLaws.{defined_or_not}

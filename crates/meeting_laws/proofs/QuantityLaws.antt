@@ -7,11 +7,11 @@ use Rattle.finite_sets.specs.Total.{sum_on, one_if}
 use Rattle.finite_sets.proofs.Sums.{sum_on-add, sum_on-sub, sum_on-swap, sum_on-same, sum_on-zero, sum_on-nothing, sum_on-scale_right}
 use Rattle.geo_core.specs.declared.squares.Square.{Square}
 use Rattle.tech_model.specs.declared.raw.RawTech.{RawTech}
-use Rattle.layout_model.specs.Layouts.{Layout}
-use Rattle.layout_model.specs.Places.{Place, neighbours}
-use Rattle.layout_model.specs.Technologies.{Class}
-use Rattle.flood_nodes.proofs.OpenEdges.{Lists-neighbours}
-use Rattle.offences.specs.Offences.{SetLayout}
+use Rattle.hierarchy_model.specs.LayoutModel.Layouts.{Layout}
+use Rattle.hierarchy_model.specs.LayoutModel.Places.{Place, neighbours}
+use Rattle.hierarchy_model.specs.LayoutModel.Technologies.{Class}
+use Rattle.tree_records.proofs.FloodNodes.OpenEdges.{Lists-neighbours}
+use Rattle.hierarchy_model.specs.Offences.Offences.{SetLayout}
 use Rattle.hierarchy_model.specs.Restrictions.{IsRestriction}
 use Rattle.tree_records.specs.PlaceWeights.{PlaceWeight, area_weight, perimeter_weight, capacitance_weight}
 use Rattle.meeting_laws.specs.PartLayouts.{part_layout, parts_layout, HoldsAllMeetings, excess}

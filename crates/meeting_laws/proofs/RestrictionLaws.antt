@@ -5,9 +5,9 @@ use Rattle.finite_sets.proofs.Places.{map-pointwise}
 use Rattle.geo_core.specs.declared.squares.Square.{Square}
 use Rattle.tech_model.specs.declared.raw.RawTech.{RawTech}
 use Rattle.tech_model.specs.Types.{joined}
-use Rattle.layout_model.specs.LayerTypes.{or_space}
-use Rattle.layout_model.specs.Places.{Place, AreNeighbours}
-use Rattle.offences.specs.Offences.{SetLayout, union_of}
+use Rattle.hierarchy_model.specs.LayoutModel.LayerTypes.{or_space}
+use Rattle.hierarchy_model.specs.LayoutModel.Places.{Place, AreNeighbours}
+use Rattle.hierarchy_model.specs.Offences.Offences.{SetLayout, union_of}
 use Rattle.hierarchy_model.specs.Restrictions.{PartStands, IsRestriction}
 use Rattle.hierarchy_model.proofs.PartSearch.{NoneStands, who_stands}
 use Rattle.meeting_laws.specs.PartLayouts.{part_layout, parts_layout, HoldsAllMeetings}

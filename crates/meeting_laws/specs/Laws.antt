@@ -4,10 +4,10 @@ use Rattle.geo_core.specs.declared.squares.Square.{Square}
 use Rattle.tech_model.specs.declared.raw.RawTech.{RawTech}
 use Rattle.tech_model.specs.Rules.{KeepsRules}
 use Rattle.tech_model.specs.Types.{connects}
-use Rattle.layout_model.specs.Links.{AreLinked, AreOneNode}
-use Rattle.layout_model.specs.Places.{Place}
-use Rattle.layout_model.specs.Technologies.{Class}
-use Rattle.offences.specs.Offences.{SetLayout, Offends}
+use Rattle.hierarchy_model.specs.LayoutModel.Links.{AreLinked, AreOneNode}
+use Rattle.hierarchy_model.specs.LayoutModel.Places.{Place}
+use Rattle.hierarchy_model.specs.LayoutModel.Technologies.{Class}
+use Rattle.hierarchy_model.specs.Offences.Offences.{SetLayout, Offends}
 use Rattle.hierarchy_model.specs.Restrictions.{IsRestriction}
 use Rattle.tree_records.specs.PlaceWeights.{PlaceWeight, area_weight, perimeter_weight, capacitance_weight}
 use Rattle.meeting_laws.specs.PartLayouts.{part_layout, parts_layout, Passes, HoldsAllMeetings, IsPartLink, excess}

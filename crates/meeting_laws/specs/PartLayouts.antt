@@ -4,11 +4,11 @@ use Rattle.finite_sets.specs.Total.{sum_on}
 use Rattle.geo_core.specs.declared.squares.Square.{Square}
 use Rattle.tech_model.specs.declared.raw.RawTech.{RawTech}
 use Rattle.tech_model.specs.Types.{connects}
-use Rattle.layout_model.specs.LayerTypes.{or_space}
-use Rattle.layout_model.specs.Layouts.{Layout}
-use Rattle.layout_model.specs.Links.{AreLinked}
-use Rattle.layout_model.specs.Places.{Place, AreStacked}
-use Rattle.offences.specs.Offences.{SetLayout, joined_at, flat_type}
+use Rattle.hierarchy_model.specs.LayoutModel.LayerTypes.{or_space}
+use Rattle.hierarchy_model.specs.LayoutModel.Layouts.{Layout}
+use Rattle.hierarchy_model.specs.LayoutModel.Links.{AreLinked}
+use Rattle.hierarchy_model.specs.LayoutModel.Places.{Place, AreStacked}
+use Rattle.hierarchy_model.specs.Offences.Offences.{SetLayout, joined_at, flat_type}
 use Rattle.hierarchy_model.specs.Restrictions.{PartStands, HoldsMeetings}
 use Rattle.tree_records.specs.PlaceWeights.{PlaceWeight}
 

@@ -21,7 +21,7 @@ use Rattle.flood_nodes.specs.TileShares.{IsTileContact, IsInTiles}
 use Rattle.offences.specs.declared.plane_stacks.PlaneStack.{PlaneStack}
 use Rattle.offences.specs.Offences.{SetLayout}
 use Rattle.offences.specs.PlaneStacks.{ArePlaneStacks}
-use Rattle.tree_records.specs.PlaceWeights.{PlaceWeight, area_weight, perimeter_weight, capacitance_weight}
+use Rattle.meeting_laws.specs.TreeRecords.PlaceWeights.{PlaceWeight, area_weight, perimeter_weight, capacitance_weight}
 use Rattle.meeting_laws.specs.PartLayouts.{part_layout, parts_layout, excess}
 use Rattle.meeting_laws.proofs.QuantityLaws.{combined, product_of_difference}
 use Rattle.meeting_sums.specs.declared.columns.Column.{Column}

@@ -1,3 +1,5 @@
+-- what crates above name of those below
+pub use Rattle.meeting_laws.proofs as LowerMeetingLaws
 pub mod TileTests
 pub mod AmountLaws
 pub mod KindLaws

@@ -27,7 +27,7 @@ use Rattle.offences.specs.declared.plane_stacks.PlaneStack.{PlaneStack}
 use Rattle.offences.specs.Offences.{SetLayout}
 use Rattle.offences.specs.PlaneStacks.{ArePlaneStacks}
 use Rattle.offences.specs.TypedStacks.{kind_in}
-use Rattle.tree_records.specs.PlaceWeights.{area_weight, perimeter_weight}
+use Rattle.meeting_laws.specs.TreeRecords.PlaceWeights.{area_weight, perimeter_weight}
 use Rattle.meeting_laws.specs.PartLayouts.{part_layout, parts_layout, excess}
 use Rattle.meeting_sums.specs.Counts.{flat_kind, beyond, for_group, for_both, no_piece, stack_at, contact_counted}
 use Rattle.meeting_sums.specs.Counts.{area_beyond, shared_beyond, perimeter_beyond}

@@ -7,7 +7,7 @@ use Rattle.layout_model.specs.Places.{Place}
 use Rattle.layout_model.specs.Technologies.{Class, class_of, rules_of, capacitance}
 use Rattle.offences.specs.declared.plane_stacks.PlaneStack.{PlaneStack}
 use Rattle.offences.specs.Offences.{SetLayout}
-use Rattle.tree_records.specs.PlaceWeights.{area_weight, perimeter_weight, capacitance_weight}
+use Rattle.meeting_laws.specs.TreeRecords.PlaceWeights.{area_weight, perimeter_weight, capacitance_weight}
 use Rattle.meeting_laws.specs.PartLayouts.{excess}
 use Rattle.meeting_sums.specs.declared.columns.Column.{Column}
 use Rattle.meeting_sums.specs.declared.sums.MeetingSum.{MeetingSum}

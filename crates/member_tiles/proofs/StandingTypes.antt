@@ -17,10 +17,10 @@ use Rattle.layout_trees.specs.CellTrees.{standings_from, under}
 use Rattle.layout_trees.specs.CellTrees.CellTree.{cell_tree}
 use Rattle.layout_trees.specs.CellTrees.Elements.{no_elements, element_and}
 use Rattle.layout_trees.specs.FlatSets.{element_parts, flat_sets, parts_in, sets_in, IsTyped, AreTyped}
-use Rattle.offences.specs.Offences.{SetLayout, joined_at}
-use Rattle.hierarchy_model.specs.CleanCells.{IsClean, AreClean}
-use Rattle.hierarchy_model.proofs.CleanLaws.{own_within}
-use Rattle.hierarchy_model.proofs.KindLaws.{type_in_layout}
+use Rattle.group_meetings.specs.Offences.Offences.{SetLayout, joined_at}
+use Rattle.group_meetings.specs.HierarchyModel.CleanCells.{IsClean, AreClean}
+use Rattle.group_meetings.proofs.HierarchyModel.CleanLaws.{own_within}
+use Rattle.group_meetings.proofs.HierarchyModel.KindLaws.{type_in_layout}
 use Rattle.cell_library.proofs.PlacedRects.{back_on, identity_back}
 
 -- the own type of a standing cell at a place of the cell above

@@ -21,13 +21,13 @@ use Rattle.layout_model.specs.LayerTypes.{or_space}
 use Rattle.layout_model.specs.Links.{AreLinked}
 use Rattle.layout_model.specs.Places.{Place, AreNeighbours}
 use Rattle.layout_trees.specs.CellTrees.{CellTree, Standing, place_back, standings}
-use Rattle.offences.specs.Offences.{SetLayout}
-use Rattle.flood_nodes.proofs.Walks.{StepsIn, walk}
-use Rattle.named_trees.specs.NamedTrees.{NamedTree, layouts_of}
-use Rattle.tree_names.specs.CleanTrees.{IsCleanTree}
+use Rattle.group_meetings.specs.Offences.Offences.{SetLayout}
+use Rattle.group_meetings.proofs.FloodNodes.Walks.{StepsIn, walk}
+use Rattle.group_meetings.specs.NamedTrees.NamedTrees.{NamedTree, layouts_of}
+use Rattle.group_meetings.specs.TreeNames.CleanTrees.{IsCleanTree}
 use Rattle.cell_library.specs.declared.part_tiles.PartTile.{PartTile}
 use Rattle.cell_library.specs.PartTiles.{IsPartTileIn}
-use Rattle.meeting_laws.specs.PartLayouts.{part_layout}
+use Rattle.group_meetings.specs.MeetingLaws.PartLayouts.{part_layout}
 use Rattle.group_meetings.specs.Members.{tree_parts, IsMemberOfPart}
 use Rattle.group_meetings.proofs.MemberSteps.{member_along_link}
 use Rattle.member_tiles.specs.Laws.{MembersHaveWholeTiles}

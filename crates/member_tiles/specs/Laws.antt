@@ -6,9 +6,9 @@ use Rattle.tech_model.specs.declared.raw.RawTech.{RawTech}
 use Rattle.tech_model.specs.Rules.{KeepsRules}
 use Rattle.tech_model.specs.WellFormed.{IsWellFormed}
 use Rattle.layout_model.specs.Places.{Place}
-use Rattle.named_trees.specs.NamedTrees.{NamedTree, layouts_of}
+use Rattle.group_meetings.specs.NamedTrees.NamedTrees.{NamedTree, layouts_of}
 use Rattle.group_meetings.specs.Members.{IsMemberOfPart}
-use Rattle.tree_names.specs.CleanTrees.{IsCleanTree}
+use Rattle.group_meetings.specs.TreeNames.CleanTrees.{IsCleanTree}
 use Rattle.cell_library.specs.declared.part_tiles.PartTile.{PartTile}
 use Rattle.cell_library.specs.PartTiles.{IsPartTileIn}
 

@@ -1,3 +1,6 @@
+-- what crates above name of those below
+pub use Rattle.element_tree.proofs as ElementTree
+pub use Rattle.full_names.proofs as FullNames
 pub mod ListLaws
 pub mod TreeLaws
 pub mod PathLaws

@@ -1,7 +1,7 @@
 -- The records of elements as they are read.
 use Rattle.std.proofs.Common.{◌≡◌, ◌<◌, ℕ, List, length, get_or, sym, ◌∙◌, ap, arith}
 use Rattle.std.specs.Prelude.{Some, slice_get, pos}
-use Rattle.geo_core.specs.declared.orients.Orient.TheVariants.{R0}
+use Rattle.ext_model.specs.GeoCore.declared.orients.Orient.TheVariants.{R0}
 use Rattle.std.proofs.lemmas.Option.{slice_get_within, slice_get-get_or}
 use Rattle.ext_model.specs.declared.records.CellExt.{CellExt}
 use Rattle.element_tree.specs.declared.tree.TreeElement.{TreeElement}

@@ -1,3 +1,5 @@
+-- what crates above name of those below
+pub use Rattle.full_names.specs as FullNames
 pub mod Classes
 pub mod UseTables
 pub mod Paths

@@ -1,1 +1,3 @@
+-- what crates above name of those below
+pub use Rattle.finite_sets.proofs as FiniteSets
 pub mod Keys

@@ -1,11 +1,11 @@
 -- Places that go to the cell above and back, with what is beside them.
 use Rattle.std.proofs.Common.{◌≡◌, ap}
-use Rattle.geo_core.specs.declared.squares.Square.{Square}
-use Rattle.geo_core.specs.declared.transforms.Transform.{Transform}
-use Rattle.geo_core.specs.Images.{image, inverted}
-use Rattle.geo_core.proofs.ImageLaws.{image-back, image-forth, neighbours-image}
-use Rattle.layout_model.specs.Places.{Place, AreNeighbours, AreStacked}
-use Rattle.layout_trees.specs.CellTrees.{place_back}
+use Rattle.offences.specs.GeoCore.declared.squares.Square.{Square}
+use Rattle.offences.specs.GeoCore.declared.transforms.Transform.{Transform}
+use Rattle.offences.specs.GeoCore.Images.{image, inverted}
+use Rattle.offences.proofs.GeoCore.ImageLaws.{image-back, image-forth, neighbours-image}
+use Rattle.offences.specs.LayoutModel.Places.{Place, AreNeighbours, AreStacked}
+use Rattle.offences.specs.LayoutTrees.CellTrees.{place_back}
 use Rattle.named_trees.specs.NamedTrees.{place_forth}
 
 -- a place on the plane with this square

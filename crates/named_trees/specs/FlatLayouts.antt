@@ -1,20 +1,20 @@
 -- The nodes of a flat layout, and their names.
 use Rattle.std.specs.Prelude.{◌≡◌, ◌⊎◌, ℕ, IsTrue, List, [], ◌∷◌}
-use Rattle.finite_sets.specs.Chain.{Chain}
-use Rattle.finite_sets.specs.Least.{IsLeast}
-use Rattle.tech_model.specs.declared.raw.RawTech.{RawTech}
-use Rattle.tech_model.specs.Types.{connects}
-use Rattle.layout_model.specs.LayerTypes.{or_space}
-use Rattle.layout_model.specs.Layouts.{Layout, IsMaterial}
-use Rattle.layout_model.specs.Links.{AreLinked}
-use Rattle.layout_model.specs.Places.{Place, IsNoLater}
-use Rattle.layout_trees.specs.CellTrees.{place_back}
-use Rattle.layout_trees.specs.FlatSets.{flat_sets}
+use Rattle.offences.specs.FiniteSets.Chain.{Chain}
+use Rattle.offences.specs.FiniteSets.Least.{IsLeast}
+use Rattle.offences.specs.TechModel.declared.raw.RawTech.{RawTech}
+use Rattle.offences.specs.TechModel.Types.{connects}
+use Rattle.offences.specs.LayoutModel.LayerTypes.{or_space}
+use Rattle.offences.specs.LayoutModel.Layouts.{Layout, IsMaterial}
+use Rattle.offences.specs.LayoutModel.Links.{AreLinked}
+use Rattle.offences.specs.LayoutModel.Places.{Place, IsNoLater}
+use Rattle.offences.specs.LayoutTrees.CellTrees.{place_back}
+use Rattle.offences.specs.LayoutTrees.FlatSets.{flat_sets}
 use Rattle.offences.specs.Offences.{joined_at}
-use Rattle.ext_model.specs.NodeNames.{is_global}
-use Rattle.ext_model.specs.Paths.{full_name, path_text}
-use Rattle.names.specs.Attachments.{HasText}
-use Rattle.names.specs.NamedNodes.{AreOneNamedNode, IsNameOf}
+use Rattle.own_records.specs.ExtModel.NodeNames.{is_global}
+use Rattle.own_records.specs.ExtModel.Paths.{full_name, path_text}
+use Rattle.own_records.specs.Names.Attachments.{HasText}
+use Rattle.own_records.specs.Names.NamedNodes.{AreOneNamedNode, IsNameOf}
 use Rattle.own_records.specs.FetRecords.{IsNoLaterName}
 use Rattle.named_trees.specs.NamedTrees.{NamedTree, NamedElements, OwnBody, layouts_of}
 use Rattle.named_trees.specs.NamedTrees.NamedTree.{named_tree}

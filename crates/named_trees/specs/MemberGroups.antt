@@ -1,14 +1,14 @@
 -- The members of a cell, and the groups that they make: the nodes of its own layout, and the groups of its elements' cells.
 use Rattle.std.specs.Prelude.{◌≡◌, ◌⊎◌, ℕ, List, [], ◌∷◌}
-use Rattle.finite_sets.specs.Chain.{Chain}
-use Rattle.finite_sets.specs.Least.{IsLeast}
-use Rattle.tech_model.specs.declared.raw.RawTech.{RawTech}
-use Rattle.tech_model.specs.Types.{connects}
-use Rattle.layout_model.specs.Links.{AreLinked}
-use Rattle.layout_model.specs.Places.{Place}
-use Rattle.layout_trees.specs.CellTrees.{place_back}
-use Rattle.ext_model.specs.Paths.{path_text}
-use Rattle.names.specs.NamedNodes.{AreOneNamedNode}
+use Rattle.offences.specs.FiniteSets.Chain.{Chain}
+use Rattle.offences.specs.FiniteSets.Least.{IsLeast}
+use Rattle.offences.specs.TechModel.declared.raw.RawTech.{RawTech}
+use Rattle.offences.specs.TechModel.Types.{connects}
+use Rattle.offences.specs.LayoutModel.Links.{AreLinked}
+use Rattle.offences.specs.LayoutModel.Places.{Place}
+use Rattle.offences.specs.LayoutTrees.CellTrees.{place_back}
+use Rattle.own_records.specs.ExtModel.Paths.{path_text}
+use Rattle.own_records.specs.Names.NamedNodes.{AreOneNamedNode}
 use Rattle.own_records.specs.FetRecords.{IsNoLaterName, IsOfNode}
 use Rattle.named_trees.specs.NamedTrees.{NamedTree, NamedElements}
 use Rattle.named_trees.specs.NamedTrees.NamedTree.{named_tree}

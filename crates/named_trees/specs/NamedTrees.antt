@@ -1,13 +1,13 @@
 -- A cell with all that stands below it, as a tree that has the names of its elements and the labels of its cells.
 use Rattle.std.specs.Prelude.{ℕ, List, [], ◌∷◌, ◌++◌, map}
-use Rattle.geo_core.specs.declared.transforms.Transform.{Transform}
-use Rattle.geo_core.specs.Images.{composed, identity, image}
-use Rattle.tech_model.specs.declared.raw.Label.{Label}
-use Rattle.layout_model.specs.Layouts.{Layout}
-use Rattle.layout_model.specs.Places.{Place}
-use Rattle.layout_trees.specs.CellTrees.{CellTree, Elements}
-use Rattle.layout_trees.specs.CellTrees.CellTree.{cell_tree}
-use Rattle.layout_trees.specs.CellTrees.Elements.{no_elements, element_and}
+use Rattle.offences.specs.GeoCore.declared.transforms.Transform.{Transform}
+use Rattle.offences.specs.GeoCore.Images.{composed, identity, image}
+use Rattle.offences.specs.TechModel.declared.raw.Label.{Label}
+use Rattle.offences.specs.LayoutModel.Layouts.{Layout}
+use Rattle.offences.specs.LayoutModel.Places.{Place}
+use Rattle.offences.specs.LayoutTrees.CellTrees.{CellTree, Elements}
+use Rattle.offences.specs.LayoutTrees.CellTrees.CellTree.{cell_tree}
+use Rattle.offences.specs.LayoutTrees.CellTrees.Elements.{no_elements, element_and}
 
 -- what a cell has of its own: its position in its library, its name, the layout of its own paint, and its labels
 pub record OwnBody : Type 0 where

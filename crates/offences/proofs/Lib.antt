@@ -1,3 +1,7 @@
+-- what crates above name of those below
+pub use Rattle.geo_core.proofs as GeoCore
+pub use Rattle.layout_trees.proofs.LayoutModel as LayoutModel
+pub use Rattle.layout_trees.proofs as LayoutTrees
 pub mod UnionLaws
 pub mod SumLaws
 pub mod KindLaws

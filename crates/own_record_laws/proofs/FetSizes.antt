@@ -9,15 +9,15 @@ use Rattle.finite_sets.proofs.Sums.{sum_on-count, sum_on-scale}
 use Rattle.finite_sets.proofs.Totals.{Total-none, Total-iff, Total-union, Total-from_list}
 use Rattle.tech_model.specs.declared.raw.RawTech.{RawTech}
 use Rattle.tech_model.specs.ChannelRoles.{is_terminal}
-use Rattle.layout_model.specs.EdgeCounts.{LeadsAcross, IsEdgeCount}
-use Rattle.layout_model.specs.Layouts.{Layout}
-use Rattle.layout_model.specs.Measures.{perimeter_at}
-use Rattle.layout_model.specs.Places.{Place}
-use Rattle.layout_model.specs.Technologies.{Class}
-use Rattle.layout_model.specs.Transistors.{AreOneChannel, IsTerminalOf, Transistor, IsTransistor}
-use Rattle.flood_nodes.proofs.OpenEdges.{edges_by_places}
-use Rattle.measures.specs.Bounds.{IsNearPlace}
-use Rattle.measures.proofs.BoundLaws.{measures_are_small}
+use Rattle.own_records.specs.LayoutModel.EdgeCounts.{LeadsAcross, IsEdgeCount}
+use Rattle.own_records.specs.LayoutModel.Layouts.{Layout}
+use Rattle.own_records.specs.LayoutModel.Measures.{perimeter_at}
+use Rattle.own_records.specs.LayoutModel.Places.{Place}
+use Rattle.own_records.specs.LayoutModel.Technologies.{Class}
+use Rattle.own_records.specs.LayoutModel.Transistors.{AreOneChannel, IsTerminalOf, Transistor, IsTransistor}
+use Rattle.own_records.proofs.FloodNodes.OpenEdges.{edges_by_places}
+use Rattle.own_records.specs.Measures.Bounds.{IsNearPlace}
+use Rattle.own_records.proofs.Measures.BoundLaws.{measures_are_small}
 
 -- ---- few edges
 

@@ -12,8 +12,8 @@ use Rattle.ext_model.specs.Lawful.{IsLawful}
 use Rattle.ext_model.specs.RecordNames.{names_of, node_names}
 use Rattle.ext_model.proofs.PathNames.{last_name-whole}
 use Rattle.ext_model.proofs.RecordNameLaws.{is_node_name-lawful, slashes_in-node_name}
-use Rattle.circuit_model.specs.Elements.{Element}
-use Rattle.circuit_model.specs.FullNames.{name_in, full_names, IsFullName, AreLinked, AreOneNode}
+use Rattle.full_names.specs.CircuitModel.Elements.{Element}
+use Rattle.full_names.specs.CircuitModel.FullNames.{name_in, full_names, IsFullName, AreLinked, AreOneNode}
 use Rattle.own_record_laws.proofs.OneElement.{root_of}
 use Rattle.own_record_laws.proofs.Parts.{one_owner}
 

@@ -24,12 +24,12 @@ use Rattle.ext_model.specs.NodeNames.{is_word}
 use Rattle.ext_model.specs.Lawful.{IsMeasure, IsLawfulTerm, IsLawfulFet}
 use Rattle.ext_model.specs.RecordNames.{node_names}
 use Rattle.tech_model.specs.ChannelRoles.{is_terminal}
-use Rattle.layout_model.specs.LayerTypes.{HasTypesOf}
-use Rattle.layout_model.specs.Layouts.{Layout, IsMaterial}
-use Rattle.layout_model.specs.Places.{Place}
-use Rattle.layout_model.specs.Transistors.{AreOneChannel, IsTerminalOf, IsTransistor, gate_length}
-use Rattle.cell_paint.specs.Painting.{paint_range}
-use Rattle.measures.specs.Bounds.{IsNearPlace}
+use Rattle.own_records.specs.LayoutModel.LayerTypes.{HasTypesOf}
+use Rattle.own_records.specs.LayoutModel.Layouts.{Layout, IsMaterial}
+use Rattle.own_records.specs.LayoutModel.Places.{Place}
+use Rattle.own_records.specs.LayoutModel.Transistors.{AreOneChannel, IsTerminalOf, IsTransistor, gate_length}
+use Rattle.own_records.specs.CellPaint.Painting.{paint_range}
+use Rattle.own_records.specs.Measures.Bounds.{IsNearPlace}
 use Rattle.own_records.specs.FetRecords.{IsOfNode, IsFetRecord}
 use Rattle.own_record_laws.proofs.FetSizes.{few_places, few_edges, terminals_total}
 use Rattle.own_record_laws.proofs.NameForms.{plain_word, label_word}

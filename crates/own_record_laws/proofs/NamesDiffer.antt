@@ -9,11 +9,11 @@ use Rattle.tech_model.specs.declared.raw.RawTech.{RawTech}
 use Rattle.tech_model.specs.WellFormed.{IsWellFormed}
 use Rattle.ext_model.specs.declared.records.NodeRec.{NodeRec}
 use Rattle.ext_model.specs.RecordNames.{names_of}
-use Rattle.layout_model.specs.LayerTypes.{HasTypesOf}
-use Rattle.layout_model.specs.Layouts.{Layout}
-use Rattle.layout_model.specs.Places.{Place, IsBefore}
-use Rattle.layout_model.proofs.PlaceLaws.{IsBefore-irreflexive}
-use Rattle.cell_nodes.specs.NodeRecords.{IsNodeRecord, AreNodeRecords}
+use Rattle.own_records.specs.LayoutModel.LayerTypes.{HasTypesOf}
+use Rattle.own_records.specs.LayoutModel.Layouts.{Layout}
+use Rattle.own_records.specs.LayoutModel.Places.{Place, IsBefore}
+use Rattle.own_records.proofs.LayoutModel.PlaceLaws.{IsBefore-irreflexive}
+use Rattle.own_records.specs.CellNodes.NodeRecords.{IsNodeRecord, AreNodeRecords}
 use Rattle.own_record_laws.proofs.NodesByName.{one_name_one_node}
 use Rattle.own_record_laws.proofs.PreferredNames.{one_least, recorded}
 

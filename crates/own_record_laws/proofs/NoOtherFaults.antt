@@ -5,11 +5,11 @@ use Rattle.std.specs.Option.{option_or}
 use Rattle.ext_model.specs.declared.records.NodeRec.{NodeRec}
 use Rattle.ext_model.specs.declared.records.FetRec.{FetRec}
 use Rattle.ext_model.specs.declared.records.CellExt.{CellExt}
-use Rattle.circuit_model.specs.declared.faults.FlatFault.{FlatFault}
-use Rattle.circuit_model.specs.declared.faults.FlatFault.TheVariants.{TooMany, Classes}
-use Rattle.circuit_model.specs.declared.limits.CircuitLimit.TheVariants.{Nodes, Names}
-use Rattle.circuit_model.specs.Elements.{elements_below}
-use Rattle.circuit_model.specs.Refusals.{use_fault, chain_length, flat_fault}
+use Rattle.full_names.specs.CircuitModel.declared.faults.FlatFault.{FlatFault}
+use Rattle.full_names.specs.CircuitModel.declared.faults.FlatFault.TheVariants.{TooMany, Classes}
+use Rattle.full_names.specs.CircuitModel.declared.limits.CircuitLimit.TheVariants.{Nodes, Names}
+use Rattle.full_names.specs.CircuitModel.Elements.{elements_below}
+use Rattle.full_names.specs.CircuitModel.Refusals.{use_fault, chain_length, flat_fault}
 use Rattle.own_record_laws.specs.Laws.{OwnRecordsHaveNoOtherFault}
 use Rattle.own_record_laws.proofs.OneElement.{only_record}
 

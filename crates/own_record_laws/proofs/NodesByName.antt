@@ -21,14 +21,14 @@ use Rattle.tech_model.specs.WellFormed.{IsWellFormed}
 use Rattle.tech_model.proofs.TypeLaws.{connects_layer}
 use Rattle.tech_model.proofs.WellFormedLaws.{layer_well_formed}
 use Rattle.ext_model.specs.NodeNames.{ends_in, is_naming_text, is_node_name, is_global}
-use Rattle.layout_model.specs.Places.{Place, IsNoLater}
-use Rattle.layout_model.specs.LayerTypes.{HasTypesOf}
-use Rattle.layout_model.specs.Layouts.{Layout, IsMaterial}
-use Rattle.layout_model.proofs.PlaceLaws.{IsNoLater-antisym}
-use Rattle.names.specs.Attachments.{Suits, AttachesTo, HasText, label_at}
-use Rattle.names.specs.GeneratedNames.{coordinate_text, generated_name}
-use Rattle.names.specs.NamedNodes.{AreOneNamedNode, IsNameOf}
-use Rattle.cell_nodes.proofs.NodePlaces.{AreOneNamedNode-sym}
+use Rattle.own_records.specs.LayoutModel.Places.{Place, IsNoLater}
+use Rattle.own_records.specs.LayoutModel.LayerTypes.{HasTypesOf}
+use Rattle.own_records.specs.LayoutModel.Layouts.{Layout, IsMaterial}
+use Rattle.own_records.proofs.LayoutModel.PlaceLaws.{IsNoLater-antisym}
+use Rattle.own_records.specs.Names.Attachments.{Suits, AttachesTo, HasText, label_at}
+use Rattle.own_records.specs.Names.GeneratedNames.{coordinate_text, generated_name}
+use Rattle.own_records.specs.Names.NamedNodes.{AreOneNamedNode, IsNameOf}
+use Rattle.own_records.proofs.CellNodes.NodePlaces.{AreOneNamedNode-sym}
 
 -- ---- generated names
 

@@ -6,7 +6,7 @@ use Rattle.std.specs.Str.{bytes_eq}
 use Rattle.finite_sets.proofs.Searches.{find-In}
 use Rattle.ext_model.specs.declared.records.UseRec.{UseRec}
 use Rattle.ext_model.specs.declared.records.CellExt.{CellExt}
-use Rattle.circuit_model.specs.Elements.{Element, ext_of, of_option, elements_below, elements_of}
+use Rattle.full_names.specs.CircuitModel.Elements.{Element, ext_of, of_option, elements_below, elements_of}
 
 -- the root of a tree with this record
 abbrev pub root_of : CellExt → Element

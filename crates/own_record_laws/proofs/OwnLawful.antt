@@ -21,17 +21,17 @@ use Rattle.ext_model.specs.declared.records.CellExt.{CellExt}
 use Rattle.ext_model.specs.NodeNames.{is_word, is_node_name}
 use Rattle.ext_model.specs.Lawful.{IsLawfulUse, IsLawfulNode, IsLawfulFet, IsLawfulMerge, IsLawful}
 use Rattle.ext_model.specs.RecordNames.{names_of, node_names}
-use Rattle.layout_model.specs.LayerTypes.{HasTypesOf}
-use Rattle.layout_model.specs.Layouts.{Layout, IsMaterial}
-use Rattle.layout_model.specs.Places.{Place}
-use Rattle.layout_model.specs.Technologies.{class_of}
-use Rattle.layout_model.specs.Transistors.{Transistor}
-use Rattle.cell_paint.specs.Painting.{paint_range}
-use Rattle.measures.specs.Bounds.{IsSmallMeasure}
-use Rattle.measures.proofs.BoundLaws.{measures_are_small}
-use Rattle.names.specs.NamedNodes.{AreOneNamedNode}
-use Rattle.cell_nodes.specs.NodeRecords.{IsNodeRecord}
-use Rattle.cell_nodes.proofs.NodePlaces.{material_along}
+use Rattle.own_records.specs.LayoutModel.LayerTypes.{HasTypesOf}
+use Rattle.own_records.specs.LayoutModel.Layouts.{Layout, IsMaterial}
+use Rattle.own_records.specs.LayoutModel.Places.{Place}
+use Rattle.own_records.specs.LayoutModel.Technologies.{class_of}
+use Rattle.own_records.specs.LayoutModel.Transistors.{Transistor}
+use Rattle.own_records.specs.CellPaint.Painting.{paint_range}
+use Rattle.own_records.specs.Measures.Bounds.{IsSmallMeasure}
+use Rattle.own_records.proofs.Measures.BoundLaws.{measures_are_small}
+use Rattle.own_records.specs.Names.NamedNodes.{AreOneNamedNode}
+use Rattle.own_records.specs.CellNodes.NodeRecords.{IsNodeRecord}
+use Rattle.own_records.proofs.CellNodes.NodePlaces.{material_along}
 use Rattle.own_records.specs.FetRecords.{IsOfNode}
 use Rattle.own_records.specs.OwnRecords.{IsOwnRecord}
 use Rattle.own_record_laws.specs.Laws.{OwnRecordsAreLawful}

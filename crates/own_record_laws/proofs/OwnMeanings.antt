@@ -15,14 +15,14 @@ use Rattle.ext_model.specs.declared.records.FetRec.{FetRec}
 use Rattle.ext_model.specs.declared.records.CellExt.{CellExt}
 use Rattle.ext_model.specs.Lawful.{IsLawful}
 use Rattle.ext_model.specs.RecordNames.{names_of}
-use Rattle.layout_model.specs.Places.{Place}
-use Rattle.layout_model.specs.Layouts.{Layout}
-use Rattle.layout_model.specs.Transistors.{IsTransistor, IsTerminalOf, AreOneChannel}
-use Rattle.circuit_model.specs.Elements.{Element, elements_of}
-use Rattle.circuit_model.specs.FullNames.{AreInNameOrder}
-use Rattle.circuit_model.specs.FlatNodes.{AreFlatNodes}
-use Rattle.circuit_model.specs.FlatFets.{fets_in, IsFlatFet, AreFlatFets}
-use Rattle.circuit_model.specs.Circuits.{IsCircuitOf}
+use Rattle.own_records.specs.LayoutModel.Places.{Place}
+use Rattle.own_records.specs.LayoutModel.Layouts.{Layout}
+use Rattle.own_records.specs.LayoutModel.Transistors.{IsTransistor, IsTerminalOf, AreOneChannel}
+use Rattle.full_names.specs.CircuitModel.Elements.{Element, elements_of}
+use Rattle.full_names.specs.CircuitModel.FullNames.{AreInNameOrder}
+use Rattle.full_names.specs.CircuitModel.FlatNodes.{AreFlatNodes}
+use Rattle.full_names.specs.CircuitModel.FlatFets.{fets_in, IsFlatFet, AreFlatFets}
+use Rattle.full_names.specs.CircuitModel.Circuits.{IsCircuitOf}
 use Rattle.full_names.proofs.ListOrders.{pairwise_names, names_in_order}
 use Rattle.own_records.specs.FetRecords.{IsOfNode, IsFetRecord, IsNameBefore}
 use Rattle.own_records.specs.OwnCircuits.{IsOwnCircuit}

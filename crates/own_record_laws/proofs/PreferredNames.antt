@@ -14,12 +14,12 @@ use Rattle.ext_model.specs.declared.records.NodeRec.{NodeRec}
 use Rattle.ext_model.specs.NameOrder.{name_cmp}
 use Rattle.ext_model.specs.RecordNames.{names_of}
 use Rattle.ext_model.proofs.NameOrders.{name_cmp_total}
-use Rattle.layout_model.specs.Places.{Place, IsNoLater}
-use Rattle.layout_model.specs.Layouts.{Layout, IsMaterial}
-use Rattle.layout_model.proofs.PlaceLaws.{IsNoLater-antisym}
-use Rattle.names.specs.NamedNodes.{AreOneNamedNode, IsNameOf}
-use Rattle.cell_nodes.specs.NodeRecords.{IsNodeRecord, AreNodeRecords}
-use Rattle.cell_nodes.proofs.NodePlaces.{AreOneNamedNode-sym}
+use Rattle.own_records.specs.LayoutModel.Places.{Place, IsNoLater}
+use Rattle.own_records.specs.LayoutModel.Layouts.{Layout, IsMaterial}
+use Rattle.own_records.proofs.LayoutModel.PlaceLaws.{IsNoLater-antisym}
+use Rattle.own_records.specs.Names.NamedNodes.{AreOneNamedNode, IsNameOf}
+use Rattle.own_records.specs.CellNodes.NodeRecords.{IsNodeRecord, AreNodeRecords}
+use Rattle.own_records.proofs.CellNodes.NodePlaces.{AreOneNamedNode-sym}
 use Rattle.full_names.proofs.ListOrders.{not_before_itself}
 use Rattle.own_records.specs.FetRecords.{IsNoLaterName, IsOfNode}
 use Rattle.own_records.specs.OwnCircuits.{IsInSome}

@@ -17,9 +17,9 @@ use Rattle.ext_model.specs.declared.records.MergeRec.{MergeRec}
 use Rattle.ext_model.specs.declared.records.CellExt.{CellExt}
 use Rattle.ext_model.specs.Lawful.{IsLawful, IsLawfulNode}
 use Rattle.ext_model.specs.RecordNames.{names_of}
-use Rattle.circuit_model.specs.Elements.{Element, placed}
-use Rattle.circuit_model.specs.FullNames.{name_in, full_names, AreInNameOrder}
-use Rattle.circuit_model.specs.FlatNodes.{is_among, has_name, gives_name, sum_of, measure_of, IsPlaced, IsFlatNode, AreFlatNodes}
+use Rattle.full_names.specs.CircuitModel.Elements.{Element, placed}
+use Rattle.full_names.specs.CircuitModel.FullNames.{name_in, full_names, AreInNameOrder}
+use Rattle.full_names.specs.CircuitModel.FlatNodes.{is_among, has_name, gives_name, sum_of, measure_of, IsPlaced, IsFlatNode, AreFlatNodes}
 use Rattle.full_names.proofs.ListOrders.{same_in_order}
 use Rattle.own_record_laws.proofs.OneElement.{root_of}
 use Rattle.own_record_laws.proofs.Parts.{one_owner, distinct_owners, sum_on-only}

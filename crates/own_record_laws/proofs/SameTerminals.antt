@@ -14,9 +14,9 @@ use Rattle.ext_model.specs.declared.records.FetRec.{FetRec}
 use Rattle.ext_model.specs.declared.records.CellExt.{CellExt}
 use Rattle.ext_model.specs.Lawful.{IsLawful}
 use Rattle.ext_model.specs.RecordNames.{names_of}
-use Rattle.circuit_model.specs.FullNames.{AreInNameOrder}
-use Rattle.circuit_model.specs.FlatNodes.{has_name, AreFlatNodes}
-use Rattle.circuit_model.specs.FlatFets.{node_name, side_name, IsFlatFet}
+use Rattle.full_names.specs.CircuitModel.FullNames.{AreInNameOrder}
+use Rattle.full_names.specs.CircuitModel.FlatNodes.{has_name, AreFlatNodes}
+use Rattle.full_names.specs.CircuitModel.FlatFets.{node_name, side_name, IsFlatFet}
 use Rattle.own_record_laws.proofs.OneElement.{root_of}
 use Rattle.own_record_laws.proofs.Parts.{one_owner, sum_on-only}
 use Rattle.own_record_laws.proofs.FlatNames.{name_is, among_names}

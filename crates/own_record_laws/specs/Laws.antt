@@ -7,14 +7,14 @@ use Rattle.tech_model.specs.WellFormed.{IsWellFormed}
 use Rattle.ext_model.specs.declared.circuits.Circuit.{Circuit}
 use Rattle.ext_model.specs.declared.records.CellExt.{CellExt}
 use Rattle.ext_model.specs.Lawful.{IsLawful}
-use Rattle.layout_model.specs.LayerTypes.{HasTypesOf}
-use Rattle.layout_model.specs.Layouts.{Layout}
-use Rattle.names.specs.Labels.{IsLabelOf}
-use Rattle.cell_paint.specs.Paints.{IsSoundPaint}
-use Rattle.circuit_model.specs.declared.faults.FlatFault.{FlatFault}
-use Rattle.circuit_model.specs.declared.faults.FlatFault.TheVariants.{TooMany}
-use Rattle.circuit_model.specs.declared.limits.CircuitLimit.TheVariants.{Nodes, Names}
-use Rattle.circuit_model.specs.Refusals.{IsFlatOf, IsFlatFaultOf}
+use Rattle.own_records.specs.LayoutModel.LayerTypes.{HasTypesOf}
+use Rattle.own_records.specs.LayoutModel.Layouts.{Layout}
+use Rattle.own_records.specs.Names.Labels.{IsLabelOf}
+use Rattle.own_records.specs.CellPaint.Paints.{IsSoundPaint}
+use Rattle.full_names.specs.CircuitModel.declared.faults.FlatFault.{FlatFault}
+use Rattle.full_names.specs.CircuitModel.declared.faults.FlatFault.TheVariants.{TooMany}
+use Rattle.full_names.specs.CircuitModel.declared.limits.CircuitLimit.TheVariants.{Nodes, Names}
+use Rattle.full_names.specs.CircuitModel.Refusals.{IsFlatOf, IsFlatFaultOf}
 use Rattle.own_records.specs.OwnCircuits.{IsOwnCircuit}
 use Rattle.own_records.specs.OwnRecords.{IsOwnRecord}
 

@@ -1,17 +1,17 @@
 -- The transistors of a layout with labels, as records have them.
 use Rattle.std.specs.Prelude.{◌≡◌, ◌⊎◌, ◌<◌, ℕ, List, length, map, slice_index_or, All, AllPairs}
 use Rattle.std.specs.declared.cmp.Ordering.TheVariants.{Less}
-use Rattle.finite_sets.specs.Least.{IsLeast}
-use Rattle.finite_sets.specs.Lists.{In}
-use Rattle.tech_model.specs.declared.raw.FetRule.{FetRule}
-use Rattle.tech_model.specs.declared.raw.Label.{Label}
-use Rattle.tech_model.specs.declared.raw.RawTech.{RawTech}
-use Rattle.ext_model.specs.declared.records.FetRec.{FetRec}
-use Rattle.ext_model.specs.NameOrder.{name_cmp}
-use Rattle.layout_model.specs.Places.{Place, IsBefore, IsNoLater}
-use Rattle.layout_model.specs.Layouts.{Layout, IsMaterial}
-use Rattle.layout_model.specs.Transistors.{AreTransistors, Transistor, gate_length}
-use Rattle.names.specs.NamedNodes.{AreOneNamedNode, IsNameOf}
+use Rattle.cell_nodes.specs.FiniteSets.Least.{IsLeast}
+use Rattle.cell_nodes.specs.FiniteSets.Lists.{In}
+use Rattle.cell_nodes.specs.TechModel.declared.raw.FetRule.{FetRule}
+use Rattle.cell_nodes.specs.TechModel.declared.raw.Label.{Label}
+use Rattle.cell_nodes.specs.TechModel.declared.raw.RawTech.{RawTech}
+use Rattle.cell_nodes.specs.ExtModel.declared.records.FetRec.{FetRec}
+use Rattle.cell_nodes.specs.ExtModel.NameOrder.{name_cmp}
+use Rattle.cell_nodes.specs.LayoutModel.Places.{Place, IsBefore, IsNoLater}
+use Rattle.cell_nodes.specs.LayoutModel.Layouts.{Layout, IsMaterial}
+use Rattle.cell_nodes.specs.LayoutModel.Transistors.{AreTransistors, Transistor, gate_length}
+use Rattle.cell_nodes.specs.Names.NamedNodes.{AreOneNamedNode, IsNameOf}
 
 -- one name stands before the other in the name order
 abbrev pub IsNameBefore : List ℕ → List ℕ → Type 0

@@ -1,3 +1,10 @@
+-- what crates above name of those below
+pub use Rattle.cell_nodes.specs as CellNodes
+pub use Rattle.cell_nodes.specs.CellPaint as CellPaint
+pub use Rattle.cell_nodes.specs.ExtModel as ExtModel
+pub use Rattle.cell_nodes.specs.LayoutModel as LayoutModel
+pub use Rattle.cell_nodes.specs.Measures as Measures
+pub use Rattle.cell_nodes.specs.Names as Names
 pub mod FetRecords
 pub mod OwnCircuits
 pub mod OwnRecords

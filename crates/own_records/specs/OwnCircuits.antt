@@ -1,13 +1,13 @@
 -- The circuit that a layout with labels is, which is that of a cell without uses.
 use Rattle.std.specs.Prelude.{◌≡◌, ℕ, List, AllPairs}
-use Rattle.finite_sets.specs.Lists.{In}
-use Rattle.tech_model.specs.declared.raw.Label.{Label}
-use Rattle.tech_model.specs.declared.raw.RawTech.{RawTech}
-use Rattle.ext_model.specs.declared.circuits.Circuit.{Circuit}
-use Rattle.ext_model.specs.declared.records.NodeRec.{NodeRec}
-use Rattle.layout_model.specs.Places.{Place}
-use Rattle.layout_model.specs.Layouts.{Layout, IsMaterial}
-use Rattle.names.specs.NamedNodes.{AreOneNamedNode}
+use Rattle.cell_nodes.specs.FiniteSets.Lists.{In}
+use Rattle.cell_nodes.specs.TechModel.declared.raw.Label.{Label}
+use Rattle.cell_nodes.specs.TechModel.declared.raw.RawTech.{RawTech}
+use Rattle.cell_nodes.specs.ExtModel.declared.circuits.Circuit.{Circuit}
+use Rattle.cell_nodes.specs.ExtModel.declared.records.NodeRec.{NodeRec}
+use Rattle.cell_nodes.specs.LayoutModel.Places.{Place}
+use Rattle.cell_nodes.specs.LayoutModel.Layouts.{Layout, IsMaterial}
+use Rattle.cell_nodes.specs.Names.NamedNodes.{AreOneNamedNode}
 use Rattle.cell_nodes.specs.NodeRecords.{IsNodeRecord}
 use Rattle.own_records.specs.FetRecords.{AreFetRecords, IsNameBefore}
 use Rattle.own_records.specs.OwnRecords.{class_values}

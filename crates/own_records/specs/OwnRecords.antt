@@ -1,9 +1,9 @@
 -- The record of a cell's own paint.
 use Rattle.std.specs.Prelude.{◌≡◌, ℕ, List, [], map}
-use Rattle.tech_model.specs.declared.raw.Label.{Label}
-use Rattle.tech_model.specs.declared.raw.RawTech.{RawTech}
-use Rattle.ext_model.specs.declared.records.CellExt.{CellExt}
-use Rattle.layout_model.specs.Layouts.{Layout}
+use Rattle.cell_nodes.specs.TechModel.declared.raw.Label.{Label}
+use Rattle.cell_nodes.specs.TechModel.declared.raw.RawTech.{RawTech}
+use Rattle.cell_nodes.specs.ExtModel.declared.records.CellExt.{CellExt}
+use Rattle.cell_nodes.specs.LayoutModel.Layouts.{Layout}
 use Rattle.cell_nodes.specs.NodeRecords.{AreNodeRecords}
 use Rattle.own_records.specs.FetRecords.{AreFetRecords, IsNodeBefore}
 

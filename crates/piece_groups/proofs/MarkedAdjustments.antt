@@ -15,15 +15,15 @@ use Rattle.layout_model.specs.Places.{Place}
 use Rattle.layout_model.specs.Technologies.{Class, rules_of}
 use Rattle.offences.specs.declared.plane_stacks.PlaneStack.{PlaneStack}
 use Rattle.offences.specs.Offences.{SetLayout}
-use Rattle.named_trees.specs.NamedTrees.{NamedTree}
-use Rattle.tree_records.specs.Merges.{MemberGroup}
-use Rattle.tree_records.specs.PlaceWeights.{area_weight, capacitance_weight, perimeter_weight}
-use Rattle.tree_names.proofs.GroupNames.{group_name_along, one_group}
-use Rattle.meeting_laws.specs.PartLayouts.{excess}
-use Rattle.group_meetings.proofs.MemberMaterial.{named_is_material}
-use Rattle.meeting_sums.specs.declared.sums.MeetingSum.{MeetingSum}
-use Rattle.meeting_sums.specs.StackTiles.{IsInGroup}
-use Rattle.meeting_sums.specs.Sums.{AreMeetingMeasures, IsMeetingSum}
+use Rattle.group_merges.specs.NamedTrees.NamedTrees.{NamedTree}
+use Rattle.group_merges.specs.TreeRecords.Merges.{MemberGroup}
+use Rattle.group_merges.specs.TreeRecords.PlaceWeights.{area_weight, capacitance_weight, perimeter_weight}
+use Rattle.adjustment_laws.proofs.TreeNames.GroupNames.{group_name_along, one_group}
+use Rattle.group_merges.specs.MeetingLaws.PartLayouts.{excess}
+use Rattle.adjustment_laws.proofs.GroupMeetings.MemberMaterial.{named_is_material}
+use Rattle.group_merges.specs.MeetingSums.declared.sums.MeetingSum.{MeetingSum}
+use Rattle.group_merges.specs.MeetingSums.StackTiles.{IsInGroup}
+use Rattle.group_merges.specs.MeetingSums.Sums.{AreMeetingMeasures, IsMeetingSum}
 use Rattle.piece_members.specs.Laws.{AreMarkedPieces, MarksTellGroups}
 use Rattle.piece_members.specs.MemberMarks.{mark_at}
 use Rattle.piece_members.specs.PieceMembers.{LiesInPiece}

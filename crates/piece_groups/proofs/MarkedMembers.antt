@@ -13,14 +13,14 @@ use Rattle.layout_model.specs.Places.{Place}
 use Rattle.offences.specs.declared.plane_stacks.PlaneStack.{PlaneStack}
 use Rattle.offences.specs.Offences.{SetLayout}
 use Rattle.circuit_model.specs.FullNames.{AreInNameOrder}
-use Rattle.full_names.proofs.ListOrders.{pairwise_names}
-use Rattle.own_records.specs.FetRecords.{IsNoLaterName}
-use Rattle.named_trees.specs.NamedTrees.{NamedTree}
-use Rattle.named_trees.specs.NamedTrees.NamedTree.{named_tree}
-use Rattle.named_trees.specs.MemberGroups.{AreOneGroup, IsGroupName, IsMemberAt, IsMemberOf}
-use Rattle.tree_records.specs.Merges.{MemberGroup}
+use Rattle.group_merges.proofs.FullNames.ListOrders.{pairwise_names}
+use Rattle.adjustment_laws.specs.OwnRecords.FetRecords.{IsNoLaterName}
+use Rattle.group_merges.specs.NamedTrees.NamedTrees.{NamedTree}
+use Rattle.group_merges.specs.NamedTrees.NamedTrees.NamedTree.{named_tree}
+use Rattle.group_merges.specs.NamedTrees.MemberGroups.{AreOneGroup, IsGroupName, IsMemberAt, IsMemberOf}
+use Rattle.group_merges.specs.TreeRecords.Merges.{MemberGroup}
 use Rattle.adjustment_laws.specs.Laws.{AreMembersOf}
-use Rattle.meeting_sums.specs.declared.sums.MeetingSum.{MeetingSum}
+use Rattle.group_merges.specs.MeetingSums.declared.sums.MeetingSum.{MeetingSum}
 use Rattle.group_merges.specs.MarkedGroups.{HasMark, IsGroupOfMark}
 use Rattle.piece_members.specs.Laws.{AreMarkedPieces, MarksTellGroups}
 use Rattle.piece_groups.proofs.PiecePlaces.{listed_has_place}

@@ -11,15 +11,15 @@ use Rattle.layout_model.specs.Layouts.{IsMaterial}
 use Rattle.layout_model.specs.Places.{Place}
 use Rattle.offences.specs.declared.plane_stacks.PlaneStack.{PlaneStack}
 use Rattle.offences.specs.Offences.{SetLayout}
-use Rattle.named_trees.specs.NamedTrees.{NamedTree}
-use Rattle.named_trees.specs.FlatLayouts.{flat_layout}
-use Rattle.named_trees.specs.MemberGroups.{IsMemberAt}
-use Rattle.meeting_laws.specs.PartLayouts.{parts_layout, Passes}
-use Rattle.meeting_laws.proofs.RestrictionLaws.{layout_inside}
-use Rattle.group_meetings.specs.Members.{tree_parts, IsMemberOfPart}
-use Rattle.group_meetings.proofs.PartMembers.{flat_is_of_parts, member_at_part, part_of_member}
-use Rattle.group_meetings.proofs.MemberMaterial.{flat_of_part, member_is_material}
-use Rattle.group_meetings.proofs.MemberSteps.{one_of_part}
+use Rattle.group_merges.specs.NamedTrees.NamedTrees.{NamedTree}
+use Rattle.group_merges.specs.NamedTrees.FlatLayouts.{flat_layout}
+use Rattle.group_merges.specs.NamedTrees.MemberGroups.{IsMemberAt}
+use Rattle.group_merges.specs.MeetingLaws.PartLayouts.{parts_layout, Passes}
+use Rattle.group_merges.proofs.MeetingLaws.RestrictionLaws.{layout_inside}
+use Rattle.adjustment_laws.specs.GroupMeetings.Members.{tree_parts, IsMemberOfPart}
+use Rattle.adjustment_laws.proofs.GroupMeetings.PartMembers.{flat_is_of_parts, member_at_part, part_of_member}
+use Rattle.adjustment_laws.proofs.GroupMeetings.MemberMaterial.{flat_of_part, member_is_material}
+use Rattle.adjustment_laws.proofs.GroupMeetings.MemberSteps.{one_of_part}
 use Rattle.piece_members.specs.Laws.{AreMarkedPieces}
 use Rattle.piece_members.specs.PieceMembers.{LiesInPiece}
 use Rattle.piece_members.proofs.PiecePlaces.{tile_is_material, place_of_piece, stands_in_piece, material_is_within, restricted_is_material}

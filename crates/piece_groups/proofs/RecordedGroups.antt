@@ -12,17 +12,17 @@ use Rattle.layout_model.specs.Places.{Place}
 use Rattle.layout_model.specs.Technologies.{rules_of}
 use Rattle.offences.specs.declared.plane_stacks.PlaneStack.{PlaneStack}
 use Rattle.offences.specs.Offences.{SetLayout}
-use Rattle.named_trees.specs.NamedTrees.{NamedTree}
-use Rattle.named_trees.specs.FlatLayouts.{flat_layout}
-use Rattle.named_trees.specs.MemberGroups.{IsGroupName, IsMemberAt}
-use Rattle.tree_records.specs.Merges.{Adjustment, AreAdjustments, HasGroupIn, IsMemberGroup, MemberGroup, group_name}
-use Rattle.tree_records.specs.PlaceWeights.{capacitance_weight, IsAdjustment}
-use Rattle.tree_names.proofs.GroupNames.{group_name_along, members_together}
-use Rattle.meeting_laws.proofs.LinkLaws.{someone_stands}
-use Rattle.group_meetings.specs.Members.{tree_parts}
-use Rattle.group_meetings.proofs.PartMembers.{flat_is_of_parts, member_at_part}
-use Rattle.meeting_sums.specs.declared.sums.MeetingSum.{MeetingSum}
-use Rattle.meeting_sums.specs.Sums.{AreMeetingSums}
+use Rattle.group_merges.specs.NamedTrees.NamedTrees.{NamedTree}
+use Rattle.group_merges.specs.NamedTrees.FlatLayouts.{flat_layout}
+use Rattle.group_merges.specs.NamedTrees.MemberGroups.{IsGroupName, IsMemberAt}
+use Rattle.group_merges.specs.TreeRecords.Merges.{Adjustment, AreAdjustments, HasGroupIn, IsMemberGroup, MemberGroup, group_name}
+use Rattle.group_merges.specs.TreeRecords.PlaceWeights.{capacitance_weight, IsAdjustment}
+use Rattle.adjustment_laws.proofs.TreeNames.GroupNames.{group_name_along, members_together}
+use Rattle.group_merges.proofs.MeetingLaws.LinkLaws.{someone_stands}
+use Rattle.adjustment_laws.specs.GroupMeetings.Members.{tree_parts}
+use Rattle.adjustment_laws.proofs.GroupMeetings.PartMembers.{flat_is_of_parts, member_at_part}
+use Rattle.group_merges.specs.MeetingSums.declared.sums.MeetingSum.{MeetingSum}
+use Rattle.group_merges.specs.MeetingSums.Sums.{AreMeetingSums}
 use Rattle.group_merges.specs.MarkedGroups.{AreMarkedGroups}
 use Rattle.piece_members.specs.Laws.{AreMarkedPieces, MarksTellGroups}
 use Rattle.piece_members.proofs.MarkedGroups.{marks_tell_groups}

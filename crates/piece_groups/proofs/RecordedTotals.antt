@@ -11,24 +11,24 @@ use Rattle.layout_model.specs.Layouts.{IsMaterial}
 use Rattle.layout_model.specs.Places.{Place}
 use Rattle.layout_trees.specs.CellTrees.{place_back}
 use Rattle.layout_trees.specs.FlatSets.{IsTyped, AreTyped}
-use Rattle.hierarchy_model.specs.CleanCells.{IsClean, AreClean}
+use Rattle.group_merges.specs.HierarchyModel.CleanCells.{IsClean, AreClean}
 use Rattle.ext_model.specs.declared.records.CellExt.{CellExt}
 use Rattle.ext_model.specs.declared.records.NodeRec.{NodeRec}
-use Rattle.cell_nodes.specs.NodeRecords.{AreNodeRecords}
-use Rattle.own_records.specs.FetRecords.{IsOfNode}
-use Rattle.own_record_laws.proofs.PreferredNames.{one_name}
-use Rattle.named_trees.specs.NamedTrees.{NamedTree, NamedElements, OwnBody, layouts_of, layouts_below}
-use Rattle.named_trees.specs.NamedTrees.NamedTree.{named_tree}
-use Rattle.named_trees.specs.NamedTrees.NamedElements.{no_more, element_then}
-use Rattle.named_trees.specs.FlatLayouts.{flat_layout}
-use Rattle.named_trees.specs.MemberGroups.{IsGroupName, IsMemberAt, IsMemberBelow}
-use Rattle.tree_records.specs.Merges.{group_name}
-use Rattle.tree_records.specs.PlaceWeights.{PlaceWeight, IsGroupTotal, IsTotalBelow, IsMemberTotal, AreMemberTotals}
-use Rattle.tree_records.specs.TreeRecords.{HasTreeRecord, HaveTreeRecords}
-use Rattle.tree_names.proofs.GroupNames.{one_group_name}
-use Rattle.tree_names.proofs.RecordedNodes.{record_at}
-use Rattle.tree_names.proofs.TreeElements.{top_record}
-use Rattle.group_meetings.proofs.MemberMaterial.{named_is_material}
+use Rattle.adjustment_laws.specs.CellNodes.NodeRecords.{AreNodeRecords}
+use Rattle.adjustment_laws.specs.OwnRecords.FetRecords.{IsOfNode}
+use Rattle.adjustment_laws.proofs.OwnRecordLaws.PreferredNames.{one_name}
+use Rattle.group_merges.specs.NamedTrees.NamedTrees.{NamedTree, NamedElements, OwnBody, layouts_of, layouts_below}
+use Rattle.group_merges.specs.NamedTrees.NamedTrees.NamedTree.{named_tree}
+use Rattle.group_merges.specs.NamedTrees.NamedTrees.NamedElements.{no_more, element_then}
+use Rattle.group_merges.specs.NamedTrees.FlatLayouts.{flat_layout}
+use Rattle.group_merges.specs.NamedTrees.MemberGroups.{IsGroupName, IsMemberAt, IsMemberBelow}
+use Rattle.group_merges.specs.TreeRecords.Merges.{group_name}
+use Rattle.group_merges.specs.TreeRecords.PlaceWeights.{PlaceWeight, IsGroupTotal, IsTotalBelow, IsMemberTotal, AreMemberTotals}
+use Rattle.group_merges.specs.TreeRecords.TreeRecords.{HasTreeRecord, HaveTreeRecords}
+use Rattle.adjustment_laws.proofs.TreeNames.GroupNames.{one_group_name}
+use Rattle.adjustment_laws.proofs.TreeNames.RecordedNodes.{record_at}
+use Rattle.adjustment_laws.proofs.TreeNames.TreeElements.{top_record}
+use Rattle.adjustment_laws.proofs.GroupMeetings.MemberMaterial.{named_is_material}
 use Rattle.adjustment_laws.proofs.PlacesOnce.{place_told}
 use Rattle.piece_groups.specs.Laws.{HasRecordsBelow}
 use Rattle.piece_groups.proofs.ListedThings.{name_told, IsDecided, listed_with}

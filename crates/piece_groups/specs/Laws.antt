@@ -16,12 +16,12 @@ use Rattle.offences.specs.Offences.{SetLayout}
 use Rattle.ext_model.specs.declared.records.CellExt.{CellExt}
 use Rattle.ext_model.specs.declared.records.MergeRec.{MergeRec}
 use Rattle.ext_model.specs.declared.records.NodeRec.{NodeRec}
-use Rattle.cell_nodes.specs.NodeRecords.{AreNodeRecords}
-use Rattle.named_trees.specs.NamedTrees.{NamedTree, named_elements_in, own_body}
-use Rattle.tree_records.specs.Merges.{AreGroupMerges, MemberGroup, group_merges}
-use Rattle.tree_records.specs.TreeRecords.{HaveTreeRecords}
-use Rattle.meeting_sums.specs.declared.sums.MeetingSum.{MeetingSum}
-use Rattle.meeting_sums.specs.Sums.{AreMeetingSums}
+use Rattle.adjustment_laws.specs.CellNodes.NodeRecords.{AreNodeRecords}
+use Rattle.group_merges.specs.NamedTrees.NamedTrees.{NamedTree, named_elements_in, own_body}
+use Rattle.group_merges.specs.TreeRecords.Merges.{AreGroupMerges, MemberGroup, group_merges}
+use Rattle.group_merges.specs.TreeRecords.TreeRecords.{HaveTreeRecords}
+use Rattle.group_merges.specs.MeetingSums.declared.sums.MeetingSum.{MeetingSum}
+use Rattle.group_merges.specs.MeetingSums.Sums.{AreMeetingSums}
 use Rattle.group_merges.specs.MarkedGroups.{AreMarkedGroups}
 use Rattle.piece_members.specs.Laws.{AreMarkedPieces}
 use Rattle.piece_members.specs.MemberMarks.{mark_at}

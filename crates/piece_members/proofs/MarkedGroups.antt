@@ -20,11 +20,11 @@ use Rattle.layout_model.specs.Places.{Place}
 use Rattle.layout_model.specs.RegionTiles.{regions_of}
 use Rattle.offences.specs.declared.plane_stacks.PlaneStack.{PlaneStack}
 use Rattle.offences.specs.Offences.{SetLayout}
-use Rattle.named_trees.specs.NamedTrees.{NamedTree}
-use Rattle.named_trees.specs.NamedTrees.NamedTree.{named_tree}
-use Rattle.named_trees.specs.MemberGroups.{AreOneGroup, IsMemberAt, IsMemberOf}
-use Rattle.tree_names.proofs.GroupNames.{members_together}
-use Rattle.meeting_laws.specs.PartLayouts.{parts_layout, Passes}
+use Rattle.group_meetings.specs.NamedTrees.NamedTrees.{NamedTree}
+use Rattle.group_meetings.specs.NamedTrees.NamedTrees.NamedTree.{named_tree}
+use Rattle.group_meetings.specs.NamedTrees.MemberGroups.{AreOneGroup, IsMemberAt, IsMemberOf}
+use Rattle.group_meetings.proofs.TreeNames.GroupNames.{members_together}
+use Rattle.group_meetings.specs.MeetingLaws.PartLayouts.{parts_layout, Passes}
 use Rattle.group_meetings.specs.Members.{tree_parts, MeetInRegion}
 use Rattle.group_meetings.proofs.GroupRegions.{members_joined}
 use Rattle.group_meetings.proofs.MemberMaterial.{member_is_material}

@@ -17,10 +17,10 @@ use Rattle.offences.specs.Offences.{SetLayout, joined_at}
 use Rattle.offences.specs.PlaneStacks.{ArePlaneStacks}
 use Rattle.offences.specs.TypedStacks.{IsTypedStack, kind_in, on_plane}
 use Rattle.offences.proofs.KindLaws.{kind_is_listed}
-use Rattle.hierarchy_model.specs.Restrictions.{PartStands, IsRestriction}
-use Rattle.meeting_laws.specs.PartLayouts.{parts_layout}
-use Rattle.meeting_laws.proofs.LinkLaws.{someone_stands}
-use Rattle.meeting_laws.proofs.RestrictionLaws.{layout_elsewhere}
+use Rattle.group_meetings.specs.HierarchyModel.Restrictions.{PartStands, IsRestriction}
+use Rattle.group_meetings.specs.MeetingLaws.PartLayouts.{parts_layout}
+use Rattle.group_meetings.proofs.MeetingLaws.LinkLaws.{someone_stands}
+use Rattle.group_meetings.proofs.MeetingLaws.RestrictionLaws.{layout_elsewhere}
 use Rattle.group_meetings.proofs.MemberMaterial.{PartIsMaterial}
 use Rattle.piece_members.specs.PieceMembers.{LiesInPiece, StandsInPiece}
 

@@ -11,10 +11,10 @@ use Rattle.layout_model.specs.RegionTiles.{AreRegions, LiesIn}
 use Rattle.offences.specs.declared.plane_stacks.PlaneStack.{PlaneStack}
 use Rattle.offences.specs.Offences.{SetLayout}
 use Rattle.offences.specs.PlaneStacks.{ArePlaneStacks}
-use Rattle.named_trees.specs.NamedTrees.{NamedTree}
-use Rattle.named_trees.specs.MemberGroups.{AreOneGroup, IsMemberAt, IsMemberOf}
-use Rattle.tree_names.specs.CleanTrees.{IsCleanTree}
-use Rattle.meeting_laws.specs.PartLayouts.{parts_layout}
+use Rattle.group_meetings.specs.NamedTrees.NamedTrees.{NamedTree}
+use Rattle.group_meetings.specs.NamedTrees.MemberGroups.{AreOneGroup, IsMemberAt, IsMemberOf}
+use Rattle.group_meetings.specs.TreeNames.CleanTrees.{IsCleanTree}
+use Rattle.group_meetings.specs.MeetingLaws.PartLayouts.{parts_layout}
 use Rattle.group_meetings.specs.Laws.{IsRestrictedTo}
 use Rattle.group_meetings.specs.Members.{PartsHaveMembers}
 use Rattle.piece_members.specs.PieceMembers.{LiesInPiece, AreMembersInPieces}

@@ -6,7 +6,7 @@ use Rattle.tech_model.specs.declared.raw.RawTech.{RawTech}
 use Rattle.layout_model.specs.Places.{Place}
 use Rattle.offences.specs.declared.plane_stacks.PlaneStack.{PlaneStack}
 use Rattle.offences.specs.declared.stacks.PartKind.{PartKind}
-use Rattle.named_trees.specs.NamedTrees.{NamedTree}
+use Rattle.group_meetings.specs.NamedTrees.NamedTrees.{NamedTree}
 use Rattle.group_meetings.specs.Members.{IsMemberOfPart}
 
 -- The place lies in the piece at this index.

@@ -9,9 +9,9 @@ use Rattle.std.proofs.lemmas.Bool.{ltb-false, ltb-true}
 use Rattle.std.proofs.lemmas.List.{length-map, get_or-map, map-append}
 use Rattle.std.proofs.lemmas.Option.{slice_get_past}
 use Rattle.std.proofs.lemmas.Slice.Eq.{bytes_eq-Decides}
-use Rattle.finite_sets.specs.Lists.{Distinct}
-use Rattle.finite_sets.proofs.Searches.{find-passes, list_any-of_absent}
-use Rattle.finite_sets.proofs.Distincts.{Distinct-append_left, Distinct-append_apart, Distinct-places}
+use Rattle.name_index.specs.FiniteSets.Lists.{Distinct}
+use Rattle.name_index.proofs.FiniteSets.Searches.{find-passes, list_any-of_absent}
+use Rattle.name_index.proofs.FiniteSets.Distincts.{Distinct-append_left, Distinct-append_apart, Distinct-places}
 use Rattle.ext_model.specs.declared.records.CellExt.{CellExt}
 use Rattle.circuit_model.specs.Elements.{ext_of}
 use Rattle.record_graph.specs.Goals.{cells_of, found_goals}

@@ -7,11 +7,11 @@ use Rattle.std.specs.Option.{option_or}
 use Rattle.std.specs.Str.{bytes_eq}
 use Rattle.std.proofs.lemmas.List.{length-map, get_or-map, get_or_past, reverse-append}
 use Rattle.std.proofs.lemmas.Option.{get_or_from_slice_get, slice_get_cases}
-use Rattle.finite_sets.specs.Lists.{In, Distinct}
-use Rattle.finite_sets.proofs.Members.{In-map_source}
-use Rattle.finite_sets.proofs.Distincts.{Distinct-append_left, Distinct-append_apart}
-use Rattle.finite_sets.proofs.Searches.{All-from_In}
-use Rattle.finite_sets.proofs.Images.{In-reverse, In-reverse_source}
+use Rattle.name_index.specs.FiniteSets.Lists.{In, Distinct}
+use Rattle.name_index.proofs.FiniteSets.Members.{In-map_source}
+use Rattle.name_index.proofs.FiniteSets.Distincts.{Distinct-append_left, Distinct-append_apart}
+use Rattle.name_index.proofs.FiniteSets.Searches.{All-from_In}
+use Rattle.name_index.proofs.FiniteSets.Images.{In-reverse, In-reverse_source}
 use Rattle.use_walk.specs.declared.faults.UsePlace.{UsePlace}
 use Rattle.use_walk.specs.declared.faults.WalkFault.{WalkFault}
 use Rattle.use_walk.specs.declared.faults.WalkFault.TheVariants.{NoCell as NoCellAt, Cycle as CycleAt, Memory as NoMemory}

@@ -10,7 +10,7 @@ use Rattle.std.proofs.lemmas.Slice.Eq.{bytes_eq-Decides}
 use Rattle.std.specs.List.{list_any, position}
 use Rattle.std.specs.Option.{option_map, option_or}
 use Rattle.std.specs.Str.{bytes_eq}
-use Rattle.finite_sets.specs.Lists.{In, Distinct}
+use Rattle.name_index.specs.FiniteSets.Lists.{In, Distinct}
 use Rattle.use_walk.specs.declared.faults.UsePlace.{UsePlace}
 use Rattle.use_walk.specs.declared.faults.WalkFault.{WalkFault}
 use Rattle.use_walk.specs.declared.faults.WalkFault.TheVariants.{NoCell as NoCellAt, Cycle as CycleAt, Memory as NoMemory}

@@ -1,6 +1,6 @@
 -- Which record each use of a tree of records leads to.
 use Rattle.std.specs.Prelude.{◌≡◌, ◌<◌, ℕ, Some, None, List, [], ◌∷◌, All, length, reverse, slice_get, slice_index_or}
-use Rattle.finite_sets.specs.Lists.{In, Distinct}
+use Rattle.name_index.specs.FiniteSets.Lists.{In, Distinct}
 use Rattle.ext_model.specs.declared.records.UseRec.{UseRec}
 use Rattle.ext_model.specs.declared.records.CellExt.{CellExt}
 use Rattle.circuit_model.specs.declared.faults.FlatFault.{FlatFault}

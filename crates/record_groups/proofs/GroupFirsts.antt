@@ -7,7 +7,7 @@ use Rattle.finite_sets.specs.Lists.{In}
 use Rattle.finite_sets.proofs.Members.{In-map, In-map_source}
 use Rattle.layout_model.specs.Technologies.{Class}
 use Rattle.ext_model.specs.declared.records.MergeRec.{MergeRec}
-use Rattle.tree_records.specs.Merges.{Adjustment, MemberGroup, group_name, merge_of, group_merges, zero_adjustment}
+use Rattle.group_meetings.specs.TreeRecords.Merges.{Adjustment, MemberGroup, group_name, merge_of, group_merges, zero_adjustment}
 use Rattle.record_groups.specs.MergedMembers.{first_member}
 
 -- the group with these members

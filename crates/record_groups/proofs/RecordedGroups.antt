@@ -10,14 +10,14 @@ use Rattle.layout_model.specs.Layouts.{IsMaterial}
 use Rattle.layout_model.specs.Places.{Place}
 use Rattle.layout_model.specs.Technologies.{Class, rules_of}
 use Rattle.ext_model.specs.declared.records.MergeRec.{MergeRec}
-use Rattle.named_trees.specs.NamedTrees.{NamedTree}
-use Rattle.named_trees.specs.NamedTrees.NamedTree.{named_tree}
-use Rattle.named_trees.specs.FlatLayouts.{flat_layout}
-use Rattle.named_trees.specs.MemberGroups.{AreOneGroup, IsGroupName, IsMemberAt}
-use Rattle.tree_records.specs.Merges.{MemberGroup, AreGroupMerges, HasGroupIn, IsMemberGroup, group_merges, group_name}
-use Rattle.tree_names.specs.CleanTrees.{IsCleanTree}
-use Rattle.tree_names.proofs.GroupMerges.{merge_members}
-use Rattle.tree_names.proofs.GroupNames.{group_name_along, members_together, one_group, one_group_name}
+use Rattle.group_meetings.specs.NamedTrees.NamedTrees.{NamedTree}
+use Rattle.group_meetings.specs.NamedTrees.NamedTrees.NamedTree.{named_tree}
+use Rattle.group_meetings.specs.NamedTrees.FlatLayouts.{flat_layout}
+use Rattle.group_meetings.specs.NamedTrees.MemberGroups.{AreOneGroup, IsGroupName, IsMemberAt}
+use Rattle.group_meetings.specs.TreeRecords.Merges.{MemberGroup, AreGroupMerges, HasGroupIn, IsMemberGroup, group_merges, group_name}
+use Rattle.group_meetings.specs.TreeNames.CleanTrees.{IsCleanTree}
+use Rattle.group_meetings.proofs.TreeNames.GroupMerges.{merge_members}
+use Rattle.group_meetings.proofs.TreeNames.GroupNames.{group_name_along, members_together, one_group, one_group_name}
 use Rattle.group_meetings.proofs.MemberMaterial.{flat_of_part, member_is_material}
 use Rattle.group_meetings.proofs.PartMembers.{part_of_member}
 use Rattle.record_groups.specs.Laws.{RecordsTellGroups}

@@ -5,10 +5,10 @@ use Rattle.tech_model.specs.WellFormed.{IsWellFormed}
 use Rattle.tech_model.specs.Rules.{KeepsRules}
 use Rattle.layout_model.specs.Places.{Place}
 use Rattle.ext_model.specs.declared.records.CellExt.{CellExt}
-use Rattle.named_trees.specs.NamedTrees.{NamedTree}
-use Rattle.named_trees.specs.MemberGroups.{IsGroupName, IsMemberAt}
-use Rattle.tree_names.specs.CleanTrees.{IsCleanTree}
-use Rattle.tree_records.specs.TreeRecords.{IsTreeRecord}
+use Rattle.group_meetings.specs.NamedTrees.NamedTrees.{NamedTree}
+use Rattle.group_meetings.specs.NamedTrees.MemberGroups.{IsGroupName, IsMemberAt}
+use Rattle.group_meetings.specs.TreeNames.CleanTrees.{IsCleanTree}
+use Rattle.group_meetings.specs.TreeRecords.TreeRecords.{IsTreeRecord}
 use Rattle.record_groups.specs.MergedMembers.{first_member}
 
 -- the record of a clean cell tells the name of the group of each member

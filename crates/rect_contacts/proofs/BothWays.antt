@@ -8,14 +8,14 @@ use Rattle.std.proofs.lemmas.Bool.{cases_eq, cases_lt, and_parts}
 use Rattle.std.proofs.lemmas.Bool.Decides.{nat_tests}
 use Rattle.std.proofs.lemmas.Int.{ints}
 use Rattle.std.proofs.lemmas.List.FromFn.{length-range_with_len, get_or-range_with_len}
-use Rattle.finite_sets.specs.Lists.{In, Lists}
-use Rattle.finite_sets.specs.Total.{sum_on}
-use Rattle.finite_sets.specs.Range.{pairs_of}
-use Rattle.finite_sets.proofs.Listings.{Lists-iff}
-use Rattle.finite_sets.proofs.Members.{In-map, In-map_source, In-filter, In-filter_source, In-filter_passes, In-index, In-get_or}
-use Rattle.finite_sets.proofs.Distincts.{Distinct-map, Distinct-filter, Distinct-from_places}
-use Rattle.finite_sets.proofs.Sums.{sum_on-append, sum_on-map, sum_on-same, sum_on-add, sum_on-swap, sum_on-filter, sum_on-same_things}
-use Rattle.finite_sets.proofs.Ranges.{Lists-pairs_of}
+use Rattle.geo_core.specs.FiniteSets.Lists.{In, Lists}
+use Rattle.geo_core.specs.FiniteSets.Total.{sum_on}
+use Rattle.geo_core.specs.FiniteSets.Range.{pairs_of}
+use Rattle.geo_core.proofs.FiniteSets.Listings.{Lists-iff}
+use Rattle.geo_core.proofs.FiniteSets.Members.{In-map, In-map_source, In-filter, In-filter_source, In-filter_passes, In-index, In-get_or}
+use Rattle.geo_core.proofs.FiniteSets.Distincts.{Distinct-map, Distinct-filter, Distinct-from_places}
+use Rattle.geo_core.proofs.FiniteSets.Sums.{sum_on-append, sum_on-map, sum_on-same, sum_on-add, sum_on-swap, sum_on-filter, sum_on-same_things}
+use Rattle.geo_core.proofs.FiniteSets.Ranges.{Lists-pairs_of}
 use Rattle.rect_contacts.specs.declared.contacts.Contact.{Contact}
 use Rattle.rect_contacts.specs.Rects.{rect_at}
 use Rattle.rect_contacts.specs.Contacts.{shared_length, IsSharedEdge}

@@ -10,11 +10,11 @@ use Rattle.geo_core.specs.declared.squares.Square.{Square}
 use Rattle.geo_core.specs.declared.squares.Rect.{Rect}
 use Rattle.geo_core.specs.Areas.{AreDisjoint, IsNear, IsSmall}
 use Rattle.geo_core.specs.Covering.{Covers, IsProper}
-use Rattle.finite_sets.specs.Lists.{In, Distinct, Lists}
-use Rattle.finite_sets.specs.Order.{Lexicographic}
-use Rattle.finite_sets.proofs.Distincts.{Distinct-places}
-use Rattle.finite_sets.proofs.Listings.{Lists-append, Lists-iff, Lists-map, Lists-none}
-use Rattle.finite_sets.proofs.Members.{In-index, In-get_or, In-append_left, In-push, In-push_cases}
+use Rattle.geo_core.specs.FiniteSets.Lists.{In, Distinct, Lists}
+use Rattle.geo_core.specs.FiniteSets.Order.{Lexicographic}
+use Rattle.geo_core.proofs.FiniteSets.Distincts.{Distinct-places}
+use Rattle.geo_core.proofs.FiniteSets.Listings.{Lists-append, Lists-iff, Lists-map, Lists-none}
+use Rattle.geo_core.proofs.FiniteSets.Members.{In-index, In-get_or, In-append_left, In-push, In-push_cases}
 use Rattle.rect_contacts.specs.declared.actives.Active.{Active}
 use Rattle.rect_contacts.specs.declared.events.Event.{Event}
 use Rattle.rect_contacts.specs.Rects.{no_rect, rect_at}

@@ -8,10 +8,10 @@ use borrow.Author.Differences.{up, down}
 use Rattle.geo_core.specs.declared.squares.Square.{Square}
 use Rattle.geo_core.specs.declared.squares.Rect.{Rect}
 use Rattle.geo_core.specs.Covering.{is_covered, IsProper}
-use Rattle.finite_sets.specs.Total.{sum_on, one_if}
-use Rattle.finite_sets.specs.Range.{extent, integers_from, integer_range, pairs_of}
-use Rattle.finite_sets.proofs.Sums.{sum_on-append, sum_on-map, sum_on-scale, sum_on-same}
-use Rattle.finite_sets.proofs.Ranges.{extent_up}
+use Rattle.geo_core.specs.FiniteSets.Total.{sum_on, one_if}
+use Rattle.geo_core.specs.FiniteSets.Range.{extent, integers_from, integer_range, pairs_of}
+use Rattle.geo_core.proofs.FiniteSets.Sums.{sum_on-append, sum_on-map, sum_on-scale, sum_on-same}
+use Rattle.geo_core.proofs.FiniteSets.Ranges.{extent_up}
 use Rattle.rect_contacts.specs.Contacts.{overlap}
 use Rattle.rect_contacts.specs.Squares.{squares_of}
 

@@ -10,12 +10,12 @@ use Rattle.std.proofs.lemmas.Cmp.{int_cmp_total, nat_cmp_total, on_total, then_t
 use Rattle.std.proofs.lemmas.List.{get_or_default}
 use Rattle.std.proofs.lemmas.List.Sorted.{IsPermutation-sym}
 use Rattle.geo_core.specs.declared.squares.Rect.{Rect}
-use Rattle.finite_sets.specs.Lists.{In, Distinct}
-use Rattle.finite_sets.proofs.Distincts.{Distinct-append, Distinct-places, Distinct-from_places}
-use Rattle.finite_sets.proofs.Members.{In-append_left, In-append_right, In-append_cases, In-permutation}
-use Rattle.finite_sets.proofs.Orders.{ordering_then-not_less, Lexicographic-map, IsSorted-pairs}
-use Rattle.finite_sets.proofs.Pairs.{AllPairs-permutation}
-use Rattle.finite_sets.proofs.Searches.{drop_split}
+use Rattle.geo_core.specs.FiniteSets.Lists.{In, Distinct}
+use Rattle.geo_core.proofs.FiniteSets.Distincts.{Distinct-append, Distinct-places, Distinct-from_places}
+use Rattle.geo_core.proofs.FiniteSets.Members.{In-append_left, In-append_right, In-append_cases, In-permutation}
+use Rattle.geo_core.proofs.FiniteSets.Orders.{ordering_then-not_less, Lexicographic-map, IsSorted-pairs}
+use Rattle.geo_core.proofs.FiniteSets.Pairs.{AllPairs-permutation}
+use Rattle.geo_core.proofs.FiniteSets.Searches.{drop_split}
 use Rattle.rect_contacts.specs.declared.events.Event.{Event}
 use Rattle.rect_contacts.specs.Rects.{no_rect, rect_at}
 use Rattle.rect_contacts.specs.Events.{event_of, event_at, events_from, ComesNoLater, list_of, IsEvent, AreEvents}

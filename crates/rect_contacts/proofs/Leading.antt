@@ -6,11 +6,11 @@ use Rattle.geo_core.specs.declared.squares.Square.{Square}
 use Rattle.geo_core.specs.declared.squares.Rect.{Rect}
 use Rattle.geo_core.specs.Covering.{Covers, is_covered, IsProper}
 use Rattle.geo_core.specs.Neighbours.{right_of, left_of, above, below}
-use Rattle.finite_sets.specs.Total.{sum_on, one_if}
-use Rattle.finite_sets.specs.Range.{IsBetween, integer_range, pairs_of}
-use Rattle.finite_sets.proofs.Listings.{Lists-iff, Lists-image}
-use Rattle.finite_sets.proofs.Sums.{sum_on-add, sum_on-zero, sum_on-map, sum_on-count}
-use Rattle.finite_sets.proofs.Ranges.{extent_up, length-integer_range, Lists-rectangle}
+use Rattle.geo_core.specs.FiniteSets.Total.{sum_on, one_if}
+use Rattle.geo_core.specs.FiniteSets.Range.{IsBetween, integer_range, pairs_of}
+use Rattle.geo_core.proofs.FiniteSets.Listings.{Lists-iff, Lists-image}
+use Rattle.geo_core.proofs.FiniteSets.Sums.{sum_on-add, sum_on-zero, sum_on-map, sum_on-count}
+use Rattle.geo_core.proofs.FiniteSets.Ranges.{extent_up, length-integer_range, Lists-rectangle}
 use Rattle.rect_contacts.specs.Contacts.{overlap, shared_beside, shared_upon}
 use Rattle.rect_contacts.specs.Squares.{squares_of, edges_between}
 use Rattle.rect_contacts.specs.EdgeLaws.{SquaresAreCovered, AreaCountsSquares, SharedLengthCountsEdges, PerimeterLeadsOut}

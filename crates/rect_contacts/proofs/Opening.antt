@@ -7,10 +7,10 @@ use Rattle.geo_core.specs.declared.squares.Rect.{Rect}
 use Rattle.geo_core.specs.Covering.{is_covered, IsProper}
 use Rattle.geo_core.specs.Neighbours.{edge_neighbours}
 use Rattle.geo_core.proofs.CoveringLaws.{Covers-is_covered}
-use Rattle.finite_sets.specs.Lists.{In}
-use Rattle.finite_sets.specs.Total.{sum_on, one_if}
-use Rattle.finite_sets.proofs.Members.{In-index}
-use Rattle.finite_sets.proofs.Sums.{sum_on-same, sum_on-sub, sum_on-swap, sum_on-scale}
+use Rattle.geo_core.specs.FiniteSets.Lists.{In}
+use Rattle.geo_core.specs.FiniteSets.Total.{sum_on, one_if}
+use Rattle.geo_core.proofs.FiniteSets.Members.{In-index}
+use Rattle.geo_core.proofs.FiniteSets.Sums.{sum_on-same, sum_on-sub, sum_on-swap, sum_on-scale}
 use Rattle.geo_core.specs.Areas.{AreDisjoint}
 use Rattle.rect_contacts.specs.Contacts.{shared_length}
 use Rattle.rect_contacts.specs.Squares.{squares_of, area_of, perimeter_of, edges_between, is_covered_by_any, open_edges}

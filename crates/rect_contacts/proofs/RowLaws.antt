@@ -2,8 +2,8 @@
 use Rattle.std.proofs.Common.{append_assoc, ◌≡◌, ◌⊎◌, inl, inr, ℕ, ℤ, ◌≤ℤ◌, ◌<ℤ◌, List, [], ◌∷◌, ◌++◌, map, Some, sym, ◌∙◌, ap, arith}
 use Rattle.std.proofs.lemmas.Int.{ints, by_lt_z}
 use Rattle.std.proofs.lemmas.List.{map-append}
-use Rattle.finite_sets.specs.Lists.{Lists}
-use Rattle.finite_sets.proofs.Listings.{Lists-one, Lists-append, Lists-iff}
+use Rattle.geo_core.specs.FiniteSets.Lists.{Lists}
+use Rattle.geo_core.proofs.FiniteSets.Listings.{Lists-one, Lists-append, Lists-iff}
 use Rattle.rect_contacts.specs.declared.actives.Active.{Active}
 use Rattle.rect_contacts.specs.declared.events.Event.{Event}
 use Rattle.rect_contacts.specs.Events.{pair_of}

@@ -10,10 +10,10 @@ use Rattle.std.proofs.lemmas.List.{get_or_default}
 use Rattle.std.proofs.lemmas.List.Sorted.{IsPermutation-sym}
 use Rattle.geo_core.specs.declared.squares.Rect.{Rect}
 use Rattle.geo_core.specs.Covering.{IsProper}
-use Rattle.finite_sets.specs.Lists.{In}
-use Rattle.finite_sets.proofs.Members.{In-get_or, In-index, In-permutation}
-use Rattle.finite_sets.proofs.Orders.{ordering_then-not_less, int_then-not_less, IsSorted-pairs}
-use Rattle.finite_sets.proofs.Pairs.{AllPairs-permutation}
+use Rattle.geo_core.specs.FiniteSets.Lists.{In}
+use Rattle.geo_core.proofs.FiniteSets.Members.{In-get_or, In-index, In-permutation}
+use Rattle.geo_core.proofs.FiniteSets.Orders.{ordering_then-not_less, int_then-not_less, IsSorted-pairs}
+use Rattle.geo_core.proofs.FiniteSets.Pairs.{AllPairs-permutation}
 use Rattle.rect_contacts.specs.declared.sides.Edge.{Edge}
 use Rattle.rect_contacts.specs.declared.sides.Edge.TheVariants.{Left, Right, Bottom, Top}
 use Rattle.rect_contacts.specs.declared.sides.Side.{Side}

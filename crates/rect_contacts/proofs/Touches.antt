@@ -5,8 +5,8 @@ use Rattle.std.proofs.lemmas.Bool.{cases_lt}
 use Rattle.std.proofs.lemmas.Int.{ints, by_lt_z}
 use Rattle.geo_core.specs.declared.squares.Rect.{Rect}
 use Rattle.geo_core.specs.Covering.{IsProper}
-use Rattle.finite_sets.specs.Lists.{Lists}
-use Rattle.finite_sets.proofs.Listings.{Lists-append, Lists-iff}
+use Rattle.geo_core.specs.FiniteSets.Lists.{Lists}
+use Rattle.geo_core.proofs.FiniteSets.Listings.{Lists-append, Lists-iff}
 use Rattle.rect_contacts.specs.declared.contacts.Contact.{Contact}
 use Rattle.rect_contacts.specs.declared.sides.Edge.{Edge}
 use Rattle.rect_contacts.specs.declared.sides.Edge.TheVariants.{Left, Right, Bottom, Top}

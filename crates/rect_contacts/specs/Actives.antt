@@ -1,7 +1,7 @@
 -- The rectangles of one list that a line crosses, by where they end along it.
 use Rattle.std.specs.Prelude.{◌≡◌, ℕ, ℤ, ◌≤ℤ◌, ◌<ℤ◌, true, false, Option, Some, None, List, ◌++◌, map}
 use Rattle.geo_core.specs.Areas.{IsSmall}
-use Rattle.finite_sets.specs.Lists.{Lists}
+use Rattle.geo_core.specs.FiniteSets.Lists.{Lists}
 use Rattle.rect_contacts.specs.declared.actives.Active.{Active}
 use Rattle.rect_contacts.specs.declared.events.Event.{Event}
 use Rattle.rect_contacts.specs.Events.{pair_of}

@@ -2,8 +2,8 @@
 use Rattle.std.specs.Prelude.{◌≡◌, ℕ, ℤ, pos, ◌+ℤ◌, ◌-ℤ◌, ◌*ℤ◌, List, All, AllPairs}
 use Rattle.geo_core.specs.declared.squares.Rect.{Rect}
 use Rattle.geo_core.specs.Covering.{Covers, IsProper}
-use Rattle.finite_sets.specs.Lists.{In, Lists}
-use Rattle.finite_sets.specs.Total.{sum_on}
+use Rattle.geo_core.specs.FiniteSets.Lists.{In, Lists}
+use Rattle.geo_core.specs.FiniteSets.Total.{sum_on}
 use Rattle.rect_contacts.specs.declared.contacts.Contact.{Contact}
 use Rattle.geo_core.specs.Areas.{AreDisjoint}
 use Rattle.rect_contacts.specs.Rects.{rect_at, places_of}

@@ -1,8 +1,8 @@
 -- Where rectangles of two lists begin and end, in order from below.
 use Rattle.std.specs.Prelude.{◌≡◌, ℕ, ◌+◌, ◌<◌, Bool, true, false, if◌then◌else◌, List, [], ◌∷◌, length, AllPairs}
 use Rattle.geo_core.specs.declared.squares.Rect.{Rect}
-use Rattle.finite_sets.specs.Lists.{In, Distinct}
-use Rattle.finite_sets.specs.Order.{Lexicographic}
+use Rattle.geo_core.specs.FiniteSets.Lists.{In, Distinct}
+use Rattle.geo_core.specs.FiniteSets.Order.{Lexicographic}
 use Rattle.rect_contacts.specs.declared.events.Event.{Event}
 use Rattle.rect_contacts.specs.Rects.{rect_at}
 

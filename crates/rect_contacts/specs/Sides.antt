@@ -1,8 +1,8 @@
 -- The sides of rectangles along vertical and horizontal lines, and where they meet.
 use Rattle.std.specs.Prelude.{◌≡◌, ◌≢◌, ◌⊎◌, ℕ, ◌<◌, min, max, pos, ◌≤ℤ◌, ◌<ℤ◌, List, [], ◌∷◌, ◌++◌, length, All, AllPairs}
 use Rattle.geo_core.specs.declared.squares.Rect.{Rect}
-use Rattle.finite_sets.specs.Lists.{In}
-use Rattle.finite_sets.specs.Order.{Lexicographic}
+use Rattle.geo_core.specs.FiniteSets.Lists.{In}
+use Rattle.geo_core.specs.FiniteSets.Order.{Lexicographic}
 use Rattle.rect_contacts.specs.declared.contacts.Contact.{Contact}
 use Rattle.rect_contacts.specs.declared.sides.Edge.{Edge}
 use Rattle.rect_contacts.specs.declared.sides.Edge.TheVariants.{Left, Right, Bottom, Top}

@@ -5,8 +5,8 @@ use Rattle.geo_core.specs.declared.squares.Square.{Square}
 use Rattle.geo_core.specs.declared.squares.Rect.{Rect}
 use Rattle.geo_core.specs.Covering.{is_covered}
 use Rattle.geo_core.specs.Neighbours.{edge_neighbours}
-use Rattle.finite_sets.specs.Total.{sum_on, one_if}
-use Rattle.finite_sets.specs.Range.{integer_range, pairs_of}
+use Rattle.geo_core.specs.FiniteSets.Total.{sum_on, one_if}
+use Rattle.geo_core.specs.FiniteSets.Range.{integer_range, pairs_of}
 
 -- the squares that a rectangle covers, each once
 abbrev pub squares_of : Rect → List Square

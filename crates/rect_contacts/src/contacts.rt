@@ -1,7 +1,7 @@
 //! Which rectangles share part of an edge, and how much of it.
 ghost use Rattle.std.specs.Prelude.{IfOk, All, AllPairs};
 ghost use Rattle.geo_core.specs.Covering.{IsProper};
-ghost use Rattle.finite_sets.specs.Lists.{Lists};
+ghost use Rattle.geo_core.specs.FiniteSets.Lists.{Lists};
 ghost use Rattle.geo_core.specs.Areas.{AreDisjoint, IsNear};
 ghost use Rattle.rect_contacts.specs.Contacts.{shared_stacked, shared_abreast, IsSharedEdgeBy, IsSharedEdge};
 

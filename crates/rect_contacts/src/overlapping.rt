@@ -2,7 +2,7 @@
 ghost use Rattle.std.specs.Prelude.{IfOk, OnOk, All, AllPairs};
 ghost use Rattle.std.specs.Ordering.{int_cmp};
 ghost use Rattle.std.specs.BTreeMap.{get};
-ghost use Rattle.finite_sets.specs.Lists.{Lists};
+ghost use Rattle.geo_core.specs.FiniteSets.Lists.{Lists};
 ghost use Rattle.geo_core.specs.Covering.{IsProper};
 ghost use Rattle.geo_core.specs.Areas.{AreDisjoint, IsNear, IsSmall};
 ghost use Rattle.rect_contacts.specs.Actives.{AreActives, IsTurned};

@@ -1,7 +1,7 @@
 //! The sides of rectangles, in order along their lines, and where sides of two such orders meet.
 ghost use Rattle.std.specs.Prelude.{◌≡◌, ◌↔◌, IfOk, OnOk, IsTrue, All, AllPairs};
 ghost use Rattle.geo_core.specs.Covering.{IsProper};
-ghost use Rattle.finite_sets.specs.Lists.{Lists};
+ghost use Rattle.geo_core.specs.FiniteSets.Lists.{Lists};
 ghost use Rattle.geo_core.specs.Areas.{AreDisjoint, IsNear};
 ghost use Rattle.rect_contacts.specs.Sides.{side_of, AreSidesOf, ReachesNoFarther, AreSidesInOrder, AreOpposite, IsSpan, AddsContact, IsMeeting};
 

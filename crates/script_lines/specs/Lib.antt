@@ -1,3 +1,5 @@
+-- what crates above name of those below
+pub use Rattle.cell_bodies.specs as CellBodies
 pub mod Arguments
 pub mod Commands
 pub mod Forms

@@ -1,2 +1,4 @@
+-- what crates above name of those below
+pub use Rattle.hier_merge.proofs as HierMerge
 pub mod OffendingLaws
 pub mod UncleanLaws

@@ -8,7 +8,7 @@ use Rattle.geo_core.specs.declared.squares.Rect.{Rect}
 use Rattle.geo_core.specs.declared.squares.Square.{Square}
 use Rattle.use_orders.proofs.Visiting.{library_order-lists}
 use Rattle.layout_trees.specs.FlatSets.{parts_in}
-use Rattle.offences.specs.Offences.{OffendsOn}
+use Rattle.hier_merge.specs.Offences.Offences.{OffendsOn}
 use Rattle.hier_merge.proofs.CleanOrders.{below_there}
 use Rattle.hier_merge.specs.StripLists.{AreStripsByPlane, AreStripsFrom}
 use Rattle.hier_merge.specs.UncleanCells.{AreOffendingOf, IsUncleanBelow}

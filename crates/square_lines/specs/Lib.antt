@@ -1,1 +1,3 @@
+-- what crates above name of those below
+pub use Rattle.hier_merge.specs as HierMerge
 pub mod Offending

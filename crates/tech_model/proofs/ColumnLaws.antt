@@ -5,7 +5,7 @@ use Rattle.std.specs.Prelude.{Some, None, IsTrue, nat_lt, unwrap_or}
 use Rattle.std.specs.Int.{bit_at}
 use Rattle.std.proofs.lemmas.Bool.{cases_Bool, eqb-true, ltb-true, ltb-false}
 use Rattle.std.proofs.lemmas.Nat.Bits.{bit_at-zero}
-use Rattle.finite_sets.proofs.Searches.{find-In, find-passes, All-In}
+use Rattle.geo_core.proofs.FiniteSets.Searches.{find-In, find-passes, All-In}
 use Rattle.tech_model.specs.declared.raw.TypeId.{TypeId}
 use Rattle.tech_model.specs.declared.raw.RawTech.{RawTech}
 use Rattle.tech_model.specs.Types.{is_type, plane_of, parts_of, images_of, is_on, image_on, joined, is_subset}

@@ -3,7 +3,7 @@ use Rattle.std.proofs.Common.{◌≡◌, ◌+◌, ◌-◌, ◌<◌, ◌≤◌, �
 use Rattle.std.specs.Prelude.{Some, None}
 use Rattle.std.specs.List.{position_from}
 use Rattle.std.proofs.lemmas.Bool.{cases_Bool}
-use Rattle.finite_sets.specs.Lists.{In}
+use Rattle.geo_core.specs.FiniteSets.Lists.{In}
 
 -- the first place that passes
 pub position_at : {X : Type 0} (test : X → Bool) (i : ℕ) (xs : List X) (j : ℕ) (d : X) → j < length xs → test (get_or xs j d) ≡ true

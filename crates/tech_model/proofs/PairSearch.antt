@@ -7,9 +7,9 @@ use Rattle.std.specs.List.{range_with_len, flat_map}
 use Rattle.std.specs.Option.{option_map, option_or}
 use Rattle.std.proofs.lemmas.Bool.{cases_Bool}
 use Rattle.std.proofs.lemmas.List.Folds.{find-append}
-use Rattle.finite_sets.specs.Lists.{In}
-use Rattle.finite_sets.specs.Range.{pairs_of}
-use Rattle.finite_sets.proofs.Searches.{find-map}
+use Rattle.geo_core.specs.FiniteSets.Lists.{In}
+use Rattle.geo_core.specs.FiniteSets.Range.{pairs_of}
+use Rattle.geo_core.proofs.FiniteSets.Searches.{find-map}
 
 -- the pairs of the first thing come first
 pub find-pairs_of : {X Y : Type 0} (p : X × Y → Bool) (x : X) (xs : List X) (ys : List Y)

@@ -4,13 +4,13 @@ use Rattle.std.specs.Prelude.{Some, None, All, IsTrue, find, not, nat_lt}
 use Rattle.std.specs.List.{flat_map}
 use Rattle.std.specs.Option.{option_map, option_or}
 use Rattle.std.proofs.lemmas.Bool.{cases_Bool, cases_order, and_parts, and_from, ltb-true, eqb-true, not-true, eq-eqb, lt-ltb, not-false, true≢false}
-use Rattle.finite_sets.specs.Lists.{In}
-use Rattle.finite_sets.specs.Range.{pairs_of}
-use Rattle.finite_sets.proofs.Members.{In-append_left, In-append_right, In-append_cases, In-map, In-map_source, In-filter, In-filter_source, In-filter_passes}
-use Rattle.finite_sets.proofs.Members.{In-get_or}
-use Rattle.finite_sets.proofs.Ranges.{In-pairs_of, In-pairs_of_first, In-pairs_of_second}
-use Rattle.finite_sets.proofs.Searches.{find-In, find-none, none_found, option_or-none, option_map-none, All-In}
-use Rattle.finite_sets.proofs.Images.{In-flat_map, In-flat_map_source}
+use Rattle.geo_core.specs.FiniteSets.Lists.{In}
+use Rattle.geo_core.specs.FiniteSets.Range.{pairs_of}
+use Rattle.geo_core.proofs.FiniteSets.Members.{In-append_left, In-append_right, In-append_cases, In-map, In-map_source, In-filter, In-filter_source, In-filter_passes}
+use Rattle.geo_core.proofs.FiniteSets.Members.{In-get_or}
+use Rattle.geo_core.proofs.FiniteSets.Ranges.{In-pairs_of, In-pairs_of_first, In-pairs_of_second}
+use Rattle.geo_core.proofs.FiniteSets.Searches.{find-In, find-none, none_found, option_or-none, option_map-none, All-In}
+use Rattle.geo_core.proofs.FiniteSets.Images.{In-flat_map, In-flat_map_source}
 use Rattle.tech_model.specs.declared.raw.TypeId.{TypeId}
 use Rattle.tech_model.specs.declared.raw.FetRule.{FetRule}
 use Rattle.tech_model.specs.declared.raw.RawTech.{RawTech}

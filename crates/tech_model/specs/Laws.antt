@@ -1,6 +1,6 @@
 -- Laws of technologies, as statements.
 use Rattle.std.specs.Prelude.{◌≡◌, ◌≢◌, ◌⊎◌, ◌↔◌, ◌<◌, ◌^◌, ℕ, IsTrue, List, length, Some, None}
-use Rattle.finite_sets.specs.Lists.{In}
+use Rattle.geo_core.specs.FiniteSets.Lists.{In}
 use Rattle.tech_model.specs.declared.raw.TypeId.{TypeId}
 use Rattle.tech_model.specs.declared.raw.FetRule.{FetRule}
 use Rattle.tech_model.specs.declared.raw.RawTech.{RawTech}

@@ -1,6 +1,6 @@
 -- Technologies whose lists fit together: what is asked of a technology before its rules are checked.
 use Rattle.std.specs.Prelude.{◌≡◌, ◌≢◌, ◌<◌, ◌≤◌, ◌-◌, ◌^◌, ℕ, bit_and, bit_or, IsTrue, List, length, All, AllPairs, map}
-use Rattle.finite_sets.specs.Lists.{In, Distinct}
+use Rattle.geo_core.specs.FiniteSets.Lists.{In, Distinct}
 use Rattle.text_scan.specs.PlainNames.{is_plain_name}
 use Rattle.tech_model.specs.declared.raw.TypeId.{TypeId}
 use Rattle.tech_model.specs.declared.raw.LayerRec.{LayerRec}

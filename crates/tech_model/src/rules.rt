@@ -1,7 +1,7 @@
 //! The rules of a technology, each with the first that breaks it.
 ghost use Rattle.std.specs.Prelude.{◌≡◌, ◌≤◌, ◌<◌, IsTrue, IfSome, IfOk, OnOk, length, find, filter, map, ◌++◌};
 ghost use Rattle.std.specs.Option.{option_map};
-ghost use Rattle.finite_sets.specs.Range.{pairs_of};
+ghost use Rattle.geo_core.specs.FiniteSets.Range.{pairs_of};
 ghost use Rattle.tech_model.specs.Forms.{is_fet_name};
 ghost use Rattle.tech_model.specs.Rules.{types_of, have_one_set, same_set_fault, fet_terminals, is_bad_terminal, fet_terminal_fault};
 ghost use Rattle.tech_model.specs.Rules.{fet_name_fault, are_within, widenings, breaks_law, monotone_fault, rule_fault, Reports};

@@ -11,13 +11,13 @@ use Rattle.cell_tree.specs.Uses.{HasChild}
 use Rattle.cell_library.specs.Libraries.{LibraryParts, IsLawfulLibrary, seen}
 use Rattle.cell_library.specs.Views.{LibraryView, view_at}
 use Rattle.cell_library.proofs.LayoutTreeLaws.{children_are_cells}
-use Rattle.named_trees.specs.MemberGroups.{IsGroupName}
-use Rattle.named_trees.specs.NamedTrees.{NamedTree, NamedElements, named_elements_in, own_body}
-use Rattle.named_trees.specs.NamedTrees.NamedTree.{named_tree}
-use Rattle.named_trees.specs.NamedTrees.NamedElements.{no_more, element_then}
-use Rattle.group_meetings.specs.Members.{IsMemberOfElement, IsMemberOfPart}
-use Rattle.tree_names.specs.CleanTrees.{IsCleanTree}
-use Rattle.tree_names.proofs.CleanTrees.{AreCleanTrees, clean_below, clean_first, clean_rest}
+use Rattle.library_trees.specs.NamedTrees.MemberGroups.{IsGroupName}
+use Rattle.library_trees.specs.NamedTrees.NamedTrees.{NamedTree, NamedElements, named_elements_in, own_body}
+use Rattle.library_trees.specs.NamedTrees.NamedTrees.NamedTree.{named_tree}
+use Rattle.library_trees.specs.NamedTrees.NamedTrees.NamedElements.{no_more, element_then}
+use Rattle.record_groups.specs.GroupMeetings.Members.{IsMemberOfElement, IsMemberOfPart}
+use Rattle.library_trees.specs.TreeNames.CleanTrees.{IsCleanTree}
+use Rattle.library_trees.proofs.TreeNames.CleanTrees.{AreCleanTrees, clean_below, clean_first, clean_rest}
 use Rattle.library_trees.specs.ElementNames.{UseElement, use_elements}
 use Rattle.library_trees.specs.NamedCells.{named_elements_at, named_elements_from, named_tree_at, named_tree_to}
 use Rattle.library_trees.proofs.WholeTrees.{UsesWithIds, named_tree_unfolds}

@@ -17,11 +17,11 @@ use Rattle.cell_library.specs.Libraries.{LibraryParts, IsLawfulLibrary, seen}
 use Rattle.cell_library.specs.Views.{view_at}
 use Rattle.cell_library.proofs.LayoutTreeLaws.{tree_unfolds}
 use Rattle.cell_library.proofs.PlacedRects.{back_on, identity_back}
-use Rattle.own_records.specs.FetRecords.{IsOfNode}
-use Rattle.named_trees.specs.MemberGroups.{IsGroupName}
-use Rattle.named_trees.specs.NamedTrees.{NamedTree}
-use Rattle.group_meetings.specs.Members.{IsMemberOfPart}
-use Rattle.group_meetings.proofs.PartMembers.{member_at_part}
+use Rattle.library_trees.specs.OwnRecords.FetRecords.{IsOfNode}
+use Rattle.library_trees.specs.NamedTrees.MemberGroups.{IsGroupName}
+use Rattle.library_trees.specs.NamedTrees.NamedTrees.{NamedTree}
+use Rattle.record_groups.specs.GroupMeetings.Members.{IsMemberOfPart}
+use Rattle.record_groups.proofs.GroupMeetings.PartMembers.{member_at_part}
 use Rattle.library_trees.specs.NamedCells.{named_tree_at}
 use Rattle.library_trees.proofs.LayoutLaws.{layouts_of_cell}
 use Rattle.library_trees.proofs.WholeTrees.{named_tree_unfolds}

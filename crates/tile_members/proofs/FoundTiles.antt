@@ -17,9 +17,9 @@ use Rattle.cell_library.specs.LayoutTrees.{tree_at}
 use Rattle.cell_library.specs.Libraries.{LibraryParts, IsLawfulLibrary, seen}
 use Rattle.cell_library.specs.PartTiles.{IsPartTileIn}
 use Rattle.cell_library.specs.Views.{view_at}
-use Rattle.own_records.specs.FetRecords.{IsOfNode}
-use Rattle.named_trees.specs.NamedTrees.{NamedTree, layouts_of}
-use Rattle.group_meetings.specs.Members.{IsMemberOfPart}
+use Rattle.library_trees.specs.OwnRecords.FetRecords.{IsOfNode}
+use Rattle.library_trees.specs.NamedTrees.NamedTrees.{NamedTree, layouts_of}
+use Rattle.record_groups.specs.GroupMeetings.Members.{IsMemberOfPart}
 use Rattle.library_trees.specs.NamedCells.{named_tree_at}
 use Rattle.library_trees.proofs.LayoutLaws.{layouts_of_cell}
 use Rattle.member_tiles.specs.Laws.{MembersHaveWholeTiles}

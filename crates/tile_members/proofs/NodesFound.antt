@@ -20,7 +20,7 @@ use Rattle.layout_trees.specs.CellTrees.{place_back}
 use Rattle.cell_library.specs.declared.part_tiles.PartTile.{PartTile}
 use Rattle.cell_library.specs.Libraries.{LibraryParts, seen}
 use Rattle.cell_library.specs.Views.{LibraryView, view_at}
-use Rattle.own_record_laws.proofs.PreferredNames.{preferred_is_first}
+use Rattle.library_trees.proofs.OwnRecordLaws.PreferredNames.{preferred_is_first}
 use Rattle.tile_members.specs.declared.opened_cells.OpenedCell.{OpenedCell}
 use Rattle.tile_members.specs.declared.opened_cells.OpenedCells.{OpenedCells}
 use Rattle.tile_members.specs.OpenedCells.{AreOpened, HasNodeAt, HasOpenNode, HasOwnCorner, HasTileAt, IsNumberAt, IsOpened, corner_place}

@@ -4,7 +4,7 @@ use Rattle.ext_model.specs.Tables.{Table}
 use Rattle.cell_library.specs.Libraries.{LibraryParts, seen}
 use Rattle.kept_records.specs.KeptRecords.{HaveKeptRecordsBelow}
 use Rattle.library_trees.specs.NamedCells.{named_tree_at}
-use Rattle.tree_names.specs.CleanTrees.{IsCleanTree}
+use Rattle.library_trees.specs.TreeNames.CleanTrees.{IsCleanTree}
 use Rattle.tile_members.specs.declared.finding.MemberFinder.{MemberFinder}
 use Rattle.tile_members.specs.KnownMembers.{AreKnown}
 use Rattle.tile_members.specs.MemberNames.{kept_in, AreGroupsOf}

@@ -9,9 +9,9 @@ use Rattle.layout_model.specs.Places.{Place}
 use Rattle.layout_trees.specs.CellTrees.{Standing, place_back, standings}
 use Rattle.cell_library.specs.LayoutTrees.{tree_at}
 use Rattle.cell_library.specs.Views.{LibraryView, view_at}
-use Rattle.own_records.specs.FetRecords.{IsOfNode}
+use Rattle.library_trees.specs.OwnRecords.FetRecords.{IsOfNode}
 use Rattle.library_trees.specs.NamedCells.{named_tree_at}
-use Rattle.group_meetings.specs.Members.{IsMemberOfPart}
+use Rattle.record_groups.specs.GroupMeetings.Members.{IsMemberOfPart}
 use Rattle.kept_records.specs.KeptRecords.{KeptRecords}
 use Rattle.tile_members.specs.declared.group_tables.GroupTable.{GroupTable}
 

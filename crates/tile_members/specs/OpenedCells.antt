@@ -14,7 +14,7 @@ use Rattle.layout_trees.specs.CellTrees.{place_back}
 use Rattle.cell_library.specs.declared.part_tiles.PartTile.{PartTile}
 use Rattle.cell_library.specs.Libraries.{LibraryParts, seen}
 use Rattle.cell_library.specs.Views.{LibraryView, view_at}
-use Rattle.own_records.specs.FetRecords.{IsOfNode}
+use Rattle.library_trees.specs.OwnRecords.FetRecords.{IsOfNode}
 use Rattle.tile_members.specs.declared.opened_cells.OpenedCell.{OpenedCell}
 use Rattle.tile_members.specs.declared.opened_cells.OpenedCells.{OpenedCells}
 

@@ -7,8 +7,8 @@ use Rattle.layout_model.specs.Places.{Place}
 use Rattle.layout_trees.specs.CellTrees.{CellTree}
 use Rattle.cell_library.specs.declared.part_tiles.PartTile.{PartTile}
 use Rattle.cell_library.specs.PartTiles.{IsPartTileIn}
-use Rattle.named_trees.specs.NamedTrees.{NamedTree}
-use Rattle.group_meetings.specs.Members.{IsMemberOfPart}
+use Rattle.library_trees.specs.NamedTrees.NamedTrees.{NamedTree}
+use Rattle.record_groups.specs.GroupMeetings.Members.{IsMemberOfPart}
 use Rattle.member_tiles.specs.Laws.{LiesInPartTile}
 
 -- The tile is a part tile of the cell, cut to some area.

@@ -1,6 +1,6 @@
 //! The members that have tiles of the parts of a cell.
 ghost use Rattle.std.specs.Prelude.{◌≤◌, ◌+◌, ◌<◌, All, IfOk, length};
-ghost use Rattle.hierarchy_model.specs.CleanCells.{IsClean};
+ghost use Rattle.library_trees.specs.HierarchyModel.CleanCells.{IsClean};
 ghost use Rattle.ext_model.specs.Tables.{ext_of};
 ghost use Rattle.cell_library.specs.LayoutTrees.{tree_at};
 ghost use Rattle.cell_library.specs.Libraries.{seen};

@@ -19,7 +19,7 @@ use Rattle.circuit_model.specs.FlatFets.{AreFlatFets, fets_in, fets_of}
 use Rattle.named_trees.specs.FlatLayouts.{flat_layout}
 use Rattle.named_trees.specs.NamedTrees.{NamedTree, NamedStanding, named_standings, place_forth}
 use Rattle.named_trees.proofs.MoveLaws.{above_from_back}
-use Rattle.tree_records.specs.TreeCircuits.{AreFlatFetRecords, IsFetBefore, IsFlatFetRecord, IsOwnedFet, OwnedFet}
+use Rattle.tree_names.specs.TreeRecords.TreeCircuits.{AreFlatFetRecords, IsFetBefore, IsFlatFetRecord, IsOwnedFet, OwnedFet}
 use Rattle.tree_fets.specs.Channels.{OwnsItsChannels}
 use Rattle.tree_fets.proofs.FetElements.{GiveFlatNames, HasFetsOf}
 use Rattle.tree_fets.proofs.OwnedFets.{AreOwned, owned_fets}

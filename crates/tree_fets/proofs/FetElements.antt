@@ -7,7 +7,7 @@ use Rattle.ext_model.specs.declared.records.NodeRec.{NodeRec}
 use Rattle.ext_model.specs.Paths.{full_name}
 use Rattle.circuit_model.specs.Elements.{Element, ids_of, placed}
 use Rattle.circuit_model.specs.FlatFets.{node_name}
-use Rattle.own_records.specs.FetRecords.{AreFetRecords, IsNodeBefore}
+use Rattle.named_trees.specs.OwnRecords.FetRecords.{AreFetRecords, IsNodeBefore}
 use Rattle.named_trees.specs.NamedTrees.{NamedTree, NamedStanding, named_standings}
 use Rattle.tree_fets.specs.Terminals.{GivesFlatNames}
 

@@ -19,12 +19,12 @@ use Rattle.layout_model.specs.Transistors.{AreOneChannel, IsTransistor, gate_len
 use Rattle.layout_trees.specs.CellTrees.{place_back}
 use Rattle.circuit_model.specs.Elements.{Element, ids_of, placed}
 use Rattle.circuit_model.specs.FlatFets.{IsFlatFet, node_name, side_name}
-use Rattle.full_names.proofs.ListOrders.{Distinct-names, pairwise_names}
-use Rattle.own_records.specs.FetRecords.{IsFetRecord, IsOfNode}
+use Rattle.tree_names.proofs.FullNames.ListOrders.{Distinct-names, pairwise_names}
+use Rattle.named_trees.specs.OwnRecords.FetRecords.{IsFetRecord, IsOfNode}
 use Rattle.named_trees.specs.FlatLayouts.{IsOfFlatNode, flat_layout}
 use Rattle.named_trees.specs.NamedTrees.{NamedTree, NamedStanding, named_standings, place_forth}
 use Rattle.named_trees.proofs.MoveLaws.{above_from_back}
-use Rattle.tree_records.specs.TreeCircuits.{IsFlatFetRecord, IsOwnedFet, OwnedFet}
+use Rattle.tree_names.specs.TreeRecords.TreeCircuits.{IsFlatFetRecord, IsOwnedFet, OwnedFet}
 use Rattle.tree_fets.specs.Channels.{OwnsItsChannels}
 use Rattle.tree_fets.proofs.FetElements.{GiveFlatNames, HasFetsOf}
 use Rattle.tree_fets.specs.Terminals.{AreRenamed, GivesFlatNames, HasTransistorAbove}

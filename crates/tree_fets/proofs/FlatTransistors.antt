@@ -6,8 +6,8 @@ use Rattle.tech_model.specs.ChannelRoles.{is_channel}
 use Rattle.tech_model.specs.WellFormed.{IsWellFormed}
 use Rattle.layout_model.specs.Places.{Place}
 use Rattle.layout_model.specs.Transistors.{AreOneChannel, IsTransistor}
-use Rattle.own_records.specs.FetRecords.{IsOfNode}
-use Rattle.own_record_laws.proofs.PreferredNames.{one_name}
+use Rattle.named_trees.specs.OwnRecords.FetRecords.{IsOfNode}
+use Rattle.tree_names.proofs.OwnRecordLaws.PreferredNames.{one_name}
 use Rattle.named_trees.specs.FlatLayouts.{IsOfFlatNode, flat_layout}
 use Rattle.named_trees.specs.NamedTrees.{NamedTree, NamedStanding, named_standings}
 use Rattle.tree_fets.specs.Channels.{OwnsItsChannels}

@@ -19,7 +19,7 @@ use Rattle.circuit_model.specs.Elements.{Element}
 use Rattle.circuit_model.specs.FlatFets.{node_name}
 use Rattle.circuit_model.specs.FlatNodes.{has_name}
 use Rattle.circuit_model.specs.FullNames.{AreOneNode}
-use Rattle.own_records.specs.FetRecords.{IsNoLaterName}
+use Rattle.named_trees.specs.OwnRecords.FetRecords.{IsNoLaterName}
 use Rattle.named_trees.specs.FlatLayouts.{AreOneFlatNode, HasNodePath, IsFlatName, IsOfFlatNode, flat_layout}
 use Rattle.named_trees.specs.NamedTrees.{NamedTree, named_standings, place_forth}
 use Rattle.tree_names.specs.CircuitNodes.{NameFlatNodes}

@@ -6,7 +6,7 @@ use Rattle.finite_sets.specs.Lists.{In}
 use Rattle.finite_sets.specs.Total.{Total}
 use Rattle.finite_sets.proofs.Orders.{less_equal_or_greater}
 use Rattle.layout_model.specs.Places.{Place, IsNoLater}
-use Rattle.names.proofs.PlaceOrders.{IsNoLater-trans, place_at}
+use Rattle.named_trees.proofs.Names.PlaceOrders.{IsNoLater-trans, place_at}
 
 -- of two places one is no later than the other, by their parts
 no_later_either : (p q : ℕ) (x y u v : ℤ) → IsNoLater (place_at p x y) (place_at q u v) ⊎ IsNoLater (place_at q u v) (place_at p x y)

@@ -16,10 +16,10 @@ use Rattle.layout_model.specs.Layouts.{Layout, IsMaterial}
 use Rattle.layout_model.specs.Places.{Place, IsNoLater}
 use Rattle.layout_model.specs.Transistors.{AreOneChannel}
 use Rattle.offences.proofs.SpoiledLaws.{channel_is_material}
-use Rattle.names.specs.NamedNodes.{AreOneNamedNode}
-use Rattle.cell_nodes.proofs.NodePlaces.{AreOneNamedNode-sym}
-use Rattle.own_records.specs.FetRecords.{IsNoLaterName, IsOfNode}
-use Rattle.own_record_laws.proofs.PreferredNames.{later_both_ways}
+use Rattle.named_trees.specs.Names.NamedNodes.{AreOneNamedNode}
+use Rattle.named_trees.proofs.CellNodes.NodePlaces.{AreOneNamedNode-sym}
+use Rattle.named_trees.specs.OwnRecords.FetRecords.{IsNoLaterName, IsOfNode}
+use Rattle.tree_names.proofs.OwnRecordLaws.PreferredNames.{later_both_ways}
 use Rattle.named_trees.specs.FlatLayouts.{IsFlatName, IsOfFlatNode}
 use Rattle.named_trees.specs.NamedTrees.{NamedTree}
 

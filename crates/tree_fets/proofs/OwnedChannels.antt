@@ -17,10 +17,10 @@ use Rattle.layout_trees.specs.CellTrees.{own_types}
 use Rattle.layout_trees.specs.FlatSets.{IsTyped, flat_sets}
 use Rattle.offences.specs.Offences.{is_exactly, joined_at}
 use Rattle.offences.specs.Roles.{role_of}
-use Rattle.hierarchy_model.specs.CleanCells.{IsClean}
-use Rattle.hierarchy_model.specs.Laws.{own_pairs, times}
-use Rattle.hierarchy_model.proofs.CleanLaws.{has_flat_type, own_count}
-use Rattle.hierarchy_model.proofs.RoleLaws.{roles_kept}
+use Rattle.tree_names.specs.HierarchyModel.CleanCells.{IsClean}
+use Rattle.tree_names.specs.HierarchyModel.Laws.{own_pairs, times}
+use Rattle.tree_names.proofs.HierarchyModel.CleanLaws.{has_flat_type, own_count}
+use Rattle.tree_names.proofs.HierarchyModel.RoleLaws.{roles_kept}
 use Rattle.named_trees.specs.FlatLayouts.{flat_layout}
 use Rattle.named_trees.specs.NamedTrees.{NamedTree, NamedStanding, layouts_of, named_standings, place_forth}
 use Rattle.named_trees.proofs.MoveLaws.{back_from_above, neighbours_above}

@@ -14,10 +14,10 @@ use Rattle.layout_model.specs.Transistors.{AreFetsInOrder, AreOneChannel, IsTran
 use Rattle.layout_model.proofs.PlaceLaws.{IsBefore-trans}
 use Rattle.circuit_model.specs.Elements.{Element}
 use Rattle.circuit_model.specs.FlatFets.{AreFlatFets, fets_in}
-use Rattle.own_records.specs.FetRecords.{IsFetRecord, IsOfNode}
+use Rattle.named_trees.specs.OwnRecords.FetRecords.{IsFetRecord, IsOfNode}
 use Rattle.named_trees.specs.FlatLayouts.{flat_layout}
 use Rattle.named_trees.specs.NamedTrees.{NamedTree, NamedStanding, named_standings, place_forth}
-use Rattle.tree_records.specs.TreeCircuits.{IsFetBefore, IsFlatFetRecord, IsOwnedFet, OwnedFet}
+use Rattle.tree_names.specs.TreeRecords.TreeCircuits.{IsFetBefore, IsFlatFetRecord, IsOwnedFet, OwnedFet}
 use Rattle.tree_fets.specs.Channels.{OwnsItsChannels}
 use Rattle.tree_fets.proofs.FetElements.{GiveFlatNames, HasFetsOf}
 use Rattle.tree_fets.proofs.FlatRecords.{IsMade, is_made}

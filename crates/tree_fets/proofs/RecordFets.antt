@@ -11,10 +11,10 @@ use Rattle.ext_model.specs.declared.records.NodeRec.{NodeRec}
 use Rattle.circuit_model.specs.Elements.{Element}
 use Rattle.circuit_model.specs.FlatFets.{AreFlatFets, fets_of}
 use Rattle.circuit_model.specs.FlatNodes.{AreFlatNodes}
-use Rattle.own_records.specs.FetRecords.{AreFetRecords, IsNodeBefore}
+use Rattle.named_trees.specs.OwnRecords.FetRecords.{AreFetRecords, IsNodeBefore}
 use Rattle.named_trees.specs.NamedTrees.{NamedTree, NamedStanding, OwnBody, named_standings}
-use Rattle.tree_records.specs.TreeCircuits.{AreFlatFetRecords}
-use Rattle.tree_records.specs.TreeRecords.{HasTreeRecords}
+use Rattle.tree_names.specs.TreeRecords.TreeCircuits.{AreFlatFetRecords}
+use Rattle.tree_names.specs.TreeRecords.TreeRecords.{HasTreeRecords}
 use Rattle.tree_names.specs.CleanTrees.{IsCleanTree}
 use Rattle.tree_names.specs.Laws.{NamesTellFlatNodes}
 use Rattle.tree_names.specs.TreeElements.{IsElementFor}

@@ -20,7 +20,7 @@ use Rattle.layout_model.specs.Layouts.{Layout}
 use Rattle.layout_model.specs.Places.{Place, AreNeighbours}
 use Rattle.layout_model.specs.Transistors.{AreOneChannel, IsTerminalOf, IsTransistor, Transistor, gate_length}
 use Rattle.layout_trees.specs.CellTrees.{place_back}
-use Rattle.own_record_laws.proofs.FetSizes.{edges_to_some, terminals_total}
+use Rattle.tree_names.proofs.OwnRecordLaws.FetSizes.{edges_to_some, terminals_total}
 use Rattle.named_trees.specs.NamedTrees.{place_forth}
 use Rattle.named_trees.proofs.MoveLaws.{above_from_back, neighbours_back}
 use Rattle.tree_fets.specs.Channels.{ChannelSet, IsChannelPerimeter, IsChannelSet, KeepsChannels}

@@ -9,8 +9,8 @@ use Rattle.geo_core.proofs.ImageLaws.{image-back, image-composed, image-forth}
 use Rattle.element_tree.proofs.Transforms.{image-identity}
 use Rattle.layout_model.specs.Places.{Place}
 use Rattle.layout_trees.specs.CellTrees.{own_types, place_back}
-use Rattle.hierarchy_model.specs.Laws.{own_pairs, own_pairs_below}
-use Rattle.hierarchy_model.proofs.RoleLaws.{own_pairs_first}
+use Rattle.tree_names.specs.HierarchyModel.Laws.{own_pairs, own_pairs_below}
+use Rattle.tree_names.proofs.HierarchyModel.RoleLaws.{own_pairs_first}
 use Rattle.named_trees.specs.NamedTrees.{NamedTree, NamedElements, NamedStanding, layouts_below, layouts_of, named_above, named_standings}
 use Rattle.named_trees.specs.NamedTrees.{named_standings_below}
 use Rattle.named_trees.specs.NamedTrees.NamedTree.{named_tree}

@@ -10,17 +10,17 @@ use Rattle.ext_model.specs.declared.records.NodeRec.{NodeRec}
 use Rattle.layout_model.specs.Places.{Place}
 use Rattle.layout_model.specs.Transistors.{IsTransistor, Transistor}
 use Rattle.layout_trees.specs.FlatSets.{IsTyped}
-use Rattle.hierarchy_model.specs.CleanCells.{IsClean}
+use Rattle.tree_names.specs.HierarchyModel.CleanCells.{IsClean}
 use Rattle.circuit_model.specs.declared.limits.TheConstants.{LONGEST_CHAIN}
 use Rattle.circuit_model.specs.Elements.{elements_of, ext_of}
 use Rattle.circuit_model.specs.FlatFets.{AreFlatFets, fets_of}
 use Rattle.circuit_model.specs.FlatNodes.{AreFlatNodes}
-use Rattle.own_records.specs.FetRecords.{IsOfNode}
+use Rattle.named_trees.specs.OwnRecords.FetRecords.{IsOfNode}
 use Rattle.named_trees.specs.FlatLayouts.{flat_layout}
 use Rattle.named_trees.specs.NamedTrees.{NamedTree, NamedStanding, layouts_of, named_standings, own_body}
 use Rattle.tree_fets.specs.Channels.{ChannelSet, HasSetAbove, HasSetBelow, IsChannelSet, IsSameChannel, OwnsItsChannels}
-use Rattle.tree_records.specs.TreeCircuits.{AreFlatFetRecords}
-use Rattle.tree_records.specs.TreeRecords.{HasTreeRecords}
+use Rattle.tree_names.specs.TreeRecords.TreeCircuits.{AreFlatFetRecords}
+use Rattle.tree_names.specs.TreeRecords.TreeRecords.{HasTreeRecords}
 use Rattle.tree_names.specs.CleanTrees.{IsCleanTree, depth_of}
 use Rattle.tree_fets.specs.Terminals.{AreRenamed, GivesFlatNames, HasTransistorAbove}
 

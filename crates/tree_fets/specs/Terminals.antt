@@ -6,7 +6,7 @@ use Rattle.finite_sets.specs.Total.{sum_on}
 use Rattle.tech_model.specs.declared.raw.RawTech.{RawTech}
 use Rattle.layout_model.specs.Places.{Place}
 use Rattle.layout_model.specs.Transistors.{AreOneChannel, IsTransistor, Transistor, gate_length}
-use Rattle.own_records.specs.FetRecords.{IsOfNode}
+use Rattle.named_trees.specs.OwnRecords.FetRecords.{IsOfNode}
 use Rattle.named_trees.specs.FlatLayouts.{IsOfFlatNode, flat_layout}
 use Rattle.named_trees.specs.NamedTrees.{NamedTree, NamedStanding, place_forth}
 

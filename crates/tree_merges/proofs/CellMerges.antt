@@ -13,13 +13,13 @@ use Rattle.layout_trees.specs.CellTrees.{CellTree}
 use Rattle.layout_trees.specs.FlatSets.{parts_in}
 use Rattle.ext_model.specs.declared.records.MergeRec.{MergeRec}
 use Rattle.ext_model.specs.declared.records.NodeRec.{NodeRec}
-use Rattle.cell_nodes.specs.NodeRecords.{AreNodeRecords}
+use Rattle.group_meetings.specs.CellNodes.NodeRecords.{AreNodeRecords}
 use Rattle.flood_nodes.specs.declared.found.Regions.{Regions}
 use Rattle.hierarchy_model.specs.CleanCells.{IsClean}
-use Rattle.named_trees.specs.NamedTrees.{NamedTree, OwnBody, layouts_of, own_body}
-use Rattle.tree_records.specs.Merges.{AreGroupMerges}
-use Rattle.tree_names.specs.CleanTrees.{IsCleanTree}
-use Rattle.meeting_laws.specs.PartLayouts.{HoldsAllMeetings, Passes}
+use Rattle.meeting_sums.specs.NamedTrees.NamedTrees.{NamedTree, OwnBody, layouts_of, own_body}
+use Rattle.meeting_sums.specs.TreeRecords.Merges.{AreGroupMerges}
+use Rattle.group_meetings.specs.TreeNames.CleanTrees.{IsCleanTree}
+use Rattle.meeting_sums.specs.LowerMeetingLaws.PartLayouts.{HoldsAllMeetings, Passes}
 use Rattle.hierarchy_model.specs.Restrictions.{IsRestriction}
 use Rattle.group_meetings.specs.Laws.{RecordedPartsHaveMembers}
 use Rattle.group_meetings.specs.Members.{PartsHaveMembers}
@@ -37,8 +37,8 @@ use Rattle.kept_records.specs.Laws.{KeptRecordsAreOfTheTree}
 use Rattle.hier_merge.specs.declared.meetings.Meeting.{Meeting}
 use Rattle.hier_merge.specs.MeetingPieces.{AreMeetingPieces}
 use Rattle.meeting_sums.specs.declared.limits.TheConstants.{MOST_PARTS}
-use Rattle.piece_members.specs.Laws.{AreMarkedPieces}
-use Rattle.piece_members.specs.MemberMarks.{AreMemberMarks}
+use Rattle.piece_groups.specs.PieceMembers.Laws.{AreMarkedPieces}
+use Rattle.piece_groups.specs.PieceMembers.MemberMarks.{AreMemberMarks}
 use Rattle.piece_groups.specs.Laws.{HasRecordsBelow, MarkedGroupsAreRecorded}
 use Rattle.tile_members.specs.declared.members.TileMembers.{TileMembers}
 use Rattle.tile_members.specs.TileMembers.{AreTileMembers}

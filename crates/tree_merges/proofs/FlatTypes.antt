@@ -28,8 +28,8 @@ use Rattle.hierarchy_model.specs.CleanCells.{IsClean}
 use Rattle.hierarchy_model.specs.Restrictions.{IsRestriction, PartStands}
 use Rattle.hierarchy_model.proofs.CleanLaws.{flat_defined}
 use Rattle.hierarchy_model.proofs.PartSearch.{flat_of_none, kind_stands}
-use Rattle.meeting_laws.specs.PartLayouts.{Passes}
-use Rattle.meeting_laws.proofs.RestrictionLaws.{none_elsewhere}
+use Rattle.meeting_sums.specs.LowerMeetingLaws.PartLayouts.{Passes}
+use Rattle.meeting_sums.proofs.LowerMeetingLaws.RestrictionLaws.{none_elsewhere}
 use Rattle.flood_nodes.specs.Stacking.{AreTyped}
 use Rattle.hier_merge.specs.MeetingPieces.{AreMeetingPieces, HasCoveringTiles}
 use Rattle.hier_merge.proofs.MeetingOffences.{places_of_clean}

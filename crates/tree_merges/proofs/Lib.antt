@@ -1,3 +1,5 @@
+-- what crates above name of those below
+pub use Rattle.hier_merge.proofs as HierMerge
 pub mod CellMerges
 pub mod FlatTypes
 pub mod JoinLaws

@@ -15,7 +15,7 @@ use Rattle.offences.specs.declared.plane_stacks.PlaneStack.{PlaneStack}
 use Rattle.offences.specs.Offences.{SetLayout}
 use Rattle.offences.specs.PlaneStacks.{ArePlaneStacks}
 use Rattle.offences.specs.TypedStacks.{AreByPart}
-use Rattle.named_trees.specs.NamedTrees.{NamedTree}
+use Rattle.meeting_sums.specs.NamedTrees.NamedTrees.{NamedTree}
 use Rattle.cell_library.specs.declared.part_tiles.PartTile.{PartTile}
 use Rattle.hier_merge.specs.declared.meetings.Meeting.{Meeting}
 use Rattle.hier_merge.specs.MeetingPieces.{AreMeetingPieces, HasCoveringTiles}
@@ -24,7 +24,7 @@ use Rattle.meeting_sums.specs.declared.limits.TheConstants.{MOST_PARTS}
 use Rattle.meeting_sums.specs.declared.sums.MeetingSum.{MeetingSum}
 use Rattle.meeting_sums.specs.Sums.{AreMeetingSums}
 use Rattle.group_merges.specs.MarkMerges.{AreMergesOfMarks}
-use Rattle.piece_members.specs.MemberMarks.{AreMemberMarks, mark_at}
+use Rattle.piece_groups.specs.PieceMembers.MemberMarks.{AreMemberMarks, mark_at}
 use Rattle.piece_groups.specs.Laws.{piece_marks}
 use Rattle.tile_members.specs.declared.members.TileMembers.{TileMembers}
 use Rattle.tile_members.specs.TileMembers.{AreTileMembers}

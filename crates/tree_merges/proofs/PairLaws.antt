@@ -9,10 +9,10 @@ use Rattle.finite_sets.proofs.Searches.{All-In}
 use Rattle.tech_model.specs.declared.raw.RawTech.{RawTech}
 use Rattle.layout_trees.specs.CellTrees.{CellTree}
 use Rattle.offences.specs.declared.plane_stacks.PlaneStack.{PlaneStack}
-use Rattle.named_trees.specs.NamedTrees.{NamedTree}
+use Rattle.meeting_sums.specs.NamedTrees.NamedTrees.{NamedTree}
 use Rattle.hier_merge.specs.MeetingPieces.{AreMeetingPieces, CoversPiece, HasCoveringTiles}
 use Rattle.cell_library.specs.declared.part_tiles.PartTile.{PartTile}
-use Rattle.piece_members.specs.PieceMembers.{AreMembersInPieces, IsNumberedIn}
+use Rattle.piece_groups.specs.PieceMembers.PieceMembers.{AreMembersInPieces, IsNumberedIn}
 use Rattle.tile_members.specs.TileMembers.{AreTileMembers}
 use Rattle.tree_merges.specs.MemberPairs.{member_pairs, pairs_from, piece_pairs}
 

@@ -10,7 +10,7 @@ use Rattle.offences.specs.declared.plane_stacks.PlaneStack.{PlaneStack}
 use Rattle.offences.specs.Offences.{SetLayout}
 use Rattle.offences.specs.PlaneStacks.{ArePlaneStacks}
 use Rattle.hier_merge.specs.declared.meetings.Meeting.{Meeting}
-use Rattle.meeting_laws.specs.PartLayouts.{parts_layout}
+use Rattle.meeting_sums.specs.LowerMeetingLaws.PartLayouts.{parts_layout}
 use Rattle.meeting_sums.specs.declared.limits.TheConstants.{MOST_PARTS}
 use Rattle.meeting_sums.specs.StackTiles.{tiles_of}
 use Rattle.tile_members.specs.declared.members.TileMembers.{TileMembers}

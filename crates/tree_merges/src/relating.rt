@@ -3,14 +3,14 @@ ghost use Rattle.std.specs.Prelude.{◌≡◌, ◌≢◌, ◌↔◌, ◌≤◌, 
 ghost use Rattle.ext_model.specs.declared.records.MergeRec.{MergeRec as OneMerge};
 ghost use Rattle.ext_model.specs.declared.records.NodeRec.{NodeRec as OneNode};
 ghost use Rattle.ext_model.specs.Rows.{AreRowsOf};
-ghost use Rattle.cell_nodes.specs.NodeRecords.{AreNodeRecords};
+ghost use Rattle.group_meetings.specs.CellNodes.NodeRecords.{AreNodeRecords};
 ghost use Rattle.hierarchy_model.specs.CleanCells.{IsCleanBelow};
 ghost use Rattle.cell_library.specs.Libraries.{seen};
 ghost use Rattle.cell_library.specs.LayoutTrees.{tree_at};
 ghost use Rattle.cell_library.specs.Views.{view_at};
 ghost use Rattle.library_trees.specs.NamedCells.{named_tree_at};
 ghost use Rattle.kept_records.specs.KeptRecords.{HaveKeptRecordsBelow};
-ghost use Rattle.tree_records.specs.Merges.{AreGroupMerges};
+ghost use Rattle.meeting_sums.specs.TreeRecords.Merges.{AreGroupMerges};
 ghost use Rattle.hier_merge.specs.Interactions.{IsWork};
 ghost use Rattle.tree_merges.specs.Relations.{records_in};
 ghost use Rattle.hier_merge.specs.UncleanCells.{AreOffendingOf, IsCleanCell};

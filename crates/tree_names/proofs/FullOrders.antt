@@ -6,10 +6,10 @@ use Rattle.ext_model.specs.Paths.{full_name, path_text}
 use Rattle.ext_model.proofs.NameOrders.{name_cmp_total}
 use Rattle.ext_model.proofs.PathNames.{last_name-whole}
 use Rattle.ext_model.proofs.PathOrders.{paths_keep_the_order}
-use Rattle.full_names.specs.OwnNames.{is_marked}
-use Rattle.full_names.proofs.ListOrders.{not_before_itself}
-use Rattle.full_names.proofs.NameForms.{global_before_path, is_global-mark, last_from_form}
-use Rattle.own_records.specs.FetRecords.{IsNameBefore, IsNoLaterName}
+use Rattle.name_classes.specs.FullNames.OwnNames.{is_marked}
+use Rattle.name_classes.proofs.FullNames.ListOrders.{not_before_itself}
+use Rattle.name_classes.proofs.FullNames.NameForms.{global_before_path, is_global-mark, last_from_form}
+use Rattle.own_record_laws.specs.OwnRecords.FetRecords.{IsNameBefore, IsNoLaterName}
 
 module _ (ids : List (List ℕ)) where
   -- the full name of a name of a node, by its mark

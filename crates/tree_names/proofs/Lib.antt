@@ -1,3 +1,13 @@
+-- what crates above name of those below
+pub use Rattle.own_record_laws.proofs.CellNodes as CellNodes
+pub use Rattle.own_record_laws.proofs.FloodNodes as FloodNodes
+pub use Rattle.name_classes.proofs.FullNames as FullNames
+pub use Rattle.hierarchy_model.proofs as HierarchyModel
+pub use Rattle.own_record_laws.proofs.Measures as Measures
+pub use Rattle.name_classes.proofs as NameClasses
+pub use Rattle.tree_records.proofs.NamedTrees as NamedTrees
+pub use Rattle.own_record_laws.proofs.Names as Names
+pub use Rattle.own_record_laws.proofs as OwnRecordLaws
 pub mod LiftedLinks
 pub mod GroupNodes
 pub mod TreeElements

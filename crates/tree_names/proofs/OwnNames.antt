@@ -7,13 +7,13 @@ use Rattle.ext_model.specs.NodeNames.{slashes_in}
 use Rattle.ext_model.proofs.RecordNameLaws.{slashes_in-node_name}
 use Rattle.layout_model.specs.LayerTypes.{HasTypesOf}
 use Rattle.layout_model.specs.Places.{Place}
-use Rattle.names.specs.NamedNodes.{AreOneNamedNode}
-use Rattle.cell_nodes.proofs.NodePlaces.{AreOneNamedNode-sym, material_along}
-use Rattle.own_records.specs.FetRecords.{IsOfNode}
+use Rattle.own_record_laws.specs.Names.NamedNodes.{AreOneNamedNode}
+use Rattle.own_record_laws.proofs.CellNodes.NodePlaces.{AreOneNamedNode-sym, material_along}
+use Rattle.own_record_laws.specs.OwnRecords.FetRecords.{IsOfNode}
 use Rattle.own_record_laws.proofs.NameForms.{name_form}
 use Rattle.own_record_laws.proofs.NodesByName.{one_name_one_node}
-use Rattle.named_trees.specs.FlatLayouts.{HasOwnName}
-use Rattle.named_trees.specs.NamedTrees.{OwnBody}
+use Rattle.tree_records.specs.NamedTrees.FlatLayouts.{HasOwnName}
+use Rattle.tree_records.specs.NamedTrees.NamedTrees.{OwnBody}
 
 -- the preferred name is one of the node's names
 pub goes_by_own : (raw : RawTech) (own : OwnBody) (place : Place) (name : List ℕ) → IsOfNode raw own.layout own.labels name place

@@ -3,13 +3,13 @@ use Rattle.std.specs.Prelude.{◌≡◌, ◌⊎◌, ◌↔◌, ◌&&◌, ℕ, �
 use Rattle.std.specs.List.{flat_map, list_all}
 use Rattle.std.specs.Ordering.{int_eq}
 use Rattle.finite_sets.specs.Lists.{In}
-use Rattle.tech_model.specs.declared.raw.RawTech.{RawTech}
-use Rattle.layout_model.specs.Layouts.{IsMaterial}
-use Rattle.layout_model.specs.Places.{Place}
-use Rattle.layout_model.specs.Technologies.{Class, rules_of}
-use Rattle.ext_model.specs.declared.records.MergeRec.{MergeRec}
+use Rattle.named_trees.specs.TechModel.declared.raw.RawTech.{RawTech}
+use Rattle.named_trees.specs.LayoutModel.Layouts.{IsMaterial}
+use Rattle.named_trees.specs.LayoutModel.Places.{Place}
+use Rattle.named_trees.specs.LayoutModel.Technologies.{Class, rules_of}
+use Rattle.circuit_model.specs.ExtModel.declared.records.MergeRec.{MergeRec}
 use Rattle.circuit_model.specs.FullNames.{AreInNameOrder}
-use Rattle.own_records.specs.FetRecords.{IsNameBefore}
+use Rattle.named_trees.specs.OwnRecords.FetRecords.{IsNameBefore}
 use Rattle.named_trees.specs.NamedTrees.{NamedTree}
 use Rattle.named_trees.specs.FlatLayouts.{flat_layout}
 use Rattle.named_trees.specs.MemberGroups.{IsGroupName, IsMemberOf}

@@ -1,13 +1,13 @@
 -- How places of layouts are weighed, and what the members of groups and whole groups weigh.
 use Rattle.std.specs.Prelude.{◌≡◌, ◌⊎◌, ℕ, ℤ, pos, ◌+ℤ◌, ◌-ℤ◌, ◌*ℤ◌, List, [], ◌∷◌}
 use Rattle.finite_sets.specs.Total.{sum_on, Total}
-use Rattle.tech_model.specs.declared.raw.RawTech.{RawTech}
-use Rattle.layout_model.specs.Layouts.{Layout}
-use Rattle.layout_model.specs.Measures.{area_at, perimeter_at}
-use Rattle.layout_model.specs.Places.{Place}
-use Rattle.layout_model.specs.Technologies.{Class}
-use Rattle.ext_model.specs.Paths.{path_text}
-use Rattle.own_records.specs.FetRecords.{IsOfNode}
+use Rattle.named_trees.specs.TechModel.declared.raw.RawTech.{RawTech}
+use Rattle.named_trees.specs.LayoutModel.Layouts.{Layout}
+use Rattle.named_trees.specs.LayoutModel.Measures.{area_at, perimeter_at}
+use Rattle.named_trees.specs.LayoutModel.Places.{Place}
+use Rattle.named_trees.specs.LayoutModel.Technologies.{Class}
+use Rattle.circuit_model.specs.ExtModel.Paths.{path_text}
+use Rattle.named_trees.specs.OwnRecords.FetRecords.{IsOfNode}
 use Rattle.named_trees.specs.NamedTrees.{NamedTree, NamedElements, named_elements_in, own_body}
 use Rattle.named_trees.specs.NamedTrees.NamedElements.{no_more, element_then}
 use Rattle.named_trees.specs.FlatLayouts.{flat_layout}

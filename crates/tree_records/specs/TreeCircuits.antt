@@ -2,25 +2,25 @@
 use Rattle.std.specs.Prelude.{◌≡◌, ◌⊎◌, ◌↔◌, ◌<◌, ℕ, IsTrue, List, length, map, AllPairs, Some, slice_get, slice_index_or}
 use Rattle.finite_sets.specs.Least.{IsLeast}
 use Rattle.finite_sets.specs.Lists.{In}
-use Rattle.geo_core.specs.Images.{image}
-use Rattle.tech_model.specs.declared.raw.FetRule.{FetRule}
-use Rattle.tech_model.specs.declared.raw.RawTech.{RawTech}
-use Rattle.tech_model.specs.ChannelRoles.{is_channel}
-use Rattle.layout_model.specs.Layouts.{IsMaterial}
-use Rattle.layout_model.specs.Nodes.{AreMeasures}
-use Rattle.layout_model.specs.Places.{Place, IsBefore, IsNoLater}
-use Rattle.layout_model.specs.Technologies.{capacitance, rules_of}
-use Rattle.layout_model.specs.Transistors.{AreOneChannel, IsTransistor, Transistor, gate_length}
-use Rattle.layout_trees.specs.CellTrees.{place_back}
-use Rattle.ext_model.specs.declared.circuits.Circuit.{Circuit}
-use Rattle.ext_model.specs.declared.records.FetRec.{FetRec}
-use Rattle.ext_model.specs.declared.records.NodeRec.{NodeRec}
-use Rattle.ext_model.specs.Paths.{full_name}
-use Rattle.ext_model.specs.RecordNames.{names_of}
-use Rattle.names.specs.NamedNodes.{AreOneNamedNode, IsNameOf}
+use Rattle.circuit_model.specs.GeoCore.Images.{image}
+use Rattle.named_trees.specs.TechModel.declared.raw.FetRule.{FetRule}
+use Rattle.named_trees.specs.TechModel.declared.raw.RawTech.{RawTech}
+use Rattle.named_trees.specs.TechModel.ChannelRoles.{is_channel}
+use Rattle.named_trees.specs.LayoutModel.Layouts.{IsMaterial}
+use Rattle.named_trees.specs.LayoutModel.Nodes.{AreMeasures}
+use Rattle.named_trees.specs.LayoutModel.Places.{Place, IsBefore, IsNoLater}
+use Rattle.named_trees.specs.LayoutModel.Technologies.{capacitance, rules_of}
+use Rattle.named_trees.specs.LayoutModel.Transistors.{AreOneChannel, IsTransistor, Transistor, gate_length}
+use Rattle.named_trees.specs.LayoutTrees.CellTrees.{place_back}
+use Rattle.circuit_model.specs.ExtModel.declared.circuits.Circuit.{Circuit}
+use Rattle.circuit_model.specs.ExtModel.declared.records.FetRec.{FetRec}
+use Rattle.circuit_model.specs.ExtModel.declared.records.NodeRec.{NodeRec}
+use Rattle.circuit_model.specs.ExtModel.Paths.{full_name}
+use Rattle.circuit_model.specs.ExtModel.RecordNames.{names_of}
+use Rattle.named_trees.specs.Names.NamedNodes.{AreOneNamedNode, IsNameOf}
 use Rattle.circuit_model.specs.FullNames.{AreInNameOrder}
-use Rattle.own_records.specs.FetRecords.{IsNoLaterName, terminal_names}
-use Rattle.own_records.specs.OwnRecords.{class_values}
+use Rattle.named_trees.specs.OwnRecords.FetRecords.{IsNoLaterName, terminal_names}
+use Rattle.named_trees.specs.OwnRecords.OwnRecords.{class_values}
 use Rattle.named_trees.specs.NamedTrees.{NamedTree, NamedStanding, named_standings, place_forth}
 use Rattle.named_trees.specs.FlatLayouts.{flat_layout, AreOneFlatNode, IsFlatName, IsOfFlatNode}
 

@@ -1,13 +1,13 @@
 -- The record of a cell, and the records of all cells at and below it.
 use Rattle.std.specs.Prelude.{◌≡◌, List, [], ◌∷◌, Some}
-use Rattle.geo_core.specs.Images.{six_of}
-use Rattle.tech_model.specs.declared.raw.RawTech.{RawTech}
-use Rattle.ext_model.specs.declared.records.CellExt.{CellExt}
-use Rattle.ext_model.specs.declared.records.UseRec.{UseRec}
-use Rattle.cell_nodes.specs.NodeRecords.{AreNodeRecords}
+use Rattle.circuit_model.specs.GeoCore.Images.{six_of}
+use Rattle.named_trees.specs.TechModel.declared.raw.RawTech.{RawTech}
+use Rattle.circuit_model.specs.ExtModel.declared.records.CellExt.{CellExt}
+use Rattle.circuit_model.specs.ExtModel.declared.records.UseRec.{UseRec}
+use Rattle.named_trees.specs.CellNodes.NodeRecords.{AreNodeRecords}
 use Rattle.circuit_model.specs.Elements.{ext_of}
-use Rattle.own_records.specs.FetRecords.{AreFetRecords, IsNodeBefore}
-use Rattle.own_records.specs.OwnRecords.{class_values}
+use Rattle.named_trees.specs.OwnRecords.FetRecords.{AreFetRecords, IsNodeBefore}
+use Rattle.named_trees.specs.OwnRecords.OwnRecords.{class_values}
 use Rattle.named_trees.specs.NamedTrees.{NamedTree, NamedElements, named_elements_in, own_body}
 use Rattle.named_trees.specs.NamedTrees.NamedTree.{named_tree}
 use Rattle.named_trees.specs.NamedTrees.NamedElements.{no_more, element_then}

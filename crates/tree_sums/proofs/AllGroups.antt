@@ -18,15 +18,15 @@ use Rattle.ext_model.specs.declared.records.MergeRec.{MergeRec}
 use Rattle.layout_model.specs.Layouts.{IsMaterial}
 use Rattle.layout_model.specs.Places.{Place}
 use Rattle.layout_model.specs.Technologies.{rules_of}
-use Rattle.own_records.specs.FetRecords.{IsNameBefore}
-use Rattle.named_trees.specs.FlatLayouts.{flat_layout}
-use Rattle.named_trees.specs.MemberGroups.{AreOneGroup, IsGroupName, IsMemberAt}
-use Rattle.named_trees.specs.NamedTrees.{NamedTree}
-use Rattle.tree_records.specs.Merges.{AreGroupMerges, MemberGroup, IsMemberGroup, HasGroupIn, group_name, group_merges}
+use Rattle.tree_names.specs.OwnRecords.FetRecords.{IsNameBefore}
+use Rattle.tree_names.specs.NamedTrees.FlatLayouts.{flat_layout}
+use Rattle.tree_names.specs.NamedTrees.MemberGroups.{AreOneGroup, IsGroupName, IsMemberAt}
+use Rattle.tree_names.specs.NamedTrees.NamedTrees.{NamedTree}
+use Rattle.tree_names.specs.TreeRecords.Merges.{AreGroupMerges, MemberGroup, IsMemberGroup, HasGroupIn, group_name, group_merges}
 use Rattle.tree_sums.specs.TreeSums.{RecordedQuantity}
 use Rattle.tree_sums.proofs.RecordedQuantities.{IsRecordedQuantity, amount_of}
 use Rattle.tree_sums.proofs.GroupShares.{IsShared, shares_of, first_is_name, merges_passing, merges_of_group, cond_nothing}
-use Rattle.full_names.proofs.ListOrders.{not_before_itself}
+use Rattle.tree_names.proofs.FullNames.ListOrders.{not_before_itself}
 use Rattle.tree_sums.proofs.Shares.{Shared, adds_passing}
 use Rattle.tree_sums.proofs.NamedSums.{names_in}
 

@@ -13,12 +13,12 @@ use Rattle.ext_model.specs.declared.records.CellExt.{CellExt}
 use Rattle.geo_core.specs.declared.transforms.Transform.{Transform}
 use Rattle.layout_model.specs.Places.{Place}
 use Rattle.layout_trees.specs.CellTrees.{place_back}
-use Rattle.named_trees.specs.FlatLayouts.{flat_layout}
-use Rattle.named_trees.specs.MemberGroups.{IsGroupName, IsMemberBelow}
-use Rattle.named_trees.specs.NamedTrees.{NamedTree, NamedElements, place_forth}
-use Rattle.named_trees.specs.NamedTrees.NamedElements.{no_more, element_then}
-use Rattle.named_trees.proofs.MoveLaws.{back_from_above}
-use Rattle.tree_records.specs.PlaceWeights.{PlaceWeight, IsGroupTotal, IsTotalBelow}
+use Rattle.tree_names.specs.NamedTrees.FlatLayouts.{flat_layout}
+use Rattle.tree_names.specs.NamedTrees.MemberGroups.{IsGroupName, IsMemberBelow}
+use Rattle.tree_names.specs.NamedTrees.NamedTrees.{NamedTree, NamedElements, place_forth}
+use Rattle.tree_names.specs.NamedTrees.NamedTrees.NamedElements.{no_more, element_then}
+use Rattle.tree_names.proofs.NamedTrees.MoveLaws.{back_from_above}
+use Rattle.tree_names.specs.TreeRecords.PlaceWeights.{PlaceWeight, IsGroupTotal, IsTotalBelow}
 use Rattle.tree_names.specs.CleanTrees.{ids_in, HaveElementNames}
 use Rattle.tree_names.proofs.GroupNames.{member_begins}
 use Rattle.tree_names.proofs.Paths.{begins_once, one_split}

@@ -15,12 +15,12 @@ use Rattle.tech_model.specs.WellFormed.{IsWellFormed}
 use Rattle.ext_model.specs.declared.records.CellExt.{CellExt}
 use Rattle.ext_model.specs.declared.records.NodeRec.{NodeRec}
 use Rattle.layout_model.specs.Places.{Place}
-use Rattle.own_records.specs.FetRecords.{IsOfNode}
-use Rattle.named_trees.specs.MemberGroups.{IsGroupName, IsMemberAt, IsMemberBelow}
-use Rattle.named_trees.specs.NamedTrees.{NamedTree, NamedElements, OwnBody}
-use Rattle.named_trees.specs.NamedTrees.NamedTree.{named_tree}
-use Rattle.tree_records.specs.PlaceWeights.{IsGroupTotal, IsMemberTotal}
-use Rattle.tree_records.specs.TreeRecords.{HasTreeRecord}
+use Rattle.tree_names.specs.OwnRecords.FetRecords.{IsOfNode}
+use Rattle.tree_names.specs.NamedTrees.MemberGroups.{IsGroupName, IsMemberAt, IsMemberBelow}
+use Rattle.tree_names.specs.NamedTrees.NamedTrees.{NamedTree, NamedElements, OwnBody}
+use Rattle.tree_names.specs.NamedTrees.NamedTrees.NamedTree.{named_tree}
+use Rattle.tree_names.specs.TreeRecords.PlaceWeights.{IsGroupTotal, IsMemberTotal}
+use Rattle.tree_names.specs.TreeRecords.TreeRecords.{HasTreeRecord}
 use Rattle.tree_names.specs.CleanTrees.{IsCleanTree, ids_in}
 use Rattle.tree_names.proofs.GroupNames.{group_name_along, member_begins, members_together, one_group, one_group_name}
 use Rattle.tree_names.proofs.GroupNodes.{group_back}

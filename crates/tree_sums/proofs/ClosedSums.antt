@@ -6,13 +6,13 @@ use Rattle.tech_model.specs.declared.raw.RawTech.{RawTech}
 use Rattle.tech_model.specs.Rules.{KeepsRules}
 use Rattle.tech_model.specs.WellFormed.{IsWellFormed}
 use Rattle.ext_model.specs.declared.records.CellExt.{CellExt}
-use Rattle.named_trees.specs.FlatLayouts.{flat_layout}
-use Rattle.named_trees.specs.MemberGroups.{IsGroupName}
-use Rattle.named_trees.specs.NamedTrees.{NamedTree, NamedElements}
-use Rattle.named_trees.specs.NamedTrees.NamedTree.{named_tree}
-use Rattle.named_trees.specs.NamedTrees.NamedElements.{no_more, element_then}
-use Rattle.tree_records.specs.PlaceWeights.{IsGroupTotal}
-use Rattle.tree_records.specs.TreeRecords.{HasTreeRecords, HaveTreeRecords}
+use Rattle.tree_names.specs.NamedTrees.FlatLayouts.{flat_layout}
+use Rattle.tree_names.specs.NamedTrees.MemberGroups.{IsGroupName}
+use Rattle.tree_names.specs.NamedTrees.NamedTrees.{NamedTree, NamedElements}
+use Rattle.tree_names.specs.NamedTrees.NamedTrees.NamedTree.{named_tree}
+use Rattle.tree_names.specs.NamedTrees.NamedTrees.NamedElements.{no_more, element_then}
+use Rattle.tree_names.specs.TreeRecords.PlaceWeights.{IsGroupTotal}
+use Rattle.tree_names.specs.TreeRecords.TreeRecords.{HasTreeRecords, HaveTreeRecords}
 use Rattle.tree_names.specs.CleanTrees.{ids_in, IsCleanTree}
 use Rattle.tree_names.proofs.CleanTrees.{AreCleanTrees, clean_below, clean_first, clean_rest}
 use Rattle.tree_sums.specs.Laws.{HoldsOfEach, HasClosedSums}

@@ -11,10 +11,10 @@ use Rattle.ext_model.specs.declared.records.NodeRec.{NodeRec}
 use Rattle.circuit_model.specs.declared.limits.TheConstants.{LONGEST_CHAIN}
 use Rattle.circuit_model.specs.Elements.{Element, elements_of, ext_of, ids_of}
 use Rattle.circuit_model.specs.FlatNodes.{has_name, share_of, sum_of}
-use Rattle.named_trees.specs.NamedTrees.{NamedTree, NamedElements, NamedStanding, named_standings, named_standings_below, own_body, named_above}
-use Rattle.named_trees.specs.NamedTrees.NamedTree.{named_tree}
-use Rattle.named_trees.specs.NamedTrees.NamedElements.{no_more, element_then}
-use Rattle.tree_records.specs.TreeRecords.{HasTreeRecords}
+use Rattle.tree_names.specs.NamedTrees.NamedTrees.{NamedTree, NamedElements, NamedStanding, named_standings, named_standings_below, own_body, named_above}
+use Rattle.tree_names.specs.NamedTrees.NamedTrees.NamedTree.{named_tree}
+use Rattle.tree_names.specs.NamedTrees.NamedTrees.NamedElements.{no_more, element_then}
+use Rattle.tree_names.specs.TreeRecords.TreeRecords.{HasTreeRecords}
 use Rattle.tree_names.specs.CleanTrees.{depth_of}
 use Rattle.tree_names.specs.TreeElements.{IsElementFor}
 use Rattle.tree_names.proofs.ElementLinks.{full_name-path}

@@ -20,9 +20,9 @@ use Rattle.layout_model.specs.Technologies.{Class, class_of, rules_of}
 use Rattle.circuit_model.specs.declared.limits.TheConstants.{LONGEST_CHAIN}
 use Rattle.circuit_model.specs.Elements.{elements_of, ext_of}
 use Rattle.circuit_model.specs.FlatNodes.{IsFlatNode, measure_of}
-use Rattle.named_trees.specs.FlatLayouts.{AreOneFlatNode, HasNodePath, flat_layout}
-use Rattle.named_trees.specs.NamedTrees.{NamedTree, own_body}
-use Rattle.tree_records.specs.TreeRecords.{HasTreeRecords}
+use Rattle.tree_names.specs.NamedTrees.FlatLayouts.{AreOneFlatNode, HasNodePath, flat_layout}
+use Rattle.tree_names.specs.NamedTrees.NamedTrees.{NamedTree, own_body}
+use Rattle.tree_names.specs.TreeRecords.TreeRecords.{HasTreeRecords}
 use Rattle.tree_names.specs.CleanTrees.{IsCleanTree, depth_of}
 use Rattle.tree_names.proofs.TreeElements.{elements_for, record_is, top_record}
 use Rattle.tree_sums.specs.Laws.{HoldsOfEach, HasSumOfPlaces, IsMeasured, is_named}

@@ -13,9 +13,9 @@ use Rattle.layout_model.specs.Places.{Place}
 use Rattle.circuit_model.specs.declared.limits.TheConstants.{LONGEST_CHAIN}
 use Rattle.circuit_model.specs.Elements.{elements_of, ext_of}
 use Rattle.circuit_model.specs.FlatNodes.{AreFlatNodes}
-use Rattle.named_trees.specs.NamedTrees.{NamedTree, own_body}
-use Rattle.tree_records.specs.TreeCircuits.{IsFlatNodeRecord}
-use Rattle.tree_records.specs.TreeRecords.{HasTreeRecords}
+use Rattle.tree_names.specs.NamedTrees.NamedTrees.{NamedTree, own_body}
+use Rattle.tree_names.specs.TreeRecords.TreeCircuits.{IsFlatNodeRecord}
+use Rattle.tree_names.specs.TreeRecords.TreeRecords.{HasTreeRecords}
 use Rattle.tree_names.specs.CircuitNodes.{IsNamedAsFlatNode}
 use Rattle.tree_names.specs.CleanTrees.{IsCleanTree, depth_of}
 use Rattle.tree_names.proofs.CircuitNodes.{name_flat_nodes}

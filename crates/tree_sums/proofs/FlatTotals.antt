@@ -23,11 +23,11 @@ use Rattle.layout_model.specs.Places.{Place}
 use Rattle.circuit_model.specs.Elements.{Element}
 use Rattle.circuit_model.specs.FullNames.{AreLinked}
 use Rattle.circuit_model.specs.FlatNodes.{IsFlatNode}
-use Rattle.named_trees.specs.FlatLayouts.{flat_layout, AreOneFlatNode, HasNodePath}
-use Rattle.named_trees.specs.MemberGroups.{IsGroupName}
-use Rattle.named_trees.specs.NamedTrees.{NamedTree, named_standings}
-use Rattle.tree_records.specs.PlaceWeights.{PlaceWeight, IsGroupTotal}
-use Rattle.tree_records.specs.TreeRecords.{HasTreeRecords}
+use Rattle.tree_names.specs.NamedTrees.FlatLayouts.{flat_layout, AreOneFlatNode, HasNodePath}
+use Rattle.tree_names.specs.NamedTrees.MemberGroups.{IsGroupName}
+use Rattle.tree_names.specs.NamedTrees.NamedTrees.{NamedTree, named_standings}
+use Rattle.tree_names.specs.TreeRecords.PlaceWeights.{PlaceWeight, IsGroupTotal}
+use Rattle.tree_names.specs.TreeRecords.TreeRecords.{HasTreeRecords}
 use Rattle.tree_names.specs.CleanTrees.{IsCleanTree}
 use Rattle.tree_names.specs.TreeElements.{IsElementFor}
 use Rattle.tree_names.proofs.FlatNames.{path_full}

@@ -10,13 +10,13 @@ use Rattle.tech_model.specs.declared.raw.RawTech.{RawTech}
 use Rattle.ext_model.specs.declared.records.MergeRec.{MergeRec}
 use Rattle.layout_model.specs.Places.{Place}
 use Rattle.layout_model.specs.Technologies.{rules_of}
-use Rattle.named_trees.specs.MemberGroups.{IsGroupName, IsMemberOf}
-use Rattle.named_trees.specs.NamedTrees.{NamedTree}
-use Rattle.tree_records.specs.Merges.{Adjustment, MemberGroup, IsMemberGroup, is_zero_adjustment, group_name, merge_of, group_merges, zero_adjustment}
-use Rattle.tree_records.specs.PlaceWeights.{PlaceWeight, AreMemberTotals, IsGroupTotal, IsMemberTotal}
+use Rattle.tree_names.specs.NamedTrees.MemberGroups.{IsGroupName, IsMemberOf}
+use Rattle.tree_names.specs.NamedTrees.NamedTrees.{NamedTree}
+use Rattle.tree_names.specs.TreeRecords.Merges.{Adjustment, MemberGroup, IsMemberGroup, is_zero_adjustment, group_name, merge_of, group_merges, zero_adjustment}
+use Rattle.tree_names.specs.TreeRecords.PlaceWeights.{PlaceWeight, AreMemberTotals, IsGroupTotal, IsMemberTotal}
 use Rattle.tree_sums.specs.TreeSums.{RecordedQuantity}
 use Rattle.tree_sums.proofs.RecordedQuantities.{IsRecordedQuantity, amount_of}
-use Rattle.full_names.proofs.ListOrders.{Distinct-names, pairwise_names}
+use Rattle.tree_names.proofs.FullNames.ListOrders.{Distinct-names, pairwise_names}
 use Rattle.tree_sums.proofs.Shares.{Shared, AddsTheRest, members_sum}
 use Rattle.tree_sums.proofs.NamedSums.{names_in}
 

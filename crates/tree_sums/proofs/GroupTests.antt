@@ -16,10 +16,10 @@ use Rattle.ext_model.specs.declared.records.CellExt.{CellExt}
 use Rattle.ext_model.specs.declared.records.NodeRec.{NodeRec}
 use Rattle.circuit_model.specs.Elements.{Element}
 use Rattle.circuit_model.specs.FlatNodes.{is_among, IsFlatNode}
-use Rattle.named_trees.specs.NamedTrees.{NamedTree, NamedElements, named_standings}
-use Rattle.named_trees.specs.NamedTrees.NamedTree.{named_tree}
-use Rattle.named_trees.specs.NamedTrees.NamedElements.{no_more, element_then}
-use Rattle.tree_records.specs.TreeRecords.{HasTreeRecords, HaveTreeRecords}
+use Rattle.tree_names.specs.NamedTrees.NamedTrees.{NamedTree, NamedElements, named_standings}
+use Rattle.tree_names.specs.NamedTrees.NamedTrees.NamedTree.{named_tree}
+use Rattle.tree_names.specs.NamedTrees.NamedTrees.NamedElements.{no_more, element_then}
+use Rattle.tree_names.specs.TreeRecords.TreeRecords.{HasTreeRecords, HaveTreeRecords}
 use Rattle.tree_names.specs.CleanTrees.{IsCleanTree}
 use Rattle.tree_names.specs.PathLinks.{ArePathsJoined, ArePathsJoinedBelow}
 use Rattle.tree_names.specs.TreeElements.{IsElementFor}

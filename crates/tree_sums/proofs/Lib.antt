@@ -1,3 +1,8 @@
+-- what crates above name of those below
+pub use Rattle.tree_names.proofs.FullNames as FullNames
+pub use Rattle.tree_names.proofs.NameClasses as NameClasses
+pub use Rattle.tree_names.proofs.OwnRecordLaws as OwnRecordLaws
+pub use Rattle.tree_names.proofs as TreeNames
 pub mod NamedSums
 pub mod RecordedQuantities
 pub mod MaterialPlaces

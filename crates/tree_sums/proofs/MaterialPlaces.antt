@@ -10,12 +10,12 @@ use Rattle.layout_model.specs.Places.{Place}
 use Rattle.layout_trees.specs.CellTrees.{place_back}
 use Rattle.names.specs.NamedNodes.{AreOneNamedNode}
 use Rattle.names.proofs.AttachLaws.{suits_material}
-use Rattle.named_trees.specs.FlatLayouts.{flat_layout}
-use Rattle.named_trees.specs.MemberGroups.{AreOneGroup, AreOneGroupBelow, IsGroupName, IsMemberAt, IsMemberBelow}
-use Rattle.named_trees.specs.NamedTrees.{NamedTree, NamedElements, OwnBody, place_forth}
-use Rattle.named_trees.specs.NamedTrees.NamedTree.{named_tree}
-use Rattle.named_trees.specs.NamedTrees.NamedElements.{no_more, element_then}
-use Rattle.named_trees.proofs.MoveLaws.{above_from_back}
+use Rattle.tree_names.specs.NamedTrees.FlatLayouts.{flat_layout}
+use Rattle.tree_names.specs.NamedTrees.MemberGroups.{AreOneGroup, AreOneGroupBelow, IsGroupName, IsMemberAt, IsMemberBelow}
+use Rattle.tree_names.specs.NamedTrees.NamedTrees.{NamedTree, NamedElements, OwnBody, place_forth}
+use Rattle.tree_names.specs.NamedTrees.NamedTrees.NamedTree.{named_tree}
+use Rattle.tree_names.specs.NamedTrees.NamedTrees.NamedElements.{no_more, element_then}
+use Rattle.tree_names.proofs.NamedTrees.MoveLaws.{above_from_back}
 use Rattle.tree_names.specs.CleanTrees.{IsCleanTree}
 use Rattle.tree_names.proofs.CleanTrees.{AreCleanTrees, clean_below, clean_first, clean_rest}
 use Rattle.tree_names.proofs.LiftedLinks.{StandBelow, below_stands, material_up, own_fits}

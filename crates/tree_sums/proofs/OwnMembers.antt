@@ -16,12 +16,12 @@ use Rattle.ext_model.specs.declared.records.NodeRec.{NodeRec}
 use Rattle.layout_model.specs.LayerTypes.{HasTypesOf}
 use Rattle.layout_model.specs.Places.{Place, IsNoLater}
 use Rattle.names.specs.NamedNodes.{AreOneNamedNode}
-use Rattle.cell_nodes.specs.NodeRecords.{IsNodeRecord, AreNodeRecords}
-use Rattle.cell_nodes.proofs.NodePlaces.{AreOneNamedNode-sym, material_along}
-use Rattle.own_records.specs.FetRecords.{IsOfNode}
-use Rattle.own_record_laws.proofs.NamesDiffer.{names_differ}
-use Rattle.own_record_laws.proofs.PreferredNames.{goes_by, in_some, preferred_is_first, recorded}
-use Rattle.named_trees.specs.NamedTrees.{OwnBody}
+use Rattle.tree_names.specs.CellNodes.NodeRecords.{IsNodeRecord, AreNodeRecords}
+use Rattle.tree_names.proofs.CellNodes.NodePlaces.{AreOneNamedNode-sym, material_along}
+use Rattle.tree_names.specs.OwnRecords.FetRecords.{IsOfNode}
+use Rattle.tree_names.proofs.OwnRecordLaws.NamesDiffer.{names_differ}
+use Rattle.tree_names.proofs.OwnRecordLaws.PreferredNames.{goes_by, in_some, preferred_is_first, recorded}
+use Rattle.tree_names.specs.NamedTrees.NamedTrees.{OwnBody}
 use Rattle.tree_names.proofs.OwnNames.{goes_by_own, one_own_node}
 use Rattle.tree_sums.specs.TreeSums.{RecordedQuantity}
 use Rattle.tree_sums.proofs.RecordedQuantities.{IsRecordedQuantity}

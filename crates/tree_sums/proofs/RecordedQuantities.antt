@@ -18,11 +18,11 @@ use Rattle.layout_model.specs.Nodes.{AreMeasures}
 use Rattle.layout_model.specs.Places.{Place}
 use Rattle.layout_model.specs.Technologies.{Class, capacitance, rules_of}
 use Rattle.names.specs.NamedNodes.{AreOneNamedNode}
-use Rattle.cell_nodes.specs.NodeRecords.{IsNodeRecord}
+use Rattle.tree_names.specs.CellNodes.NodeRecords.{IsNodeRecord}
 use Rattle.circuit_model.specs.FlatNodes.{measure_of}
-use Rattle.named_trees.specs.NamedTrees.{NamedTree}
-use Rattle.tree_records.specs.Merges.{Adjustment, MemberGroup, IsMemberGroup, AreAdjustments, merge_of, zero_adjustment, is_zero_adjustment}
-use Rattle.tree_records.specs.PlaceWeights.{area_weight, perimeter_weight, capacitance_weight, IsAdjustment}
+use Rattle.tree_names.specs.NamedTrees.NamedTrees.{NamedTree}
+use Rattle.tree_names.specs.TreeRecords.Merges.{Adjustment, MemberGroup, IsMemberGroup, AreAdjustments, merge_of, zero_adjustment, is_zero_adjustment}
+use Rattle.tree_names.specs.TreeRecords.PlaceWeights.{area_weight, perimeter_weight, capacitance_weight, IsAdjustment}
 use Rattle.tree_sums.specs.TreeSums.{RecordedQuantity, recorded_cap, recorded_area, recorded_perimeter}
 
 -- what a merge with these amounts has

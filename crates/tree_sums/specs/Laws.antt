@@ -17,10 +17,10 @@ use Rattle.circuit_model.specs.declared.limits.TheConstants.{LONGEST_CHAIN}
 use Rattle.circuit_model.specs.Elements.{elements_of, ext_of}
 use Rattle.circuit_model.specs.FlatNodes.{AreFlatNodes, IsFlatNode, has_name, sum_of}
 use Rattle.circuit_model.specs.FullNames.{AreInNameOrder}
-use Rattle.named_trees.specs.FlatLayouts.{AreOneFlatNode, HasNodePath, flat_layout}
-use Rattle.named_trees.specs.NamedTrees.{NamedTree, own_body}
-use Rattle.tree_records.specs.TreeCircuits.{HasNodeRecord, IsFlatNodeRecord}
-use Rattle.tree_records.specs.TreeRecords.{HasTreeRecords}
+use Rattle.tree_names.specs.NamedTrees.FlatLayouts.{AreOneFlatNode, HasNodePath, flat_layout}
+use Rattle.tree_names.specs.NamedTrees.NamedTrees.{NamedTree, own_body}
+use Rattle.tree_names.specs.TreeRecords.TreeCircuits.{HasNodeRecord, IsFlatNodeRecord}
+use Rattle.tree_names.specs.TreeRecords.TreeRecords.{HasTreeRecords}
 use Rattle.tree_names.specs.CleanTrees.{IsCleanTree, depth_of}
 use Rattle.tree_sums.specs.TreeSums.{RecordedQuantity, recorded_cap, recorded_area, recorded_perimeter, tree_sum, IsOfGroups, AreGroupTotals, sum_passing}
 

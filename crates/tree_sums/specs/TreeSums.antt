@@ -11,11 +11,11 @@ use Rattle.ext_model.specs.declared.records.MergeRec.{MergeRec}
 use Rattle.ext_model.specs.declared.records.NodeRec.{NodeRec}
 use Rattle.circuit_model.specs.Elements.{ext_of}
 use Rattle.circuit_model.specs.FlatNodes.{measure_of}
-use Rattle.named_trees.specs.NamedTrees.{NamedTree, NamedElements}
-use Rattle.named_trees.specs.NamedTrees.NamedTree.{named_tree}
-use Rattle.named_trees.specs.NamedTrees.NamedElements.{no_more, element_then}
-use Rattle.named_trees.specs.MemberGroups.{IsGroupName, IsMemberAt}
-use Rattle.tree_records.specs.PlaceWeights.{PlaceWeight, area_weight, perimeter_weight, capacitance_weight, IsGroupTotal}
+use Rattle.tree_names.specs.NamedTrees.NamedTrees.{NamedTree, NamedElements}
+use Rattle.tree_names.specs.NamedTrees.NamedTrees.NamedTree.{named_tree}
+use Rattle.tree_names.specs.NamedTrees.NamedTrees.NamedElements.{no_more, element_then}
+use Rattle.tree_names.specs.NamedTrees.MemberGroups.{IsGroupName, IsMemberAt}
+use Rattle.tree_names.specs.TreeRecords.PlaceWeights.{PlaceWeight, area_weight, perimeter_weight, capacitance_weight, IsGroupTotal}
 
 -- a quantity, by the weight of places whose sum it is, with what a node's record and a merge's have of it
 pub record RecordedQuantity : Type 0 where

@@ -24,11 +24,11 @@ use Rattle.cell_library.specs.Libraries.{IsLawfulLibrary, LibraryParts, seen}
 use Rattle.cell_library.specs.PartCounts.{element_count}
 use Rattle.cell_library.specs.Views.{LibraryView, view_at}
 use Rattle.cell_library.proofs.ElementCounts.{few_elements}
-use Rattle.named_trees.specs.NamedTrees.{NamedElements, NamedTree, named_elements_in, own_body}
-use Rattle.tree_records.specs.TreeRecords.{use_records}
-use Rattle.library_trees.specs.ElementNames.{UseElement, array_element, use_elements}
-use Rattle.library_trees.specs.NamedCells.{named_elements_at, named_elements_from, named_tree_at, named_tree_to}
-use Rattle.library_trees.proofs.WholeTrees.{UsesWithIds, named_tree_unfolds}
+use Rattle.kept_records.specs.NamedTrees.NamedTrees.{NamedElements, NamedTree, named_elements_in, own_body}
+use Rattle.kept_records.specs.TreeRecords.TreeRecords.{use_records}
+use Rattle.kept_records.specs.LibraryTrees.ElementNames.{UseElement, array_element, use_elements}
+use Rattle.kept_records.specs.LibraryTrees.NamedCells.{named_elements_at, named_elements_from, named_tree_at, named_tree_to}
+use Rattle.kept_records.proofs.LibraryTrees.WholeTrees.{UsesWithIds, named_tree_unfolds}
 use Rattle.kept_records.specs.CellRecords.{library_use, library_uses}
 
 -- ---- the first uses

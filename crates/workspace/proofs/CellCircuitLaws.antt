@@ -1,7 +1,7 @@
 -- The records of a clean cell and of all below it: what they mean.
 use Rattle.std.proofs.Common.{◌≡◌, ◌<◌, ◌∙◌, ℕ, List, length, Option, Some, refl, sym, ap, subst, inl, inr}
 use Rattle.std.specs.Prelude.{IsSome}
-use Rattle.tree_names.proofs.TreeElements.{top_record}
+use Rattle.kept_records.proofs.TreeNames.TreeElements.{top_record}
 use Rattle.ext_model.specs.declared.circuits.Circuit.{Circuit}
 use Rattle.ext_model.specs.declared.records.CellExt.{CellExt}
 use Rattle.circuit_model.specs.declared.faults.FlatFault.{FlatFault}
@@ -11,11 +11,11 @@ use Rattle.circuit_model.specs.declared.limits.CircuitLimit.TheVariants.{Nodes, 
 use Rattle.circuit_model.specs.Elements.{AreRecords, ext_of}
 use Rattle.circuit_model.specs.Refusals.{IsFlatFaultOf, IsFlatOf}
 use Rattle.circuit_laws.specs.CircuitLaws.{FlatTransistorsHaveLetterAndLengths}
-use Rattle.hier_merge.specs.UncleanCells.{IsCleanCell}
+use Rattle.square_lines.specs.HierMerge.UncleanCells.{IsCleanCell}
 use Rattle.cell_library.specs.Libraries.{IsLawfulLibrary, LibraryParts, seen}
 use Rattle.cell_library.specs.Views.{view_at}
-use Rattle.named_trees.specs.NamedTrees.{own_body}
-use Rattle.tree_records.specs.TreeRecords.{HasTreeRecords}
+use Rattle.network_laws.specs.NamedTrees.NamedTrees.{own_body}
+use Rattle.network_laws.specs.TreeRecords.TreeRecords.{HasTreeRecords}
 use Rattle.tree_circuits.specs.Laws.{RecordsStandForTheFlatLayout, TreeRecordsHaveNoOtherFault}
 use Rattle.library_trees.specs.Laws.{AreChainsShort, CleanCellHasCleanTree}
 use Rattle.library_trees.specs.NamedCells.{named_tree_at}

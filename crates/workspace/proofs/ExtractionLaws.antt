@@ -21,7 +21,7 @@ use Rattle.cell_library.specs.Views.{LibraryView, view_at}
 use Rattle.ext_cache.specs.declared.extraction.Extracted.{Extracted}
 use Rattle.ext_cache.specs.Caches.{Agrees, Extracts, MakesRecords as KeepsRecords, Records, dirty_cells, is_dirty, stamp_in, with_record}
 use Rattle.ext_cache.proofs.MakingLaws.{clean_making, dirty_unmade}
-use Rattle.hier_merge.proofs.CleanOrders.{below_there}
+use Rattle.square_lines.proofs.HierMerge.CleanOrders.{below_there}
 use Rattle.ext_cache.proofs.RecordLaws.{kept_clean}
 use Rattle.workspace.specs.declared.cells.Edited.{Edited}
 use Rattle.workspace.specs.declared.extractions.Extracting.TheVariants.{Done}

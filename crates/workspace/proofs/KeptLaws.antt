@@ -14,20 +14,20 @@ use Rattle.use_orders.proofs.Visiting.{library_order-behind, library_order-lists
 use Rattle.ext_model.specs.declared.arrays.ArrayExt.{ArrayExt}
 use Rattle.ext_model.specs.declared.tables.CellKey.{CellKey}
 use Rattle.ext_model.specs.LawfulArrays.{IsLawfulArrayExt}
-use Rattle.plain_records.specs.Plains.{AreArrayRecords, plains}
-use Rattle.hier_merge.specs.UncleanCells.{IsCleanCell}
+use Rattle.ext_loading.specs.PlainRecords.Plains.{AreArrayRecords, plains}
+use Rattle.square_lines.specs.HierMerge.UncleanCells.{IsCleanCell}
 use Rattle.cell_tree.specs.Uses.{HasChild}
 use Rattle.cell_library.specs.Additions.{children_in}
 use Rattle.cell_library.specs.Libraries.{IsLawfulLibrary, LibraryParts, seen}
 use Rattle.cell_library.specs.Views.{LibraryView, view_at}
-use Rattle.tree_records.specs.TreeRecords.{HasTreeRecords}
+use Rattle.network_laws.specs.TreeRecords.TreeRecords.{HasTreeRecords}
 use Rattle.library_trees.specs.NamedCells.{IsAtOrBelow as IsSeenAtOrBelow, named_tree_at}
 use Rattle.kept_records.specs.KeptRecords.{HasKeptRecord}
 use Rattle.kept_records.specs.Laws.{ListedRecordsAreOfTheTree}
 use Rattle.workspace.proofs.CellNames.{names_tell, tree_named}
 use Rattle.ext_cache.specs.Caches.{Agrees, IsRecordNow, Records, record_in}
 use Rattle.ext_cache.proofs.OrderLaws.{below_is_before}
-use Rattle.hier_merge.proofs.CleanOrders.{below_there, numbers}
+use Rattle.square_lines.proofs.HierMerge.CleanOrders.{below_there, numbers}
 use Rattle.ext_cache.proofs.RecordLaws.{kept_clean}
 use Rattle.workspace.specs.Extracting.{IsFreshBelow}
 

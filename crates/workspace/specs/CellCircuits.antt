@@ -7,8 +7,8 @@ use Rattle.circuit_model.specs.declared.faults.FlatFault.TheVariants.{TooMany as
 use Rattle.circuit_model.specs.declared.limits.CircuitLimit.{CircuitLimit}
 use Rattle.circuit_model.specs.Refusals.{IsFlatFaultOf, IsFlatOf}
 use Rattle.cell_library.specs.Views.{LibraryView, view_at}
-use Rattle.tree_records.specs.TreeCircuits.{IsFlatCircuit}
-use Rattle.tree_records.specs.TreeRecords.{HasTreeRecords}
+use Rattle.network_laws.specs.TreeRecords.TreeCircuits.{IsFlatCircuit}
+use Rattle.network_laws.specs.TreeRecords.TreeRecords.{HasTreeRecords}
 use Rattle.library_trees.specs.NamedCells.{named_tree_at}
 use Rattle.network_runs.specs.NetworkRuns.{CanBeSimulated}
 use Rattle.workspace.specs.declared.cell_circuits.Flattened.{Flattened}

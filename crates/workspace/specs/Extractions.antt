@@ -8,10 +8,10 @@ use Rattle.session_model.specs.declared.report.ReportLine.{ReportLine}
 use Rattle.session_model.specs.Effects.{Effect}
 use Rattle.ext_model.specs.declared.arrays.ArrayExt.{ArrayExt}
 use Rattle.ext_text.specs.WrittenTexts.{ext_text}
-use Rattle.names.specs.Attachments.{AreUnattached}
+use Rattle.ext_cache.specs.Names.Attachments.{AreUnattached}
 use Rattle.cell_library.specs.Additions.{children_in}
 use Rattle.cell_library.specs.Views.{LibraryView, cell_named, view_at}
-use Rattle.hier_merge.specs.UncleanCells.{IsCleanCell, IsUncleanBelow}
+use Rattle.square_lines.specs.HierMerge.UncleanCells.{IsCleanCell, IsUncleanBelow}
 use Rattle.kept_records.specs.CellRecords.{IsRecordOf}
 use Rattle.ext_loading.specs.ExtFiles.{ext_file}
 use Rattle.line_answers.specs.declared.refusals.Refusal.{Refusal}

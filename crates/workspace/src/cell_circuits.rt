@@ -1,11 +1,11 @@
 //! The circuits of cells.
 ghost use Rattle.std.specs.Prelude.{◌<◌, IfOk, IsOkUnless, length};
 ghost use Rattle.cell_library.specs.Libraries.{seen};
-ghost use Rattle.plain_records.specs.Plains.{AreArrayRecords, plains};
+ghost use Rattle.ext_loading.specs.PlainRecords.Plains.{AreArrayRecords, plains};
 ghost use Rattle.ext_cache.specs.Caches.{Agrees};
-ghost use Rattle.hier_merge.specs.UncleanCells.{IsCleanCell};
+ghost use Rattle.square_lines.specs.HierMerge.UncleanCells.{IsCleanCell};
 ghost use Rattle.library_trees.specs.NamedCells.{named_tree_at};
-ghost use Rattle.tree_records.specs.TreeRecords.{HasTreeRecords};
+ghost use Rattle.network_laws.specs.TreeRecords.TreeRecords.{HasTreeRecords};
 ghost use Rattle.workspace.specs.CellCircuits.{IsFlattenedAt};
 ghost use Rattle.workspace.specs.Extracting.{IsFreshBelow};
 

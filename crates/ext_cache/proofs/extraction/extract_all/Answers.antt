@@ -8,7 +8,7 @@ use Rattle.ext_cache.specs.declared.extraction.Extracted.{Extracted}
 use Rattle.ext_cache.specs.declared.undo.Undo.{Undo}
 use Rattle.ext_cache.specs.Refusals.{IsUncleanIn}
 use Rattle.ext_cache.specs.Undoing.{undo_of}
-use Rattle.hier_merge.proofs.CleanOrders.{clean_before, first_unclean_there, number_at, numbers, ordered_there}
+use Rattle.tree_merges.proofs.HierMerge.CleanOrders.{clean_before, first_unclean_there, number_at, numbers, ordered_there}
 use Rattle.ext_cache.proofs.LoopLaws.{kept_below, made_along, passed, renewed, told_dirty, work_all, work_next, work_passed}
 use Rattle.ext_cache.proofs.UncleanLaws.{fault_same, unclean_in_order}
 use Rattle.ext_cache.proofs.extraction.extract_all.Goals as goal

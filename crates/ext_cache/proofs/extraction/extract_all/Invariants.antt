@@ -1,7 +1,7 @@
 use Rattle.std.proofs.Common.{ℕ, ◌≤◌, ◌+◌, length, take, vec_capacity}
 use Rattle.cell_library.specs.Libraries.{seen}
 use Rattle.ext_cache.specs.Caches.{IsWorkOfAll, dirty_cells}
-use Rattle.hier_merge.proofs.CleanOrders.{numbers}
+use Rattle.tree_merges.proofs.HierMerge.CleanOrders.{numbers}
 use Rattle.ext_cache.proofs.LoopLaws.{IsMadeTo}
 use Rattle.ext_cache.proofs.extraction.extract_all.Given as goal
 

@@ -3,7 +3,7 @@ use Rattle.std.proofs.lemmas.Result.{IfOk-weaker}
 use Rattle.session_model.specs.Effects.{Effect}
 use Rattle.cell_library.specs.Libraries.{seen}
 use Rattle.cell_library.specs.Views.{cell_named}
-use Rattle.edit_script.proofs.CellLaws.{found_there}
+use Rattle.library_answers.proofs.EditScript.CellLaws.{found_there}
 use Rattle.workspace.specs.KeptSessions.{edited_state}
 use Rattle.extract_commands.specs.CommandCircuits.{WritesCircuit}
 use Rattle.workspace.specs.Extractions.{RefusesUnclean}

@@ -1,7 +1,7 @@
 use Rattle.std.proofs.Common.{◌≡◌, Some, rules}
 use Rattle.cell_library.specs.Libraries.{seen}
 use Rattle.cell_library.specs.Views.{cell_named}
-use Rattle.edit_script.proofs.CellLaws.{found_there}
+use Rattle.library_answers.proofs.EditScript.CellLaws.{found_there}
 use Rattle.extract_commands.proofs.command_vectors.vectors_named.Goals as goal
 
 pub fetch_vectors-requires-clause-cell : goal.fetch_vectors-requires-clause-cell

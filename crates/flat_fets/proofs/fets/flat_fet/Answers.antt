@@ -1,12 +1,12 @@
 use Rattle.std.proofs.Common.{◌≡◌, ℤ, List, length, get_or, sym, ◌∙◌, ap, subst, arith, rules, to_z, of_z}
 use Rattle.std.specs.Int.{w64, w128}
 use Rattle.std.proofs.lemmas.Int.{to_z-of_z}
-use Rattle.name_classes.proofs.TreeLaws.{tree_of_names}
+use Rattle.node_labels.proofs.NameClasses.TreeLaws.{tree_of_names}
 use Rattle.geo_core.specs.declared.squares.Square.{Square}
 use Rattle.geo_core.specs.Images.{image}
 use Rattle.ext_model.specs.declared.records.TermRec.{TermRec}
 use Rattle.element_tree.specs.declared.tree.ElementTree.{ElementTree}
-use Rattle.flat_limits.proofs.TreeLaws.{no_flat}
+use Rattle.node_labels.proofs.FlatLimits.TreeLaws.{no_flat}
 use Rattle.node_labels.specs.Spots.{element_at}
 use Rattle.node_labels.proofs.SpotLaws.{element_here, read_small}
 use Rattle.flat_fets.specs.Sides.{AreFlatTerminals}

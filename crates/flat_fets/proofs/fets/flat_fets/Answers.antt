@@ -7,7 +7,7 @@ use Rattle.circuit_model.specs.Elements.{Element}
 use Rattle.circuit_model.specs.FlatFets.{fets_of, AreFlatFets}
 use Rattle.element_tree.specs.declared.tree.ElementTree.{ElementTree}
 use Rattle.full_names.specs.Names.{elements_in}
-use Rattle.flat_limits.proofs.TreeLaws.{no_flat}
+use Rattle.node_labels.proofs.FlatLimits.TreeLaws.{no_flat}
 use Rattle.node_labels.specs.declared.spots.FetSpots.{FetSpots}
 use Rattle.node_labels.specs.Spots.{AreFetSpotsOf, element_at, cell_at, no_element}
 use Rattle.node_labels.proofs.SpotLaws.{element_read, spots_read}

@@ -8,10 +8,10 @@ use Rattle.ext_model.specs.declared.records.CellExt.{CellExt}
 use Rattle.element_tree.specs.declared.tree.ElementTree.{ElementTree}
 use Rattle.geo_core.specs.Images.{image}
 use Rattle.circuit_model.specs.Elements.{Element, placed}
-use Rattle.flat_limits.proofs.TreeLaws.{no_flat}
-use Rattle.node_labels.specs.Spots.{element_at}
+use Rattle.flat_sums.proofs.FlatLimits.TreeLaws.{no_flat}
+use Rattle.flat_sums.specs.NodeLabels.Spots.{element_at}
 use Rattle.flat_nodes.proofs.PlacedLaws.{origin_here, lies_in_reach}
-use Rattle.node_labels.proofs.SpotLaws.{read_small}
+use Rattle.flat_sums.proofs.NodeLabels.SpotLaws.{read_small}
 use Rattle.flat_nodes.proofs.nodes.placed_node.Goals as goal
 
 abbrev square : ℤ → ℤ → Square

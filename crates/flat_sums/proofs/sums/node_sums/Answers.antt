@@ -9,7 +9,7 @@ use Rattle.full_names.specs.Names.{elements_in}
 use Rattle.name_classes.specs.declared.classes.MergeEnd.{MergeEnd}
 use Rattle.name_classes.specs.Classes.{HasEnds}
 use Rattle.name_classes.proofs.TreeLaws.{tree_of_names}
-use Rattle.flat_limits.proofs.TreeLaws.{no_flat}
+use Rattle.node_labels.proofs.FlatLimits.TreeLaws.{no_flat}
 use Rattle.node_labels.specs.Spots.{AreSpotsOf, element_at, cell_at, no_element}
 use Rattle.node_labels.proofs.SpotLaws.{element_here, element_read, spots_read}
 use Rattle.flat_sums.specs.declared.sums.NodeSum.{NodeSum}

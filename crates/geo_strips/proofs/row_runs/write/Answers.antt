@@ -1,8 +1,8 @@
 use Rattle.std.proofs.Common.{sym, subst, inl, inr, arith, rules}
 use Rattle.std.specs.Int.{w64}
 use Rattle.std.proofs.lemmas.Int.{ints, to_z-of_z}
-use Rattle.finite_sets.specs.Lists.{In}
-use Rattle.finite_sets.proofs.Members.{In-append_left, In-push, In-push_cases}
+use Rattle.geo_core.specs.FiniteSets.Lists.{In}
+use Rattle.geo_core.proofs.FiniteSets.Members.{In-append_left, In-push, In-push_cases}
 use Rattle.geo_strips.specs.RowRuns.{bar_of}
 use Rattle.geo_strips.proofs.row_runs.write.Goals as goal
 

@@ -6,8 +6,8 @@ use Rattle.std.specs.BTreeMap.{get, is_at}
 use Rattle.std.specs.Map.{lookup}
 use Rattle.std.proofs.lemmas.Int.{ints}
 use Rattle.std.proofs.lemmas.List.{drop_all}
-use Rattle.finite_sets.specs.Lists.{In}
-use Rattle.finite_sets.proofs.Members.{In-get_or}
+use Rattle.geo_core.specs.FiniteSets.Lists.{In}
+use Rattle.geo_core.proofs.FiniteSets.Members.{In-get_or}
 use Rattle.geo_strips.specs.declared.row_events.Event.{Event}
 use Rattle.geo_strips.specs.Coverage.{until, IsCut}
 use Rattle.geo_strips.specs.RowEvents.{AreEvents, sides_of}

@@ -1,6 +1,6 @@
 use Rattle.std.proofs.Common.{sym, ◌∙◌, arith}
 use Rattle.std.proofs.lemmas.List.{length-map}
-use Rattle.tree_records.specs.Merges.{merge_of}
+use Rattle.meeting_sums.specs.TreeRecords.Merges.{merge_of}
 use Rattle.group_merges.specs.declared.members.Member.{Member}
 use Rattle.group_merges.specs.Groups.{name_at}
 use Rattle.group_merges.specs.MarkedGroups.{adjustment_of}

@@ -1,5 +1,5 @@
 use Rattle.std.proofs.Common.{◌-◌, length}
-use Rattle.tree_records.specs.Merges.{merge_of}
+use Rattle.meeting_sums.specs.TreeRecords.Merges.{merge_of}
 use Rattle.group_merges.specs.Groups.{name_at}
 use Rattle.group_merges.specs.MarkedGroups.{adjustment_of}
 use Rattle.group_merges.proofs.WalkLaws.{IsUpTo}

@@ -2,7 +2,7 @@ use Rattle.std.proofs.Common.{refl, sym, subst}
 use Rattle.std.proofs.lemmas.Result.{IfOk-weaker}
 use Rattle.session_model.specs.Effects.{Answers}
 use Rattle.script_lines.specs.declared.commands.Command.{Command}
-use Rattle.workspace.specs.KeptSessions.{state_of}
+use Rattle.library_commands.specs.Workspace.KeptSessions.{state_of}
 use Rattle.magex_top.specs.Sessions.{CommandMeans}
 use Rattle.magex_top.proofs.session.answer.Goals as goal
 

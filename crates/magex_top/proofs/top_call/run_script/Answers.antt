@@ -5,9 +5,9 @@ use Rattle.session_model.specs.Effects.{with_stores}
 use Rattle.session_model.specs.Reports.{is_told}
 use Rattle.session_model.specs.Scripts.{LinesMean}
 use Rattle.magex_top.specs.declared.status.Status.TheVariants.{Done, Told}
-use Rattle.workspace.specs.KeptSessions.{state_of}
+use Rattle.library_commands.specs.Workspace.KeptSessions.{state_of}
 use Rattle.magex_top.specs.Sessions.{RunLineMeans, RunState}
-use Rattle.workspace.specs.States.{State}
+use Rattle.library_commands.specs.Workspace.States.{State}
 use Rattle.magex_top.proofs.RunLaws.{calm_read, calm_write, reached_from_first}
 use Rattle.magex_top.proofs.top_call.run_script.Goals as goal
 

@@ -1,6 +1,6 @@
 use Rattle.std.specs.Ordering.{int_cmp}
 use Rattle.std.specs.BTreeMap.{get}
-use Rattle.finite_sets.specs.Range.{extent}
+use Rattle.geo_core.specs.FiniteSets.Range.{extent}
 use Rattle.geo_core.specs.Areas.{IsSmall}
 use Rattle.geo_core.specs.declared.limits.TheConstants.{PLANE_EDGE}
 use Rattle.rect_contacts.proofs.RowLaws.{FindsMet}

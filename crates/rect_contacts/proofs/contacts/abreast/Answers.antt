@@ -1,7 +1,7 @@
 -- Where the sides meet, the rectangles touch.
 use Rattle.std.proofs.Common.{List, sym, subst}
 use Rattle.std.proofs.lemmas.Result.{IfOk-weaker}
-use Rattle.finite_sets.specs.Lists.{Lists}
+use Rattle.geo_core.specs.FiniteSets.Lists.{Lists}
 use Rattle.rect_contacts.specs.declared.sides.Edge.TheVariants.{Right, Left}
 use Rattle.rect_contacts.specs.declared.sides.Side.{Side}
 use Rattle.rect_contacts.specs.Contacts.{shared_beside, shared_abreast, IsSharedEdgeBy}

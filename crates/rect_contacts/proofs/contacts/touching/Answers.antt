@@ -1,6 +1,6 @@
 -- The contacts of both kinds together are all contacts.
 use Rattle.std.proofs.Common.{List, ◌++◌, sym, ◌∙◌, ap, subst}
-use Rattle.finite_sets.specs.Lists.{Lists}
+use Rattle.geo_core.specs.FiniteSets.Lists.{Lists}
 use Rattle.rect_contacts.specs.declared.contacts.Contact.{Contact}
 use Rattle.rect_contacts.specs.Contacts.{IsSharedEdge}
 use Rattle.rect_contacts.proofs.Touches.{contacts_of_both}

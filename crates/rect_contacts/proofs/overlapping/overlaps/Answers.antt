@@ -3,7 +3,7 @@ use Rattle.std.proofs.Common.{pos, false, List, take_all, get_or, sym, ap, subst
 use Rattle.std.specs.Ordering.{int_cmp}
 use Rattle.std.specs.BTreeMap.{get, is_at}
 use Rattle.std.specs.Map.{lookup}
-use Rattle.finite_sets.proofs.Members.{In-get_or}
+use Rattle.geo_core.proofs.FiniteSets.Members.{In-get_or}
 use Rattle.rect_contacts.specs.declared.events.Event.{Event}
 use Rattle.rect_contacts.specs.Events.{AreEvents}
 use Rattle.rect_contacts.proofs.CommonSweep.{AreLists, Swept, lists_are, event_small, first_actives, second_actives, swept_first, swept_second, swept_none}

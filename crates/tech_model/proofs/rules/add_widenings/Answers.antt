@@ -1,6 +1,6 @@
 use Rattle.std.proofs.Common.{◌∙◌, ◌+◌, ◌-◌, ◌++◌, ℕ, List, map, filter, ap, sym, arith}
 use Rattle.std.specs.List.{range_with_len}
-use Rattle.finite_sets.proofs.Searches.{range_split}
+use Rattle.geo_core.proofs.FiniteSets.Searches.{range_split}
 use Rattle.tech_model.specs.Rules.{are_within}
 use Rattle.tech_model.proofs.PairSearch.{filter_here, filter_rest}
 use Rattle.tech_model.proofs.rules.add_widenings.Goals as goal

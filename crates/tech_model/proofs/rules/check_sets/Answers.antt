@@ -1,5 +1,5 @@
 use Rattle.std.proofs.Common.{◌∙◌, sym}
-use Rattle.finite_sets.proofs.Searches.{find-In}
+use Rattle.geo_core.proofs.FiniteSets.Searches.{find-In}
 use Rattle.tech_model.proofs.RuleLaws.{pair_types}
 use Rattle.tech_model.proofs.rules.check_sets.Goals as goal
 

@@ -1,6 +1,6 @@
 use Rattle.std.proofs.Common.{◌≡◌, drop}
 use Rattle.std.specs.Prelude.{find}
-use Rattle.finite_sets.specs.Range.{pairs_of}
+use Rattle.geo_core.specs.FiniteSets.Range.{pairs_of}
 use Rattle.tech_model.specs.Rules.{breaks_law}
 use Rattle.tech_model.proofs.rules.first_break.Given as goal
 

@@ -1,5 +1,5 @@
 use Rattle.std.proofs.Common.{◌∙◌, ◌+◌, ◌-◌, sym, arith}
-use Rattle.finite_sets.proofs.Searches.{range_split}
+use Rattle.geo_core.proofs.FiniteSets.Searches.{range_split}
 use Rattle.tech_model.specs.Rules.{types_of, have_one_set}
 use Rattle.tech_model.proofs.PairSearch.{pairs_rest, pairs_here}
 use Rattle.tech_model.proofs.rules.first_of_one_set.Goals as goal

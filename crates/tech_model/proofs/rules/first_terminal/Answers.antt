@@ -1,5 +1,5 @@
 use Rattle.std.proofs.Common.{◌∙◌, sym, get_or, subst, ap, ◌<◌, length, List}
-use Rattle.finite_sets.proofs.Searches.{find-In, drop_split}
+use Rattle.geo_core.proofs.FiniteSets.Searches.{find-In, drop_split}
 use Rattle.tech_model.specs.declared.raw.FetRule.{FetRule}
 use Rattle.tech_model.specs.Rules.{is_bad_terminal}
 use Rattle.tech_model.proofs.PairSearch.{each_rest, each_here}

@@ -1,6 +1,6 @@
 use Rattle.std.proofs.Common.{◌≡◌, ◌-◌, ◌++◌, filter}
 use Rattle.std.specs.List.{range_with_len}
-use Rattle.finite_sets.specs.Range.{pairs_of}
+use Rattle.geo_core.specs.FiniteSets.Range.{pairs_of}
 use Rattle.tech_model.specs.Rules.{types_of, are_within, widenings}
 use Rattle.tech_model.proofs.rules.widenings.Given as goal
 

@@ -2,11 +2,11 @@ use Rattle.std.proofs.Common.{◌<◌, List, length, sym, subst}
 use Rattle.std.specs.Prelude.{All, IfOk, IsSome}
 use Rattle.ext_model.specs.declared.arrays.ArrayExt.{ArrayExt}
 use Rattle.ext_model.specs.declared.tables.CellKey.{CellKey}
-use Rattle.plain_records.specs.Plains.{AreArrayRecords, plains}
+use Rattle.ext_loading.specs.PlainRecords.Plains.{AreArrayRecords, plains}
 use Rattle.cell_library.specs.Libraries.{LibraryParts, seen}
 use Rattle.ext_cache.specs.Caches.{Agrees, record_in}
 use Rattle.library_trees.specs.NamedCells.{named_tree_at}
-use Rattle.tree_records.specs.TreeRecords.{HasTreeRecords}
+use Rattle.network_laws.specs.TreeRecords.TreeRecords.{HasTreeRecords}
 use Rattle.workspace.specs.CellCircuits.{IsFlattenedAt}
 use Rattle.workspace.specs.Extracting.{IsFreshBelow}
 use Rattle.workspace.proofs.KeptLaws.{are_records, order_kept, root_clean, tree_records}

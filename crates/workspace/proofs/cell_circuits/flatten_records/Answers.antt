@@ -4,8 +4,8 @@ use Rattle.tech_model.specs.declared.raw.RawTech.{RawTech}
 use Rattle.circuit_model.specs.declared.faults.FlatFault.TheVariants.{TooMany as FlatTooMany}
 use Rattle.circuit_model.specs.Elements.{ext_of}
 use Rattle.circuit_model.specs.Refusals.{IsFlatFaultOf, IsFlatOf}
-use Rattle.plain_records.specs.Plains.{plains}
-use Rattle.plain_records.proofs.PlainLaws.{plains_are_records}
+use Rattle.ext_loading.specs.PlainRecords.Plains.{plains}
+use Rattle.ext_loading.proofs.PlainRecords.PlainLaws.{plains_are_records}
 use Rattle.cell_library.specs.Libraries.{seen}
 use Rattle.cell_library.specs.Views.{view_at}
 use Rattle.network_laws.specs.NetworkLaws.{FlatCircuitsHaveLetters}
