@@ -1,0 +1,3 @@
+pub mod FlatCircuits
+pub mod CircuitTrees
+pub mod Ext2simEffects

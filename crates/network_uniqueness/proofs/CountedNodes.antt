@@ -1,0 +1,22 @@
+-- Sim records have as many nodes as a network of theirs.
+use Rattle.std.proofs.Common.{◌<◌, ℕ, List, inl, inr, arith}
+use Rattle.std.specs.Prelude.{◌↔◌}
+use Rattle.std.proofs.lemmas.Bool.{cases_lt}
+use Rattle.switch_net.specs.Network.{Network}
+use Rattle.switch_net.specs.SimRecords.{IsNetworkOf, SimRecords}
+use Rattle.sim_networks.specs.Numbering.{AreNodesOf}
+use Rattle.sim_networks.specs.SimNetworks.{HasMoreNodesThan}
+use Rattle.sim_networks.proofs.CountLaws.{few_nodes, many_nodes}
+
+module _ (records : SimRecords) (net : Network) (names : List (List ℕ × ℕ)) (is : IsNetworkOf records net names) where
+  nodes_are : AreNodesOf records net.nodes names
+  nodes_are = record { named = is.named; stands = is.stands; each_node = is.each_node; classes = is.classes }
+
+  pub more_nodes : (most : ℕ) → HasMoreNodesThan most records ↔ (most < net.nodes)
+  more_nodes most = (
+    (λ more. elim (cases_lt most net.nodes) [
+      | inl past ↦ past
+      | inr within ↦ absurd (few_nodes records net.nodes names nodes_are most (omega (arith, within)) more)
+    ]),
+    many_nodes records net.nodes names nodes_are most,
+  )

@@ -1,0 +1,4 @@
+pub mod SameNetworks
+pub mod CountedNodes
+pub mod AlikeNames
+pub mod SameReplies

@@ -1,0 +1,5 @@
+mod SameTexts
+pub mod SameNodes
+mod SameTransistors
+pub mod SameFets
+mod SameOwnRecords

@@ -1,0 +1,4 @@
+mod SameTotals
+mod SameGroups
+mod SameMerges
+pub mod SameTreeRecords

@@ -1,0 +1,64 @@
+-- Groups of a cell with one name are one.
+use Rattle.std.proofs.Common.{◌≡◌, ℕ, List, sym, ap, subst}
+use Rattle.finite_sets.specs.Lists.{In}
+use Rattle.finite_sets.proofs.Chains.{Chain-append}
+use Rattle.tech_model.specs.declared.raw.RawTech.{RawTech}
+use Rattle.tech_model.specs.WellFormed.{IsWellFormed}
+use Rattle.tree_sums.specs.TreeNames.CleanTrees.{IsCleanTree}
+use Rattle.tree_sums.specs.TreeNames.NamedTrees.LayoutModel.Places.{Place}
+use Rattle.tree_sums.specs.TreeNames.NamedTrees.LayoutModel.Technologies.{rules_of}
+use Rattle.tree_sums.specs.TreeNames.NamedTrees.MemberGroups.{AreOneGroup, IsGroupName, IsMemberOf}
+use Rattle.tree_sums.specs.TreeNames.NamedTrees.NamedTrees.{NamedTree}
+use Rattle.tree_sums.specs.TreeNames.NamedTrees.NamedTrees.NamedTree.{named_tree}
+use Rattle.tree_sums.specs.TreeRecords.Merges.{AreAdjustments, IsMemberGroup, MemberGroup, group_name}
+use Rattle.tree_sums.specs.TreeRecords.PlaceWeights.{IsAdjustment, capacitance_weight}
+use Rattle.tree_sums.proofs.FullNames.ListOrders.{same_in_order}
+use Rattle.tree_sums.proofs.TreeNames.GroupNames.{one_group}
+use Rattle.tree_sums.proofs.TreeNames.GroupNodes.{group_back}
+use Rattle.record_uniqueness.proofs.SameTotals.{same_adjustment, same_adjustments}
+
+-- a place of a group, and another of that one's group
+group_through : (raw : RawTech) (tree : NamedTree) (a b c : Place) → AreOneGroup raw tree a b → AreOneGroup raw tree b c → AreOneGroup raw tree a c
+group_through raw (named_tree own elements) a b c first second = Chain-append first second
+
+module _ (raw : RawTech) (well : IsWellFormed raw) (tree : NamedTree) (clean : IsCleanTree raw tree) where
+  -- the name of a group is that of its first member
+  pub name_of_group : (group : MemberGroup) (is : IsMemberGroup raw tree group) → group_name group ≡ is.name
+  name_of_group group is =
+      ap (λ (members : List (List ℕ)). group_name (record { members = members; adjustment = group.adjustment })) is.members_are
+
+  module _ (group other : MemberGroup) (p : IsMemberGroup raw tree group) (q : IsMemberGroup raw tree other) (names : p.name ≡ q.name) where
+    -- both are of one place
+    together : AreOneGroup raw tree p.place q.place
+    together = one_group raw well tree clean p.place q.place p.name p.named (subst (IsGroupName raw tree q.place) (sym names) q.named)
+
+    -- and so they have the same members
+    same_members : group.members ≡ other.members
+    same_members = same_in_order group.members other.members p.in_order q.in_order there back
+      where
+        there : (member : List ℕ) → In member group.members → In member other.members
+        there member here =
+            let of : IsMemberOf raw tree p.place member = (p.members member).0 here in
+            (q.members member).1 (of.0, group_through raw tree q.place p.place of.0 (group_back raw tree p.place q.place together) of.1, of.2)
+
+        back : (member : List ℕ) → In member other.members → In member group.members
+        back member here =
+            let of : IsMemberOf raw tree q.place member = (q.members member).0 here in
+            (p.members member).1 (of.0, group_through raw tree p.place q.place of.0 together of.1, of.2)
+
+    -- and add the same to them
+    same_group_adjustment : group.adjustment ≡ other.adjustment
+    same_group_adjustment =
+        let classes = (rules_of raw).classes in
+        let charge = capacitance_weight classes in
+        let cap = same_adjustment raw charge well tree clean q.name other.members group.adjustment.cap other.adjustment.cap
+        (subst (λ (name : List ℕ). IsAdjustment raw charge tree name other.members group.adjustment.cap) names
+        (subst (λ (members : List (List ℕ)). IsAdjustment raw charge tree p.name members group.adjustment.cap) same_members p.cap)) q.cap in
+        let measures = same_adjustments raw well classes tree clean q.name other.members group.adjustment.measures other.adjustment.measures
+        (subst (λ (name : List ℕ). AreAdjustments raw classes tree name other.members group.adjustment.measures) names
+        (subst (λ (members : List (List ℕ)). AreAdjustments raw classes tree p.name members group.adjustment.measures) same_members p.measures))
+        q.measures in
+        (λ i. record { cap = cap i; measures = measures i })
+
+    pub same_group : group ≡ other
+    same_group = λ i. record { members = same_members i; adjustment = same_group_adjustment i }

@@ -1,0 +1,5 @@
+pub mod SimLimits
+pub mod VectorAnswers
+pub mod StackOutcomes
+pub mod CircuitAnswers
+pub mod SimrunEffects
