@@ -25,6 +25,8 @@ pub enum What {
     NewFile(Vec<u8>),
     /// The file of that name is not there.
     NoFile(Vec<u8>),
+    /// This call is made after the one that failed.
+    CallAfter(Numbered),
     /// No call of that kind is made that could fail.
     NothingSwept(Call),
 }
@@ -82,6 +84,10 @@ fn what_text(alloc: Global, what: &What) -> Result<String, AllocError> {
             shown(name).escape_ascii()
         ),
         What::NoFile(name) => format!(in alloc; "no file {}", shown(name).escape_ascii()),
+        What::CallAfter(call) => {
+            let word = word_of(call.call);
+            format!(in alloc; "{word} {} is made after it", call.number)
+        }
         What::NothingSwept(call) => format!(in alloc; "no {} that could fail", word_of(*call)),
     }
 }

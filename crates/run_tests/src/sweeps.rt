@@ -1,8 +1,8 @@
 //! A case whose calls of one kind are let fail, one in each run.
 //!
-//! However a call fails, the run ends there: with the status of that fault, with a beginning of the case's report, and with
-//! the stores that were made before. A failed read leaves no report at all, and where a write moves one byte, there is one
-//! byte for each write before the one that failed.
+//! However a call fails, the run ends there: with the status of that fault, with a beginning of the case's report, with the
+//! stores that were made before, and without a call of any kind behind it. A failed read leaves no report at all, and where
+//! a write moves one byte, there is one byte for each write before the one that failed.
 
 use crate::cases::{Call, Case, Numbered};
 use crate::differences::What;
@@ -42,12 +42,45 @@ fn check_failing(
     let outcome = run_case(findings.alloc, setting, case, &[failing])?;
     findings.check_status(outcome.status, status_of(failing.call).code())?;
     findings.check_calls(&outcome, failing)?;
+    check_end(findings, setting, case, failing, &outcome)?;
     check_report(findings, case, failing, &outcome)?;
     let stores = stores_before(failing, &outcome);
     let wanted = shelf_after(findings.alloc, setting, case, stores)?;
     let lost = lost_by(findings.alloc, case, failing)?;
     findings.check_shelf(&outcome, &wanted, &lost)?;
     findings.swept = None;
+    Ok(())
+}
+
+/// No call of another kind is to follow the one that failed. It is enough to ask this of the last one of each kind.
+fn check_end(
+    findings: &mut Findings,
+    setting: Setting<'_>,
+    case: &Case,
+    failing: Numbered,
+    outcome: &Outcome,
+) -> Result<()> {
+    for call in [Call::Read, Call::Write, Call::Fetch, Call::Store] {
+        let number = outcome.calls(call);
+        if call != failing.call && number != 0 {
+            check_before(findings, setting, case, Numbered { call, number }, failing)?;
+        }
+    }
+    Ok(())
+}
+
+/// A call is to be made before the one that failed: where it fails too, the other is not reached.
+fn check_before(
+    findings: &mut Findings,
+    setting: Setting<'_>,
+    case: &Case,
+    last: Numbered,
+    failing: Numbered,
+) -> Result<()> {
+    let outcome = run_case(findings.alloc, setting, case, &[last, failing])?;
+    if outcome.calls(failing.call) >= failing.number {
+        findings.add(What::CallAfter(last))?;
+    }
     Ok(())
 }
 
