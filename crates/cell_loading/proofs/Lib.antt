@@ -5,3 +5,4 @@ pub mod LeftLaws
 pub mod SoFarLaws
 pub mod ReadingLaws
 pub mod WalkLaws
+pub mod FileLaws

@@ -1,14 +1,15 @@
 -- How reading goes on, where the files are told.
 use Rattle.std.proofs.Common.{◌≡◌, ℕ, suc, true, false, List, [], ◌∷◌, ◌++◌, length, refl, sym, ap, subst, ◌∙◌}
-use Rattle.std.specs.Prelude.{Some, Result, Ok, Err, IfOk, OnOk}
+use Rattle.std.specs.Prelude.{map, Option, Some, Result, Ok, Err, IfOk, OnOk}
 use Rattle.std.specs.List.{list_any}
 use Rattle.std.specs.Str.{bytes_eq}
+use Rattle.outside_io.specs.CallPlans.{CallPlan, told_after_call}
 use Rattle.outside_io.specs.Files.{Files}
 use Rattle.session_model.specs.declared.stops.Stop.{Stop}
 use Rattle.session_model.specs.declared.stops.Stop.TheVariants.{Refused, Halted}
-use Rattle.session_model.specs.FileTrees.{Reads, StopsAt}
+use Rattle.session_model.specs.FileTrees.{Reads, StopsAsking, files_of}
 use Rattle.session_model.specs.Stops.{IfRefused}
-use Rattle.session_model.proofs.FileTreeLaws.{goes_by, goes_past, goes_to_end, stops_here as file_stops}
+use Rattle.session_model.proofs.FileTreeLaws.{goes_by, goes_past, goes_to_end, stops_asking_here}
 use Rattle.tech_model.specs.declared.raw.RawTech.{RawTech}
 use Rattle.cell_bodies.specs.declared.bodies.CellBody.{CellBody}
 use Rattle.cell_bodies.specs.declared.bodies.CellUse.{CellUse}
@@ -17,11 +18,11 @@ use Rattle.cell_library.specs.Views.{LibraryView, names_of}
 use Rattle.mag_text.specs.Drafts.{Draft}
 use Rattle.mag_text.specs.MagTexts.{HasAllOf, mag_in}
 use Rattle.cell_loading.specs.declared.faults.LoadFault.{LoadFault}
-use Rattle.cell_loading.specs.CellFiles.{ReadCell, draft_gives, file_gives, read_gives, is_known, names_read, scale_of_first}
+use Rattle.cell_loading.specs.CellFiles.{ReadCell, cell_file, draft_gives, file_gives, read_gives, is_known, names_read, scale_of_first}
 use Rattle.cell_loading.specs.Loads.{AreBodiesOf, AreRead}
 use Rattle.cell_loading.specs.ReadCells.{children_of, is_among, names_in}
 use Rattle.cell_loading.specs.Readings.{cell_files, children_said, with_name}
-use Rattle.cell_loading.specs.Walks.{GoesOnToBodies}
+use Rattle.cell_loading.specs.Walks.{GoesOnToBodies, files_read}
 
 abbrev Cells : Type 0
 Cells = List (List ℕ × CellBody)
@@ -33,6 +34,11 @@ names_same raw [] [] are = refl
 names_same raw [] (body ∷ cells) are = absurd are
 names_same raw (cell ∷ read) [] are = absurd are
 names_same raw (cell ∷ read) (body ∷ cells) are = λ i. sym are.0 i ∷ names_same raw read cells are.2 i
+
+-- the files of what was read are those of the cells
+pub files_same : (view : LibraryView) (read : List ReadCell) (cells : Cells) → AreBodiesOf view.tech read cells
+    → files_of (cell_files view) read ≡ files_read cells
+files_same view read cells are = ap (map cell_file) (names_same view.tech read cells are)
 
 pub count_same : (raw : RawTech) (read : List ReadCell) (cells : Cells) → AreBodiesOf raw read cells → length read ≡ length cells
 count_same raw [] [] are = refl
@@ -106,11 +112,11 @@ goes_on_then files view read left middle after some more here on =
 -- ---- the ends
 
 -- the file is refused
-pub stops_here : (files : Files) (view : LibraryView) (read : List ReadCell) (cells : Cells) (name : List ℕ) (left : List (List ℕ)) (told : LoadFault)
-    → AreBodiesOf view.tech read cells → is_among view cells name ≡ false → file_gives files view read name ≡ Err told
-    → StopsAt (cell_files view) files read (name ∷ left) told
-stops_here files view read cells name left told are new gives =
-    file_stops (cell_files view) files read name left told (known_same view read cells name are ∙ new) (ap (with_name name) gives)
+pub stops_here : (files : Files) (view : LibraryView) (read : List ReadCell) (cells : Cells) (name : List ℕ) (left : List (List ℕ))
+    (old now : Option CallPlan) (told : LoadFault) → AreBodiesOf view.tech read cells → is_among view cells name ≡ false
+    → file_gives files view read name ≡ Err told → now ≡ told_after_call old → StopsAsking (cell_files view) files read (name ∷ left) old now told
+stops_here files view read cells name left old now told are new gives once =
+    stops_asking_here (cell_files view) files read name left old now told (known_same view read cells name are ∙ new) (ap (with_name name) gives) once
 
 -- nothing is left
 pub all_read : (files : Files) (view : LibraryView) (root : List ℕ) (cells : Cells) → GoesOnToBodies files view [] (root ∷ []) cells []

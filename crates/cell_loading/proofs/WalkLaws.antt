@@ -1,12 +1,15 @@
 -- A cell that was read comes to the walk, and a step over a name that some cell has.
 use Rattle.std.proofs.Common.{◌≡◌, ◌⊎◌, inl, inr, ◌<◌, ◌≤◌, ◌+◌, ℕ, Bool, true, false}
 use Rattle.std.proofs.Common.{List, [], ◌∷◌, ◌++◌, length, length-append, sym, ap, subst, ◌∙◌, arith}
-use Rattle.std.specs.Prelude.{◌==◌, IsTrue, Ok}
+use Rattle.std.specs.Prelude.{◌==◌, map, IsTrue, Ok, Option}
 use Rattle.std.proofs.lemmas.Bool.{eqb-true}
-use Rattle.std.proofs.lemmas.List.{length-map, nil_from_length}
+use Rattle.std.proofs.lemmas.List.{length-map, map-append, nil_from_length}
 use Rattle.std.proofs.lemmas.List.Elements.{All-push, All-same}
 use Rattle.text_scan.specs.PlainNames.{is_plain_name}
+use Rattle.outside_io.specs.CallPlans.{CallPlan, told_after_call}
 use Rattle.outside_io.specs.Files.{Files}
+use Rattle.session_model.specs.Effects.{after_fetches}
+use Rattle.session_model.proofs.EffectLaws.{fetches-append}
 use Rattle.cell_tree.specs.declared.limits.TheConstants.{MOST_USES}
 use Rattle.cell_bodies.specs.declared.bodies.CellBody.{CellBody}
 use Rattle.cell_bodies.specs.declared.bodies.CellUse.{CellUse}
@@ -16,10 +19,10 @@ use Rattle.cell_library.specs.Views.{LibraryView}
 use Rattle.mag_text.specs.Drafts.{Draft}
 use Rattle.mag_text.specs.MagTexts.{HasAllOf}
 use Rattle.cell_loading.specs.declared.walks.Frame.{Frame}
-use Rattle.cell_loading.specs.CellFiles.{ReadCell, file_gives}
+use Rattle.cell_loading.specs.CellFiles.{ReadCell, cell_file, file_gives}
 use Rattle.cell_loading.specs.Loads.{AreBodiesOf, AreRead}
-use Rattle.cell_loading.specs.ReadCells.{children_of, is_among}
-use Rattle.cell_loading.specs.Walks.{names_left, AreFrames, AreSoFar, GoesOnToBodies, MayFollow}
+use Rattle.cell_loading.specs.ReadCells.{children_of, is_among, names_in}
+use Rattle.cell_loading.specs.Walks.{files_read, names_left, AreFrames, AreSoFar, GoesOnToBodies, MayFollow}
 use Rattle.cell_loading.proofs.LeftLaws.{names_left-read, AreFrames-more}
 use Rattle.cell_loading.proofs.ReadingLaws.{all_read, goes_on_by, goes_on_here, goes_on_past}
 use Rattle.cell_loading.proofs.SoFarLaws.{so_far_end, so_far_passed, so_far_read, so_far_start}
@@ -73,6 +76,17 @@ module _ (view : LibraryView) (cells : Cells) (frames : List Frame) (name : List
       subst (λ (c : Cells). GoesOnToBodies files view read (name ∷ names_left cells frames) c (names_left cells_after frames_after)) (sym cells_are)
       (goes_on_by files view read cells name (names_left cells frames) (names_left cells_after frames_after) draft body bodies new gives has
       read_left)
+
+-- the shelf was asked for the file of a cell that was read
+pub asked_for_cell : (first old now : Option CallPlan) (cells cells_after : Cells) (name : List ℕ) (body : CellBody)
+    → cells_after ≡ cells ++ (name, body) ∷ [] → now ≡ told_after_call old → old ≡ after_fetches first (files_read cells)
+    → now ≡ after_fetches first (files_read cells_after)
+asked_for_cell first old now cells cells_after name body cells_are once asked =
+    let files_are : files_read (cells ++ (name, body) ∷ []) ≡ files_read cells ++ cell_file name ∷ [] =
+    ap (map cell_file) (map-append (λ (cell : List ℕ × CellBody). cell.0) cells ((name, body) ∷ []))
+    ∙ map-append cell_file (names_in cells) (name ∷ []) in
+    once ∙ ap told_after_call asked ∙ sym (fetches-append first (files_read cells) (cell_file name ∷ []))
+    ∙ ap (after_fetches first) (sym files_are ∙ ap files_read (sym cells_are))
 
 -- a step that reads no file
 pub stepped_so_far : (view : LibraryView) (cells : Cells) (left after : List (List ℕ))

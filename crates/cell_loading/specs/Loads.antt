@@ -70,12 +70,11 @@ LoadIsRefused files view edits root fetched told =
     ⊎ ((IsSome (cell_named view root) → ⊥)
     × (FileIsRefused (cell_files view) files root fetched told ⊎ CellsAreRefused files view edits root fetched told))
 
--- What a load answers is so, and a refused one changed nothing.
-abbrev pub LoadGives : Files → LibraryParts → LibraryParts → List ℕ → Loaded → Type 0
-LoadGives files old new root (loaded.Cells count) =
-    (edits_of new ≡ suc (edits_of old)) × ((fetched : List (List ℕ)) × IsLoaded files (seen old) (seen new) (edits_of old) root count fetched)
-LoadGives files old new root (loaded.Refused told) =
-    (fetched : List (List ℕ)) × LoadIsRefused files (seen old) (edits_of old) root fetched told
+-- What a load answers is so, and these names were fetched.
+abbrev pub LoadGives : Files → LibraryParts → LibraryParts → List ℕ → Loaded → List (List ℕ) → Type 0
+LoadGives files old new root (loaded.Cells count) fetched =
+    (edits_of new ≡ suc (edits_of old)) × IsLoaded files (seen old) (seen new) (edits_of old) root count fetched
+LoadGives files old new root (loaded.Refused told) fetched = LoadIsRefused files (seen old) (edits_of old) root fetched told
 
 -- a load that is refused changes nothing
 abbrev pub KeepsIfRefused : LibraryParts → LibraryParts → Loaded → Type 0

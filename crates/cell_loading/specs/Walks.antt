@@ -1,5 +1,5 @@
 -- How far reading has come: the names that are left to be read, and what holds until then.
-use Rattle.std.specs.Prelude.{◌≡◌, ◌⊎◌, ◌<◌, ◌≤◌, ◌+◌, ◌-◌, ◌*◌, ℕ, true, false, IsTrue, List, [], ◌∷◌, ◌++◌, length, drop, Option, Some, None, All}
+use Rattle.std.specs.Prelude.{◌≡◌, ◌⊎◌, ◌<◌, ◌≤◌, ◌+◌, ◌-◌, ◌*◌, ℕ, true, false, IsTrue, List, [], ◌∷◌, ◌++◌, length, drop, map, Option, Some, None, All}
 use Rattle.std.specs.Option.{option_or}
 use Rattle.finite_sets.specs.Lists.{In, Distinct}
 use Rattle.text_scan.specs.PlainNames.{is_plain_name}
@@ -14,10 +14,14 @@ use Rattle.cell_library.specs.Views.{LibraryView}
 use Rattle.cell_loading.specs.declared.walks.Frame.{Frame}
 use Rattle.cell_loading.specs.declared.walks.Next.{Next}
 use Rattle.cell_loading.specs.declared.walks.Next.TheVariants as next
-use Rattle.cell_loading.specs.CellFiles.{ReadCell, has_scale}
+use Rattle.cell_loading.specs.CellFiles.{ReadCell, cell_file, has_scale}
 use Rattle.cell_loading.specs.Loads.{AreBodiesOf}
-use Rattle.cell_loading.specs.ReadCells.{children_of, is_among, uses_at}
+use Rattle.cell_loading.specs.ReadCells.{children_of, is_among, names_in, uses_at}
 use Rattle.cell_loading.specs.Readings.{cell_files}
+
+-- the files of the cells that were read
+abbrev pub files_read : List (List ℕ × CellBody) → List (List ℕ)
+files_read cells = map cell_file (names_in cells)
 
 -- the names that a cell uses and that were not taken yet
 abbrev pub rest_of : List (List ℕ × CellBody) → Frame → List (List ℕ)

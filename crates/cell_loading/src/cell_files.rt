@@ -3,7 +3,7 @@ ghost use Rattle.std.specs.Prelude.{◌≡◌, ◌≢◌, ◌+◌, nat_le, lengt
 ghost use Rattle.std.specs.Option.{option_or};
 ghost use Rattle.outside_io.specs.Files.{Files};
 ghost use Rattle.session_model.specs.Causes.{HasCauses};
-ghost use Rattle.session_model.specs.Stops.{answer_of, kinds_of_told, ComesFromInside, IfRefused};
+ghost use Rattle.session_model.specs.Stops.{AsksOnce, answer_of, kinds_of_told, ComesFromInside, IfRefused};
 ghost use Rattle.cell_library.specs.Additions.{first_scale};
 ghost use Rattle.cell_library.specs.Libraries.{seen};
 ghost use Rattle.cell_bodies.specs.Bodies.{IsBody};
@@ -48,6 +48,7 @@ pub fn read_cell_file<F: Shelf>(
         IfRefused result (λ told. file_gives files (seen library.now) read name.now ≡ Err told) }
     ensures follows { IfOk result (MayFollow (seen library.now) cells.now) }
     ensures files { F.files shelf.new ≡ F.files shelf.old }
+    ensures asked { AsksOnce (F.fetch_plan shelf.old) (F.fetch_plan shelf.new) result }
     ensures causes { HasCauses F.Shelf shelf.old shelf.new (kinds_of_told cause_of_load) (answer_of result) }
 {
     let file = cell_file(alloc, name)?;

@@ -3,7 +3,8 @@ ghost use Rattle.std.specs.Prelude.{◌≡◌, [], ◌∷◌, false, Some, IfOk,
 ghost use Rattle.text_scan.specs.PlainNames.{is_plain_name};
 ghost use Rattle.outside_io.specs.Files.{Files};
 ghost use Rattle.session_model.specs.Causes.{HasCauses};
-ghost use Rattle.session_model.specs.FileTrees.{StopsAt};
+ghost use Rattle.session_model.specs.Effects.{GivesFetching, after_fetches};
+ghost use Rattle.session_model.specs.FileTrees.{StopsAsking};
 ghost use Rattle.session_model.specs.Stops.{answer_of, kinds_of_told, IfRefused};
 ghost use Rattle.cell_library.specs.Additions.{CanBeAdded};
 ghost use Rattle.cell_library.specs.Libraries.{IsSame, seen};
@@ -11,6 +12,7 @@ ghost use Rattle.cell_loading.specs.Arrivals.{ArriveWithStamps, Arrives};
 ghost use Rattle.cell_loading.specs.Loads.{end_fault, AreRead, HasMoreIfLoaded, KeepsIfRefused, LoadGives, cause_of_load, kinds_of_loaded};
 ghost use Rattle.cell_loading.specs.ReadCells.{is_among};
 ghost use Rattle.cell_loading.specs.Readings.{cell_files};
+ghost use Rattle.cell_loading.specs.Walks.{files_read};
 
 use crate::faults::LoadFault;
 use crate::walks::Walk;
@@ -39,7 +41,8 @@ pub fn load_cells<F: Shelf>(
     root: &Name,
 ) -> Result<Loaded, Halt>
     requires root { IsTrue (is_plain_name root.now) }
-    ensures effect { (files : Files) → F.files shelf.old ≡ Some files → IfOk result (LoadGives files library.old library.new root.now) }
+    ensures effect { (files : Files) → F.files shelf.old ≡ Some files → IfOk result (λ loaded.
+        GivesFetching (LoadGives files library.old library.new root.now loaded) (F.fetch_plan shelf.old) (F.fetch_plan shelf.new)) }
     ensures kept { IfOk result (KeepsIfRefused library.old library.new) }
     ensures more { IfOk result (HasMoreIfLoaded library.old library.new) }
     ensures stamped { IfOk result (ArriveWithStamps library.old library.new) }
@@ -67,7 +70,9 @@ fn read_below<F: Shelf>(
     requires root { IsTrue (is_plain_name root.now) }
     requires new { is_among (seen library.now) [] root.now ≡ false }
     ensures read { (files : Files) → F.files shelf.old ≡ Some files → IfOk result (λ cells. AreRead files (seen library.now) root.now cells.items) }
-    ensures refused { (files : Files) → F.files shelf.old ≡ Some files → IfRefused result (StopsAt (cell_files (seen library.now)) files [] (root.now ∷ [])) }
+    ensures refused { (files : Files) → F.files shelf.old ≡ Some files → IfRefused result
+        (StopsAsking (cell_files (seen library.now)) files [] (root.now ∷ []) (F.fetch_plan shelf.old) (F.fetch_plan shelf.new)) }
+    ensures asked { IfOk result (λ cells. F.fetch_plan shelf.new ≡ after_fetches (F.fetch_plan shelf.old) (files_read cells.items)) }
     ensures addable { IfOk result (λ cells. CanBeAdded (seen library.now) cells.items) }
     ensures files { F.files shelf.new ≡ F.files shelf.old }
     ensures causes { HasCauses F.Shelf shelf.old shelf.new (kinds_of_told cause_of_load) (answer_of result) }

@@ -1,8 +1,10 @@
 //! How far a load has come: the cells that were read, and the uses that are left.
-ghost use Rattle.std.specs.Prelude.{◌≡◌, ◌<◌, ◌≤◌, ◌+◌, [], ◌∷◌, ◌++◌, false, length, List, Some, IfOk, IfSome, OnOk};
+ghost use Rattle.std.specs.Prelude.{◌≡◌, ◌<◌, ◌≤◌, ◌+◌, [], ◌∷◌, ◌++◌, false, length, List, Option, Some, IfOk, IfSome, OnOk};
+ghost use Rattle.outside_io.specs.CallPlans.{CallPlan};
 ghost use Rattle.outside_io.specs.Files.{Files};
 ghost use Rattle.session_model.specs.Causes.{HasCauses};
-ghost use Rattle.session_model.specs.FileTrees.{StopsAt};
+ghost use Rattle.session_model.specs.Effects.{after_fetches};
+ghost use Rattle.session_model.specs.FileTrees.{StopsAsking};
 ghost use Rattle.session_model.specs.Stops.{answer_of, kinds_of_told, ComesFromInside, IfRefused};
 ghost use Rattle.cell_tree.specs.declared.limits.TheConstants.{MOST_USES};
 ghost use Rattle.cell_library.specs.Libraries.{seen};
@@ -10,7 +12,7 @@ ghost use Rattle.cell_loading.specs.CellFiles.{ReadCell};
 ghost use Rattle.cell_loading.specs.Loads.{AreBodiesOf, cause_of_load};
 ghost use Rattle.cell_loading.specs.ReadCells.{is_among};
 ghost use Rattle.cell_loading.specs.Readings.{cell_files};
-ghost use Rattle.cell_loading.specs.Walks.{names_left, rest_of, work_left, AreFrames, AreSoFar, GoesOnToBodies, Takes, TakesFrom};
+ghost use Rattle.cell_loading.specs.Walks.{files_read, names_left, rest_of, work_left, AreFrames, AreSoFar, GoesOnToBodies, Takes, TakesFrom};
 
 use crate::cell_files::{is_known, read_cell_file};
 use crate::faults::LoadFault;
@@ -147,7 +149,10 @@ impl Walk {
             OnOk result (GoesOnToBodies files (seen library.now) read (name ∷ names_left self.old.cells self.old.frames.items)
             self.new.cells (names_left self.new.cells self.new.frames.items)) }
         ensures stops { (files : Files) (read : List ReadCell) → F.files shelf.old ≡ Some files → AreBodiesOf library.now.tech read self.old.cells →
-            IfRefused result (StopsAt (cell_files (seen library.now)) files read (name ∷ names_left self.old.cells self.old.frames.items)) }
+            IfRefused result (StopsAsking (cell_files (seen library.now)) files read (name ∷ names_left self.old.cells self.old.frames.items)
+            (F.fetch_plan shelf.old) (F.fetch_plan shelf.new)) }
+        ensures asked { OnOk result ((first : Option CallPlan) → F.fetch_plan shelf.old ≡ after_fetches first (files_read self.old.cells) →
+            F.fetch_plan shelf.new ≡ after_fetches first (files_read self.new.cells)) }
         ensures files { F.files shelf.new ≡ F.files shelf.old }
         ensures causes { HasCauses F.Shelf shelf.old shelf.new (kinds_of_told cause_of_load) (answer_of result) }
     {
@@ -175,7 +180,10 @@ impl Walk {
             OnOk result (GoesOnToBodies files (seen library.now) read (names_left self.old.cells self.old.frames.items)
             self.new.cells (names_left self.new.cells self.new.frames.items)) }
         ensures stops { (files : Files) (read : List ReadCell) → F.files shelf.old ≡ Some files → AreBodiesOf library.now.tech read self.old.cells →
-            IfRefused result (StopsAt (cell_files (seen library.now)) files read (names_left self.old.cells self.old.frames.items)) }
+            IfRefused result (StopsAsking (cell_files (seen library.now)) files read (names_left self.old.cells self.old.frames.items)
+            (F.fetch_plan shelf.old) (F.fetch_plan shelf.new)) }
+        ensures asked { OnOk result ((first : Option CallPlan) → F.fetch_plan shelf.old ≡ after_fetches first (files_read self.old.cells) →
+            F.fetch_plan shelf.new ≡ after_fetches first (files_read self.new.cells)) }
         ensures files { F.files shelf.new ≡ F.files shelf.old }
         ensures causes { HasCauses F.Shelf shelf.old shelf.new (kinds_of_told cause_of_load) (answer_of result) }
     {

@@ -1,2 +1,3 @@
 pub mod CircuitInside
 pub mod TreeCommands
+pub mod RestLaws

@@ -3,7 +3,9 @@ ghost use Rattle.std.specs.Prelude.{◌≡◌, Some, IfOk, IsOkUnless, IsTrue};
 ghost use Rattle.text_scan.specs.PlainNames.{is_plain_name};
 ghost use Rattle.outside_io.specs.Files.{Files};
 ghost use Rattle.session_model.specs.Causes.{HasCauses, kinds_of};
-ghost use Rattle.session_model.specs.Effects.{Answers};
+ghost use Rattle.session_model.specs.Effects.{Answers, AnswersFetching};
+ghost use Rattle.session_model.specs.FileTrees.{All, fetched_by};
+ghost use Rattle.ext_loading.specs.Readings.{circuit_files};
 ghost use Rattle.ext_loading.specs.Loads.{AreRead, CanBeFlattened};
 ghost use Rattle.line_answers.specs.LineEffects.{IsOfInside};
 ghost use Rattle.circuit_commands.specs.CommandExt2sim.{Ext2simMeans};
@@ -28,8 +30,8 @@ pub fn ext2sim<F: Shelf>(
     cell: &Name,
 ) -> Result<Answer, Halt>
     requires cell { IsTrue (is_plain_name cell.now) }
-    ensures effect { (files : Files) → F.files shelf.old ≡ Some files → IfOk result
-        (Answers (Ext2simMeans number files cell.now) tt) }
+    ensures effect { (files : Files) → F.files shelf.old ≡ Some files → IfOk result (λ answer.
+        Answers (Ext2simMeans number files cell.now) tt answer (F.fetch_plan shelf.old) (F.fetch_plan shelf.new)) }
     ensures files { F.files shelf.new ≡ F.files shelf.old }
     ensures causes { HasCauses F.Shelf shelf.old shelf.new kinds_of result }
 {
@@ -48,7 +50,7 @@ fn sim_of_records(
 ) -> Result<Answer, Halt>
     requires { CanBeFlattened cell.now exts.now }
     ensures effect { (files : Files) → AreRead files cell.now exts.now → IfOk result
-        (Answers (Ext2simMeans number files cell.now) tt) }
+        (AnswersFetching (fetched_by circuit_files (All exts.now)) (Ext2simMeans number files cell.now) tt) }
     ensures inside { IfOk result (λ answer. IsOfInside answer.lines.items) }
     ensures memory { IsOkUnless result Halt.Memory }
 {

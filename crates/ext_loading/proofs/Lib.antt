@@ -4,3 +4,4 @@ pub mod Positions
 pub mod ReadingLaws
 pub mod CycleLaws
 pub mod LoadLaws
+pub mod FileLaws

@@ -1,8 +1,11 @@
 -- What is given at the end.
-use Rattle.std.proofs.Common.{ℕ, List, [], ◌∷◌, inl, inr, refl, sym, subst}
+use Rattle.std.proofs.Common.{ℕ, List, [], ◌∷◌, inl, inr, refl, sym, ap, subst}
+use Rattle.std.specs.Prelude.{Option}
 use Rattle.outside_io.specs.Files.{Files}
-use Rattle.session_model.specs.FileTrees.{All, Reads, Stopped, StopsAt, fetched_by}
-use Rattle.session_model.proofs.FileTreeLaws.{file_refused}
+use Rattle.outside_io.specs.CallPlans.{CallPlan}
+use Rattle.session_model.specs.Effects.{GivesFetching}
+use Rattle.session_model.specs.FileTrees.{All, Reads, StopsAsking, files_of}
+use Rattle.session_model.proofs.FileTreeLaws.{file_refused_asking}
 use Rattle.ext_model.specs.declared.arrays.ArrayExt.{ArrayExt}
 use Rattle.ext_loading.specs.declared.faults.ExtLoadFault.{ExtLoadFault}
 use Rattle.ext_loading.specs.declared.loading.LoadedExts.{LoadedExts}
@@ -14,21 +17,21 @@ use Rattle.ext_loading.proofs.CycleLaws.{may_be_flattened}
 
 -- what is given of a tree that was read is what the files say
 pub tree_given : (files : Files) (root : List ℕ) (read : List ArrayExt) (given : LoadedExts) → Reads circuit_files files [] (root ∷ []) (All read)
-    → GivesTree read given → LoadGives files root given
-tree_given files root read (loaded.Records exts) reads gives =
-    subst (AreRead files root) (sym gives.0) (record { reads = reads; acyclic = gives.1 })
-tree_given files root read (loaded.Refused told) reads gives = (
-  fetched_by circuit_files (All read),
-  inr (record {
-    read = read;
-    reads = reads;
-    ext = gives.0;
-    cell = gives.1.0;
-    first = gives.1.1.0;
-    is = gives.1.1.1;
-    fetched_are = refl;
-  }),
+    → GivesTree read given → LoadGives files root given (files_of circuit_files read)
+tree_given files root read (loaded.Records exts) reads gives = (
+  subst (AreRead files root) (sym gives.0) (record { reads = reads; acyclic = gives.1 }),
+  ap (files_of circuit_files) (sym gives.0),
 )
+tree_given files root read (loaded.Refused told) reads gives =
+    inr (record {
+      read = read;
+      reads = reads;
+      ext = gives.0;
+      cell = gives.1.0;
+      first = gives.1.1.0;
+      is = gives.1.1.1;
+      fetched_are = refl;
+    })
 
 -- and may be flattened
 pub tree_fits : (root : List ℕ) (read : List ArrayExt) (given : LoadedExts) → IsTree root read → GivesTree read given → IsFitTree root given
@@ -37,9 +40,8 @@ tree_fits root read (loaded.Records exts) tree gives =
 tree_fits root read (loaded.Refused told) tree gives = tt
 
 -- a file that is refused refuses the tree
-pub file_refuses : (files : Files) (root : List ℕ) (told : ExtLoadFault) → StopsAt circuit_files files [] (root ∷ []) told
-    → (fetched : List (List ℕ)) × LoadIsRefused files root fetched told
-file_refuses files root told stops = (
-  fetched_by circuit_files (Stopped stops.read_before stops.name told),
-  inl (file_refused circuit_files files root told stops),
-)
+pub file_refuses : (files : Files) (root : List ℕ) (old new : Option CallPlan) (told : ExtLoadFault)
+    → StopsAsking circuit_files files [] (root ∷ []) old new told → GivesFetching (λ fetched. LoadIsRefused files root fetched told) old new
+file_refuses files root old new told stops =
+    let (fetched, refused, asked) = file_refused_asking circuit_files files root old new told stops in
+    (fetched, inl refused, asked)

@@ -55,10 +55,10 @@ pub record TreeIsRefused (files : Files) (root : List ℕ) (fetched : List (List
 abbrev pub LoadIsRefused : Files → List ℕ → List (List ℕ) → ExtLoadFault → Type 0
 LoadIsRefused files root fetched told = FileIsRefused circuit_files files root fetched told ⊎ TreeIsRefused files root fetched told
 
--- what reading a tree gives is so
-abbrev pub LoadGives : Files → List ℕ → LoadedExts → Type 0
-LoadGives files root (Records exts) = AreRead files root exts.items
-LoadGives files root (Refused told) = (fetched : List (List ℕ)) × LoadIsRefused files root fetched told
+-- What reading a tree gives is so, and these names were fetched.
+abbrev pub LoadGives : Files → List ℕ → LoadedExts → List (List ℕ) → Type 0
+LoadGives files root (Records exts) fetched = AreRead files root exts.items × (fetched ≡ fetched_by circuit_files (All exts.items))
+LoadGives files root (Refused told) fetched = LoadIsRefused files root fetched told
 
 -- The records may be flattened at the root: they are lawful, no two are of one cell, and of their plain forms the root's is among them, and
 -- each use leads to one of them and none back.

@@ -2,7 +2,7 @@
 ghost use Rattle.std.specs.Prelude.{◌≡◌, ◌≢◌, ◌≤◌, length, Some, Ok, Err, IfOk};
 ghost use Rattle.outside_io.specs.Files.{Files};
 ghost use Rattle.session_model.specs.Causes.{HasCauses};
-ghost use Rattle.session_model.specs.Stops.{answer_of, kinds_of_told, ComesFromInside, IfRefused};
+ghost use Rattle.session_model.specs.Stops.{AsksOnce, answer_of, kinds_of_told, ComesFromInside, IfRefused};
 ghost use Rattle.ext_reading.specs.declared.limits.TheConstants.{LONGEST_READ_TEXT};
 ghost use Rattle.ext_reading.specs.ExtTexts.{ext_in};
 ghost use Rattle.ext_loading.specs.ExtFiles.{ext_file, file_gives, read_gives};
@@ -30,6 +30,7 @@ pub fn read_ext_file<F: Shelf>(
     ensures refused { (files : Files) → F.files shelf.old ≡ Some files → IfRefused result (λ told. file_gives files read.now name.now ≡ Err told) }
     ensures follows { IfOk result (MayFollow read.now name.now) }
     ensures files { F.files shelf.new ≡ F.files shelf.old }
+    ensures asked { AsksOnce (F.fetch_plan shelf.old) (F.fetch_plan shelf.new) result }
     ensures causes { HasCauses F.Shelf shelf.old shelf.new (kinds_of_told cause_of_load) (answer_of result) }
 {
     let file = ext_file(alloc, name)?;

@@ -3,7 +3,8 @@ ghost use Rattle.std.specs.Prelude.{◌≡◌, [], ◌∷◌, Some, IfOk, IfErr,
 ghost use Rattle.text_scan.specs.PlainNames.{is_plain_name};
 ghost use Rattle.outside_io.specs.Files.{Files};
 ghost use Rattle.session_model.specs.Causes.{HasCauses};
-ghost use Rattle.session_model.specs.FileTrees.{All, Reads, StopsAt};
+ghost use Rattle.session_model.specs.Effects.{GivesFetching, after_fetches};
+ghost use Rattle.session_model.specs.FileTrees.{All, Reads, StopsAsking, files_of};
 ghost use Rattle.session_model.specs.Stops.{answer_of, kinds_of_told, IfRefused};
 ghost use Rattle.use_orders.specs.Uses.{AreCells};
 ghost use Rattle.ext_loading.specs.Loads.{IsFitTree, LoadGives, cause_of_load, children_in, kinds_of_loaded};
@@ -33,7 +34,8 @@ pub enum LoadedExts {
 /// in what it reads.
 pub fn load_exts<F: Shelf>(alloc: Global, shelf: &mut F, root: &Name) -> Result<LoadedExts, Halt>
     requires root { IsTrue (is_plain_name root.now) }
-    ensures effect { (files : Files) → F.files shelf.old ≡ Some files → IfOk result (LoadGives files root.now) }
+    ensures effect { (files : Files) → F.files shelf.old ≡ Some files → IfOk result (λ loaded.
+        GivesFetching (LoadGives files root.now loaded) (F.fetch_plan shelf.old) (F.fetch_plan shelf.new)) }
     ensures fit { IfOk result (IsFitTree root.now) }
     ensures files { F.files shelf.new ≡ F.files shelf.old }
     ensures causes { HasCauses F.Shelf shelf.old shelf.new kinds_of_loaded result }
@@ -52,7 +54,9 @@ fn read_below<F: Shelf>(
     root: &Name,
 ) -> Result<ReadExts, Stop<ExtLoadFault>>
     ensures read { (files : Files) → F.files shelf.old ≡ Some files → IfOk result (λ read. Reads circuit_files files [] (root.now ∷ []) (All read)) }
-    ensures refused { (files : Files) → F.files shelf.old ≡ Some files → IfRefused result (StopsAt circuit_files files [] (root.now ∷ [])) }
+    ensures refused { (files : Files) → F.files shelf.old ≡ Some files → IfRefused result
+        (StopsAsking circuit_files files [] (root.now ∷ []) (F.fetch_plan shelf.old) (F.fetch_plan shelf.new)) }
+    ensures asked { IfOk result (λ read. F.fetch_plan shelf.new ≡ after_fetches (F.fetch_plan shelf.old) (files_of circuit_files read)) }
     ensures tree { IfOk result (IsTree root.now) }
     ensures files { F.files shelf.new ≡ F.files shelf.old }
     ensures causes { HasCauses F.Shelf shelf.old shelf.new (kinds_of_told cause_of_load) (answer_of result) }

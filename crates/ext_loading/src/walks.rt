@@ -1,8 +1,10 @@
 //! How far reading has come: the records that were read, and the names that are left.
-ghost use Rattle.std.specs.Prelude.{◌≡◌, ◌<◌, ◌∷◌, ◌++◌, [], ℕ, false, List, map, reverse, Some, IfOk, OnOk};
+ghost use Rattle.std.specs.Prelude.{◌≡◌, ◌<◌, ◌∷◌, ◌++◌, [], ℕ, false, List, map, reverse, Option, Some, IfOk, OnOk};
+ghost use Rattle.outside_io.specs.CallPlans.{CallPlan};
 ghost use Rattle.outside_io.specs.Files.{Files};
 ghost use Rattle.session_model.specs.Causes.{HasCauses};
-ghost use Rattle.session_model.specs.FileTrees.{GoesOn, StopsAt};
+ghost use Rattle.session_model.specs.Effects.{after_fetches};
+ghost use Rattle.session_model.specs.FileTrees.{GoesOn, StopsAsking, files_of};
 ghost use Rattle.session_model.specs.Stops.{answer_of, kinds_of_told, ComesFromInside, IfRefused};
 ghost use Rattle.ext_loading.specs.ExtFiles.{is_read};
 ghost use Rattle.ext_loading.specs.Loads.{cause_of_load};
@@ -79,7 +81,9 @@ impl Walk {
         ensures goes_on { (files : Files) → F.files shelf.old ≡ Some files →
             OnOk result (GoesOn circuit_files files self.old.read (name ∷ reverse self.old.left.items) self.new.read (reverse self.new.left.items)) }
         ensures stops { (files : Files) → F.files shelf.old ≡ Some files →
-            IfRefused result (StopsAt circuit_files files self.old.read (name ∷ reverse self.old.left.items)) }
+            IfRefused result (StopsAsking circuit_files files self.old.read (name ∷ reverse self.old.left.items) (F.fetch_plan shelf.old) (F.fetch_plan shelf.new)) }
+        ensures asked { OnOk result ((first : Option CallPlan) → F.fetch_plan shelf.old ≡ after_fetches first (files_of circuit_files self.old.read) →
+            F.fetch_plan shelf.new ≡ after_fetches first (files_of circuit_files self.new.read)) }
         ensures files { F.files shelf.new ≡ F.files shelf.old }
         ensures causes { HasCauses F.Shelf shelf.old shelf.new (kinds_of_told cause_of_load) (answer_of result) }
     {

@@ -5,7 +5,7 @@ use Rattle.session_model.specs.declared.answer.Answer.{Answer}
 use Rattle.session_model.specs.declared.answer.Store.{Store}
 use Rattle.session_model.specs.declared.fetching.FetchFault.{FetchFault}
 use Rattle.session_model.specs.declared.report.ReportLine.{ReportLine}
-use Rattle.session_model.specs.Effects.{Answers}
+use Rattle.session_model.specs.Effects.{AnswersFetching}
 use Rattle.line_answers.proofs.AnswerLaws.{answers_refusal}
 use Rattle.line_answers.specs.LineEffects.{refused}
 use Rattle.line_answers.specs.Refusals.{file_refusal, refusal_line}
@@ -37,20 +37,18 @@ pub runs_fetched : (budget number : ℕ) (file text : List ℕ) (fetch : Result 
     → fetch ≡ Ok text
     → RunsFetched budget number file (Ok text) work cell
     (record { state = after; lines = answer.lines.items; stores = answer.stores.items; fetched = file ∷ [] })
-    → Answers (RunsFetched budget number file fetch work cell) after answer
-runs_fetched budget number file text fetch work cell after answer is runs = (
-  file ∷ [],
-  subst
-      (λ (f : Result (List ℕ) FetchFault).
-      RunsFetched budget number file f work cell (record { state = after; lines = answer.lines.items; stores = answer.stores.items; fetched = file ∷ [] }))
-      (sym is) runs,
-)
+    → AnswersFetching (file ∷ []) (RunsFetched budget number file fetch work cell) after answer
+runs_fetched budget number file text fetch work cell after answer is runs =
+    subst
+    (λ (f : Result (List ℕ) FetchFault).
+    RunsFetched budget number file f work cell (record { state = after; lines = answer.lines.items; stores = answer.stores.items; fetched = file ∷ [] }))
+    (sym is) runs
 
 -- there is none
 pub refuses_fetched : (budget number : ℕ) (file : List ℕ) (fault : FetchFault) (fetch : Result (List ℕ) FetchFault) (work : Workspace) (cell : ℕ)
     (answer : Answer)
     → fetch ≡ Err fault → answer.lines.items ≡ refusal_line number (file_refusal file fault) ∷ [] → answer.stores.items ≡ []
-    → Answers (RunsFetched budget number file fetch work cell) (Some work) answer
+    → AnswersFetching (file ∷ []) (RunsFetched budget number file fetch work cell) (Some work) answer
 refuses_fetched budget number file fault fetch work cell answer is lines stores =
     answers_refusal (RunsFetched budget number file fetch work cell) number (Some work) (file_refusal file fault) (file ∷ []) answer lines stores
     (subst

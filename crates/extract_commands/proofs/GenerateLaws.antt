@@ -8,7 +8,7 @@ use Rattle.script_lines.specs.declared.limits.TheConstants.{MOST_GENERATED}
 use Rattle.script_lines.specs.Arguments.{is_between}
 use Rattle.layout_gen.specs.declared.limits.TheConstants.{MOST_TILES}
 use Rattle.session_model.specs.declared.answer.Answer.{Answer}
-use Rattle.session_model.specs.Effects.{Answers, Effect}
+use Rattle.session_model.specs.Effects.{AnswersAlone, Effect}
 use Rattle.ext_model.specs.declared.tables.CellKey.{CellKey}
 use Rattle.cell_library.specs.Additions.{kept_cell, names_with, with_all}
 use Rattle.cell_library.specs.Libraries.{IsLawfulLibrary, LibraryParts, edits_of, seen}
@@ -72,25 +72,23 @@ module _ (old new : LibraryParts) (records : Records) (n : ℕ) (lawful : IsLawf
 pub stack_made : (budget number n : ℕ) (work now : Workspace) (cell : ℕ) (after : State) (answer : Answer) → StackCame n work now cell
     → RunsExtracted (Stack n) budget number [] now cell
     (record { state = after; lines = answer.lines.items; stores = answer.stores.items; fetched = [] })
-    → Answers (GeneratesStack budget number n work) after answer
+    → AnswersAlone (GeneratesStack budget number n work) after answer
 stack_made budget number n work now cell after answer came runs =
     let effect : Effect State = record { state = after; lines = answer.lines.items; stores = answer.stores.items; fetched = [] } in
-    let here = subst (λ (c : ℕ). RunsExtracted (Stack n) budget number [] now c effect) came.place runs in (
-      [],
-      inl (record {
-        accepted = came.accepted;
-        after = came.after;
-        generated = came.generated;
-        extracts = subst (λ (w : Workspace). RunsExtracted (Stack n) budget number [] w (stack_cell work) effect) came.is here;
-      }),
-    )
+    let here = subst (λ (c : ℕ). RunsExtracted (Stack n) budget number [] now c effect) came.place runs in
+    inl (record {
+      accepted = came.accepted;
+      after = came.after;
+      generated = came.generated;
+      extracts = subst (λ (w : Workspace). RunsExtracted (Stack n) budget number [] w (stack_cell work) effect) came.is here;
+    })
 
 -- it is refused
 pub stack_refused : (budget number n : ℕ) (work now : Workspace) (fault : GenerateFault) (answer : Answer)
     → generate_fault work.editing.library work.editing.edits ≡ Some fault → now ≡ work
     → answer.lines.items ≡ refusal_line number (generate_refusal fault) ∷ [] → answer.stores.items ≡ []
-    → Answers (GeneratesStack budget number n work) (Some now) answer
+    → AnswersAlone (GeneratesStack budget number n work) (Some now) answer
 stack_refused budget number n work now fault answer is_fault same lines stores =
-    subst (λ (w : Workspace). Answers (GeneratesStack budget number n work) (Some w) answer) (sym same)
+    subst (λ (w : Workspace). AnswersAlone (GeneratesStack budget number n work) (Some w) answer) (sym same)
     (answers_refusal (GeneratesStack budget number n work) number (Some work) (generate_refusal fault) [] answer lines stores
     (inr (record { fault = fault; is_fault = is_fault; is = refl })))

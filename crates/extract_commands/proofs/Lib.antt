@@ -2,3 +2,4 @@ pub mod CellRunLaws
 pub mod CircuitLaws
 pub mod ExtractionCommands
 pub mod GenerateLaws
+pub mod RestLaws

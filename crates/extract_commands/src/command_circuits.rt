@@ -2,7 +2,7 @@
 ghost use Rattle.std.specs.Prelude.{◌≡◌, ◌<◌, ◌⊎◌, ◌++◌, Some, [], length, IfOk, IsOkUnless};
 ghost use Rattle.cell_library.specs.Libraries.{seen};
 ghost use Rattle.workspace.specs.Caches.{Agrees};
-ghost use Rattle.session_model.specs.Effects.{Answers};
+ghost use Rattle.session_model.specs.Effects.{AnswersAlone};
 ghost use Rattle.line_answers.specs.LineEffects.{IsOfInside};
 ghost use Rattle.workspace.specs.KeptSessions.{IsEdited, IsSession, edited_state, state_of};
 ghost use Rattle.circuit_commands.specs.Circuits.{lines_of, stores_of};
@@ -29,7 +29,7 @@ pub fn circuit(
     file: CircuitFile,
 ) -> Result<Answer, Halt>
     requires { IsSession session.old }
-    ensures effect { IfOk result (Answers (CircuitMeans file number (state_of session.old) name.now) (state_of session.new)) }
+    ensures effect { IfOk result (AnswersAlone (CircuitMeans file number (state_of session.old) name.now) (state_of session.new)) }
     ensures kept { IsSession session.new }
     ensures inside { IfOk result (λ answer. IsOfInside answer.lines.items) }
     ensures memory { IsOkUnless result Halt.Memory }
@@ -49,7 +49,7 @@ fn circuit_named(
     file: CircuitFile,
 ) -> Result<Answer, Halt>
     requires { IsEdited edited.old }
-    ensures effect { IfOk result (Answers (CircuitMeans file number (Some (edited_state edited.old)) name.now) (Some (edited_state edited.new))) }
+    ensures effect { IfOk result (AnswersAlone (CircuitMeans file number (Some (edited_state edited.old)) name.now) (Some (edited_state edited.new))) }
     ensures kept { IsEdited edited.new }
     ensures inside { IfOk result (λ answer. IsOfInside answer.lines.items) }
     ensures memory { IsOkUnless result Halt.Memory }
@@ -71,7 +71,7 @@ fn circuit_found(
 ) -> Result<Answer, Halt>
     requires edited { IsEdited edited.old }
     requires cell { cell.0 < length edited.old.library.contents }
-    ensures effect { let work = edited_state edited.old in IfOk result (Answers
+    ensures effect { let work = edited_state edited.old in IfOk result (AnswersAlone
         (λ effect. WritesCircuit file number name.now work cell.0 effect ⊎ RefusesUnclean number work [] cell.0 effect)
         (Some (edited_state edited.new))) }
     ensures kept { IsEdited edited.new }

@@ -1,6 +1,6 @@
 //! `extract c`: makes a new record of each dirty cell at and below c, and stores its file.
 ghost use Rattle.std.specs.Prelude.{◌≡◌, ◌<◌, ◌⊎◌, ◌++◌, ◌∷◌, Some, [], length, IfOk, IsOkUnless};
-ghost use Rattle.session_model.specs.Effects.{Answers};
+ghost use Rattle.session_model.specs.Effects.{AnswersAlone};
 ghost use Rattle.line_answers.specs.LineEffects.{IsOfInside, reply};
 ghost use Rattle.workspace.specs.KeptSessions.{IsEdited, IsSession, edited_state, state_of};
 ghost use Rattle.workspace.specs.Extractions.{RefusesUnclean};
@@ -23,7 +23,7 @@ pub fn extract(
     name: &Name,
 ) -> Result<Answer, Halt>
     requires { IsSession session.old }
-    ensures effect { IfOk result (Answers (ExtractMeans number (state_of session.old) name.now) (state_of session.new)) }
+    ensures effect { IfOk result (AnswersAlone (ExtractMeans number (state_of session.old) name.now) (state_of session.new)) }
     ensures kept { IsSession session.new }
     ensures inside { IfOk result (λ answer. IsOfInside answer.lines.items) }
     ensures memory { IsOkUnless result Halt.Memory }
@@ -42,7 +42,7 @@ fn extract_named(
     name: &Name,
 ) -> Result<Answer, Halt>
     requires { IsEdited edited.old }
-    ensures effect { IfOk result (Answers (ExtractMeans number (Some (edited_state edited.old)) name.now) (Some (edited_state edited.new))) }
+    ensures effect { IfOk result (AnswersAlone (ExtractMeans number (Some (edited_state edited.old)) name.now) (Some (edited_state edited.new))) }
     ensures kept { IsEdited edited.new }
     ensures inside { IfOk result (λ answer. IsOfInside answer.lines.items) }
     ensures memory { IsOkUnless result Halt.Memory }
@@ -63,7 +63,7 @@ fn extract_found(
 ) -> Result<Answer, Halt>
     requires edited { IsEdited edited.old }
     requires cell { cell.0 < length edited.old.library.contents }
-    ensures effect { let work = edited_state edited.old in IfOk result (Answers
+    ensures effect { let work = edited_state edited.old in IfOk result (AnswersAlone
         (λ effect. ExtractsCell name.now work cell.0 effect ⊎ RefusesUnclean number work [] cell.0 effect) (Some (edited_state edited.new))) }
     ensures kept { IsEdited edited.new }
     ensures inside { IfOk result (λ answer. IsOfInside answer.lines.items) }

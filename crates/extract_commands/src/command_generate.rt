@@ -2,7 +2,7 @@
 ghost use Rattle.std.specs.Prelude.{◌≡◌, ◌≤◌, pos, Some, length, IsTrue, IfOk, IsOkUnless};
 ghost use Rattle.std.specs.Int.RustNames.{unsigned_abs};
 ghost use Rattle.script_lines.specs.Arguments.{is_between};
-ghost use Rattle.session_model.specs.Effects.{Answers};
+ghost use Rattle.session_model.specs.Effects.{AnswersAlone};
 ghost use Rattle.line_answers.specs.LineEffects.{IsOfInside};
 ghost use Rattle.workspace.specs.KeptSessions.{IsEdited, IsSession, edited_state, state_of};
 ghost use Rattle.extract_commands.specs.CommandGenerate.{GenerateMeans, GeneratesStack};
@@ -36,7 +36,7 @@ pub fn generate(
 ) -> Result<Answer, Halt>
     requires session { IsSession session.old }
     requires count { IsTrue (is_between (pos 1) MOST_GENERATED count) }
-    ensures effect { IfOk result (Answers (GenerateMeans budget number (state_of session.old) count) (state_of session.new)) }
+    ensures effect { IfOk result (AnswersAlone (GenerateMeans budget number (state_of session.old) count) (state_of session.new)) }
     ensures kept { IsSession session.new }
     ensures inside { IfOk result (λ answer. IsOfInside answer.lines.items) }
     ensures memory { IsOkUnless result Halt.Memory }
@@ -67,7 +67,7 @@ fn generate_into(
 ) -> Result<Answer, Halt>
     requires edited { IsEdited edited.old }
     requires count { IsTrue (is_between (pos 1) MOST_GENERATED count) }
-    ensures effect { IfOk result (Answers (GeneratesStack budget number (unsigned_abs count) (edited_state edited.old)) (Some (edited_state edited.new))) }
+    ensures effect { IfOk result (AnswersAlone (GeneratesStack budget number (unsigned_abs count) (edited_state edited.old)) (Some (edited_state edited.new))) }
     ensures kept { IsEdited edited.new }
     ensures inside { IfOk result (λ answer. IsOfInside answer.lines.items) }
     ensures memory { IsOkUnless result Halt.Memory }

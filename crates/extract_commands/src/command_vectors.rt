@@ -28,8 +28,9 @@ pub fn vectors<F: Shelf>(
     file: &Name,
 ) -> Result<Answer, Halt>
     requires { IsSession session.old }
-    ensures effect { (files : Files) → F.files shelf.old ≡ Some files → IfOk result
-        (Answers (VectorsMeans budget number (state_of session.old) files name.now file.now) (state_of session.new)) }
+    ensures effect { (files : Files) → F.files shelf.old ≡ Some files → IfOk result (λ answer.
+        Answers (VectorsMeans budget number (state_of session.old) files name.now file.now) (state_of session.new) answer
+        (F.fetch_plan shelf.old) (F.fetch_plan shelf.new)) }
     ensures kept { IsSession session.new }
     ensures files { F.files shelf.new ≡ F.files shelf.old }
     ensures causes { HasCauses F.Shelf shelf.old shelf.new kinds_of result }
@@ -51,8 +52,9 @@ fn vectors_named<F: Shelf>(
     file: &Name,
 ) -> Result<Answer, Halt>
     requires { IsEdited edited.old }
-    ensures effect { (files : Files) → F.files shelf.old ≡ Some files → IfOk result
-        (Answers (VectorsMeans budget number (Some (edited_state edited.old)) files name.now file.now) (Some (edited_state edited.new))) }
+    ensures effect { (files : Files) → F.files shelf.old ≡ Some files → IfOk result (λ answer.
+        Answers (VectorsMeans budget number (Some (edited_state edited.old)) files name.now file.now) (Some (edited_state edited.new)) answer
+        (F.fetch_plan shelf.old) (F.fetch_plan shelf.new)) }
     ensures kept { IsEdited edited.new }
     ensures files { F.files shelf.new ≡ F.files shelf.old }
     ensures causes { HasCauses F.Shelf shelf.old shelf.new kinds_of result }
@@ -78,8 +80,9 @@ fn fetch_vectors<F: Shelf>(
 ) -> Result<Answer, Halt>
     requires edited { IsEdited edited.old }
     requires cell { cell.0 < length edited.old.library.contents }
-    ensures effect { (files : Files) → F.files shelf.old ≡ Some files → IfOk result
-        (Answers (RunsFetched budget number file (text_in files file) (edited_state edited.old) cell.0) (Some (edited_state edited.new))) }
+    ensures effect { (files : Files) → F.files shelf.old ≡ Some files → IfOk result (λ answer.
+        Answers (RunsFetched budget number file (text_in files file) (edited_state edited.old) cell.0) (Some (edited_state edited.new)) answer
+        (F.fetch_plan shelf.old) (F.fetch_plan shelf.new)) }
     ensures kept { IsEdited edited.new }
     ensures files { F.files shelf.new ≡ F.files shelf.old }
     ensures causes { HasCauses F.Shelf shelf.old shelf.new kinds_of result }

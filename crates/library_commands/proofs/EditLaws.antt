@@ -2,7 +2,7 @@
 use Rattle.std.proofs.Common.{◌≡◌, ◌∙◌, ℕ, [], ◌∷◌, Option, Some, inl, inr, refl, sym, ap, subst}
 use Rattle.std.specs.Prelude.{codes}
 use Rattle.session_model.specs.declared.answer.Answer.{Answer}
-use Rattle.session_model.specs.Effects.{Answers}
+use Rattle.session_model.specs.Effects.{AnswersAlone}
 use Rattle.ext_model.specs.declared.tables.CellKey.{CellKey}
 use Rattle.cell_library.specs.Libraries.{LibraryParts, IsLawfulLibrary, IsSame}
 use Rattle.script_lines.specs.declared.commands.Command.{Command}
@@ -26,16 +26,14 @@ pub edit_done : (number : ℕ) (old new : LibraryParts) (before now : Option Cel
     → IsLawfulLibrary old → IsStamped old new before command → editing_of new now ≡ applied (editing_of old before) command → Agrees old records
     → ((fault : EditFault) → ApplyIsRefused (editing_of old before) command fault → ⊥)
     → answer.lines.items ≡ reply (codes "ok") ∷ [] → answer.stores.items ≡ []
-    → Answers (EditMeans number (Some (workspace_of old before records)) command) (Some (workspace_of new now records)) answer
-edit_done number old new before now records command answer lawful stamped done agrees accepts lines stores = (
-  [],
-  inl (record {
-    accepts = accepts;
-    dirty = is_dirty new records;
-    marks = (marks_applied old new before now records command lawful stamped done agrees).1;
-    is = λ i. record { state = Some (record { editing = done i; dirty = is_dirty new records }); lines = lines i; stores = stores i; fetched = [] };
-  }),
-)
+    → AnswersAlone (EditMeans number (Some (workspace_of old before records)) command) (Some (workspace_of new now records)) answer
+edit_done number old new before now records command answer lawful stamped done agrees accepts lines stores =
+    inl (record {
+      accepts = accepts;
+      dirty = is_dirty new records;
+      marks = (marks_applied old new before now records command lawful stamped done agrees).1;
+      is = λ i. record { state = Some (record { editing = done i; dirty = is_dirty new records }); lines = lines i; stores = stores i; fetched = [] };
+    })
 
 -- where nothing changed, neither did what is edited
 pub edit_same : (old new : LibraryParts) (before now : Option CellKey) (records : Records) → IsSame old new → now ≡ before
@@ -47,10 +45,10 @@ edit_same old new before now records same kept =
 pub edit_refused : (number : ℕ) (old new : LibraryParts) (before now : Option CellKey) (records : Records) (command : Command) (fault : EditFault)
     (answer : Answer) → IsSame old new → now ≡ before → ApplyIsRefused (editing_of old before) command fault
     → answer.lines.items ≡ refusal_line number (edit_refusal fault) ∷ [] → answer.stores.items ≡ []
-    → Answers (EditMeans number (Some (workspace_of old before records)) command) (Some (workspace_of new now records)) answer
+    → AnswersAlone (EditMeans number (Some (workspace_of old before records)) command) (Some (workspace_of new now records)) answer
 edit_refused number old new before now records command fault answer same kept is lines stores =
     let work = workspace_of old before records in
     let means : EditMeans number (Some work) command (refused number (Some work) (edit_refusal fault) []) =
     inr (record { fault = fault; is_refused = is; is = refl }) in
-    subst (λ (w : Workspace). Answers (EditMeans number (Some work) command) (Some w) answer) (sym (edit_same old new before now records same kept))
+    subst (λ (w : Workspace). AnswersAlone (EditMeans number (Some work) command) (Some w) answer) (sym (edit_same old new before now records same kept))
     (answers_refusal (EditMeans number (Some work) command) number (Some work) (edit_refusal fault) [] answer lines stores means)

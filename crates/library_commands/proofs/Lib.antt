@@ -3,3 +3,4 @@ pub mod EditLaws
 pub mod LoadLaws
 pub mod MarkLaws
 pub mod TechLaws
+pub mod RestLaws

@@ -2,7 +2,7 @@
 use Rattle.std.proofs.Common.{◌≡◌, ◌∙◌, ℕ, suc, List, [], ◌∷◌, length, Option, Some, inl, inr, refl, sym, subst}
 use Rattle.outside_io.specs.Files.{Files}
 use Rattle.session_model.specs.declared.answer.Answer.{Answer}
-use Rattle.session_model.specs.Effects.{Answers, Effect}
+use Rattle.session_model.specs.Effects.{AnswersFetching, Effect}
 use Rattle.ext_model.specs.declared.tables.CellKey.{CellKey}
 use Rattle.cell_library.specs.Libraries.{LibraryParts, IsSame, seen, edits_of}
 use Rattle.cell_loading.specs.declared.faults.LoadFault.{LoadFault}
@@ -23,12 +23,12 @@ pub load_refused : (number : ℕ) (old new : LibraryParts) (current : Option Cel
     (fetched : List (List ℕ)) (answer : Answer) → IsSame old new
     → LoadIsRefused files (seen old) (edits_of old) cell fetched fault
     → answer.lines.items ≡ refusal_line number (load_refusal fault) ∷ [] → answer.stores.items ≡ []
-    → Answers (LoadMeans number (Some (workspace_of old current records)) files cell) (Some (workspace_of new current records)) answer
+    → AnswersFetching fetched (LoadMeans number (Some (workspace_of old current records)) files cell) (Some (workspace_of new current records)) answer
 load_refused number old new current records files cell fault fetched answer same is_refused lines stores =
     let work = workspace_of old current records in
     let means : LoadMeans number (Some work) files cell (refused number (Some work) (load_refusal fault) fetched) =
     inr (record { fault = fault; fetched = fetched; is_refused = is_refused; is = refl }) in
-    subst (λ (w : Workspace). Answers (LoadMeans number (Some work) files cell) (Some w) answer) (sym (same_workspace old new current records same))
+    subst (λ (w : Workspace). AnswersFetching fetched (LoadMeans number (Some work) files cell) (Some w) answer) (sym (same_workspace old new current records same))
     (answers_refusal (LoadMeans number (Some work) files cell) number (Some work) (load_refusal fault) fetched answer lines stores means)
 
 -- the cells came
@@ -36,7 +36,7 @@ pub load_done : (number : ℕ) (old new : LibraryParts) (current : Option CellKe
     (fetched : List (List ℕ)) (answer : Answer) → ((key : ℕ) → is_dirty new records key ≡ is_dirty old records key)
     → IsLoaded files (seen old) (seen new) (edits_of old) cell count fetched → edits_of new ≡ suc (edits_of old) → first ≡ length old.contents
     → answer.lines.items ≡ reply (loaded_text cell count) ∷ [] → answer.stores.items ≡ []
-    → Answers (LoadMeans number (Some (workspace_of old current records)) files cell)
+    → AnswersFetching fetched (LoadMeans number (Some (workspace_of old current records)) files cell)
     (Some (workspace_of new (Some (record { 0 = first })) records)) answer
 load_done number old new current records first files cell count fetched answer dirty is_loaded next first_is lines stores =
     let work = workspace_of old current records in

@@ -3,7 +3,7 @@ use Rattle.std.proofs.Common.{◌≡◌, ℕ, List, [], ◌∷◌, Ok, Err, None
 use Rattle.outside_io.specs.Files.{Files}
 use Rattle.session_model.specs.declared.answer.Answer.{Answer}
 use Rattle.session_model.specs.declared.fetching.FetchFault.{FetchFault}
-use Rattle.session_model.specs.Effects.{Answers, Effect}
+use Rattle.session_model.specs.Effects.{AnswersFetching, Effect}
 use Rattle.session_model.specs.Fetches.{text_in}
 use Rattle.tech_file.specs.Reading.{technology_of}
 use Rattle.workspace.specs.declared.cells.LayoutSession.{LayoutSession}
@@ -35,7 +35,7 @@ meant_at_first number session files name effect none is =
 pub tech_file_refused : (number : ℕ) (session : LayoutSession) (files : Files) (name file : List ℕ) (fault : FetchFault) (answer : Answer)
     → session.edited ≡ None → file ≡ tech_file name → text_in files file ≡ Err fault
     → answer.lines.items ≡ refusal_line number (file_refusal file fault) ∷ [] → answer.stores.items ≡ []
-    → Answers (TechMeans number (state_of session) files name) (state_of session) answer
+    → AnswersFetching (tech_file name ∷ []) (TechMeans number (state_of session) files name) (state_of session) answer
 tech_file_refused number session files name file fault answer none file_is there lines stores =
     let here = subst (λ (f : List ℕ). text_in files f ≡ Err fault) file_is there in
     let told = subst (λ (f : List ℕ). answer.lines.items ≡ refusal_line number (file_refusal f fault) ∷ []) file_is lines in
@@ -50,13 +50,13 @@ pub tech_read : (number : ℕ) (session after : LayoutSession) (files : Files) (
     → session.edited ≡ None → file ≡ tech_file name → text_in files file ≡ Ok text
     → ◌≡◌ {A = Effect State} (record { state = state_of after; lines = answer.lines.items; stores = answer.stores.items; fetched = file ∷ [] })
     (tech_effect number file (technology_of text))
-    → Answers (TechMeans number (state_of session) files name) (state_of after) answer
+    → AnswersFetching (file ∷ []) (TechMeans number (state_of session) files name) (state_of after) answer
 tech_read number session after files name file text answer none file_is there is =
     let effect : Effect State = record { state = state_of after; lines = answer.lines.items; stores = answer.stores.items; fetched = file ∷ [] } in
     let here : file_effect number file (text_in files file) ≡ tech_effect number file (technology_of text) = rw there refl in
     let meant : effect ≡ file_effect number (tech_file name) (text_in files (tech_file name)) =
     is ∙ sym here ∙ ap (λ (f : List ℕ). file_effect number f (text_in files f)) file_is in
-    (file ∷ [], meant_at_first number session files name effect none meant)
+    meant_at_first number session files name effect none meant
 
 -- what is edited at first
 pub begun : (raw : RawTech) (library : LibraryParts) (records : Records) → library ≡ record { tech = raw; scale = None; contents = []; tree = empty_tree }

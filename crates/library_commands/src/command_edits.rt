@@ -1,7 +1,7 @@
 //! The commands that edit.
 ghost use Rattle.std.specs.Prelude.{◌≡◌, ◌∷◌, [], IfOk, IsOkUnless};
 ghost use Rattle.script_lines.specs.Forms.{IsFormed};
-ghost use Rattle.session_model.specs.Effects.{Answers};
+ghost use Rattle.session_model.specs.Effects.{AnswersAlone};
 ghost use Rattle.line_answers.specs.LineEffects.{IsOfInside};
 ghost use Rattle.line_answers.specs.Refusals.{refusal_line};
 ghost use Rattle.workspace.specs.KeptSessions.{IsSession, state_of};
@@ -24,7 +24,7 @@ pub fn edit(
 ) -> Result<Answer, Halt>
     requires session { IsSession session.old }
     requires formed { IsFormed command.now }
-    ensures effect { IfOk result (Answers (EditMeans number (state_of session.old) command.now) (state_of session.new)) }
+    ensures effect { IfOk result (AnswersAlone (EditMeans number (state_of session.old) command.now) (state_of session.new)) }
     ensures kept { IsSession session.new }
     ensures inside { IfOk result (λ answer. IsOfInside answer.lines.items) }
     ensures memory { IsOkUnless result Halt.Memory }

@@ -27,8 +27,8 @@ pub fn load<F: Shelf>(
 ) -> Result<Answer, Halt>
     requires session { IsSession session.old }
     requires cell { IsTrue (is_plain_name cell.now) }
-    ensures effect { (files : Files) → F.files shelf.old ≡ Some files → IfOk result
-        (Answers (LoadMeans number (state_of session.old) files cell.now) (state_of session.new)) }
+    ensures effect { (files : Files) → F.files shelf.old ≡ Some files → IfOk result (λ answer.
+        Answers (LoadMeans number (state_of session.old) files cell.now) (state_of session.new) answer (F.fetch_plan shelf.old) (F.fetch_plan shelf.new)) }
     ensures kept { IsSession session.new }
     ensures files { F.files shelf.new ≡ F.files shelf.old }
     ensures causes { HasCauses F.Shelf shelf.old shelf.new kinds_of result }
@@ -49,8 +49,9 @@ fn load_into<F: Shelf>(
 ) -> Result<Answer, Halt>
     requires edited { IsEdited edited.old }
     requires cell { IsTrue (is_plain_name cell.now) }
-    ensures effect { (files : Files) → F.files shelf.old ≡ Some files → IfOk result
-        (Answers (LoadMeans number (Some (edited_state edited.old)) files cell.now) (Some (edited_state edited.new))) }
+    ensures effect { (files : Files) → F.files shelf.old ≡ Some files → IfOk result (λ answer.
+        Answers (LoadMeans number (Some (edited_state edited.old)) files cell.now) (Some (edited_state edited.new)) answer
+        (F.fetch_plan shelf.old) (F.fetch_plan shelf.new)) }
     ensures kept { IsEdited edited.new }
     ensures files { F.files shelf.new ≡ F.files shelf.old }
     ensures causes { HasCauses F.Shelf shelf.old shelf.new kinds_of result }

@@ -1,6 +1,6 @@
 //! `nodes c`, `save c` and `squares c`: they tell something of c, and leave the session as it is.
 ghost use Rattle.std.specs.Prelude.{IfOk, IsOkUnless};
-ghost use Rattle.session_model.specs.Effects.{Answers};
+ghost use Rattle.session_model.specs.Effects.{AnswersAlone};
 ghost use Rattle.line_answers.specs.LineEffects.{IsOfInside};
 ghost use Rattle.workspace.specs.KeptSessions.{IsSession, state_of};
 ghost use Rattle.library_commands.specs.CommandLooks.{LookMeans};
@@ -21,7 +21,7 @@ pub fn look_at(
     at: Look,
 ) -> Result<Answer, Halt>
     requires { IsSession session.now }
-    ensures effect { IfOk result (Answers (LookMeans at number (state_of session.now) name.now) (state_of session.now)) }
+    ensures effect { IfOk result (AnswersAlone (LookMeans at number (state_of session.now) name.now) (state_of session.now)) }
     ensures inside { IfOk result (λ answer. IsOfInside answer.lines.items) }
     ensures memory { IsOkUnless result Halt.Memory }
 {

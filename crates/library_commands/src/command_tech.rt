@@ -28,8 +28,8 @@ pub fn tech<F: Shelf>(
     name: &Name,
 ) -> Result<Answer, Halt>
     requires { IsSession session.old }
-    ensures effect { (files : Files) → F.files shelf.old ≡ Some files → IfOk result
-        (Answers (TechMeans number (state_of session.old) files name.now) (state_of session.new)) }
+    ensures effect { (files : Files) → F.files shelf.old ≡ Some files → IfOk result (λ answer.
+        Answers (TechMeans number (state_of session.old) files name.now) (state_of session.new) answer (F.fetch_plan shelf.old) (F.fetch_plan shelf.new)) }
     ensures kept { IsSession session.new }
     ensures files { F.files shelf.new ≡ F.files shelf.old }
     ensures causes { HasCauses F.Shelf shelf.old shelf.new kinds_of result }

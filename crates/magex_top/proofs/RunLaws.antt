@@ -2,7 +2,7 @@
 use Rattle.std.proofs.Common.{◌≡◌, ℕ, ◌<◌, ◌≤◌, ◌∙◌, inl, List, [], ◌∷◌, ◌++◌, map, length, Some, None, refl, sym, ap, subst, Option, arith}
 use Rattle.std.proofs.lemmas.Bool.Decides.{nat_tests}
 use Rattle.std.proofs.lemmas.List.{append-nil}
-use Rattle.std.specs.Prelude.{nat_lt, is_some, Bool, MatchBool, true, false, Err}
+use Rattle.std.specs.Prelude.{nat_lt, if◌then◌else◌, is_some, Bool, MatchBool, MatchOption, true, false, Err}
 use Rattle.text_scan.specs.Lines.{lines_of}
 use Rattle.outside_io.specs.Files.{Files}
 use Rattle.outside_io.specs.ToldBytes.{ToldBytes}
@@ -11,16 +11,19 @@ use Rattle.session_model.specs.declared.report.ReportLine.{ReportLine}
 use Rattle.outside_io.specs.declared.outside.Shelf.{Ghosts as ShelfWords}
 use Rattle.session_model.specs.declared.answer.Halt.{Halt}
 use Rattle.session_model.specs.declared.answer.Halt.TheVariants as halt
-use Rattle.session_model.specs.Causes.{ComeFrom, UnlessReadFault, UnlessWriteFault, line_kinds}
-use Rattle.session_model.specs.Effects.{no_effect}
+use Rattle.session_model.specs.Causes.{UnlessReadFault, UnlessWriteFault}
+use Rattle.session_model.specs.Counted.{AreCounted}
+use Rattle.session_model.specs.Effects.{Effect}
 use Rattle.session_model.specs.Progress.{BeginsNext, IsPrefixOf, Progress}
-use Rattle.session_model.specs.Reports.{report_of, text_of}
+use Rattle.session_model.specs.Reports.{is_told, report_of, text_of}
+use Rattle.session_model.specs.Scripts.{Act, LinesMean, MeansInSound, ScriptActs, WholeSession, lines_in}
+use Rattle.session_model.proofs.ProgressLaws.{LinesMean-weaker, Progress-weaker}
 use Rattle.magex_top.specs.declared.status.Status.{Status}
-use Rattle.magex_top.specs.declared.status.Status.TheVariants.{Usage, ReadFault, WriteFault, ScriptTooLong}
+use Rattle.magex_top.specs.declared.status.Status.TheVariants.{Done, Told, ReadFault, WriteFault}
 use Rattle.run_words.specs.declared.words.RunWords.{RunWords}
 use Rattle.run_words.specs.RunWords.{words_of}
-use Rattle.magex_top.specs.Runs.{is_quiet, AskedReaches, RunMeans, RunReaches, ScriptMeans, ScriptReaches, usage_text}
-use Rattle.magex_top.specs.Sessions.{RunLineMeans, RunState, first_run}
+use Rattle.magex_top.specs.Runs.{IsScriptSession, IsSessionOf, RunReaches, is_quiet, long_session, usage_session, usage_text}
+use Rattle.magex_top.specs.Sessions.{IsRunSession, RunLineMeans, RunState, first_run, run_state_of}
 use Rattle.line_answers.specs.LineEffects.{reply}
 use Rattle.magex_top.specs.Statuses.{status_of}
 
@@ -42,20 +45,19 @@ nothing None is some = let no : ⊥ = cc in no
 nothing (Some b) is some = let no : ⊥ = cc in no
 
 -- with words that are not of the form it is a usage fault
-pub usage_run : (words : List (List ℕ)) (text : List ℕ) (files : Files) → words_of words ≡ None
-    → RunMeans words text files (reply usage_text ∷ []) files Usage
-usage_run words text files none = rw none (refl, refl, refl)
+pub usage_run : (words : List (List ℕ)) (text : List ℕ) (files : Files) → words_of words ≡ None → IsSessionOf words text files usage_session
+usage_run words text files none = rw none refl
 
--- a script that is not too long means what its lines mean
-pub script_run : (words : List (List ℕ)) (asked : RunWords) (text : List ℕ) (files : Files) (lines : List ReportLine) (after : Files) (status : Status)
-    → words_of words ≡ Some asked → length text ≤ LONGEST_FILE → ScriptMeans asked text files lines after status
-    → RunMeans words text files lines after status
-script_run words asked text files lines after status is fits means = rw (is, fits_test (length text) fits) means
+-- the session of a script that is not too long is what its lines mean
+pub script_run : (words : List (List ℕ)) (asked : RunWords) (text : List ℕ) (files : Files) (session : WholeSession Status)
+    → words_of words ≡ Some asked → length text ≤ LONGEST_FILE → IsScriptSession asked.budget text files session
+    → IsSessionOf words text files session
+script_run words asked text files session is fits means = rw (is, fits_test (length text) fits) means
 
--- a script that is too long means that and an empty report
+-- that of a script that is too long does nothing
 pub long_run : (words : List (List ℕ)) (asked : RunWords) (text : List ℕ) (files : Files) → words_of words ≡ Some asked → LONGEST_FILE < length text
-    → RunMeans words text files [] files ScriptTooLong
-long_run words asked text files is long = rw (is, long_test (length text) long) (refl, refl, refl)
+    → IsSessionOf words text files long_session
+long_run words asked text files is long = rw (is, long_test (length text) long) refl
 
 pub nothing_more : (written : ToldBytes) (before : List ℕ) → written ≡ Some before → written ≡ Some (before ++ [])
 nothing_more written before is = is ∙ ap (λ (xs : List ℕ). Some xs) (sym (append-nil before))
@@ -89,17 +91,19 @@ usage_reached words text files Failed reported none prefix = rw none (prefix, re
 
 -- what a run reaches in a script that is not too long
 pub script_reached : (words : List (List ℕ)) (asked : RunWords) (text : List ℕ) (files : Files) (Failed : Type 0) (reported : List ℕ) (after : Files)
-    → words_of words ≡ Some asked → length text ≤ LONGEST_FILE → ScriptReaches asked text files Failed reported after
+    → words_of words ≡ Some asked → length text ≤ LONGEST_FILE
+    → Progress RunLineMeans asked.quiet Failed (first_run asked.budget) files (lines_of text) reported after
     → RunReaches words text files Failed reported after
 script_reached words asked text files Failed reported after is fits reached = rw (is, fits_test (length text) fits) reached
 
 -- no line of a script was begun
-nothing_begun : (asked : RunWords) (text : List ℕ) (files : Files) (Failed : Type 0) → ScriptReaches asked text files Failed [] files
+nothing_begun : (asked : RunWords) (text : List ℕ) (files : Files) (Failed : Type 0)
+    → Progress RunLineMeans asked.quiet Failed (first_run asked.budget) files (lines_of text) [] files
 nothing_begun asked text files Failed = record {
   past = [];
   left = lines_of text;
   split = refl;
-  done = no_effect (first_run asked.budget);
+  done = [];
   means = refl;
   front = [];
   next = elim (lines_of text)
@@ -110,10 +114,13 @@ nothing_begun asked text files Failed = record {
   reported = sym (append-nil (report_of asked.quiet []) ∙ no_report asked.quiet);
 }
 
-asked_nothing : (asked : RunWords) (text : List ℕ) (files : Files) (Failed : Type 0) → AskedReaches (Some asked) text files Failed [] files
+asked_nothing : (asked : RunWords) (text : List ℕ) (files : Files) (Failed : Type 0)
+    → MatchBool (nat_lt LONGEST_FILE (length text)) ((◌≡◌ {A = List ℕ} [] []) × (files ≡ files))
+    (Progress RunLineMeans asked.quiet Failed (first_run asked.budget) files (lines_of text) [] files)
 asked_nothing asked text files Failed =
     elim (nat_lt LONGEST_FILE (length text))
-    as (λ test. MatchBool test ((◌≡◌ {A = List ℕ} [] []) × (files ≡ files)) (ScriptReaches asked text files Failed [] files)) [
+    as (λ test. MatchBool test ((◌≡◌ {A = List ℕ} [] []) × (files ≡ files))
+    (Progress RunLineMeans asked.quiet Failed (first_run asked.budget) files (lines_of text) [] files)) [
       | true ↦ (refl, refl)
       | false ↦ nothing_begun asked text files Failed
     ]
@@ -121,23 +128,54 @@ asked_nothing asked text files Failed =
 -- nothing is reached before the words and the script were read
 pub nothing_reached : (words : List (List ℕ)) (text : List ℕ) (files : Files) (Failed : Type 0) → RunReaches words text files Failed [] files
 nothing_reached words text files Failed =
-    elim (words_of words) as (λ (asked : Option RunWords). AskedReaches asked text files Failed [] files) [
+    elim (words_of words) as (λ (found : Option RunWords). MatchOption found
+    (IsPrefixOf [] (text_of (reply usage_text ∷ [])) × (files ≡ files))
+    (λ asked. MatchBool (nat_lt LONGEST_FILE (length text)) ((◌≡◌ {A = List ℕ} [] []) × (files ≡ files))
+    (Progress RunLineMeans asked.quiet Failed (first_run asked.budget) files (lines_of text) [] files))) [
       | None ↦ ((text_of (reply usage_text ∷ []), refl), refl)
       | Some asked ↦ asked_nothing asked text files Failed
     ]
 
--- the usage line refuses no line
-pub usage_comes : {F : Type 0} (shelf : ShelfWords F) (old new : F) → ComeFrom shelf old new (line_kinds (reply usage_text ∷ []))
-usage_comes shelf old new = record { absent = λ some. cc; too_long = λ some. cc }
+-- the usage line is counted as no refusal
+pub usage_counted : {F : Type 0} (shelf : ShelfWords F) (at : F) → AreCounted shelf at at ((reply usage_text ∷ []) ∷ [])
+usage_counted shelf at = record { absent = inl (omega arith); too_long = inl (omega arith) }
+
+-- what was seen of a line in a session that is sound is what it means
+seen_means : (number : ℕ) (run : RunState) (files : Files) (line : List ℕ) (effect : Effect RunState)
+    → MeansInSound run_state_of IsRunSession RunLineMeans number run files line effect → RunLineMeans number run files line effect
+seen_means number run files line effect seen = seen.1
 
 -- what a run from the state at the start has reached
-pub reached_from_first : (asked : RunWords) (run : RunState) (text : List ℕ) (files : Files) (Failed : Type 0) (before : List ℕ)
-    (written : ToldBytes) (left : Option Files) → run ≡ first_run asked.budget
-    → (reported : List ℕ) × (after : Files) × Progress RunLineMeans asked.quiet Failed run files (lines_of text) reported after
+pub reached_from_first : (asked : RunWords) (run : RunState) (text : List ℕ) (files : Files) (Failed Others : Type 0) (before : List ℕ)
+    (written : ToldBytes) (left : Option Files) → run ≡ first_run asked.budget → (Failed → Others)
+    → (reported : List ℕ) × (after : Files)
+    × Progress (MeansInSound run_state_of IsRunSession RunLineMeans) asked.quiet Failed run files (lines_of text) reported after
     × (written ≡ Some (before ++ reported)) × (left ≡ Some after)
-    → (reported : List ℕ) × (after : Files) × ScriptReaches asked text files Failed reported after × (written ≡ Some (before ++ reported)) × (left ≡ Some after)
-reached_from_first asked run text files Failed before written left is h =
-    (h.0, h.1, subst (λ (r : RunState). Progress RunLineMeans asked.quiet Failed r files (lines_of text) h.0 h.1) is h.2, h.3, h.4)
+    → (reported : List ℕ) × (after : Files)
+    × Progress RunLineMeans asked.quiet Others (first_run asked.budget) files (lines_of text) reported after
+    × (written ≡ Some (before ++ reported)) × (left ≡ Some after)
+reached_from_first asked run text files Failed Others before written left is weaker (reported, after, way, told, stays) =
+    let means = Progress-weaker (MeansInSound run_state_of IsRunSession RunLineMeans) RunLineMeans seen_means asked.quiet Failed Others weaker run files
+    (lines_of text) reported after way in (
+      reported,
+      after,
+      subst (λ (r : RunState). Progress RunLineMeans asked.quiet Others r files (lines_of text) reported after) is means,
+      told,
+      stays,
+    )
+
+-- what a script's lines were seen to do from the state at the start is its session
+pub session_from_first : (asked : RunWords) (run : RunState) (text : List ℕ) (files : Files) (acts : List Act) (status : Status)
+    → run ≡ first_run asked.budget
+    → ScriptActs (MeansInSound run_state_of IsRunSession RunLineMeans) run files (lines_of text) acts
+    → status ≡ (if is_told (lines_in acts) then Told else Done)
+    → IsScriptSession asked.budget text files (record { acts = acts; status = status })
+session_from_first asked run text files acts status is (effects, seen, are) ends =
+    let means = LinesMean-weaker (MeansInSound run_state_of IsRunSession RunLineMeans) RunLineMeans seen_means 1 run files (lines_of text) effects seen in
+    record {
+      acts = (effects, subst (λ (r : RunState). LinesMean RunLineMeans 1 r files (lines_of text) effects) is means, are);
+      status = ends;
+    }
 
 -- what stays unless a write failed stays where the status is none of a write that failed
 pub calm_write : (T : Type 0) (h : Halt) (status : Status) (P : Type 0) → UnlessWriteFault {T = T} (Err h) P → status ≡ status_of h

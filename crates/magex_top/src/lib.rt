@@ -3,12 +3,15 @@
 //! # How the proof goes
 //!
 //! What a command answers stands in the crates below, each with its definition. `RunSession` is a `Session` by them, so that `session_model` runs
-//! the script; `RunLaws` has what is left for `run`: the words, the script that is too long, and the status.
+//! the script; `RunLaws` has what is left for `run`: the words, the script that is too long, and the status. `RestLaws`: what each command does rests
+//! on the files alone that it fetches.
 #![tactic(auto)]
 
+mod laws;
 mod session;
 mod status;
 mod top_call;
 
+pub use laws::sessions_are_made_good;
 pub use status::Status;
 pub use top_call::run;

@@ -60,7 +60,8 @@ fn answer_line<F: Shelf>(
 ) -> Result<Answer, Halt>
     requires session { IsSession session.old }
     ensures effect { (files : Files) → F.files shelf.old ≡ Some files → IfOk result (λ answer.
-        Answers (LineMeans budget number (state_of session.old) files line.now) (state_of session.new) answer) }
+        Answers (LineMeans budget number (state_of session.old) files line.now) (state_of session.new) answer (F.fetch_plan shelf.old)
+        (F.fetch_plan shelf.new)) }
     ensures kept { IsSession session.new }
     ensures files { F.files shelf.new ≡ F.files shelf.old }
     ensures causes { HasCauses F.Shelf shelf.old shelf.new kinds_of result }
@@ -106,7 +107,8 @@ fn answer<F: Shelf>(
     requires session { IsSession session.old }
     requires formed { IsFormed command.now }
     ensures effect { (files : Files) → F.files shelf.old ≡ Some files → IfOk result (λ answer.
-        Answers (CommandMeans budget number (state_of session.old) files command.now) (state_of session.new) answer) }
+        Answers (CommandMeans budget number (state_of session.old) files command.now) (state_of session.new) answer (F.fetch_plan shelf.old)
+        (F.fetch_plan shelf.new)) }
     ensures kept { IsSession session.new }
     ensures files { F.files shelf.new ≡ F.files shelf.old }
     ensures causes { HasCauses F.Shelf shelf.old shelf.new kinds_of result }

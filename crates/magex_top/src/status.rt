@@ -7,7 +7,7 @@ use session_model::Halt;
 /// How a run ended. Its number is the exit status of the program.
 #[derive(Clone, Copy, Debug, PartialEq, Eq)]
 pub enum Status {
-    /// Every line was accepted.
+    /// The run came to its end, and no line of its report tells of something refused, offending or unsettled.
     Done = 0,
     /// The run came to its end, and its report has a line that tells of something refused, offending or unsettled.
     Told = 1,

@@ -1,13 +1,16 @@
 //! The top call.
 ghost use Rattle.std.specs.Prelude.{◌≡◌, ◌≢◌, ◌⊎◌, ◌<◌, ◌≤◌, [], ◌∷◌, ◌++◌, ℕ, List, Some, map, length, string_bytes, IfSome, true, false};
+ghost use Rattle.text_scan.specs.Lines.{lines_of};
 ghost use Rattle.outside_io.specs.Counts.{Rose};
 ghost use Rattle.outside_io.specs.Files.{Files};
 ghost use Rattle.outside_io.specs.ToldBytes.{with_back};
-ghost use Rattle.session_model.specs.declared.report.ReportLine.{ReportLine as Line};
-ghost use Rattle.session_model.specs.Causes.{ComeFrom, line_kinds};
-ghost use Rattle.session_model.specs.Progress.{IsPrefixOf};
+ghost use Rattle.session_model.specs.Counted.{AreCounted};
+ghost use Rattle.session_model.specs.Effects.{after_fetches, with_stores};
+ghost use Rattle.session_model.specs.Progress.{IsPrefixOf, Progress};
 ghost use Rattle.session_model.specs.Reports.{report_of, text_of};
-ghost use Rattle.magex_top.specs.Runs.{EndsByItself, IsEndOfScript, RunMeans, RunReaches, ScriptMeans, ScriptReaches, are_of_form, is_quiet, usage_text};
+ghost use Rattle.session_model.specs.Scripts.{WholeSession, answers_in, fetched_in, lines_in, stores_in};
+ghost use Rattle.magex_top.specs.Runs.{EndsByItself, IsEndOfScript, IsScriptSession, IsSessionOf, RunReaches, are_of_form, is_quiet, usage_text};
+ghost use Rattle.magex_top.specs.Sessions.{RunLineMeans, first_run};
 ghost use Rattle.line_answers.specs.LineEffects.{reply};
 
 use crate::session::RunSession;
@@ -32,21 +35,26 @@ pub fn run<S: Source, K: Sink, F: Shelf, L: Ledger>(
     shelf: &mut F,
     steps: &mut Steps<L>,
 ) -> Status
-    // A run that ends by itself reports the lines that the script means, leaves the files that it means, and ends with the status
-    // that it means. Its refusals for a file that is not there or is too long come from what the shelf said.
+    // A run that ends by itself is its session: it reports the session's lines, leaves the files after its stores, makes as many
+    // fetches as it fetches names, and ends with its status. For each line that is refused since a file is not there, or is too long,
+    // the shelf's count of such answers rose.
     ensures meaning { (text before : List ℕ) (files : Files) →
         S.left script.old ≡ Some text → K.written report.old ≡ Some before → F.files shelf.old ≡ Some files →
-        EndsByItself result → (lines : List Line) × (after : Files)
-        × RunMeans (map string_bytes words.now) text files lines after result
-        × (K.written report.new ≡ Some (before ++ report_of (is_quiet (map string_bytes words.now)) lines))
-        × (F.files shelf.new ≡ Some after) × ComeFrom F.Shelf shelf.old shelf.new (line_kinds lines) }
+        EndsByItself result → (session : WholeSession Status)
+        × IsSessionOf (map string_bytes words.now) text files session × (result ≡ session.status)
+        × (K.written report.new ≡ Some (before ++ report_of (is_quiet (map string_bytes words.now)) (lines_in session.acts)))
+        × (F.files shelf.new ≡ Some (with_stores files (stores_in session.acts)))
+        × (F.fetch_plan shelf.new ≡ after_fetches (F.fetch_plan shelf.old) (fetched_in session.acts))
+        × AreCounted F.Shelf shelf.old shelf.new (answers_in session.acts) }
     ensures read_to_end { (result ≡ Status.Done) ⊎ (result ≡ Status.Told) → IfSome (S.left script.new) (λ left. left ≡ []) }
 
-    // However it ends, it has come somewhere in the script: the lines before are done, and that line is begun.
+    // However it ends, it has come somewhere in the script, or to its end: the lines before are done, and of that line nothing or a part.
+    // Of a usage fault there is a beginning of the usage line, and of a script that is too long nothing.
     ensures beginning { (text before : List ℕ) (files : Files) →
         S.left script.old ≡ Some text → K.written report.old ≡ Some before → F.files shelf.old ≡ Some files →
         (reported : List ℕ) × (after : Files)
-        × RunReaches (map string_bytes words.now) text files (Rose (F.store_faults shelf.old) (F.store_faults shelf.new)) reported after
+        × RunReaches (map string_bytes words.now) text files
+        ((result ≡ Status.WriteFault) × Rose (F.store_faults shelf.old) (F.store_faults shelf.new)) reported after
         × (K.written report.new ≡ Some (before ++ reported)) × (F.files shelf.new ≡ Some after) }
 
     // A script that could not be read runs no line: the report and the shelf are as they were.
@@ -129,13 +137,16 @@ fn run_script<K: Sink, F: Shelf>(
 ) -> Status
     ensures meaning { (before : List ℕ) (files : Files) →
         K.written report.old ≡ Some before → F.files shelf.old ≡ Some files →
-        EndsByItself result → (lines : List Line) × (after : Files) × ScriptMeans asked text.now files lines after result
-        × (K.written report.new ≡ Some (before ++ report_of asked.quiet lines)) × (F.files shelf.new ≡ Some after)
-        × ComeFrom F.Shelf shelf.old shelf.new (line_kinds lines) }
+        EndsByItself result → (session : WholeSession Status) × IsScriptSession asked.budget text.now files session × (result ≡ session.status)
+        × (K.written report.new ≡ Some (before ++ report_of asked.quiet (lines_in session.acts)))
+        × (F.files shelf.new ≡ Some (with_stores files (stores_in session.acts)))
+        × (F.fetch_plan shelf.new ≡ after_fetches (F.fetch_plan shelf.old) (fetched_in session.acts))
+        × AreCounted F.Shelf shelf.old shelf.new (answers_in session.acts) }
     ensures beginning { (before : List ℕ) (files : Files) →
         K.written report.old ≡ Some before → F.files shelf.old ≡ Some files →
         (reported : List ℕ) × (after : Files)
-        × ScriptReaches asked text.now files (Rose (F.store_faults shelf.old) (F.store_faults shelf.new)) reported after
+        × Progress RunLineMeans asked.quiet ((result ≡ Status.WriteFault) × Rose (F.store_faults shelf.old) (F.store_faults shelf.new))
+        (first_run asked.budget) files (lines_of text.now) reported after
         × (K.written report.new ≡ Some (before ++ reported)) × (F.files shelf.new ≡ Some after) }
     ensures cases { IsEndOfScript result }
     ensures read_fault { result ≡ Status.ReadFault → Rose (F.fetch_faults shelf.old) (F.fetch_faults shelf.new) }

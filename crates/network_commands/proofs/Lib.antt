@@ -1,1 +1,2 @@
 pub mod SimulationCommands
+pub mod RestLaws

@@ -1,8 +1,8 @@
 //! `simrun c f`: runs f.vec on the network of c.sim.
-ghost use Rattle.std.specs.Prelude.{◌≡◌, [], ℕ, List, Some, All, IfOk, IsOkUnless};
+ghost use Rattle.std.specs.Prelude.{◌≡◌, ◌∷◌, [], ℕ, List, Some, All, IfOk, IsOkUnless};
 ghost use Rattle.outside_io.specs.Files.{Files};
 ghost use Rattle.session_model.specs.Causes.{HasCauses, kinds_of};
-ghost use Rattle.session_model.specs.Effects.{Answers};
+ghost use Rattle.session_model.specs.Effects.{Answers, AnswersAfter};
 ghost use Rattle.session_model.specs.Fetches.{text_in};
 ghost use Rattle.sim_networks.specs.SimNetworks.{HasLetter};
 ghost use Rattle.sim_text.specs.SimTexts.{sim_in};
@@ -32,8 +32,8 @@ pub fn simrun<F: Shelf>(
     name: &Name,
     file: &Name,
 ) -> Result<Answer, Halt>
-    ensures effect { (files : Files) → F.files shelf.old ≡ Some files → IfOk result
-        (Answers (SimrunMeans budget number files name.now file.now) tt) }
+    ensures effect { (files : Files) → F.files shelf.old ≡ Some files → IfOk result (λ answer.
+        Answers (SimrunMeans budget number files name.now file.now) tt answer (F.fetch_plan shelf.old) (F.fetch_plan shelf.new)) }
     ensures files { F.files shelf.new ≡ F.files shelf.old }
     ensures causes { HasCauses F.Shelf shelf.old shelf.new kinds_of result }
 {
@@ -55,8 +55,8 @@ fn run_text<F: Shelf>(
     text: &[u8],
     file: Name,
 ) -> Result<Answer, Halt>
-    ensures effect { (files : Files) → F.files shelf.old ≡ Some files → IfOk result
-        (Answers (RunsRead budget number files source (sim_in text.now) file) tt) }
+    ensures effect { (files : Files) → F.files shelf.old ≡ Some files → IfOk result (λ answer.
+        AnswersAfter (source ∷ []) (RunsRead budget number files source (sim_in text.now) file) tt answer (F.fetch_plan shelf.old) (F.fetch_plan shelf.new)) }
     ensures files { F.files shelf.new ≡ F.files shelf.old }
     ensures causes { HasCauses F.Shelf shelf.old shelf.new kinds_of result }
 {
@@ -83,8 +83,8 @@ fn run_records<F: Shelf>(
     file: Name,
 ) -> Result<Answer, Halt>
     requires letters { All HasLetter sim.now.fets }
-    ensures effect { (files : Files) (fetched : List (List ℕ)) → F.files shelf.old ≡ Some files → IfOk result
-        (Answers (RunsRecords budget number files sim.now file fetched) tt) }
+    ensures effect { (files : Files) (fetched : List (List ℕ)) → F.files shelf.old ≡ Some files → IfOk result (λ answer.
+        AnswersAfter fetched (RunsRecords budget number files sim.now file fetched) tt answer (F.fetch_plan shelf.old) (F.fetch_plan shelf.new)) }
     ensures files { F.files shelf.new ≡ F.files shelf.old }
     ensures causes { HasCauses F.Shelf shelf.old shelf.new kinds_of result }
 {
@@ -104,8 +104,9 @@ fn run_network<F: Shelf>(
     file: Name,
 ) -> Result<Answer, Halt>
     requires fresh { IsFresh (network_of named.net) named.names }
-    ensures effect { (files : Files) (fetched : List (List ℕ)) → F.files shelf.old ≡ Some files → IfOk result
-        (Answers (RunsVectors budget number (text_in files file) file (network_of named.net) named.names fetched) tt) }
+    ensures effect { (files : Files) (fetched : List (List ℕ)) → F.files shelf.old ≡ Some files → IfOk result (λ answer.
+        AnswersAfter fetched (RunsVectors budget number (text_in files file) file (network_of named.net) named.names fetched) tt answer
+        (F.fetch_plan shelf.old) (F.fetch_plan shelf.new)) }
     ensures files { F.files shelf.new ≡ F.files shelf.old }
     ensures causes { HasCauses F.Shelf shelf.old shelf.new kinds_of result }
 {

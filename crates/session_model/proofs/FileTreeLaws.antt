@@ -3,11 +3,14 @@ use Rattle.std.proofs.Common.{◌≡◌, ◌⊎◌, inl, inr, ℕ, true, false, 
 use Rattle.std.proofs.lemmas.Bool.{false≢true}
 use Rattle.std.proofs.lemmas.List.{map-append}
 use Rattle.std.proofs.lemmas.List.Elements.{Contains-append_left, Contains-append_right}
-use Rattle.std.specs.Prelude.{Contains, Result, Ok, Err}
+use Rattle.std.specs.Prelude.{Contains, Option, Result, Ok, Err}
 use Rattle.outside_io.specs.Files.{Files}
+use Rattle.outside_io.specs.CallPlans.{CallPlan, told_after_call}
+use Rattle.session_model.specs.Effects.{GivesFetching, after_fetches}
 use Rattle.session_model.specs.Fetches.{AgreeOn}
-use Rattle.session_model.specs.FileTrees.{FileIsRefused, FileKind, GivesByFile, GoesOn, StopsAt, fetched_by, files_of}
+use Rattle.session_model.specs.FileTrees.{FileIsRefused, FileKind, GivesByFile, GoesOn, StopsAsking, StopsAt, fetched_by, files_of}
 use Rattle.session_model.specs.FileTrees.{Reading, All, Stopped, Reads, end, opened, passed, stop}
+use Rattle.session_model.proofs.EffectLaws.{fetches-append}
 
 -- ---- on the way
 
@@ -37,10 +40,44 @@ module _ {Said Fault : Type 0} (kind : FileKind Said Fault) (files : Files) wher
   stops_later read read_after left left_after told here on =
       record { read_before = on.read_before; name = on.name; stops = here (Stopped on.read_before on.name told) on.stops }
 
+  -- the shelf was asked for one file more, which was read
+  pub asked_for_one : (first old new : Option CallPlan) (read : List Said) (said : Said) → new ≡ told_after_call old
+      → old ≡ after_fetches first (files_of kind read) → new ≡ after_fetches first (files_of kind (read ++ said ∷ []))
+  asked_for_one first old new read said once asked =
+      let files_are : files_of kind (read ++ said ∷ []) ≡ files_of kind read ++ kind.file (kind.name said) ∷ [] =
+      ap (map kind.file) (map-append kind.name read (said ∷ [])) ∙ map-append kind.file (map kind.name read) (kind.name said ∷ []) in
+      once ∙ ap told_after_call asked ∙ sym (fetches-append first (files_of kind read) (kind.file (kind.name said) ∷ []))
+      ∙ ap (after_fetches first) (sym files_are)
+
+  -- it was asked for the file that is refused
+  pub stops_asking_here : (read : List Said) (name : List ℕ) (left : List (List ℕ)) (old new : Option CallPlan) (told : Fault)
+      → kind.is_known read name ≡ false → kind.gives files read name ≡ Err told → new ≡ told_after_call old
+      → StopsAsking kind files read (name ∷ left) old new told
+  stops_asking_here read name left old new told fresh gives once = (
+    record { read_before = read; name = name; stops = stop fresh gives },
+    λ first asked. once ∙ ap told_after_call asked ∙ sym (fetches-append first (files_of kind read) (kind.file name ∷ [])),
+  )
+
+  -- and so it was where reading went on before
+  pub stops_asking_later : (read read_after : List Said) (left left_after : List (List ℕ)) (old middle new : Option CallPlan) (told : Fault)
+      → GoesOn kind files read left read_after left_after
+      → ((first : Option CallPlan) → old ≡ after_fetches first (files_of kind read) → middle ≡ after_fetches first (files_of kind read_after))
+      → StopsAsking kind files read_after left_after middle new told → StopsAsking kind files read left old new told
+  stops_asking_later read read_after left left_after old middle new told here asks (on, asked) = (
+    record { read_before = on.read_before; name = on.name; stops = here (Stopped on.read_before on.name told) on.stops },
+    λ first before. asked first (asks first before),
+  )
+
   -- a file that ends reading from the root is refused
   pub file_refused : (root : List ℕ) (told : Fault) → (stops : StopsAt kind files [] (root ∷ []) told)
       → FileIsRefused kind files root (fetched_by kind (Stopped stops.read_before stops.name told)) told
   file_refused root told stops = record { read = stops.read_before; name = stops.name; stops = stops.stops; fetched_are = refl }
+
+  -- and these files were asked for
+  pub file_refused_asking : (root : List ℕ) (old new : Option CallPlan) (told : Fault) → StopsAsking kind files [] (root ∷ []) old new told
+      → GivesFetching (λ fetched. FileIsRefused kind files root fetched told) old new
+  file_refused_asking root old new told (stops, asked) =
+      (fetched_by kind (Stopped stops.read_before stops.name told), file_refused root told stops, asked old refl)
 
 -- ---- at the end
 
@@ -120,3 +157,13 @@ module _ {Said Fault : Type 0} (kind : FileKind Said Fault) (files : Files) wher
   rests_on_fetched by others (stop {read = read} {name = name} new gives) agree =
       stop new (by.same files others read name (agree (kind.file name)
       (Contains-append_right (files_of kind read) (kind.file name ∷ []) (kind.file name) (0, omega arith, refl))) ∙ gives)
+
+  -- and so does the refusal of a file
+  pub file_refused_rests : GivesByFile kind → (others : Files) (root : List ℕ) (fetched : List (List ℕ)) (told : Fault)
+      → FileIsRefused kind files root fetched told → AgreeOn fetched files others → FileIsRefused kind others root fetched told
+  file_refused_rests by others root fetched told refused agree = record {
+    read = refused.read;
+    name = refused.name;
+    stops = rests_on_fetched by others refused.stops (subst (λ (names : List (List ℕ)). AgreeOn names files others) refused.fetched_are agree);
+    fetched_are = refused.fetched_are;
+  }

@@ -1,7 +1,10 @@
 pub mod CauseLaws
+pub mod CountedLaws
 pub mod EffectLaws
 pub mod FetchLaws
 pub mod FileTreeLaws
 pub mod ProgressLaws
+pub mod RerunLaws
+pub mod SessionLaws
 pub mod StopLaws
 pub mod StoreLaws

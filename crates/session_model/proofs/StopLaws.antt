@@ -1,9 +1,10 @@
 -- What holds of a refusal.
 use Rattle.std.proofs.Common.{◌≡◌, subst, sym}
-use Rattle.std.specs.Prelude.{Result, Err}
+use Rattle.std.specs.Prelude.{Option, Result, Ok, Err}
+use Rattle.outside_io.specs.CallPlans.{CallPlan, told_after_call}
 use Rattle.session_model.specs.declared.stops.Stop.{Stop}
 use Rattle.session_model.specs.declared.stops.Stop.TheVariants.{Refused, Halted}
-use Rattle.session_model.specs.Stops.{IfRefusal, IfRefused}
+use Rattle.session_model.specs.Stops.{AsksOnce, IfRefusal, IfRefused}
 
 -- what holds of a refusal since another thing does
 pub refusal_weaker : {Fault : Type 0} (stop : Stop Fault) (P Q : Fault → Type 0) → ((told : Fault) → P told → Q told) → IfRefusal stop P → IfRefusal stop Q
@@ -15,6 +16,18 @@ pub refused_by : {T Fault : Type 0} (result : Result T (Stop Fault)) (stop : Sto
     → ((told : Fault) → P told → Q told) → IfRefusal stop P → IfRefused result Q
 refused_by {T} {Fault} result stop P Q is gives holds =
     subst (λ (r : Result T (Stop Fault)). IfRefused r Q) (sym is) (refusal_weaker stop P Q gives holds)
+
+-- the shelf was asked once, whatever came of it
+pub asks_once : {T Fault : Type 0} (old new : Option CallPlan) (result : Result T (Stop Fault)) → new ≡ told_after_call old → AsksOnce old new result
+asks_once old new (Ok value) asked = asked
+asks_once old new (Err (Refused told)) asked = asked
+asks_once old new (Err (Halted halt)) asked = tt
+
+-- it was asked once for what is refused
+pub refused_asking : (T : Type 0) {Fault : Type 0} (old new : Option CallPlan) (stop : Stop Fault) (P : Fault → Type 0) → IfRefusal stop P
+    → AsksOnce {T = T} old new (Err stop) → IfRefusal stop (λ told. P told × (new ≡ told_after_call old))
+refused_asking T old new (Refused told) P holds asked = (holds, asked)
+refused_asking T old new (Halted halt) P holds asked = tt
 
 -- the fault of a refusal
 pub refusal_told : {Fault : Type 0} (stop : Stop Fault) (fault : Fault) (P : Fault → Type 0) → stop ≡ Refused fault → IfRefusal stop P → P fault

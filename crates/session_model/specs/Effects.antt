@@ -1,5 +1,6 @@
 -- What a line of a script does.
-use Rattle.std.specs.Prelude.{ℕ, List, [], ◌++◌, fold}
+use Rattle.std.specs.Prelude.{◌≡◌, ◌++◌, ℕ, List, [], fold, Option}
+use Rattle.outside_io.specs.CallPlans.{CallPlan, told_after_call}
 use Rattle.outside_io.specs.Files.{Files, with_file}
 use Rattle.session_model.specs.declared.answer.Answer.{Answer}
 use Rattle.session_model.specs.declared.answer.Store.{Store}
@@ -17,21 +18,32 @@ pub record Effect (State : Type 0) : Type 0 where
 abbrev pub with_stores : Files → List Store → Files
 with_stores files stores = fold (λ files store. with_file files store.name store.bytes) files stores
 
--- nothing is done
-abbrev pub no_effect : {State : Type 0} → State → Effect State
-no_effect state = record { state = state; lines = []; stores = []; fetched = [] }
+-- the state after these effects in order
+abbrev pub state_after : {State : Type 0} → State → List (Effect State) → State
+state_after first effects = fold (λ state effect. effect.state) first effects
 
--- one effect and then another
-abbrev pub and_then : {State : Type 0} → Effect State → Effect State → Effect State
-and_then first rest = record {
-  state = rest.state;
-  lines = first.lines ++ rest.lines;
-  stores = first.stores ++ rest.stores;
-  fetched = first.fetched ++ rest.fetched;
-}
+-- what a shelf tells of its calls after one for each of these names: it counts them, and does not tell which names they were
+abbrev pub after_fetches : Option CallPlan → List (List ℕ) → Option CallPlan
+after_fetches plan names = fold (λ plan name. told_after_call plan) plan names
 
--- The answer, with the state after it, is what is meant, whichever names were fetched.
-abbrev pub Answers : {State : Type 0} → (Effect State → Type 0) → State → Answer → Type 0
-Answers Means state answer =
-    (fetched : List (List ℕ))
-    × Means (record { state = state; lines = answer.lines.items; stores = answer.stores.items; fetched = fetched })
+-- What is given is so for names that are fetched, and between the two plans as many files were asked for.
+abbrev pub GivesFetching : (List (List ℕ) → Type 0) → Option CallPlan → Option CallPlan → Type 0
+GivesFetching Gives old new = (fetched : List (List ℕ)) × Gives fetched × (new ≡ after_fetches old fetched)
+
+-- The answer, with the state after it, is what is meant, where these names are fetched.
+abbrev pub AnswersFetching : {State : Type 0} → List (List ℕ) → (Effect State → Type 0) → State → Answer → Type 0
+AnswersFetching fetched Means state answer =
+    Means (record { state = state; lines = answer.lines.items; stores = answer.stores.items; fetched = fetched })
+
+-- It is what is meant, and no file is fetched.
+abbrev pub AnswersAlone : {State : Type 0} → (Effect State → Type 0) → State → Answer → Type 0
+AnswersAlone Means state answer = AnswersFetching [] Means state answer
+
+-- It is what is meant, where names were fetched before, and between the two plans as many files were asked for as others are fetched.
+abbrev pub AnswersAfter : {State : Type 0} → List (List ℕ) → (Effect State → Type 0) → State → Answer → Option CallPlan → Option CallPlan → Type 0
+AnswersAfter before Means state answer old new =
+    (fetched : List (List ℕ)) × AnswersFetching (before ++ fetched) Means state answer × (new ≡ after_fetches old fetched)
+
+-- It is what is meant, and between the two plans as many files were asked for as names are fetched.
+abbrev pub Answers : {State : Type 0} → (Effect State → Type 0) → State → Answer → Option CallPlan → Option CallPlan → Type 0
+Answers Means state answer old new = AnswersAfter [] Means state answer old new

@@ -1,6 +1,8 @@
 -- Trees of files: what a file says leads to further names, whose files are read after it.
-use Rattle.std.specs.Prelude.{◌≡◌, ℕ, Bool, true, false, List, [], ◌∷◌, ◌++◌, map, Result, Ok, Err}
+use Rattle.std.specs.Prelude.{◌≡◌, ℕ, Bool, true, false, List, [], ◌∷◌, ◌++◌, map, Option, Result, Ok, Err}
 use Rattle.outside_io.specs.Files.{Files, bytes_of}
+use Rattle.outside_io.specs.CallPlans.{CallPlan}
+use Rattle.session_model.specs.Effects.{after_fetches}
 use Rattle.session_model.specs.Fetches.{AgreeOn}
 
 -- A kind of files, each of which says something: the file of a name; the names that are passed over where these were read; what a name's
@@ -49,6 +51,15 @@ pub record StopsAt {Said Fault : Type 0} (kind : FileKind Said Fault) (files : F
   pub read_before : List Said
   pub name : List ℕ
   pub stops : Reads kind files read left (Stopped read_before name told)
+
+-- Reading from here stops at a file that is refused. Where the shelf was called once for each file that was read before, it was then called
+-- once for each that reading asks for until it stops.
+abbrev pub StopsAsking : {Said Fault : Type 0} → FileKind Said Fault → Files → List Said → List (List ℕ) → Option CallPlan → Option CallPlan → Fault
+    → Type 0
+StopsAsking kind files read left old new told =
+    (stops : StopsAt kind files read left told)
+    × ((first : Option CallPlan) → old ≡ after_fetches first (files_of kind read)
+    → new ≡ after_fetches first (fetched_by kind (Stopped stops.read_before stops.name told)))
 
 -- Reading from the root stops at a file that is refused, and these files were asked for.
 pub record FileIsRefused {Said Fault : Type 0} (kind : FileKind Said Fault) (files : Files) (root : List ℕ) (fetched : List (List ℕ)) (told : Fault)

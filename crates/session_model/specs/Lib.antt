@@ -1,8 +1,11 @@
 pub mod Causes
+pub mod Counted
 pub mod Effects
 pub mod Fetches
 pub mod FileTrees
+pub mod Laws
 pub mod Progress
 pub mod Reports
+pub mod Reruns
 pub mod Scripts
 pub mod Stops

@@ -1,5 +1,6 @@
 -- What ends a reading of files before all of them are read: a refusal, or a halt.
 use Rattle.std.specs.Prelude.{◌≡◌, List, [], ◌∷◌, Option, Some, None, Result, Ok, Err}
+use Rattle.outside_io.specs.CallPlans.{CallPlan, told_after_call}
 use Rattle.session_model.specs.declared.answer.Halt.{Halt}
 use Rattle.session_model.specs.declared.answer.Halt.TheVariants.{Memory}
 use Rattle.session_model.specs.declared.report.Cause.{Cause}
@@ -19,6 +20,12 @@ answer_of (Err (Halted halt)) = Err halt
 abbrev pub kinds_of_told : {Fault : Type 0} → (Fault → Cause) → Option Fault → List LineKind
 kinds_of_told cause None = []
 kinds_of_told cause (Some told) = Refusal (cause told) ∷ []
+
+-- The shelf was asked once, unless a halt ended the call.
+abbrev pub AsksOnce : {T Fault : Type 0} → Option CallPlan → Option CallPlan → Result T (Stop Fault) → Type 0
+AsksOnce old new (Ok value) = new ≡ told_after_call old
+AsksOnce old new (Err (Refused told)) = new ≡ told_after_call old
+AsksOnce old new (Err (Halted halt)) = Unit {0}
 
 -- P, where this is a refusal
 abbrev pub IfRefusal : {Fault : Type 0} → Stop Fault → (Fault → Type 0) → Type 0

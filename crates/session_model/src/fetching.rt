@@ -1,5 +1,6 @@
 //! The files that commands ask for.
 ghost use Rattle.std.specs.Prelude.{◌≡◌, Some, IfOk};
+ghost use Rattle.outside_io.specs.CallPlans.{told_after_call};
 ghost use Rattle.outside_io.specs.Files.{Files};
 ghost use Rattle.session_model.specs.Causes.{HasCauses};
 ghost use Rattle.session_model.specs.Fetches.{FetchMeans, IsShort, kinds_of_fetched};
@@ -31,6 +32,7 @@ pub fn fetch_text<F: Shelf>(alloc: Global, shelf: &mut F, file: &Name) -> Result
     ensures effect { (files : Files) → F.files shelf.old ≡ Some files → IfOk result (FetchMeans files file.now) }
     ensures fits { IfOk result IsShort }
     ensures files { F.files shelf.new ≡ F.files shelf.old }
+    ensures asked { F.fetch_plan shelf.new ≡ told_after_call (F.fetch_plan shelf.old) }
     ensures causes { HasCauses F.Shelf shelf.old shelf.new kinds_of_fetched result }
 {
     match shelf.fetch(alloc, file) {

@@ -7,11 +7,15 @@
 //!
 //! # How the proof goes
 //!
-//! An effect is a list of report lines and a list of stores beside the new state, so two effects in a row append (`EffectLaws`).
-//! The loop in `run_lines` keeps one record, `UnderWay`: the lines so far, what they mean together, and that the report and the
-//! files are those of that effect. `ProgressLaws` has its three uses: it begins, it goes on by a line, and at the end, or where a
+//! What lines did is a list of effects, one for each, and what is reported, stored and fetched in all are the lists of these, joined
+//! (`EffectLaws`). The loop in `run_lines` keeps one record, `UnderWay`: the lines so far, the effects that they had, and that the report, the
+//! files and the count of fetches are those after them. `ProgressLaws` has its uses: it begins, it goes on by a line, and at the end, or where a
 //! line stops, it is how far the run came. Stores are made one by one, so a stop among them is found by going back over those
-//! that were made (`StoreLaws`). Counts rise from call to call; what rose in one call rose in the run (`CauseLaws`).
+//! that were made (`StoreLaws`). Refusals for files are counted line by line (`CountedLaws`), and what a halt comes from is passed on (`CauseLaws`).
+//!
+//! Where each line has one effect, the effects of the lines that were done are those that every session of the script begins with; so it was cut
+//! short in the next line (`SessionLaws`). Over other files that agree on what is fetched each line has the effect that it had, and files that
+//! differ only under names that are stored are one after all stores (`RerunLaws`).
 //!
 //! A reading of a tree of files is taken apart by its definition, case by case (`FileTreeLaws`). Each case but one is ruled out by whether the
 //! name is known and by what its file gives, so there is one end; and each file that decides a case is among those that are asked for.
@@ -20,6 +24,7 @@
 mod answer;
 mod fetching;
 mod file_trees;
+mod laws;
 mod report;
 mod running;
 mod session;
@@ -28,6 +33,10 @@ mod stops;
 pub use answer::{Answer, Halt, Store};
 pub use fetching::{FetchFault, Fetched, fetch_text};
 pub use file_trees::{reading_is_one, reading_rests_on_fetched};
+pub use laws::{
+    cut_short_is_made_good, refusals_are_counted_together, session_is_the_same_again,
+    what_is_cut_short_begins_the_whole,
+};
 pub use report::{Cause, LineKind, ReportLine, is_told, report_text};
 pub use running::{run_lines, write_text};
 pub use session::Session;

@@ -1,12 +1,14 @@
 use Rattle.std.proofs.Common.{◌∙◌, [], ◌∷◌, sym, ap}
 use Rattle.std.proofs.lemmas.Result.{IfOk-weaker}
-use Rattle.session_model.specs.FileTrees.{StopsAt}
+use Rattle.session_model.specs.Effects.{GivesFetching}
+use Rattle.session_model.specs.FileTrees.{StopsAsking}
 use Rattle.session_model.proofs.StopLaws.{refusal_told}
 use Rattle.cell_library.specs.Libraries.{seen}
 use Rattle.cell_library.specs.Views.{cell_named}
 use Rattle.cell_loading.specs.Arrivals.{Arrives}
 use Rattle.cell_loading.specs.Loads.{LoadGives}
 use Rattle.cell_loading.specs.Readings.{cell_files}
+use Rattle.cell_loading.specs.Walks.{files_read}
 use Rattle.cell_loading.proofs.ArrivalLaws.{arrived, file_refuses}
 use Rattle.cell_loading.proofs.KnownLaws.{new_is_not_among, not_named}
 use Rattle.cell_loading.proofs.loading.load_cells.Goals as goal
@@ -21,14 +23,21 @@ returns-in-Ok-clause-effect g c files told =
     let unknown = not_named c.args.library.now c.args.root.now c.find.result
     (c.find.ensures ∙ ap (cell_named (seen c.args.library.now)) c.bytes.ensures) (sym c.is_some.ensures ∙ c.if-is_some.false) in
     IfOk-weaker c.add_cells.result (Arrives c.args.library.now c.add_cells.new.library c.in-Ok.cells.items)
-    (LoadGives files c.args.library.now c.add_cells.new.library c.args.root.now)
-    (λ given came. arrived files c.args.library.now c.add_cells.new.library c.args.root.now c.in-Ok.cells.items given unknown
-    (c.in-Ok.ensures.read files told) came) c.add_cells.ensures.arrives
+    (λ given. GivesFetching (LoadGives files c.args.library.now c.add_cells.new.library c.args.root.now given) (g.F.Shelf.fetch_plan c.args.shelf.now)
+    (g.F.Shelf.fetch_plan c.read_below.new.shelf))
+    (λ given came. (
+      files_read c.in-Ok.cells.items,
+      arrived files c.args.library.now c.add_cells.new.library c.args.root.now c.in-Ok.cells.items given unknown (c.in-Ok.ensures.read files told) came,
+      c.in-Ok.ensures.asked,
+    )) c.add_cells.ensures.arrives
 
 pub returns-in-Err-Refused-clause-effect : goal.returns-in-Err-Refused-clause-effect
 returns-in-Err-Refused-clause-effect g c files told =
     let unknown = not_named c.args.library.now c.args.root.now c.find.result
     (c.find.ensures ∙ ap (cell_named (seen c.args.library.now)) c.bytes.ensures) (sym c.is_some.ensures ∙ c.if-is_some.false) in
-    file_refuses files c.args.library.now c.args.root.now c.in-Err-Refused.fault unknown
-    (refusal_told c.in-Err-Refused.field-0 c.in-Err-Refused.fault (StopsAt (cell_files (seen c.args.library.now)) files [] (c.args.root.now ∷ []))
-    c.in-Err-Refused.field-0-is (c.in-Err-Refused.ensures.refused files told))
+    let plan = g.F.Shelf.fetch_plan c.args.shelf.now in
+    let now = g.F.Shelf.fetch_plan c.read_below.new.shelf in
+    file_refuses files c.args.library.now c.args.root.now plan now c.in-Err-Refused.fault unknown
+    (refusal_told c.in-Err-Refused.field-0 c.in-Err-Refused.fault
+    (StopsAsking (cell_files (seen c.args.library.now)) files [] (c.args.root.now ∷ []) plan now) c.in-Err-Refused.field-0-is
+    (c.in-Err-Refused.ensures.refused files told))

@@ -1,15 +1,17 @@
-use Rattle.std.proofs.Common.{◌∙◌, [], ◌∷◌, arith}
+use Rattle.std.proofs.Common.{◌∙◌, ℕ, List, [], ◌∷◌, sym, ap, arith}
 use Rattle.std.specs.Prelude.{None}
-use Rattle.session_model.specs.FileTrees.{StopsAt}
+use Rattle.session_model.specs.FileTrees.{StopsAsking}
 use Rattle.session_model.specs.Stops.{kinds_of_told}
 use Rattle.session_model.proofs.FetchLaws.{calm_from, calm_then}
-use Rattle.session_model.proofs.FileTreeLaws.{stops_later}
+use Rattle.session_model.proofs.FileTreeLaws.{stops_asking_later}
 use Rattle.session_model.proofs.StopLaws.{refusal_weaker}
+use Rattle.session_model.specs.Effects.{after_fetches}
+use Rattle.cell_bodies.specs.declared.bodies.CellBody.{CellBody}
 use Rattle.cell_library.specs.Libraries.{seen}
 use Rattle.cell_loading.specs.Loads.{cause_of_load}
 use Rattle.cell_loading.specs.Readings.{cell_files}
-use Rattle.cell_loading.specs.Walks.{names_left}
-use Rattle.cell_loading.proofs.ReadingLaws.{goes_on_then}
+use Rattle.cell_loading.specs.Walks.{files_read, names_left}
+use Rattle.cell_loading.proofs.ReadingLaws.{files_same, goes_on_then}
 use Rattle.cell_loading.proofs.WalkLaws.{all_are_read, all_came, none_left, so_far_at_root}
 use Rattle.cell_loading.proofs.loading.read_below.Goals as goal
 
@@ -27,6 +29,7 @@ steps-preserved g c = record {
   calm = calm_then g.F.Shelf c.args.shelf.now c.steps.shelf c.step.new.shelf c.steps.invariant.calm
       (calm_from g.F.Shelf c.steps.shelf c.step.new.shelf (kinds_of_told cause_of_load) None c.in_default-step.ensures.causes);
   files = c.step.ensures.files ∙ c.steps.invariant.files;
+  asked = c.in_default-step.ensures.asked (g.F.Shelf.fetch_plan c.args.shelf.now) c.steps.invariant.asked;
   goes_on = λ files told.
       let here = c.steps.invariant.goes_on files told in
       goes_on_then files (seen c.args.library.now) [] (c.args.root.now ∷ []) (names_left c.steps.walk.cells c.steps.walk.frames.items)
@@ -39,9 +42,20 @@ returns-in-Err-step-clause-refused g c files told =
     let view = seen c.args.library.now in
     let here = c.steps.invariant.goes_on files told in
     let left = names_left c.steps.walk.cells c.steps.walk.frames.items in
-    refusal_weaker c.in-Err-step.stop (StopsAt (cell_files view) files here.read_after left) (StopsAt (cell_files view) files [] (c.args.root.now ∷ []))
-    (λ fault stops. stops_later (cell_files view) files [] here.read_after (c.args.root.now ∷ []) left fault here.leads stops)
+    let old = g.F.Shelf.fetch_plan c.args.shelf.now in
+    let middle = g.F.Shelf.fetch_plan c.steps.shelf in
+    let new = g.F.Shelf.fetch_plan c.step.new.shelf in
+    let files_are = files_same view here.read_after c.steps.walk.cells here.are_bodies in
+    refusal_weaker c.in-Err-step.stop (StopsAsking (cell_files view) files here.read_after left middle new)
+    (StopsAsking (cell_files view) files [] (c.args.root.now ∷ []) old new)
+    (λ fault stops. stops_asking_later (cell_files view) files [] here.read_after (c.args.root.now ∷ []) left old middle new fault here.leads
+    (λ first asked. c.steps.invariant.asked ∙ (λ i. after_fetches (asked i) (sym files_are i))) stops)
     (c.in-Err-step.ensures.stops files here.read_after (c.steps.invariant.files ∙ told) here.are_bodies)
+
+pub returns-clause-asked : goal.returns-clause-asked
+returns-clause-asked g c =
+    c.steps.invariant.asked ∙ ap (λ (cells : List (List ℕ × CellBody)). after_fetches (g.F.Shelf.fetch_plan c.args.shelf.now) (files_read cells))
+    (sym c.into_vec.ensures)
 
 pub returns-clause-read : goal.returns-clause-read
 returns-clause-read g c files told =

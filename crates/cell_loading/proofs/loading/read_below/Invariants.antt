@@ -1,8 +1,9 @@
 use Rattle.std.proofs.Common.{◌≡◌, ◌<◌, [], ◌∷◌, length, Some}
 use Rattle.outside_io.specs.Files.{Files}
 use Rattle.session_model.specs.Causes.{IsCalm}
+use Rattle.session_model.specs.Effects.{after_fetches}
 use Rattle.cell_library.specs.Libraries.{seen}
-use Rattle.cell_loading.specs.Walks.{names_left, work_left, AreFrames, AreSoFar, GoesOnToBodies}
+use Rattle.cell_loading.specs.Walks.{files_read, names_left, work_left, AreFrames, AreSoFar, GoesOnToBodies}
 use Rattle.cell_loading.proofs.loading.read_below.Given as goal
 
 abbrev pub invariant-steps : goal.invariant-steps
@@ -11,6 +12,7 @@ invariant-steps g l = record {
   frames : AreFrames (length l.walk.cells) l.walk.frames.items;
   some : 0 < length l.walk.cells;
   calm : IsCalm g.F.Shelf l.fn.shelf l.shelf;
+  asked : g.F.Shelf.fetch_plan l.shelf ≡ after_fetches (g.F.Shelf.fetch_plan l.fn.shelf) (files_read l.walk.cells);
   files : g.F.Shelf.files l.shelf ≡ g.F.Shelf.files l.fn.shelf;
   goes_on : (files : Files) → g.F.Shelf.files l.fn.shelf ≡ Some files
       → GoesOnToBodies files (seen l.library) [] (l.root ∷ []) l.walk.cells (names_left l.walk.cells l.walk.frames.items);

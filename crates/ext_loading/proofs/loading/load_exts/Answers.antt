@@ -1,6 +1,7 @@
 use Rattle.std.proofs.Common.{[], ◌∷◌, inr, subst, sym, List, ℕ}
 use Rattle.std.proofs.lemmas.Result.{IfOk-weaker}
-use Rattle.session_model.specs.FileTrees.{StopsAt}
+use Rattle.session_model.specs.Effects.{GivesFetching}
+use Rattle.session_model.specs.FileTrees.{StopsAsking, files_of}
 use Rattle.session_model.proofs.StopLaws.{refusal_told}
 use Rattle.ext_loading.specs.declared.faults.ExtLoadFault.{ExtLoadFault}
 use Rattle.ext_loading.specs.Loads.{IsFitTree, LoadGives, LoadIsRefused}
@@ -15,8 +16,14 @@ give_tree-requires g c = children_are_cells c.in-Ok.read (λ ext name there used
 
 pub returns-in-Ok-clause-effect : goal.returns-in-Ok-clause-effect
 returns-in-Ok-clause-effect g c files told =
-    IfOk-weaker c.give_tree.result (GivesTree c.in-Ok.read) (LoadGives files c.args.root.now)
-    (λ given gives. tree_given files c.args.root.now c.in-Ok.read given (c.in-Ok.ensures.read files told) gives) c.give_tree.ensures.given
+    let old = g.F.Shelf.fetch_plan c.args.shelf.now in
+    let new = g.F.Shelf.fetch_plan c.read_below.new.shelf in
+    IfOk-weaker c.give_tree.result (GivesTree c.in-Ok.read) (λ given. GivesFetching (LoadGives files c.args.root.now given) old new)
+    (λ given gives. (
+      files_of circuit_files c.in-Ok.read,
+      tree_given files c.args.root.now c.in-Ok.read given (c.in-Ok.ensures.read files told) gives,
+      c.in-Ok.ensures.asked,
+    )) c.give_tree.ensures.given
 
 pub returns-in-Ok-clause-fit : goal.returns-in-Ok-clause-fit
 returns-in-Ok-clause-fit g c =
@@ -25,7 +32,9 @@ returns-in-Ok-clause-fit g c =
 
 pub returns-in-Err-Refused-clause-effect : goal.returns-in-Err-Refused-clause-effect
 returns-in-Err-Refused-clause-effect g c files told =
-    subst (λ (fault : ExtLoadFault). (fetched : List (List ℕ)) × LoadIsRefused files c.args.root.now fetched fault) (sym c.in-Err-Refused.fault-is)
-    (file_refuses files c.args.root.now c.in-Err-Refused.fault
-    (refusal_told c.in-Err-Refused.field-0 c.in-Err-Refused.fault (StopsAt circuit_files files [] (c.args.root.now ∷ [])) c.in-Err-Refused.field-0-is
-    (c.in-Err-Refused.ensures.refused files told)))
+    let old = g.F.Shelf.fetch_plan c.args.shelf.now in
+    let new = g.F.Shelf.fetch_plan c.read_below.new.shelf in
+    subst (λ (fault : ExtLoadFault). GivesFetching (λ fetched. LoadIsRefused files c.args.root.now fetched fault) old new) (sym c.in-Err-Refused.fault-is)
+    (file_refuses files c.args.root.now old new c.in-Err-Refused.fault
+    (refusal_told c.in-Err-Refused.field-0 c.in-Err-Refused.fault (StopsAsking circuit_files files [] (c.args.root.now ∷ []) old new)
+    c.in-Err-Refused.field-0-is (c.in-Err-Refused.ensures.refused files told)))

@@ -1,11 +1,13 @@
 use Rattle.std.proofs.Common.{◌≡◌, ◌∙◌, [], ◌∷◌, sym, ap, subst, List, ℕ, arith}
-use Rattle.std.specs.Prelude.{reverse, None, Err}
+use Rattle.std.specs.Prelude.{reverse, Option, None, Err}
 use Rattle.std.proofs.lemmas.List.{nil_from_length}
 use Rattle.std.proofs.lemmas.Result.{err_from_is_err_and}
-use Rattle.session_model.specs.FileTrees.{All, GoesOn, Reads, StopsAt, end}
+use Rattle.outside_io.specs.CallPlans.{CallPlan}
+use Rattle.session_model.specs.Effects.{after_fetches}
+use Rattle.session_model.specs.FileTrees.{All, GoesOn, Reads, StopsAsking, end, files_of}
 use Rattle.session_model.specs.Stops.{kinds_of_told}
 use Rattle.session_model.proofs.FetchLaws.{calm_from, calm_then}
-use Rattle.session_model.proofs.FileTreeLaws.{stops_later}
+use Rattle.session_model.proofs.FileTreeLaws.{stops_asking_later}
 use Rattle.session_model.proofs.StopLaws.{refused_by}
 use Rattle.ext_loading.specs.Loads.{cause_of_load}
 use Rattle.ext_loading.specs.Readings.{circuit_files}
@@ -22,6 +24,7 @@ names-preserved g c =
       calm = calm_then g.F.Shelf c.args.shelf.now c.names.shelf c.visit.new.shelf c.names.invariant.calm
           (calm_from g.F.Shelf c.names.shelf c.visit.new.shelf (kinds_of_told cause_of_load) None c.in_ok-visit.ensures.causes);
       files = c.visit.ensures.files ∙ c.names.invariant.files;
+      asked = c.in_ok-visit.ensures.asked (g.F.Shelf.fetch_plan c.args.shelf.now) c.names.invariant.asked;
       goes_on = λ files told reading rest.
           subst (λ (left : List (List ℕ)). GoesOn circuit_files files [] (c.args.root.now ∷ []) c.names.walk.read left) next
           (c.names.invariant.goes_on files told) reading
@@ -36,9 +39,14 @@ returns-in_err-visit-clause-refused g c files told =
     let here = subst (λ (left : List (List ℕ)). GoesOn circuit_files files [] (c.args.root.now ∷ []) c.names.walk.read left) next
     (c.names.invariant.goes_on files told) in
     let told_on = err_from_is_err_and c.from_residual-in_err-visit.result c.from_residual-in_err-visit.ensures.1 in
-    refused_by c.from_residual-in_err-visit.result c.in_err-visit.field-0.0 (StopsAt circuit_files files c.names.walk.read (c.in-Some.name ∷ left))
-    (StopsAt circuit_files files [] (c.args.root.now ∷ [])) (told_on.1 ∙ ap Err told_on.2)
-    (λ fault stops. stops_later circuit_files files [] c.names.walk.read (c.args.root.now ∷ []) (c.in-Some.name ∷ left) fault here stops)
+    let old = g.F.Shelf.fetch_plan c.args.shelf.now in
+    let middle = g.F.Shelf.fetch_plan c.names.shelf in
+    let new = g.F.Shelf.fetch_plan c.visit.new.shelf in
+    refused_by c.from_residual-in_err-visit.result c.in_err-visit.field-0.0
+    (StopsAsking circuit_files files c.names.walk.read (c.in-Some.name ∷ left) middle new)
+    (StopsAsking circuit_files files [] (c.args.root.now ∷ []) old new) (told_on.1 ∙ ap Err told_on.2)
+    (λ fault stops. stops_asking_later circuit_files files [] c.names.walk.read (c.args.root.now ∷ []) (c.in-Some.name ∷ left) old middle new fault here
+    (λ first asked. c.names.invariant.asked ∙ ap (λ (plan : Option CallPlan). after_fetches plan (files_of circuit_files c.names.walk.read)) asked) stops)
     (c.in_err-visit.ensures.stops files (c.names.invariant.files ∙ told))
 
 pub returns-clause-read : goal.returns-clause-read

@@ -2,7 +2,8 @@ use Rattle.std.proofs.Common.{◌≡◌, [], ◌∷◌, Some}
 use Rattle.std.specs.Prelude.{reverse}
 use Rattle.outside_io.specs.Files.{Files}
 use Rattle.session_model.specs.Causes.{IsCalm}
-use Rattle.session_model.specs.FileTrees.{GoesOn}
+use Rattle.session_model.specs.Effects.{after_fetches}
+use Rattle.session_model.specs.FileTrees.{GoesOn, files_of}
 use Rattle.ext_loading.specs.Readings.{circuit_files}
 use Rattle.ext_loading.specs.Trees.{work_left, AreSoFar}
 use Rattle.ext_loading.proofs.loading.read_below.Given as goal
@@ -11,6 +12,7 @@ abbrev pub invariant-names : goal.invariant-names
 invariant-names g l = record {
   so_far : AreSoFar l.root l.walk.read (reverse l.walk.left.items);
   calm : IsCalm g.F.Shelf l.fn.shelf l.shelf;
+  asked : g.F.Shelf.fetch_plan l.shelf ≡ after_fetches (g.F.Shelf.fetch_plan l.fn.shelf) (files_of circuit_files l.walk.read);
   files : g.F.Shelf.files l.shelf ≡ g.F.Shelf.files l.fn.shelf;
   goes_on : (files : Files) → g.F.Shelf.files l.fn.shelf ≡ Some files
       → GoesOn circuit_files files [] (l.root ∷ []) l.walk.read (reverse l.walk.left.items);

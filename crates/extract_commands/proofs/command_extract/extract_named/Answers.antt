@@ -24,7 +24,7 @@ returns-in-Some-clause-effect c =
     λ work cell effect. ExtractsCell c.args.name.now work cell effect ⊎ RefusesUnclean c.args.number work [] cell effect in
     IfOk-weaker c.extract_found.result _ _
     (λ answer means. answers_on_cell c.args.number (edited_state c.args.edited.now) c.args.name.now Means
-    (Some (edited_state c.extract_found.new.edited)) c.in-Some.cell.0 answer named means)
+    (Some (edited_state c.extract_found.new.edited)) c.in-Some.cell.0 answer [] named means)
     c.extract_found.ensures.effect
 
 pub returns-in-None-clause-effect : goal.returns-in-None-clause-effect

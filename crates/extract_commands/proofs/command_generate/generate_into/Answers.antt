@@ -2,7 +2,7 @@ use Rattle.std.proofs.Common.{◌∙◌, ℕ, [], Some, ap, length, subst}
 use Rattle.std.proofs.lemmas.Int.{to_z-of_z}
 use Rattle.std.specs.Int.RustNames.{unsigned_abs}
 use Rattle.std.proofs.lemmas.Result.{IfOk-weaker}
-use Rattle.session_model.specs.Effects.{Answers}
+use Rattle.session_model.specs.Effects.{AnswersAlone}
 use Rattle.extract_commands.specs.declared.command_generate.MadeStack.{MadeStack}
 use Rattle.workspace.specs.KeptSessions.{edited_state}
 use Rattle.extract_commands.specs.CommandGenerate.{GeneratesStack}
@@ -25,7 +25,7 @@ returns-in-Made-clause-effect c =
     let after : State = Some (edited_state c.run_extracted.new.edited) in
     let came = subst (λ (made : MadeStack). IsStackMade n work now made) c.in-Made.is c.in_ok-cell.ensures.made in
     IfOk-weaker c.run_extracted.result _ _
-    (λ answer runs. subst (λ (rows : ℕ). Answers (GeneratesStack c.args.budget c.args.number rows work) after answer) rows_are
+    (λ answer runs. subst (λ (rows : ℕ). AnswersAlone (GeneratesStack c.args.budget c.args.number rows work) after answer) rows_are
     (stack_made c.args.budget c.args.number n work now c.in-Made.cell.0 after answer came runs))
     (c.run_extracted.ensures.effect [])
 
@@ -37,6 +37,6 @@ returns-in-Refused-clause-effect c =
     let rows_are = c.rows_of-n.ensures.rows ∙ ap unsigned_abs (to_z-of_z _ _ c.ranges.count) in
     let is = subst (λ (made : MadeStack). IsStackMade n work now made) c.in-Refused.is c.in_ok-cell.ensures.made in
     both_ok c.refuse_generate.result _ _ _
-    (λ answer lines stores. subst (λ (rows : ℕ). Answers (GeneratesStack c.args.budget c.args.number rows work) (Some now) answer) rows_are
+    (λ answer lines stores. subst (λ (rows : ℕ). AnswersAlone (GeneratesStack c.args.budget c.args.number rows work) (Some now) answer) rows_are
     (stack_refused c.args.budget c.args.number n work now c.in-Refused.fault answer is.0 is.1 lines stores))
     c.refuse_generate.ensures.lines c.refuse_generate.ensures.stores

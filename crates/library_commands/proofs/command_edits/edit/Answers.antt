@@ -1,6 +1,6 @@
 use Rattle.std.proofs.Common.{◌≡◌, [], ◌∷◌, Some, sym, subst, rules}
 use Rattle.std.specs.Prelude.{codes}
-use Rattle.session_model.specs.Effects.{Answers}
+use Rattle.session_model.specs.Effects.{AnswersAlone}
 use Rattle.edit_script.specs.Editing.{editing_of}
 use Rattle.edit_script.specs.Refusals.{ApplyIsRefused}
 use Rattle.workspace.proofs.RecordLaws.{agrees_same}
@@ -29,7 +29,7 @@ returns-in_ok-ok-in-Ok-clause-effect c =
     let state : state_of c.args.session.now ≡ Some (edited_state c.in-Some.edited) = search rules in
     let lines : c.told.result.lines.items ≡ reply (codes "ok") ∷ [] = search rules in
     subst
-    (λ (s : State). Answers (EditMeans c.args.number s c.args.command.now)
+    (λ (s : State). AnswersAlone (EditMeans c.args.number s c.args.command.now)
     (Some (workspace_of c.apply.new.library c.apply.new.current c.in-Some.edited.cache)) c.told.result)
     (sym state)
     (edit_done c.args.number c.in-Some.edited.library c.apply.new.library c.in-Some.edited.current c.apply.new.current c.in-Some.edited.cache
@@ -59,7 +59,7 @@ returns-in-Err-clause-effect c =
     let refused : ApplyIsRefused (editing_of c.in-Some.edited.library c.in-Some.edited.current) c.args.command.now c.in-Err.fault = search rules in
     both_ok c.refuse_edit.result _ _ _
     (λ answer lines stores. subst
-    (λ (s : State). Answers (EditMeans c.args.number s c.args.command.now)
+    (λ (s : State). AnswersAlone (EditMeans c.args.number s c.args.command.now)
     (Some (workspace_of c.apply.new.library c.apply.new.current c.in-Some.edited.cache)) answer)
     (sym state)
     (edit_refused c.args.number c.in-Some.edited.library c.apply.new.library c.in-Some.edited.current c.apply.new.current c.in-Some.edited.cache

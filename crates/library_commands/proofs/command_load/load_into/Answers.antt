@@ -1,5 +1,6 @@
 use Rattle.std.proofs.Common.{◌≡◌, [], ◌∷◌, subst, rules}
 use Rattle.session_model.specs.declared.answer.Answer.{Answer}
+use Rattle.session_model.specs.Effects.{GivesFetching}
 use Rattle.cell_library.specs.Libraries.{IsSame}
 use Rattle.cell_loading.specs.declared.loading.Loaded.{Loaded}
 use Rattle.cell_loading.specs.Arrivals.{ArriveWithStamps}
@@ -38,13 +39,19 @@ pub returns-in_ok-lines-in-Cells-clause-effect : goal.returns-in_ok-lines-in-Cel
 returns-in_ok-lines-in-Cells-clause-effect g c files told =
     let old = c.args.edited.now.library in
     let new = c.load_cells.new.library in
-    let h = subst (λ (given : Loaded). LoadGives files old new c.args.cell.now given) c.in-Cells.is (c.in_ok-count.ensures.effect files told) in
+    let plan = g.F.Shelf.fetch_plan c.args.shelf.now in
+    let now = g.F.Shelf.fetch_plan c.load_cells.new.shelf in
+    let (fetched, (next, is_loaded), asked) = subst (λ (given : Loaded). GivesFetching (LoadGives files old new c.args.cell.now given) plan now) c.in-Cells.is
+    (c.in_ok-count.ensures.effect files told) in
     let came = subst (λ (given : Loaded). ArriveWithStamps old new given) c.in-Cells.is c.in_ok-count.ensures.stamped in
     let answer : Answer = c.told.result in
-    let lines : answer.lines.items ≡ reply (loaded_text c.args.cell.now c.in-Cells.count) ∷ [] = search rules in
-    load_done c.args.number old new c.args.edited.now.current c.args.edited.now.cache c.cell_count-first.result files c.args.cell.now c.in-Cells.count h.1.0
-    answer (dirty_cells old new c.args.edited.now.cache came.0 c.lawful.ensures came.1 c.requires.edited.agrees)
-    h.1.1 h.0 c.cell_count-first.ensures lines c.told.ensures.stores
+    let lines : answer.lines.items ≡ reply (loaded_text c.args.cell.now c.in-Cells.count) ∷ [] = search rules in (
+      fetched,
+      load_done c.args.number old new c.args.edited.now.current c.args.edited.now.cache c.cell_count-first.result files c.args.cell.now c.in-Cells.count fetched
+          answer (dirty_cells old new c.args.edited.now.cache came.0 c.lawful.ensures came.1 c.requires.edited.agrees)
+          is_loaded next c.cell_count-first.ensures lines c.told.ensures.stores,
+      asked,
+    )
 
 pub returns-in_ok-lines-in-Cells-clause-kept : goal.returns-in_ok-lines-in-Cells-clause-kept
 returns-in_ok-lines-in-Cells-clause-kept g c =
@@ -61,11 +68,18 @@ pub returns-in-Refused-clause-effect : goal.returns-in-Refused-clause-effect
 returns-in-Refused-clause-effect g c files told =
     let old = c.args.edited.now.library in
     let new = c.load_cells.new.library in
-    let h = subst (λ (given : Loaded). LoadGives files old new c.args.cell.now given) c.in-Refused.is (c.in_ok-count.ensures.effect files told) in
+    let plan = g.F.Shelf.fetch_plan c.args.shelf.now in
+    let now = g.F.Shelf.fetch_plan c.load_cells.new.shelf in
+    let (fetched, is_refused, asked) = subst (λ (given : Loaded). GivesFetching (LoadGives files old new c.args.cell.now given) plan now) c.in-Refused.is
+    (c.in_ok-count.ensures.effect files told) in
     let same : IsSame old new = subst (λ (given : Loaded). KeepsIfRefused old new given) c.in-Refused.is c.in_ok-count.ensures.kept in
     both_ok c.refuse_load.result _ _ _
-    (λ answer lines stores. load_refused c.args.number old new c.args.edited.now.current c.args.edited.now.cache files c.args.cell.now c.in-Refused.fault h.0
-    answer same h.1 lines stores)
+    (λ answer lines stores. (
+      fetched,
+      load_refused c.args.number old new c.args.edited.now.current c.args.edited.now.cache files c.args.cell.now c.in-Refused.fault fetched answer same
+          is_refused lines stores,
+      asked,
+    ))
     c.refuse_load.ensures.lines c.refuse_load.ensures.stores
 
 pub returns-in-Refused-clause-kept : goal.returns-in-Refused-clause-kept

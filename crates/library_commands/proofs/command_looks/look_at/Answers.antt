@@ -1,7 +1,7 @@
 use Rattle.std.proofs.Common.{◌≡◌, [], Some, refl, rules, sym, subst}
 use Rattle.std.specs.Prelude.{IfOk}
 use Rattle.std.proofs.lemmas.Result.{IfOk-weaker}
-use Rattle.session_model.specs.Effects.{Answers}
+use Rattle.session_model.specs.Effects.{AnswersAlone}
 use Rattle.cell_library.specs.Libraries.{seen}
 use Rattle.cell_library.specs.Views.{cell_named}
 use Rattle.edit_script.proofs.CellLaws.{found_there}
@@ -21,9 +21,8 @@ returns-clause-effect c =
     let edited = c.in-Some.edited in
     let named : cell_named (seen edited.library) c.args.name.now ≡ Some c.in-Some-find.cell.0 = search rules in
     let state : state_of c.args.session.now ≡ Some (edited_state edited) = search rules in
-    subst (λ (s : State). IfOk c.tell.result (Answers (LookMeans c.args.at c.args.number s c.args.name.now) s)) (sym state)
+    subst (λ (s : State). IfOk c.tell.result (AnswersAlone (LookMeans c.args.at c.args.number s c.args.name.now) s)) (sym state)
     (IfOk-weaker c.tell.result _ _
     (λ answer tells. answers_on_cell c.args.number (edited_state edited) c.args.name.now (LooksAt c.args.at c.args.name.now) (Some (edited_state edited))
-    c.in-Some-find.cell.0 answer named
-    ([], record { lines = answer.lines.items; stores = answer.stores.items; tells = tells; is = refl }))
+    c.in-Some-find.cell.0 answer [] named (record { lines = answer.lines.items; stores = answer.stores.items; tells = tells; is = refl }))
     c.tell.ensures.tells)

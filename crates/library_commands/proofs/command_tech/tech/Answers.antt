@@ -1,4 +1,4 @@
-use Rattle.std.proofs.Common.{◌≡◌, Ok, Err, None, subst, rules}
+use Rattle.std.proofs.Common.{[], ◌∷◌, ◌≡◌, Ok, Err, None, subst, rules}
 use Rattle.std.proofs.lemmas.Result.{IfOk-weaker}
 use Rattle.session_model.specs.declared.fetching.Fetched.{Fetched}
 use Rattle.session_model.specs.Fetches.{FetchMeans, text_in}
@@ -14,8 +14,12 @@ returns-in-Text-clause-effect g c files told =
     let none : c.args.session.now.edited ≡ None = search rules in
     let file : c.in_ok-file.file ≡ tech_file c.args.name.now = search rules in
     IfOk-weaker c.accept_tech.result _ _
-    (λ answer is. tech_read c.args.number c.args.session.now c.accept_tech.new.session files c.args.name.now c.in_ok-file.file c.in-Text.text.items
-    answer none file there is)
+    (λ answer is. (
+      c.in_ok-file.file ∷ [],
+      tech_read c.args.number c.args.session.now c.accept_tech.new.session files c.args.name.now c.in_ok-file.file c.in-Text.text.items answer none file there
+          is,
+      c.fetch_text.ensures.asked,
+    ))
     (rw c.deref.ensures.value at c.accept_tech.ensures.effect)
 
 pub returns-in-Refused-clause-effect : goal.returns-in-Refused-clause-effect
@@ -25,6 +29,9 @@ returns-in-Refused-clause-effect g c files told =
     let none : c.args.session.now.edited ≡ None = search rules in
     let file : c.in_ok-file.file ≡ tech_file c.args.name.now = search rules in
     both_ok c.refuse_file.result _ _ _
-    (λ answer lines stores. tech_file_refused c.args.number c.args.session.now files c.args.name.now c.in_ok-file.file c.in-Refused.fault answer none file there
-    lines stores)
+    (λ answer lines stores. (
+      tech_file c.args.name.now ∷ [],
+      tech_file_refused c.args.number c.args.session.now files c.args.name.now c.in_ok-file.file c.in-Refused.fault answer none file there lines stores,
+      c.fetch_text.ensures.asked,
+    ))
     c.refuse_file.ensures.lines c.refuse_file.ensures.stores

@@ -1,19 +1,23 @@
 use Rattle.std.proofs.Common.{◌≡◌, ◌∙◌, sym, ap, subst, refl, List, [], ◌∷◌, map, ◌≤◌, ◌<◌, Global, Err, Option, Some, None, string_bytes, ℕ, length, rules}
 use Rattle.std.proofs.Common.{arith}
 use Rattle.std.specs.Prelude.{is_some}
+use Rattle.text_scan.specs.Lines.{lines_of}
 use Rattle.outside_io.specs.Counts.{Rose}
 use Rattle.outside_io.specs.ToldBytes.{ToldBytes, with_back}
 use Rattle.outside_io.specs.declared.faults.ReadAllFault.{ReadAllFault}
 use Rattle.outside_io.specs.declared.limits.TheConstants.{LONGEST_FILE}
 use Rattle.run_words.specs.declared.words.RunWords.{RunWords}
 use Rattle.run_words.specs.RunWords.{words_of}
-use Rattle.session_model.proofs.CauseLaws.{no_refusals}
 use Rattle.session_model.specs.Reports.{text_of}
-use Rattle.magex_top.specs.declared.status.Status.{Status}
-use Rattle.magex_top.specs.Runs.{RunMeans, ScriptMeans, ScriptReaches, usage_text}
+use Rattle.session_model.specs.Progress.{Progress}
+use Rattle.session_model.specs.Scripts.{lines_in}
+use Rattle.session_model.proofs.CountedLaws.{none_counted}
+use Rattle.magex_top.specs.declared.status.Status.TheVariants.{Memory, ReadFault, ScriptTooLong, WriteFault}
+use Rattle.magex_top.specs.Runs.{IsScriptSession, long_session, usage_session, usage_text}
+use Rattle.magex_top.specs.Sessions.{RunLineMeans, first_run}
 use Rattle.line_answers.specs.LineEffects.{reply}
 use Rattle.magex_top.proofs.RunLaws.{long_run, nothing, nothing_more, nothing_reached, nothing_written, script_reached, script_run, script_written, something}
-use Rattle.magex_top.proofs.RunLaws.{usage_comes, usage_reached, usage_run, usage_written}
+use Rattle.magex_top.proofs.RunLaws.{usage_counted, usage_reached, usage_run, usage_written}
 use Rattle.magex_top.proofs.top_call.run.Goals as goal
 
 -- ---- words that are not of the form
@@ -24,19 +28,20 @@ returns-in-Ok-None-clause-meaning g c text before files text_told told files_tol
     let none : words_of words ≡ None = search rules in
     let h = c.write_usage.ensures.meaning ends in
     let lines = reply usage_text ∷ [] in (
-      lines,
-      files,
-      subst (λ (status : Status). RunMeans words text files lines files status) (sym h.0) (usage_run words text files none),
+      usage_session,
+      usage_run words text files none,
+      h.0,
       usage_written words _ before lines none (h.1 ∙ ap (λ (t : ToldBytes). with_back t (text_of lines)) told),
       files_told,
-      usage_comes g.F.Shelf c.args.shelf.now c.args.shelf.now,
+      refl,
+      usage_counted g.F.Shelf c.args.shelf.now,
     )
 
 pub returns-in-Ok-None-clause-beginning : goal.returns-in-Ok-None-clause-beginning
 returns-in-Ok-None-clause-beginning g c text before files text_told told files_told =
     let words = map (string_bytes {Z = Global}) c.args.words.now in
     let none : words_of words ≡ None = search rules in
-    let Fails = Rose (g.F.Shelf.store_faults c.args.shelf.now) (g.F.Shelf.store_faults c.args.shelf.now) in
+    let Fails = (c.write_usage.result ≡ WriteFault) × Rose (g.F.Shelf.store_faults c.args.shelf.now) (g.F.Shelf.store_faults c.args.shelf.now) in
     let h = c.write_usage.ensures.beginning before told in
     (h.0, files, usage_reached words text files Fails h.0 none h.1, h.2, files_told)
 
@@ -80,14 +85,15 @@ returns-in-Ok-clause-meaning g c text before files text_told told files_told end
     let read : c.in-Ok.text.items ≡ text = rw text_told at c.in-Ok.ensures.all in
     let within : length c.in-Ok.text.items ≤ LONGEST_FILE = omega (arith, c.in-Ok.ensures.within, c.in-Ok.text.ok.0) in
     let fits = subst (λ (t : List ℕ). length t ≤ LONGEST_FILE) read within in
-    let h = c.run_script.ensures.meaning before files told files_told ends in
-    let means = subst (λ (t : List ℕ). ScriptMeans asked t files h.0 h.1 c.run_script.result) (c.deref.ensures.value ∙ read) h.2 in (
-      h.0,
-      h.1,
-      script_run words asked text files h.0 h.1 c.run_script.result is fits means,
-      script_written words asked _ before h.0 is h.3,
-      h.4,
-      h.5,
+    let (session, means, ends_so, reported, stored, asked_for, came) = c.run_script.ensures.meaning before files told files_told ends in
+    let is_session = subst (λ (t : List ℕ). IsScriptSession asked.budget t files session) (c.deref.ensures.value ∙ read) means in (
+      session,
+      script_run words asked text files session is fits is_session,
+      ends_so,
+      script_written words asked _ before (lines_in session.acts) is reported,
+      stored,
+      asked_for,
+      came,
     )
 
 pub returns-in-Ok-clause-beginning : goal.returns-in-Ok-clause-beginning
@@ -98,9 +104,10 @@ returns-in-Ok-clause-beginning g c text before files text_told told files_told =
     let read : c.in-Ok.text.items ≡ text = rw text_told at c.in-Ok.ensures.all in
     let within : length c.in-Ok.text.items ≤ LONGEST_FILE = omega (arith, c.in-Ok.ensures.within, c.in-Ok.text.ok.0) in
     let fits = subst (λ (t : List ℕ). length t ≤ LONGEST_FILE) read within in
-    let Fails = Rose (g.F.Shelf.store_faults c.args.shelf.now) (g.F.Shelf.store_faults c.run_script.new.shelf) in
+    let Fails = (c.run_script.result ≡ WriteFault) × Rose (g.F.Shelf.store_faults c.args.shelf.now) (g.F.Shelf.store_faults c.run_script.new.shelf) in
     let h = c.run_script.ensures.beginning before files told files_told in
-    let reached = subst (λ (t : List ℕ). ScriptReaches asked t files Fails h.0 h.1) (c.deref.ensures.value ∙ read) h.2 in
+    let reached = subst (λ (t : List ℕ). Progress RunLineMeans asked.quiet Fails (first_run asked.budget) files (lines_of t) h.0 h.1)
+    (c.deref.ensures.value ∙ read) h.2 in
     (h.0, h.1, script_reached words asked text files Fails h.0 h.1 is fits reached, h.3, h.4)
 
 -- a text that was read within the limit is not too long
@@ -122,12 +129,13 @@ returns-in-Err-TooLong-clause-meaning g c text before files text_told told files
     let words = map (string_bytes {Z = Global}) c.args.words.now in
     let is : words_of words ≡ Some c.in-Ok-Some.asked = search rules in
     let long = rw text_told at (c.in-Err-TooLong.ensures.too_long (ap (λ (f : ReadAllFault). Err f) c.in-Err-TooLong.field-0-is)) in (
-      [],
-      files,
+      long_session,
       long_run words c.in-Ok-Some.asked text files is long,
+      refl,
       nothing_written words _ before told,
       files_told,
-      no_refusals g.F.Shelf c.args.shelf.now c.args.shelf.now,
+      refl,
+      none_counted g.F.Shelf c.args.shelf.now,
     )
 
 pub returns-in-Err-TooLong-clause-too_long : goal.returns-in-Err-TooLong-clause-too_long
@@ -139,23 +147,23 @@ returns-in-Err-TooLong-clause-too_long g c long =
 pub returns-in-Err-TooLong-clause-beginning : goal.returns-in-Err-TooLong-clause-beginning
 returns-in-Err-TooLong-clause-beginning g c text before files text_told told files_told =
     let words = map (string_bytes {Z = Global}) c.args.words.now in
-    let Fails = Rose (g.F.Shelf.store_faults c.args.shelf.now) (g.F.Shelf.store_faults c.args.shelf.now) in
+    let Fails = (ScriptTooLong ≡ WriteFault) × Rose (g.F.Shelf.store_faults c.args.shelf.now) (g.F.Shelf.store_faults c.args.shelf.now) in
     ([], files, nothing_reached words text files Fails, nothing_more _ before told, files_told)
 
 pub returns-in-Err-Failed-clause-beginning : goal.returns-in-Err-Failed-clause-beginning
 returns-in-Err-Failed-clause-beginning g c text before files text_told told files_told =
     let words = map (string_bytes {Z = Global}) c.args.words.now in
-    let Fails = Rose (g.F.Shelf.store_faults c.args.shelf.now) (g.F.Shelf.store_faults c.args.shelf.now) in
+    let Fails = (ReadFault ≡ WriteFault) × Rose (g.F.Shelf.store_faults c.args.shelf.now) (g.F.Shelf.store_faults c.args.shelf.now) in
     ([], files, nothing_reached words text files Fails, nothing_more _ before told, files_told)
 
 pub returns-in-Err-Memory-clause-beginning : goal.returns-in-Err-Memory-clause-beginning
 returns-in-Err-Memory-clause-beginning g c text before files text_told told files_told =
     let words = map (string_bytes {Z = Global}) c.args.words.now in
-    let Fails = Rose (g.F.Shelf.store_faults c.args.shelf.now) (g.F.Shelf.store_faults c.args.shelf.now) in
+    let Fails = (Memory ≡ WriteFault) × Rose (g.F.Shelf.store_faults c.args.shelf.now) (g.F.Shelf.store_faults c.args.shelf.now) in
     ([], files, nothing_reached words text files Fails, nothing_more _ before told, files_told)
 
 pub returns-in-Err-clause-beginning : goal.returns-in-Err-clause-beginning
 returns-in-Err-clause-beginning g c text before files text_told told files_told =
     let words = map (string_bytes {Z = Global}) c.args.words.now in
-    let Fails = Rose (g.F.Shelf.store_faults c.args.shelf.now) (g.F.Shelf.store_faults c.args.shelf.now) in
+    let Fails = (Memory ≡ WriteFault) × Rose (g.F.Shelf.store_faults c.args.shelf.now) (g.F.Shelf.store_faults c.args.shelf.now) in
     ([], files, nothing_reached words text files Fails, nothing_more _ before told, files_told)

@@ -1,14 +1,17 @@
-use Rattle.std.proofs.Common.{◌≡◌, ◌∙◌, sym, refl, subst, Bool, true, false, if◌then◌else◌}
-use Rattle.text_scan.specs.Lines.{lines_of}
+use Rattle.std.proofs.Common.{◌≡◌, ◌∙◌, sym, ap, refl, Bool, true, false, if◌then◌else◌}
+use Rattle.std.specs.Prelude.{Ok, Err}
 use Rattle.outside_io.specs.Counts.{Rose}
-use Rattle.session_model.specs.Effects.{with_stores}
+use Rattle.session_model.specs.declared.answer.Halt.{Halt}
+use Rattle.session_model.specs.declared.answer.Halt.TheVariants as halt
+use Rattle.session_model.specs.Causes.{StoreFailed}
 use Rattle.session_model.specs.Reports.{is_told}
-use Rattle.session_model.specs.Scripts.{LinesMean}
-use Rattle.magex_top.specs.declared.status.Status.TheVariants.{Done, Told}
+use Rattle.session_model.specs.Scripts.{lines_in}
+use Rattle.magex_top.specs.declared.status.Status.{Status}
+use Rattle.magex_top.specs.declared.status.Status.TheVariants.{Done, Told, WriteFault}
 use Rattle.library_commands.specs.Workspace.KeptSessions.{state_of}
-use Rattle.magex_top.specs.Sessions.{RunLineMeans, RunState}
-use Rattle.library_commands.specs.Workspace.States.{State}
-use Rattle.magex_top.proofs.RunLaws.{calm_read, calm_write, reached_from_first}
+use Rattle.magex_top.specs.Sessions.{RunState, first_run}
+use Rattle.magex_top.specs.Statuses.{status_of}
+use Rattle.magex_top.proofs.RunLaws.{calm_read, calm_write, reached_from_first, session_from_first}
 use Rattle.magex_top.proofs.top_call.run_script.Goals as goal
 
 told_status : (told holds : Bool) → holds ≡ told → holds ≡ true → Told ≡ (if told then Told else Done)
@@ -19,53 +22,64 @@ done_status told holds is quiet = rw (sym is ∙ quiet) refl
 
 pub returns-in-Ok-true-clause-meaning : goal.returns-in-Ok-true-clause-meaning
 returns-in-Ok-true-clause-meaning g c before files told files_told ends =
-    let h = c.in-Ok-true.ensures.effect before files told files_told in
-    let means = subst (λ (s : State). LinesMean RunLineMeans 1 (record { session = s; budget = c.args.asked.budget }) files (lines_of c.args.text.now) h.0)
-    c.new_session.ensures.state h.1 in (
-      h.0.lines,
-      with_stores files h.0.stores,
-      (h.0, means, refl, refl, told_status (is_told h.0.lines) c.in-Ok-true.field-0 h.4 c.in-Ok-true.field-0-test),
-      h.2,
-      h.3,
-      h.5,
+    let (acts, means, reported, stored, tells, asked, came) = c.in-Ok-true.ensures.effect before files told files_told in
+    let first : RunState = record { session = state_of c.new_session.result; budget = c.args.asked.budget } in (
+      record { acts = acts; status = Told },
+      session_from_first c.args.asked first c.args.text.now files acts Told
+          (λ i. record { session = c.new_session.ensures.state i; budget = c.args.asked.budget }) means
+          (told_status (is_told (lines_in acts)) c.in-Ok-true.field-0 tells c.in-Ok-true.field-0-test),
+      refl,
+      reported,
+      stored,
+      asked,
+      came,
     )
 
 pub returns-in-Ok-false-clause-meaning : goal.returns-in-Ok-false-clause-meaning
 returns-in-Ok-false-clause-meaning g c before files told files_told ends =
-    let h = c.in-Ok-false.ensures.effect before files told files_told in
-    let means = subst (λ (s : State). LinesMean RunLineMeans 1 (record { session = s; budget = c.args.asked.budget }) files (lines_of c.args.text.now) h.0)
-    c.new_session.ensures.state h.1 in (
-      h.0.lines,
-      with_stores files h.0.stores,
-      (h.0, means, refl, refl, done_status (is_told h.0.lines) c.in-Ok-false.field-0 h.4 c.in-Ok-false.field-0-test),
-      h.2,
-      h.3,
-      h.5,
+    let (acts, means, reported, stored, tells, asked, came) = c.in-Ok-false.ensures.effect before files told files_told in
+    let first : RunState = record { session = state_of c.new_session.result; budget = c.args.asked.budget } in (
+      record { acts = acts; status = Done },
+      session_from_first c.args.asked first c.args.text.now files acts Done
+          (λ i. record { session = c.new_session.ensures.state i; budget = c.args.asked.budget }) means
+          (done_status (is_told (lines_in acts)) c.in-Ok-false.field-0 tells c.in-Ok-false.field-0-test),
+      refl,
+      reported,
+      stored,
+      asked,
+      came,
     )
 
 pub returns-in-Ok-true-clause-beginning : goal.returns-in-Ok-true-clause-beginning
 returns-in-Ok-true-clause-beginning g c before files told files_told =
-    let Fails = Rose (g.F.Shelf.store_faults c.args.shelf.now) (g.F.Shelf.store_faults c.run_lines.new.shelf) in
+    let Fails = StoreFailed {T = Bool} g.F.Shelf c.args.shelf.now c.run_lines.new.shelf (Ok c.in-Ok-true.field-0) in
+    let Others = (Told ≡ WriteFault) × Rose (g.F.Shelf.store_faults c.args.shelf.now) (g.F.Shelf.store_faults c.run_lines.new.shelf) in
     let first : RunState = record { session = state_of c.new_session.result; budget = c.args.asked.budget } in
-    reached_from_first c.args.asked first c.args.text.now files Fails before (g.K.Sink.written c.run_lines.new.report)
+    reached_from_first c.args.asked first c.args.text.now files Fails Others before (g.K.Sink.written c.run_lines.new.report)
     (g.F.Shelf.files c.run_lines.new.shelf) (λ i. record { session = c.new_session.ensures.state i; budget = c.args.asked.budget })
-    (c.run_lines.ensures.progress before files told files_told)
+    (λ (is, rose). (let no : ⊥ = cc in absurd no, rose)) (c.in-Ok-true.ensures.progress before files told files_told)
 
 pub returns-in-Ok-false-clause-beginning : goal.returns-in-Ok-false-clause-beginning
 returns-in-Ok-false-clause-beginning g c before files told files_told =
-    let Fails = Rose (g.F.Shelf.store_faults c.args.shelf.now) (g.F.Shelf.store_faults c.run_lines.new.shelf) in
+    let Fails = StoreFailed {T = Bool} g.F.Shelf c.args.shelf.now c.run_lines.new.shelf (Ok c.in-Ok-false.field-0) in
+    let Others = (Done ≡ WriteFault) × Rose (g.F.Shelf.store_faults c.args.shelf.now) (g.F.Shelf.store_faults c.run_lines.new.shelf) in
     let first : RunState = record { session = state_of c.new_session.result; budget = c.args.asked.budget } in
-    reached_from_first c.args.asked first c.args.text.now files Fails before (g.K.Sink.written c.run_lines.new.report)
+    reached_from_first c.args.asked first c.args.text.now files Fails Others before (g.K.Sink.written c.run_lines.new.report)
     (g.F.Shelf.files c.run_lines.new.shelf) (λ i. record { session = c.new_session.ensures.state i; budget = c.args.asked.budget })
-    (c.run_lines.ensures.progress before files told files_told)
+    (λ (is, rose). (let no : ⊥ = cc in absurd no, rose)) (c.in-Ok-false.ensures.progress before files told files_told)
+
+-- a halt for a write ends a run so
+status_is : (h : Halt) (status : Status) → status ≡ status_of h → ◌≡◌ {A = Halt} h halt.WriteFault → status ≡ WriteFault
+status_is h status is same = is ∙ ap status_of same
 
 pub returns-clause-beginning : goal.returns-clause-beginning
 returns-clause-beginning g c before files told files_told =
-    let Fails = Rose (g.F.Shelf.store_faults c.args.shelf.now) (g.F.Shelf.store_faults c.run_lines.new.shelf) in
+    let Fails = StoreFailed {T = Bool} g.F.Shelf c.args.shelf.now c.run_lines.new.shelf (Err c.in-Err.halt) in
+    let Others = (c.from.result ≡ WriteFault) × Rose (g.F.Shelf.store_faults c.args.shelf.now) (g.F.Shelf.store_faults c.run_lines.new.shelf) in
     let first : RunState = record { session = state_of c.new_session.result; budget = c.args.asked.budget } in
-    reached_from_first c.args.asked first c.args.text.now files Fails before (g.K.Sink.written c.run_lines.new.report)
+    reached_from_first c.args.asked first c.args.text.now files Fails Others before (g.K.Sink.written c.run_lines.new.report)
     (g.F.Shelf.files c.run_lines.new.shelf) (λ i. record { session = c.new_session.ensures.state i; budget = c.args.asked.budget })
-    (c.run_lines.ensures.progress before files told files_told)
+    (λ (is, rose). (status_is c.in-Err.halt c.from.result c.from.ensures (cc), rose)) (c.in-Err.ensures.progress before files told files_told)
 
 pub returns-clause-calm_report : goal.returns-clause-calm_report
 returns-clause-calm_report g c = calm_write Bool c.in-Err.halt c.from.result _ c.in-Err.ensures.causes.calm_report c.from.ensures

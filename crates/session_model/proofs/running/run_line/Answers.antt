@@ -1,10 +1,12 @@
 use Rattle.std.proofs.Common.{◌≡◌, inl, inr, List, ℕ, [], append-nil, sym, ap, ◌∙◌, refl, subst, Some}
+use Rattle.std.specs.Prelude.{Bool, Err}
 use Rattle.outside_io.specs.Counts.{Rose}
-use Rattle.session_model.specs.Causes.{ComeFrom, line_kinds}
-use Rattle.session_model.specs.Effects.{Effect}
-use Rattle.session_model.specs.Progress.{DoesPart}
+use Rattle.session_model.specs.Causes.{ComeFrom, StoreFailed, line_kinds}
+use Rattle.session_model.specs.Effects.{Effect, after_fetches}
 use Rattle.session_model.specs.Reports.{is_told}
-use Rattle.session_model.proofs.ProgressLaws.{on_err-given}
+use Rattle.session_model.specs.declared.answer.Halt.TheVariants.{WriteFault}
+use Rattle.session_model.proofs.CauseLaws.{passed_on_as}
+use Rattle.session_model.proofs.ProgressLaws.{DoesPart-weaker, on_err-given}
 use Rattle.session_model.proofs.running.run_line.Goals as goal
 
 pub returns-in_err-answer-clause-stopped : goal.returns-in_err-answer-clause-stopped
@@ -24,9 +26,16 @@ returns-in_err-carry_out-clause-stopped g c before files told files_told =
     let stopped = c.in_err-carry_out.ensures.some before files told (c.answer_line.ensures.files ∙ files_told) in
     let effect : Effect g.S.Session.State = record
     { state = g.S.Session.state c.answer_line.new.self; lines = answer.lines.items; stores = answer.stores.items; fetched = means.0 } in
-    let part = subst (λ (n : ℕ). DoesPart c.args.quiet (Rose n (g.F.Shelf.store_faults c.carry_out.new.shelf)) files answer.lines.items
-    answer.stores.items stopped.0 stopped.1) c.answer_line.ensures.causes.no_store stopped.2 in
-    on_err-given c.from_residual-in_err-carry_out.result (stopped.0, stopped.1, inr (effect, means.1, part), stopped.3, stopped.4)
+    let Fails = StoreFailed {T = Unit {0}} g.F.Shelf c.answer_line.new.shelf c.carry_out.new.shelf (Err c.in_err-carry_out.field-0.0) in
+    let Failed = StoreFailed g.F.Shelf c.args.shelf.now c.carry_out.new.shelf c.from_residual-in_err-carry_out.result in
+    let part = DoesPart-weaker c.args.quiet Fails Failed
+    (λ (is, rose). (
+      passed_on_as (Unit {0}) Bool c.from_residual-in_err-carry_out.result c.in_err-carry_out.field-0.0 WriteFault
+          c.from_residual-in_err-carry_out.ensures.1 is,
+      subst (λ (n : ℕ). Rose n (g.F.Shelf.store_faults c.carry_out.new.shelf)) c.answer_line.ensures.causes.no_store rose,
+    ))
+    files answer.lines.items answer.stores.items stopped.0 stopped.1 stopped.2 in
+    on_err-given c.from_residual-in_err-carry_out.result (stopped.0, stopped.1, inr (effect, ((c.args.session.now, c.requires, refl), means.1), part), stopped.3, stopped.4)
 
 pub returns-clause-effect : goal.returns-clause-effect
 returns-clause-effect g c before files told files_told =
@@ -41,4 +50,5 @@ returns-clause-effect g c before files told files_told =
       absent = λ some. subst (λ (n : ℕ). Rose (g.F.Shelf.absences c.args.shelf.now) n) (sym c.carry_out.ensures.no_absence) (refusals.absent some);
       too_long = λ some. subst (λ (n : ℕ). Rose (g.F.Shelf.overlengths c.args.shelf.now) n) (sym c.carry_out.ensures.no_overlength) (refusals.too_long some);
     } in
-    (effect, means.1, refl, done.0, done.1, tells, came)
+    let asked : g.F.Shelf.fetch_plan c.carry_out.new.shelf ≡ after_fetches (g.F.Shelf.fetch_plan c.args.shelf.now) means.0 = c.carry_out.ensures.no_fetch_call ∙ means.2 in
+    (effect, ((c.args.session.now, c.requires, refl), means.1), refl, done.0, done.1, tells, asked, came)

@@ -1,7 +1,8 @@
+use Rattle.session_model.specs.Counted.{AreCounted}
 use Rattle.std.proofs.Common.{◌≡◌, ◌≤◌, ◌+◌, ℕ, List, Some, length}
 use Rattle.text_scan.specs.Lines.{lines_of}
 use Rattle.outside_io.specs.Files.{Files}
-use Rattle.session_model.specs.Causes.{ComeFrom, line_kinds}
+use Rattle.session_model.specs.Scripts.{MeansInSound, acts_of, answers_in}
 use Rattle.session_model.proofs.ProgressLaws.{UnderWay}
 use Rattle.session_model.proofs.running.run_lines.Given as goal
 
@@ -15,7 +16,8 @@ invariant-loop-line g l = record {
   more_absences : g.F.Shelf.absences l.fn.shelf ≤ g.F.Shelf.absences l.shelf;
   more_overlengths : g.F.Shelf.overlengths l.fn.shelf ≤ g.F.Shelf.overlengths l.shelf;
   way : (before : List ℕ) (files : Files) → g.K.Sink.written l.fn.report ≡ Some before → g.F.Shelf.files l.fn.shelf ≡ Some files
-      → (way : UnderWay g.S.Session.means l.quiet (g.S.Session.state l.fn.session) files before (lines_of l.text)
+      → (way : UnderWay (MeansInSound g.S.Session.state g.S.Session.is_sound g.S.Session.means) l.quiet (g.S.Session.state l.fn.session) files before
+      (g.F.Shelf.fetch_plan l.fn.shelf) (g.F.Shelf.fetch_plan l.shelf) (lines_of l.text)
       (g.S.Session.state l.session) (g.F.Shelf.files l.shelf) (g.K.Sink.written l.report) l.number l.told l.line-iterator)
-      × ComeFrom g.F.Shelf l.fn.shelf l.shelf (line_kinds way.done.lines);
+      × AreCounted g.F.Shelf l.fn.shelf l.shelf (answers_in (acts_of way.done));
 }

@@ -1,13 +1,16 @@
 use Rattle.std.proofs.Common.{◌≡◌, ◌∷◌}
 use Rattle.finite_sets.proofs.Searches.{on_ok_both}
-use Rattle.session_model.specs.FileTrees.{StopsAt}
-use Rattle.session_model.proofs.StopLaws.{refusal_weaker}
+use Rattle.std.proofs.lemmas.Result.{on_ok_weaker}
+use Rattle.outside_io.specs.CallPlans.{told_after_call}
+use Rattle.session_model.specs.FileTrees.{StopsAsking}
+use Rattle.session_model.proofs.StopLaws.{refusal_weaker, refused_asking}
+use Rattle.cell_bodies.specs.declared.bodies.CellBody.{CellBody}
 use Rattle.cell_library.specs.Libraries.{seen}
 use Rattle.cell_loading.specs.CellFiles.{file_gives}
 use Rattle.cell_loading.specs.Readings.{cell_files}
 use Rattle.cell_loading.specs.Walks.{names_left}
 use Rattle.cell_loading.proofs.ReadingLaws.{stops_here}
-use Rattle.cell_loading.proofs.WalkLaws.{read_few, read_frames, read_goes_on, read_pushed, read_so_far}
+use Rattle.cell_loading.proofs.WalkLaws.{asked_for_cell, read_few, read_frames, read_goes_on, read_pushed, read_so_far}
 use Rattle.std.specs.Prelude.{Err}
 use Rattle.cell_loading.proofs.walks.Walk.read.Goals as goal
 
@@ -15,10 +18,20 @@ pub returns-in-Err-clause-stops : goal.returns-in-Err-clause-stops
 returns-in-Err-clause-stops g c files read told are =
     let view = seen c.args.library.now in
     let cells = c.args.self.now.cells in
-    refusal_weaker c.in-Err.stop (λ told. file_gives files view read c.args.name ≡ Err told)
-    (StopsAt (cell_files view) files read (c.args.name ∷ names_left cells c.args.self.now.frames.items))
-    (λ fault gives. stops_here files view read cells c.args.name (names_left cells c.args.self.now.frames.items) fault are c.requires.new gives)
-    (c.in-Err.ensures.refused files read told are)
+    let old = g.F.Shelf.fetch_plan c.args.shelf.now in
+    let new = g.F.Shelf.fetch_plan c.read_cell_file.new.shelf in
+    refusal_weaker c.in-Err.stop (λ told. (file_gives files view read c.args.name ≡ Err told) × (new ≡ told_after_call old))
+    (StopsAsking (cell_files view) files read (c.args.name ∷ names_left cells c.args.self.now.frames.items) old new)
+    (λ fault (gives, once).
+    stops_here files view read cells c.args.name (names_left cells c.args.self.now.frames.items) old new fault are c.requires.new gives once)
+    (refused_asking CellBody old new c.in-Err.stop (λ told. file_gives files view read c.args.name ≡ Err told) (c.in-Err.ensures.refused files read told are)
+    c.in-Err.ensures.asked)
+
+pub returns-in-Ok-clause-asked : goal.returns-in-Ok-clause-asked
+returns-in-Ok-clause-asked g c =
+    on_ok_weaker c.add.result (λ cells_are first asked. asked_for_cell first (g.F.Shelf.fetch_plan c.args.shelf.now)
+    (g.F.Shelf.fetch_plan c.read_cell_file.new.shelf) c.args.self.now.cells c.add.new.self.cells c.args.name c.in-Ok.body cells_are c.in-Ok.ensures.asked asked)
+    c.add.ensures.cells
 
 pub returns-in-Ok-clause-so_far : goal.returns-in-Ok-clause-so_far
 returns-in-Ok-clause-so_far g c =

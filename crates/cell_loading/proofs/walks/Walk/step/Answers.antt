@@ -1,7 +1,8 @@
-use Rattle.std.proofs.Common.{List, ℕ, sym, subst}
+use Rattle.std.proofs.Common.{List, ℕ, ◌∙◌, ap, sym, subst}
+use Rattle.session_model.specs.Effects.{after_fetches}
 use Rattle.cell_bodies.specs.declared.bodies.CellBody.{CellBody}
 use Rattle.cell_library.specs.Libraries.{seen}
-use Rattle.cell_loading.specs.Walks.{names_left, AreSoFar, GoesOnToBodies}
+use Rattle.cell_loading.specs.Walks.{files_read, names_left, AreSoFar, GoesOnToBodies}
 use Rattle.cell_loading.proofs.LeftLaws.{none_taken}
 use Rattle.cell_loading.proofs.WalkLaws.{stepped_goes_on, stepped_so_far}
 use Rattle.cell_loading.proofs.walks.Walk.step.Goals as goal
@@ -26,3 +27,6 @@ returns-in-None-clause-goes_on g c files read told are =
     (sym c.advance.ensures.cells)
     (stepped_goes_on files view read cells left after
     (none_taken view cells left after _ c.in-None.is c.in_ok-name.ensures.taken) are)
+
+pub returns-in-None-clause-asked : goal.returns-in-None-clause-asked
+returns-in-None-clause-asked g c first asked = asked ∙ ap (λ (cells : List (List ℕ × CellBody)). after_fetches first (files_read cells)) (sym c.advance.ensures.cells)

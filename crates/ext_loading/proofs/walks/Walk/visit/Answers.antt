@@ -1,10 +1,14 @@
-use Rattle.std.proofs.Common.{◌≡◌, ◌∙◌, ◌∷◌, ap, sym}
+use Rattle.std.proofs.Common.{◌≡◌, ◌∙◌, ◌∷◌, ap, sym, List}
 use Rattle.std.specs.Prelude.{reverse, Err}
-use Rattle.std.proofs.lemmas.Result.{err_from_is_err_and}
+use Rattle.std.proofs.lemmas.Result.{err_from_is_err_and, on_ok_weaker}
 use Rattle.finite_sets.proofs.Searches.{on_ok_both}
-use Rattle.session_model.specs.FileTrees.{StopsAt}
-use Rattle.session_model.proofs.FileTreeLaws.{goes_past, stops_here}
-use Rattle.session_model.proofs.StopLaws.{refused_by}
+use Rattle.outside_io.specs.CallPlans.{told_after_call}
+use Rattle.outside_io.specs.Files.{no_files}
+use Rattle.session_model.specs.Effects.{after_fetches}
+use Rattle.session_model.specs.FileTrees.{StopsAsking, files_of}
+use Rattle.session_model.proofs.FileTreeLaws.{asked_for_one, goes_past, stops_asking_here}
+use Rattle.session_model.proofs.StopLaws.{refused_asking, refused_by}
+use Rattle.ext_model.specs.declared.arrays.ArrayExt.{ArrayExt}
 use Rattle.ext_loading.specs.ExtFiles.{file_gives, is_read}
 use Rattle.ext_loading.specs.Readings.{circuit_files}
 use Rattle.ext_loading.proofs.ReadingLaws.{goes_on_by, so_far_passed, so_far_read}
@@ -41,8 +45,23 @@ returns-in_err-ext-clause-stops g c files told =
     let read = c.args.self.now.read in
     let left = reverse c.args.self.now.left.items in
     let told_on = err_from_is_err_and c.from_residual.result c.from_residual.ensures.1 in
-    refused_by c.from_residual.result c.in_err-ext.field-0.0 (λ told. file_gives files read c.args.name ≡ Err told)
-    (StopsAt circuit_files files read (c.args.name ∷ left)) (told_on.1 ∙ ap Err told_on.2)
-    (λ fault gives. stops_here circuit_files files read c.args.name left fault
-    (ap (is_read read) (sym c.bytes.ensures) ∙ sym c.has.ensures ∙ c.if-has.false) gives)
-    (c.in_err-ext.ensures.refused files told)
+    let old = g.F.Shelf.fetch_plan c.args.shelf.now in
+    let new = g.F.Shelf.fetch_plan c.read_ext_file.new.shelf in
+    refused_by c.from_residual.result c.in_err-ext.field-0.0 (λ told. (file_gives files read c.args.name ≡ Err told) × (new ≡ told_after_call old))
+    (StopsAsking circuit_files files read (c.args.name ∷ left) old new) (told_on.1 ∙ ap Err told_on.2)
+    (λ fault (gives, once). stops_asking_here circuit_files files read c.args.name left old new fault
+    (ap (is_read read) (sym c.bytes.ensures) ∙ sym c.has.ensures ∙ c.if-has.false) gives once)
+    (refused_asking ArrayExt old new c.in_err-ext.field-0.0 (λ told. file_gives files read c.args.name ≡ Err told) (c.in_err-ext.ensures.refused files told)
+    c.in_err-ext.ensures.asked)
+
+pub returns-then-has-clause-asked : goal.returns-then-has-clause-asked
+returns-then-has-clause-asked g c = λ first asked. asked
+
+pub returns-clause-asked : goal.returns-clause-asked
+returns-clause-asked g c =
+    let read = c.args.self.now.read in
+    let old = g.F.Shelf.fetch_plan c.args.shelf.now in
+    let new = g.F.Shelf.fetch_plan c.read_ext_file.new.shelf in
+    on_ok_weaker c.add.result (λ read_is first asked. asked_for_one circuit_files no_files first old new read c.in_ok-ext.ext c.in_ok-ext.ensures.asked asked
+    ∙ ap (λ (exts : List ArrayExt). after_fetches first (files_of circuit_files exts)) (sym read_is))
+    c.add.ensures.read

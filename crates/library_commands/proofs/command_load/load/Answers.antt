@@ -1,0 +1,15 @@
+use Rattle.std.proofs.Common.{◌≡◌, Some, IfOk, sym, subst, rules}
+use Rattle.session_model.specs.Effects.{Answers}
+use Rattle.workspace.specs.KeptSessions.{edited_state, state_of}
+use Rattle.workspace.specs.States.{State}
+use Rattle.library_commands.specs.CommandLoad.{LoadMeans}
+use Rattle.library_commands.proofs.command_load.load.Goals as goal
+
+pub returns-in-Some-clause-effect : goal.returns-in-Some-clause-effect
+returns-in-Some-clause-effect g c files told =
+    let state : state_of c.args.session.now ≡ Some (edited_state c.in-Some.edited) = search rules in
+    subst
+    (λ (s : State). IfOk c.load_into.result (λ answer.
+    Answers (LoadMeans c.args.number s files c.args.cell.now) (Some (edited_state c.load_into.new.edited)) answer
+    (g.F.Shelf.fetch_plan c.args.shelf.now) (g.F.Shelf.fetch_plan c.load_into.new.shelf)))
+    (sym state) (c.load_into.ensures.effect files told)

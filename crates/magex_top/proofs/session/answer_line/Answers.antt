@@ -1,0 +1,18 @@
+use Rattle.std.proofs.Common.{◌≡◌, Option, Some, IfOk, sym, subst, rules}
+use Rattle.std.specs.Prelude.{Result, Ok}
+use Rattle.session_model.specs.Effects.{Answers}
+use Rattle.script_lines.specs.declared.commands.Command.{Command}
+use Rattle.script_lines.specs.declared.faults.LineFault.{LineFault}
+use Rattle.script_lines.specs.Commands.{command_of}
+use Rattle.library_commands.specs.Workspace.KeptSessions.{state_of}
+use Rattle.magex_top.specs.Sessions.{ReadLineMeans}
+use Rattle.magex_top.proofs.session.answer_line.Goals as goal
+
+pub returns-in-Ok-Some-clause-effect : goal.returns-in-Ok-Some-clause-effect
+returns-in-Ok-Some-clause-effect g c files told =
+    let is : command_of c.args.line.now ≡ Ok (Some c.in-Ok-Some.command) = search rules in
+    subst
+    (λ (read : Result (Option Command) LineFault). IfOk c.answer.result (λ answer.
+    Answers (ReadLineMeans c.args.budget c.args.number (state_of c.args.session.now) files read) (state_of c.answer.new.session) answer
+    (g.F.Shelf.fetch_plan c.args.shelf.now) (g.F.Shelf.fetch_plan c.answer.new.shelf)))
+    (sym is) (c.answer.ensures.effect files told)
