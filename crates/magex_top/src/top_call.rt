@@ -37,7 +37,7 @@ pub fn run<S: Source, K: Sink, F: Shelf, L: Ledger>(
 ) -> Status
     // A run that ends by itself is its session: it reports the session's lines, leaves the files after its stores, makes as many
     // fetches as it fetches names, and ends with its status. For each line that is refused since a file is not there, or is too long,
-    // the shelf's count of such answers rose.
+    // the shelf's count of such answers rose by one at least, or it stands at its last value.
     ensures meaning { (text before : List ℕ) (files : Files) →
         S.left script.old ≡ Some text → K.written report.old ≡ Some before → F.files shelf.old ≡ Some files →
         EndsByItself result → (session : WholeSession Status)
