@@ -1,6 +1,7 @@
 -- The state of a session as the program keeps it.
-use Rattle.std.specs.Prelude.{IfSome}
+use Rattle.std.specs.Prelude.{◌≡◌, IfSome}
 use Rattle.std.specs.Option.{option_map}
+use Rattle.cell_library.specs.Libraries.{IsLawfulLibrary, LibraryParts, seen}
 use Rattle.edit_script.specs.Editing.{IsCurrent, editing_of}
 use Rattle.ext_cache.specs.Caches.{Agrees, is_dirty}
 use Rattle.workspace.specs.declared.cells.Edited.{Edited}
@@ -22,3 +23,11 @@ pub record IsEdited (edited : Edited) : Type 0 where
 
 abbrev pub IsSession : LayoutSession → Type 0
 IsSession session = IfSome session.edited IsEdited
+
+-- The library that is kept, if there is one, is lawful.
+abbrev pub KeepsLawfulLibrary : LayoutSession → Type 0
+KeepsLawfulLibrary session = IfSome session.edited (λ edited. IsLawfulLibrary edited.library)
+
+-- Some lawful library is seen in the state, where there is a technology.
+abbrev pub SeesLawfulLibrary : State → Type 0
+SeesLawfulLibrary state = IfSome state (λ work. (library : LibraryParts) × IsLawfulLibrary library × (seen library ≡ work.editing.library))
