@@ -50,8 +50,8 @@ module _ (number : ℕ) (work : Workspace) (files : Files) (cell : List ℕ) whe
       let same = same_load files editing.library editing.edits cell p.after q.after p.count q.count p.fetched q.fetched p.is_loaded q.is_loaded in
       p.is
       ∙ ap (λ (after : LibraryView). load_effect work cell after p.count p.fetched) same.0
-      ∙ ap (λ (count : ℕ). load_effect work cell q.after count p.fetched) same.1.0
-      ∙ ap (λ (fetched : List (List ℕ)). load_effect work cell q.after q.count fetched) same.1.1
+      ∙ ap (λ (count : ℕ). load_effect work cell q.after count p.fetched) same.1
+      ∙ ap (λ (fetched : List (List ℕ)). load_effect work cell q.after q.count fetched) same.2
       ∙ sym q.is
 
   one_refused_load : (effect other : Effect State) → RefusesLoad number work files cell effect → RefusesLoad number work files cell other

@@ -23,7 +23,7 @@ use Rattle.look_commands.specs.Looks.{Tells}
 same_nodes : (library : LibraryView) (cell : ℕ) (lines more : List ReportLine) → TellsNodes library cell lines → TellsNodes library cell more → lines ≡ more
 same_nodes library cell lines more p q =
     let at = view_at library cell in
-    p.1.1 ∙ ap node_lines (node_records_are_one library.tech at.own at.labels p.0 q.0 p.1.0 q.1.0) ∙ sym q.1.1
+    p.2 ∙ ap node_lines (node_records_are_one library.tech at.own at.labels p.0 q.0 p.1 q.1) ∙ sym q.2
 
 module _ (library : LibraryParts) (lawful : IsLawfulLibrary library) (cell : ℕ) (within : cell < length (seen library).cells) (name : List ℕ) where
   there : cell < length library.contents
@@ -33,8 +33,8 @@ module _ (library : LibraryParts) (lawful : IsLawfulLibrary library) (cell : ℕ
   same_save : (lines more : List ReportLine) (stores others : List Store) → SavesCell (seen library) cell name lines stores
       → SavesCell (seen library) cell name more others → (lines ≡ more) × (stores ≡ others)
   same_save lines more stores others p q =
-      let text = one_text (seen library) cell p.0 q.0 (uses_lead_to_cells library lawful) p.1.0 q.1.0 in
-      (p.1.1.0 ∙ sym q.1.1.0, p.1.1.1 ∙ ap (λ (one : List ℕ). cell_store name one ∷ []) text ∙ sym q.1.1.1)
+      let text = one_text (seen library) cell p.0 q.0 (uses_lead_to_cells library lawful) p.1 q.1 in
+      (p.2 ∙ sym q.2, p.3 ∙ ap (λ (one : List ℕ). cell_store name one ∷ []) text ∙ sym q.3)
 
   -- that nothing offends below it, or which squares do
   same_squares : UncleanCellsBelowAreUnique → (lines more : List ReportLine) → TellsSquares (seen library) cell name lines

@@ -41,8 +41,8 @@ all_kept_as_said raw names [] [] are = refl
 all_kept_as_said raw names [] (body ∷ bodies) are = absurd are
 all_kept_as_said raw names (cell ∷ read) [] are = absurd are
 all_kept_as_said raw names (cell ∷ read) (body ∷ bodies) are =
-    ap (λ (first : CellView). first ∷ map (kept_cell names) bodies) (kept_as_said raw names cell body are.0 are.1.0)
-    ∙ ap (λ (rest : List CellView). said_cell raw names cell ∷ rest) (all_kept_as_said raw names read bodies are.1.1)
+    ap (λ (first : CellView). first ∷ map (kept_cell names) bodies) (kept_as_said raw names cell body are.0 are.1)
+    ∙ ap (λ (rest : List CellView). said_cell raw names cell ∷ rest) (all_kept_as_said raw names read bodies are.2)
 
 -- their names are those of the cells that were read
 names_as_said : (raw : RawTech) (read : List ReadCell) (bodies : List (List ℕ × CellBody)) → AreBodiesOf raw read bodies
@@ -52,14 +52,14 @@ names_as_said raw [] (body ∷ bodies) are = absurd are
 names_as_said raw (cell ∷ read) [] are = absurd are
 names_as_said raw (cell ∷ read) (body ∷ bodies) are =
     ap (λ (first : List ℕ). first ∷ map (λ (one : List ℕ × CellBody). one.0) bodies) are.0
-    ∙ ap (λ (rest : List (List ℕ)). cell.0 ∷ rest) (names_as_said raw read bodies are.1.1)
+    ∙ ap (λ (rest : List (List ℕ)). cell.0 ∷ rest) (names_as_said raw read bodies are.2)
 
 -- there are as many
 pub as_many_as_read : (raw : RawTech) (read : List ReadCell) (bodies : List (List ℕ × CellBody)) → AreBodiesOf raw read bodies → length bodies ≡ length read
 as_many_as_read raw [] [] are = refl
 as_many_as_read raw [] (body ∷ bodies) are = absurd are
 as_many_as_read raw (cell ∷ read) [] are = absurd are
-as_many_as_read raw (cell ∷ read) (body ∷ bodies) are = ap suc (as_many_as_read raw read bodies are.1.1)
+as_many_as_read raw (cell ∷ read) (body ∷ bodies) are = ap suc (as_many_as_read raw read bodies are.2)
 
 -- and the first has the scale of the first
 scale_as_said : (raw : RawTech) (read : List ReadCell) (bodies : List (List ℕ × CellBody)) → AreBodiesOf raw read bodies
@@ -67,7 +67,7 @@ scale_as_said : (raw : RawTech) (read : List ReadCell) (bodies : List (List ℕ 
 scale_as_said raw [] [] are = refl
 scale_as_said raw [] (body ∷ bodies) are = absurd are
 scale_as_said raw (cell ∷ read) [] are = absurd are
-scale_as_said raw (cell ∷ read) (body ∷ bodies) are = ap Some are.1.0.scale_is
+scale_as_said raw (cell ∷ read) (body ∷ bodies) are = ap Some are.1.scale_is
 
 -- the library with these cells and this scale
 abbrev made : LibraryView → Option (ℕ × ℕ) → List CellView → LibraryView

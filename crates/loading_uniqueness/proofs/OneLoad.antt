@@ -111,7 +111,7 @@ module _ (files : Files) (view : LibraryView) (edits : ℕ) (root : List ℕ) wh
   -- a load is refused for one fault
   pub same_refusal : (fetched others : List (List ℕ)) (fault other : LoadFault) → LoadIsRefused files view edits root fetched fault
       → LoadIsRefused files view edits root others other → (fetched ≡ others) × (fault ≡ other)
-  same_refusal fetched others fault other (inl p) (inl q) = (p.1.1 ∙ sym q.1.1, p.1.0 ∙ sym q.1.0)
+  same_refusal fetched others fault other (inl p) (inl q) = (p.2 ∙ sym q.2, p.1 ∙ sym q.1)
   same_refusal fetched others fault other (inl p) (inr q) = absurd (q.0 p.0)
   same_refusal fetched others fault other (inr p) (inl q) = absurd (p.0 q.0)
   same_refusal fetched others fault other (inr (new, inl p)) (inr (also, inl q)) = same_stop fetched others fault other p q
