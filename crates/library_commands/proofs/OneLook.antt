@@ -10,7 +10,7 @@ use Rattle.library_uniqueness.proofs.CleanBelow.{none_unclean}
 use Rattle.library_uniqueness.proofs.LawfulUses.{uses_lead_to_cells}
 use Rattle.library_uniqueness.proofs.OneText.{one_text}
 use Rattle.library_uniqueness.specs.UncleanCells.{UncleanCellsBelowAreUnique}
-use Rattle.square_lines.specs.Offending.{offending_line}
+use Rattle.workspace.specs.Offending.{offending_line}
 use Rattle.own_record_uniqueness.proofs.SameNodes.{node_records_are_one}
 use Rattle.look_commands.specs.declared.looks.Look.{Look}
 use Rattle.look_commands.specs.declared.looks.Look.TheVariants.{Nodes, Save, Squares}
