@@ -172,7 +172,7 @@ impl Library {
     }
 
     /// What holds of the paint of each cell.
-    pub(crate) fn all_sound(&self)
+    pub fn all_sound(&self)
         ensures { All IsSoundHeld self.now.contents }
     {
         self.contents.all_sound();
