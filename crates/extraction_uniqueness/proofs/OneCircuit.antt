@@ -1,6 +1,5 @@
 -- A clean cell has one circuit, or passes one limit.
 use Rattle.std.proofs.Common.{◌≡◌, ◌<◌, ℕ, List, length}
-use Rattle.ext_model.specs.declared.circuits.Circuit.{Circuit}
 use Rattle.ext_model.specs.declared.records.CellExt.{CellExt}
 use Rattle.circuit_model.specs.declared.faults.FlatFault.TheVariants.{TooMany as FlatTooMany}
 use Rattle.circuit_model.specs.declared.limits.CircuitLimit.{CircuitLimit}
@@ -10,7 +9,6 @@ use Rattle.kept_records.specs.TreeRecords.TreeRecords.{HasTreeRecords}
 use Rattle.record_uniqueness.specs.RecordUniqueness.{RecordsOfTreesAreUnique}
 use Rattle.square_lines.specs.HierMerge.UncleanCells.{IsCleanCell}
 use Rattle.circuit_uniqueness.specs.FlatCircuits.{AgreeBelow, FlatCircuitsAreUnique, FlatCircuitsHaveNoFault, FlatFaultsAreUnique}
-use Rattle.workspace.specs.CellCircuits.{IsCircuitAt, PassesAt}
 use Rattle.extraction_uniqueness.specs.CellCircuits.{CellCircuitsAreUnique, CellCircuitsPassNoLimit, CellLimitsAreUnique}
 use Rattle.extraction_uniqueness.specs.LawfulStates.{IsSoundView}
 use Rattle.extraction_uniqueness.proofs.ReachedRecords.{agree_below}

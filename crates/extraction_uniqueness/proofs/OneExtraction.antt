@@ -1,5 +1,5 @@
 -- A cell has one extraction, or is refused with one effect.
-use Rattle.std.proofs.Common.{◌≡◌, ◌<◌, ℕ, List, [], ◌∷◌, ◌++◌, length, map, filter, Some, inl, inr, sym, ap, ◌∙◌, subst}
+use Rattle.std.proofs.Common.{◌≡◌, ℕ, List, [], ◌∷◌, ◌++◌, length, map, filter, Some, inl, inr, sym, ap, ◌∙◌, subst}
 use Rattle.finite_sets.specs.Lists.{In}
 use Rattle.finite_sets.proofs.Members.{In-filter_source}
 use Rattle.geo_core.specs.declared.squares.Rect.{Rect}
@@ -10,13 +10,12 @@ use Rattle.session_model.specs.Effects.{Effect}
 use Rattle.cell_library.specs.Additions.{children_in}
 use Rattle.cell_library.specs.Views.{LibraryView, view_at}
 use Rattle.own_record_uniqueness.specs.OwnUniqueness.{UnattachedTextsAreUnique}
-use Rattle.square_lines.specs.HierMerge.UncleanCells.{IsCleanCell, IsUncleanBelow}
+use Rattle.square_lines.specs.HierMerge.UncleanCells.{IsCleanCell}
 use Rattle.library_uniqueness.specs.UncleanCells.{CleanCellsHaveNoneBelow, UncleanCellsBelowAreUnique}
 use Rattle.line_answers.specs.Refusals.{refusal_line}
 use Rattle.square_lines.specs.Offending.{offending_line}
-use Rattle.workspace.specs.declared.extractions.Extraction.{Extraction}
-use Rattle.workspace.specs.Extractions.{IsExtraction, MakesRecord, MakesRecords, RefusesUnclean, ext_store, unattached_line, unclean_refusal}
-use Rattle.workspace.specs.States.{State, Workspace}
+use Rattle.workspace.specs.Extractions.{MakesRecord, MakesRecords, ext_store, unattached_line, unclean_refusal}
+use Rattle.workspace.specs.States.{State}
 use Rattle.extraction_uniqueness.specs.CellExtractions.{ExtractedCellsAreNotRefused, ExtractionsAreUnique, UncleanRefusalsAreUnique}
 use Rattle.extraction_uniqueness.specs.LawfulStates.{IsSoundView}
 use Rattle.extraction_uniqueness.proofs.SoundLibraries.{clean_below_clean, none_below_clean, same_record}

@@ -1,7 +1,6 @@
 -- What is run on the network of the circuit of a cell.
-use Rattle.std.proofs.Common.{◌≡◌, ◌<◌, ◌⊎◌, ◌++◌, ℕ, List, [], ◌∷◌, length, Some, inl, inr, sym, ap, ◌∙◌, subst}
+use Rattle.std.proofs.Common.{◌≡◌, ◌<◌, ◌++◌, ℕ, List, [], ◌∷◌, length, Some, inl, inr, sym, ap, ◌∙◌, subst}
 use Rattle.std.specs.Prelude.{Result, Ok, Err}
-use Rattle.outside_io.specs.Files.{Files}
 use Rattle.session_model.specs.declared.fetching.FetchFault.{FetchFault}
 use Rattle.session_model.specs.declared.report.ReportLine.{ReportLine}
 use Rattle.session_model.specs.Effects.{Effect}
@@ -19,7 +18,7 @@ use Rattle.network_runs.specs.Simulations.{vec_file}
 use Rattle.simulation_uniqueness.specs.Simulations.{CircuitAnswersAreUnique}
 use Rattle.workspace.specs.declared.extractions.Extraction.{Extraction}
 use Rattle.workspace.specs.Extractions.{with_clean}
-use Rattle.workspace.specs.States.{State, Workspace}
+use Rattle.workspace.specs.States.{State}
 use Rattle.extract_commands.specs.CellRuns.{RunsCell, RunsExtracted, TellsAt}
 use Rattle.extract_commands.specs.CommandVectors.{RunsFetched}
 use Rattle.extraction_uniqueness.specs.CellCircuits.{CellCircuitsAreUnique, CellCircuitsPassNoLimit, CellLimitsAreUnique}

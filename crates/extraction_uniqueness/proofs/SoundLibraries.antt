@@ -1,5 +1,5 @@
 -- What a lawful library with sound paint is seen as: its clean cells have one record and a clean tree, and what is below them is clean.
-use Rattle.std.proofs.Common.{◌≡◌, ◌<◌, ℕ, List, length, sym, ap, subst, arith}
+use Rattle.std.proofs.Common.{◌≡◌, ◌<◌, ℕ, List, length, refl, sym, ap, subst, arith}
 use Rattle.std.specs.Prelude.{All}
 use Rattle.std.proofs.lemmas.List.{get_or_default}
 use Rattle.finite_sets.specs.Chain.{Chain}
@@ -61,6 +61,24 @@ abbrev HasLawfulTech : LibraryView → Type 0
 HasLawfulTech view = IsWellFormed view.tech × KeepsRules view.tech
 
 module _ (library : LibraryParts) (lawful : IsLawfulLibrary library) where
+  -- a cell is seen with what is kept of its paint
+  own_seen : (cell : ℕ) → cell < length library.contents
+      → (view_at (seen library) cell).own ≡ layout_of (held_at library.contents cell).paint
+  own_seen cell below = ap (λ (body : CellView). body.own) (cell_viewed library.contents (uses_in library.tree.cells) cell below)
+
+  -- what is kept sound is seen so
+  pub sound_view : All IsSoundHeld library.contents → IsSoundView (seen library)
+  sound_view sound = record {
+    lawful = (library, lawful, refl);
+    paint = λ k d below.
+        let there : k < length library.contents = omega (arith, below, count_seen library) in
+        let held = held_at library.contents k in
+        let kept = subst (λ (types : List TypeRec). IsSoundPaint types (layout_of held.paint)) (lawful.each k no_held there).kinds
+        (sound k no_held there) in
+        subst (λ (body : CellView). IsSoundPaint library.tech.types body.own) (get_or_default (seen library).cells k no_cell d below)
+        (subst (λ (layout : Layout). IsSoundPaint library.tech.types layout) (sym (own_seen k there)) kept);
+  }
+
   module _ (paint : HasSoundPaint (seen library)) where
     -- what is kept of the paint of each cell is sound
     held_sound : All IsSoundHeld library.contents
@@ -68,11 +86,9 @@ module _ (library : LibraryParts) (lawful : IsLawfulLibrary library) where
         let held = held_at library.contents k in
         let is = lawful.each k no_held below in
         let here : IsSoundPaint library.tech.types (view_at (seen library) k).own = paint k no_cell (omega (arith, below, count_seen library)) in
-        let own : (view_at (seen library) k).own ≡ layout_of held.paint =
-        ap (λ (body : CellView). body.own) (cell_viewed library.contents (uses_in library.tree.cells) k below) in
         subst IsSoundHeld (get_or_default library.contents k no_held d below)
-        (subst (λ (kinds : List TypeRec). IsSoundPaint kinds (layout_of held.paint)) (sym is.kinds)
-        (subst (λ (layout : Layout). IsSoundPaint library.tech.types layout) own here))
+        (subst (λ (types : List TypeRec). IsSoundPaint types (layout_of held.paint)) (sym is.kinds)
+        (subst (λ (layout : Layout). IsSoundPaint library.tech.types layout) (own_seen k below) here))
 
     -- so types are those of the technology
     typed : (cell : ℕ) → IsTyped library.tech (tree_at (seen library) cell)
@@ -98,7 +114,8 @@ module _ (library : LibraryParts) (lawful : IsLawfulLibrary library) where
 
 module _ (view : LibraryView) where
   -- a fact of what is seen of each lawful library
-  of_lawful : (Has : LibraryView → Type 0) → ((library : LibraryParts) → IsLawfulLibrary library → Has (seen library)) → IsLawfulView view → Has view
+  of_lawful : (Has : LibraryView → Type 0) → ((library : LibraryParts) → IsLawfulLibrary library → Has (seen library))
+      → IsLawfulView view → Has view
   of_lawful Has each (library, lawful, is) = subst Has is (each library lawful)
 
   -- and of each whose paint is sound

@@ -1,17 +1,15 @@
 -- `generate` has one effect: the cells that it makes are those that the technology says, and the stack is one of them.
-use Rattle.std.proofs.Common.{◌≡◌, ◌<◌, ◌⊎◌, ◌++◌, ◌∙◌, ℕ, List, [], ◌∷◌, length, Option, Some, None, inl, inr, refl, sym, ap, subst, arith, length-append}
-use Rattle.std.specs.Prelude.{◌+◌, ℤ, codes}
+use Rattle.std.proofs.Common.{◌≡◌, ◌<◌, ◌∙◌, ℕ, List, [], ◌∷◌, length, Some, None, inl, inr, sym, ap, subst, arith, length-append}
+use Rattle.std.specs.Prelude.{◌+◌, codes}
 use Rattle.std.specs.Int.RustNames.{unsigned_abs}
 use Rattle.session_model.specs.Effects.{Effect}
 use Rattle.cell_library.specs.Views.{CellView, LibraryView}
-use Rattle.layout_gen.specs.declared.faults.GenerateFault.{GenerateFault}
 use Rattle.layout_gen.specs.Generated.{IsGenerated, array_cell, row_grid, row_name, stack_grid, stack_name, tile_cell, with_generated}
-use Rattle.line_answers.specs.LineEffects.{refused}
 use Rattle.network_runs.specs.declared.network_runs.NetworkRun.TheVariants.{Stack}
 use Rattle.simulation_uniqueness.specs.Simulations.{CircuitAnswersAreUnique}
 use Rattle.workspace.specs.States.{State, Workspace}
 use Rattle.extract_commands.specs.CellRuns.{RunsExtracted}
-use Rattle.extract_commands.specs.CommandGenerate.{GeneratesStack, MakesStack, RefusesStack, stack_cell, with_stack}
+use Rattle.extract_commands.specs.CommandGenerate.{GeneratesStack, MakesStack, stack_cell, with_stack}
 use Rattle.extraction_uniqueness.specs.CellCircuits.{CellCircuitsAreUnique, CellCircuitsPassNoLimit, CellLimitsAreUnique}
 use Rattle.extraction_uniqueness.specs.CellExtractions.{ExtractedCellsAreNotRefused, ExtractionsAreUnique, UncleanRefusalsAreUnique}
 use Rattle.extraction_uniqueness.specs.CommandEffects.{GenerateMeansOneEffect}
