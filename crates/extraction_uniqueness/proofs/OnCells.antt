@@ -6,9 +6,9 @@ use Rattle.cell_library.specs.Views.{cell_named}
 use Rattle.edit_script.proofs.CellLaws.{named_below}
 use Rattle.line_answers.specs.LineEffects.{refused, reply}
 use Rattle.line_answers.specs.Refusals.{no_cell}
-use Rattle.workspace.specs.declared.extractions.Extraction.{Extraction}
-use Rattle.workspace.specs.Extractions.{IsExtraction, OnCell, RefusesUnclean, with_clean}
-use Rattle.workspace.specs.States.{State, Workspace}
+use Rattle.extract_commands.specs.Workspace.declared.extractions.Extraction.{Extraction}
+use Rattle.extract_commands.specs.Workspace.Extractions.{IsExtraction, OnCell, RefusesUnclean, with_clean}
+use Rattle.extract_commands.specs.Workspace.States.{State, Workspace}
 use Rattle.extract_commands.specs.CommandExtract.{ExtractsCell, extracted_text}
 use Rattle.extraction_uniqueness.specs.CellExtractions.{ExtractedCellsAreNotRefused, ExtractionsAreUnique, UncleanRefusalsAreUnique}
 use Rattle.extraction_uniqueness.specs.CommandEffects.{ExtractMeansOneEffect}

@@ -16,9 +16,9 @@ use Rattle.network_runs.specs.declared.network_runs.NetworkRun.TheVariants.{Vect
 use Rattle.network_runs.specs.NetworkRuns.{TellsCircuit}
 use Rattle.network_runs.specs.Simulations.{vec_file}
 use Rattle.simulation_uniqueness.specs.Simulations.{CircuitAnswersAreUnique}
-use Rattle.workspace.specs.declared.extractions.Extraction.{Extraction}
-use Rattle.workspace.specs.Extractions.{with_clean}
-use Rattle.workspace.specs.States.{State}
+use Rattle.extract_commands.specs.Workspace.declared.extractions.Extraction.{Extraction}
+use Rattle.extract_commands.specs.Workspace.Extractions.{with_clean}
+use Rattle.extract_commands.specs.Workspace.States.{State}
 use Rattle.extract_commands.specs.CellRuns.{RunsCell, RunsExtracted, TellsAt}
 use Rattle.extract_commands.specs.CommandVectors.{RunsFetched}
 use Rattle.extraction_uniqueness.specs.CellCircuits.{CellCircuitsAreUnique, CellCircuitsPassNoLimit, CellLimitsAreUnique}

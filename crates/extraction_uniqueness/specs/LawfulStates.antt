@@ -3,7 +3,7 @@ use Rattle.std.specs.Prelude.{◌≡◌, All, IfSome}
 use Rattle.cell_library.specs.CellPaint.Paints.{IsSoundPaint}
 use Rattle.cell_library.specs.Libraries.{IsLawfulLibrary, LibraryParts, seen}
 use Rattle.cell_library.specs.Views.{LibraryView}
-use Rattle.workspace.specs.States.{State}
+use Rattle.extract_commands.specs.Workspace.States.{State}
 
 -- Some lawful library is seen so.
 abbrev pub IsLawfulView : LibraryView → Type 0
