@@ -1,3 +1,5 @@
+-- what crates above name of those below
+pub use Rattle.workspace.specs as Workspace
 pub mod CellRuns
 pub mod CommandCircuits
 pub mod CommandExtract

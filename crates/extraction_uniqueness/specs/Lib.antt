@@ -1,0 +1,4 @@
+pub mod LawfulStates
+pub mod CellExtractions
+pub mod CellCircuits
+pub mod CommandEffects
