@@ -52,11 +52,15 @@ abbrev pub ScriptActs : {State : Type 0} → (ℕ → State → Files → List �
 ScriptActs {State} Means state files lines acts =
     (effects : List (Effect State)) × LinesMean Means 1 state files lines effects × (acts ≡ acts_of effects)
 
--- the meaning of a line in those states alone in which a sound session is
+-- A sound session is in the state.
+abbrev pub IsSoundState : {Self State : Type 0} → (Self → State) → (Self → Type 0) → State → Type 0
+IsSoundState {Self} state_of IsSound state = (session : Self) × IsSound session × (state_of session ≡ state)
+
+-- the meaning of a line where sound sessions are in the states before it and after it
 abbrev pub MeansInSound : {Self State : Type 0} → (Self → State) → (Self → Type 0) → (ℕ → State → Files → List ℕ → Effect State → Type 0)
     → ℕ → State → Files → List ℕ → Effect State → Type 0
-MeansInSound {Self} state_of IsSound Means number state files line effect =
-    ((session : Self) × IsSound session × (state_of session ≡ state)) × Means number state files line effect
+MeansInSound state_of IsSound Means number state files line effect =
+    IsSoundState state_of IsSound state × IsSoundState state_of IsSound effect.state × Means number state files line effect
 
 -- What a line is seen to do is all that it can mean.
 abbrev pub HasOneEffect : {State : Type 0} → (Seen Means : ℕ → State → Files → List ℕ → Effect State → Type 0) → Type 0
