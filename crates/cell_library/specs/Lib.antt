@@ -19,6 +19,7 @@ pub mod OwnBoxes
 pub mod PartCounts
 pub mod PartTiles
 pub mod Refusals
+pub mod Restorations
 pub mod Seen
 pub mod Spans
 pub mod Spots
