@@ -21,6 +21,7 @@ pub mod MaterialLaws
 pub mod MoveEdits
 pub mod NewCells
 pub mod OwnEdits
+pub mod OwnRestorations
 pub mod OwnTiles
 pub mod PaintEdits
 pub mod PartLaws

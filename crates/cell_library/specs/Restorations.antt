@@ -1,11 +1,12 @@
 -- What the edits make of a library that give a cell back what it had.
-use Rattle.std.specs.Prelude.{◌≡◌, ◌-◌, ℕ, List, insert, length, take, Option}
+use Rattle.std.specs.Prelude.{◌≡◌, ℕ, List, insert, Option}
 use Rattle.geo_core.specs.declared.grids.Grid.{Grid}
 use Rattle.geo_core.specs.declared.squares.Piece.{Piece}
 use Rattle.geo_core.specs.declared.squares.Rect.{Rect}
 use Rattle.tech_model.specs.declared.raw.Label.{Label}
 use Rattle.cell_paint.specs.Pieces.{with_pieces}
 use Rattle.cell_tree.specs.declared.use_tables.UseBody.{UseBody}
+use Rattle.cell_library.specs.Contents.{without_last}
 use Rattle.cell_library.specs.Edits.{with_use_changed}
 use Rattle.cell_library.specs.Libraries.{IsLawfulLibrary, LibraryParts, seen}
 use Rattle.cell_library.specs.Views.{LibraryView, with_cell_changed}
@@ -31,7 +32,7 @@ regridded view cell id grid =
 
 -- the last label is gone from a cell
 abbrev pub without_last_label : LibraryView → ℕ → LibraryView
-without_last_label view cell = with_cell_changed view cell (λ body. record body { labels = take (length body.labels - 1) body.labels })
+without_last_label view cell = with_cell_changed view cell (λ body. record body { labels = without_last body.labels })
 
 -- a cell has these labels
 abbrev pub relabelled : LibraryView → ℕ → List Label → LibraryView
