@@ -14,6 +14,7 @@ pub mod GridSpots
 pub mod GridSteps
 pub mod HeldParts
 pub mod HullsHoldMaterial
+pub mod InnerAreas
 pub mod KeptContents
 pub mod LayoutTreeLaws
 pub mod LimitLaws

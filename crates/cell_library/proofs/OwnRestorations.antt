@@ -1,5 +1,5 @@
 -- What gives a cell back its paint or its labels: it has room for them, and what becomes of the library.
-use Rattle.std.proofs.Common.{◌≡◌, ◌<◌, ◌-◌, ℕ, zero, suc, List, [], ◌∷◌, length, set, Option, refl, sym, ap, subst, ◌∙◌, arith}
+use Rattle.std.proofs.Common.{◌≡◌, ◌<◌, ◌-◌, ℕ, zero, suc, List, [], ◌∷◌, length, set, Option, refl, sym, ap, subst, ◌∙◌, arith, inl}
 use Rattle.std.specs.Prelude.{All, IsTrue, slice_index_or}
 use Rattle.std.proofs.lemmas.List.{get_or-set_same, length-set}
 use Rattle.std.proofs.lemmas.List.Elements.{All-take}
@@ -12,6 +12,7 @@ use Rattle.tech_model.specs.declared.raw.TypeRec.{TypeRec}
 use Rattle.layout_model.specs.Layouts.{Layout}
 use Rattle.cell_paint.specs.Paints.{layout_of, IsSoundPaint}
 use Rattle.cell_paint.specs.Pieces.{with_pieces}
+use Rattle.cell_paint.proofs.PieceLaws.{pieces_outside}
 use Rattle.cell_bodies.specs.Bodies.{IsLabel}
 use Rattle.cell_bodies.specs.Numbers.{has_sides}
 use Rattle.cell_tree.specs.declared.sizes.Dimension.TheVariants.{Hull}
@@ -24,7 +25,7 @@ use Rattle.cell_library.specs.Contents.{Held, held_at, with_labels, without_last
 use Rattle.cell_library.specs.Libraries.{LibraryParts, IsLawfulLibrary, cells_seen, uses_in, seen}
 use Rattle.cell_library.specs.Limits.{AreStatesOf}
 use Rattle.cell_library.specs.OwnBoxes.{OwnBoxIs}
-use Rattle.cell_library.specs.OwnRestorations.{HasRoomFor, IsPutBackIn, IsRelabelledIn}
+use Rattle.cell_library.specs.OwnRestorations.{HasRoomFor, IsBoxBefore, IsPutBackIn, IsRelabelledIn}
 use Rattle.cell_library.specs.Refusals.{EditIsRefused, NothingElse}
 use Rattle.cell_library.specs.Restorations.{relabelled, IsLawfulView}
 use Rattle.cell_library.specs.Seen.{cell_view}
@@ -57,6 +58,22 @@ pub room_relabelled : (tree : Tree) (cell : ℕ) (labels : List Label) (old new 
 room_relabelled tree cell labels old new below is room =
     subst (λ (h : Held). HasRoomFor tree cell (layout_of h.paint) h.labels) (sym (put_there old new cell (with_labels (held_at old cell) labels) below is))
     room
+
+-- the box that the cell had is that of a layout that differs in the area alone
+pub box_before_put : (area : Rect) (pieces : List (ℕ × Piece)) (old new : List Held) (cell : ℕ) (box : Option Rect) → cell < length old
+    → IsRepainted old new cell (with_pieces area pieces) → OwnBoxIs (layout_of (held_at old cell).paint) (held_at old cell).labels box
+    → IsBoxBefore area (layout_of (held_at new cell).paint) (held_at new cell).labels box
+box_before_put area pieces old new cell box below put is =
+    let held = held_at old cell in
+    subst (λ (h : Held). IsBoxBefore area (layout_of h.paint) h.labels box) (sym (put_there old new cell (record held { paint = put.paint }) below put.is))
+    (record {
+      layout = layout_of held.paint;
+      labels_before = held.labels;
+      is = is;
+      agrees = λ place outside. sym (put.layout place ∙ pieces_outside area pieces (layout_of held.paint) place outside);
+      came = λ label among. inl among;
+      went = λ label among. inl among;
+    })
 
 -- what is left without the last label has its box inside the old one
 pub dropped_inside : (old new : List Held) (cell : ℕ) (box after : Option Rect) → cell < length old
@@ -169,8 +186,8 @@ module _ (library : LibraryParts) (lawful : IsLawfulLibrary library) (cell : ℕ
         ≡ changed_at (cells_seen library.contents library.tree) cell (λ b. record b { own = with_pieces area pieces b.own })
     unfolding put_held
     put_seen =
-        edit_seen library contents tree cell put_held (with_own (cell_at library.tree.cells cell) done.renewed.box)
-        (λ b. record b { own = with_pieces area pieces b.own }) lawful below done.put.is done.renewed.edited
+        edit_seen library contents tree cell put_held (with_own (cell_at library.tree.cells cell) done.box)
+        (λ b. record b { own = with_pieces area pieces b.own }) lawful below done.put.is done.edited
         (ap (λ (own : Layout). record body { own = own }) put_layout)
 
     pub put_lawful : IsLawfulLibrary (record { tech = library.tech; scale = library.scale; contents = contents; tree = tree })
@@ -178,12 +195,12 @@ module _ (library : LibraryParts) (lawful : IsLawfulLibrary library) (cell : ℕ
     put_lawful =
         let held = held_lawful library lawful cell below in
         let many = lawful.so_many in
-        edit_lawful library contents tree cell put_held (with_own (cell_at library.tree.cells cell) done.renewed.box) lawful below done.put.is
-        done.renewed.edited tree_lawful refl
+        edit_lawful library contents tree cell put_held (with_own (cell_at library.tree.cells cell) done.box) lawful below done.put.is
+        done.edited tree_lawful refl
         (record { name = held.name; kinds = done.put.kinds ∙ held.kinds; planes = done.put.planes ∙ held.planes; labels = held.labels })
         (lawful.ids cell empty_state (omega arith))
-        (subst (λ (h : Held). OwnBoxIs (layout_of h.paint) h.labels done.renewed.box) (put_there library.contents contents cell put_held below done.put.is)
-        done.renewed.own)
+        (subst (λ (h : Held). OwnBoxIs (layout_of h.paint) h.labels done.box) (put_there library.contents contents cell put_held below done.put.is)
+        done.own)
 
   -- ---- labels
 
@@ -194,17 +211,17 @@ module _ (library : LibraryParts) (lawful : IsLawfulLibrary library) (cell : ℕ
         ≡ changed_at (cells_seen library.contents library.tree) cell (λ b. record b { labels = change b.labels })
     relabelled_seen =
         edit_seen library contents tree cell (with_labels (held_at library.contents cell) (change (held_at library.contents cell).labels))
-        (with_own (cell_at library.tree.cells cell) done.renewed.box) (λ b. record b { labels = change b.labels }) lawful below done.relabelled
-        done.renewed.edited refl
+        (with_own (cell_at library.tree.cells cell) done.box) (λ b. record b { labels = change b.labels }) lawful below done.relabelled
+        done.edited refl
 
     pub relabelled_lawful : IsLawfulLibrary (record { tech = library.tech; scale = library.scale; contents = contents; tree = tree })
     relabelled_lawful =
         let held = held_lawful library lawful cell below in
         let many = lawful.so_many in
         let after : Held = with_labels (held_at library.contents cell) (change (held_at library.contents cell).labels) in
-        edit_lawful library contents tree cell after (with_own (cell_at library.tree.cells cell) done.renewed.box) lawful below done.relabelled
-        done.renewed.edited tree_lawful refl
+        edit_lawful library contents tree cell after (with_own (cell_at library.tree.cells cell) done.box) lawful below done.relabelled
+        done.edited tree_lawful refl
         (record { name = held.name; kinds = held.kinds; planes = held.planes; labels = labels_are })
         (lawful.ids cell empty_state (omega arith))
-        (subst (λ (h : Held). OwnBoxIs (layout_of h.paint) h.labels done.renewed.box) (put_there library.contents contents cell after below done.relabelled)
-        done.renewed.own)
+        (subst (λ (h : Held). OwnBoxIs (layout_of h.paint) h.labels done.box) (put_there library.contents contents cell after below done.relabelled)
+        done.own)

@@ -5,10 +5,11 @@ ghost use Rattle.geo_core.specs.Covering.{IsProper};
 ghost use Rattle.cell_bodies.specs.Numbers.{has_sides};
 ghost use Rattle.cell_paint.specs.Paints.{layout_of, IsSoundPaint};
 ghost use Rattle.cell_paint.specs.Pieces.{with_pieces, CanStandIn};
-ghost use Rattle.cell_tree.specs.Trees.{cell_at};
+ghost use Rattle.cell_tree.specs.declared.sizes.Dimension.TheVariants.{Hull};
+ghost use Rattle.cell_tree.specs.Trees.{cell_at, with_own, IsEdited, IsLawfulOwn, WouldPass};
 ghost use Rattle.cell_library.specs.Contents.{held_at, without_last, IsRepainted};
 ghost use Rattle.cell_library.specs.OwnBoxes.{OwnBoxIs};
-ghost use Rattle.cell_library.specs.OwnRestorations.{HasRoomFor, IsBoxRenewed, IsPutBackIn, IsRelabelledIn};
+ghost use Rattle.cell_library.specs.OwnRestorations.{are_between, is_inside, HasRoomFor, IsBoxBefore, IsPutBackIn, IsRelabelledIn};
 ghost use Rattle.cell_library.specs.Refusals.{EditIsRefused, NothingElse, HasFaultOrLacksMemory};
 
 use crate::checks::check_edits;
@@ -20,15 +21,45 @@ use cell_tree::CellTree;
 use geo_core::{Piece, Rect};
 use tech_model::Label;
 
-// Gives the cell the box of what it has of its own, for which it has room.
-fn renew_box(contents: &Contents, tree: &mut CellTree, cell: usize)
-    requires cell { cell < length contents.now }
-    requires so_many { length tree.old.cells ≡ length contents.now }
-    requires edits { tree.old.edits < MOST_EDITS }
-    requires room { HasRoomFor tree.old cell (layout_of (held_at contents.now cell).paint) (held_at contents.now cell).labels }
-    ensures { IsBoxRenewed contents.now cell tree.old tree.new }
+// Whether two ends lie between the outer two.
+fn are_between(low: i64, high: i64, from: i64, to: i64) -> bool
+    ensures { result ≡ are_between low high from to }
 {
-    let own = box_of_own(contents, cell);
+    from < low && high < to
+}
+
+// Whether the area lies inside the box and touches none of its sides.
+fn is_inside(area: &Rect, outer: &Rect) -> bool
+    ensures { result ≡ is_inside area.now outer.now }
+{
+    are_between(area.xlo, area.xhi, outer.xlo, outer.xhi)
+        && are_between(area.ylo, area.yhi, outer.ylo, outer.yhi)
+}
+
+// The box of what the cell has of its own, where the tree has the box of what differs in the area alone. Where the area touches no side of
+// that box, it stays, whatever the size of the cell.
+fn box_after(contents: &Contents, tree: &CellTree, cell: usize, area: &Rect) -> Option<Rect>
+    requires cell { cell < length contents.now }
+    requires so_many { length tree.now.cells ≡ length contents.now }
+    requires before { IsBoxBefore area.now (layout_of (held_at contents.now cell).paint) (held_at contents.now cell).labels (cell_at tree.now.cells cell).own }
+    ensures { OwnBoxIs (layout_of (held_at contents.now cell).paint) (held_at contents.now cell).labels result }
+{
+    if let Some(old) = tree.own_box(cell) {
+        if is_inside(area, &old) {
+            return Some(old);
+        }
+    }
+    box_of_own(contents, cell)
+}
+
+// Gives the cell a box for which it has room.
+fn give_box(tree: &mut CellTree, cell: usize, own: Option<Rect>)
+    requires cell { cell < length tree.old.cells }
+    requires edits { tree.old.edits < MOST_EDITS }
+    requires lawful { IsLawfulOwn own }
+    requires fits { WouldPass Hull tree.old cell (with_own (cell_at tree.old.cells cell) own) → ⊥ }
+    ensures { IsEdited tree.old tree.new cell (with_own (cell_at tree.old.cells cell) own) }
+{
     match tree.set_box(cell, own) {
         Ok(()) => {}
         Err(_) => unreachable!(),
@@ -51,6 +82,7 @@ pub fn put_back_cell(
     requires pieces { CanStandIn area (length (held_at contents.old cell).paint.planes) pieces.now }
     requires sound { IsSoundPaint (held_at contents.old cell).paint.kinds (with_pieces area pieces.now (layout_of (held_at contents.old cell).paint)) }
     requires room { HasRoomFor tree.old cell (with_pieces area pieces.now (layout_of (held_at contents.old cell).paint)) (held_at contents.old cell).labels }
+    requires own { OwnBoxIs (layout_of (held_at contents.old cell).paint) (held_at contents.old cell).labels (cell_at tree.old.cells cell).own }
     ensures done { OnOk result (IsPutBackIn area pieces.now cell contents.old contents.new tree.old tree.new) }
     ensures kept { OnErr result (IsRepainted contents.old contents.new cell (λ own. own)) }
     ensures same { OnErr result (tree.new ≡ tree.old) }
@@ -58,7 +90,8 @@ pub fn put_back_cell(
 {
     check_edits(tree)?;
     contents.put_back(cell, area, pieces)?;
-    renew_box(contents, tree, cell);
+    let own = box_after(contents, tree, cell, &area);
+    give_box(tree, cell, own);
     Ok(())
 }
 
@@ -102,6 +135,7 @@ pub fn set_labels_of(
 {
     check_edits(tree)?;
     contents.set_labels(cell, labels);
-    renew_box(contents, tree, cell);
+    let own = box_of_own(contents, cell);
+    give_box(tree, cell, own);
     Ok(())
 }

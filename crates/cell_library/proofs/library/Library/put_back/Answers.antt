@@ -11,7 +11,7 @@ use Rattle.cell_library.specs.Views.{view_at}
 use Rattle.cell_library.proofs.EditLaws.{refused_same, refused_lawful, seen_cells}
 use Rattle.cell_library.proofs.FaultLaws.{ok_or_err, both_err, answers_memory}
 use Rattle.cell_library.proofs.OwnRestorations.{has_room, nothing_refused, put_seen, put_lawful, sound_here}
-use Rattle.cell_library.proofs.PaintEdits.{held_lawful}
+use Rattle.cell_library.proofs.PaintEdits.{held_lawful, own_is}
 use Rattle.cell_library.proofs.library.Library.put_back.Goals as goal
 
 pub put_back_cell-done-requires-clause-pieces : goal.put_back_cell-done-requires-clause-pieces
@@ -53,6 +53,18 @@ put_back_cell-done-requires-clause-room c =
     c.requires.cell in
     has_room library c.self.invariant c.args.cell.0 below (λ body. record body { own = with_pieces c.args.area c.args.pieces.now body.own }) refl
     (subst (λ (l : LibraryParts). IsLawfulView (repainted (seen l) c.args.cell.0 c.args.area c.args.pieces.now)) (sym c.self.view_is) c.requires.lawful)
+
+pub put_back_cell-done-requires-clause-own : goal.put_back_cell-done-requires-clause-own
+put_back_cell-done-requires-clause-own c =
+    let library : LibraryParts = record {
+      tech = c.self.inside.tech;
+      scale = c.self.inside.scale;
+      contents = c.self.inside.contents;
+      tree = c.self.inside.tree;
+    } in
+    let below : c.args.cell.0 < length c.self.inside.contents = subst (λ (l : LibraryParts). c.args.cell.0 < length l.contents) (sym c.self.view_is)
+    c.requires.cell in
+    own_is library c.self.invariant c.args.cell.0 below
 
 pub invariant_of-self : goal.invariant_of-self
 invariant_of-self c =
