@@ -16,9 +16,11 @@ pub mod Libraries
 pub mod Limits
 pub mod MaterialBelow
 pub mod OwnBoxes
+pub mod OwnRestorations
 pub mod PartCounts
 pub mod PartTiles
 pub mod Refusals
+pub mod Restorations
 pub mod Seen
 pub mod Spans
 pub mod Spots
