@@ -18,7 +18,8 @@ ghost use Rattle.cell_library.specs.Limits.{HullIs};
 ghost use Rattle.cell_library.specs.Refusals.{Answers, AnswersOrLacksMemory, EditIsRefused, NewCellIsRefused, PaintIsRefused, EraseIsRefused};
 ghost use Rattle.cell_library.specs.Refusals.{NothingElse};
 ghost use Rattle.cell_library.specs.Refusals.{LabelIsRefused, UnlabelIsRefused, PlaceIsRefused, ArrayIsRefused, MoveIsRefused, DeleteIsRefused};
-ghost use Rattle.cell_library.specs.Restorations.{repainted, relabelled, without_last_label, IsLawfulView};
+ghost use Rattle.cell_library.specs.LawfulViews.{IsLawfulView, IsSoundView};
+ghost use Rattle.cell_library.specs.Restorations.{repainted, relabelled, without_last_label};
 ghost use Rattle.cell_library.specs.Views.{cell_named, view_at};
 
 use crate::adding::new_cell;
@@ -91,6 +92,14 @@ impl Library {
         ensures { IsLawfulLibrary self.now }
     {
         let _ = &self.tech;
+    }
+
+    /// What holds of what is seen of each library.
+    pub fn sound_view(&self)
+        ensures { IsSoundView (seen self.now) }
+    {
+        self.lawful();
+        self.all_sound();
     }
 
     /// The cell of this name.
@@ -179,7 +188,7 @@ impl Library {
     }
 
     /// What holds of the paint of each cell.
-    pub fn all_sound(&self)
+    pub(crate) fn all_sound(&self)
         ensures { All IsSoundHeld self.now.contents }
     {
         self.contents.all_sound();

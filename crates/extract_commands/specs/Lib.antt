@@ -6,3 +6,6 @@ pub mod CommandExtract
 pub mod CommandGenerate
 pub mod CommandVectors
 pub mod MadeStacks
+pub mod OneCircuits
+pub mod OneEffects
+pub mod OneExtractions

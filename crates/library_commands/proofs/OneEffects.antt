@@ -133,5 +133,6 @@ module _ (one : UncleanCellsBelowAreUnique) (look : Look) (name : List ℕ) (wor
 
 pub looks_do_one_thing : UncleanCellsBelowAreUnique → LookMeansOneEffect
 looks_do_one_thing one look number None name effect other sees p q = p ∙ sym q
-looks_do_one_thing one look number (Some work) name effect other (library, lawful, is) p q =
+looks_do_one_thing one look number (Some work) name effect other sound p q =
+    let (library, lawful, is) = sound.lawful in
     of_name one look name work library lawful is number (cell_named work.editing.library name) refl effect other p q

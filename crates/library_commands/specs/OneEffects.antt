@@ -4,7 +4,7 @@ use Rattle.outside_io.specs.Files.{Files}
 use Rattle.session_model.specs.Effects.{Effect}
 use Rattle.script_lines.specs.declared.commands.Command.{Command}
 use Rattle.look_commands.specs.declared.looks.Look.{Look}
-use Rattle.workspace.specs.KeptSessions.{SeesLawfulLibrary}
+use Rattle.workspace.specs.KeptSessions.{SeesSoundLibrary}
 use Rattle.workspace.specs.States.{State}
 use Rattle.library_commands.specs.CommandEdits.{EditMeans}
 use Rattle.library_commands.specs.CommandLoad.{LoadMeans}
@@ -32,5 +32,5 @@ EditMeansOneEffect =
 -- and each that looks at a cell of a lawful library
 abbrev pub LookMeansOneEffect : Type 0
 LookMeansOneEffect =
-    (look : Look) (number : ℕ) (state : State) (name : List ℕ) (effect other : Effect State) → SeesLawfulLibrary state
+    (look : Look) (number : ℕ) (state : State) (name : List ℕ) (effect other : Effect State) → SeesSoundLibrary state
     → LookMeans look number state name effect → LookMeans look number state name other → effect ≡ other

@@ -15,9 +15,9 @@ use Rattle.circuit_uniqueness.specs.Ext2simEffects.{Ext2simMeansOneEffect}
 use Rattle.simulation_uniqueness.specs.Simulations.{SimrunMeansOneEffect}
 use Rattle.extract_commands.specs.OneEffects.{CircuitMeansOneEffect, ExtractMeansOneEffect, GenerateMeansOneEffect, VectorsMeansOneEffect}
 use Rattle.library_commands.specs.OneEffects.{EditMeansOneEffect, LoadMeansOneEffect, LookMeansOneEffect, TechMeansOneEffect}
-use Rattle.library_commands.specs.Workspace.KeptSessions.{SeesLawfulLibrary}
+use Rattle.library_commands.specs.Workspace.KeptSessions.{SeesSoundLibrary}
 use Rattle.library_commands.specs.Workspace.States.{State}
-use Rattle.library_commands.proofs.SessionLaws.{lawful_is_seen}
+use Rattle.library_commands.proofs.SessionLaws.{library_is_seen}
 use Rattle.magex_top.specs.declared.session.RunSession.{RunSession}
 use Rattle.magex_top.specs.Sessions.{CommandMeans, IsRunSession, LineMeans, ReadLineMeans, RunLineMeans, RunState, run_state_of, session_effect}
 
@@ -42,8 +42,8 @@ record Laws : Type 0 where
   ext2sim : Ext2simMeansOneEffect
   simrun : SimrunMeansOneEffect
 
-module _ (laws : Laws) (budget number : ℕ) (state : State) (files : Files) (sees : SeesLawfulLibrary state) (effect other : Effect State)
-    (leaves : SeesLawfulLibrary effect.state) where
+module _ (laws : Laws) (budget number : ℕ) (state : State) (files : Files) (sees : SeesSoundLibrary state) (effect other : Effect State)
+    (leaves : SeesSoundLibrary effect.state) where
   -- each command
   one_command : (asked : Command) → CommandMeans budget number state files asked effect → CommandMeans budget number state files asked other
       → effect ≡ other
@@ -69,7 +69,7 @@ module _ (laws : Laws) (budget number : ℕ) (state : State) (files : Files) (se
   one_command (command.Ext2sim cell) p q = one_free state _ (laws.ext2sim number files cell) effect other p q
   one_command (command.Vectors cell name) p q = laws.vectors budget number state files cell name effect other sees p q
   one_command (command.Simrun cell name) p q = one_free state _ (laws.simrun budget number files cell name) effect other p q
-  one_command (command.Generate count) p q = laws.generate budget number state count effect other sees leaves p q
+  one_command (command.Generate count) p q = laws.generate budget number state count effect other leaves p q
 
   -- each line that was read
   one_read : (read : Result (Option Command) LineFault) → ReadLineMeans budget number state files read effect
@@ -79,9 +79,9 @@ module _ (laws : Laws) (budget number : ℕ) (state : State) (files : Files) (se
   one_read (Err fault) p q = p ∙ sym q
 
 -- a sound run sees a lawful library
-run_sees_lawful : (run : RunState) → IsSoundState run_state_of IsRunSession run → SeesLawfulLibrary run.session
+run_sees_lawful : (run : RunState) → IsSoundState run_state_of IsRunSession run → SeesSoundLibrary run.session
 run_sees_lawful run (session, sound, is) =
-    subst (λ (at : RunState). SeesLawfulLibrary at.session) is (lawful_is_seen session.session sound.1)
+    subst (λ (at : RunState). SeesSoundLibrary at.session) is (library_is_seen session.session sound.1)
 
 -- each line of a run
 pub one_line : Laws → HasOneEffect (MeansInSound run_state_of IsRunSession RunLineMeans) RunLineMeans

@@ -46,7 +46,7 @@ impl Session for RunSession {
         line: &[u8],
     ) -> Result<Answer, Halt> {
         let answered = answer_line(alloc, &mut self.session, shelf, number, self.budget, line);
-        self.session.lawful();
+        self.session.sound_library();
         answered
     }
 }

@@ -1,7 +1,8 @@
 -- The state of a session as the program keeps it.
-use Rattle.std.specs.Prelude.{◌≡◌, IfSome}
+use Rattle.std.specs.Prelude.{IfSome}
 use Rattle.std.specs.Option.{option_map}
-use Rattle.cell_library.specs.Libraries.{IsLawfulLibrary, LibraryParts, seen}
+use Rattle.cell_library.specs.LawfulViews.{IsSoundView}
+use Rattle.cell_library.specs.Libraries.{seen}
 use Rattle.edit_script.specs.Editing.{IsCurrent, editing_of}
 use Rattle.ext_cache.specs.Caches.{Agrees, is_dirty}
 use Rattle.workspace.specs.declared.cells.Edited.{Edited}
@@ -24,10 +25,10 @@ pub record IsEdited (edited : Edited) : Type 0 where
 abbrev pub IsSession : LayoutSession → Type 0
 IsSession session = IfSome session.edited IsEdited
 
--- The library that is kept, if there is one, is lawful.
-abbrev pub KeepsLawfulLibrary : LayoutSession → Type 0
-KeepsLawfulLibrary session = IfSome session.edited (λ edited. IsLawfulLibrary edited.library)
+-- The library that is kept, if there is one, is lawful, and its paint is sound.
+abbrev pub KeepsSoundLibrary : LayoutSession → Type 0
+KeepsSoundLibrary session = IfSome session.edited (λ edited. IsSoundView (seen edited.library))
 
--- Some lawful library is seen in the state, where there is a technology.
-abbrev pub SeesLawfulLibrary : State → Type 0
-SeesLawfulLibrary state = IfSome state (λ work. (library : LibraryParts) × IsLawfulLibrary library × (seen library ≡ work.editing.library))
+-- The library of the state, if there is one, is that of a lawful library with sound paint.
+abbrev pub SeesSoundLibrary : State → Type 0
+SeesSoundLibrary state = IfSome state (λ work. IsSoundView work.editing.library)

@@ -16,16 +16,16 @@ use Rattle.network_runs.specs.declared.network_runs.NetworkRun.TheVariants.{Vect
 use Rattle.network_runs.specs.NetworkRuns.{TellsCircuit}
 use Rattle.network_runs.specs.Simulations.{vec_file}
 use Rattle.simulation_uniqueness.specs.Simulations.{CircuitAnswersAreUnique}
-use Rattle.extract_commands.specs.Workspace.declared.extractions.Extraction.{Extraction}
-use Rattle.extract_commands.specs.Workspace.Extractions.{with_clean}
-use Rattle.extract_commands.specs.Workspace.States.{State}
+use Rattle.workspace.specs.declared.extractions.Extraction.{Extraction}
+use Rattle.workspace.specs.Extractions.{with_clean}
+use Rattle.workspace.specs.States.{State}
 use Rattle.extract_commands.specs.CellRuns.{RunsCell, RunsExtracted, TellsAt}
 use Rattle.extract_commands.specs.CommandVectors.{RunsFetched}
-use Rattle.extraction_uniqueness.specs.CellCircuits.{CellCircuitsAreUnique, CellCircuitsPassNoLimit, CellLimitsAreUnique}
-use Rattle.extraction_uniqueness.specs.CellExtractions.{ExtractedCellsAreNotRefused, ExtractionsAreUnique, UncleanRefusalsAreUnique}
-use Rattle.extraction_uniqueness.specs.CommandEffects.{VectorsMeansOneEffect}
-use Rattle.extraction_uniqueness.specs.LawfulStates.{IsSoundView}
-use Rattle.extraction_uniqueness.proofs.OnCells.{MeansOneOnCells, one_extracted, one_on_cell}
+use Rattle.extract_commands.specs.OneCircuits.{CellCircuitsAreUnique, CellCircuitsPassNoLimit, CellLimitsAreUnique}
+use Rattle.extract_commands.specs.OneExtractions.{ExtractedCellsAreNotRefused, ExtractionsAreUnique, UncleanRefusalsAreUnique}
+use Rattle.extract_commands.specs.OneEffects.{VectorsMeansOneEffect}
+use Rattle.cell_library.specs.LawfulViews.{IsSoundView}
+use Rattle.extract_commands.proofs.OnCells.{MeansOneOnCells, one_extracted, one_on_cell}
 
 module _ (one_circuit : CellCircuitsAreUnique) (one_limit : CellLimitsAreUnique) (either : CellCircuitsPassNoLimit)
     (one_answer : CircuitAnswersAreUnique) where

@@ -14,11 +14,11 @@ use Rattle.square_lines.specs.HierMerge.UncleanCells.{IsCleanCell}
 use Rattle.library_uniqueness.specs.UncleanCells.{CleanCellsHaveNoneBelow, UncleanCellsBelowAreUnique}
 use Rattle.line_answers.specs.Refusals.{refusal_line}
 use Rattle.square_lines.specs.Offending.{offending_line}
-use Rattle.extract_commands.specs.Workspace.Extractions.{MakesRecord, MakesRecords, ext_store, unattached_line, unclean_refusal}
-use Rattle.extract_commands.specs.Workspace.States.{State}
-use Rattle.extraction_uniqueness.specs.CellExtractions.{ExtractedCellsAreNotRefused, ExtractionsAreUnique, UncleanRefusalsAreUnique}
-use Rattle.extraction_uniqueness.specs.LawfulStates.{IsSoundView}
-use Rattle.extraction_uniqueness.proofs.SoundLibraries.{clean_below_clean, none_below_clean, same_record}
+use Rattle.workspace.specs.Extractions.{MakesRecord, MakesRecords, ext_store, unattached_line, unclean_refusal}
+use Rattle.workspace.specs.States.{State}
+use Rattle.extract_commands.specs.OneExtractions.{ExtractedCellsAreNotRefused, ExtractionsAreUnique, UncleanRefusalsAreUnique}
+use Rattle.cell_library.specs.LawfulViews.{IsSoundView}
+use Rattle.extract_commands.proofs.SoundLibraries.{clean_below_clean, none_below_clean, same_record}
 
 module _ (one_list : UnattachedTextsAreUnique) (view : LibraryView) (sound : IsSoundView view) where
   -- the record of a clean cell is made in one way

@@ -1,9 +1,8 @@
--- The states of which laws of extraction speak: those in which a lawful library is edited.
-use Rattle.std.specs.Prelude.{◌≡◌, All, IfSome}
-use Rattle.cell_library.specs.CellPaint.Paints.{IsSoundPaint}
+-- What is seen of lawful libraries.
+use Rattle.std.specs.Prelude.{◌≡◌, All}
+use Rattle.cell_paint.specs.Paints.{IsSoundPaint}
 use Rattle.cell_library.specs.Libraries.{IsLawfulLibrary, LibraryParts, seen}
 use Rattle.cell_library.specs.Views.{LibraryView}
-use Rattle.extract_commands.specs.Workspace.States.{State}
 
 -- Some lawful library is seen so.
 abbrev pub IsLawfulView : LibraryView → Type 0
@@ -17,7 +16,3 @@ HasSoundPaint view = All (λ body. IsSoundPaint view.tech.types body.own) view.c
 pub record IsSoundView (view : LibraryView) : Type 0 where
   pub lawful : IsLawfulView view
   pub paint : HasSoundPaint view
-
--- Where there is a library, it is lawful and its paint is sound.
-abbrev pub SeesLawful : State → Type 0
-SeesLawful state = IfSome state (λ work. IsSoundView work.editing.library)

@@ -6,13 +6,14 @@ use Rattle.cell_library.specs.Views.{cell_named}
 use Rattle.edit_script.proofs.CellLaws.{named_below}
 use Rattle.line_answers.specs.LineEffects.{refused, reply}
 use Rattle.line_answers.specs.Refusals.{no_cell}
-use Rattle.extract_commands.specs.Workspace.declared.extractions.Extraction.{Extraction}
-use Rattle.extract_commands.specs.Workspace.Extractions.{IsExtraction, OnCell, RefusesUnclean, with_clean}
-use Rattle.extract_commands.specs.Workspace.States.{State, Workspace}
+use Rattle.workspace.specs.declared.extractions.Extraction.{Extraction}
+use Rattle.workspace.specs.Extractions.{IsExtraction, OnCell, RefusesUnclean, with_clean}
+use Rattle.workspace.specs.States.{State, Workspace}
 use Rattle.extract_commands.specs.CommandExtract.{ExtractsCell, extracted_text}
-use Rattle.extraction_uniqueness.specs.CellExtractions.{ExtractedCellsAreNotRefused, ExtractionsAreUnique, UncleanRefusalsAreUnique}
-use Rattle.extraction_uniqueness.specs.CommandEffects.{ExtractMeansOneEffect}
-use Rattle.extraction_uniqueness.specs.LawfulStates.{IsSoundView, SeesLawful}
+use Rattle.extract_commands.specs.OneExtractions.{ExtractedCellsAreNotRefused, ExtractionsAreUnique, UncleanRefusalsAreUnique}
+use Rattle.extract_commands.specs.OneEffects.{ExtractMeansOneEffect}
+use Rattle.cell_library.specs.LawfulViews.{IsSoundView}
+use Rattle.workspace.specs.KeptSessions.{SeesSoundLibrary}
 
 -- what is meant of each cell of a lawful library is one effect
 abbrev pub MeansOneOnCells : (Workspace → ℕ → Effect State → Type 0) → Type 0
@@ -21,7 +22,7 @@ MeansOneOnCells Means =
     → Means work cell effect → Means work cell other → effect ≡ other
 
 -- so what a command on the cell of a name means is
-pub one_on_cell : (number : ℕ) (state : State) (name : List ℕ) (Means : Workspace → ℕ → Effect State → Type 0) → SeesLawful state
+pub one_on_cell : (number : ℕ) (state : State) (name : List ℕ) (Means : Workspace → ℕ → Effect State → Type 0) → SeesSoundLibrary state
     → MeansOneOnCells Means → (effect other : Effect State) → OnCell number state name Means effect → OnCell number state name Means other
     → effect ≡ other
 one_on_cell number None name Means sees one effect other p q = p ∙ sym q

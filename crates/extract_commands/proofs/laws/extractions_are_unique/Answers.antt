@@ -1,5 +1,5 @@
-use Rattle.extraction_uniqueness.proofs.OneExtraction.{not_refused, same_extraction, same_refusal}
-use Rattle.extraction_uniqueness.proofs.extractions_are_unique.Goals as goal
+use Rattle.extract_commands.proofs.OneExtraction.{not_refused, same_extraction, same_refusal}
+use Rattle.extract_commands.proofs.laws.extractions_are_unique.Goals as goal
 
 pub returns : goal.returns
 returns c = record {

@@ -11,16 +11,16 @@ use Rattle.circuit_commands.specs.declared.circuits.Written.TheVariants.{Passed,
 use Rattle.circuit_commands.specs.declared.limits.Limit.TheVariants.{Circuit as OfCircuit, Switches, Text}
 use Rattle.circuit_commands.specs.Circuits.{IsWritten, lines_of, stores_of}
 use Rattle.circuit_uniqueness.specs.Ext2simEffects.{WrittenCircuitsAreUnique}
-use Rattle.extract_commands.specs.Workspace.declared.extractions.Extraction.{Extraction}
-use Rattle.extract_commands.specs.Workspace.CellCircuits.{IsCircuitAt, PassesAt}
-use Rattle.extract_commands.specs.Workspace.Extractions.{RefusesUnclean, with_clean}
-use Rattle.extract_commands.specs.Workspace.States.{State}
+use Rattle.workspace.specs.declared.extractions.Extraction.{Extraction}
+use Rattle.workspace.specs.CellCircuits.{IsCircuitAt, PassesAt}
+use Rattle.workspace.specs.Extractions.{RefusesUnclean, with_clean}
+use Rattle.workspace.specs.States.{State}
 use Rattle.extract_commands.specs.CommandCircuits.{IsWrittenAt, WritesCircuit}
-use Rattle.extraction_uniqueness.specs.CellCircuits.{CellCircuitsAreUnique, CellCircuitsPassNoLimit, CellLimitsAreUnique}
-use Rattle.extraction_uniqueness.specs.CellExtractions.{ExtractedCellsAreNotRefused, ExtractionsAreUnique, UncleanRefusalsAreUnique}
-use Rattle.extraction_uniqueness.specs.CommandEffects.{CircuitMeansOneEffect}
-use Rattle.extraction_uniqueness.specs.LawfulStates.{IsSoundView}
-use Rattle.extraction_uniqueness.proofs.OnCells.{MeansOneOnCells, one_extracted, one_on_cell}
+use Rattle.extract_commands.specs.OneCircuits.{CellCircuitsAreUnique, CellCircuitsPassNoLimit, CellLimitsAreUnique}
+use Rattle.extract_commands.specs.OneExtractions.{ExtractedCellsAreNotRefused, ExtractionsAreUnique, UncleanRefusalsAreUnique}
+use Rattle.extract_commands.specs.OneEffects.{CircuitMeansOneEffect}
+use Rattle.cell_library.specs.LawfulViews.{IsSoundView}
+use Rattle.extract_commands.proofs.OnCells.{MeansOneOnCells, one_extracted, one_on_cell}
 
 -- what is written of the circuit of a cell
 abbrev WritesCircuitAt : CircuitFile → LibraryView → ℕ → List ℕ → Written → Type 0

@@ -4,8 +4,8 @@ use Rattle.ext_model.specs.declared.circuits.Circuit.{Circuit}
 use Rattle.circuit_model.specs.declared.limits.CircuitLimit.{CircuitLimit}
 use Rattle.cell_library.specs.Views.{LibraryView}
 use Rattle.square_lines.specs.HierMerge.UncleanCells.{IsCleanCell}
-use Rattle.extract_commands.specs.Workspace.CellCircuits.{IsCircuitAt, PassesAt}
-use Rattle.extraction_uniqueness.specs.LawfulStates.{IsSoundView}
+use Rattle.workspace.specs.CellCircuits.{IsCircuitAt, PassesAt}
+use Rattle.cell_library.specs.LawfulViews.{IsSoundView}
 
 -- a clean cell of a lawful library has one circuit
 abbrev pub CellCircuitsAreUnique : Type 0

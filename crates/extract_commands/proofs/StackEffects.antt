@@ -7,14 +7,15 @@ use Rattle.cell_library.specs.Views.{CellView, LibraryView}
 use Rattle.layout_gen.specs.Generated.{IsGenerated, array_cell, row_grid, row_name, stack_grid, stack_name, tile_cell, with_generated}
 use Rattle.network_runs.specs.declared.network_runs.NetworkRun.TheVariants.{Stack}
 use Rattle.simulation_uniqueness.specs.Simulations.{CircuitAnswersAreUnique}
-use Rattle.extract_commands.specs.Workspace.States.{State, Workspace}
+use Rattle.workspace.specs.States.{State, Workspace}
 use Rattle.extract_commands.specs.CellRuns.{RunsExtracted}
 use Rattle.extract_commands.specs.CommandGenerate.{GeneratesStack, MakesStack, stack_cell, with_stack}
-use Rattle.extraction_uniqueness.specs.CellCircuits.{CellCircuitsAreUnique, CellCircuitsPassNoLimit, CellLimitsAreUnique}
-use Rattle.extraction_uniqueness.specs.CellExtractions.{ExtractedCellsAreNotRefused, ExtractionsAreUnique, UncleanRefusalsAreUnique}
-use Rattle.extraction_uniqueness.specs.CommandEffects.{GenerateMeansOneEffect}
-use Rattle.extraction_uniqueness.specs.LawfulStates.{IsSoundView, SeesLawful}
-use Rattle.extraction_uniqueness.proofs.RunEffects.{same_run}
+use Rattle.extract_commands.specs.OneCircuits.{CellCircuitsAreUnique, CellCircuitsPassNoLimit, CellLimitsAreUnique}
+use Rattle.extract_commands.specs.OneExtractions.{ExtractedCellsAreNotRefused, ExtractionsAreUnique, UncleanRefusalsAreUnique}
+use Rattle.extract_commands.specs.OneEffects.{GenerateMeansOneEffect}
+use Rattle.cell_library.specs.LawfulViews.{IsSoundView}
+use Rattle.workspace.specs.KeptSessions.{SeesSoundLibrary}
+use Rattle.extract_commands.proofs.RunEffects.{same_run}
 
 -- a library has one with the cells that are made from a number
 same_generated : (old new other : LibraryView) (n : ℕ) → IsGenerated old n new → IsGenerated old n other → new ≡ other
@@ -36,15 +37,15 @@ stack_there work after n generated =
 
 -- what is run of a cell leaves the library
 library_after : (budget number n : ℕ) (work : Workspace) (cell : ℕ) (effect : Effect State) → RunsExtracted (Stack n) budget number [] work cell effect
-    → SeesLawful effect.state → IsSoundView work.editing.library
-library_after budget number n work cell effect (inl runs) sees = subst SeesLawful (ap (λ (e : Effect State). e.state) runs.is) sees
-library_after budget number n work cell effect (inr refuses) sees = subst SeesLawful (ap (λ (e : Effect State). e.state) refuses.is) sees
+    → SeesSoundLibrary effect.state → IsSoundView work.editing.library
+library_after budget number n work cell effect (inl runs) sees = subst SeesSoundLibrary (ap (λ (e : Effect State). e.state) runs.is) sees
+library_after budget number n work cell effect (inr refuses) sees = subst SeesSoundLibrary (ap (λ (e : Effect State). e.state) refuses.is) sees
 
 module _ (one_circuit : CellCircuitsAreUnique) (one_limit : CellLimitsAreUnique) (either : CellCircuitsPassNoLimit)
     (one_answer : CircuitAnswersAreUnique) (one_extraction : ExtractionsAreUnique) (one_refusal : UncleanRefusalsAreUnique)
     (not_both : ExtractedCellsAreNotRefused) where
   -- the stack is made with one effect
-  same_made : (budget number n : ℕ) (work : Workspace) (effect other : Effect State) → SeesLawful effect.state → MakesStack budget number n work effect
+  same_made : (budget number n : ℕ) (work : Workspace) (effect other : Effect State) → SeesSoundLibrary effect.state → MakesStack budget number n work effect
       → MakesStack budget number n work other → effect ≡ other
   same_made budget number n work effect other sees p q =
       let after = same_generated work.editing.library p.after q.after n p.generated q.generated in
@@ -56,7 +57,7 @@ module _ (one_circuit : CellCircuitsAreUnique) (one_limit : CellLimitsAreUnique)
       (stack_there work p.after n p.generated) effect other p.extracts extracts
 
   -- or it is refused
-  same_stack : (budget number n : ℕ) (work : Workspace) (effect other : Effect State) → SeesLawful effect.state
+  same_stack : (budget number n : ℕ) (work : Workspace) (effect other : Effect State) → SeesSoundLibrary effect.state
       → GeneratesStack budget number n work effect → GeneratesStack budget number n work other → effect ≡ other
   same_stack budget number n work effect other sees (inl p) (inl q) = same_made budget number n work effect other sees p q
   same_stack budget number n work effect other sees (inl p) (inr q) = absurd (let none = p.accepted in let some = q.is_fault in let no : ⊥ = cc in no)

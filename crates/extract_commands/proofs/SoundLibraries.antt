@@ -1,24 +1,20 @@
 -- What a lawful library with sound paint is seen as: its clean cells have one record and a clean tree, and what is below them is clean.
-use Rattle.std.proofs.Common.{◌≡◌, ◌<◌, ℕ, List, length, refl, sym, ap, subst, arith}
-use Rattle.std.specs.Prelude.{All}
-use Rattle.std.proofs.lemmas.List.{get_or_default}
+use Rattle.std.proofs.Common.{◌≡◌, ◌<◌, ℕ, List, length, ap, subst, arith}
 use Rattle.finite_sets.specs.Chain.{Chain}
 use Rattle.geo_core.specs.declared.squares.Rect.{Rect}
 use Rattle.use_orders.specs.Uses.{UsesCell}
 use Rattle.ext_model.specs.declared.arrays.ArrayExt.{ArrayExt}
-use Rattle.cell_library.specs.TechModel.declared.raw.TypeRec.{TypeRec}
 use Rattle.cell_library.specs.TechModel.Rules.{KeepsRules}
 use Rattle.cell_library.specs.TechModel.WellFormed.{IsWellFormed}
 use Rattle.cell_library.specs.LowerLayoutTrees.FlatSets.{IsTyped}
-use Rattle.cell_library.specs.LowerLayoutTrees.LayoutModel.Layouts.{Layout}
-use Rattle.cell_library.specs.CellPaint.Paints.{IsSoundPaint, layout_of}
 use Rattle.cell_library.specs.Additions.{children_in}
-use Rattle.cell_library.specs.Contents.{IsSoundHeld, held_at, no_held}
+use Rattle.cell_library.specs.LawfulViews.{HasSoundPaint, IsLawfulView, IsSoundView}
 use Rattle.cell_library.specs.LayoutTrees.{tree_at}
-use Rattle.cell_library.specs.Libraries.{IsLawfulLibrary, LibraryParts, seen, uses_in}
-use Rattle.cell_library.specs.Views.{CellView, LibraryView, no_cell, view_at}
+use Rattle.cell_library.specs.Libraries.{IsLawfulLibrary, LibraryParts, seen}
+use Rattle.cell_library.specs.Views.{LibraryView, view_at}
+use Rattle.cell_library.proofs.LawfulViews.{held_sound}
 use Rattle.cell_library.proofs.TreeTypes.{library_is_typed}
-use Rattle.cell_library.proofs.ViewLaws.{cell_viewed, count_seen}
+use Rattle.cell_library.proofs.ViewLaws.{count_seen}
 use Rattle.kept_records.specs.CellRecords.{IsRecordOf}
 use Rattle.kept_records.specs.LibraryTrees.NamedCells.{named_tree_at}
 use Rattle.kept_records.specs.NamedTrees.NamedTrees.{NamedTree, own_body}
@@ -29,7 +25,7 @@ use Rattle.library_record_uniqueness.proofs.OneRecord.{one_record}
 use Rattle.square_lines.specs.HierMerge.UncleanCells.{IsCleanCell, IsUncleanBelow}
 use Rattle.library_uniqueness.proofs.CleanBelow.{all_are_clean}
 use Rattle.library_uniqueness.specs.UncleanCells.{CleanCellsHaveNoneBelow}
-use Rattle.extraction_uniqueness.specs.LawfulStates.{HasSoundPaint, IsLawfulView, IsSoundView}
+
 
 -- ---- what is said of a library
 
@@ -61,38 +57,10 @@ abbrev HasLawfulTech : LibraryView → Type 0
 HasLawfulTech view = IsWellFormed view.tech × KeepsRules view.tech
 
 module _ (library : LibraryParts) (lawful : IsLawfulLibrary library) where
-  -- a cell is seen with what is kept of its paint
-  own_seen : (cell : ℕ) → cell < length library.contents
-      → (view_at (seen library) cell).own ≡ layout_of (held_at library.contents cell).paint
-  own_seen cell below = ap (λ (body : CellView). body.own) (cell_viewed library.contents (uses_in library.tree.cells) cell below)
-
-  -- what is kept sound is seen so
-  pub sound_view : All IsSoundHeld library.contents → IsSoundView (seen library)
-  sound_view sound = record {
-    lawful = (library, lawful, refl);
-    paint = λ k d below.
-        let there : k < length library.contents = omega (arith, below, count_seen library) in
-        let held = held_at library.contents k in
-        let kept = subst (λ (types : List TypeRec). IsSoundPaint types (layout_of held.paint)) (lawful.each k no_held there).kinds
-        (sound k no_held there) in
-        subst (λ (body : CellView). IsSoundPaint library.tech.types body.own) (get_or_default (seen library).cells k no_cell d below)
-        (subst (λ (layout : Layout). IsSoundPaint library.tech.types layout) (sym (own_seen k there)) kept);
-  }
-
   module _ (paint : HasSoundPaint (seen library)) where
-    -- what is kept of the paint of each cell is sound
-    held_sound : All IsSoundHeld library.contents
-    held_sound k d below =
-        let held = held_at library.contents k in
-        let is = lawful.each k no_held below in
-        let here : IsSoundPaint library.tech.types (view_at (seen library) k).own = paint k no_cell (omega (arith, below, count_seen library)) in
-        subst IsSoundHeld (get_or_default library.contents k no_held d below)
-        (subst (λ (types : List TypeRec). IsSoundPaint types (layout_of held.paint)) (sym is.kinds)
-        (subst (λ (layout : Layout). IsSoundPaint library.tech.types layout) (own_seen k below) here))
-
     -- so types are those of the technology
     typed : (cell : ℕ) → IsTyped library.tech (tree_at (seen library) cell)
-    typed = library_is_typed library lawful held_sound
+    typed = library_is_typed library lawful (held_sound library lawful paint)
 
     one_record_seen : HasOneRecord (seen library)
     one_record_seen cell ext other clean = one_record library lawful cell (typed cell) ext other clean

@@ -9,10 +9,10 @@ use Rattle.kept_records.specs.TreeRecords.TreeRecords.{HasTreeRecords}
 use Rattle.record_uniqueness.specs.RecordUniqueness.{RecordsOfTreesAreUnique}
 use Rattle.square_lines.specs.HierMerge.UncleanCells.{IsCleanCell}
 use Rattle.circuit_uniqueness.specs.FlatCircuits.{AgreeBelow, FlatCircuitsAreUnique, FlatCircuitsHaveNoFault, FlatFaultsAreUnique}
-use Rattle.extraction_uniqueness.specs.CellCircuits.{CellCircuitsAreUnique, CellCircuitsPassNoLimit, CellLimitsAreUnique}
-use Rattle.extraction_uniqueness.specs.LawfulStates.{IsSoundView}
-use Rattle.extraction_uniqueness.proofs.ReachedRecords.{agree_below}
-use Rattle.extraction_uniqueness.proofs.SoundLibraries.{clean_tree_seen, lawful_tech, tree_named}
+use Rattle.extract_commands.specs.OneCircuits.{CellCircuitsAreUnique, CellCircuitsPassNoLimit, CellLimitsAreUnique}
+use Rattle.cell_library.specs.LawfulViews.{IsSoundView}
+use Rattle.extract_commands.proofs.ReachedRecords.{agree_below}
+use Rattle.extract_commands.proofs.SoundLibraries.{clean_tree_seen, lawful_tech, tree_named}
 
 -- a fault tells of one limit
 one_limit : (limit other : CircuitLimit) → FlatTooMany limit ≡ FlatTooMany other → limit ≡ other

@@ -1,10 +1,10 @@
 -- What the extraction of a cell is held to.
 use Rattle.std.specs.Prelude.{◌≡◌, ◌<◌, ℕ, List, length}
 use Rattle.session_model.specs.Effects.{Effect}
-use Rattle.extract_commands.specs.Workspace.declared.extractions.Extraction.{Extraction}
-use Rattle.extract_commands.specs.Workspace.Extractions.{IsExtraction, RefusesUnclean}
-use Rattle.extract_commands.specs.Workspace.States.{State, Workspace}
-use Rattle.extraction_uniqueness.specs.LawfulStates.{IsLawfulView, IsSoundView}
+use Rattle.workspace.specs.declared.extractions.Extraction.{Extraction}
+use Rattle.workspace.specs.Extractions.{IsExtraction, RefusesUnclean}
+use Rattle.workspace.specs.States.{State, Workspace}
+use Rattle.cell_library.specs.LawfulViews.{IsLawfulView, IsSoundView}
 
 -- a cell of a lawful library has one extraction, and the cells at and below it have one order
 abbrev pub ExtractionsAreUnique : Type 0

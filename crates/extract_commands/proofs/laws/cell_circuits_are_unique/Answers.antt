@@ -1,5 +1,5 @@
-use Rattle.extraction_uniqueness.proofs.OneCircuit.{passes_none, same_circuit, same_limit}
-use Rattle.extraction_uniqueness.proofs.cell_circuits_are_unique.Goals as goal
+use Rattle.extract_commands.proofs.OneCircuit.{passes_none, same_circuit, same_limit}
+use Rattle.extract_commands.proofs.laws.cell_circuits_are_unique.Goals as goal
 
 pub returns : goal.returns
 returns c = record {

@@ -1,4 +1,0 @@
-pub mod LawfulStates
-pub mod CellExtractions
-pub mod CellCircuits
-pub mod CommandEffects
