@@ -1,6 +1,6 @@
 -- Tables of uses: what a look-up by an id finds, and what an edit of the map makes of the uses.
 use Rattle.std.proofs.Common.{◌≡◌, inl, inr, ℕ, zero, suc, true, eqb, true≢false, List, [], ◌∷◌, ◌++◌, take, drop, map, Some, None, refl, sym, ap, subst, ◌∙◌, Vec, Global}
-use Rattle.std.specs.Prelude.{slice_get, remove, Result, Ok, Err, IsOk, OnOk, OnErr, IfErr}
+use Rattle.std.specs.Prelude.{slice_get, remove, Option, Result, Ok, Err, IsOk, IsSome, IfOk, OnOk, OnErr, IfErr}
 use Rattle.std.specs.Option.{option_map}
 use Rattle.std.specs.Cmp.Lexicographic.{pointwise, bytes_decides}
 use Rattle.std.specs.Map.{lookup, lookup_key}
@@ -15,6 +15,16 @@ use Rattle.cell_tree.specs.Uses.{HasIdAt, with_use_at}
 pub on_ok : {A E : Type 0} (r : Result A E) (P : Type 0) → IsOk r → OnOk r P → P
 on_ok (Ok x) P is holds = holds
 on_ok (Err e) P is holds = absurd (cc)
+
+-- and what it says of the value
+pub value_of : {A E : Type 0} (r : Result A E) (P : A → Type 0) → IsOk r → IfOk r P → (x : A) × P x
+value_of (Ok x) P is holds = (x, holds)
+value_of (Err e) P is holds = absurd (cc)
+
+-- what there is is not missing
+pub some_or_none : {A : Type 0} (o : Option A) → IsSome o → o ≡ None → ⊥
+some_or_none None is none = absurd (cc)
+some_or_none (Some x) is none = absurd (cc)
 
 -- what is not found has no place
 pub lookup_none : (id : List ℕ) (es : List (Vec ℕ Global × UseBody)) → lookup (λ key. pointwise eqb id key.items) es ≡ None → (k : ℕ) → HasIdAt (map (λ entry. (entry.0.items, entry.1)) es) k id → ⊥
