@@ -20,6 +20,7 @@ pub mod OwnBoxes
 pub mod OwnRestorations
 pub mod PartCounts
 pub mod PartTiles
+pub mod PutBackUses
 pub mod Refusals
 pub mod Restorations
 pub mod Seen
