@@ -1,16 +1,17 @@
 -- Changes of one cell, and what takes each of them back.
 use Rattle.std.proofs.Common.{◌≡◌, ◌<◌, ℕ, ℤ, true, false, List, [], ◌∷◌, ◌++◌, length, filter, insert, take, refl, sym, ap, subst, ◌∙◌, ◌-◌, neg_ℤ}
-use Rattle.std.specs.Prelude.{Option, Some, not, slice_get}
+use Rattle.std.specs.Prelude.{Bool, Option, not, if◌then◌else◌}
 use Rattle.std.specs.Str.{bytes_eq}
 use Rattle.geo_core.specs.declared.grids.Grid.{Grid}
 use Rattle.geo_core.specs.declared.squares.Rect.{Rect}
+use Rattle.geo_core.specs.declared.squares.Piece.{Piece}
 use Rattle.geo_core.specs.Covering.{is_covered}
 use Rattle.cell_library.specs.LowerLayoutTrees.LayoutModel.Layouts.{Layout}
 use Rattle.cell_library.specs.LowerLayoutTrees.LayoutModel.Places.{Place}
 use Rattle.tech_model.specs.declared.raw.Label.{Label}
 use Rattle.cell_tree.specs.declared.use_tables.UseBody.{UseBody}
 use Rattle.cell_paint.specs.Paints.{IsSoundPaint}
-use Rattle.undo_log.specs.Pieces.{with_pieces}
+use Rattle.undo_log.specs.Pieces.{kind_by, with_pieces}
 use Rattle.undo_log.proofs.PieceLaws.{taken_brings_back}
 use Rattle.cell_library.specs.Edits.{moved_use, with_use_changed}
 use Rattle.cell_library.specs.Refusals.{has_id}
@@ -78,6 +79,13 @@ module _ (view : LibraryView) (cell : ℕ) (there : cell < length view.cells) wh
       brought : with_pieces area puts.pieces (change body.own) ≡ body.own
       brought = λ i place. taken_brings_back body.own area puts.pieces puts.taken (change body.own) (outside body.own) place i
 
+  -- pieces that are put into an area are taken back
+  pub repaint_taken_back : (area : Rect) (pieces : List (ℕ × Piece)) (back : Change) → PutsBack view.tech body area back
+      → TakesBack view (with_cell_changed view cell (remade (Repaint area pieces))) cell back
+  repaint_taken_back area pieces back puts =
+      paint_taken_back area back (with_pieces area pieces)
+      (λ layout place outside. ap (λ (b : Bool). if b then kind_by pieces place else layout place) outside) puts
+
   -- ---- uses
 
   -- a use that comes is taken back when it goes
@@ -141,3 +149,9 @@ module _ (view : LibraryView) (cell : ℕ) (there : cell < length view.cells) wh
       → TakesBack view (with_cell_changed view cell (λ held. record held { labels = change held.labels })) cell (SetLabels body.labels)
   labels_taken_back change =
       taken_back view cell (λ held. record held { labels = change held.labels }) (SetLabels body.labels) there tt refl
+
+-- what takes a change of a cell back, where it stands for another
+pub change_taken_back : (view : LibraryView) (cell : ℕ) (change back : Change) → TakesBack view (with_cell_changed view cell (remade change)) cell back
+    → TakesBack view (changed view cell change) cell back
+change_taken_back view cell change back takes =
+    subst (λ (after : LibraryView). TakesBack view after cell back) (sym (changed_is view cell change)) takes

@@ -7,3 +7,4 @@ pub mod MoreCells
 pub mod DesignerLaws
 pub mod EditLaws
 pub mod LeadLaws
+pub mod UseMoves

@@ -1,5 +1,5 @@
 //! What takes edits and changes back, made of the library as it is before them.
-ghost use Rattle.std.specs.Prelude.{◌≡◌, ◌<◌, ◌&&◌, true, length, IfOk, IsSomeAnd, Some};
+ghost use Rattle.std.specs.Prelude.{◌≡◌, ◌<◌, ◌&&◌, true, length, IfOk, false, IsSomeAnd, MatchOption, Some};
 ghost use Rattle.geo_core.specs.Areas.{IsNear, has_square};
 ghost use Rattle.geo_core.specs.Covering.{IsProper};
 ghost use Rattle.cell_library.specs.CellPaint.Painting.{is_in_range};
@@ -46,6 +46,22 @@ fn paint_back(library: &Library, cell: CellKey, area: Rect) -> Result<Change, Al
         Ok(pieces) => Ok(Change::Repaint(area, List::of(pieces))),
         Err(_) => Err(AllocError),
     }
+}
+
+// The same, if paint may go over the area.
+fn brush_back(
+    library: &Library,
+    cell: CellKey,
+    area: Rect,
+) -> Result<Option<Change>, AllocError>
+    requires cell { cell.0 < length library.now.contents }
+    ensures { IfOk result (λ made. MatchOption made ((has_square area && is_in_range area) ≡ false)
+        (PutsBack library.now.tech (view_at (seen library.now) cell.0) area)) }
+{
+    if !can_be_painted(&area) {
+        return Ok(None);
+    }
+    Ok(Some(paint_back(library, cell, area)?))
 }
 
 // What brings the use of the id again where it stands, if there is one.
@@ -131,14 +147,10 @@ pub fn inverse_of_edit(
     ensures { IfOk result (λ made. Accepts (editing_of library.now (Some cell)) command.now
         → IsSomeAnd made (TakesBack (seen library.now) (applied (editing_of library.now (Some cell)) command.now).library cell.0)) }
 {
+    library.lawful();
     match command {
-        Command::Paint(_, area) | Command::Erase(_, area) => {
-            if can_be_painted(area) {
-                Ok(Some(paint_back(library, cell, *area)?))
-            } else {
-                Ok(None)
-            }
-        }
+        Command::Paint(_, area) => brush_back(library, cell, *area),
+        Command::Erase(_, area) => brush_back(library, cell, *area),
         Command::Place(_, id, _) => Ok(Some(Change::DeleteUse(id.copy(alloc)?))),
         Command::Array(id, _) => grid_back(alloc, library, cell, id),
         Command::Move(id, dx, dy) => Ok(Some(Change::MoveUse(id.copy(alloc)?, -*dx, -*dy))),
@@ -167,9 +179,11 @@ pub fn inverse_of_change(
     cell: CellKey,
     change: &Change,
 ) -> Result<Change, AllocError>
-    requires { CanBeMade (seen library.now) cell.0 change.now }
+    requires cell { cell.0 < length library.now.contents }
+    requires change { CanBeMade (seen library.now) cell.0 change.now }
     ensures { IfOk result (λ back. TakesBack (seen library.now) (changed (seen library.now) cell.0 change.now) cell.0 back) }
 {
+    library.lawful();
     match change {
         Change::Repaint(area, _) => paint_back(library, cell, *area),
         Change::InsertUse(_, id, _) => Ok(Change::DeleteUse(id.copy(alloc)?)),
