@@ -30,6 +30,16 @@ pub can_take_back : (before after : LibraryView) (cell : ℕ) (back : Change) �
 can_take_back before after cell back lawful takes =
     record { there = takes.there; speaks = takes.speaks; lawful = subst IsLawfulView (sym takes.is) lawful }
 
+-- the first of inverses that lead somewhere can be made
+pub first_can_be_made : (view : LibraryView) (inverses rest : List Inverse) (inverse : Inverse) (versions : List Version) → inverses ≡ inverse ∷ rest
+    → LeadTo view inverses versions → CanBeMade view inverse.cell.0 inverse.change
+first_can_be_made view inverses rest inverse versions is leads =
+    first versions (subst (λ (list : List Inverse). LeadTo view list versions) is leads)
+  where
+    first : (to : List Version) → LeadTo view (inverse ∷ rest) to → CanBeMade view inverse.cell.0 inverse.change
+    first [] none = absurd none
+    first (version ∷ more) leads_on = leads_on.0
+
 -- One more inverse: it leads to the library before, and to the version that a cell has there.
 pub one_more_leads : (before after : LibraryView) (cell : ℕ) (inverse : Inverse) (inverses : List Inverse) (versions : List Version)
     → inverse.cell.0 ≡ cell → IsLawfulView before → TakesBack before after cell inverse.change → LeadTo before inverses versions

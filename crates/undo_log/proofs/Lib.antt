@@ -8,3 +8,4 @@ pub mod DesignerLaws
 pub mod EditLaws
 pub mod LeadLaws
 pub mod UseMoves
+pub mod MakeLaws

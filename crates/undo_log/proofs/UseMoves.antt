@@ -1,7 +1,7 @@
 -- Uses that a lawful library has: which move far, and which ids are new.
 use Rattle.std.proofs.Common.{◌≡◌, ◌<◌, ◌^◌, ◌&&◌, ℕ, zero, suc, ℤ, pos, neg_ℤ, ◌+ℤ◌, ◌-ℤ◌, ◌≤ℤ◌, true, false, Bool, List, [], ◌∷◌, ◌++◌, length, map, take, drop, insert}
 use Rattle.std.proofs.Common.{refl, sym, ap, subst, ◌∙◌, inl, inr, arith, true≢false}
-use Rattle.std.specs.Prelude.{FitsSigned, IsTrue, Some, ◌||◌, slice_get, if◌then◌else◌}
+use Rattle.std.specs.Prelude.{FitsSigned, Some, ◌||◌, slice_get, if◌then◌else◌}
 use Rattle.std.specs.Int.{w64}
 use Rattle.std.specs.Str.{bytes_eq}
 use Rattle.std.proofs.lemmas.Bool.{cases_Bool}
@@ -12,7 +12,6 @@ use Rattle.std.proofs.lemmas.Slice.Eq.{bytes_eq-Decides}
 use Rattle.geo_core.specs.FiniteSets.Lists.{In, Distinct}
 use Rattle.geo_core.proofs.FiniteSets.Distincts.{Distinct-cut}
 use Rattle.script_lines.specs.Forms.{IsNumber}
-use Rattle.cell_library.specs.CellBodies.Numbers.{is_index}
 use Rattle.cell_tree.specs.declared.use_tables.UseBody.{UseBody}
 use Rattle.cell_tree.specs.Uses.{IsLawfulUse}
 use Rattle.cell_library.specs.Edits.{moved, moved_use, with_use_changed}
@@ -95,11 +94,7 @@ moves_are_short view cell id dx dy there lawful lawful_then has =
         → IsShort d
     short z d a b e f = record { low = omega (arith, ints); high = omega (arith, ints) }
 
--- such a displacement may be the index of a grid
-pub short_index : (z : ℤ) → IsShort z → IsTrue (is_index z)
-short_index z is = grind (arith, ints, common_steps)
-
--- and its opposite fits 64 bits
+-- the opposite of such a displacement fits 64 bits
 pub short_opposite : (z : ℤ) → IsShort z → FitsSigned w64 (pos 0 -ℤ to_z w64 (of_z w64 z))
 short_opposite z is =
     let fits : FitsSigned w64 z = record { sfits = grind (arith, ints, common_steps) } in

@@ -1,5 +1,5 @@
 //! A library is brought to an earlier version.
-ghost use Rattle.std.specs.Prelude.{◌≡◌, ◌≢◌, ◌⊎◌, [], List, IfErr, OnErr, OnOk};
+ghost use Rattle.std.specs.Prelude.{◌≡◌, ◌≢◌, ◌⊎◌, ◌<◌, [], List, length, IfErr, OnErr, OnOk};
 ghost use Rattle.cell_library.specs.Libraries.{IsNextEdit, IsSame, edits_of, seen};
 ghost use Rattle.cell_library.specs.Refusals.{AnswersOrLacksMemory, EditIsRefused, NothingElse};
 ghost use Rattle.cell_library.specs.declared.limits.TheConstants.{MOST_EDITS};
@@ -22,12 +22,14 @@ fn make(
     cell: CellKey,
     change: &Change,
 ) -> Result<(), LibFault>
-    requires { CanBeMade (seen library.old) cell.0 change.now }
+    requires cell { cell.0 < length library.old.contents }
+    requires change { CanBeMade (seen library.old) cell.0 change.now }
     ensures answers { AnswersOrLacksMemory (EditIsRefused (edits_of library.old) NothingElse) result }
     ensures made { OnOk result (seen library.new ≡ changed (seen library.old) cell.0 change.now) }
     ensures edit { OnOk result (IsNextEdit library.old library.new cell.0) }
     ensures refused { OnErr result (IsSame library.old library.new) }
 {
+    library.lawful();
     match change {
         Change::Repaint(area, pieces) => calls::put_back(library, cell, *area, pieces.items()),
         Change::InsertUse(at, id, used) => calls::insert_use(library, cell, *at, id.copy(alloc)?, *used),
@@ -69,6 +71,7 @@ pub fn bring_back(
     ensures from { OnErr result (from.new ≡ from.old) }
     ensures to { OnErr result (to.new ≡ to.old) }
 {
+    library.lawful();
     let Some(latest) = from.latest() else {
         unreachable!();
     };
