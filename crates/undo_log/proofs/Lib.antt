@@ -9,3 +9,5 @@ pub mod EditLaws
 pub mod LeadLaws
 pub mod UseMoves
 pub mod MakeLaws
+pub mod CameLaws
+pub mod OtherCommands

@@ -1,5 +1,5 @@
 -- What a log of edits keeps: the inverses of edits, and to which versions they lead.
-use Rattle.std.specs.Prelude.{◌≡◌, ◌<◌, ◌≤◌, ℕ, true, List, [], ◌∷◌, length, Some}
+use Rattle.std.specs.Prelude.{◌≡◌, ◌<◌, ◌≤◌, ℕ, true, All, List, [], ◌∷◌, ◌++◌, length, Some}
 use Rattle.geo_core.specs.Areas.{IsNear}
 use Rattle.geo_core.specs.Covering.{IsProper}
 use Rattle.tech_model.specs.declared.raw.RawTech.{RawTech}
@@ -88,3 +88,13 @@ pub record IsReturned (old new : LibraryParts) (earlier later : List Version) (f
   pub edit : IsNextEdit old new back.cell
   pub leads : LeadTo (seen new) from back.earlier
   pub leads_back : LeadTo (seen new) to back.later
+
+-- ---- cells that come
+
+-- Cells came to a library behind those that it had, and use none of these. A library that had cells keeps its scale.
+pub record CellsCame (old new : LibraryView) : Type 0 where
+  pub more : List CellView
+  pub cells : new.cells ≡ old.cells ++ more
+  pub tech : new.tech ≡ old.tech
+  pub scale : 0 < length old.cells → new.scale ≡ old.scale
+  pub apart : All (λ cell. All (λ entry. length old.cells ≤ entry.1.child.0) cell.uses) more

@@ -1,10 +1,12 @@
--- What a designer may count on: undo takes an edit back, and redo gives it again.
+-- What a designer may count on: undo takes an edit back, and redo gives it again. And what a session may: cells may come between edits.
 use Rattle.std.specs.Prelude.{◌≡◌, ◌<◌, ℕ, true, Some, length}
 use Rattle.cell_library.specs.LowerLayoutTrees.LayoutModel.Places.{Place}
+use Rattle.undo_log.specs.Restorations.{IsLawfulView}
 use Rattle.cell_library.specs.Views.{CellView, LibraryView, view_at}
 use Rattle.script_lines.specs.declared.commands.Command.{Command}
 use Rattle.edit_script.specs.Editing.{Editing}
 use Rattle.edit_script.specs.Edits.{applied}
+use Rattle.undo_log.specs.Inverses.{CellsCame, Inverses, Keeps}
 use Rattle.undo_log.specs.Versions.{Return, Versions, is_edit, redone, undone, versions_after, versions_undone}
 
 -- Two cells have the same: the same type at each place of their own paint, and the same uses and labels, each in one order.
@@ -36,3 +38,9 @@ EditsAreTakenBack =
     → let after = (applied editing command).library in
     (back : Return) × IsUndoneTo after (versions_after editing command versions) editing.library back
     × ((again : Return) × IsRedoneTo back.library (versions_undone back) after again)
+
+-- A log keeps its versions of a library to which cells come.
+abbrev pub CellsMayCome : Type 0
+CellsMayCome =
+    (old new : LibraryView) (log : Inverses) (versions : Versions) → CellsCame old new → IsLawfulView new → Keeps old log versions
+    → Keeps new log versions

@@ -15,5 +15,5 @@ mod trails;
 
 pub use changes::{Change, Inverse};
 pub use faults::UndoFault;
-pub use laws::edits_are_taken_back;
+pub use laws::{cells_may_come, edits_are_taken_back};
 pub use logs::Log;

@@ -101,9 +101,14 @@ impl Log {
             → Keeps (seen library.new) self.new (versions_after (editing_of library.old current.old) command.now versions)) }
         ensures log { OnErr result (self.new ≡ self.old) }
     {
+        library.lawful();
         match *current {
             Some(cell) if is_edit(command) => self.edit(library, current, cell, command),
-            _ => apply(self.alloc, library, current, command),
+            _ => {
+                let done = apply(self.alloc, library, current, command);
+                library.lawful();
+                done
+            }
         }
     }
 
@@ -174,6 +179,7 @@ impl Log {
             → Keeps (seen library.new) self.new (versions_after (editing_of library.old current.old) command.now versions)) }
         ensures log { OnErr result (self.new ≡ self.old) }
     {
+        library.lawful();
         let Some(change) = inverse_of_edit(self.alloc, library, cell, command)? else {
             return apply(self.alloc, library, current, command);
         };

@@ -1,6 +1,4 @@
 use Rattle.undo_log.proofs.DesignerLaws.{taken_back_and_again}
-use Rattle.undo_log.proofs.EditLaws.{unlabelling_taken_back}
-use Rattle.undo_log.proofs.UseMoves.{number_opposite_is}
 use Rattle.undo_log.proofs.laws.edits_are_taken_back.Goals as goal
 
 pub returns : goal.returns
