@@ -27,6 +27,7 @@ pub mod PartLaws
 pub mod PartSets
 pub mod PlacedCells
 pub mod PlacedRects
+pub mod PutBackUses
 pub mod RowSpots
 pub mod SeenAreas
 pub mod SizeLaws

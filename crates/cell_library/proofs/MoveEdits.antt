@@ -161,7 +161,7 @@ module _ (library : LibraryParts) (lawful : IsLawfulLibrary library) (cell : ℕ
       let old = moved_child (cell_at library.tree.cells cell).uses k placed grid j entry is in
       subst (λ (n : ℕ). n < length library.tree.cells) old.1.1 (child_below library lawful cell below j old.0 old.1.0))
 
-  moved_ids : (k : ℕ) (placed : Transform) (grid : Option Grid) → HasUseIds (with_moved (cell_at library.tree.cells cell) k placed grid)
+  pub moved_ids : (k : ℕ) (placed : Transform) (grid : Option Grid) → HasUseIds (with_moved (cell_at library.tree.cells cell) k placed grid)
   moved_ids k placed grid =
       let P : List ℕ × UseBody → Type 0 = λ entry. IsTrue (is_use_id entry.0) in
       All-from_In P (moved_at (cell_at library.tree.cells cell).uses k placed grid) (λ entry entry_in.

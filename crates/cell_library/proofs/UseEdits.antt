@@ -5,14 +5,13 @@ use Rattle.std.specs.Prelude.{Some, None, not, ℤ, slice_get, slice_set, All, I
 use Rattle.std.specs.Option.{option_map_or}
 use Rattle.std.specs.Str.{bytes_eq}
 use Rattle.std.proofs.lemmas.Bool.{cases_eq}
-use Rattle.std.proofs.lemmas.List.{set-get_or, length-set, get_or-set_same}
-use Rattle.std.proofs.lemmas.Option.{slice_get-get_or}
+use Rattle.std.proofs.lemmas.List.{set-get_or}
 use Rattle.std.proofs.lemmas.List.Elements.{All-push}
 use Rattle.finite_sets.specs.Lists.{Distinct}
 use Rattle.finite_sets.proofs.Chains.{Chain-weaker}
 use Rattle.finite_sets.proofs.Members.{In-filter_source}
 use Rattle.finite_sets.proofs.Searches.{All-from_In, All-In}
-use Rattle.finite_sets.proofs.Places.{slice_get-append_left, slice_get-push_new, slice_get-set_other}
+use Rattle.finite_sets.proofs.Places.{slice_get-append_left, slice_get-push_new, slice_get-set_other, slice_get-set_same}
 use Rattle.geo_core.specs.declared.transforms.Transform.{Transform}
 use Rattle.cell_paint.specs.Paints.{layout_of}
 use Rattle.cell_bodies.specs.Words.{is_use_id}
@@ -279,47 +278,45 @@ module _ (library : LibraryParts) (lawful : IsLawfulLibrary library) (cell : ℕ
 
 -- ---- new uses make no cycle
 
--- what stood above stands above when the cell has one more use
-still_above : (cells : List CellState) (cell : ℕ) (entry : List ℕ × UseBody) (lower upper : ℕ) → cell < length cells → IsAbove cells lower upper
-    → IsAbove (slice_set cells cell (record (cell_at cells cell) { uses = (cell_at cells cell).uses ++ entry ∷ [] })) lower upper
-still_above cells cell entry lower upper below above = Chain-weaker (λ a b (used : Uses cells b a). elim (cases_eq b cell) [
+-- Each of the first uses stands among the second.
+abbrev pub AreAllIn : List (List ℕ × UseBody) → List (List ℕ × UseBody) → Type 0
+AreAllIn uses more = (k : ℕ) (entry : List ℕ × UseBody) → slice_get uses k ≡ Some entry → (j : ℕ) × (slice_get more j ≡ Some entry)
+
+-- what stood above stands above when the cell keeps its uses
+still_above : (cells : List CellState) (cell : ℕ) (state : CellState) (lower upper : ℕ) → cell < length cells → AreAllIn (cell_at cells cell).uses state.uses
+    → IsAbove cells lower upper → IsAbove (slice_set cells cell state) lower upper
+still_above cells cell state lower upper below kept above = Chain-weaker (λ a b (used : Uses cells b a). elim (cases_eq b cell) [
   | inr apart ↦ (record {
     cell = used.cell;
-    is = slice_get-set_other cells cell b (record (cell_at cells cell) { uses = (cell_at cells cell).uses ++ entry ∷ [] }) apart ∙ used.is;
+    is = slice_get-set_other cells cell b state apart ∙ used.is;
     k = used.k;
     entry = used.entry;
     stands = used.stands;
     child = used.child;
   })
   | inl same ↦ (
-      let after : CellState = record (cell_at cells cell) { uses = (cell_at cells cell).uses ++ entry ∷ [] } in
       let there : Some used.cell ≡ Some (cell_at cells cell) = sym used.is ∙ ap (slice_get cells) same ∙ cell_is cells cell below in
       let was : used.cell ≡ cell_at cells cell = cc in
-      let long : length (slice_set cells cell after) ≡ length cells = length-set cells cell after in
+      let now = kept used.k used.entry (ap (λ (c : CellState). slice_get c.uses used.k) (sym was) ∙ used.stands) in
       record {
-        cell = after;
-        is = ap (slice_get (slice_set cells cell after)) same ∙ slice_get-get_or (slice_set cells cell after) cell after (omega arith)
-            ∙ ap (λ (c : CellState). Some c) (get_or-set_same cells cell after after below);
-        k = used.k;
+        cell = state;
+        is = ap (slice_get (slice_set cells cell state)) same ∙ slice_get-set_same cells cell state below;
+        k = now.0;
         entry = used.entry;
-        stands = slice_get-append_left (cell_at cells cell).uses (entry ∷ []) used.k used.entry (ap (λ (c : CellState). slice_get c.uses used.k) (sym was) ∙ used.stands);
+        stands = now.1;
         child = used.child;
       })
 ]) above
 
--- a tree with one more use that is lawful has no cycle through it
-free_before : (cells after : List CellState) (sizes : List Size) (cell child : ℕ) (id : List ℕ) (transform : Transform) → cell < length cells
-    → after ≡ slice_set cells cell (with_placed (cell_at cells cell) id (single_use child transform)) → AreSizes after sizes → IsAbove cells cell child → ⊥
-free_before cells after sizes cell child id transform below is right above =
-    let state : CellState = with_placed (cell_at cells cell) id (single_use child transform) in
-    let entry : List ℕ × UseBody = (id, single_use child transform) in
-    let long : length (slice_set cells cell state) ≡ length cells = length-set cells cell state in
-    let there : slice_get after cell ≡ Some state =
-    ap (λ (cs : List CellState). slice_get cs cell) is ∙ slice_get-get_or (slice_set cells cell state) cell state (omega arith)
-    ∙ ap (λ (c : CellState). Some c) (get_or-set_same cells cell state state below) in
-    let up = above_as_deep after sizes right cell child
-    (subst (λ (cs : List CellState). IsAbove cs cell child) (sym is) (still_above cells cell entry cell child below above)) in
-    let down = child_is_lower (size_at sizes) state (length (cell_at cells cell).uses) entry (slice_get-push_new (cell_at cells cell).uses entry) in
+-- a lawful tree in which the cell has more uses has no cycle through them
+pub free_before : (cells after : List CellState) (sizes : List Size) (cell : ℕ) (state : CellState) (k : ℕ) (entry : List ℕ × UseBody) → cell < length cells
+    → after ≡ slice_set cells cell state → AreSizes after sizes → AreAllIn (cell_at cells cell).uses state.uses → slice_get state.uses k ≡ Some entry
+    → IsAbove cells cell entry.1.child.0 → ⊥
+free_before cells after sizes cell state k entry below is right kept stands above =
+    let there : slice_get after cell ≡ Some state = ap (λ (cs : List CellState). slice_get cs cell) is ∙ slice_get-set_same cells cell state below in
+    let up = above_as_deep after sizes right cell entry.1.child.0
+    (subst (λ (cs : List CellState). IsAbove cs cell entry.1.child.0) (sym is) (still_above cells cell state cell entry.1.child.0 below kept above)) in
+    let down = child_is_lower (size_at sizes) state k entry stands in
     let size : (size_at sizes cell).depth ≡ (size_of (size_at sizes) state).depth = ap (λ (s : Size). s.depth) (right cell state there) in
     omega arith
 
@@ -376,7 +373,10 @@ module _ (library : LibraryParts) (lawful : IsLawfulLibrary library) (cell : ℕ
         (not_first (λ none. (let apart : Some done.transform ≡ None = sym done.is ∙ none in absurd (cc)))
         (not_first (λ far. true≢false (sym done.near ∙ far))
         (not_first (λ above.
-        free_before library.tree.cells tree.cells tree.sizes cell child id done.transform (omega arith) done.edited.cells tree_lawful.sizes.right
+        free_before library.tree.cells tree.cells tree.sizes cell (with_placed (cell_at library.tree.cells cell) id (single_use child done.transform))
+        (length (cell_at library.tree.cells cell).uses) (id, single_use child done.transform) (omega arith) done.edited.cells tree_lawful.sizes.right
+        (λ k entry at. (k, slice_get-append_left (cell_at library.tree.cells cell).uses ((id, single_use child done.transform) ∷ []) k entry at))
+        (slice_get-push_new (cell_at library.tree.cells cell).uses (id, single_use child done.transform))
         (seen_above (seen library) library.tree.cells lawful.boxes cell child above))
         (not_first (λ full.
         (let long = ap length here in

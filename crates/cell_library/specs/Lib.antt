@@ -18,6 +18,7 @@ pub mod MaterialBelow
 pub mod OwnBoxes
 pub mod PartCounts
 pub mod PartTiles
+pub mod PutBackUses
 pub mod Refusals
 pub mod Restorations
 pub mod Seen

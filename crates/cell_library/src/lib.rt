@@ -21,6 +21,9 @@
 //! cell and of what stands above it alone (`SizeLaws`), so the tree's refusals are the library's (`LimitLaws`). That a lawful library goes
 //! past no limit excludes each later refusal of an accepted edit.
 //!
+//! A use that is given back to a cell, or gets back its grid, is refused by no limit: what is seen with it is lawful, so some lawful tree has
+//! these cells, and has one size for each (`PutBackUses`).
+//!
 //! A reader tells of a cell's elements what the tree knows: how many there are (`ElementCounts`), how many cells stand at and below them
 //! (`StandingCounts`), and the hull of the child in each of them (`GridSteps`, `BoxesBelow`). Those boxes are lawful, since the cell's own
 //! hull goes round them, and hold the cell's parts, since hulls hold material (`HullsHoldMaterial`, `HeldParts`). What crates above take from

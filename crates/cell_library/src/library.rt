@@ -1,5 +1,5 @@
 //! The library.
-ghost use Rattle.std.specs.Prelude.{◌≡◌, ◌<◌, ℕ, All, map, None, [], length, IsTrue, IfOk, IfSome, OnOk, OnErr, slice_get};
+ghost use Rattle.std.specs.Prelude.{◌≡◌, ◌<◌, ◌≤◌, ℕ, All, map, None, [], length, IsTrue, IfOk, IfSome, OnOk, OnErr, slice_get};
 ghost use Rattle.std.specs.Option.{option_map};
 ghost use Rattle.text_scan.specs.PlainNames.{is_plain_name};
 ghost use Rattle.cell_tree.specs.UseOrders.LibraryOrder.{IsLibraryOrder};
@@ -13,6 +13,9 @@ ghost use Rattle.cell_library.specs.Contents.{IsSoundHeld};
 ghost use Rattle.cell_library.specs.Limits.{HullIs};
 ghost use Rattle.cell_library.specs.Refusals.{Answers, AnswersOrLacksMemory, EditIsRefused, NewCellIsRefused, PaintIsRefused, EraseIsRefused};
 ghost use Rattle.cell_library.specs.Refusals.{LabelIsRefused, UnlabelIsRefused, PlaceIsRefused, ArrayIsRefused, MoveIsRefused, DeleteIsRefused};
+ghost use Rattle.cell_library.specs.PutBackUses.{place_of};
+ghost use Rattle.cell_library.specs.Refusals.{NothingElse, has_id};
+ghost use Rattle.cell_library.specs.Restorations.{IsLawfulView, regridded, with_use_at};
 ghost use Rattle.cell_library.specs.Views.{cell_named, view_at};
 
 use crate::adding::new_cell;
@@ -22,7 +25,7 @@ use crate::faults::LibFault;
 use crate::opened::Opened;
 use crate::painting::{erase_cell, label_cell, paint_cell, unlabel_cell};
 use crate::reader::Reader;
-use crate::uses::{delete_use, move_use, place_array, place_use};
+use crate::uses::{delete_use, insert_use, move_use, place_array, place_use, regrid};
 use cell_bodies::CellBody;
 use cell_paint::CellPaint;
 use cell_tree::{CellTree, UseBody};
@@ -200,6 +203,14 @@ impl Library {
         ensures { option_map (λ found. (found.0.now, found.1.now)) result ≡ slice_get (view_at (seen self.now) cell.0).uses k }
     {
         self.tree.use_at(cell.0, k)
+    }
+
+    /// The place of the use with the id among the cell's.
+    pub fn find_use(&self, cell: CellKey, id: &[u8]) -> Option<usize>
+        requires { cell.0 < length self.now.contents }
+        ensures { result ≡ place_of (view_at (seen self.now) cell.0).uses id.now }
+    {
+        self.tree.find_use(cell.0, id)
     }
 
     /// Adds an empty cell. The first cell gives the library the scale 1 1.
@@ -440,6 +451,52 @@ impl Library {
         ensures refused { OnErr result (IsSame self.old self.new) }
     {
         let done = delete_use(&mut self.tree, cell.0, id);
+        self.tree.lawful();
+        done
+    }
+
+    /// Makes a use the one at this place among the cell's, where the library is lawful with it, as it is with a use that was taken away.
+    /// The others keep their order.
+    ///
+    /// # Errors
+    ///
+    /// None of its own.
+    pub fn insert_use(
+        &mut self,
+        cell: CellKey,
+        at: usize,
+        id: Name,
+        used: UseBody,
+    ) -> Result<(), LibFault>
+        requires cell { cell.0 < length self.old.contents }
+        requires place { at ≤ length (view_at (seen self.old) cell.0).uses }
+        requires lawful { IsLawfulView (with_use_at (seen self.old) cell.0 at id used) }
+        ensures answers { AnswersOrLacksMemory (EditIsRefused (edits_of self.old) NothingElse) result }
+        ensures inserted { OnOk result (seen self.new ≡ with_use_at (seen self.old) cell.0 at id used) }
+        ensures edit { OnOk result (IsNextEdit self.old self.new cell.0) }
+        ensures refused { OnErr result (IsSame self.old self.new) }
+    {
+        let done = insert_use(self.alloc, &mut self.tree, cell.0, at, id, used);
+        self.tree.lawful();
+        done
+    }
+
+    /// Gives the use with the id this grid or none, where the library is lawful with it, as it is with the one that the use had. It takes
+    /// no memory.
+    ///
+    /// # Errors
+    ///
+    /// None of its own.
+    pub fn set_grid(&mut self, cell: CellKey, id: &[u8], grid: Option<Grid>) -> Result<(), LibFault>
+        requires cell { cell.0 < length self.old.contents }
+        requires known { IsTrue (has_id (view_at (seen self.old) cell.0).uses id.now) }
+        requires lawful { IsLawfulView (regridded (seen self.old) cell.0 id.now grid) }
+        ensures answers { Answers (EditIsRefused (edits_of self.old) NothingElse) result }
+        ensures set { OnOk result (seen self.new ≡ regridded (seen self.old) cell.0 id.now grid) }
+        ensures edit { OnOk result (IsNextEdit self.old self.new cell.0) }
+        ensures refused { OnErr result (IsSame self.old self.new) }
+    {
+        let done = regrid(&mut self.tree, cell.0, id, grid);
         self.tree.lawful();
         done
     }

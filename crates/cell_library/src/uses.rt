@@ -1,15 +1,16 @@
 //! The uses of one cell in the tree.
-ghost use Rattle.std.specs.Prelude.{◌≡◌, ◌⊎◌, ◌<◌, ◌&&◌, ℕ, true, false, length, None, Some, IsTrue, IfOk, IfSome, OnOk, OnErr, IfErr};
+ghost use Rattle.std.specs.Prelude.{◌≡◌, ◌⊎◌, ◌<◌, ◌≤◌, ◌&&◌, ℕ, true, false, length, None, Some, IsTrue, IfOk, IfSome, OnOk, OnErr, IfErr};
 ghost use Rattle.geo_core.specs.Images.{six_of};
 ghost use Rattle.cell_bodies.specs.Numbers.{is_displacement, is_index, are_few_elements};
 ghost use Rattle.geo_core.specs.declared.grids.Grid.{Grid as OneGrid};
 ghost use Rattle.cell_tree.specs.Uses.{IsShift, IsLawfulGrid, IsLawfulUse};
-ghost use Rattle.cell_tree.specs.Trees.{cell_at, with_moved, IsEdited};
+ghost use Rattle.cell_tree.specs.Trees.{cell_at, with_inserted, with_moved, IsEdited};
 ghost use Rattle.cell_library.specs.CellEdits.{of_tree, TreeRefusesUse, IsPlacedIn, HasUseAt, TreeRefusesMove, IsArrayedIn, GridIsRefused, IsMovedIn};
 ghost use Rattle.cell_library.specs.CellEdits.{ShiftIsRefused, IsDeletedIn};
 ghost use Rattle.cell_library.specs.Edits.{transform_of, moved_use};
 ghost use Rattle.cell_library.specs.Refusals.{EditIsRefused, FirstOf, NothingElse, HasFaultOrLacksMemory, has_id, are_displacements, stands_in_range};
 ghost use Rattle.cell_library.specs.Refusals.{PlacingIsRefused};
+ghost use Rattle.cell_library.specs.PutBackUses.{IsInsertedIn, IsRegriddedIn, MayBeRegridded, MayTake};
 
 use crate::contents::Contents;
 use crate::faults::LibFault;
@@ -325,4 +326,54 @@ pub fn delete_use(tree: &mut CellTree, cell: usize, id: &[u8]) -> Result<(), Lib
     let (k, _) = find_use(tree, cell, id)?;
     tree.delete_use(cell, k);
     Ok(())
+}
+
+/// Makes a use that the cell may have the one at this place. A refusal changes nothing.
+pub fn insert_use(
+    alloc: Global,
+    tree: &mut CellTree,
+    cell: usize,
+    at: usize,
+    id: Name,
+    used: UseBody,
+) -> Result<(), LibFault>
+    requires cell { cell < length tree.old.cells }
+    requires place { at ≤ length (cell_at tree.old.cells cell).uses }
+    requires may { MayTake tree.old cell (with_inserted (cell_at tree.old.cells cell) at id used) }
+    ensures done { OnOk result (IsInsertedIn cell at id used tree.old tree.new) }
+    ensures same { OnErr result (tree.new ≡ tree.old) }
+    ensures fault { IfErr result (HasFaultOrLacksMemory (EditIsRefused tree.old.edits NothingElse)) }
+{
+    if tree.edits() == MOST_EDITS {
+        return Err(LibFault::TooMany(LibraryLimit::Edits));
+    }
+    let key = Vec::from_slice(alloc, id.bytes())?;
+    match tree.insert_use(cell, at, key, used) {
+        Ok(()) => Ok(()),
+        Err(refused) => match refused {
+            TreeFault::Memory => Err(LibFault::Memory),
+            _ => unreachable!(),
+        },
+    }
+}
+
+/// Gives the use with the id a grid that it may have, or none. A refusal changes nothing. It takes no memory.
+pub fn regrid(
+    tree: &mut CellTree,
+    cell: usize,
+    id: &[u8],
+    grid: Option<Grid>,
+) -> Result<(), LibFault>
+    requires cell { cell < length tree.old.cells }
+    requires known { IsTrue (has_id (cell_at tree.old.cells cell).uses id.now) }
+    requires may { MayBeRegridded tree.old cell id.now grid }
+    ensures done { OnOk result (IsRegriddedIn cell id.now grid tree.old tree.new) }
+    ensures same { OnErr result (tree.new ≡ tree.old) }
+    ensures fault { IfErr result (EditIsRefused tree.old.edits NothingElse) }
+{
+    let (k, used) = find_use(tree, cell, id)?;
+    match set_use(tree, cell, k, used.placed, grid) {
+        Ok(()) => Ok(()),
+        Err(_) => unreachable!(),
+    }
 }

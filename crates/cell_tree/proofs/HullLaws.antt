@@ -84,6 +84,15 @@ round_both_assoc a b c =
     (inside_trans a (round_both a b) _ (inside_left a b) (inside_left (round_both a b) c))
     (inside_both b c _ (inside_trans b (round_both a b) _ (inside_right a b) (inside_left (round_both a b) c)) (inside_right (round_both a b) c)))
 
+-- which of two comes first
+round_both_comm : (a b : Option Rect) → round_both a b ≡ round_both b a
+round_both_comm a b =
+    inside_antisym _ _ (inside_both a b _ (inside_right b a) (inside_left b a)) (inside_both b a _ (inside_right a b) (inside_left a b))
+
+-- and which of two comes second
+pub round_both_swap : (a b c : Option Rect) → round_both (round_both a b) c ≡ round_both (round_both a c) b
+round_both_swap a b c = round_both_assoc a b c ∙ ap (round_both a) (round_both_comm b c) ∙ sym (round_both_assoc a c b)
+
 -- a box that is missing adds nothing
 pub round_both_none : (a : Option Rect) → round_both a None ≡ a
 round_both_none None = refl

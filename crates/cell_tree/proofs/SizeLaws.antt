@@ -1,8 +1,8 @@
 -- What a size rests on, and how it grows use by use.
 use Rattle.std.proofs.Common.{◌≡◌, ℕ, zero, suc, ◌+◌, ◌*◌, ◌-◌, ◌<◌, ◌≤◌, max, List, [], ◌∷◌, ◌++◌, take, drop, length, Option, Some, None, refl, sym, ap, subst, ◌∙◌, arith}
-use Rattle.std.specs.Prelude.{slice_get}
+use Rattle.std.specs.Prelude.{slice_get, insert}
 use Rattle.std.specs.Option.{option_map, option_to_list}
-use Rattle.std.proofs.lemmas.List.{take_all, length-drop}
+use Rattle.std.proofs.lemmas.List.{take_all, length-drop, take-append-drop}
 use Rattle.std.proofs.Math.Nat.{mul-le-mul_right}
 use Rattle.std.proofs.lemmas.Option.{same_Some}
 use Rattle.geo_core.specs.declared.squares.Rect.{Rect}
@@ -15,7 +15,7 @@ use Rattle.cell_tree.specs.Uses.{displacements, with_use_at}
 use Rattle.cell_tree.specs.Hulls.{element_hulls, round_both, round_all}
 use Rattle.cell_tree.specs.Sizes.{CellState, size_of, added, with_use, grown, own_size, hulls_below, elements_below, depth_below}
 use Rattle.cell_tree.specs.Sizes.{AreAlike, IsWithin, IsHullInRange}
-use Rattle.cell_tree.proofs.HullLaws.{round_both_assoc, round_both_none, round_all-append}
+use Rattle.cell_tree.proofs.HullLaws.{round_both_assoc, round_both_none, round_both_swap, round_all-append}
 
 -- sizes of equal parts are equal
 pub size_is : (a b : Size) → a.hull ≡ b.hull → a.elements ≡ b.elements → a.depth ≡ b.depth → a ≡ b
@@ -141,14 +141,38 @@ added-alike Depth a b used child same = ap (λ n. max n (suc child.depth)) same
 added-alike Elements a b used child same = ap (λ n. n + length (displacements used.grid) * child.elements) same
 added-alike Hull a b used child same = ap (λ hull. round_both hull (round_all (element_hulls used child.hull))) same
 
--- one more use at the end
-placed-alike : (dimension : Dimension) (f : ℕ → Size) (cell : CellState) (id : List ℕ) (used : UseBody)
-    → AreAlike dimension (size_of f (record { own = cell.own; uses = cell.uses ++ (id, used) ∷ [] })) (added dimension (size_of f cell) used (f used.child.0))
-placed-alike dimension f cell id used =
-    alike_trans dimension _ (grown dimension f (own_size cell.own) (cell.uses ++ (id, used) ∷ [])) _
-    (alike_sym dimension _ _ (grown-alike dimension f (record { own = cell.own; uses = cell.uses ++ (id, used) ∷ [] })))
+-- which of two uses comes first makes no difference
+added-swap : (dimension : Dimension) (size : Size) (first : UseBody) (child : Size) (second : UseBody) (other : Size)
+    → added dimension (added dimension size first child) second other ≡ added dimension (added dimension size second other) first child
+unfolding added
+added-swap Depth size first child second other = size_is _ _ refl refl (omega arith)
+added-swap Elements size first child second other = size_is _ _ refl (omega arith) refl
+added-swap Hull size first child second other =
+    size_is _ _ (round_both_swap size.hull (round_all (element_hulls first child.hull)) (round_all (element_hulls second other.hull))) refl refl
+
+grown-later : (dimension : Dimension) (f : ℕ → Size) (size : Size) (entry : List ℕ × UseBody) (uses : List (List ℕ × UseBody))
+    → grown dimension f (added dimension size entry.1 (f entry.1.child.0)) uses ≡ added dimension (grown dimension f size uses) entry.1 (f entry.1.child.0)
+grown-later dimension f size entry [] = refl
+grown-later dimension f size entry (next ∷ rest) =
+    ap (λ s. grown dimension f s rest) (added-swap dimension size entry.1 (f entry.1.child.0) next.1 (f next.1.child.0))
+    ∙ grown-later dimension f (added dimension size next.1 (f next.1.child.0)) entry rest
+
+grown-insert : (dimension : Dimension) (f : ℕ → Size) (size : Size) (uses : List (List ℕ × UseBody)) (at : ℕ) (entry : List ℕ × UseBody)
+    → grown dimension f size (insert uses at entry) ≡ added dimension (grown dimension f size uses) entry.1 (f entry.1.child.0)
+grown-insert dimension f size uses at entry =
+    grown-append dimension f size (take at uses) (entry ∷ drop at uses)
+    ∙ grown-later dimension f (grown dimension f size (take at uses)) entry (drop at uses)
+    ∙ ap (λ s. added dimension s entry.1 (f entry.1.child.0))
+    (sym (grown-append dimension f size (take at uses) (drop at uses)) ∙ ap (grown dimension f size) (take-append-drop at uses))
+
+-- one more use
+inserted-alike : (dimension : Dimension) (f : ℕ → Size) (cell : CellState) (at : ℕ) (id : List ℕ) (used : UseBody)
+    → AreAlike dimension (size_of f (record { own = cell.own; uses = insert cell.uses at (id, used) })) (added dimension (size_of f cell) used (f used.child.0))
+inserted-alike dimension f cell at id used =
+    alike_trans dimension _ (grown dimension f (own_size cell.own) (insert cell.uses at (id, used))) _
+    (alike_sym dimension _ _ (grown-alike dimension f (record { own = cell.own; uses = insert cell.uses at (id, used) })))
     (alike_trans dimension _ (added dimension (grown dimension f (own_size cell.own) cell.uses) used (f used.child.0)) _
-    (alike_refl dimension _ _ (grown-append dimension f (own_size cell.own) cell.uses ((id, used) ∷ [])))
+    (alike_refl dimension _ _ (grown-insert dimension f (own_size cell.own) cell.uses at (id, used)))
     (added-alike dimension _ _ used (f used.child.0) (grown-alike dimension f cell)))
 
 with_use-alike : (dimension : Dimension) (size : Size) (used : UseBody) (child : Size) → AreAlike dimension (added dimension size used child) (with_use size used child)
@@ -157,11 +181,11 @@ with_use-alike Depth size used child = refl
 with_use-alike Elements size used child = refl
 with_use-alike Hull size used child = refl
 
--- The size of a cell with one more use at the end.
-pub size_of-placed : (f : ℕ → Size) (cell : CellState) (id : List ℕ) (used : UseBody)
-    → size_of f (record { own = cell.own; uses = cell.uses ++ (id, used) ∷ [] }) ≡ with_use (size_of f cell) used (f used.child.0)
-size_of-placed f cell id used =
-    alike_all _ _ (λ dimension. alike_trans dimension _ _ _ (placed-alike dimension f cell id used) (with_use-alike dimension (size_of f cell) used (f used.child.0)))
+-- The size of a cell with one more use, wherever it comes among the others.
+pub size_of-inserted : (f : ℕ → Size) (cell : CellState) (at : ℕ) (id : List ℕ) (used : UseBody)
+    → size_of f (record { own = cell.own; uses = insert cell.uses at (id, used) }) ≡ with_use (size_of f cell) used (f used.child.0)
+size_of-inserted f cell at id used =
+    alike_all _ _ (λ dimension. alike_trans dimension _ _ _ (inserted-alike dimension f cell at id used) (with_use-alike dimension (size_of f cell) used (f used.child.0)))
 
 -- what a size is with one more use, part by part
 pub added-depth : (size : Size) (used : UseBody) (child : Size) (d : ℕ) → d ≡ max size.depth (child.depth + 1)

@@ -1,6 +1,6 @@
 -- Which states a cell may take: with one more use, with a use placed otherwise, and with one use less.
-use Rattle.std.proofs.Common.{◌≡◌, ◌≢◌, ◌⊎◌, ◌↔◌, inl, inr, ℕ, zero, suc, ◌<◌, ◌≤◌, List, [], ◌∷◌, ◌++◌, length, map, take, drop, max, get_or, slice_get, Some, refl, Contains, sym, ap, subst, ◌∙◌, arith}
-use Rattle.std.proofs.lemmas.List.{length-append}
+use Rattle.std.proofs.Common.{◌≡◌, ◌≢◌, ◌⊎◌, ◌↔◌, inl, inr, ℕ, zero, suc, ◌<◌, ◌≤◌, List, [], ◌∷◌, ◌++◌, length, map, take, drop, max, get_or, slice_get, insert, Some, refl, Contains, sym, ap, subst, ◌∙◌, arith}
+use Rattle.std.proofs.lemmas.List.Edits.{length-insert}
 use Rattle.std.proofs.lemmas.Option.{same_Some}
 use Rattle.finite_sets.specs.Lists.{In, Distinct}
 use Rattle.cell_tree.specs.declared.cells.TreeCell.{TreeCell}
@@ -18,12 +18,12 @@ use Rattle.cell_tree.specs.Trials.{IsTried, PassesFirst}
 use Rattle.cell_tree.specs.Books.{IsReady, SaysTheSame}
 use Rattle.cell_tree.specs.Edits.{AreUsersKept}
 use Rattle.cell_tree.specs.Cells.{state_of, states, Uses, IsAbove}
-use Rattle.cell_tree.specs.Trees.{cell_at, with_placed, with_use_set, with_uses, without_use, IsLawfulTree, RefusesMove, RefusesUse, WouldPass}
+use Rattle.cell_tree.specs.Trees.{cell_at, with_inserted, with_use_set, with_uses, without_use, IsLawfulTree, RefusesMove, WouldPass}
 use Rattle.cell_tree.specs.Whole.{tree_of, IsWhole}
 use Rattle.cell_tree.proofs.EditLaws.{child_is_not_above}
 use Rattle.cell_tree.proofs.FindLaws.{length-states}
-use Rattle.cell_tree.proofs.ShrinkLaws.{AreAmong, none, both, skip, among_removed}
-use Rattle.cell_tree.proofs.SizeLaws.{size_of-placed, body_at}
+use Rattle.cell_tree.proofs.ShrinkLaws.{AreAmong, none, both, skip, among_all, among_removed}
+use Rattle.cell_tree.proofs.SizeLaws.{size_of-inserted, body_at}
 use Rattle.cell_tree.proofs.CellLaws.{cell_at-states}
 use Rattle.std.specs.Option.{option_map}
 use Rattle.cell_tree.proofs.WholeLaws.{IsLawfulState, cell_is, would_pass}
@@ -32,34 +32,46 @@ use Rattle.cell_tree.proofs.TreeLaws.{never_passes}
 abbrev Entry : Type 0
 Entry = List ℕ × UseBody
 
--- what stands in a list with one more at its end
-get_push : (xs : List Entry) (y e : Entry) (k : ℕ) → slice_get (xs ++ y ∷ []) k ≡ Some e → (slice_get xs k ≡ Some e) ⊎ (y ≡ e)
-get_push [] y e zero is = inr (same_Some y e is)
-get_push [] y e (suc k) is = absurd (cc)
-get_push (x ∷ xs) y e zero is = inl is
-get_push (x ∷ xs) y e (suc k) is = get_push xs y e k is
+-- what stands in a list with one more at a place
+pub get_inserted : (xs : List Entry) (at : ℕ) (y e : Entry) (k : ℕ) → slice_get (insert xs at y) k ≡ Some e → ((j : ℕ) × (slice_get xs j ≡ Some e)) ⊎ (y ≡ e)
+get_inserted xs zero y e zero is = inr (same_Some y e is)
+get_inserted xs zero y e (suc k) is = inl (k, is)
+get_inserted [] (suc at) y e zero is = inr (same_Some y e is)
+get_inserted [] (suc at) y e (suc k) is = absurd (cc)
+get_inserted (x ∷ xs) (suc at) y e zero is = inl (0, is)
+get_inserted (x ∷ xs) (suc at) y e (suc k) is = elim (get_inserted xs at y e k is) [ inl old ↦ inl (suc old.0, old.1) | inr same ↦ inr same ]
 
-get_more : (xs : List Entry) (y e : Entry) (k : ℕ) → slice_get xs k ≡ Some e → slice_get (xs ++ y ∷ []) k ≡ Some e
-get_more [] y e k is = absurd (cc)
-get_more (x ∷ xs) y e zero is = is
-get_more (x ∷ xs) y e (suc k) is = get_more xs y e k is
+-- the one that came stands there
+pub get_new : (xs : List Entry) (at : ℕ) (y : Entry) → (j : ℕ) × (slice_get (insert xs at y) j ≡ Some y)
+get_new xs zero y = (0, refl)
+get_new [] (suc at) y = (0, refl)
+get_new (x ∷ xs) (suc at) y = let r = get_new xs at y in (suc r.0, r.1)
+
+-- and the others are among them
+pub among_inserted : (xs : List Entry) (at : ℕ) (y : Entry) → AreAmong xs (insert xs at y)
+among_inserted xs zero y = skip y (among_all xs)
+among_inserted [] (suc at) y = skip y none
+among_inserted (x ∷ xs) (suc at) y = both x (among_inserted xs at y)
 
 In-id : (xs : List Entry) (id : List ℕ) → In id (map (λ entry. entry.0) xs) → (k : ℕ) × HasIdAt xs k id
 In-id [] id stands = absurd stands
 In-id (x ∷ xs) id (inl same) = (0, record { entry = x; stands = refl; same = same })
 In-id (x ∷ xs) id (inr later) = let r = In-id xs id later in (suc r.0, record { entry = r.1.entry; stands = r.1.stands; same = r.1.same })
 
-In-push_id : (xs : List Entry) (y : Entry) (id : List ℕ) → In id (map (λ entry. entry.0) (xs ++ y ∷ [])) → In id (map (λ entry. entry.0) xs) ⊎ (y.0 ≡ id)
-In-push_id [] y id (inl same) = inr same
-In-push_id [] y id (inr later) = absurd later
-In-push_id (x ∷ xs) y id (inl same) = inl (inl same)
-In-push_id (x ∷ xs) y id (inr later) = elim (In-push_id xs y id later) [ inl stands ↦ inl (inr stands) | inr same ↦ inr same ]
+In-inserted_id : (xs : List Entry) (at : ℕ) (y : Entry) (id : List ℕ) → In id (map (λ entry. entry.0) (insert xs at y)) → In id (map (λ entry. entry.0) xs) ⊎ (y.0 ≡ id)
+In-inserted_id xs zero y id (inl same) = inr same
+In-inserted_id xs zero y id (inr later) = inl later
+In-inserted_id [] (suc at) y id (inl same) = inr same
+In-inserted_id [] (suc at) y id (inr later) = absurd later
+In-inserted_id (x ∷ xs) (suc at) y id (inl same) = inl (inl same)
+In-inserted_id (x ∷ xs) (suc at) y id (inr later) = elim (In-inserted_id xs at y id later) [ inl stands ↦ inl (inr stands) | inr same ↦ inr same ]
 
-distinct_push : (xs : List Entry) (y : Entry) → Distinct (map (λ entry. entry.0) xs) → (In y.0 (map (λ entry. entry.0) xs) → ⊥) → Distinct (map (λ entry. entry.0) (xs ++ y ∷ []))
-distinct_push [] y apart new = ((λ never. never), tt)
-distinct_push (x ∷ xs) y apart new = (
-  (λ stands. elim (In-push_id xs y x.0 stands) [ inl old ↦ apart.0 old | inr same ↦ new (inl (sym same)) ]),
-  distinct_push xs y apart.1 (λ stands. new (inr stands)),
+distinct_inserted : (xs : List Entry) (at : ℕ) (y : Entry) → Distinct (map (λ entry. entry.0) xs) → (In y.0 (map (λ entry. entry.0) xs) → ⊥) → Distinct (map (λ entry. entry.0) (insert xs at y))
+distinct_inserted xs zero y apart new = (new, apart)
+distinct_inserted [] (suc at) y apart new = ((λ never. never), tt)
+distinct_inserted (x ∷ xs) (suc at) y apart new = (
+  (λ stands. elim (In-inserted_id xs at y x.0 stands) [ inl old ↦ apart.0 old | inr same ↦ new (inl (sym same)) ]),
+  distinct_inserted xs at y apart.1 (λ stands. new (inr stands)),
 )
 
 ids-set : (xs : List Entry) (k : ℕ) (used : UseBody) → map (λ (entry : Entry). entry.0) (with_use_at xs k used) ≡ map (λ (entry : Entry). entry.0) xs
@@ -116,7 +128,8 @@ moved-set (x ∷ xs) zero used id body is same =
     ap (λ c. (x.0, record { child = c; placed = used.placed; grid = used.grid }) ∷ xs) child
 moved-set (x ∷ xs) (suc k) used id body is same = ap (λ (rest : List Entry). x ∷ rest) (moved-set xs k used id body is same)
 
-among_get : {xs ys : List Entry} → AreAmong xs ys → (k : ℕ) (e : Entry) → slice_get xs k ≡ Some e → (j : ℕ) × (slice_get ys j ≡ Some e)
+-- what stands in the first stands in the second
+pub among_get : {xs ys : List Entry} → AreAmong xs ys → (k : ℕ) (e : Entry) → slice_get xs k ≡ Some e → (j : ℕ) × (slice_get ys j ≡ Some e)
 among_get none k e is = absurd (cc)
 among_get (both x rest) zero e is = (0, is)
 among_get (both x rest) (suc k) e is = let r = among_get rest k e is in (suc r.0, r.1)
@@ -153,14 +166,18 @@ child_removed xs k id body is key differs = (
     back (x ∷ xs) (suc k) is (suc j) e stands child = let r = back xs k is j e stands child in record { k = suc r.k; entry = r.entry; stands = r.stands; same = r.same }
 
 -- and but the child of a use that came
-pub child_pushed : (xs : List Entry) (y : Entry) (key : ℕ) → key ≢ y.1.child.0 → HasChild (xs ++ y ∷ []) key ↔ HasChild xs key
-child_pushed xs y key differs = (
-  (λ has. elim (get_push xs y has.entry has.k has.stands) [
-    | inl old ↦ record { k = has.k; entry = has.entry; stands = old; same = has.same }
+pub child_inserted : (xs : List Entry) (at : ℕ) (y : Entry) (key : ℕ) → key ≢ y.1.child.0 → HasChild (insert xs at y) key ↔ HasChild xs key
+child_inserted xs at y key differs = (
+  (λ has. elim (get_inserted xs at y has.entry has.k has.stands) [
+    | inl old ↦ record { k = old.0; entry = has.entry; stands = old.1; same = has.same }
     | inr new ↦ absurd (differs (sym has.same ∙ sym (ap (λ (f : Entry). f.1.child.0) new)))
   ]),
-  (λ has. record { k = has.k; entry = has.entry; stands = get_more xs y has.entry has.k has.stands; same = has.same }),
+  (λ has. let r = among_get (among_inserted xs at y) has.k has.entry has.stands in record { k = r.0; entry = has.entry; stands = r.1; same = has.same }),
 )
+
+-- which is a child
+pub new_child : (xs : List Entry) (at : ℕ) (y : Entry) → HasChild (insert xs at y) y.1.child.0
+new_child xs at y = let r = get_new xs at y in record { k = r.0; entry = y; stands = r.1; same = refl }
 
 module _ (cells : List TreeCell) (book : SizeBook) (whole : IsWhole cells book) (changed : ℕ) (inside : changed < length cells) where
   in_states : changed < length (states cells)
@@ -178,23 +195,24 @@ module _ (cells : List TreeCell) (book : SizeBook) (whole : IsWhole cells book) 
   old_below = whole.lawful.cells.uses changed _ was
 
   -- one more use of a child that doesn't stand above
-  pub placed_lawful : (id : List ℕ) (used : UseBody) → IsLawfulUse used → used.child.0 < length cells → (IsAbove (states cells) changed used.child.0 → ⊥)
+  pub inserted_lawful : (at : ℕ) (id : List ℕ) (used : UseBody) → at ≤ length (cell_at (states cells) changed).uses → IsLawfulUse used → used.child.0 < length cells
+      → (IsAbove (states cells) changed used.child.0 → ⊥)
       → length (cell_at (states cells) changed).uses < MOST_USES → ((k : ℕ) → HasIdAt (cell_at (states cells) changed).uses k id → ⊥)
-      → IsLawfulState (states cells) changed (with_placed (cell_at (states cells) changed) id used)
-  placed_lawful id used lawful child free few new =
+      → IsLawfulState (states cells) changed (with_inserted (cell_at (states cells) changed) at id used)
+  inserted_lawful at id used place lawful child free few new =
       record {
-        few = omega (arith, few, length-append (cell_at (states cells) changed).uses ((id, used) ∷ []));
-        uses = λ k entry is. elim (get_push (cell_at (states cells) changed).uses (id, used) entry k is) [
-          | inl old ↦ old_below k entry old
+        few = omega (arith, few, length-insert (cell_at (states cells) changed).uses at (id, used) place);
+        uses = λ k entry is. elim (get_inserted (cell_at (states cells) changed).uses at (id, used) entry k is) [
+          | inl old ↦ old_below old.0 entry old.1
           | inr same ↦ subst (λ (e : Entry). IsLawfulUse e.1 × (e.1.child.0 < length (states cells))) same (lawful, omega (arith, child, length-states cells))
         ];
         cell = record {
-          ids = distinct_push (cell_at (states cells) changed).uses (id, used) (whole.lawful.each changed _ was).ids
+          ids = distinct_inserted (cell_at (states cells) changed).uses at (id, used) (whole.lawful.each changed _ was).ids
               (λ stands. let r = In-id (cell_at (states cells) changed).uses id stands in new r.0 r.1);
           own = (whole.lawful.each changed _ was).own;
         };
-        free = λ k entry is. elim (get_push (cell_at (states cells) changed).uses (id, used) entry k is) [
-          | inl old ↦ old_free k entry old
+        free = λ k entry is. elim (get_inserted (cell_at (states cells) changed).uses at (id, used) entry k is) [
+          | inl old ↦ old_free old.0 entry old.1
           | inr same ↦ subst (λ (e : Entry). IsAbove (states cells) changed e.1.child.0 → ⊥) same free
         ];
       }
@@ -259,21 +277,12 @@ moved_refused cells book whole changed inside k used id body is same lawful Hull
     subst (WouldPass Hull (tree_of cells book) changed) (ap (with_uses (cell_at (states cells) changed)) (moved-set (cell_at (states cells) changed).uses k used id body is same))
     (would_pass cells book changed _ whole inside (moved_lawful cells book whole changed inside k used id body is (ap (λ (c : CellKey). c.0) same) lawful) Hull passes)
 
--- what one more use passes first
-pub placed_refused : (cells : List TreeCell) (book : SizeBook) (whole : IsWhole cells book) (changed : ℕ) (inside : changed < length cells) (id : List ℕ) (used : UseBody)
-    → IsLawfulUse used → used.child.0 < length cells → (IsAbove (states cells) changed used.child.0 → ⊥)
-    → length (cell_at (states cells) changed).uses < MOST_USES → ((k : ℕ) → HasIdAt (cell_at (states cells) changed).uses k id → ⊥) → (dimension : Dimension)
-    → ((tried : List Size) → IsTried (states cells) book.sizes.items tried changed (size_of (size_at book.sizes.items) (with_placed (cell_at (states cells) changed) id used)) → PassesFirst dimension (states cells) changed tried)
-    → RefusesUse (tree_of cells book) changed id used (Passed dimension)
-placed_refused cells book whole changed inside id used lawful child free few new dimension passes =
-    record { free = free; few = few; passes = would_pass cells book changed _ whole inside (placed_lawful cells book whole changed inside id used lawful child free few new) dimension passes }
-
 -- the size of a cell with one more use
-pub placed_size : (cells : List TreeCell) (book : SizeBook) (whole : IsWhole cells book) (changed : ℕ) (inside : changed < length cells) (id : List ℕ) (used : UseBody)
-    → with_use (size_at book.sizes.items changed) used (size_at book.sizes.items used.child.0) ≡ size_of (size_at book.sizes.items) (with_placed (cell_at (states cells) changed) id used)
-placed_size cells book whole changed inside id used =
+pub inserted_size : (cells : List TreeCell) (book : SizeBook) (whole : IsWhole cells book) (changed : ℕ) (inside : changed < length cells) (at : ℕ) (id : List ℕ) (used : UseBody)
+    → with_use (size_at book.sizes.items changed) used (size_at book.sizes.items used.child.0) ≡ size_of (size_at book.sizes.items) (with_inserted (cell_at (states cells) changed) at id used)
+inserted_size cells book whole changed inside at id used =
     ap (λ (s : Size). with_use s used (size_at book.sizes.items used.child.0)) (whole.lawful.sizes.right changed _ (was cells book whole changed inside))
-    ∙ sym (size_of-placed (size_at book.sizes.items) (cell_at (states cells) changed) id used)
+    ∙ sym (size_of-inserted (size_at book.sizes.items) (cell_at (states cells) changed) at id used)
 
 -- A tree of cells of the same states and users is whole, with a book that says the same.
 pub whole_same : (cells cells' : List TreeCell) (book book' : SizeBook) → IsWhole cells book → states cells' ≡ states cells → AreUsersKept cells cells' → SaysTheSame book book' → IsReady book' (length cells) → IsWhole cells' book'

@@ -1,13 +1,17 @@
 -- Tables of uses: what a look-up by an id finds, and what an edit of the map makes of the uses.
-use Rattle.std.proofs.Common.{◌≡◌, inl, inr, ℕ, zero, suc, true, eqb, true≢false, List, [], ◌∷◌, ◌++◌, take, drop, map, Some, None, refl, sym, ap, subst, ◌∙◌, Vec, Global}
-use Rattle.std.specs.Prelude.{slice_get, remove, Result, Ok, Err, IsOk, OnOk, OnErr, IfErr}
+use Rattle.std.proofs.Common.{◌≡◌, inl, inr, ℕ, zero, suc, ◌≤◌, Bool, true, eqb, true≢false, length, arith, List, [], ◌∷◌, ◌++◌, take, drop, map, Some, None, refl, sym, ap, subst, ◌∙◌, Vec, Global}
+use Rattle.std.specs.Prelude.{slice_get, insert, remove, Option, Result, Ok, Err, IsOk, IsSome, IfOk, OnOk, OnErr, IfErr}
 use Rattle.std.specs.Option.{option_map}
 use Rattle.std.specs.Cmp.Lexicographic.{pointwise, bytes_decides}
-use Rattle.std.specs.Map.{lookup, lookup_key}
-use Rattle.indexmap.specs.IndexMap.{set_value_at}
+use Rattle.std.specs.List.{position_or_len}
+use Rattle.std.specs.Map.{lookup, lookup_key, keys_of}
+use Rattle.indexmap.specs.IndexMap.{insert_entry, move_index, set_value_at}
+use Rattle.indexmap.proofs.MapLemmas.{absent_from_lookup, insert_entry-absent, or_len-absent}
+use Rattle.indexmap.proofs.MoveLemmas.{push_moved}
+use Rattle.indexmap.proofs.SetLemmas.{map-insert}
 use Rattle.std.proofs.lemmas.Bool.{cases_Bool}
 use Rattle.std.proofs.lemmas.Option.{same_Some, slice_get-map, none-some}
-use Rattle.std.proofs.lemmas.List.{map-append, take-map, drop-map}
+use Rattle.std.proofs.lemmas.List.{length-map, map-append, take-map, drop-map}
 use Rattle.cell_tree.specs.declared.use_tables.UseBody.{UseBody}
 use Rattle.cell_tree.specs.Uses.{HasIdAt, with_use_at}
 
@@ -15,6 +19,16 @@ use Rattle.cell_tree.specs.Uses.{HasIdAt, with_use_at}
 pub on_ok : {A E : Type 0} (r : Result A E) (P : Type 0) → IsOk r → OnOk r P → P
 on_ok (Ok x) P is holds = holds
 on_ok (Err e) P is holds = absurd (cc)
+
+-- and what it says of the value
+pub value_of : {A E : Type 0} (r : Result A E) (P : A → Type 0) → IsOk r → IfOk r P → (x : A) × P x
+value_of (Ok x) P is holds = (x, holds)
+value_of (Err e) P is holds = absurd (cc)
+
+-- what there is is not missing
+pub some_or_none : {A : Type 0} (o : Option A) → IsSome o → o ≡ None → ⊥
+some_or_none None is none = absurd (cc)
+some_or_none (Some x) is none = absurd (cc)
 
 -- what is not found has no place
 pub lookup_none : (id : List ℕ) (es : List (Vec ℕ Global × UseBody)) → lookup (λ key. pointwise eqb id key.items) es ≡ None → (k : ℕ) → HasIdAt (map (λ entry. (entry.0.items, entry.1)) es) k id → ⊥
@@ -54,6 +68,20 @@ lookup_found id es k key used found stands =
       stands = slice_get-map (λ entry. (entry.0.items, entry.1)) es k ∙ ap (option_map (λ (entry : Vec ℕ Global × UseBody). (entry.0.items, entry.1))) stands;
       same = sym ((bytes_decides id key.items).0 (lookup_key_passes id es key found));
     }
+
+-- a new key that came to a place
+pub map-inserted : (es after : List (Vec ℕ Global × UseBody)) (id : Vec ℕ Global) (used : UseBody) (k : ℕ)
+    → after ≡ move_index (insert_entry (λ one key. pointwise eqb one.items key.items) es id used) (position_or_len (λ key. pointwise eqb id.items key.items) (keys_of es)) k
+    → ((j : ℕ) → HasIdAt (map (λ entry. (entry.0.items, entry.1)) es) j id.items → ⊥) → k ≤ length {A = List ℕ × UseBody} (map (λ entry. (entry.0.items, entry.1)) es)
+    → map {B = List ℕ × UseBody} (λ entry. (entry.0.items, entry.1)) after ≡ insert (map (λ entry. (entry.0.items, entry.1)) es) k (id.items, used)
+map-inserted es after id used k is new place =
+    let is_id : Vec ℕ Global → Bool = λ key. pointwise eqb id.items key.items in
+    let absent = absent_from_lookup is_id es (lookup_absent id.items es new) in
+    let inside : k ≤ length es = omega (arith, place, length-map {B = List ℕ × UseBody} es (λ (entry : Vec ℕ Global × UseBody). (entry.0.items, entry.1))) in
+    ap (map (λ (entry : Vec ℕ Global × UseBody). (entry.0.items, entry.1)))
+    (is ∙ (λ i. move_index (insert_entry-absent (λ one key. pointwise eqb one.items key.items) id used es absent i) (or_len-absent is_id es absent i) k)
+    ∙ push_moved es (id, used) k inside)
+    ∙ map-insert (λ (entry : Vec ℕ Global × UseBody). (entry.0.items, entry.1)) es k (id, used)
 
 -- taking an entry away
 pub map-remove : {X Y : Type 0} (f : X → Y) (xs : List X) (k : ℕ) → map f (remove xs k) ≡ remove (map f xs) k

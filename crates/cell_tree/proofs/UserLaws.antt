@@ -7,7 +7,6 @@ use Rattle.std.proofs.lemmas.List.{get_or_append_left, get_or_at, length-append}
 use Rattle.indexmap.specs.IndexSet.{insert_key}
 use Rattle.indexmap.proofs.CallerLemmas.{Contains-insert_key, Contains-list_any}
 use Rattle.cell_tree.specs.declared.cells.TreeCell.{TreeCell}
-use Rattle.cell_tree.specs.declared.use_tables.UseBody.{UseBody}
 use Rattle.cell_tree.specs.Uses.{HasChild}
 use Rattle.cell_tree.specs.Cells.{states, users_of}
 use Rattle.cell_tree.specs.Trees.{cell_at}
@@ -48,25 +47,17 @@ insert_more ks key user has =
       | inr new ↦ rw new (push_more ks key user has)
     ]
 
-last_use : (uses : List (List ℕ × UseBody)) (entry : List ℕ × UseBody) → HasChild (uses ++ entry ∷ []) entry.1.child.0
-last_use [] entry = record { k = 0; entry = entry; stands = refl; same = refl }
-last_use (first ∷ rest) entry = let has = last_use rest entry in record { k = suc has.k; entry = has.entry; stands = has.stands; same = has.same }
-
 -- A use came, and the cell as a user of the child.
-pub added_users : (old mid new : List TreeCell) (cell : ℕ) (id : List ℕ) (used : UseBody) → AreUsersKept old mid
-    → ((key : ℕ) → key ≢ used.child.0 → users_of new key ≡ users_of mid key) → users_of new used.child.0 ≡ insert_key nat_eq (users_of mid used.child.0) cell
-    → (uses : List (List ℕ × UseBody)) → (cell_at (states new) cell).uses ≡ uses ++ (id, used) ∷ [] → AreUsersBut old new cell used.child.0
-added_users old mid new cell id used kept others child uses are =
+pub added_users : (old mid new : List TreeCell) (cell child : ℕ) → AreUsersKept old mid → ((key : ℕ) → key ≢ child → users_of new key ≡ users_of mid key)
+    → users_of new child ≡ insert_key nat_eq (users_of mid child) cell → HasChild (cell_at (states new) cell).uses child → AreUsersBut old new cell child
+added_users old mid new cell child kept others more uses =
     record {
       others = λ key user differs. (subst (λ ks. Contains ks user) (others key differs ∙ kept key), subst (λ ks. Contains ks user) (sym (others key differs ∙ kept key)));
       rest = λ user differs. (
-        (λ has. subst (λ ks. Contains ks user) (kept used.child.0) (insert_rest (users_of mid used.child.0) cell user differs (subst (λ ks. Contains ks user) child has))),
-        (λ has. subst (λ ks. Contains ks user) (sym child) (insert_more (users_of mid used.child.0) cell user (subst (λ ks. Contains ks user) (sym (kept used.child.0)) has))),
+        (λ has. subst (λ ks. Contains ks user) (kept child) (insert_rest (users_of mid child) cell user differs (subst (λ ks. Contains ks user) more has))),
+        (λ has. subst (λ ks. Contains ks user) (sym more) (insert_more (users_of mid child) cell user (subst (λ ks. Contains ks user) (sym (kept child)) has))),
       );
-      own = (
-        (λ has. subst (λ us. HasChild us used.child.0) (sym are) (last_use uses (id, used))),
-        (λ has. subst (λ ks. Contains ks cell) (sym child) (Contains-insert_key nat_eq eqb-true (users_of mid used.child.0) cell)),
-      );
+      own = ((λ has. uses), (λ has. subst (λ ks. Contains ks cell) (sym more) (Contains-insert_key nat_eq eqb-true (users_of mid child) cell)));
     }
 
 -- The last use of the child went, and the cell as its user.

@@ -1,5 +1,5 @@
 -- Trees of cells: which are lawful, what an edit changes, and what refuses one.
-use Rattle.std.specs.Prelude.{◌≡◌, ℕ, suc, ◌<◌, ◌≤◌, List, [], ◌∷◌, ◌++◌, length, map, remove, Option, Some, None, slice_get, slice_set, slice_index_or}
+use Rattle.std.specs.Prelude.{◌≡◌, ℕ, suc, ◌<◌, ◌≤◌, List, [], ◌∷◌, ◌++◌, length, map, insert, remove, Option, Some, None, slice_get, slice_set, slice_index_or}
 use Rattle.geo_core.specs.declared.squares.Rect.{Rect}
 use Rattle.geo_core.specs.declared.grids.Grid.{Grid}
 use Rattle.geo_core.specs.declared.transforms.Transform.{Transform}
@@ -97,6 +97,10 @@ with_own cell own = record cell { own = own }
 abbrev pub with_placed : CellState → List ℕ → UseBody → CellState
 with_placed cell id used = record cell { uses = cell.uses ++ (id, used) ∷ [] }
 
+-- the cell with one more use, at a place
+abbrev pub with_inserted : CellState → ℕ → List ℕ → UseBody → CellState
+with_inserted cell at id used = record cell { uses = insert cell.uses at (id, used) }
+
 -- the cell with the k-th use placed otherwise, and with another grid or none
 abbrev pub with_moved : CellState → ℕ → Transform → Option Grid → CellState
 with_moved cell k placed grid = record cell { uses = moved_at cell.uses k placed grid }
@@ -140,6 +144,12 @@ RefusesUse tree cell id used (Cycle key) = (key ≡ used.child.0) × IsAbove tre
 RefusesUse tree cell id used TooManyUses = IsFree tree cell used × (length (cell_at tree.cells cell).uses ≡ MOST_USES)
 RefusesUse tree cell id used (Passed dimension) = RefusesGrowth tree cell id used dimension
 RefusesUse tree cell id used Memory = Unit {0}
+
+-- what refuses one more use at a place, where it makes no cycle and the cell has room for it; want of memory may always
+abbrev pub RefusesInsertion : Tree → ℕ → ℕ → List ℕ → UseBody → TreeFault → Type 0
+RefusesInsertion tree cell at id used (Passed dimension) = WouldPass dimension tree cell (with_inserted (cell_at tree.cells cell) at id used)
+RefusesInsertion tree cell at id used Memory = Unit {0}
+RefusesInsertion tree cell at id used _ = ⊥
 
 -- the cell with other uses
 abbrev pub with_uses : CellState → List (List ℕ × UseBody) → CellState

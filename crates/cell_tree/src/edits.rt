@@ -1,9 +1,9 @@
 //! Edits of the cells alone, without their sizes.
-ghost use Rattle.std.specs.Prelude.{◌≡◌, ◌≢◌, ℕ, ◌<◌, false, if◌then◌else◌, length, nat_eq, slice_set, OnOk};
+ghost use Rattle.std.specs.Prelude.{◌≡◌, ◌≢◌, ℕ, ◌<◌, ◌≤◌, false, if◌then◌else◌, length, nat_eq, slice_set, OnOk};
 ghost use Rattle.indexmap.specs.IndexSet.{insert_key};
 ghost use Rattle.cell_tree.specs.Uses.{HasIdAt};
 ghost use Rattle.cell_tree.specs.Cells.{states, users_of};
-ghost use Rattle.cell_tree.specs.Trees.{cell_at, with_own, with_placed, with_use_set, without_use};
+ghost use Rattle.cell_tree.specs.Trees.{cell_at, with_inserted, with_own, with_use_set, without_use};
 ghost use Rattle.cell_tree.specs.Above.{IsUserOf};
 ghost use Rattle.cell_tree.specs.Edits.{AreUsersBut, AreUsersKept, HasRoomFor, knows, uses_room, users_room};
 
@@ -52,16 +52,17 @@ pub fn reserve_user(cells: &mut [TreeCell], child: usize) -> Result<(), AllocErr
     cells[child].users.reserve(1)
 }
 
-/// Adds a use at the end of a cell's. It takes no memory.
-pub fn push_body(cells: &mut [TreeCell], cell: usize, id: Vec<u8>, used: UseBody)
+/// Makes a use the one at this place among a cell's. It takes no memory.
+pub fn insert_body(cells: &mut [TreeCell], cell: usize, at: usize, id: Vec<u8>, used: UseBody)
     requires within { cell < length cells.old }
+    requires place { at ≤ length (cell_at (states cells.old) cell).uses }
     requires room { 0 < uses_room cells.old cell }
     requires new { (k : ℕ) → HasIdAt (cell_at (states cells.old) cell).uses k id.items → ⊥ }
-    ensures states { states cells.new ≡ slice_set (states cells.old) cell (with_placed (cell_at (states cells.old) cell) id.items used) }
+    ensures states { states cells.new ≡ slice_set (states cells.old) cell (with_inserted (cell_at (states cells.old) cell) at id.items used) }
     ensures users { AreUsersKept cells.old cells.new }
     ensures users_room { (key : ℕ) → users_room cells.new key ≡ users_room cells.old key }
 {
-    cells[cell].uses.push(id, used);
+    cells[cell].uses.insert(at, id, used);
 }
 
 /// Makes the cell known as a user of the child. It takes no memory.
@@ -106,17 +107,18 @@ pub fn reserve_use(cells: &mut [TreeCell], cell: usize, child: usize) -> Result<
     reserve_user(cells, child)
 }
 
-/// Adds a use at the end of the cell's uses. It takes no memory.
-pub fn add_use(cells: &mut [TreeCell], cell: usize, id: Vec<u8>, used: UseBody)
+/// Makes a use the one at this place among the cell's. It takes no memory.
+pub fn add_use(cells: &mut [TreeCell], cell: usize, at: usize, id: Vec<u8>, used: UseBody)
     requires within { cell < length cells.old }
+    requires place { at ≤ length (cell_at (states cells.old) cell).uses }
     requires child { used.child.0 < length cells.old }
     requires room { HasRoomFor cells.old cell used.child.0 }
     requires new { (k : ℕ) → HasIdAt (cell_at (states cells.old) cell).uses k id.items → ⊥ }
-    ensures states { states cells.new ≡ slice_set (states cells.old) cell (with_placed (cell_at (states cells.old) cell) id.items used) }
+    ensures states { states cells.new ≡ slice_set (states cells.old) cell (with_inserted (cell_at (states cells.old) cell) at id.items used) }
     ensures users { AreUsersBut cells.old cells.new cell used.child.0 }
 {
     let child = used.child.0;
-    push_body(cells, cell, id, used);
+    insert_body(cells, cell, at, id, used);
     push_user(cells, child, cell);
 }
 

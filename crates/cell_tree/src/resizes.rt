@@ -43,7 +43,7 @@ pub fn size_with_use(
     size_with(cells[cell].own, &cells[cell].uses, k, used, sizes)
 }
 
-/// The size that a cell has with one more use at the end.
+/// The size that a cell has with one more use, wherever it comes among the others.
 pub fn size_with_placed(cells: &[TreeCell], sizes: &[Size], cell: usize, used: &UseBody) -> Size
     requires lawful { AreLawful cells.now sizes.now }
     requires within { cell < length cells.now }

@@ -1,5 +1,5 @@
 //! The tree of cells that use each other.
-ghost use Rattle.std.specs.Prelude.{◌≡◌, ◌↔◌, ℕ, ◌<◌, length, IsTrue, Some, OnOk, OnErr, IfOk, IfErr, IfSome, IfNone, slice_get};
+ghost use Rattle.std.specs.Prelude.{◌≡◌, ◌↔◌, ℕ, ◌<◌, ◌≤◌, length, IsTrue, Some, OnOk, OnErr, IfOk, IfErr, IfSome, IfNone, slice_get};
 ghost use Rattle.std.specs.Option.{option_map};
 ghost use Rattle.geo_core.specs.declared.grids.Grid.{Grid as IsGrid};
 ghost use Rattle.use_orders.specs.LibraryOrder.{IsLibraryOrder};
@@ -7,9 +7,10 @@ ghost use Rattle.cell_tree.specs.Uses.{HasIdAt, IsShift, IsLawfulGrid, IsLawfulU
 ghost use Rattle.cell_tree.specs.Hulls.{IsInside};
 ghost use Rattle.cell_tree.specs.Cells.{IsAbove};
 ghost use Rattle.cell_tree.specs.Sizes.{size_at};
-ghost use Rattle.cell_tree.specs.Trees.{cell_at, empty_tree, stamp_at, with_own, with_placed, with_moved, without_use};
+ghost use Rattle.cell_tree.specs.Trees.{cell_at, empty_tree, stamp_at, with_inserted, with_own, with_placed, with_moved, without_use};
 ghost use Rattle.cell_tree.specs.Additions.{AreAdded, MayAllCome, RefusesAll, children_of, new_states};
-ghost use Rattle.cell_tree.specs.Trees.{IsAdded, IsEdited, IsFree, IsLawfulOwn, IsLawfulTree, RefusesBox, RefusesMove, RefusesUse, WouldKeepWithin};
+ghost use Rattle.cell_tree.specs.Trees.{IsAdded, IsEdited, IsFree, IsLawfulOwn, IsLawfulTree, RefusesBox, RefusesInsertion, RefusesMove, RefusesUse};
+ghost use Rattle.cell_tree.specs.Trees.{WouldKeepWithin};
 
 use crate::additions::add_all;
 use crate::cells::TreeCell;
@@ -288,7 +289,48 @@ impl CellTree {
         if self.use_count(cell) >= MOST_USES {
             return Err(TreeFault::TooManyUses);
         }
-        self.place_free(cell, id, used)
+        let end = self.use_count(cell);
+        self.insert_use(cell, end, id, used)
+    }
+
+    /// Makes a use the one at this place among the cell's, as one more edit. The others keep their order. The use makes no cycle, and the
+    /// cell has room for it. It takes its memory first.
+    ///
+    /// # Errors
+    ///
+    /// `Passed` with the first dimension whose limit the cell or one above it would pass; and `Memory`. Nothing is changed then.
+    pub fn insert_use(
+        &mut self,
+        cell: usize,
+        at: usize,
+        id: Vec<u8>,
+        used: UseBody,
+    ) -> Result<(), TreeFault>
+        requires within { cell < length self.old.cells }
+        requires place { at ≤ length (cell_at self.old.cells cell).uses }
+        requires new { (k : ℕ) → HasIdAt (cell_at self.old.cells cell).uses k id.items → ⊥ }
+        requires lawful { IsLawfulUse used }
+        requires child { used.child.0 < length self.old.cells }
+        requires edits { self.old.edits < u64.MAX }
+        requires free { IsFree self.old cell used }
+        requires few { length (cell_at self.old.cells cell).uses < MOST_USES }
+        ensures edited { OnOk result (IsEdited self.old self.new cell (with_inserted (cell_at self.old.cells cell) at id.items used)) }
+        ensures refused { IfErr result (RefusesInsertion self.old cell at id.items used) }
+        ensures same { OnErr result (self.new ≡ self.old) }
+    {
+        reserve_use(self.cells.as_mut_slice(), cell, used.child.0)?;
+        let size = size_with_placed(
+            self.cells.as_slice(),
+            self.book.sizes.as_slice(),
+            cell,
+            &used,
+        );
+        match self.book.grow(self.cells.as_slice(), cell, &size) {
+            Ok(()) => {}
+            Err(dimension) => return Err(TreeFault::Passed(dimension)),
+        }
+        add_use(self.cells.as_mut_slice(), cell, at, id, used);
+        Ok(())
     }
 
     /// Places the k-th use of the cell otherwise and gives it this grid or none, as one more edit. It takes no memory.
@@ -366,33 +408,5 @@ impl CellTree {
         ensures same { self.new ≡ self.old }
     {
         self.book.is_above(self.cells.as_slice(), upper, lower)
-    }
-
-    // Adds a use that makes no cycle, where the cell has room for it.
-    fn place_free(&mut self, cell: usize, id: Vec<u8>, used: UseBody) -> Result<(), TreeFault>
-        requires within { cell < length self.old.cells }
-        requires new { (k : ℕ) → HasIdAt (cell_at self.old.cells cell).uses k id.items → ⊥ }
-        requires lawful { IsLawfulUse used }
-        requires child { used.child.0 < length self.old.cells }
-        requires edits { self.old.edits < u64.MAX }
-        requires free { IsFree self.old cell used }
-        requires few { length (cell_at self.old.cells cell).uses < MOST_USES }
-        ensures edited { OnOk result (IsEdited self.old self.new cell (with_placed (cell_at self.old.cells cell) id.items used)) }
-        ensures refused { IfErr result (RefusesUse self.old cell id.items used) }
-        ensures same { OnErr result (self.new ≡ self.old) }
-    {
-        reserve_use(self.cells.as_mut_slice(), cell, used.child.0)?;
-        let size = size_with_placed(
-            self.cells.as_slice(),
-            self.book.sizes.as_slice(),
-            cell,
-            &used,
-        );
-        match self.book.grow(self.cells.as_slice(), cell, &size) {
-            Ok(()) => {}
-            Err(dimension) => return Err(TreeFault::Passed(dimension)),
-        }
-        add_use(self.cells.as_mut_slice(), cell, id, used);
-        Ok(())
     }
 }

@@ -1,5 +1,5 @@
 //! The uses of a cell, in order of arrival under their ids.
-ghost use Rattle.std.specs.Prelude.{◌≡◌, ◌↔◌, ℕ, ◌<◌, ◌++◌, ◌∷◌, [], length, remove, map, slice_get, IsTrue, Some, OnOk, IfOk, IfSome, IfNone};
+ghost use Rattle.std.specs.Prelude.{◌≡◌, ◌↔◌, ℕ, ◌<◌, ◌≤◌, ◌++◌, ◌∷◌, [], length, insert, remove, map, slice_get, IsTrue, Some, OnOk, IfOk, IfSome, IfNone};
 ghost use Rattle.std.specs.Option.{option_map};
 ghost use Rattle.cell_tree.specs.Uses.{HasChild, HasIdAt, with_use_at};
 ghost use Rattle.cell_tree.specs.Arrivals.{HaveOwnIds};
@@ -105,13 +105,24 @@ impl UseTable {
         self.entries.reserve(1)
     }
 
+    /// Makes a use the k-th. The others keep their order. It takes no memory.
+    pub fn insert(&mut self, k: usize, id: Vec<u8>, used: UseBody)
+        requires place { k ≤ length self.old.entries }
+        requires room { 0 < self.old.spare }
+        requires new { (k : ℕ) → HasIdAt self.old.entries k id.items → ⊥ }
+        ensures { self.new.entries ≡ insert self.old.entries k (id.items, used) }
+    {
+        let _ = self.entries.shift_insert(k, id, used);
+    }
+
     /// Adds a use at the end. It takes no memory.
     pub fn push(&mut self, id: Vec<u8>, used: UseBody)
         requires room { 0 < self.old.spare }
         requires new { (k : ℕ) → HasIdAt self.old.entries k id.items → ⊥ }
         ensures { self.new.entries ≡ self.old.entries ++ (id.items, used) ∷ [] }
     {
-        let _ = self.entries.insert(id, used);
+        let end = self.len();
+        self.insert(end, id, used);
     }
 
     /// Gives the k-th use another body.

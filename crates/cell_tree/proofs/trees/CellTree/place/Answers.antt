@@ -13,6 +13,6 @@ returns-then-use_count-ge-MOST_USES-clause-refused c =
       ap (λ (t : Tree). length (cell_at t.cells c.args.cell).uses) (sym c.is_above.ensures.same) ∙ omega (arith, most, c.if-use_count-ge-MOST_USES.true, c.use_count.ensures),
     )
 
-pub place_free-requires-clause-new : goal.place_free-requires-clause-new
-place_free-requires-clause-new c =
+pub insert_use-requires-clause-new : goal.insert_use-requires-clause-new
+insert_use-requires-clause-new c =
     subst (λ (t : Tree). (k : ℕ) → HasIdAt (cell_at t.cells c.args.cell).uses k c.args.id.items → ⊥) (sym c.is_above.ensures.same) c.requires.new
