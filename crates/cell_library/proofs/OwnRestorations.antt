@@ -1,6 +1,6 @@
 -- What gives a cell back its paint or its labels: it has room for them, and what becomes of the library.
-use Rattle.std.proofs.Common.{◌≡◌, ◌<◌, ◌-◌, ℕ, zero, suc, List, [], ◌∷◌, ◌++◌, length, set, Option, refl, sym, ap, subst, ◌∙◌, arith, inl, inr}
-use Rattle.std.specs.Prelude.{All, IsTrue, IfSome, Some, None, slice_index_or}
+use Rattle.std.proofs.Common.{◌≡◌, ◌<◌, ◌-◌, ℕ, List, ◌++◌, length, set, Option, refl, sym, ap, subst, ◌∙◌, arith, inl, inr}
+use Rattle.std.specs.Prelude.{All, IsTrue, IfSome, Some, None}
 use Rattle.std.specs.Option.{option_to_list}
 use Rattle.std.proofs.lemmas.Int.{ints}
 use Rattle.std.proofs.lemmas.List.{get_or-set_same, length-set}
@@ -42,6 +42,7 @@ use Rattle.cell_library.proofs.FaultLaws.{not_first, not_full}
 use Rattle.cell_library.proofs.LimitLaws.{never_past, states_unique, would_go_past}
 use Rattle.cell_library.proofs.OwnEdits.{labels_here, put_there}
 use Rattle.cell_library.proofs.PaintEdits.{held_lawful, states_after}
+use Rattle.cell_library.proofs.UndoneEdits.{changed_there}
 use Rattle.cell_library.proofs.ViewLaws.{cell_viewed, count_seen, length-changed_at}
 
 -- ---- parts of a library
@@ -104,7 +105,12 @@ box_before_drop (Some gone) old new cell box below dropped last is =
     })
   where
     within_itself : (area : Rect) → LiesWithin area area
-    within_itself area = record { right_of_xlo = omega (arith, ints); above_ylo = omega (arith, ints); left_of_xhi = omega (arith, ints); below_yhi = omega (arith, ints) }
+    within_itself area = record {
+      right_of_xlo = omega (arith, ints);
+      above_ylo = omega (arith, ints);
+      left_of_xhi = omega (arith, ints);
+      below_yhi = omega (arith, ints);
+    }
 
 -- what is left without the last label has its box inside the old one
 pub dropped_inside : (old new : List Held) (cell : ℕ) (box after : Option Rect) → cell < length old
@@ -133,13 +139,6 @@ dropped_upright old new cell below dropped upright =
 -- an edit without faults of its own is refused after the last edit alone
 pub nothing_refused : (edits : ℕ) (fault : LibFault) → edits < MOST_EDITS → EditIsRefused edits NothingElse fault → ⊥
 nothing_refused edits fault few = not_first (not_full edits few) (λ none. none)
-
--- the cell that was changed is the changed one
-changed_there : {X : Type 0} (xs : List X) (k : ℕ) (change : X → X) (d : X) → k < length xs
-    → slice_index_or (changed_at xs k change) k d ≡ change (slice_index_or xs k d)
-changed_there [] k change d below = absurd (omega arith)
-changed_there (x ∷ xs) zero change d below = refl
-changed_there (x ∷ xs) (suc k) change d below = changed_there xs k change d (omega arith)
 
 module _ (library : LibraryParts) (lawful : IsLawfulLibrary library) (cell : ℕ) (below : cell < length library.contents) where
   -- the paint that is seen is that which is kept

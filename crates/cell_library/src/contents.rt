@@ -1,8 +1,7 @@
 //! What each cell has of its own, under the cells' names.
 ghost use Rattle.std.specs.Str.{bytes_eq};
 ghost use Rattle.std.specs.Prelude.{◌≡◌, not, ◌<◌, ◌-◌, ◌↔◌, ◌++◌, ◌∷◌, [], true, false, None, length, take, slice_set as set, OnOk, OnErr, IsErrOf};
-ghost use Rattle.std.specs.Prelude.{All};
-ghost use Rattle.std.specs.Prelude.{IsOkUnless, option_to_list};
+ghost use Rattle.std.specs.Prelude.{All, IsOkUnless, option_to_list};
 ghost use Rattle.geo_core.specs.Areas.{has_square, IsNear};
 ghost use Rattle.geo_core.specs.Covering.{IsProper};
 ghost use Rattle.cell_paint.specs.Paints.{layout_of, IsSoundPaint};
