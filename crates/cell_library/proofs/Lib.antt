@@ -14,6 +14,7 @@ pub mod GridSpots
 pub mod GridSteps
 pub mod HeldParts
 pub mod HullsHoldMaterial
+pub mod InnerAreas
 pub mod KeptContents
 pub mod LayoutTreeLaws
 pub mod LimitLaws
@@ -21,6 +22,7 @@ pub mod MaterialLaws
 pub mod MoveEdits
 pub mod NewCells
 pub mod OwnEdits
+pub mod OwnRestorations
 pub mod OwnTiles
 pub mod PaintEdits
 pub mod PartLaws
@@ -35,6 +37,7 @@ pub mod SpotLaws
 pub mod StandingCounts
 pub mod ToldTiles
 pub mod TreeTypes
+pub mod UndoneEdits
 pub mod UseEdits
 pub mod UseLists
 pub mod UseSearches

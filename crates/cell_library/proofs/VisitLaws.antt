@@ -7,7 +7,7 @@ use Rattle.geo_core.specs.declared.orients.Orient.TheVariants.{R0}
 use Rattle.geo_core.specs.declared.squares.Square.{Square}
 use Rattle.geo_core.specs.declared.squares.Rect.{Rect}
 use Rattle.geo_core.specs.declared.transforms.Transform.{Transform}
-use Rattle.geo_core.specs.Areas.{common_rect, IsNear, LiesWithin}
+use Rattle.geo_core.specs.Areas.{common_rect, IsNear}
 use Rattle.geo_core.specs.Covering.{Covers, IsProper}
 use Rattle.geo_core.specs.Images.{identity, image, inverted, rect_image}
 use Rattle.geo_core.proofs.CoveringLaws.{covers_both, covers_is_proper}
@@ -184,24 +184,6 @@ back_far-by_orient levels _ dx dy area room near =
 pub back_far : (levels : ℕ) (placed : Transform) (area : Rect) → HasRoomToMove levels placed → IsNear area
     → SpansFar (rect_image (inverted placed) area)
 back_far levels placed area room near = back_far-by_orient levels placed.orient placed.dx placed.dy area room near
-
--- what lies within an area that is near, and has a square, is near
-pub near_within : (core area : Rect) → IsNear area → IsProper core → LiesWithin core area → IsNear core
-near_within core area near proper within =
-    let x0 : neg_ℤ (pos 268435456) <ℤ area.xlo = near.xlo.0 in let x1 : area.xhi <ℤ pos 268435456 = near.xhi.1 in
-    let y0 : neg_ℤ (pos 268435456) <ℤ area.ylo = near.ylo.0 in let y1 : area.yhi <ℤ pos 268435456 = near.yhi.1 in
-    let a : area.xlo ≤ℤ core.xlo = within.right_of_xlo in
-    let b : area.ylo ≤ℤ core.ylo = within.above_ylo in
-    let c : core.xhi ≤ℤ area.xhi = within.left_of_xhi in
-    let d : core.yhi ≤ℤ area.yhi = within.below_yhi in
-    let wide : core.xlo <ℤ core.xhi = proper.wide in
-    let high : core.ylo <ℤ core.yhi = proper.high in
-    record {
-      xlo = (omega (arith, ints), omega (arith, ints));
-      ylo = (omega (arith, ints), omega (arith, ints));
-      xhi = (omega (arith, ints), omega (arith, ints));
-      yhi = (omega (arith, ints), omega (arith, ints));
-    }
 
 -- the cell that is looked at can be visited
 pub top_can_be_visited : (tree : Tree) (cell : ℕ) → IsLawfulTree tree → cell < length tree.cells

@@ -1,5 +1,5 @@
 -- What a library has for each cell besides its uses: its name, its paint and its labels.
-use Rattle.std.specs.Prelude.{◌≡◌, not, ℕ, All, List, [], ◌∷◌, ◌++◌, length, slice_index_or, slice_set, map, filter, Option, Vec, refl}
+use Rattle.std.specs.Prelude.{◌≡◌, not, ◌-◌, ℕ, All, List, [], ◌∷◌, ◌++◌, length, take, slice_index_or, slice_set, map, filter, Option, Vec, refl}
 use Rattle.std.specs.List.{position}
 use Rattle.std.specs.Str.{bytes_eq}
 use Rattle.std.specs.Coded.{Coded, code_by, coded×, coded_list, coded_ℕ}
@@ -59,6 +59,14 @@ position_of name contents = position (bytes_eq name) (map (λ held. held.name) c
 -- one more label
 abbrev pub with_label : Held → Label → Held
 with_label held label = record held { labels = held.labels ++ label ∷ [] }
+
+-- all labels but the last
+abbrev pub without_last : List Label → List Label
+without_last labels = take (length labels - 1) labels
+
+-- with these labels in place of its own
+abbrev pub with_labels : Held → List Label → Held
+with_labels held labels = record held { labels = labels }
 
 -- without the labels of this text
 abbrev pub without_labels : Held → List ℕ → Held

@@ -16,6 +16,7 @@ pub mod Libraries
 pub mod Limits
 pub mod MaterialBelow
 pub mod OwnBoxes
+pub mod OwnRestorations
 pub mod PartCounts
 pub mod PartTiles
 pub mod PutBackUses

@@ -1,28 +1,17 @@
 -- What the edits make of a library that give a cell back what it had.
-use Rattle.std.specs.Prelude.{◌≡◌, ◌==◌, ◌&&◌, ◌-◌, ℕ, if◌then◌else◌, List, [], ◌∷◌, insert, length, take, Option}
+use Rattle.std.specs.Prelude.{◌≡◌, ℕ, List, insert, Option}
 use Rattle.geo_core.specs.declared.grids.Grid.{Grid}
 use Rattle.geo_core.specs.declared.squares.Piece.{Piece}
 use Rattle.geo_core.specs.declared.squares.Rect.{Rect}
-use Rattle.geo_core.specs.Covering.{is_covered}
 use Rattle.tech_model.specs.declared.raw.Label.{Label}
-use Rattle.layout_model.specs.Layouts.{Layout}
-use Rattle.layout_model.specs.Places.{Place}
+use Rattle.cell_paint.specs.Pieces.{with_pieces}
 use Rattle.cell_tree.specs.declared.use_tables.UseBody.{UseBody}
+use Rattle.cell_library.specs.Contents.{without_last}
 use Rattle.cell_library.specs.Edits.{with_use_changed}
 use Rattle.cell_library.specs.Libraries.{IsLawfulLibrary, LibraryParts, seen}
 use Rattle.cell_library.specs.Views.{LibraryView, with_cell_changed}
 
 -- ---- paint
-
--- the type at a place by pieces of planes: that of the first that covers it, and space where there is none
-abbrev pub kind_by : List (ℕ × Piece) → Layout
-kind_by [] place = 0
-kind_by (entry ∷ pieces) place =
-    if (entry.0 == place.plane) && is_covered entry.1.area place.square then entry.1.value else kind_by pieces place
-
--- the layout in which these pieces stand in the area, and space between them
-abbrev pub with_pieces : Rect → List (ℕ × Piece) → Layout → Layout
-with_pieces area pieces layout place = if is_covered area place.square then kind_by pieces place else layout place
 
 -- the pieces stand in the area of a cell, and space between them
 abbrev pub repainted : LibraryView → ℕ → Rect → List (ℕ × Piece) → LibraryView
@@ -43,7 +32,7 @@ regridded view cell id grid =
 
 -- the last label is gone from a cell
 abbrev pub without_last_label : LibraryView → ℕ → LibraryView
-without_last_label view cell = with_cell_changed view cell (λ body. record body { labels = take (length body.labels - 1) body.labels })
+without_last_label view cell = with_cell_changed view cell (λ body. record body { labels = without_last body.labels })
 
 -- a cell has these labels
 abbrev pub relabelled : LibraryView → ℕ → List Label → LibraryView

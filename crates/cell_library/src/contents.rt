@@ -1,13 +1,15 @@
 //! What each cell has of its own, under the cells' names.
 ghost use Rattle.std.specs.Str.{bytes_eq};
 ghost use Rattle.std.specs.Prelude.{◌≡◌, not, ◌<◌, ◌-◌, ◌↔◌, ◌++◌, ◌∷◌, [], true, false, None, length, take, slice_set as set, OnOk, OnErr, IsErrOf};
-ghost use Rattle.std.specs.Prelude.{All};
-ghost use Rattle.geo_core.specs.Areas.{has_square};
+ghost use Rattle.std.specs.Prelude.{All, IsOkUnless, option_to_list};
+ghost use Rattle.geo_core.specs.Areas.{has_square, IsNear};
+ghost use Rattle.geo_core.specs.Covering.{IsProper};
 ghost use Rattle.cell_paint.specs.Paints.{layout_of, IsSoundPaint};
 ghost use Rattle.cell_paint.specs.Painting.{with_paint, with_erased, is_in_range};
+ghost use Rattle.cell_paint.specs.Pieces.{with_pieces, CanStandIn};
 
 use cell_paint::{CellPaint, PaintFault};
-use geo_core::Rect;
+use geo_core::{Piece, Rect};
 use indexmap::IndexMap;
 use names_lists::Name;
 use std::alloc::{AllocError, Global};
@@ -46,7 +48,7 @@ impl Model for Contents {
 }
 
 impl Contents {
-    ghost use Rattle.cell_library.specs.Contents.{held_at, held_of, position_of, with_label, without_labels, IsRepainted, IsSoundHeld};
+    ghost use Rattle.cell_library.specs.Contents.{held_at, held_of, position_of, with_label, with_labels, without_labels, without_last, IsRepainted, IsSoundHeld};
 
     /// No cells. It takes no memory.
     pub fn new(alloc: Global) -> Contents
@@ -167,6 +169,28 @@ impl Contents {
         done
     }
 
+    /// Puts the pieces in an area of a cell, and space between them. Want of memory alone refuses, and then no layout is changed.
+    pub fn put_back(
+        &mut self,
+        cell: usize,
+        area: Rect,
+        pieces: &[(u8, Piece)],
+    ) -> Result<(), PaintFault>
+        requires cell { cell < length self.old }
+        requires proper { IsProper area }
+        requires near { IsNear area }
+        requires pieces { CanStandIn area (length (held_at self.old cell).paint.planes) pieces.now }
+        requires sound { IsSoundPaint (held_at self.old cell).paint.kinds (with_pieces area pieces.now (layout_of (held_at self.old cell).paint)) }
+        ensures put { OnOk result (IsRepainted self.old self.new cell (with_pieces area pieces.now)) }
+        ensures refused { OnErr result (IsRepainted self.old self.new cell (λ own. own)) }
+        ensures memory { IsOkUnless result PaintFault.Memory }
+    {
+        let content = &mut self.entries[cell];
+        let done = content.paint.put_back(area, pieces);
+        content.paint.sound();
+        done
+    }
+
     /// Adds a label to a cell. Want of memory alone refuses, and nothing is changed then.
     pub fn push_label(&mut self, cell: usize, label: Label) -> Result<(), AllocError>
         requires { cell < length self.old }
@@ -189,5 +213,24 @@ impl Contents {
                 ensures { result ≡ not (bytes_eq label.now.text text.entry.now) }
             { label.text.bytes() != text },
         );
+    }
+
+    /// Takes the last label of a cell away, where it has one, and hands it out.
+    pub fn pop_label(&mut self, cell: usize) -> Option<Label>
+        requires { cell < length self.old }
+        ensures popped { self.new ≡ set self.old cell (with_labels (held_at self.old cell) (without_last (held_at self.old cell).labels)) }
+        ensures last { (held_at self.old cell).labels ≡ without_last (held_at self.old cell).labels ++ option_to_list result }
+    {
+        let content = &mut self.entries[cell];
+        content.labels.pop()
+    }
+
+    /// Gives a cell these labels.
+    pub fn set_labels(&mut self, cell: usize, labels: Vec<Label>)
+        requires { cell < length self.old }
+        ensures { self.new ≡ set self.old cell (with_labels (held_at self.old cell) labels.items) }
+    {
+        let content = &mut self.entries[cell];
+        content.labels = labels;
     }
 }

@@ -1,9 +1,13 @@
 //! The library.
 ghost use Rattle.std.specs.Prelude.{◌≡◌, ◌<◌, ◌≤◌, ℕ, All, map, None, [], length, IsTrue, IfOk, IfSome, OnOk, OnErr, slice_get};
+ghost use Rattle.std.specs.Prelude.{IsOkUnless};
 ghost use Rattle.std.specs.Option.{option_map};
 ghost use Rattle.text_scan.specs.PlainNames.{is_plain_name};
+ghost use Rattle.geo_core.specs.Areas.{IsNear};
+ghost use Rattle.geo_core.specs.Covering.{IsProper};
 ghost use Rattle.cell_tree.specs.UseOrders.LibraryOrder.{IsLibraryOrder};
 ghost use Rattle.cell_paint.specs.Paints.{layout_of, IsSoundPaint};
+ghost use Rattle.cell_paint.specs.Pieces.{with_pieces, AreTakenOut, CanStandIn};
 ghost use Rattle.cell_bodies.specs.Words.{is_use_id, is_label_text};
 ghost use Rattle.cell_bodies.specs.Numbers.{is_index, is_position};
 ghost use Rattle.cell_tree.specs.Trees.{empty_tree, stamp_at};
@@ -12,10 +16,10 @@ ghost use Rattle.cell_library.specs.Edits.{with_new_cell, painted, erased, label
 ghost use Rattle.cell_library.specs.Contents.{IsSoundHeld};
 ghost use Rattle.cell_library.specs.Limits.{HullIs};
 ghost use Rattle.cell_library.specs.Refusals.{Answers, AnswersOrLacksMemory, EditIsRefused, NewCellIsRefused, PaintIsRefused, EraseIsRefused};
+ghost use Rattle.cell_library.specs.Refusals.{NothingElse, has_id};
 ghost use Rattle.cell_library.specs.Refusals.{LabelIsRefused, UnlabelIsRefused, PlaceIsRefused, ArrayIsRefused, MoveIsRefused, DeleteIsRefused};
 ghost use Rattle.cell_library.specs.PutBackUses.{place_of};
-ghost use Rattle.cell_library.specs.Refusals.{NothingElse, has_id};
-ghost use Rattle.cell_library.specs.Restorations.{IsLawfulView, regridded, with_use_at};
+ghost use Rattle.cell_library.specs.Restorations.{IsLawfulView, regridded, relabelled, repainted, with_use_at, without_last_label};
 ghost use Rattle.cell_library.specs.Views.{cell_named, view_at};
 
 use crate::adding::new_cell;
@@ -23,6 +27,7 @@ use crate::additions::add_cells;
 use crate::contents::Contents;
 use crate::faults::LibFault;
 use crate::opened::Opened;
+use crate::own_restorations::{drop_last_label_of, put_back_cell, set_labels_of};
 use crate::painting::{erase_cell, label_cell, paint_cell, unlabel_cell};
 use crate::reader::Reader;
 use crate::uses::{delete_use, insert_use, move_use, place_array, place_use, regrid};
@@ -30,7 +35,7 @@ use cell_bodies::CellBody;
 use cell_paint::CellPaint;
 use cell_tree::{CellTree, UseBody};
 use ext_model::CellKey;
-use geo_core::{Grid, Rect};
+use geo_core::{Grid, Piece, Rect};
 use names_lists::Name;
 use std::alloc::{AllocError, Global};
 use std::marker::Model;
@@ -357,6 +362,71 @@ impl Library {
         ensures refused { OnErr result (IsSame self.old self.new) }
     {
         let done = unlabel_cell(&mut self.contents, &mut self.tree, cell.0, text);
+        self.tree.lawful();
+        done
+    }
+
+    /// The tiles of every plane of the cell's own paint in the area, plane by plane: with the number of its plane each strip of a type other
+    /// than space that meets the area, cut to it. Want of memory alone refuses.
+    pub fn take_out(&self, cell: CellKey, area: Rect) -> Result<Vec<(u8, Piece)>, LibFault>
+        requires cell { cell.0 < length self.now.contents }
+        requires proper { IsProper area }
+        requires near { IsNear area }
+        ensures taken { IfOk result (λ taken. AreTakenOut (view_at (seen self.now) cell.0).own area taken.items) }
+        ensures pieces { IfOk result (λ taken. CanStandIn area (length self.now.tech.planes) taken.items) }
+        ensures memory { IsOkUnless result LibFault.Memory }
+    {
+        let taken = self.paint_of(cell).take_out(area)?;
+        Ok(taken)
+    }
+
+    /// Puts the pieces in the area of the cell, and space between them, where some lawful library has them there. It takes its memory first.
+    pub fn put_back(
+        &mut self,
+        cell: CellKey,
+        area: Rect,
+        pieces: &[(u8, Piece)],
+    ) -> Result<(), LibFault>
+        requires cell { cell.0 < length self.old.contents }
+        requires proper { IsProper area }
+        requires near { IsNear area }
+        requires pieces { CanStandIn area (length self.old.tech.planes) pieces.now }
+        requires sound { IsSoundPaint self.old.tech.types (with_pieces area pieces.now (view_at (seen self.old) cell.0).own) }
+        requires lawful { IsLawfulView (repainted (seen self.old) cell.0 area pieces.now) }
+        ensures answers { AnswersOrLacksMemory (EditIsRefused (edits_of self.old) NothingElse) result }
+        ensures put { OnOk result (seen self.new ≡ repainted (seen self.old) cell.0 area pieces.now) }
+        ensures edit { OnOk result (IsNextEdit self.old self.new cell.0) }
+        ensures refused { OnErr result (IsSame self.old self.new) }
+    {
+        let done = put_back_cell(&mut self.contents, &mut self.tree, cell.0, area, pieces);
+        self.tree.lawful();
+        done
+    }
+
+    /// Takes the last label of the cell away. It takes no memory.
+    pub fn drop_last_label(&mut self, cell: CellKey) -> Result<(), LibFault>
+        requires cell { cell.0 < length self.old.contents }
+        requires some { 0 < length (view_at (seen self.old) cell.0).labels }
+        ensures answers { Answers (EditIsRefused (edits_of self.old) NothingElse) result }
+        ensures dropped { OnOk result (seen self.new ≡ without_last_label (seen self.old) cell.0) }
+        ensures edit { OnOk result (IsNextEdit self.old self.new cell.0) }
+        ensures refused { OnErr result (IsSame self.old self.new) }
+    {
+        let done = drop_last_label_of(&mut self.contents, &mut self.tree, cell.0);
+        self.tree.lawful();
+        done
+    }
+
+    /// Gives the cell these labels, where some lawful library has them there. It takes no memory.
+    pub fn set_labels(&mut self, cell: CellKey, labels: Vec<Label>) -> Result<(), LibFault>
+        requires cell { cell.0 < length self.old.contents }
+        requires lawful { IsLawfulView (relabelled (seen self.old) cell.0 labels.items) }
+        ensures answers { Answers (EditIsRefused (edits_of self.old) NothingElse) result }
+        ensures set { OnOk result (seen self.new ≡ relabelled (seen self.old) cell.0 labels.items) }
+        ensures edit { OnOk result (IsNextEdit self.old self.new cell.0) }
+        ensures refused { OnErr result (IsSame self.old self.new) }
+    {
+        let done = set_labels_of(&mut self.contents, &mut self.tree, cell.0, labels);
         self.tree.lawful();
         done
     }

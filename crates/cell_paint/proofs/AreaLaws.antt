@@ -1,5 +1,5 @@
 -- Areas that paint may go over: what their strips are, and which squares they cover.
-use Rattle.std.proofs.Common.{◌≡◌, inl, inr, ℕ, ◌+◌, ◌<◌, pos, ◌-ℤ◌, ◌≤ℤ◌, ◌<ℤ◌, ℤ, true, false, ◌||◌, List, [], ◌∷◌, length, take, zero, suc, get_or, refl, sym, ◌∙◌, ap, subst, arith}
+use Rattle.std.proofs.Common.{◌≡◌, inl, inr, ℕ, ◌+◌, ◌<◌, pos, neg_ℤ, ◌-ℤ◌, ◌≤ℤ◌, ◌<ℤ◌, ℤ, true, false, ◌||◌, List, [], ◌∷◌, length, take, zero, suc, get_or, refl, sym, ◌∙◌, ap, subst, arith}
 use Rattle.std.specs.Prelude.{All, AllPairs, Option, Some, None}
 use Rattle.std.specs.List.{list_any}
 use Rattle.std.specs.Option.{option_or}
@@ -10,7 +10,7 @@ use Rattle.geo_core.proofs.FiniteSets.Members.{In-get_or}
 use Rattle.geo_core.proofs.FiniteSets.Searches.{list_any-In, option_or-none, list_any-source}
 use Rattle.geo_core.specs.declared.squares.Square.{Square}
 use Rattle.geo_core.specs.declared.squares.Rect.{Rect}
-use Rattle.geo_core.specs.Areas.{AreDisjoint, IsNear, has_square}
+use Rattle.geo_core.specs.Areas.{AreDisjoint, IsNear, LiesWithin, has_square}
 use Rattle.geo_core.specs.Covering.{Covers, is_covered, IsProper}
 use Rattle.geo_core.specs.Strips.{IsStrips, IsInUnion, StandsBefore}
 use Rattle.geo_core.proofs.CoveringLaws.{Covers-is_covered, is_covered-Covers}
@@ -95,6 +95,24 @@ fits_more areas index d inside before is =
     go (first ∷ areas) (suc index) inside before is =
         let parts = option_or-none (area_fault first) (first_area_fault (take index areas)) before in
         ap (λ (o : Option PaintFault). option_or o (first_area_fault (take (suc index) areas))) parts.0 ∙ go areas index (omega arith) parts.1 is
+
+-- what lies within an area that is near, and has a square, is near
+pub near_within : (core area : Rect) → IsNear area → IsProper core → LiesWithin core area → IsNear core
+near_within core area near proper within =
+    let x0 : neg_ℤ (pos 268435456) <ℤ area.xlo = near.xlo.0 in let x1 : area.xhi <ℤ pos 268435456 = near.xhi.1 in
+    let y0 : neg_ℤ (pos 268435456) <ℤ area.ylo = near.ylo.0 in let y1 : area.yhi <ℤ pos 268435456 = near.yhi.1 in
+    let a : area.xlo ≤ℤ core.xlo = within.right_of_xlo in
+    let b : area.ylo ≤ℤ core.ylo = within.above_ylo in
+    let c : core.xhi ≤ℤ area.xhi = within.left_of_xhi in
+    let d : core.yhi ≤ℤ area.yhi = within.below_yhi in
+    let wide : core.xlo <ℤ core.xhi = proper.wide in
+    let high : core.ylo <ℤ core.yhi = proper.high in
+    record {
+      xlo = (omega (arith, ints), omega (arith, ints));
+      ylo = (omega (arith, ints), omega (arith, ints));
+      xhi = (omega (arith, ints), omega (arith, ints));
+      yhi = (omega (arith, ints), omega (arith, ints));
+    }
 
 -- ---- strips of areas
 

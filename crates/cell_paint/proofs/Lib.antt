@@ -4,5 +4,6 @@ pub mod ChangeLaws
 pub mod ColumnsLaws
 pub mod PaintLaws
 pub mod PaintTiles
+pub mod PieceLaws
 pub mod PlaneLaws
 pub mod ShownLaws

@@ -30,7 +30,7 @@ use Rattle.tech_model.proofs.WellFormedLaws.{type_bounds}
 use Rattle.layout_model.specs.Places.{Place}
 use Rattle.layout_model.specs.Layouts.{Layout}
 use Rattle.cell_paint.specs.Painting.{place_at, kinds_on, column_at, with_columns_where, with_paint, with_all_painted, is_in_some, paint_range}
-use Rattle.cell_paint.specs.Paints.{PlaneValue, layout_on, AreCellPlanes}
+use Rattle.cell_paint.specs.Paints.{PlaneValue, layout_on, IsSoundPaint, AreCellPlanes}
 use Rattle.cell_paint.specs.Settings.{pieces_for, AreSettable, AreAllSet, AreChanges, AreAllChanges}
 use Rattle.cell_paint.proofs.AgainLaws.{painted_column-again}
 use Rattle.cell_paint.proofs.ColumnsLaws.{column_type}
@@ -80,21 +80,20 @@ space_in raw kinds planes column whole same is plane past = elim (is plane) [
 
 -- ---- what holds of all paint
 
+-- as many planes as before that show a sound layout are whole
+pub whole_sound : (kinds : List TypeRec) (old new : List PlaneValue) → length new ≡ length old → IsSoundPaint kinds (layout_on new)
+    → AreCellPlanes kinds old → AreCellPlanes kinds new
+whole_sound kinds old new long sound whole = record {
+  few = subst (λ (n : ℕ). n ≤ MOST_PLANES) (sym long) whole.few;
+  placed = λ raw is t type. subst (λ (n : ℕ). plane_of raw t < n) (sym long) (whole.placed raw is t type);
+  sound = sound;
+}
+
 -- planes that show the same layout are as whole
 pub whole_same : (kinds : List TypeRec) (old new : List PlaneValue) → length new ≡ length old → ((place : Place) → layout_on new place ≡ layout_on old place)
     → AreCellPlanes kinds old → AreCellPlanes kinds new
-whole_same kinds old new long same whole = record {
-  few = subst (λ (n : ℕ). n ≤ MOST_PLANES) (sym long) whole.few;
-  placed = λ raw is t type. subst (λ (n : ℕ). plane_of raw t < n) (sym long) (whole.placed raw is t type);
-  sound = record {
-    types = λ raw is square.
-        sound_same raw (column_at (layout_on old) square) (column_at (layout_on new) square)
-        (column_shows (layout_on new) square (column_at (layout_on old) square)
-        (λ plane below. same (place_at plane square) ∙ sym (column_type (layout_on old) square plane below)) (type_past_column (layout_on old) square))
-        (whole.sound.types raw is square);
-    range = λ place material. whole.sound.range place (λ space. material (same place ∙ space));
-  };
-}
+whole_same kinds old new long same whole =
+    whole_sound kinds old new long (subst (IsSoundPaint kinds) (λ i place. sym (same place) i) whole.sound) whole
 
 -- planes without paint
 pub whole_empty : (raw : RawTech) (planes : List PlaneValue) → IsWellFormed raw → length planes ≡ length raw.planes
@@ -146,32 +145,29 @@ changed_alike change inside other layout same place =
 pub whole_changed : (kinds : List TypeRec) (raw : RawTech) (change : List TypeId → List TypeId) (inside : Square → Bool) (old new : List PlaneValue) → raw.types ≡ kinds
     → ((square : Square) → IsSound raw (change (column_at (layout_on old) square))) → ((square : Square) → inside square ≡ true → Covers paint_range square) → length new ≡ length old
     → ((place : Place) → layout_on new place ≡ with_columns_where change inside (layout_on old) place) → AreCellPlanes kinds old → AreCellPlanes kinds new
-whole_changed kinds raw change inside old new is_raw sound within long changed whole = record {
-  few = subst (λ (n : ℕ). n ≤ MOST_PLANES) (sym long) whole.few;
-  placed = λ other is t type. subst (λ (n : ℕ). plane_of other t < n) (sym long) (whole.placed other is t type);
-  sound = record {
-    types = λ other is square. elim (cases_Bool (inside square)) [
-      | inl covered ↦
-          sound_in raw other (column_at (layout_on new) square) (is_raw ∙ sym is)
-          (sound_same raw (change (column_at (layout_on old) square)) (column_at (layout_on new) square)
-          (column_shows (layout_on new) square (change (column_at (layout_on old) square))
-          (λ plane below. changed (place_at plane square) ∙ changed_inside change inside (layout_on old) (place_at plane square) covered)
-          (λ plane past. space_in raw kinds old (change (column_at (layout_on old) square)) whole is_raw (sound square).0 plane
-          (let few = whole.few in omega arith)))
-          (sound square))
-      | inr outside ↦
-          sound_same other (column_at (layout_on old) square) (column_at (layout_on new) square)
-          (column_shows (layout_on new) square (column_at (layout_on old) square)
-          (λ plane below. changed (place_at plane square) ∙ changed_outside change inside (layout_on old) (place_at plane square) outside
-          ∙ sym (column_type (layout_on old) square plane below)) (type_past_column (layout_on old) square))
-          (whole.sound.types other is square)
-    ];
-    range = λ place material. elim (cases_Bool (inside place.square)) [
-      | inl covered ↦ within place.square covered
-      | inr outside ↦ whole.sound.range place (λ space. material (changed place ∙ changed_outside change inside (layout_on old) place outside ∙ space))
-    ];
-  };
-}
+whole_changed kinds raw change inside old new is_raw sound within long changed whole =
+    whole_sound kinds old new long (record {
+      types = λ other is square. elim (cases_Bool (inside square)) [
+        | inl covered ↦
+            sound_in raw other (column_at (layout_on new) square) (is_raw ∙ sym is)
+            (sound_same raw (change (column_at (layout_on old) square)) (column_at (layout_on new) square)
+            (column_shows (layout_on new) square (change (column_at (layout_on old) square))
+            (λ plane below. changed (place_at plane square) ∙ changed_inside change inside (layout_on old) (place_at plane square) covered)
+            (λ plane past. space_in raw kinds old (change (column_at (layout_on old) square)) whole is_raw (sound square).0 plane
+            (let few = whole.few in omega arith)))
+            (sound square))
+        | inr outside ↦
+            sound_same other (column_at (layout_on old) square) (column_at (layout_on new) square)
+            (column_shows (layout_on new) square (column_at (layout_on old) square)
+            (λ plane below. changed (place_at plane square) ∙ changed_outside change inside (layout_on old) (place_at plane square) outside
+            ∙ sym (column_type (layout_on old) square plane below)) (type_past_column (layout_on old) square))
+            (whole.sound.types other is square)
+      ];
+      range = λ place material. elim (cases_Bool (inside place.square)) [
+        | inl covered ↦ within place.square covered
+        | inr outside ↦ whole.sound.range place (λ space. material (changed place ∙ changed_outside change inside (layout_on old) place outside ∙ space))
+      ];
+    }) whole
 
 -- ---- changes of planes
 
@@ -198,26 +194,32 @@ changed_on_plane old new after pieces changes are square = elim (cases_eq (new s
   ]
 ]
 
--- when each plane has its changes, the layout is the changed one
+-- when each plane has its changes to a layout with space past the last plane, the planes show that layout
+pub changed_to : (old new : List PlaneValue) (after : Layout) (changes : List (Vec Piece Global)) → length changes ≡ length old
+    → ((place : Place) → length old ≤ place.plane → after place ≡ 0) → AreAllChanges (layout_on old) after changes → AreAllSet old new changes
+    → (place : Place) → layout_on new place ≡ after place
+changed_to old new after changes one_each space are are_set place = elim (cases_lt place.plane (length changes)) [
+  | inl below ↦ (let other = item_at changes place.plane below in
+      changed_on_plane (kinds_on (layout_on old) place.plane) (kinds_on after place.plane) (kinds_on (layout_on new) place.plane)
+      (pieces_for changes place.plane other) (are place.plane other below) (are_set.each place.plane other below) place.square)
+  | inr above ↦ (let past : length old ≤ place.plane = omega arith in
+      let long : length new ≡ length old = are_set.so_many in
+      space_past new place.plane place.square (omega arith) ∙ sym (space place past))
+]
+
+-- when each plane has the changes of its columns, the layout is the changed one
 pub all_changed : (raw : RawTech) (kinds : List TypeRec) (change : List TypeId → List TypeId) (inside : Square → Bool) (old new : List PlaneValue)
     (changes : List (Vec Piece Global)) → raw.types ≡ kinds
     → ((square : Square) → IsSound raw (change (column_at (layout_on old) square))) → AreCellPlanes kinds old → length changes ≡ length old
     → AreAllChanges (layout_on old) (with_columns_where change inside (layout_on old)) changes → AreAllSet old new changes
     → (place : Place) → layout_on new place ≡ with_columns_where change inside (layout_on old) place
-all_changed raw kinds change inside old new changes is_raw sound whole one_each are are_set place = elim (cases_lt place.plane (length changes)) [
-  | inl below ↦ (let other = item_at changes place.plane below in
-      changed_on_plane (kinds_on (layout_on old) place.plane) (kinds_on (with_columns_where change inside (layout_on old)) place.plane)
-      (kinds_on (layout_on new) place.plane)
-      (pieces_for changes place.plane other) (are place.plane other below) (are_set.each place.plane other below) place.square)
-  | inr above ↦ (let past : length old ≤ place.plane = omega arith in
-      let long : length new ≡ length old = are_set.so_many in
-      space_past new place.plane place.square (omega arith) ∙ elim (cases_Bool (inside place.square)) [
-        | inl covered ↦
-            sym (changed_inside change inside (layout_on old) place covered
-            ∙ space_in raw kinds old (change (column_at (layout_on old) place.square)) whole is_raw (sound place.square).0 place.plane past)
-        | inr outside ↦ sym (changed_outside change inside (layout_on old) place outside ∙ space_past old place.plane place.square past)
-      ])
-]
+all_changed raw kinds change inside old new changes is_raw sound whole one_each =
+    changed_to old new (with_columns_where change inside (layout_on old)) changes one_each (λ place past. elim (cases_Bool (inside place.square)) [
+      | inl covered ↦
+          changed_inside change inside (layout_on old) place covered
+          ∙ space_in raw kinds old (change (column_at (layout_on old) place.square)) whole is_raw (sound place.square).0 place.plane past
+      | inr outside ↦ changed_outside change inside (layout_on old) place outside ∙ space_past old place.plane place.square past
+    ])
 
 -- the changes of each plane can be set
 pub all_settable : (old new : Layout) (changes : List (Vec Piece Global)) → AreAllChanges old new changes → AreSettable changes

@@ -1,11 +1,11 @@
 -- Lists of planes: setting one plane, setting pieces plane after plane, and the box of all planes.
-use Rattle.std.proofs.Common.{◌≡◌, ◌≢◌, inl, inr, ℕ, ◌+◌, ◌<◌, ◌≤◌, List, [], ◌∷◌, ◌++◌, length, length-append, get_or, set, sym, ◌∙◌}
+use Rattle.std.proofs.Common.{◌≡◌, ◌≢◌, inl, inr, ℕ, ◌+◌, ◌<◌, ◌≤◌, List, [], ◌∷◌, ◌++◌, length, length-append, get_or, take, drop, set, sym, ◌∙◌}
 use Rattle.std.proofs.Common.{ap, subst, arith, Option, Some, None, get_or-set_same, get_or-set_other}
 use Rattle.std.proofs.Math.ListN.{length-set}
 use Rattle.std.specs.Prelude.{MatchOption, slice_index_or, Vec}
 use Rattle.std.specs.declared.alloc.Global.{Global}
 use Rattle.std.proofs.lemmas.Bool.{cases_eq, cases_lt}
-use Rattle.std.proofs.lemmas.List.{get_or_default, get_or_past, get_or_push, get_or_append_left}
+use Rattle.std.proofs.lemmas.List.{get_or_default, get_or_past, get_or_push, get_or_append_left, take_at}
 use Rattle.geo_core.specs.declared.squares.Square.{Square}
 use Rattle.geo_core.specs.declared.squares.Rect.{Rect}
 use Rattle.geo_core.specs.declared.squares.Piece.{Piece}
@@ -49,6 +49,11 @@ set_here planes index new below = get_or-set_same planes index new no_plane belo
 pub set_elsewhere : (planes : List PlaneValue) (index plane : ℕ) (new : PlaneValue) → plane ≢ index
     → plane_at (set planes index new) plane ≡ plane_at planes plane
 set_elsewhere planes index plane new apart = get_or-set_other planes index plane new no_plane apart
+
+-- planes that are written back over as many are in their place
+pub written_back : (old new : List PlaneValue) (count : ℕ) → count ≡ length old → length new ≡ length old
+    → take count (new ++ drop (length new) old) ≡ new
+written_back old new count is long = take_at new (drop (length new) old) count (long ∙ sym is)
 
 -- ---- the planes below an index have taken what their pieces need
 

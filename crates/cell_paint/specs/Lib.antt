@@ -2,4 +2,5 @@ pub mod Changes
 pub mod Faults
 pub mod Painting
 pub mod Paints
+pub mod Pieces
 pub mod Settings

@@ -12,6 +12,9 @@
 //! The changes of all planes are made ready, and only then is any of them set (`PlaneLaws`). When all are set the
 //! layout is the changed one, and what holds of every cell's paint holds of it (`PaintLaws`). What a plane lists of
 //! itself is what the paint has on it (`PaintTiles`).
+//!
+//! What is put back into an area is set on planes that have nothing else, and the pieces that these list of the area, those
+//! of space too, are the changes. Tiles that were taken out of the area show what stood there (`PieceLaws`).
 #![tactic(auto)]
 
 mod brushes;
@@ -19,6 +22,7 @@ mod changes;
 mod faults;
 mod paints;
 mod planes;
+mod restorations;
 
 pub use faults::PaintFault;
 pub use paints::{CellPaint, PAINT_RANGE, is_coordinate};

@@ -12,12 +12,14 @@ ghost use Rattle.layout_model.specs.Places.{Place};
 ghost use Rattle.cell_paint.specs.Painting.{kinds_on, with_columns_where, is_in_some, with_paint, with_all_painted, with_erased};
 ghost use Rattle.cell_paint.specs.Painting.{is_coordinate, is_in_range, area_fault, first_area_fault};
 ghost use Rattle.cell_paint.specs.Paints.{layout_of, layout_on, number_on, KeepsTypes, IsPaintBox, IsSoundPaint, AreCellPlanes};
+ghost use Rattle.cell_paint.specs.Pieces.{with_pieces, AreTakenOut, CanStandIn};
 ghost use Rattle.cell_paint.specs.Settings.{AreAllChanges};
 
 use crate::brushes::Stroke;
 use crate::changes::changes_on;
 use crate::faults::PaintFault;
 use crate::planes::{PaintPlane, box_of, commit_all, kind_at, reserve_all};
+use crate::restorations::{put_back_on, tiles_of_all};
 use geo_core::{PAINT_EDGE, Piece, Plane, Rect, Square};
 use geo_strips::strips;
 use names_lists::List;
@@ -203,6 +205,36 @@ impl CellPaint {
     {
         let tiles = self.planes[usize::from(plane)].tiles_in(area)?;
         Ok(tiles)
+    }
+
+    /// The tiles of every plane in the area, plane by plane: with the number of its plane each strip of a type other than space that meets
+    /// the area, cut to it. Want of memory alone refuses.
+    pub fn take_out(&self, area: Rect) -> Result<Vec<(u8, Piece)>, PaintFault>
+        requires proper { IsProper area }
+        requires near { IsNear area }
+        ensures taken { IfOk result (λ taken. AreTakenOut (layout_of self.now) area taken.items) }
+        ensures pieces { IfOk result (λ taken. CanStandIn area (length self.now.planes) taken.items) }
+        ensures memory { IsOkUnless result PaintFault.Memory }
+    {
+        let taken = tiles_of_all(self.alloc, self.planes.as_slice(), area)?;
+        Ok(taken)
+    }
+
+    /// Puts the pieces in the area, and space between them. It takes its memory first. Want of memory alone refuses, and then no square
+    /// changes.
+    pub fn put_back(&mut self, area: Rect, pieces: &[(u8, Piece)]) -> Result<(), PaintFault>
+        requires proper { IsProper area }
+        requires near { IsNear area }
+        requires pieces { CanStandIn area (length self.old.planes) pieces.now }
+        requires sound { IsSoundPaint self.old.kinds (with_pieces area pieces.now (layout_of self.old)) }
+        ensures put { OnOk result ((place : Place) → layout_of self.new place ≡ with_pieces area pieces.now (layout_of self.old) place) }
+        ensures refused { OnErr result ((place : Place) → layout_of self.new place ≡ layout_of self.old place) }
+        ensures kinds { self.new.kinds ≡ self.old.kinds }
+        ensures planes { length self.new.planes ≡ length self.old.planes }
+        ensures memory { IsOkUnless result PaintFault.Memory }
+    {
+        put_back_on(self.alloc, self.planes.as_mut_slice(), area, pieces)?;
+        Ok(())
     }
 
     /// The strips of a type other than space on the plane. Want of memory alone refuses.

@@ -143,7 +143,7 @@ usage_counted shelf at = record { absent = inl (omega arith); too_long = inl (om
 -- what was seen of a line in a session that is sound is what it means
 seen_means : (number : ℕ) (run : RunState) (files : Files) (line : List ℕ) (effect : Effect RunState)
     → MeansInSound run_state_of IsRunSession RunLineMeans number run files line effect → RunLineMeans number run files line effect
-seen_means number run files line effect seen = seen.1.1
+seen_means number run files line effect seen = seen.2
 
 -- what a run from the state at the start has reached
 pub reached_from_first : (asked : RunWords) (run : RunState) (text : List ℕ) (files : Files) (Failed Others : Type 0) (before : List ℕ)

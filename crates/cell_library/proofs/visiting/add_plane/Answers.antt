@@ -5,7 +5,7 @@ use Rattle.geo_core.specs.Planes.{AreTilesIn}
 use Rattle.geo_core.proofs.TileSets.{tile_inside}
 use Rattle.cell_paint.specs.Painting.{kinds_on}
 use Rattle.cell_paint.specs.Paints.{layout_of}
-use Rattle.cell_library.proofs.VisitLaws.{near_within}
+use Rattle.cell_paint.proofs.AreaLaws.{near_within}
 use Rattle.cell_library.proofs.visiting.add_plane.Goals as goal
 
 pub tile_of-requires-clause-near : goal.tile_of-requires-clause-near
