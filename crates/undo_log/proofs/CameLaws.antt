@@ -11,7 +11,7 @@ use Rattle.cell_tree.specs.Sizes.{CellState}
 use Rattle.cell_tree.specs.Trees.{cell_at, empty_cell}
 use Rattle.cell_library.specs.Contents.{Held}
 use Rattle.cell_library.specs.Libraries.{IsLawfulLibrary, LibraryParts, cells_seen, seen, uses_in}
-use Rattle.undo_log.specs.Restorations.{IsLawfulView}
+use Rattle.cell_library.specs.Restorations.{IsLawfulView}
 use Rattle.cell_library.specs.Views.{CellView, LibraryView, changed_at, names_of, no_cell, view_at, with_cell_changed}
 use Rattle.cell_library.proofs.UseEdits.{uses_here}
 use Rattle.cell_library.proofs.ViewLaws.{count_seen, names_seen}

@@ -11,11 +11,11 @@ use Rattle.cell_library.specs.LowerLayoutTrees.LayoutModel.Places.{Place}
 use Rattle.tech_model.specs.declared.raw.Label.{Label}
 use Rattle.cell_tree.specs.declared.use_tables.UseBody.{UseBody}
 use Rattle.cell_paint.specs.Paints.{IsSoundPaint}
-use Rattle.undo_log.specs.Pieces.{kind_by, with_pieces}
-use Rattle.undo_log.proofs.PieceLaws.{taken_brings_back}
+use Rattle.cell_paint.specs.Pieces.{kind_by, with_pieces}
+use Rattle.cell_paint.proofs.PieceLaws.{taken_brings_back}
 use Rattle.cell_library.specs.Edits.{moved_use, with_use_changed}
 use Rattle.cell_library.specs.Refusals.{has_id}
-use Rattle.undo_log.specs.Restorations.{IsLawfulView}
+use Rattle.cell_library.specs.Restorations.{IsLawfulView}
 use Rattle.cell_library.specs.Views.{CellView, LibraryView, view_at, with_cell_changed}
 use Rattle.undo_log.specs.declared.changes.Change.{Change}
 use Rattle.undo_log.specs.declared.changes.Change.TheVariants.{Repaint, InsertUse, DeleteUse, MoveUse, SetGrid, AddLabel, DropLabel, SetLabels}

@@ -28,7 +28,7 @@ use Rattle.cell_library.specs.Limits.{GoesPast}
 use Rattle.cell_library.specs.Edits.{erased, labelled, moved, painted, placed, single_use, transform_of, with_grid, with_use_changed, without_use}
 use Rattle.cell_library.specs.Refusals.{ArrayIsRefused, DeleteIsRefused, EditIsRefused, EraseIsRefused, LabelIsRefused, MoveIsRefused, PaintIsRefused}
 use Rattle.cell_library.specs.Refusals.{AreaIsRefused, FirstOf, NothingElse, PlaceIsRefused, has_id}
-use Rattle.undo_log.specs.Restorations.{IsLawfulView}
+use Rattle.cell_library.specs.Restorations.{IsLawfulView}
 use Rattle.cell_library.specs.Views.{CellView, LibraryView, cell_named, view_at, with_cell_changed}
 use Rattle.script_lines.specs.declared.commands.Command.{Command}
 use Rattle.script_lines.specs.declared.commands.Command.TheVariants as command

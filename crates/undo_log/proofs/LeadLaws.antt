@@ -4,7 +4,7 @@ use Rattle.std.specs.Prelude.{Option, Some, if◌then◌else◌}
 use Rattle.std.specs.Option.{option_map_or}
 use Rattle.ext_model.specs.declared.tables.CellKey.{CellKey}
 use Rattle.cell_library.specs.Libraries.{IsLawfulLibrary, IsNextEdit, LibraryParts, seen}
-use Rattle.undo_log.specs.Restorations.{IsLawfulView}
+use Rattle.cell_library.specs.Restorations.{IsLawfulView}
 use Rattle.cell_library.specs.Views.{CellView, LibraryView, view_at, with_cell_changed}
 use Rattle.script_lines.specs.declared.commands.Command.{Command}
 use Rattle.edit_script.specs.Editing.{Editing}

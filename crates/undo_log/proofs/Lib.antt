@@ -2,7 +2,6 @@ pub mod BodyLaws
 pub mod CellLaws
 pub mod ChangeLaws
 pub mod LawfulLaws
-pub mod PieceLaws
 pub mod MoreCells
 pub mod DesignerLaws
 pub mod EditLaws

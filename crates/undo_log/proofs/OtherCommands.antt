@@ -6,7 +6,7 @@ use Rattle.ext_model.specs.declared.tables.CellKey.{CellKey}
 use Rattle.cell_tree.specs.declared.use_tables.UseBody.{UseBody}
 use Rattle.cell_library.specs.Edits.{empty_cell, with_new_cell}
 use Rattle.cell_library.specs.Libraries.{IsLawfulLibrary, IsLawfulScale, LibraryParts, seen}
-use Rattle.undo_log.specs.Restorations.{IsLawfulView}
+use Rattle.cell_library.specs.Restorations.{IsLawfulView}
 use Rattle.cell_library.specs.Views.{CellView, LibraryView}
 use Rattle.cell_library.proofs.ViewLaws.{count_seen}
 use Rattle.script_lines.specs.declared.commands.Command.{Command}

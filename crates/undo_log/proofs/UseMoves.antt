@@ -16,7 +16,7 @@ use Rattle.cell_tree.specs.declared.use_tables.UseBody.{UseBody}
 use Rattle.cell_tree.specs.Uses.{IsLawfulUse}
 use Rattle.cell_library.specs.Edits.{moved, moved_use, with_use_changed}
 use Rattle.cell_library.specs.Refusals.{has_id}
-use Rattle.undo_log.specs.Restorations.{IsLawfulView}
+use Rattle.cell_library.specs.Restorations.{IsLawfulView}
 use Rattle.cell_library.specs.Views.{CellView, LibraryView, view_at}
 use Rattle.cell_library.proofs.UseLists.{id_same, use_in}
 use Rattle.undo_log.proofs.BodyLaws.{Uses}

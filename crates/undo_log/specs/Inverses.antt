@@ -4,11 +4,11 @@ use Rattle.geo_core.specs.Areas.{IsNear}
 use Rattle.geo_core.specs.Covering.{IsProper}
 use Rattle.tech_model.specs.declared.raw.RawTech.{RawTech}
 use Rattle.cell_paint.specs.Paints.{IsSoundPaint}
-use Rattle.undo_log.specs.Pieces.{CanStandIn, with_pieces}
+use Rattle.cell_paint.specs.Pieces.{CanStandIn, with_pieces}
 use Rattle.cell_library.specs.Edits.{labelled, moved, without_use}
 use Rattle.cell_library.specs.Libraries.{LibraryParts, IsNextEdit, seen}
 use Rattle.cell_library.specs.Refusals.{has_id}
-use Rattle.undo_log.specs.Restorations.{IsLawfulView, regridded, relabelled, repainted, with_use_at, without_last_label}
+use Rattle.cell_library.specs.Restorations.{IsLawfulView, regridded, relabelled, repainted, with_use_at, without_last_label}
 use Rattle.cell_library.specs.Views.{CellView, LibraryView, view_at}
 use Rattle.undo_log.specs.declared.changes.Change.{Change}
 use Rattle.undo_log.specs.declared.changes.Change.TheVariants.{Repaint, InsertUse, DeleteUse, MoveUse, SetGrid, AddLabel, DropLabel, SetLabels}

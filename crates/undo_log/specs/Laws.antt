@@ -1,7 +1,7 @@
 -- What a designer may count on: undo takes an edit back, and redo gives it again. And what a session may: cells may come between edits.
 use Rattle.std.specs.Prelude.{◌≡◌, ◌<◌, ℕ, true, Some, length}
 use Rattle.cell_library.specs.LowerLayoutTrees.LayoutModel.Places.{Place}
-use Rattle.undo_log.specs.Restorations.{IsLawfulView}
+use Rattle.cell_library.specs.Restorations.{IsLawfulView}
 use Rattle.cell_library.specs.Views.{CellView, LibraryView, view_at}
 use Rattle.script_lines.specs.declared.commands.Command.{Command}
 use Rattle.edit_script.specs.Editing.{Editing}

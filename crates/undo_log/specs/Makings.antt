@@ -8,7 +8,7 @@ use Rattle.tech_model.specs.declared.raw.Label.{Label}
 use Rattle.tech_model.specs.declared.raw.RawTech.{RawTech}
 use Rattle.cell_paint.specs.Paints.{IsSoundPaint}
 use Rattle.cell_tree.specs.declared.use_tables.UseBody.{UseBody}
-use Rattle.undo_log.specs.Pieces.{AreTakenOut, CanStandIn}
+use Rattle.cell_paint.specs.Pieces.{AreTakenOut, CanStandIn}
 use Rattle.cell_library.specs.Refusals.{has_id}
 use Rattle.cell_library.specs.Views.{CellView}
 use Rattle.edit_script.specs.Editing.{Editing}

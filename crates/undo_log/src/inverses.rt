@@ -12,7 +12,6 @@ ghost use Rattle.undo_log.specs.Inverses.{CanBeMade, TakesBack, changed};
 ghost use Rattle.undo_log.specs.Makings.{Accepts, AddsLast, BringsAgain, GivesGrid, OfUse, PutsBack};
 ghost use Rattle.undo_log.specs.Versions.{is_edit};
 
-use crate::calls;
 use crate::changes::Change;
 use cell_library::Library;
 use cell_paint::is_coordinate;
@@ -42,7 +41,7 @@ fn paint_back(library: &Library, cell: CellKey, area: Rect) -> Result<Change, Al
     ensures { IfOk result (λ back. PutsBack library.now.tech (view_at (seen library.now) cell.0) area back) }
 {
     library.sound(cell);
-    match calls::take_out(library, cell, area) {
+    match library.take_out(cell, area) {
         Ok(pieces) => Ok(Change::Repaint(area, List::of(pieces))),
         Err(_) => Err(AllocError),
     }
@@ -74,7 +73,7 @@ fn use_back(
     requires cell { cell.0 < length library.now.contents }
     ensures { IfOk result (λ made. OfUse (view_at (seen library.now) cell.0) id.now (BringsAgain (view_at (seen library.now) cell.0) id.now) made) }
 {
-    let Some(place) = calls::find_use(library, cell, id.bytes()) else {
+    let Some(place) = library.find_use(cell, id.bytes()) else {
         return Ok(None);
     };
     match library.use_at(cell, place) {
@@ -93,7 +92,7 @@ fn grid_back(
     requires cell { cell.0 < length library.now.contents }
     ensures { IfOk result (λ made. OfUse (view_at (seen library.now) cell.0) id.now (GivesGrid (view_at (seen library.now) cell.0) id.now) made) }
 {
-    let Some(place) = calls::find_use(library, cell, id.bytes()) else {
+    let Some(place) = library.find_use(cell, id.bytes()) else {
         return Ok(None);
     };
     match library.use_at(cell, place) {

@@ -4,7 +4,6 @@
 //! for each edit the change that takes it back, and its contract says to which versions these changes lead (`Inverses`).
 #![tactic(auto)]
 
-mod calls;
 mod changes;
 mod faults;
 mod inverses;

@@ -6,7 +6,6 @@ ghost use Rattle.cell_library.specs.declared.limits.TheConstants.{MOST_EDITS};
 ghost use Rattle.undo_log.specs.Inverses.{CanBeMade, IsReturned, LeadTo, changed};
 ghost use Rattle.undo_log.specs.Versions.{Version};
 
-use crate::calls;
 use crate::changes::{Change, Inverse};
 use crate::faults::UndoFault;
 use crate::inverses::{copy_label, copy_labels, inverse_of_change};
@@ -31,14 +30,14 @@ fn make(
 {
     library.lawful();
     match change {
-        Change::Repaint(area, pieces) => calls::put_back(library, cell, *area, pieces.items()),
-        Change::InsertUse(at, id, used) => calls::insert_use(library, cell, *at, id.copy(alloc)?, *used),
+        Change::Repaint(area, pieces) => library.put_back(cell, *area, pieces.items()),
+        Change::InsertUse(at, id, used) => library.insert_use(cell, *at, id.copy(alloc)?, *used),
         Change::DeleteUse(id) => library.delete_use(cell, id.bytes()),
         Change::MoveUse(id, dx, dy) => library.move_use(cell, id.bytes(), *dx, *dy),
-        Change::SetGrid(id, grid) => calls::set_grid(library, cell, id.bytes(), *grid),
+        Change::SetGrid(id, grid) => library.set_grid(cell, id.bytes(), *grid),
         Change::AddLabel(label) => library.label(cell, copy_label(alloc, label)?),
-        Change::DropLabel => calls::drop_last_label(library, cell),
-        Change::SetLabels(labels) => calls::set_labels(library, cell, copy_labels(alloc, labels.items())?),
+        Change::DropLabel => library.drop_last_label(cell),
+        Change::SetLabels(labels) => library.set_labels(cell, copy_labels(alloc, labels.items())?),
     }
 }
 

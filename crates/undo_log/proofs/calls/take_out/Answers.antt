@@ -1,4 +1,0 @@
-use Rattle.undo_log.proofs.calls.take_out.Goals as goal
-
-pub unreachable-requires : goal.unreachable-requires
-unreachable-requires c = ?
