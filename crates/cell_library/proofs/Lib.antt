@@ -16,6 +16,7 @@ pub mod HeldParts
 pub mod HullsHoldMaterial
 pub mod InnerAreas
 pub mod KeptContents
+pub mod LawfulViews
 pub mod LayoutTreeLaws
 pub mod LimitLaws
 pub mod MaterialLaws

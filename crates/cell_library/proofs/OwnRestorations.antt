@@ -32,7 +32,8 @@ use Rattle.cell_library.specs.Limits.{AreStatesOf}
 use Rattle.cell_library.specs.OwnBoxes.{OwnBoxIs}
 use Rattle.cell_library.specs.OwnRestorations.{HasRoomFor, IsBoxBefore, IsPutBackIn, IsRelabelledIn}
 use Rattle.cell_library.specs.Refusals.{EditIsRefused, NothingElse}
-use Rattle.cell_library.specs.Restorations.{relabelled, IsLawfulView}
+use Rattle.cell_library.specs.LawfulViews.{IsLawfulView}
+use Rattle.cell_library.specs.Restorations.{relabelled}
 use Rattle.cell_library.specs.Seen.{cell_view}
 use Rattle.cell_library.specs.Views.{CellView, LibraryView, changed_at, no_cell, view_at, with_cell_changed}
 use Rattle.cell_library.proofs.BoxLaws.{fewer_inside}

@@ -34,7 +34,8 @@ use Rattle.cell_library.specs.Libraries.{LibraryParts, IsLawfulLibrary, HasUseId
 use Rattle.cell_library.specs.Limits.{AreStatesOf}
 use Rattle.cell_library.specs.PutBackUses.{place_of, MayTake, MayBeRegridded, IsInsertedIn, IsRegriddedIn}
 use Rattle.cell_library.specs.Refusals.{EditIsRefused, NothingElse}
-use Rattle.cell_library.specs.Restorations.{IsLawfulView, regridded, with_use_at}
+use Rattle.cell_library.specs.LawfulViews.{IsLawfulView}
+use Rattle.cell_library.specs.Restorations.{regridded, with_use_at}
 use Rattle.cell_library.specs.Views.{LibraryView, changed_at, with_cell_changed}
 use Rattle.cell_library.proofs.EditLaws.{seen_cells}
 use Rattle.cell_library.proofs.FaultLaws.{not_first, not_full}

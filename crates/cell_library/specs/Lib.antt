@@ -11,6 +11,7 @@ pub mod Contents
 pub mod Edits
 pub mod ElementBoxes
 pub mod Faults
+pub mod LawfulViews
 pub mod LayoutTrees
 pub mod Libraries
 pub mod Limits

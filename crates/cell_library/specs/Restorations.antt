@@ -1,5 +1,5 @@
 -- What the edits make of a library that give a cell back what it had.
-use Rattle.std.specs.Prelude.{◌≡◌, ℕ, List, insert, Option}
+use Rattle.std.specs.Prelude.{ℕ, List, insert, Option}
 use Rattle.geo_core.specs.declared.grids.Grid.{Grid}
 use Rattle.geo_core.specs.declared.squares.Piece.{Piece}
 use Rattle.geo_core.specs.declared.squares.Rect.{Rect}
@@ -8,7 +8,6 @@ use Rattle.cell_paint.specs.Pieces.{with_pieces}
 use Rattle.cell_tree.specs.declared.use_tables.UseBody.{UseBody}
 use Rattle.cell_library.specs.Contents.{without_last}
 use Rattle.cell_library.specs.Edits.{with_use_changed}
-use Rattle.cell_library.specs.Libraries.{IsLawfulLibrary, LibraryParts, seen}
 use Rattle.cell_library.specs.Views.{LibraryView, with_cell_changed}
 
 -- ---- paint
@@ -37,9 +36,3 @@ without_last_label view cell = with_cell_changed view cell (λ body. record body
 -- a cell has these labels
 abbrev pub relabelled : LibraryView → ℕ → List Label → LibraryView
 relabelled view cell labels = with_cell_changed view cell (λ body. record body { labels = labels })
-
--- ---- what they ask for
-
--- Some lawful library is seen so.
-abbrev pub IsLawfulView : LibraryView → Type 0
-IsLawfulView view = (library : LibraryParts) × IsLawfulLibrary library × (seen library ≡ view)

@@ -18,8 +18,9 @@ ghost use Rattle.cell_library.specs.Limits.{HullIs};
 ghost use Rattle.cell_library.specs.Refusals.{Answers, AnswersOrLacksMemory, EditIsRefused, NewCellIsRefused, PaintIsRefused, EraseIsRefused};
 ghost use Rattle.cell_library.specs.Refusals.{NothingElse, has_id};
 ghost use Rattle.cell_library.specs.Refusals.{LabelIsRefused, UnlabelIsRefused, PlaceIsRefused, ArrayIsRefused, MoveIsRefused, DeleteIsRefused};
+ghost use Rattle.cell_library.specs.LawfulViews.{IsLawfulView, IsSoundView};
 ghost use Rattle.cell_library.specs.PutBackUses.{place_of};
-ghost use Rattle.cell_library.specs.Restorations.{IsLawfulView, regridded, relabelled, repainted, with_use_at, without_last_label};
+ghost use Rattle.cell_library.specs.Restorations.{regridded, relabelled, repainted, with_use_at, without_last_label};
 ghost use Rattle.cell_library.specs.Views.{cell_named, view_at};
 
 use crate::adding::new_cell;
@@ -92,6 +93,14 @@ impl Library {
         ensures { IsLawfulLibrary self.now }
     {
         let _ = &self.tech;
+    }
+
+    /// What holds of what is seen of each library.
+    pub fn sound_view(&self)
+        ensures { IsSoundView (seen self.now) }
+    {
+        self.lawful();
+        self.all_sound();
     }
 
     /// The cell of this name.

@@ -1,5 +1,7 @@
 pub mod AboveLaws
+pub mod AgreementLaws
 pub mod ArrivalLaws
+pub mod CleanLaws
 pub mod EditLaws
 pub mod LoopLaws
 pub mod MadeLaws

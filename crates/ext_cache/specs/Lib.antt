@@ -4,3 +4,4 @@ pub mod Caches
 pub mod Refusals
 pub mod Undoing
 pub mod MadeRecords
+pub mod Laws

@@ -3,6 +3,7 @@ ghost use Rattle.std.specs.Prelude.{◌≡◌, ◌<◌, ◌+◌, ◌≤◌, ◌*
 ghost use Rattle.use_orders.specs.LibraryOrder.{IsLibraryOrder};
 ghost use Rattle.names.specs.Attachments.{AreUnattached};
 ghost use Rattle.hierarchy_model.specs.CleanCells.{IsCleanBelow};
+ghost use Rattle.hierarchy_model.specs.Laws.{KeepsWhatItHas};
 ghost use Rattle.cell_library.specs.Additions.{children_in};
 ghost use Rattle.cell_library.specs.LayoutTrees.{tree_at};
 ghost use Rattle.cell_library.specs.Libraries.{seen};
@@ -21,6 +22,7 @@ use crate::undo::Undo;
 use cell_library::{Opened, Reader};
 use cell_records::{CellRecord, cell_record};
 use ext_model::{ArrayExt, CellExt, CellKey};
+use hierarchy_model::clean_cells_keep_what_they_have;
 use lawful_trees::record_is_lawful;
 use names_lists::{List, Name};
 use std::alloc::{AllocError, Global};
@@ -57,10 +59,13 @@ pub fn extract_dirty<L: Ledger>(
     ensures agrees { Agrees library.now cache.new }
     ensures unclean { IfErr result (IsUncleanFault (seen library.now) root.0) }
     ensures refused { OnErr result (cache.new ≡ cache.old) }
+    ensures keeps { OnOk result (KeepsWhatItHas library.now.tech (tree_at (seen library.now) root.0)) }
     ensures steps { (work : ℕ) → IsWorkOfExtraction library.now cache.old root.0 work → steps.new ≤ steps.old + work }
 {
     library.lawful();
+    library.typed(root);
     library_order_law();
+    clean_cells_keep_what_they_have(library.tech());
     let alloc = cache.allocator();
     let order = library.below(root)?;
     let mut log = Vec::with_capacity(alloc, order.len())?;

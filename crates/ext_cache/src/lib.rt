@@ -23,10 +23,12 @@
 mod caches;
 mod extraction;
 mod faults;
+mod laws;
 mod limits;
 mod undo;
 
 pub use caches::Cache;
 pub use extraction::{Extracted, extract_dirty};
 pub use faults::{ExtractFault, Unclean};
+pub use laws::{edits_keep_agreement, new_cells_keep_agreement, no_records_agree};
 pub use limits::LAST_SERIAL;

@@ -3,3 +3,11 @@ pub mod CircuitLaws
 pub mod ExtractionCommands
 pub mod GenerateLaws
 pub mod RestLaws
+pub mod SoundLibraries
+pub mod OneExtraction
+pub mod ReachedRecords
+pub mod OneCircuit
+pub mod OnCells
+pub mod CircuitEffects
+pub mod RunEffects
+pub mod StackEffects

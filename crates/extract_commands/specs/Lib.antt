@@ -1,6 +1,11 @@
+-- what crates above name of those below
+pub use Rattle.workspace.specs as Workspace
 pub mod CellRuns
 pub mod CommandCircuits
 pub mod CommandExtract
 pub mod CommandGenerate
 pub mod CommandVectors
 pub mod MadeStacks
+pub mod OneCircuits
+pub mod OneEffects
+pub mod OneExtractions

@@ -4,3 +4,4 @@ pub mod CommandEdits
 pub mod CommandLoad
 pub mod CommandLooks
 pub mod CommandTech
+pub mod OneEffects

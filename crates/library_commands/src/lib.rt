@@ -5,15 +5,20 @@
 //! A load adds cells, of which no record is kept, and each edit of a cell changes that cell alone (`ChangedCells`). So the records that are kept
 //! agree with the library after it, and exactly the cell and those above it are dirty (`MarkLaws`). `TechLaws`, `LoadLaws` and `EditLaws` have
 //! the cases of each command.
+//!
+//! Each has one effect: edits and loads by the laws of a library, where the marks of cells are Booleans that are known at each cell (`OneMarks`),
+//! and looks since a cell has one text, one list of nodes and one of squares that offend (`OneLook`).
 #![tactic(auto)]
 
 mod command_edits;
 mod command_load;
 mod command_looks;
 mod command_tech;
+mod laws;
 
 pub use command_edits::edit;
 pub use command_load::load;
 pub use command_looks::look_at;
 pub use command_tech::tech;
+pub use laws::library_lines_have_one_effect;
 pub use workspace::{LayoutSession, new_session};

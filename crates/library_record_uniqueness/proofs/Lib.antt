@@ -1,1 +1,1 @@
-mod OneRecord
+pub mod OneRecord

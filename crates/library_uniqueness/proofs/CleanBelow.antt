@@ -78,7 +78,7 @@ module _ (library : LibraryParts) (lawful : IsLawfulLibrary library) where
       (children_are_clean library.tech (tree_at view) (view_at view cell).uses whole.0 source.0 source.1.0)
 
   -- and so is all below it
-  all_are_clean : (root cell : ℕ) → root < length library.contents → IsCleanCell (seen library) root
+  pub all_are_clean : (root cell : ℕ) → root < length library.contents → IsCleanCell (seen library) root
       → Chain (UsesCell (children_in (seen library))) root cell → IsCleanCell (seen library) cell
   all_are_clean root cell there clean stay = clean
   all_are_clean root cell there clean (go {b = child} step rest) =

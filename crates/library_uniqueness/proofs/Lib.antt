@@ -6,3 +6,4 @@ pub mod OneHull
 pub mod OneText
 pub mod OneUncleanCell
 pub mod CleanBelow
+pub mod LawfulUses

@@ -7,17 +7,18 @@ use Rattle.text_scan.specs.Lines.{lines_of}
 use Rattle.outside_io.specs.Files.{Files}
 use Rattle.outside_io.specs.ToldBytes.{ToldBytes}
 use Rattle.outside_io.specs.declared.limits.TheConstants.{LONGEST_FILE}
+use Rattle.session_model.specs.declared.answer.Store.{Store}
 use Rattle.session_model.specs.declared.report.ReportLine.{ReportLine}
 use Rattle.outside_io.specs.declared.outside.Shelf.{Ghosts as ShelfWords}
 use Rattle.session_model.specs.declared.answer.Halt.{Halt}
 use Rattle.session_model.specs.declared.answer.Halt.TheVariants as halt
 use Rattle.session_model.specs.Causes.{UnlessReadFault, UnlessWriteFault}
 use Rattle.session_model.specs.Counted.{AreCounted}
-use Rattle.session_model.specs.Effects.{Effect}
-use Rattle.session_model.specs.Progress.{BeginsNext, IsPrefixOf, Progress}
+use Rattle.session_model.specs.Effects.{Effect, with_stores}
+use Rattle.session_model.specs.Progress.{BeginsNext, DoesFirst, IsCutShort, IsPrefixOf, Progress, StoresSome}
 use Rattle.session_model.specs.Reports.{is_told, report_of, text_of}
-use Rattle.session_model.specs.Scripts.{Act, LinesMean, MeansInSound, ScriptActs, WholeSession, lines_in}
-use Rattle.session_model.proofs.ProgressLaws.{LinesMean-weaker, Progress-weaker}
+use Rattle.session_model.specs.Scripts.{Act, LinesMean, MeansInSound, ScriptActs, WholeSession, lines_in, stores_in}
+use Rattle.session_model.proofs.ProgressLaws.{DoesPart-weaker, LinesMean-weaker, Progress-weaker}
 use Rattle.magex_top.specs.declared.status.Status.{Status}
 use Rattle.magex_top.specs.declared.status.Status.TheVariants.{Done, Told, ReadFault, WriteFault}
 use Rattle.run_words.specs.declared.words.RunWords.{RunWords}
@@ -163,6 +164,90 @@ reached_from_first asked run text files Failed Others before written left is wea
       told,
       stays,
     )
+
+-- ---- beginnings of each session
+
+-- before any store the files are as they were
+none_stored : (Failed : Type 0) (files : Files) (stores : List Store) → StoresSome Failed files stores files
+none_stored Failed files [] = refl
+none_stored Failed files (store ∷ stores) = inl refl
+
+-- nothing is done of the first of these
+none_done : (quiet : Bool) (Failed : Type 0) (files : Files) (acts : List Act) → DoesFirst quiet Failed files acts [] files
+none_done quiet Failed files [] = (refl, refl)
+none_done quiet Failed files (act ∷ acts) = inl (refl, none_stored Failed files act.stores)
+
+-- nothing is the beginning of any session
+pub nothing_begins : (quiet : Bool) (Failed : Type 0) (files : Files) (acts : List Act) → IsCutShort quiet Failed files acts [] files
+nothing_begins quiet Failed files acts = record {
+  past = [];
+  left = acts;
+  split = refl;
+  front = [];
+  next = none_done quiet Failed files acts;
+  reported = sym (append-nil (report_of quiet []) ∙ no_report quiet);
+}
+
+-- a beginning of the usage line is one of its session
+pub usage_begins : (words : List (List ℕ)) (text : List ℕ) (files : Files) (Failed : Type 0) (reported : List ℕ) → words_of words ≡ None
+    → IsPrefixOf reported (text_of (reply usage_text ∷ [])) → (session : WholeSession Status) → IsSessionOf words text files session
+    → IsCutShort (is_quiet words) Failed files session.acts reported files
+usage_begins words text files Failed reported none prefix session is =
+    let usage : session ≡ usage_session = rw none at is in
+    let quiet : is_quiet words ≡ false = rw none refl in
+    let cut : IsCutShort false Failed files usage_session.acts reported files = record {
+      past = [];
+      left = usage_session.acts;
+      split = refl;
+      front = reported;
+      next = inr (prefix, refl);
+      reported = refl;
+    } in
+    subst (λ (q : Bool). IsCutShort q Failed files session.acts reported files) (sym quiet)
+    (subst (λ (one : WholeSession Status). IsCutShort false Failed files one.acts reported files) (sym usage) cut)
+
+-- what is the first part of an act with fewer failures is so with more
+first_weaker : (quiet : Bool) (Failed Others : Type 0) → (Failed → Others) → (files : Files) (acts : List Act) (front : List ℕ) (after : Files)
+    → DoesFirst quiet Failed files acts front after → DoesFirst quiet Others files acts front after
+first_weaker quiet Failed Others weaker files [] front after done = done
+first_weaker quiet Failed Others weaker files (act ∷ acts) front after done =
+    DoesPart-weaker quiet Failed Others weaker files act.lines act.stores front after done
+
+-- what is left of a script's lines, from the state at the start, begins each of its sessions
+pub begins_from_first : (asked : RunWords) (run : RunState) (text : List ℕ) (files : Files) (Failed Others : Type 0) (before : List ℕ)
+    (written : ToldBytes) (left : Option Files) → run ≡ first_run asked.budget → (Failed → Others)
+    → (reported : List ℕ) × (after : Files) × (written ≡ Some (before ++ reported)) × (left ≡ Some after)
+    × ((acts : List Act) → ScriptActs RunLineMeans run files (lines_of text) acts → IsCutShort asked.quiet Failed files acts reported after)
+    → (reported : List ℕ) × (after : Files) × (written ≡ Some (before ++ reported)) × (left ≡ Some after)
+    × ((session : WholeSession Status) → IsScriptSession asked.budget text files session
+    → IsCutShort asked.quiet Others files session.acts reported after)
+begins_from_first asked run text files Failed Others before written left is weaker (reported, after, told, stays, begins) = (
+  reported,
+  after,
+  told,
+  stays,
+  λ session means.
+  let cut = begins session.acts (subst (λ (r : RunState). ScriptActs RunLineMeans r files (lines_of text) session.acts) (sym is) means.acts) in
+  record {
+    past = cut.past;
+    left = cut.left;
+    split = cut.split;
+    front = cut.front;
+    next = first_weaker asked.quiet Failed Others weaker (with_stores files (stores_in cut.past)) cut.left cut.front after cut.next;
+    reported = cut.reported;
+  },
+)
+
+-- a session of a script that is not too long is one of its lines
+pub script_begins : (words : List (List ℕ)) (asked : RunWords) (text : List ℕ) (files : Files) (Failed : Type 0) (reported : List ℕ) (after : Files)
+    → words_of words ≡ Some asked → length text ≤ LONGEST_FILE
+    → ((session : WholeSession Status) → IsScriptSession asked.budget text files session
+    → IsCutShort asked.quiet Failed files session.acts reported after)
+    → (session : WholeSession Status) → IsSessionOf words text files session → IsCutShort (is_quiet words) Failed files session.acts reported after
+script_begins words asked text files Failed reported after is fits begins session of_words =
+    let of_script : IsScriptSession asked.budget text files session = rw (is, fits_test (length text) fits) at of_words in
+    let quiet : is_quiet words ≡ asked.quiet = rw is refl in
+    subst (λ (q : Bool). IsCutShort q Failed files session.acts reported after) (sym quiet) (begins session of_script)
 
 -- what a script's lines were seen to do from the state at the start is its session
 pub session_from_first : (asked : RunWords) (run : RunState) (text : List ℕ) (files : Files) (acts : List Act) (status : Status)

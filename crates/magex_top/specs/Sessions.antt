@@ -12,7 +12,7 @@ use Rattle.circuit_commands.specs.declared.circuits.CircuitFile.TheVariants as f
 use Rattle.circuit_commands.specs.CommandExt2sim.{Ext2simMeans}
 use Rattle.network_commands.specs.CommandSimrun.{SimrunMeans}
 use Rattle.look_commands.specs.declared.looks.Look.TheVariants as look
-use Rattle.library_commands.specs.Workspace.KeptSessions.{IsSession, state_of}
+use Rattle.library_commands.specs.Workspace.KeptSessions.{IsSession, KeepsSoundLibrary, state_of}
 use Rattle.library_commands.specs.Workspace.States.{State, first_state}
 use Rattle.extract_commands.specs.CommandCircuits.{CircuitMeans}
 use Rattle.extract_commands.specs.CommandExtract.{ExtractMeans}
@@ -80,5 +80,6 @@ first_run budget = record { session = first_state; budget = budget }
 abbrev pub run_state_of : RunSession → RunState
 run_state_of run = record { session = state_of run.session; budget = run.budget }
 
+-- The session is sound, and so is its library.
 abbrev pub IsRunSession : RunSession → Type 0
-IsRunSession run = IsSession run.session
+IsRunSession run = IsSession run.session × KeepsSoundLibrary run.session

@@ -4,7 +4,7 @@
 //!
 //! What a command answers stands in the crates below, each with its definition. `RunSession` is a `Session` by them, so that `session_model` runs
 //! the script; `RunLaws` has what is left for `run`: the words, the script that is too long, and the status. `RestLaws`: what each command does rests
-//! on the files alone that it fetches.
+//! on the files alone that it fetches. `OneLine`: each line has one effect, by the laws of the commands.
 #![tactic(auto)]
 
 mod laws;
@@ -12,6 +12,6 @@ mod session;
 mod status;
 mod top_call;
 
-pub use laws::sessions_are_made_good;
+pub use laws::{lines_have_one_effect, sessions_are_made_good};
 pub use status::Status;
 pub use top_call::run;

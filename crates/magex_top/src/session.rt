@@ -45,7 +45,9 @@ impl Session for RunSession {
         number: usize,
         line: &[u8],
     ) -> Result<Answer, Halt> {
-        answer_line(alloc, &mut self.session, shelf, number, self.budget, line)
+        let answered = answer_line(alloc, &mut self.session, shelf, number, self.budget, line);
+        self.session.sound_library();
+        answered
     }
 }
 

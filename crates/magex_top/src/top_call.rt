@@ -6,13 +6,14 @@ ghost use Rattle.outside_io.specs.Files.{Files};
 ghost use Rattle.outside_io.specs.ToldBytes.{with_back};
 ghost use Rattle.session_model.specs.Counted.{AreCounted};
 ghost use Rattle.session_model.specs.Effects.{after_fetches, with_stores};
-ghost use Rattle.session_model.specs.Progress.{IsPrefixOf, Progress};
+ghost use Rattle.session_model.specs.Progress.{IsCutShort, IsPrefixOf, Progress};
 ghost use Rattle.session_model.specs.Reports.{report_of, text_of};
 ghost use Rattle.session_model.specs.Scripts.{WholeSession, answers_in, fetched_in, lines_in, stores_in};
 ghost use Rattle.magex_top.specs.Runs.{EndsByItself, IsEndOfScript, IsScriptSession, IsSessionOf, RunReaches, are_of_form, is_quiet, usage_text};
 ghost use Rattle.magex_top.specs.Sessions.{RunLineMeans, first_run};
 ghost use Rattle.line_answers.specs.LineEffects.{reply};
 
+use crate::laws::lines_have_one_effect;
 use crate::session::RunSession;
 use crate::status::Status;
 use library_commands::new_session;
@@ -56,6 +57,15 @@ pub fn run<S: Source, K: Sink, F: Shelf, L: Ledger>(
         × RunReaches (map string_bytes words.now) text files
         ((result ≡ Status.WriteFault) × Rose (F.store_faults shelf.old) (F.store_faults shelf.new)) reported after
         × (K.written report.new ≡ Some (before ++ reported)) × (F.files shelf.new ≡ Some after) }
+
+    // So what it leaves is the beginning of each session of these words, this script and these files: the session was cut short at one of
+    // its lines, or came to its end.
+    ensures begins_each { (text before : List ℕ) (files : Files) →
+        S.left script.old ≡ Some text → K.written report.old ≡ Some before → F.files shelf.old ≡ Some files →
+        (reported : List ℕ) × (after : Files) × (K.written report.new ≡ Some (before ++ reported)) × (F.files shelf.new ≡ Some after)
+        × ((session : WholeSession Status) → IsSessionOf (map string_bytes words.now) text files session →
+        IsCutShort (is_quiet (map string_bytes words.now)) ((result ≡ Status.WriteFault) × Rose (F.store_faults shelf.old) (F.store_faults shelf.new))
+        files session.acts reported after) }
 
     // A script that could not be read runs no line: the report and the shelf are as they were.
     ensures unread { (S.faults script.new ≡ S.faults script.old → ⊥) → (report.new ≡ report.old) × (shelf.new ≡ shelf.old) }
@@ -148,6 +158,11 @@ fn run_script<K: Sink, F: Shelf>(
         × Progress RunLineMeans asked.quiet ((result ≡ Status.WriteFault) × Rose (F.store_faults shelf.old) (F.store_faults shelf.new))
         (first_run asked.budget) files (lines_of text.now) reported after
         × (K.written report.new ≡ Some (before ++ reported)) × (F.files shelf.new ≡ Some after) }
+    ensures begins_each { (before : List ℕ) (files : Files) →
+        K.written report.old ≡ Some before → F.files shelf.old ≡ Some files →
+        (reported : List ℕ) × (after : Files) × (K.written report.new ≡ Some (before ++ reported)) × (F.files shelf.new ≡ Some after)
+        × ((session : WholeSession Status) → IsScriptSession asked.budget text.now files session →
+        IsCutShort asked.quiet ((result ≡ Status.WriteFault) × Rose (F.store_faults shelf.old) (F.store_faults shelf.new)) files session.acts reported after) }
     ensures cases { IsEndOfScript result }
     ensures read_fault { result ≡ Status.ReadFault → Rose (F.fetch_faults shelf.old) (F.fetch_faults shelf.new) }
     ensures write_fault { result ≡ Status.WriteFault →
@@ -156,6 +171,7 @@ fn run_script<K: Sink, F: Shelf>(
     ensures calm_fetch { result ≢ Status.ReadFault → F.fetch_faults shelf.new ≡ F.fetch_faults shelf.old }
     ensures calm_store { result ≢ Status.WriteFault → F.store_faults shelf.new ≡ F.store_faults shelf.old }
 {
+    lines_have_one_effect();
     let mut session = RunSession {
         session: new_session(),
         budget: asked.budget,

@@ -127,6 +127,8 @@ formed_with verb.Label given are =
     let xs = are.1 in
     (record { xlo = xs.0; ylo = xs.1.0; xhi = xs.1.1.0; yhi = xs.1.1.1.0 }, xs.1.1.1.1.0, xs.1.1.1.1.1.0)
 formed_with verb.Unlabel given are = are.0
+formed_with verb.Undo given are = tt
+formed_with verb.Redo given are = tt
 formed_with verb.Save given are = are.0
 formed_with verb.Nodes given are = are.0
 formed_with verb.Squares given are = are.0

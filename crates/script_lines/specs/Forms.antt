@@ -44,6 +44,8 @@ IsFormed (command.Delete id) = IsTrue (is_use_id id)
 IsFormed (command.Label layer area position text) =
     HasNumbers area × IsTrue (is_between (pos 0) (pos LAST_POSITION) position) × IsTrue (is_label_text text)
 IsFormed (command.Unlabel text) = IsTrue (is_label_text text)
+IsFormed command.Undo = Unit {0}
+IsFormed command.Redo = Unit {0}
 IsFormed (command.Save cell) = IsPlain cell
 IsFormed (command.Nodes cell) = IsPlain cell
 IsFormed (command.Squares cell) = IsPlain cell

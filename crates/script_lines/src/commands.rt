@@ -33,6 +33,10 @@ pub enum Command {
     Label(Name, Rect, i64, Name),
     /// `unlabel TEXT`: take the labels with the text away.
     Unlabel(Name),
+    /// `undo`: take the latest edit back.
+    Undo,
+    /// `redo`: make the latest edit again that was taken back.
+    Redo,
     /// `save CELL`: write the file of the cell.
     Save(Name),
     /// `nodes CELL`: tell the nodes of the cell's own paint.

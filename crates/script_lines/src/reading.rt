@@ -10,7 +10,7 @@ use crate::commands::Command;
 use crate::faults::LineFault;
 use crate::readings::{
     cell_id_and_six, count, id_alone, id_and_numbers, id_and_pair, label, layer_and_area,
-    plain_alone, plain_pair, text_alone,
+    nothing, plain_alone, plain_pair, text_alone,
 };
 use crate::verbs::Verb;
 use std::alloc::Global;
@@ -78,6 +78,8 @@ fn command_on(alloc: Global, verb: Verb, line: &[u8]) -> Result<Command, LineFau
             layer, area, position, text,
         )),
         Verb::Unlabel => text_alone(alloc, line).map(Command::Unlabel),
+        Verb::Undo => nothing(line).map(|()| Command::Undo),
+        Verb::Redo => nothing(line).map(|()| Command::Redo),
         Verb::Save => plain_alone(alloc, line).map(Command::Save),
         Verb::Nodes => plain_alone(alloc, line).map(Command::Nodes),
         Verb::Squares => plain_alone(alloc, line).map(Command::Squares),

@@ -1,5 +1,5 @@
 //! What the further words of the commands say.
-ghost use Rattle.std.specs.Prelude.{◌≡◌, ◌≢◌, ◌∷◌, [], length, map, replicate, Ok, Err, IfOk, IfErr};
+ghost use Rattle.std.specs.Prelude.{◌≡◌, ◌≢◌, ◌∷◌, [], length, map, replicate, Ok, Err, IfOk, IfErr, OnOk};
 ghost use Rattle.text_scan.specs.Words.{words_of};
 ghost use Rattle.script_lines.specs.declared.faults.LineFault.TheVariants.{Memory as OutOfMemory};
 ghost use Rattle.script_lines.specs.Arguments.{Plain, Layer, UseId, Number, Position, Count, Text, Word, Value, read_words, words_and_text};
@@ -44,6 +44,14 @@ fn number_of(one: [i64; 1]) -> i64
 {
     let [number] = one;
     number
+}
+
+/// No further word.
+pub(crate) fn nothing(line: &[u8]) -> Result<(), LineFault>
+    ensures read { OnOk result (read_words [] (words_of line.now) ≡ Ok []) }
+    ensures refused { IfErr result (λ fault. fault ≢ OutOfMemory → read_words [] (words_of line.now) ≡ Err fault) }
+{
+    no_more(line)
 }
 
 /// The name of a cell or of a file.

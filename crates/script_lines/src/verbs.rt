@@ -17,6 +17,8 @@ pub enum Verb {
     Delete,
     Label,
     Unlabel,
+    Undo,
+    Redo,
     Save,
     Nodes,
     Squares,
@@ -30,7 +32,7 @@ pub enum Verb {
 }
 
 /// All of them.
-pub const VERBS: [Verb; 22] = [
+pub const VERBS: [Verb; 24] = [
     Verb::Tech,
     Verb::Load,
     Verb::New,
@@ -43,6 +45,8 @@ pub const VERBS: [Verb; 22] = [
     Verb::Delete,
     Verb::Label,
     Verb::Unlabel,
+    Verb::Undo,
+    Verb::Redo,
     Verb::Save,
     Verb::Nodes,
     Verb::Squares,
@@ -80,6 +84,8 @@ impl Verb {
             Verb::Delete => b"delete",
             Verb::Label => b"label",
             Verb::Unlabel => b"unlabel",
+            Verb::Undo => b"undo",
+            Verb::Redo => b"redo",
             Verb::Save => b"save",
             Verb::Nodes => b"nodes",
             Verb::Squares => b"squares",

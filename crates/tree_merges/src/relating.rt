@@ -5,6 +5,7 @@ ghost use Rattle.ext_model.specs.declared.records.NodeRec.{NodeRec as OneNode};
 ghost use Rattle.ext_model.specs.Rows.{AreRowsOf};
 ghost use Rattle.group_meetings.specs.CellNodes.NodeRecords.{AreNodeRecords};
 ghost use Rattle.hierarchy_model.specs.CleanCells.{IsCleanBelow};
+ghost use Rattle.hierarchy_model.specs.Laws.{KeepsWhatItHas};
 ghost use Rattle.cell_library.specs.Libraries.{seen};
 ghost use Rattle.cell_library.specs.LayoutTrees.{tree_at};
 ghost use Rattle.cell_library.specs.Views.{view_at};
@@ -20,6 +21,7 @@ use cell_library::{Opened, Reader};
 use ext_model::{CellKey, ExtTable, MergeRow};
 use geo_core::Rect;
 use hier_merge::meeting_of;
+use hierarchy_model::clean_cells_keep_what_they_have;
 use names_lists::List;
 use std::alloc::{AllocError, Global};
 use std::sync::ledger::Ledger;
@@ -52,8 +54,13 @@ pub fn relate<L: Ledger>(
     ensures merges { IfOk result (λ found. found.offending ≡ []
         → (merges : List OneMerge) × AreGroupMerges library.now.tech (named_tree_at (seen library.now) cell.0) merges × AreRowsOf merges found.merges) }
     ensures none { IfOk result (λ found. found.offending ≢ [] → found.merges ≡ []) }
+    ensures keeps { IfOk result (λ found. found.offending ≡ [] → KeepsWhatItHas library.now.tech (tree_at (seen library.now) cell.0)) }
+    ensures work { IfOk result (λ _. (work : ℕ) × IsWork (seen library.now) cell.0 work × (steps.new ≤ steps.old + (2 * work + 1))) }
     ensures steps { (work : ℕ) → IsWork (seen library.now) cell.0 work → steps.new ≤ steps.old + (2 * work + 1) }
 {
+    library.lawful();
+    library.typed(cell);
+    clean_cells_keep_what_they_have(library.tech());
     let meeting = meeting_of(alloc, library, cell, steps)?;
     if !meeting.offending.is_empty() {
         return Ok(Related {

@@ -1,6 +1,8 @@
 -- The state of a session as the program keeps it.
 use Rattle.std.specs.Prelude.{IfSome}
 use Rattle.std.specs.Option.{option_map}
+use Rattle.cell_library.specs.LawfulViews.{IsSoundView}
+use Rattle.cell_library.specs.Libraries.{seen}
 use Rattle.edit_script.specs.Editing.{IsCurrent, editing_of}
 use Rattle.ext_cache.specs.Caches.{Agrees, is_dirty}
 use Rattle.workspace.specs.declared.cells.Edited.{Edited}
@@ -22,3 +24,11 @@ pub record IsEdited (edited : Edited) : Type 0 where
 
 abbrev pub IsSession : LayoutSession → Type 0
 IsSession session = IfSome session.edited IsEdited
+
+-- The library that is kept, if there is one, is lawful, and its paint is sound.
+abbrev pub KeepsSoundLibrary : LayoutSession → Type 0
+KeepsSoundLibrary session = IfSome session.edited (λ edited. IsSoundView (seen edited.library))
+
+-- The library of the state, if there is one, is that of a lawful library with sound paint.
+abbrev pub SeesSoundLibrary : State → Type 0
+SeesSoundLibrary state = IfSome state (λ work. IsSoundView work.editing.library)

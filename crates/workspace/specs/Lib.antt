@@ -1,5 +1,7 @@
 -- what a command of the session says of the records that are kept
 pub use Rattle.ext_cache.specs.Caches
+-- the lines that tell which squares offend
+pub use Rattle.square_lines.specs.Offending
 pub mod CellCircuits
 pub mod Extracting
 pub mod Extractions

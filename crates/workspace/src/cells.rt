@@ -1,6 +1,6 @@
 //! What a session keeps between two lines.
 ghost use Rattle.std.specs.Prelude.{◌≡◌};
-ghost use Rattle.workspace.specs.KeptSessions.{IsSession, state_of};
+ghost use Rattle.workspace.specs.KeptSessions.{IsSession, KeepsSoundLibrary, state_of};
 ghost use Rattle.workspace.specs.States.{first_state};
 
 use cell_library::Library;
@@ -26,6 +26,18 @@ pub struct LayoutSession {
 pub fn new_session() -> LayoutSession
     ensures state { state_of result ≡ first_state }
     ensures sound { IsSession result }
+    ensures library { KeepsSoundLibrary result }
 {
     LayoutSession { edited: None }
+}
+
+impl LayoutSession {
+    /// What holds of the library that is kept.
+    pub fn sound_library(&self)
+        ensures { KeepsSoundLibrary self.now }
+    {
+        if let Some(edited) = &self.edited {
+            edited.library.sound_view();
+        }
+    }
 }

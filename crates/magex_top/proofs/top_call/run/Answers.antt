@@ -9,15 +9,16 @@ use Rattle.outside_io.specs.declared.limits.TheConstants.{LONGEST_FILE}
 use Rattle.run_words.specs.declared.words.RunWords.{RunWords}
 use Rattle.run_words.specs.RunWords.{words_of}
 use Rattle.session_model.specs.Reports.{text_of}
-use Rattle.session_model.specs.Progress.{Progress}
-use Rattle.session_model.specs.Scripts.{lines_in}
+use Rattle.session_model.specs.Progress.{IsCutShort, Progress}
+use Rattle.session_model.specs.Scripts.{WholeSession, lines_in}
 use Rattle.session_model.proofs.CountedLaws.{none_counted}
+use Rattle.magex_top.specs.declared.status.Status.{Status}
 use Rattle.magex_top.specs.declared.status.Status.TheVariants.{Memory, ReadFault, ScriptTooLong, WriteFault}
-use Rattle.magex_top.specs.Runs.{IsScriptSession, long_session, usage_session, usage_text}
+use Rattle.magex_top.specs.Runs.{IsScriptSession, is_quiet, long_session, usage_session, usage_text}
 use Rattle.magex_top.specs.Sessions.{RunLineMeans, first_run}
 use Rattle.line_answers.specs.LineEffects.{reply}
 use Rattle.magex_top.proofs.RunLaws.{long_run, nothing, nothing_more, nothing_reached, nothing_written, script_reached, script_run, script_written, something}
-use Rattle.magex_top.proofs.RunLaws.{usage_counted, usage_reached, usage_run, usage_written}
+use Rattle.magex_top.proofs.RunLaws.{nothing_begins, script_begins, usage_begins, usage_counted, usage_reached, usage_run, usage_written}
 use Rattle.magex_top.proofs.top_call.run.Goals as goal
 
 -- ---- words that are not of the form
@@ -44,6 +45,14 @@ returns-in-Ok-None-clause-beginning g c text before files text_told told files_t
     let Fails = (c.write_usage.result ≡ WriteFault) × Rose (g.F.Shelf.store_faults c.args.shelf.now) (g.F.Shelf.store_faults c.args.shelf.now) in
     let h = c.write_usage.ensures.beginning before told in
     (h.0, files, usage_reached words text files Fails h.0 none h.1, h.2, files_told)
+
+pub returns-in-Ok-None-clause-begins_each : goal.returns-in-Ok-None-clause-begins_each
+returns-in-Ok-None-clause-begins_each g c text before files text_told told files_told =
+    let words = map (string_bytes {Z = Global}) c.args.words.now in
+    let none : words_of words ≡ None = search rules in
+    let Fails = (c.write_usage.result ≡ WriteFault) × Rose (g.F.Shelf.store_faults c.args.shelf.now) (g.F.Shelf.store_faults c.args.shelf.now) in
+    let h = c.write_usage.ensures.beginning before told in
+    (h.0, files, h.2, files_told, usage_begins words text files Fails h.0 none h.1)
 
 pub returns-in-Ok-None-clause-no_usage : goal.returns-in-Ok-None-clause-no_usage
 returns-in-Ok-None-clause-no_usage g c some =
@@ -110,6 +119,20 @@ returns-in-Ok-clause-beginning g c text before files text_told told files_told =
     (c.deref.ensures.value ∙ read) h.2 in
     (h.0, h.1, script_reached words asked text files Fails h.0 h.1 is fits reached, h.3, h.4)
 
+pub returns-in-Ok-clause-begins_each : goal.returns-in-Ok-clause-begins_each
+returns-in-Ok-clause-begins_each g c text before files text_told told files_told =
+    let words = map (string_bytes {Z = Global}) c.args.words.now in
+    let asked = c.in-Ok-Some.asked in
+    let is : words_of words ≡ Some asked = search rules in
+    let read : c.in-Ok.text.items ≡ text = rw text_told at c.in-Ok.ensures.all in
+    let within : length c.in-Ok.text.items ≤ LONGEST_FILE = omega (arith, c.in-Ok.ensures.within, c.in-Ok.text.ok.0) in
+    let fits = subst (λ (t : List ℕ). length t ≤ LONGEST_FILE) read within in
+    let Fails = (c.run_script.result ≡ WriteFault) × Rose (g.F.Shelf.store_faults c.args.shelf.now) (g.F.Shelf.store_faults c.run_script.new.shelf) in
+    let h = c.run_script.ensures.begins_each before files told files_told in
+    let begins = subst (λ (t : List ℕ). (session : WholeSession Status) → IsScriptSession asked.budget t files session
+    → IsCutShort asked.quiet Fails files session.acts h.0 h.1) (c.deref.ensures.value ∙ read) h.4 in
+    (h.0, h.1, h.2, h.3, script_begins words asked text files Fails h.0 h.1 is fits begins)
+
 -- a text that was read within the limit is not too long
 not_long : (read text : List ℕ) → read ≡ text → length read ≤ LONGEST_FILE → LONGEST_FILE < length text → ⊥
 not_long read text is fits long = omega (arith, ap length is, fits, long)
@@ -144,17 +167,35 @@ returns-in-Err-TooLong-clause-too_long g c long =
     let is : words_of words ≡ Some c.in-Ok-Some.asked = search rules in
     (ap (λ (found : Option RunWords). is_some found) is, c.in-Err-TooLong.ensures.too_long (ap (λ (f : ReadAllFault). Err f) c.in-Err-TooLong.field-0-is))
 
+pub returns-in-Err-TooLong-clause-begins_each : goal.returns-in-Err-TooLong-clause-begins_each
+returns-in-Err-TooLong-clause-begins_each g c text before files text_told told files_told =
+    let quiet = is_quiet (map (string_bytes {Z = Global}) c.args.words.now) in
+    let Fails = (ScriptTooLong ≡ WriteFault) × Rose (g.F.Shelf.store_faults c.args.shelf.now) (g.F.Shelf.store_faults c.args.shelf.now) in
+    ([], files, nothing_more _ before told, files_told, λ session is. nothing_begins quiet Fails files session.acts)
+
 pub returns-in-Err-TooLong-clause-beginning : goal.returns-in-Err-TooLong-clause-beginning
 returns-in-Err-TooLong-clause-beginning g c text before files text_told told files_told =
     let words = map (string_bytes {Z = Global}) c.args.words.now in
     let Fails = (ScriptTooLong ≡ WriteFault) × Rose (g.F.Shelf.store_faults c.args.shelf.now) (g.F.Shelf.store_faults c.args.shelf.now) in
     ([], files, nothing_reached words text files Fails, nothing_more _ before told, files_told)
 
+pub returns-in-Err-Failed-clause-begins_each : goal.returns-in-Err-Failed-clause-begins_each
+returns-in-Err-Failed-clause-begins_each g c text before files text_told told files_told =
+    let quiet = is_quiet (map (string_bytes {Z = Global}) c.args.words.now) in
+    let Fails = (ReadFault ≡ WriteFault) × Rose (g.F.Shelf.store_faults c.args.shelf.now) (g.F.Shelf.store_faults c.args.shelf.now) in
+    ([], files, nothing_more _ before told, files_told, λ session is. nothing_begins quiet Fails files session.acts)
+
 pub returns-in-Err-Failed-clause-beginning : goal.returns-in-Err-Failed-clause-beginning
 returns-in-Err-Failed-clause-beginning g c text before files text_told told files_told =
     let words = map (string_bytes {Z = Global}) c.args.words.now in
     let Fails = (ReadFault ≡ WriteFault) × Rose (g.F.Shelf.store_faults c.args.shelf.now) (g.F.Shelf.store_faults c.args.shelf.now) in
     ([], files, nothing_reached words text files Fails, nothing_more _ before told, files_told)
+
+pub returns-in-Err-Memory-clause-begins_each : goal.returns-in-Err-Memory-clause-begins_each
+returns-in-Err-Memory-clause-begins_each g c text before files text_told told files_told =
+    let quiet = is_quiet (map (string_bytes {Z = Global}) c.args.words.now) in
+    let Fails = (Memory ≡ WriteFault) × Rose (g.F.Shelf.store_faults c.args.shelf.now) (g.F.Shelf.store_faults c.args.shelf.now) in
+    ([], files, nothing_more _ before told, files_told, λ session is. nothing_begins quiet Fails files session.acts)
 
 pub returns-in-Err-Memory-clause-beginning : goal.returns-in-Err-Memory-clause-beginning
 returns-in-Err-Memory-clause-beginning g c text before files text_told told files_told =
@@ -167,3 +208,9 @@ returns-in-Err-clause-beginning g c text before files text_told told files_told 
     let words = map (string_bytes {Z = Global}) c.args.words.now in
     let Fails = (Memory ≡ WriteFault) × Rose (g.F.Shelf.store_faults c.args.shelf.now) (g.F.Shelf.store_faults c.args.shelf.now) in
     ([], files, nothing_reached words text files Fails, nothing_more _ before told, files_told)
+
+pub returns-in-Err-clause-begins_each : goal.returns-in-Err-clause-begins_each
+returns-in-Err-clause-begins_each g c text before files text_told told files_told =
+    let quiet = is_quiet (map (string_bytes {Z = Global}) c.args.words.now) in
+    let Fails = (Memory ≡ WriteFault) × Rose (g.F.Shelf.store_faults c.args.shelf.now) (g.F.Shelf.store_faults c.args.shelf.now) in
+    ([], files, nothing_more _ before told, files_told, λ session is. nothing_begins quiet Fails files session.acts)

@@ -11,7 +11,7 @@ use Rattle.magex_top.specs.declared.status.Status.TheVariants.{Done, Told, Write
 use Rattle.library_commands.specs.Workspace.KeptSessions.{state_of}
 use Rattle.magex_top.specs.Sessions.{RunState, first_run}
 use Rattle.magex_top.specs.Statuses.{status_of}
-use Rattle.magex_top.proofs.RunLaws.{calm_read, calm_write, reached_from_first, session_from_first}
+use Rattle.magex_top.proofs.RunLaws.{begins_from_first, calm_read, calm_write, reached_from_first, session_from_first}
 use Rattle.magex_top.proofs.top_call.run_script.Goals as goal
 
 told_status : (told holds : Bool) → holds ≡ told → holds ≡ true → Told ≡ (if told then Told else Done)
@@ -89,3 +89,31 @@ returns-clause-calm_fetch g c = calm_read Bool c.in-Err.halt c.from.result _ c.i
 
 pub returns-clause-calm_store : goal.returns-clause-calm_store
 returns-clause-calm_store g c = calm_write Bool c.in-Err.halt c.from.result _ c.in-Err.ensures.causes.calm_store c.from.ensures
+
+pub returns-in-Ok-true-clause-begins_each : goal.returns-in-Ok-true-clause-begins_each
+returns-in-Ok-true-clause-begins_each g c before files told files_told =
+    let Fails = StoreFailed {T = Bool} g.F.Shelf c.args.shelf.now c.run_lines.new.shelf (Ok c.in-Ok-true.field-0) in
+    let Others = (Told ≡ WriteFault) × Rose (g.F.Shelf.store_faults c.args.shelf.now) (g.F.Shelf.store_faults c.run_lines.new.shelf) in
+    let first : RunState = record { session = state_of c.new_session.result; budget = c.args.asked.budget } in
+    begins_from_first c.args.asked first c.args.text.now files Fails Others before (g.K.Sink.written c.run_lines.new.report)
+    (g.F.Shelf.files c.run_lines.new.shelf) (λ i. record { session = c.new_session.ensures.state i; budget = c.args.asked.budget })
+    (λ (is, rose). (let no : ⊥ = cc in absurd no, rose)) (c.in-Ok-true.ensures.cut_short c.lines_have_one_effect.ensures before files told files_told)
+
+pub returns-in-Ok-false-clause-begins_each : goal.returns-in-Ok-false-clause-begins_each
+returns-in-Ok-false-clause-begins_each g c before files told files_told =
+    let Fails = StoreFailed {T = Bool} g.F.Shelf c.args.shelf.now c.run_lines.new.shelf (Ok c.in-Ok-false.field-0) in
+    let Others = (Done ≡ WriteFault) × Rose (g.F.Shelf.store_faults c.args.shelf.now) (g.F.Shelf.store_faults c.run_lines.new.shelf) in
+    let first : RunState = record { session = state_of c.new_session.result; budget = c.args.asked.budget } in
+    begins_from_first c.args.asked first c.args.text.now files Fails Others before (g.K.Sink.written c.run_lines.new.report)
+    (g.F.Shelf.files c.run_lines.new.shelf) (λ i. record { session = c.new_session.ensures.state i; budget = c.args.asked.budget })
+    (λ (is, rose). (let no : ⊥ = cc in absurd no, rose)) (c.in-Ok-false.ensures.cut_short c.lines_have_one_effect.ensures before files told files_told)
+
+pub returns-clause-begins_each : goal.returns-clause-begins_each
+returns-clause-begins_each g c before files told files_told =
+    let Fails = StoreFailed {T = Bool} g.F.Shelf c.args.shelf.now c.run_lines.new.shelf (Err c.in-Err.halt) in
+    let Others = (c.from.result ≡ WriteFault) × Rose (g.F.Shelf.store_faults c.args.shelf.now) (g.F.Shelf.store_faults c.run_lines.new.shelf) in
+    let first : RunState = record { session = state_of c.new_session.result; budget = c.args.asked.budget } in
+    begins_from_first c.args.asked first c.args.text.now files Fails Others before (g.K.Sink.written c.run_lines.new.report)
+    (g.F.Shelf.files c.run_lines.new.shelf) (λ i. record { session = c.new_session.ensures.state i; budget = c.args.asked.budget })
+    (λ (is, rose). (status_is c.in-Err.halt c.from.result c.from.ensures (cc), rose))
+    (c.in-Err.ensures.cut_short c.lines_have_one_effect.ensures before files told files_told)

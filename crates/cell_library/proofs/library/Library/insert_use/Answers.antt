@@ -4,7 +4,8 @@ use Rattle.cell_tree.specs.declared.use_tables.UseBody.{UseBody}
 use Rattle.cell_library.specs.Libraries.{LibraryParts, seen, edits_of}
 use Rattle.cell_library.specs.PutBackUses.{IsInsertedIn}
 use Rattle.cell_library.specs.Refusals.{EditIsRefused, HasFaultOrLacksMemory, NothingElse}
-use Rattle.cell_library.specs.Restorations.{IsLawfulView, with_use_at}
+use Rattle.cell_library.specs.LawfulViews.{IsLawfulView}
+use Rattle.cell_library.specs.Restorations.{with_use_at}
 use Rattle.cell_library.specs.Views.{view_at}
 use Rattle.cell_library.proofs.EditLaws.{kept_lawful}
 use Rattle.cell_library.proofs.FaultLaws.{ok_or_err, answers_memory}

@@ -6,7 +6,8 @@ use Rattle.cell_library.specs.Contents.{IsRepainted}
 use Rattle.cell_library.specs.Libraries.{LibraryParts, seen, edits_of}
 use Rattle.cell_library.specs.OwnRestorations.{IsPutBackIn}
 use Rattle.cell_library.specs.Refusals.{EditIsRefused, HasFaultOrLacksMemory, NothingElse}
-use Rattle.cell_library.specs.Restorations.{repainted, IsLawfulView}
+use Rattle.cell_library.specs.LawfulViews.{IsLawfulView}
+use Rattle.cell_library.specs.Restorations.{repainted}
 use Rattle.cell_library.specs.Views.{view_at}
 use Rattle.cell_library.proofs.EditLaws.{refused_same, refused_lawful, seen_cells}
 use Rattle.cell_library.proofs.FaultLaws.{ok_or_err, both_err, answers_memory}

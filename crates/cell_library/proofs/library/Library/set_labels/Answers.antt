@@ -4,7 +4,8 @@ use Rattle.tech_model.specs.declared.raw.Label.{Label}
 use Rattle.cell_library.specs.Libraries.{LibraryParts, seen, edits_of}
 use Rattle.cell_library.specs.OwnRestorations.{IsRelabelledIn}
 use Rattle.cell_library.specs.Refusals.{EditIsRefused, NothingElse}
-use Rattle.cell_library.specs.Restorations.{relabelled, IsLawfulView}
+use Rattle.cell_library.specs.LawfulViews.{IsLawfulView}
+use Rattle.cell_library.specs.Restorations.{relabelled}
 use Rattle.cell_library.proofs.EditLaws.{kept_lawful, seen_cells}
 use Rattle.cell_library.proofs.FaultLaws.{ok_or_err, both_err, answers_only}
 use Rattle.cell_library.proofs.OwnRestorations.{has_room, lawful_labels, nothing_refused, relabelled_seen, relabelled_lawful}

@@ -1,0 +1,73 @@
+-- `generate` has one effect: the cells that it makes are those that the technology says, and the stack is one of them.
+use Rattle.std.proofs.Common.{◌≡◌, ◌<◌, ◌∙◌, ℕ, List, [], ◌∷◌, length, Some, None, inl, inr, sym, ap, subst, arith, length-append}
+use Rattle.std.specs.Prelude.{◌+◌, codes}
+use Rattle.std.specs.Int.RustNames.{unsigned_abs}
+use Rattle.session_model.specs.Effects.{Effect}
+use Rattle.cell_library.specs.Views.{CellView, LibraryView}
+use Rattle.layout_gen.specs.Generated.{IsGenerated, array_cell, row_grid, row_name, stack_grid, stack_name, tile_cell, with_generated}
+use Rattle.network_runs.specs.declared.network_runs.NetworkRun.TheVariants.{Stack}
+use Rattle.simulation_uniqueness.specs.Simulations.{CircuitAnswersAreUnique}
+use Rattle.workspace.specs.States.{State, Workspace}
+use Rattle.extract_commands.specs.CellRuns.{RunsExtracted}
+use Rattle.extract_commands.specs.CommandGenerate.{GeneratesStack, MakesStack, stack_cell, with_stack}
+use Rattle.extract_commands.specs.OneCircuits.{CellCircuitsAreUnique, CellCircuitsPassNoLimit, CellLimitsAreUnique}
+use Rattle.extract_commands.specs.OneExtractions.{ExtractedCellsAreNotRefused, ExtractionsAreUnique, UncleanRefusalsAreUnique}
+use Rattle.extract_commands.specs.OneEffects.{GenerateMeansOneEffect}
+use Rattle.cell_library.specs.LawfulViews.{IsSoundView}
+use Rattle.workspace.specs.KeptSessions.{SeesSoundLibrary}
+use Rattle.extract_commands.proofs.RunEffects.{same_run}
+
+-- a library has one with the cells that are made from a number
+same_generated : (old new other : LibraryView) (n : ℕ) → IsGenerated old n new → IsGenerated old n other → new ≡ other
+same_generated old new other n p q =
+    let poly : p.poly ≡ q.poly = let here = p.poly_is in let also = q.poly_is in cc in
+    let diff : p.diff ≡ q.diff = let here = p.diff_is in let also = q.diff_is in cc in
+    p.is ∙ (λ i. with_generated old (poly i) (diff i) n) ∙ sym q.is
+
+-- the stack is one of its cells
+stack_there : (work : Workspace) (after : LibraryView) (n : ℕ) → IsGenerated work.editing.library n after → stack_cell work < length after.cells
+stack_there work after n generated =
+    let old = work.editing.library in
+    let cells = ap (λ (view : LibraryView). length view.cells) generated.is in
+    let made : List CellView = tile_cell old.tech generated.poly generated.diff
+    ∷ array_cell row_name (codes "t") (length old.cells) (row_grid n)
+    ∷ array_cell stack_name (codes "r") (length old.cells + 1) (stack_grid n)
+    ∷ [] in
+    omega (arith, cells, length-append old.cells made)
+
+-- what is run of a cell leaves the library
+library_after : (budget number n : ℕ) (work : Workspace) (cell : ℕ) (effect : Effect State) → RunsExtracted (Stack n) budget number [] work cell effect
+    → SeesSoundLibrary effect.state → IsSoundView work.editing.library
+library_after budget number n work cell effect (inl runs) sees = subst SeesSoundLibrary (ap (λ (e : Effect State). e.state) runs.is) sees
+library_after budget number n work cell effect (inr refuses) sees = subst SeesSoundLibrary (ap (λ (e : Effect State). e.state) refuses.is) sees
+
+module _ (one_circuit : CellCircuitsAreUnique) (one_limit : CellLimitsAreUnique) (either : CellCircuitsPassNoLimit)
+    (one_answer : CircuitAnswersAreUnique) (one_extraction : ExtractionsAreUnique) (one_refusal : UncleanRefusalsAreUnique)
+    (not_both : ExtractedCellsAreNotRefused) where
+  -- the stack is made with one effect
+  same_made : (budget number n : ℕ) (work : Workspace) (effect other : Effect State) → SeesSoundLibrary effect.state → MakesStack budget number n work effect
+      → MakesStack budget number n work other → effect ≡ other
+  same_made budget number n work effect other sees p q =
+      let after = same_generated work.editing.library p.after q.after n p.generated q.generated in
+      let now = with_stack work p.after in
+      let extracts = subst (λ (view : LibraryView). RunsExtracted (Stack n) budget number [] (with_stack work view) (stack_cell work) other) (sym after)
+      q.extracts in
+      let sound = library_after budget number n now (stack_cell work) effect p.extracts sees in
+      same_run one_circuit one_limit either one_answer one_extraction one_refusal not_both (Stack n) budget number [] now (stack_cell work) sound
+      (stack_there work p.after n p.generated) effect other p.extracts extracts
+
+  -- or it is refused
+  same_stack : (budget number n : ℕ) (work : Workspace) (effect other : Effect State) → SeesSoundLibrary effect.state
+      → GeneratesStack budget number n work effect → GeneratesStack budget number n work other → effect ≡ other
+  same_stack budget number n work effect other sees (inl p) (inl q) = same_made budget number n work effect other sees p q
+  same_stack budget number n work effect other sees (inl p) (inr q) = absurd (let none = p.accepted in let some = q.is_fault in let no : ⊥ = cc in no)
+  same_stack budget number n work effect other sees (inr p) (inl q) = absurd (let none = q.accepted in let some = p.is_fault in let no : ⊥ = cc in no)
+  same_stack budget number n work effect other sees (inr p) (inr q) =
+      let fault : p.fault ≡ q.fault = let here = p.is_fault in let also = q.is_fault in cc in
+      let one = p.is in let more = q.is in cc
+
+  -- so `generate` has one effect
+  pub same_generate : GenerateMeansOneEffect
+  same_generate budget number None count effect other sees p q = p ∙ sym q
+  same_generate budget number (Some work) count effect other sees p q =
+      same_stack budget number (unsigned_abs count) work effect other sees p q

@@ -1,0 +1,138 @@
+-- Each command on a library has one effect.
+use Rattle.std.proofs.Common.{◌≡◌, ◌<◌, inl, inr, ℕ, List, [], ◌∷◌, length, ap, sym, ◌∙◌, subst, refl}
+use Rattle.std.specs.Prelude.{None, Some, Option, Bool, MatchOption, codes}
+use Rattle.outside_io.specs.Files.{Files}
+use Rattle.session_model.specs.declared.answer.Store.{Store}
+use Rattle.session_model.specs.declared.report.ReportLine.{ReportLine}
+use Rattle.session_model.specs.Effects.{Effect}
+use Rattle.session_model.specs.Fetches.{text_in}
+use Rattle.line_answers.specs.LineEffects.{accepted, refused, reply}
+use Rattle.line_answers.specs.Refusals.{no_cell}
+use Rattle.cell_library.specs.Libraries.{IsLawfulLibrary, LibraryParts, seen}
+use Rattle.cell_library.specs.Views.{LibraryView, cell_named}
+use Rattle.script_lines.specs.declared.commands.Command.{Command}
+use Rattle.edit_script.specs.declared.faults.EditFault.{EditFault}
+use Rattle.edit_script.specs.Edits.{applied}
+use Rattle.edit_script.proofs.CellLaws.{named_below}
+use Rattle.library_answers.specs.Refusals.{edit_refusal, load_refusal}
+use Rattle.library_answers.specs.Replies.{loaded_text}
+use Rattle.library_uniqueness.proofs.CommandFaults.{one_refusal}
+use Rattle.library_uniqueness.specs.UncleanCells.{UncleanCellsBelowAreUnique}
+use Rattle.cell_loading.specs.declared.faults.LoadFault.{LoadFault}
+use Rattle.loading_uniqueness.proofs.OneLoad.{not_both, same_load, same_refusal}
+use Rattle.look_commands.specs.declared.looks.Look.{Look}
+use Rattle.look_commands.specs.Looks.{Tells}
+use Rattle.workspace.specs.States.{State, Workspace}
+use Rattle.library_commands.specs.CommandEdits.{Applies, EditMeans, RefusesEdit}
+use Rattle.library_commands.specs.CommandLoad.{LoadMeans, Loads, RefusesLoad, with_loaded}
+use Rattle.library_commands.specs.CommandLooks.{LookMeans, LooksAt}
+use Rattle.library_commands.specs.CommandTech.{TechMeans, file_effect, tech_file}
+use Rattle.library_commands.specs.OneEffects.{EditMeansOneEffect, LoadMeansOneEffect, LookMeansOneEffect, TechMeansOneEffect}
+use Rattle.library_commands.proofs.OneLook.{same_look}
+use Rattle.library_commands.proofs.OneMarks.{same_marks}
+
+-- ---- tech
+
+pub tech_does_one_thing : TechMeansOneEffect
+tech_does_one_thing number None files name effect other p q = p ∙ sym q
+tech_does_one_thing number (Some work) files name effect other p q = p ∙ sym q
+
+-- ---- load
+
+-- what a load leaves and tells
+abbrev load_effect : Workspace → List ℕ → LibraryView → ℕ → List (List ℕ) → Effect State
+load_effect work cell after count fetched = accepted (Some (with_loaded work after)) (reply (loaded_text cell count) ∷ []) fetched
+
+module _ (number : ℕ) (work : Workspace) (files : Files) (cell : List ℕ) where
+  one_load : (effect other : Effect State) → Loads work files cell effect → Loads work files cell other → effect ≡ other
+  one_load effect other p q =
+      let editing = work.editing in
+      let same = same_load files editing.library editing.edits cell p.after q.after p.count q.count p.fetched q.fetched p.is_loaded q.is_loaded in
+      p.is
+      ∙ ap (λ (after : LibraryView). load_effect work cell after p.count p.fetched) same.0
+      ∙ ap (λ (count : ℕ). load_effect work cell q.after count p.fetched) same.1
+      ∙ ap (λ (fetched : List (List ℕ)). load_effect work cell q.after q.count fetched) same.2
+      ∙ sym q.is
+
+  one_refused_load : (effect other : Effect State) → RefusesLoad number work files cell effect → RefusesLoad number work files cell other
+      → effect ≡ other
+  one_refused_load effect other p q =
+      let same = same_refusal files work.editing.library work.editing.edits cell p.fetched q.fetched p.fault q.fault p.is_refused q.is_refused in
+      p.is
+      ∙ ap (λ (fetched : List (List ℕ)). refused number (Some work) (load_refusal p.fault) fetched) same.0
+      ∙ ap (λ (fault : LoadFault). refused number (Some work) (load_refusal fault) q.fetched) same.1
+      ∙ sym q.is
+
+  -- it is done or refused
+  not_both_loads : (effect other : Effect State) → Loads work files cell effect → RefusesLoad number work files cell other → ⊥
+  not_both_loads effect other p q =
+      not_both files work.editing.library work.editing.edits cell p.after p.count p.fetched q.fetched q.fault p.is_loaded q.is_refused
+
+pub load_does_one_thing : LoadMeansOneEffect
+load_does_one_thing number None files cell effect other p q = p ∙ sym q
+load_does_one_thing number (Some work) files cell effect other (inl p) (inl q) = one_load number work files cell effect other p q
+load_does_one_thing number (Some work) files cell effect other (inl p) (inr q) = absurd (not_both_loads number work files cell effect other p q)
+load_does_one_thing number (Some work) files cell effect other (inr p) (inl q) = absurd (not_both_loads number work files cell other effect q p)
+load_does_one_thing number (Some work) files cell effect other (inr p) (inr q) = one_refused_load number work files cell effect other p q
+
+-- ---- commands that edit
+
+module _ (number : ℕ) (work : Workspace) (edit : Command) where
+  one_edit : (effect other : Effect State) → Applies work edit effect → Applies work edit other → effect ≡ other
+  one_edit effect other p q =
+      p.is
+      ∙ ap (λ (dirty : ℕ → Bool). accepted (Some (record { editing = applied work.editing edit; dirty = dirty })) (reply (codes "ok") ∷ []) [])
+      (same_marks work.editing edit work.dirty p.dirty q.dirty p.marks q.marks)
+      ∙ sym q.is
+
+  one_refused_edit : (effect other : Effect State) → RefusesEdit number work edit effect → RefusesEdit number work edit other → effect ≡ other
+  one_refused_edit effect other p q =
+      p.is
+      ∙ ap (λ (fault : EditFault). refused number (Some work) (edit_refusal fault) [])
+      (one_refusal work.editing edit p.fault q.fault p.is_refused q.is_refused)
+      ∙ sym q.is
+
+pub edits_do_one_thing : EditMeansOneEffect
+edits_do_one_thing number None edit effect other p q = p ∙ sym q
+edits_do_one_thing number (Some work) edit effect other (inl p) (inl q) = one_edit number work edit effect other p q
+edits_do_one_thing number (Some work) edit effect other (inl p) (inr q) = absurd (p.accepts q.fault q.is_refused)
+edits_do_one_thing number (Some work) edit effect other (inr p) (inl q) = absurd (q.accepts p.fault p.is_refused)
+edits_do_one_thing number (Some work) edit effect other (inr p) (inr q) = one_refused_edit number work edit effect other p q
+
+-- ---- looks
+
+-- what a look at a cell tells
+abbrev look_effect : Workspace → List ReportLine → List Store → Effect State
+look_effect work lines stores = record { state = Some work; lines = lines; stores = stores; fetched = [] }
+
+module _ (one : UncleanCellsBelowAreUnique) (look : Look) (name : List ℕ) (work : Workspace) where
+  one_look : (library : LibraryParts) → IsLawfulLibrary library → seen library ≡ work.editing.library → (cell : ℕ)
+      → cell < length work.editing.library.cells → (effect other : Effect State) → LooksAt look name work cell effect → LooksAt look name work cell other
+      → effect ≡ other
+  one_look library lawful is cell within effect other p q =
+      let same = subst
+      (λ (view : LibraryView). cell < length view.cells → Tells look view cell name p.lines p.stores → Tells look view cell name q.lines q.stores
+      → (p.lines ≡ q.lines) × (p.stores ≡ q.stores))
+      is
+      (λ there. same_look library lawful cell there name one look p.lines q.lines p.stores q.stores)
+      within p.tells q.tells in
+      p.is
+      ∙ ap (λ (lines : List ReportLine). look_effect work lines p.stores) same.0
+      ∙ ap (λ (stores : List Store). look_effect work q.lines stores) same.1
+      ∙ sym q.is
+
+  -- where there may be no cell of the name
+  of_name : (library : LibraryParts) → IsLawfulLibrary library → seen library ≡ work.editing.library → (number : ℕ) (found : Option ℕ)
+      → cell_named work.editing.library name ≡ found → (effect other : Effect State)
+      → MatchOption found (effect ≡ refused number (Some work) (no_cell name) []) (λ cell. LooksAt look name work cell effect)
+      → MatchOption found (other ≡ refused number (Some work) (no_cell name) []) (λ cell. LooksAt look name work cell other)
+      → effect ≡ other
+  of_name library lawful is number None found effect other p q = p ∙ sym q
+  of_name library lawful is number (Some cell) found effect other p q =
+      one_look library lawful is cell (named_below work.editing.library name cell found) effect other p q
+
+pub looks_do_one_thing : UncleanCellsBelowAreUnique → LookMeansOneEffect
+looks_do_one_thing one look number None name effect other sees p q = p ∙ sym q
+looks_do_one_thing one look number (Some work) name effect other sound p q =
+    let (library, lawful, is) = sound.lawful in
+    of_name one look name work library lawful is number (cell_named work.editing.library name) refl effect other p q

@@ -1,0 +1,14 @@
+//! The law of the commands on a library. The function here does nothing; its contract is the law.
+ghost use Rattle.library_commands.specs.OneEffects.{EditMeansOneEffect, LoadMeansOneEffect, LookMeansOneEffect, TechMeansOneEffect};
+
+use library_uniqueness::unclean_cells_are_unique;
+
+/// Each command on a library has one effect, for each number of its line, state and files.
+pub fn library_lines_have_one_effect()
+    ensures tech { TechMeansOneEffect }
+    ensures load { LoadMeansOneEffect }
+    ensures edits { EditMeansOneEffect }
+    ensures looks { LookMeansOneEffect }
+{
+    unclean_cells_are_unique();
+}

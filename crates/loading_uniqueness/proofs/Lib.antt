@@ -1,0 +1,2 @@
+pub mod OneLibrary
+pub mod OneLoad
