@@ -168,6 +168,7 @@ moved_back dx dy id uses = changed_back (moved_use dx dy) (moved_use (neg_ℤ dx
   where
     there_and_back : (z d : ℤ) → (z +ℤ d) +ℤ neg_ℤ d ≡ z
     there_and_back z d = omega (arith, ints)
+
     here : (used : UseBody) → moved_use (neg_ℤ dx) (neg_ℤ dy) (moved_use dx dy used) ≡ used
     here used =
         λ i. record used { placed = record used.placed { dx = there_and_back used.placed.dx dx i; dy = there_and_back used.placed.dy dy i } }

@@ -11,7 +11,7 @@ use Rattle.cell_tree.specs.Sizes.{CellState}
 use Rattle.cell_tree.specs.Trees.{cell_at, empty_cell}
 use Rattle.cell_library.specs.Contents.{Held}
 use Rattle.cell_library.specs.Libraries.{IsLawfulLibrary, LibraryParts, cells_seen, seen, uses_in}
-use Rattle.cell_library.specs.Restorations.{IsLawfulView}
+use Rattle.cell_library.specs.LawfulViews.{IsLawfulView}
 use Rattle.cell_library.specs.Views.{CellView, LibraryView, changed_at, names_of, no_cell, view_at, with_cell_changed}
 use Rattle.cell_library.proofs.UseEdits.{uses_here}
 use Rattle.cell_library.proofs.ViewLaws.{count_seen, names_seen}
@@ -96,20 +96,27 @@ stand_apart old new came library lawful is key cell past found k entry stands =
   where
     in_tree : key < length library.tree.cells
     in_tree = slice_get_within library.tree.cells key cell found
+
     below : key < length library.contents
     below = let many = lawful.so_many in let within = in_tree in omega arith
+
     counted : length new.cells ≡ length library.contents
     counted = ap (λ (view : LibraryView). length view.cells) (sym is) ∙ count_seen library
+
     long : length new.cells ≡ length old.cells + length came.more
     long = ap length came.cells ∙ length-append old.cells came.more
+
     in_more : key - length old.cells < length came.more
     in_more = let a = counted in let b = long in let within = below in omega arith
+
     here : view_at new key ≡ slice_index_or came.more (key - length old.cells) no_cell
     here =
         ap (λ (cells : List CellView). slice_index_or cells key no_cell) came.cells
         ∙ get_or-append_right old.cells came.more (length old.cells) key no_cell refl past
+
     state : cell_at library.tree.cells key ≡ cell
     state = get_or_from_slice_get library.tree.cells key cell empty_cell found
+
     uses : (view_at new key).uses ≡ cell.uses
     uses =
         ap (λ (view : LibraryView). (view_at view key).uses) (sym is) ∙ uses_here library lawful key below
@@ -124,44 +131,59 @@ came_lawful old new before after came with_them same some names count tech (a, a
   where
     n : ℕ
     n = length old.cells
+
     long : length a.contents ≡ n
     long = sym (count_seen a) ∙ ap (λ (view : LibraryView). length view.cells) a_is ∙ count
+
     fits : n ≤ length b.contents
     fits =
         let counted : length new.cells ≡ length b.contents = ap (λ (view : LibraryView). length view.cells) (sym b_is) ∙ count_seen b in
         let whole : length new.cells ≡ length old.cells + length came.more = ap length came.cells ∙ length-append old.cells came.more in
         omega arith
+
     apart : StandApart n b.tree.cells
     apart = stand_apart old new came b b_lawful b_is
+
     b_tech : b.tech ≡ a.tech
     b_tech =
         ap (λ (view : LibraryView). view.tech) b_is ∙ came.tech ∙ sym tech ∙ ap (λ (view : LibraryView). view.tech) (sym a_is)
+
     new_names : names_of new.cells ≡ names_of old.cells ++ names_of came.more
     new_names = ap names_of came.cells ∙ map-append (λ (body : CellView). body.name) old.cells came.more
+
     a_names : map (λ (held : Held). held.name) a.contents ≡ names_of old.cells
     a_names =
         sym (names_seen a.contents (uses_in a.tree.cells)) ∙ ap (λ (view : LibraryView). names_of view.cells) a_is ∙ names
+
     b_names : map (λ (held : Held). held.name) b.contents ≡ names_of new.cells
     b_names = sym (names_seen b.contents (uses_in b.tree.cells)) ∙ ap (λ (view : LibraryView). names_of view.cells) b_is
+
     later_names : map (λ (held : Held). held.name) (drop n b.contents) ≡ names_of came.more
     later_names =
         sym (drop-map (λ (held : Held). held.name) n b.contents) ∙ ap (drop n) (b_names ∙ new_names)
         ∙ drop_at (names_of old.cells) (names_of came.more) n (length-map old.cells (λ (body : CellView). body.name))
+
     all_names : map (λ (held : Held). held.name) (a.contents ++ drop n b.contents) ≡ map (λ (held : Held). held.name) b.contents
     all_names =
         map-append (λ (held : Held). held.name) a.contents (drop n b.contents) ∙ (λ i. a_names i ++ later_names i) ∙ sym (b_names ∙ new_names)
+
     differ : Distinct (map (λ (held : Held). held.name) (a.contents ++ drop n b.contents))
     differ = subst Distinct (sym all_names) b_lawful.names_differ
+
     later : drop n (cells_seen b.contents b.tree) ≡ came.more
     later = ap (λ (view : LibraryView). drop n view.cells) b_is ∙ ap (drop n) came.cells ∙ drop_at old.cells came.more n refl
+
     cells : cells_seen (a.contents ++ drop n b.contents) (with_more a b a_lawful b_lawful n some long fits apart b_tech differ).tree ≡ after.cells
     cells =
         more_seen a b a_lawful b_lawful n some long fits apart b_tech differ
         ∙ (λ i. ap (λ (view : LibraryView). view.cells) a_is i ++ (later ∙ sym same) i) ∙ sym with_them.cells
+
     raw : a.tech ≡ after.tech
     raw = ap (λ (view : LibraryView). view.tech) a_is ∙ sym with_them.tech
+
     scale : a.scale ≡ after.scale
     scale = ap (λ (view : LibraryView). view.scale) a_is ∙ sym (with_them.scale (omega arith))
+
     is : seen (with_more a b a_lawful b_lawful n some long fits apart b_tech differ) ≡ after
     is = λ i. record { tech = raw i; scale = scale i; cells = cells i }
 

@@ -13,17 +13,19 @@ use Rattle.cell_tree.specs.declared.use_tables.UseBody.{UseBody}
 use Rattle.cell_paint.specs.Paints.{IsSoundPaint}
 use Rattle.cell_paint.specs.Pieces.{kind_by, with_pieces}
 use Rattle.cell_paint.proofs.PieceLaws.{taken_brings_back}
+use Rattle.cell_library.specs.Contents.{without_last}
 use Rattle.cell_library.specs.Edits.{moved_use, with_use_changed}
 use Rattle.cell_library.specs.Refusals.{has_id}
-use Rattle.cell_library.specs.Restorations.{IsLawfulView}
+use Rattle.cell_library.specs.LawfulViews.{IsLawfulView}
 use Rattle.cell_library.specs.Views.{CellView, LibraryView, view_at, with_cell_changed}
+use Rattle.cell_library.proofs.UndoneEdits.{cell_back}
 use Rattle.undo_log.specs.declared.changes.Change.{Change}
 use Rattle.undo_log.specs.declared.changes.Change.TheVariants.{Repaint, InsertUse, DeleteUse, MoveUse, SetGrid, AddLabel, DropLabel, SetLabels}
 use Rattle.undo_log.specs.Inverses.{CanBeMade, SpeaksOf, TakesBack, changed}
 use Rattle.undo_log.specs.Makings.{AddsLast, BringsAgain, GivesGrid, OfUse, PutsBack}
 use Rattle.undo_log.proofs.BodyLaws.{Uses, added_goes, added_some, changed_has, deleted_comes, deleted_place, inserted_goes, inserted_has, moved_back}
 use Rattle.undo_log.proofs.BodyLaws.{regridded_back}
-use Rattle.undo_log.proofs.CellLaws.{cell_back, cell_here, count_kept}
+use Rattle.undo_log.proofs.CellLaws.{cell_here, count_kept}
 use Rattle.undo_log.proofs.LawfulLaws.{lawful_ids}
 
 -- what a change makes of a cell
@@ -34,7 +36,7 @@ remade (DeleteUse id) body = record body { uses = filter (λ entry. not (bytes_e
 remade (MoveUse id dx dy) body = record body { uses = with_use_changed (moved_use dx dy) id body.uses }
 remade (SetGrid id grid) body = record body { uses = with_use_changed (λ used. record used { grid = grid }) id body.uses }
 remade (AddLabel label) body = record body { labels = body.labels ++ label ∷ [] }
-remade DropLabel body = record body { labels = take (length body.labels - 1) body.labels }
+remade DropLabel body = record body { labels = without_last body.labels }
 remade (SetLabels labels) body = record body { labels = labels }
 
 -- it changes this one cell of a library

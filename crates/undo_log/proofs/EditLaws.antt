@@ -28,7 +28,7 @@ use Rattle.cell_library.specs.Limits.{GoesPast}
 use Rattle.cell_library.specs.Edits.{erased, labelled, moved, painted, placed, single_use, transform_of, with_grid, with_use_changed, without_use}
 use Rattle.cell_library.specs.Refusals.{ArrayIsRefused, DeleteIsRefused, EditIsRefused, EraseIsRefused, LabelIsRefused, MoveIsRefused, PaintIsRefused}
 use Rattle.cell_library.specs.Refusals.{AreaIsRefused, FirstOf, NothingElse, PlaceIsRefused, has_id}
-use Rattle.cell_library.specs.Restorations.{IsLawfulView}
+use Rattle.cell_library.specs.LawfulViews.{IsLawfulView}
 use Rattle.cell_library.specs.Views.{CellView, LibraryView, cell_named, view_at, with_cell_changed}
 use Rattle.script_lines.specs.declared.commands.Command.{Command}
 use Rattle.script_lines.specs.declared.commands.Command.TheVariants as command
@@ -42,7 +42,8 @@ use Rattle.undo_log.specs.declared.changes.Change.TheVariants.{DeleteUse, DropLa
 use Rattle.undo_log.specs.Inverses.{TakesBack}
 use Rattle.undo_log.specs.Makings.{Accepts, BringsAgain, GivesGrid, PutsBack}
 use Rattle.undo_log.proofs.BodyLaws.{Uses}
-use Rattle.undo_log.proofs.CellLaws.{cell_alike, cell_left}
+use Rattle.cell_library.proofs.ViewLaws.{changed_at-same}
+use Rattle.undo_log.proofs.CellLaws.{cell_alike}
 use Rattle.undo_log.proofs.ChangeLaws.{deletion_taken_back, grid_taken_back, insertion_taken_back, label_taken_back, labels_taken_back, move_taken_back}
 use Rattle.undo_log.proofs.ChangeLaws.{paint_taken_back}
 
@@ -129,7 +130,8 @@ module _ (view : LibraryView) (edits : ℕ) (cell : ℕ) (there : cell < length 
       → TakesBack view
       (option_map_or (λ layer. with_cell_changed view cell (λ held. record held { own = change layer held.own })) found view) cell back
   with_found None change area back outside puts =
-      subst (λ (after : LibraryView). TakesBack view after cell back) (cell_left view cell (λ held. record held { own = held.own }) refl)
+      subst (λ (after : LibraryView). TakesBack view after cell back)
+      (ap (λ (cells : List CellView). record view { cells = cells }) (changed_at-same view.cells cell (λ held. held) (λ held. refl)))
       (paint_taken_back view cell there area back (λ own. own) (λ layout place _. refl) puts)
   with_found (Some layer) change area back outside puts = paint_taken_back view cell there area back (change layer) (outside layer) puts
 

@@ -11,7 +11,7 @@ use Rattle.tech_model.specs.declared.raw.Label.{Label}
 use Rattle.cell_library.specs.Contents.{held_at, no_held}
 use Rattle.cell_library.specs.Libraries.{LibraryParts, IsLawfulLibrary, seen}
 use Rattle.cell_library.specs.Limits.{GoesPast}
-use Rattle.cell_library.specs.Restorations.{IsLawfulView}
+use Rattle.cell_library.specs.LawfulViews.{IsLawfulView}
 use Rattle.cell_library.specs.Views.{LibraryView, view_at}
 use Rattle.cell_library.proofs.ElementCounts.{use_is_lawful}
 use Rattle.cell_library.proofs.LimitLaws.{never_past}

@@ -4,13 +4,14 @@ use Rattle.std.specs.Prelude.{Option, Some, if◌then◌else◌}
 use Rattle.std.specs.Option.{option_map_or}
 use Rattle.ext_model.specs.declared.tables.CellKey.{CellKey}
 use Rattle.cell_library.specs.Libraries.{IsLawfulLibrary, IsNextEdit, LibraryParts, seen}
-use Rattle.cell_library.specs.Restorations.{IsLawfulView}
+use Rattle.cell_library.specs.LawfulViews.{IsLawfulView}
 use Rattle.cell_library.specs.Views.{CellView, LibraryView, view_at, with_cell_changed}
 use Rattle.script_lines.specs.declared.commands.Command.{Command}
 use Rattle.edit_script.specs.Editing.{Editing}
 use Rattle.undo_log.specs.declared.changes.Change.{Change}
 use Rattle.undo_log.specs.declared.changes.Inverse.{Inverse}
-use Rattle.undo_log.specs.Inverses.{CanBeMade, Inverses, IsReturned, Keeps, LeadTo, SpeaksOf, TakesBack, changed}
+use Rattle.undo_log.specs.Inverses.{CanBeMade, Inverses, IsReturned, Keeps, LeadTo, TakesBack, changed, led_to}
+use Rattle.undo_log.specs.Laws.{KeptVersionsAreUnique, NothingIsKept}
 use Rattle.undo_log.specs.Versions.{Version, Versions, after_edit, is_edit, returned, version_of, versions_after, with_version}
 use Rattle.undo_log.proofs.CellLaws.{cell_alike, cell_here}
 use Rattle.undo_log.proofs.ChangeLaws.{changed_is, remade}
@@ -105,3 +106,34 @@ edit_kept editing command new log log_then inverse versions is edit lawful takes
       done = one_more_leads editing.library new inverse.cell.0 inverse log.done versions.done refl lawful takes keeps.done;
       undone = tt;
     }))
+
+-- ---- one list of versions
+
+-- inverses lead to one list of versions
+led_there : (view : LibraryView) (inverses : List Inverse) (versions : List Version) → LeadTo view inverses versions → versions ≡ led_to view inverses
+led_there view [] [] leads = refl
+led_there view [] (version ∷ versions) leads = absurd leads
+led_there view (inverse ∷ inverses) [] leads = absurd leads
+led_there view (inverse ∷ inverses) (version ∷ versions) leads =
+    λ i. leads.1 i ∷ led_there (changed view inverse.cell.0 inverse.change) inverses versions leads.2 i
+
+-- no inverses lead to no versions
+pub none_led : (view : LibraryView) (inverses : List Inverse) (versions : List Version) → LeadTo view inverses versions → inverses ≡ [] → versions ≡ []
+none_led view [] [] leads none = refl
+none_led view [] (version ∷ versions) leads none = absurd leads
+none_led view (inverse ∷ inverses) versions leads none = absurd (cc)
+
+-- and to none only these
+pub none_lead : (view : LibraryView) (inverses : List Inverse) (versions : List Version) → LeadTo view inverses versions → versions ≡ [] → inverses ≡ []
+none_lead view [] versions leads none = refl
+none_lead view (inverse ∷ inverses) [] leads none = absurd leads
+none_lead view (inverse ∷ inverses) (version ∷ versions) leads none = absurd (cc)
+
+-- so a log keeps one
+pub versions_unique : KeptVersionsAreUnique
+versions_unique view log versions keeps =
+    λ i. record { done = led_there view log.done versions.done keeps.done i; undone = led_there view log.undone versions.undone keeps.undone i }
+
+-- and a log without edits none
+pub nothing_kept : NothingIsKept
+nothing_kept view = record { done = tt; undone = tt }

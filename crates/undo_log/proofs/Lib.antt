@@ -1,12 +1,12 @@
 pub mod BodyLaws
+pub mod CameLaws
 pub mod CellLaws
 pub mod ChangeLaws
-pub mod LawfulLaws
-pub mod MoreCells
 pub mod DesignerLaws
 pub mod EditLaws
+pub mod LawfulLaws
 pub mod LeadLaws
-pub mod UseMoves
 pub mod MakeLaws
-pub mod CameLaws
+pub mod MoreCells
 pub mod OtherCommands
+pub mod UseMoves

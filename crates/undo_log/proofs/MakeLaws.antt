@@ -24,7 +24,7 @@ use Rattle.cell_library.specs.declared.limits.TheConstants.{MOST_EDITS}
 use Rattle.cell_library.specs.Edits.{labelled, moved, moved_use, with_use_changed}
 use Rattle.cell_library.specs.Refusals.{Answers, AnswersOrLacksMemory, DeleteIsRefused, EditIsRefused, HasFaultOrLacksMemory, LabelIsRefused, MoveIsRefused}
 use Rattle.cell_library.specs.Refusals.{NothingElse, has_id, moves_too_far, stands_in_range}
-use Rattle.cell_library.specs.Restorations.{IsLawfulView}
+use Rattle.cell_library.specs.LawfulViews.{IsLawfulView}
 use Rattle.cell_library.specs.Views.{CellView, LibraryView, view_at}
 use Rattle.cell_library.proofs.FaultLaws.{not_first}
 use Rattle.undo_log.proofs.BodyLaws.{Uses}

@@ -6,7 +6,7 @@ use Rattle.ext_model.specs.declared.tables.CellKey.{CellKey}
 use Rattle.cell_tree.specs.declared.use_tables.UseBody.{UseBody}
 use Rattle.cell_library.specs.Edits.{empty_cell, with_new_cell}
 use Rattle.cell_library.specs.Libraries.{IsLawfulLibrary, IsLawfulScale, LibraryParts, seen}
-use Rattle.cell_library.specs.Restorations.{IsLawfulView}
+use Rattle.cell_library.specs.LawfulViews.{IsLawfulView}
 use Rattle.cell_library.specs.Views.{CellView, LibraryView}
 use Rattle.cell_library.proofs.ViewLaws.{count_seen}
 use Rattle.script_lines.specs.declared.commands.Command.{Command}
@@ -30,6 +30,7 @@ new_came view name scaled = record {
     kept : (scale : Option (ℕ × ℕ)) → (scale ≡ None → ⊥) → Some (unwrap_or scale (1, 1)) ≡ scale
     kept None there = absurd (there refl)
     kept (Some numbers) there = refl
+
     none : (k : ℕ) (d : CellView) → k < 1 → (j : ℕ) (e : List ℕ × UseBody)
         → j < length (slice_index_or (empty_cell name ∷ []) k d).uses → ⊥
     none zero d below j e inside = omega arith
@@ -85,6 +86,7 @@ other_keeps old new before now command log versions old_lawful new_lawful other 
   where
     here : seen new ≡ (applied (editing_of old before) command).library
     here = ap (λ (editing : Editing). editing.library) made
+
     same : versions_after (editing_of old before) command versions ≡ versions
     same =
         ap (λ (b : Bool). if b
@@ -104,5 +106,6 @@ none_keeps old new before now command log versions none edit made keeps =
         ap (λ (editing : Editing). editing.library) made
         ∙ ap (λ (current : Option CellKey). (applied (editing_of old current) command).library) none
         ∙ none_applied (seen old) old.tree.edits command edit
+
     same : versions_after (editing_of old None) command versions ≡ versions
     same = ap (λ (b : Bool). if b then versions else versions) edit

@@ -1,23 +1,30 @@
 -- Uses that a lawful library has: which move far, and which ids are new.
-use Rattle.std.proofs.Common.{◌≡◌, ◌<◌, ◌^◌, ◌&&◌, ℕ, zero, suc, ℤ, pos, neg_ℤ, ◌+ℤ◌, ◌-ℤ◌, ◌≤ℤ◌, true, false, Bool, List, [], ◌∷◌, ◌++◌, length, map, take, drop, insert}
+use Rattle.std.proofs.Common.{◌≡◌, ◌+◌, ◌<◌, ◌≤◌, ◌^◌, ℕ, zero, suc, ℤ, pos, neg_ℤ, ◌+ℤ◌, ◌-ℤ◌, ◌≤ℤ◌, true, false, Bool, List, [], ◌∷◌, ◌++◌, length, map, take, drop, insert}
 use Rattle.std.proofs.Common.{refl, sym, ap, subst, ◌∙◌, inl, inr, arith, true≢false}
-use Rattle.std.specs.Prelude.{FitsSigned, Some, ◌||◌, slice_get, if◌then◌else◌}
+use Rattle.std.specs.Prelude.{FitsSigned, None, Some, ◌||◌, slice_get, if◌then◌else◌}
 use Rattle.std.specs.Int.{w64}
+use Rattle.std.specs.List.{position_or_len}
 use Rattle.std.specs.Str.{bytes_eq}
 use Rattle.std.proofs.lemmas.Bool.{cases_Bool}
 use Rattle.std.proofs.lemmas.Grind.{common_steps}
 use Rattle.std.proofs.lemmas.Int.{ints, to_z-of_z}
 use Rattle.std.proofs.lemmas.List.{map-append, take-append-drop}
+use Rattle.std.proofs.lemmas.List.Quantifiers.{position-Some}
+use Rattle.std.proofs.lemmas.Option.{get_or_from_slice_get}
 use Rattle.std.proofs.lemmas.Slice.Eq.{bytes_eq-Decides}
 use Rattle.geo_core.specs.FiniteSets.Lists.{In, Distinct}
+use Rattle.geo_core.specs.Images.{identity}
+use Rattle.geo_core.proofs.FiniteSets.Places.{slice_get-below}
 use Rattle.geo_core.proofs.FiniteSets.Distincts.{Distinct-cut}
 use Rattle.script_lines.specs.Forms.{IsNumber}
 use Rattle.cell_tree.specs.declared.use_tables.UseBody.{UseBody}
 use Rattle.cell_tree.specs.Uses.{IsLawfulUse}
-use Rattle.cell_library.specs.Edits.{moved, moved_use, with_use_changed}
+use Rattle.cell_library.specs.Edits.{moved, moved_use, single_use, with_use_changed}
+use Rattle.cell_library.specs.PutBackUses.{place_of}
 use Rattle.cell_library.specs.Refusals.{has_id}
-use Rattle.cell_library.specs.Restorations.{IsLawfulView}
+use Rattle.cell_library.specs.LawfulViews.{IsLawfulView}
 use Rattle.cell_library.specs.Views.{CellView, LibraryView, view_at}
+use Rattle.cell_library.proofs.ContentLaws.{position_past}
 use Rattle.cell_library.proofs.UseLists.{id_same, use_in}
 use Rattle.undo_log.proofs.BodyLaws.{Uses}
 use Rattle.undo_log.proofs.CellLaws.{cell_here, count_kept}
@@ -34,6 +41,29 @@ has_where (first ∷ rest) id has = elim (cases_Bool (bytes_eq first.0 id)) [
   | inr away ↦ (let found = has_where rest id (sym (ap (λ (b : Bool). b || has_id rest id) away) ∙ has) in (suc found.0, found.1))
 ]
 
+-- a use stands where the search for its id finds it
+pub place_there : (uses : Uses) (id : List ℕ) (k : ℕ) → place_of uses id ≡ Some k → (used : UseBody) × (slice_get uses k ≡ Some (id, used))
+place_there uses id k is =
+    let found = position-Some (λ (entry : List ℕ × UseBody). bytes_eq entry.0 id) uses k ([], single_use 0 identity) is in
+    let entry = slice_get-below uses k found.0 in
+    let same : bytes_eq entry.0.0 id ≡ true =
+    ap (λ (e : List ℕ × UseBody). bytes_eq e.0 id) (sym (get_or_from_slice_get uses k entry.0 ([], single_use 0 identity) entry.1)) ∙ found.1 in
+    let name : entry.0.0 ≡ id = (bytes_eq-Decides entry.0.0 id).0 same in
+    (entry.0.1, entry.1 ∙ (λ i. Some (name i, entry.0.1)))
+
+-- and where it finds none, none has it
+place_past : (uses : Uses) (id : List ℕ) → length uses ≤ position_or_len (λ entry. bytes_eq entry.0 id) uses → has_id uses id ≡ false
+place_past [] id past = refl
+place_past (first ∷ rest) id past = elim (cases_Bool (bytes_eq first.0 id)) [
+  | inl here ↦ (let found : suc (length rest) ≤ 0 = rw here at past in absurd (omega arith))
+  | inr away ↦
+      let later : suc (length rest) ≤ 1 + position_or_len (λ entry. bytes_eq entry.0 id) rest = rw away at past in
+      ap (λ (b : Bool). b || has_id rest id) away ∙ place_past rest id (omega arith)
+]
+
+pub place_nowhere : (uses : Uses) (id : List ℕ) → place_of uses id ≡ None → has_id uses id ≡ false
+place_nowhere uses id none = place_past uses id (position_past (λ (entry : List ℕ × UseBody). bytes_eq entry.0 id) uses none)
+
 -- where ids differ with a use that comes, its id is new
 pub new_id : (uses : Uses) (at : ℕ) (id : List ℕ) (used : UseBody) → Distinct (map (λ e. e.0) (insert uses at (id, used))) → has_id uses id ≡ false
 new_id uses at id used differ = elim (cases_Bool (has_id uses id)) [
@@ -44,11 +74,13 @@ new_id uses at id used differ = elim (cases_Bool (has_id uses id)) [
     parts : map (λ (e : List ℕ × UseBody). e.0) (insert uses at (id, used))
         ≡ map (λ (e : List ℕ × UseBody). e.0) (take at uses) ++ id ∷ map (λ (e : List ℕ × UseBody). e.0) (drop at uses)
     parts = map-append (λ (e : List ℕ × UseBody). e.0) (take at uses) ((id, used) ∷ drop at uses)
+
     whole : map (λ (e : List ℕ × UseBody). e.0) (take at uses) ++ map (λ (e : List ℕ × UseBody). e.0) (drop at uses)
         ≡ map (λ (e : List ℕ × UseBody). e.0) uses
     whole =
         sym (map-append (λ (e : List ℕ × UseBody). e.0) (take at uses) (drop at uses))
         ∙ ap (map (λ (e : List ℕ × UseBody). e.0)) (take-append-drop at uses)
+
     apart : In id (map (λ (e : List ℕ × UseBody). e.0) uses) → ⊥
     apart there =
         (Distinct-cut (map (λ (e : List ℕ × UseBody). e.0) (take at uses)) (map (λ (e : List ℕ × UseBody). e.0) (drop at uses)) id

@@ -8,7 +8,8 @@ use Rattle.cell_paint.specs.Pieces.{CanStandIn, with_pieces}
 use Rattle.cell_library.specs.Edits.{labelled, moved, without_use}
 use Rattle.cell_library.specs.Libraries.{LibraryParts, IsNextEdit, seen}
 use Rattle.cell_library.specs.Refusals.{has_id}
-use Rattle.cell_library.specs.Restorations.{IsLawfulView, regridded, relabelled, repainted, with_use_at, without_last_label}
+use Rattle.cell_library.specs.LawfulViews.{IsLawfulView}
+use Rattle.cell_library.specs.Restorations.{regridded, relabelled, repainted, with_use_at, without_last_label}
 use Rattle.cell_library.specs.Views.{CellView, LibraryView, view_at}
 use Rattle.undo_log.specs.declared.changes.Change.{Change}
 use Rattle.undo_log.specs.declared.changes.Change.TheVariants.{Repaint, InsertUse, DeleteUse, MoveUse, SetGrid, AddLabel, DropLabel, SetLabels}
@@ -78,6 +79,16 @@ LeadTo view (inverse ∷ inverses) (version ∷ versions) =
 pub record Keeps (view : LibraryView) (log : Inverses) (versions : Versions) : Type 0 where
   pub done : LeadTo view log.done versions.done
   pub undone : LeadTo view log.undone versions.undone
+
+-- the versions to which inverses lead
+abbrev pub led_to : LibraryView → List Inverse → List Version
+led_to view [] = []
+led_to view (inverse ∷ inverses) =
+    let before = changed view inverse.cell.0 inverse.change in version_of before inverse.cell.0 ∷ led_to before inverses
+
+-- the versions that a log keeps
+abbrev pub kept_versions : LibraryView → Inverses → Versions
+kept_versions view log = record { done = led_to view log.done; undone = led_to view log.undone }
 
 -- A library was brought to the latest of the earlier versions, as one more edit of its cell, and these inverses lead from it to the versions
 -- before it and to those that lead back.

@@ -1,13 +1,13 @@
 -- What a designer may count on: undo takes an edit back, and redo gives it again. And what a session may: cells may come between edits.
 use Rattle.std.specs.Prelude.{◌≡◌, ◌<◌, ℕ, true, Some, length}
 use Rattle.cell_library.specs.LowerLayoutTrees.LayoutModel.Places.{Place}
-use Rattle.cell_library.specs.Restorations.{IsLawfulView}
+use Rattle.cell_library.specs.LawfulViews.{IsLawfulView}
 use Rattle.cell_library.specs.Views.{CellView, LibraryView, view_at}
 use Rattle.script_lines.specs.declared.commands.Command.{Command}
 use Rattle.edit_script.specs.Editing.{Editing}
 use Rattle.edit_script.specs.Edits.{applied}
-use Rattle.undo_log.specs.Inverses.{CellsCame, Inverses, Keeps}
-use Rattle.undo_log.specs.Versions.{Return, Versions, is_edit, redone, undone, versions_after, versions_undone}
+use Rattle.undo_log.specs.Inverses.{CellsCame, Inverses, Keeps, kept_versions, no_inverses}
+use Rattle.undo_log.specs.Versions.{Return, Versions, is_edit, no_versions, redone, undone, versions_after, versions_undone}
 
 -- Two cells have the same: the same type at each place of their own paint, and the same uses and labels, each in one order.
 pub record HaveTheSame (a b : CellView) : Type 0 where
@@ -44,3 +44,11 @@ abbrev pub CellsMayCome : Type 0
 CellsMayCome =
     (old new : LibraryView) (log : Inverses) (versions : Versions) → CellsCame old new → IsLawfulView new → Keeps old log versions
     → Keeps new log versions
+
+-- A log keeps one list of versions of each kind, which the library and the inverses give.
+abbrev pub KeptVersionsAreUnique : Type 0
+KeptVersionsAreUnique = (view : LibraryView) (log : Inverses) (versions : Versions) → Keeps view log versions → versions ≡ kept_versions view log
+
+-- A log without edits keeps no versions of any library.
+abbrev pub NothingIsKept : Type 0
+NothingIsKept = (view : LibraryView) → Keeps view no_inverses no_versions

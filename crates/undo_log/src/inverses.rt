@@ -1,9 +1,10 @@
 //! What takes edits and changes back, made of the library as it is before them.
-ghost use Rattle.std.specs.Prelude.{◌≡◌, ◌<◌, ◌&&◌, true, length, IfOk, false, IsSomeAnd, MatchOption, Some};
+ghost use Rattle.std.specs.Prelude.{◌≡◌, ◌<◌, ◌&&◌, true, false, length, slice_get, IfOk, IfNone, IfSome, IsSomeAnd, MatchOption, Some};
 ghost use Rattle.geo_core.specs.Areas.{IsNear, has_square};
 ghost use Rattle.geo_core.specs.Covering.{IsProper};
 ghost use Rattle.cell_library.specs.CellPaint.Painting.{is_in_range};
 ghost use Rattle.cell_library.specs.Libraries.{seen};
+ghost use Rattle.cell_library.specs.Refusals.{has_id};
 ghost use Rattle.cell_library.specs.Views.{view_at};
 ghost use Rattle.script_lines.specs.Forms.{IsFormed};
 ghost use Rattle.edit_script.specs.Editing.{editing_of};
@@ -15,6 +16,7 @@ ghost use Rattle.undo_log.specs.Versions.{is_edit};
 use crate::changes::Change;
 use cell_library::Library;
 use cell_paint::is_coordinate;
+use cell_tree::UseBody;
 use ext_model::CellKey;
 use geo_core::Rect;
 use names_lists::{List, Name};
@@ -48,11 +50,7 @@ fn paint_back(library: &Library, cell: CellKey, area: Rect) -> Result<Change, Al
 }
 
 // The same, if paint may go over the area.
-fn brush_back(
-    library: &Library,
-    cell: CellKey,
-    area: Rect,
-) -> Result<Option<Change>, AllocError>
+fn brush_back(library: &Library, cell: CellKey, area: Rect) -> Result<Option<Change>, AllocError>
     requires cell { cell.0 < length library.now.contents }
     ensures { IfOk result (λ made. MatchOption made ((has_square area && is_in_range area) ≡ false)
         (PutsBack library.now.tech (view_at (seen library.now) cell.0) area)) }
@@ -63,6 +61,22 @@ fn brush_back(
     Ok(Some(paint_back(library, cell, area)?))
 }
 
+// The place of the use of the id among the cell's, and its body, if there is one.
+fn use_of(library: &Library, cell: CellKey, id: &Name) -> Option<(usize, UseBody)>
+    requires cell { cell.0 < length library.now.contents }
+    ensures there { IfSome result (λ found. slice_get (view_at (seen library.now) cell.0).uses found.0 ≡ Some (id.now, found.1)) }
+    ensures none { IfNone result (has_id (view_at (seen library.now) cell.0).uses id.now ≡ false) }
+{
+    let place = match library.find_use(cell, id.bytes()) {
+        Some(place) => place,
+        None => return None,
+    };
+    match library.use_at(cell, place) {
+        Some((_, used)) => Some((place, *used)),
+        None => unreachable!(),
+    }
+}
+
 // What brings the use of the id again where it stands, if there is one.
 fn use_back(
     alloc: Global,
@@ -71,14 +85,11 @@ fn use_back(
     id: &Name,
 ) -> Result<Option<Change>, AllocError>
     requires cell { cell.0 < length library.now.contents }
-    ensures { IfOk result (λ made. OfUse (view_at (seen library.now) cell.0) id.now (BringsAgain (view_at (seen library.now) cell.0) id.now) made) }
+    ensures { IfOk result (OfUse (view_at (seen library.now) cell.0) id.now (BringsAgain (view_at (seen library.now) cell.0) id.now)) }
 {
-    let Some(place) = library.find_use(cell, id.bytes()) else {
-        return Ok(None);
-    };
-    match library.use_at(cell, place) {
-        Some((_, used)) => Ok(Some(Change::InsertUse(place, id.copy(alloc)?, *used))),
-        None => unreachable!(),
+    match use_of(library, cell, id) {
+        Some((place, used)) => Ok(Some(Change::InsertUse(place, id.copy(alloc)?, used))),
+        None => Ok(None),
     }
 }
 
@@ -90,14 +101,11 @@ fn grid_back(
     id: &Name,
 ) -> Result<Option<Change>, AllocError>
     requires cell { cell.0 < length library.now.contents }
-    ensures { IfOk result (λ made. OfUse (view_at (seen library.now) cell.0) id.now (GivesGrid (view_at (seen library.now) cell.0) id.now) made) }
+    ensures { IfOk result (OfUse (view_at (seen library.now) cell.0) id.now (GivesGrid (view_at (seen library.now) cell.0) id.now)) }
 {
-    let Some(place) = library.find_use(cell, id.bytes()) else {
-        return Ok(None);
-    };
-    match library.use_at(cell, place) {
+    match use_of(library, cell, id) {
         Some((_, used)) => Ok(Some(Change::SetGrid(id.copy(alloc)?, used.grid))),
-        None => unreachable!(),
+        None => Ok(None),
     }
 }
 

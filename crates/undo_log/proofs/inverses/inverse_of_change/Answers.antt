@@ -6,7 +6,7 @@ use Rattle.tech_model.specs.declared.raw.Label.{Label}
 use Rattle.cell_tree.specs.declared.use_tables.UseBody.{UseBody}
 use Rattle.cell_library.specs.Libraries.{seen}
 use Rattle.cell_library.specs.Refusals.{has_id}
-use Rattle.cell_library.specs.Restorations.{IsLawfulView}
+use Rattle.cell_library.specs.LawfulViews.{IsLawfulView}
 use Rattle.cell_library.specs.Views.{CellView, LibraryView, view_at}
 use Rattle.undo_log.specs.declared.changes.Change.{Change}
 use Rattle.undo_log.specs.declared.changes.Change.TheVariants.{AddLabel, DeleteUse, DropLabel, InsertUse, MoveUse, Repaint, SetGrid, SetLabels}

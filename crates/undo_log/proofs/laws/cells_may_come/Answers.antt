@@ -1,5 +1,4 @@
 use Rattle.undo_log.proofs.CameLaws.{cells_come}
-use Rattle.undo_log.proofs.OtherCommands.{none_keeps}
 use Rattle.undo_log.proofs.laws.cells_may_come.Goals as goal
 
 pub returns : goal.returns
