@@ -38,6 +38,7 @@ pub mod SpotLaws
 pub mod StandingCounts
 pub mod ToldTiles
 pub mod TreeTypes
+pub mod UndoneEdits
 pub mod UseEdits
 pub mod UseLists
 pub mod UseSearches

@@ -1,11 +1,16 @@
 -- What gives a cell back its paint or its labels: it has room for them, and what becomes of the library.
-use Rattle.std.proofs.Common.{◌≡◌, ◌<◌, ◌-◌, ℕ, zero, suc, List, [], ◌∷◌, length, set, Option, refl, sym, ap, subst, ◌∙◌, arith, inl}
-use Rattle.std.specs.Prelude.{All, IsTrue, slice_index_or}
+use Rattle.std.proofs.Common.{◌≡◌, ◌<◌, ◌-◌, ℕ, List, ◌++◌, length, set, Option, refl, sym, ap, subst, ◌∙◌, arith, inl, inr}
+use Rattle.std.specs.Prelude.{All, IsTrue, IfSome, Some, None}
+use Rattle.std.specs.Option.{option_to_list}
+use Rattle.std.proofs.lemmas.Int.{ints}
 use Rattle.std.proofs.lemmas.List.{get_or-set_same, length-set}
 use Rattle.std.proofs.lemmas.List.Elements.{All-take}
+use Rattle.finite_sets.specs.Lists.{In}
+use Rattle.finite_sets.proofs.Members.{In-push_cases}
 use Rattle.finite_sets.proofs.Places.{In-take}
 use Rattle.geo_core.specs.declared.squares.Rect.{Rect}
 use Rattle.geo_core.specs.declared.squares.Piece.{Piece}
+use Rattle.geo_core.specs.Areas.{LiesWithin}
 use Rattle.tech_model.specs.declared.raw.Label.{Label}
 use Rattle.tech_model.specs.declared.raw.RawTech.{RawTech}
 use Rattle.tech_model.specs.declared.raw.TypeRec.{TypeRec}
@@ -38,6 +43,7 @@ use Rattle.cell_library.proofs.FaultLaws.{not_first, not_full}
 use Rattle.cell_library.proofs.LimitLaws.{never_past, states_unique, would_go_past}
 use Rattle.cell_library.proofs.OwnEdits.{labels_here, put_there}
 use Rattle.cell_library.proofs.PaintEdits.{held_lawful, states_after}
+use Rattle.cell_library.proofs.UndoneEdits.{changed_there}
 use Rattle.cell_library.proofs.ViewLaws.{cell_viewed, count_seen, length-changed_at}
 
 -- ---- parts of a library
@@ -76,6 +82,37 @@ box_before_put area pieces old new cell box below put is =
       went = λ label among. inl among;
     })
 
+-- and where the last label went, what differs lies in that label's area
+pub box_before_drop : (gone : Option Label) (old new : List Held) (cell : ℕ) (box : Option Rect) → cell < length old
+    → new ≡ set old cell (with_labels (held_at old cell) (without_last (held_at old cell).labels))
+    → (held_at old cell).labels ≡ without_last (held_at old cell).labels ++ option_to_list gone
+    → OwnBoxIs (layout_of (held_at old cell).paint) (held_at old cell).labels box
+    → IfSome gone (λ label. IsBoxBefore label.area (layout_of (held_at new cell).paint) (held_at new cell).labels box)
+box_before_drop None old new cell box below dropped last is = tt
+box_before_drop (Some gone) old new cell box below dropped last is =
+    let held = held_at old cell in
+    subst (λ (h : Held). IsBoxBefore gone.area (layout_of h.paint) h.labels box)
+    (sym (put_there old new cell (with_labels held (without_last held.labels)) below dropped))
+    (record {
+      layout = layout_of held.paint;
+      labels_before = held.labels;
+      is = is;
+      agrees = λ place outside. refl;
+      came = λ label among. inl (In-take (length held.labels - 1) held.labels label among);
+      went = λ label among. elim (In-push_cases label (without_last held.labels) gone (subst (In label) last among)) [
+        | inl still ↦ inl still
+        | inr same ↦ inr (subst (λ (l : Label). LiesWithin l.area gone.area) same (within_itself gone.area))
+      ];
+    })
+  where
+    within_itself : (area : Rect) → LiesWithin area area
+    within_itself area = record {
+      right_of_xlo = omega (arith, ints);
+      above_ylo = omega (arith, ints);
+      left_of_xhi = omega (arith, ints);
+      below_yhi = omega (arith, ints);
+    }
+
 -- what is left without the last label has its box inside the old one
 pub dropped_inside : (old new : List Held) (cell : ℕ) (box after : Option Rect) → cell < length old
     → new ≡ set old cell (with_labels (held_at old cell) (without_last (held_at old cell).labels))
@@ -103,13 +140,6 @@ dropped_upright old new cell below dropped upright =
 -- an edit without faults of its own is refused after the last edit alone
 pub nothing_refused : (edits : ℕ) (fault : LibFault) → edits < MOST_EDITS → EditIsRefused edits NothingElse fault → ⊥
 nothing_refused edits fault few = not_first (not_full edits few) (λ none. none)
-
--- the cell that was changed is the changed one
-changed_there : {X : Type 0} (xs : List X) (k : ℕ) (change : X → X) (d : X) → k < length xs
-    → slice_index_or (changed_at xs k change) k d ≡ change (slice_index_or xs k d)
-changed_there [] k change d below = absurd (omega arith)
-changed_there (x ∷ xs) zero change d below = refl
-changed_there (x ∷ xs) (suc k) change d below = changed_there xs k change d (omega arith)
 
 module _ (library : LibraryParts) (lawful : IsLawfulLibrary library) (cell : ℕ) (below : cell < length library.contents) where
   -- the paint that is seen is that which is kept

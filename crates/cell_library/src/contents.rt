@@ -1,8 +1,7 @@
 //! What each cell has of its own, under the cells' names.
 ghost use Rattle.std.specs.Str.{bytes_eq};
 ghost use Rattle.std.specs.Prelude.{◌≡◌, not, ◌<◌, ◌-◌, ◌↔◌, ◌++◌, ◌∷◌, [], true, false, None, length, take, slice_set as set, OnOk, OnErr, IsErrOf};
-ghost use Rattle.std.specs.Prelude.{All};
-ghost use Rattle.std.specs.Prelude.{IsOkUnless};
+ghost use Rattle.std.specs.Prelude.{All, IsOkUnless, option_to_list};
 ghost use Rattle.geo_core.specs.Areas.{has_square, IsNear};
 ghost use Rattle.geo_core.specs.Covering.{IsProper};
 ghost use Rattle.cell_paint.specs.Paints.{layout_of, IsSoundPaint};
@@ -216,14 +215,14 @@ impl Contents {
         );
     }
 
-    /// Takes the last label of a cell away, where it has one.
-    pub fn drop_last_label(&mut self, cell: usize)
+    /// Takes the last label of a cell away, where it has one, and hands it out.
+    pub fn pop_label(&mut self, cell: usize) -> Option<Label>
         requires { cell < length self.old }
-        ensures { self.new ≡ set self.old cell (with_labels (held_at self.old cell) (without_last (held_at self.old cell).labels)) }
+        ensures popped { self.new ≡ set self.old cell (with_labels (held_at self.old cell) (without_last (held_at self.old cell).labels)) }
+        ensures last { (held_at self.old cell).labels ≡ without_last (held_at self.old cell).labels ++ option_to_list result }
     {
         let content = &mut self.entries[cell];
-        let count = content.labels.len();
-        content.labels.truncate(count.saturating_sub(1));
+        content.labels.pop()
     }
 
     /// Gives a cell these labels.

@@ -18,7 +18,8 @@
 //! (`MaterialLaws`), so the box is known before paint is tried (`BoxLaws`, `BoxSteps`).
 //!
 //! What gives a cell back its paint or its labels is handed what some lawful library has there, so that the cell has room for it
-//! (`OwnRestorations`).
+//! (`OwnRestorations`). So it undoes the edits of paint and labels (`UndoneEdits`). What changes in an area that touches no side of the
+//! cell's box leaves that box (`InnerAreas`).
 //!
 //! Limits are said of any sizes that are right for the cells (`GoesPast`). Cells have one list of sizes, and an edit changes those of the
 //! cell and of what stands above it alone (`SizeLaws`), so the tree's refusals are the library's (`LimitLaws`). That a lawful library goes

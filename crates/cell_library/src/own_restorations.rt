@@ -1,5 +1,5 @@
 //! What gives a cell back the paint and the labels that it had.
-ghost use Rattle.std.specs.Prelude.{◌≡◌, ◌<◌, length, All, IsTrue, OnOk, OnErr, IfErr};
+ghost use Rattle.std.specs.Prelude.{◌≡◌, ◌<◌, length, All, IsTrue, OnOk, OnErr, IfErr, IfSome};
 ghost use Rattle.geo_core.specs.Areas.{IsNear};
 ghost use Rattle.geo_core.specs.Covering.{IsProper};
 ghost use Rattle.cell_bodies.specs.Numbers.{has_sides};
@@ -50,6 +50,25 @@ fn box_after(contents: &Contents, tree: &CellTree, cell: usize, area: &Rect) -> 
         }
     }
     box_of_own(contents, cell)
+}
+
+// The box of what the cell has of its own after a label went, or none did.
+fn box_without(
+    contents: &Contents,
+    tree: &CellTree,
+    cell: usize,
+    gone: Option<Label>,
+) -> Option<Rect>
+    requires cell { cell < length contents.now }
+    requires so_many { length tree.now.cells ≡ length contents.now }
+    requires before { IfSome gone (λ label.
+        IsBoxBefore label.area (layout_of (held_at contents.now cell).paint) (held_at contents.now cell).labels (cell_at tree.now.cells cell).own) }
+    ensures { OwnBoxIs (layout_of (held_at contents.now cell).paint) (held_at contents.now cell).labels result }
+{
+    match gone {
+        Some(label) => box_after(contents, tree, cell, &label.area),
+        None => box_of_own(contents, cell),
+    }
 }
 
 // Gives the cell a box for which it has room.
@@ -112,8 +131,8 @@ pub fn drop_last_label_of(
 {
     check_edits(tree)?;
     tree.lawful();
-    contents.drop_last_label(cell);
-    let own = box_of_own(contents, cell);
+    let gone = contents.pop_label(cell);
+    let own = box_without(contents, tree, cell, gone);
     tree.shrink_box(cell, own);
     Ok(())
 }

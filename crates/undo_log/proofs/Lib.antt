@@ -1,0 +1,12 @@
+pub mod BodyLaws
+pub mod CameLaws
+pub mod CellLaws
+pub mod ChangeLaws
+pub mod DesignerLaws
+pub mod EditLaws
+pub mod LawfulLaws
+pub mod LeadLaws
+pub mod MakeLaws
+pub mod MoreCells
+pub mod OtherCommands
+pub mod UseMoves

@@ -1,0 +1,4 @@
+pub mod Inverses
+pub mod Laws
+pub mod Makings
+pub mod Versions
