@@ -22,7 +22,7 @@ use Rattle.line_answers.proofs.AnswerLaws.{answers_refusal}
 use Rattle.line_answers.specs.Refusals.{refusal_line}
 use Rattle.library_answers.specs.Refusals.{generate_refusal}
 use Rattle.network_runs.specs.declared.network_runs.NetworkRun.TheVariants.{Stack}
-use Rattle.undo_log.specs.Inverses.{Inverses, versions_kept}
+use Rattle.undo_log.specs.Inverses.{Inverses, kept_versions}
 use Rattle.workspace.proofs.WorkspaceLaws.{workspace_of}
 use Rattle.workspace.specs.States.{State, Workspace}
 use Rattle.extract_commands.specs.CellRuns.{RunsExtracted}
@@ -39,7 +39,7 @@ rows_between (negsuc n) is = absurd (let no : ⊥ = cc in no)
 module _ (old new : LibraryParts) (records : Records) (n : ℕ) (lawful : IsLawfulLibrary old) (agrees : Agrees old records)
     (generated : IsGenerated (seen old) n (seen new)) (came : CameAtOnce old new) where
   -- the stack came
-  pub stack_came : (current : Option CellKey) (log : Inverses) (key : CellKey) → versions_kept (seen new) log ≡ versions_kept (seen old) log
+  pub stack_came : (current : Option CellKey) (log : Inverses) (key : CellKey) → kept_versions (seen new) log ≡ kept_versions (seen old) log
       → key.0 ≡ length old.contents + 2 → generate_fault (seen old) (edits_of old) ≡ None
       → StackCame n (workspace_of old current records log) (workspace_of new (Some key) records log) key.0
   stack_came current log key kept key_is accepted =

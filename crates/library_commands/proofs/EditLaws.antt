@@ -11,7 +11,7 @@ use Rattle.edit_script.specs.Editing.{editing_of}
 use Rattle.edit_script.specs.Edits.{applied}
 use Rattle.edit_script.specs.Refusals.{ApplyIsRefused}
 use Rattle.edit_script.specs.Stamps.{IsStamped}
-use Rattle.undo_log.specs.Inverses.{Inverses, versions_kept}
+use Rattle.undo_log.specs.Inverses.{Inverses, kept_versions}
 use Rattle.undo_log.specs.Versions.{versions_after}
 use Rattle.workspace.specs.Caches.{Agrees, Records, is_dirty}
 use Rattle.library_answers.specs.Refusals.{edit_refusal}
@@ -25,7 +25,7 @@ use Rattle.library_commands.proofs.MarkLaws.{marks_applied}
 
 -- the command was applied
 pub edit_done : (number : ℕ) (old new : LibraryParts) (before now : Option CellKey) (records : Records) (log later : Inverses) (command : Command)
-    (answer : Answer) → versions_kept (seen new) later ≡ versions_after (editing_of old before) command (versions_kept (seen old) log)
+    (answer : Answer) → kept_versions (seen new) later ≡ versions_after (editing_of old before) command (kept_versions (seen old) log)
     → IsLawfulLibrary old → IsStamped old new before command → editing_of new now ≡ applied (editing_of old before) command → Agrees old records
     → ((fault : EditFault) → ApplyIsRefused (editing_of old before) command fault → ⊥)
     → answer.lines.items ≡ reply (codes "ok") ∷ [] → answer.stores.items ≡ []

@@ -8,7 +8,7 @@ use Rattle.cell_library.specs.Libraries.{LibraryParts, IsSame, seen, edits_of}
 use Rattle.cell_loading.specs.declared.faults.LoadFault.{LoadFault}
 use Rattle.cell_loading.specs.Loads.{IsLoaded, LoadIsRefused}
 use Rattle.cell_library.proofs.ViewLaws.{count_seen}
-use Rattle.undo_log.specs.Inverses.{Inverses, no_inverses, versions_kept}
+use Rattle.undo_log.specs.Inverses.{Inverses, no_inverses, kept_versions}
 use Rattle.workspace.specs.Caches.{Records, is_dirty}
 use Rattle.library_answers.specs.Refusals.{load_refusal}
 use Rattle.library_answers.specs.Replies.{loaded_text}
@@ -49,7 +49,7 @@ load_done number old new current records log later first files cell count fetche
     let is : now ≡ with_loaded work (seen new) = λ i. record {
       editing = record { library = seen new; edits = next i; current = Some (place i) };
       dirty = λ key. dirty key i;
-      versions = versions_kept (seen new) (forgotten i);
+      versions = kept_versions (seen new) (forgotten i);
     } in
     let here = subst (λ (w : Workspace). LoadMeans number (Some work) files cell (effect w)) (sym is) means in
     answers_with (LoadMeans number (Some work) files cell) (Some now) answer (reply (loaded_text cell count) ∷ []) [] fetched lines stores here

@@ -8,14 +8,14 @@ use Rattle.edit_script.specs.Editing.{IsCurrent, editing_of}
 use Rattle.cell_library.proofs.ViewLaws.{count_seen}
 use Rattle.ext_cache.specs.Caches.{Records, is_dirty}
 use Rattle.ext_cache.proofs.RecordLaws.{dirty_same}
-use Rattle.undo_log.specs.Inverses.{Inverses, Keeps, no_inverses, versions_kept}
-use Rattle.undo_log.specs.Versions.{Versions, no_versions}
+use Rattle.undo_log.specs.Inverses.{Inverses, Keeps, kept_versions}
+use Rattle.undo_log.specs.Versions.{Versions}
 use Rattle.workspace.specs.States.{Workspace}
 
 -- what is edited and what is dirty, where the program keeps this
 abbrev pub workspace_of : LibraryParts → Option CellKey → Records → Inverses → Workspace
 workspace_of library current records log =
-    record { editing = editing_of library current; dirty = is_dirty library records; versions = versions_kept (seen library) log }
+    record { editing = editing_of library current; dirty = is_dirty library records; versions = kept_versions (seen library) log }
 
 -- where nothing changed, the same is edited
 pub same_editing : (old new : LibraryParts) (current : Option CellKey) → IsSame old new → editing_of new current ≡ editing_of old current
@@ -28,18 +28,13 @@ pub same_workspace : (old new : LibraryParts) (current : Option CellKey) (record
 same_workspace old new current records log same = λ i. record {
   editing = same_editing old new current same i;
   dirty = λ cell. dirty_same old new records cell same i;
-  versions = versions_kept (same.seen i) log;
+  versions = kept_versions (same.seen i) log;
 }
 
 -- a log keeps versions where nothing changed
 pub same_log : (old new : LibraryParts) (log : Inverses) → IsSame old new → (versions : Versions) × Keeps (seen old) log versions
     → (versions : Versions) × Keeps (seen new) log versions
 same_log old new log same (versions, keeps) = (versions, subst (λ (view : LibraryView). Keeps view log versions) (sym same.seen) keeps)
-
--- a log without edits keeps none
-pub nothing_kept : (view : LibraryView) (log : Inverses) → log ≡ no_inverses → (versions : Versions) × Keeps view log versions
-nothing_kept view log none =
-    (no_versions, subst (λ (l : Inverses). Keeps view l no_versions) (sym none) (record { done = tt; undone = tt }))
 
 -- the current cell stays one of the library's where nothing changed
 pub same_current : (old new : LibraryParts) (current : Option CellKey) → IsSame old new → IsCurrent old current → IsCurrent new current

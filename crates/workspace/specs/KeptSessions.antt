@@ -5,7 +5,7 @@ use Rattle.cell_library.specs.LawfulViews.{IsSoundView}
 use Rattle.cell_library.specs.Libraries.{seen}
 use Rattle.edit_script.specs.Editing.{IsCurrent, editing_of}
 use Rattle.ext_cache.specs.Caches.{Agrees, is_dirty}
-use Rattle.undo_log.specs.Inverses.{Keeps, versions_kept}
+use Rattle.undo_log.specs.Inverses.{Keeps, kept_versions}
 use Rattle.undo_log.specs.Versions.{Versions}
 use Rattle.workspace.specs.declared.cells.Edited.{Edited}
 use Rattle.workspace.specs.declared.cells.LayoutSession.{LayoutSession}
@@ -16,7 +16,7 @@ abbrev pub edited_state : Edited → Workspace
 edited_state edited = record {
   editing = editing_of edited.library edited.current;
   dirty = is_dirty edited.library edited.cache;
-  versions = versions_kept (seen edited.library) edited.log;
+  versions = kept_versions (seen edited.library) edited.log;
 }
 
 abbrev pub state_of : LayoutSession → State
