@@ -1,6 +1,6 @@
 -- What `generate` does in each case.
 use Rattle.std.proofs.Common.{◌≡◌, ◌<◌, ◌+◌, ◌∙◌, ℕ, [], ◌∷◌, length, map, Option, Some, None, inl, inr, refl, sym, ap, subst, arith, length-append}
-use Rattle.std.specs.Prelude.{ℤ, pos, negsuc, ◌≤◌, Bool, true, false, if◌then◌else◌, option_map, IsTrue}
+use Rattle.std.specs.Prelude.{ℤ, pos, negsuc, ◌≤◌, IsTrue}
 use Rattle.std.specs.Int.RustNames.{unsigned_abs}
 use Rattle.std.proofs.lemmas.Bool.Decides.{nat_tests}
 use Rattle.std.proofs.lemmas.List.{length-map}
@@ -26,7 +26,7 @@ use Rattle.undo_log.specs.Inverses.{Inverses, kept_versions}
 use Rattle.workspace.proofs.WorkspaceLaws.{workspace_of}
 use Rattle.workspace.specs.States.{State, Workspace}
 use Rattle.extract_commands.specs.CellRuns.{RunsExtracted}
-use Rattle.extract_commands.specs.CommandGenerate.{GeneratesStack, is_refused, stack_cell, without_versions}
+use Rattle.extract_commands.specs.CommandGenerate.{GeneratesStack, stack_cell, unless_refused}
 use Rattle.extract_commands.specs.MadeStacks.{StackCame}
 
 -- the number of rows is one of those that there may be
@@ -72,13 +72,13 @@ module _ (old new : LibraryParts) (records : Records) (n : ℕ) (lawful : IsLawf
 -- ---- the answers
 
 -- the stack was made, and this is done with it
-pub stack_made : (budget number n : ℕ) (work now : Workspace) (cell : ℕ) (ran after : State) (answer : Answer) → StackCame n work now cell
+pub stack_made : (budget number n : ℕ) (work now : Workspace) (cell : ℕ) (ran after : Workspace) (answer : Answer) → StackCame n work now cell
     → RunsExtracted (Stack n) budget number [] now cell
-    (record { state = ran; lines = answer.lines.items; stores = answer.stores.items; fetched = [] })
-    → after ≡ (if is_refused answer.lines.items then ran else option_map without_versions ran)
-    → AnswersAlone (GeneratesStack budget number n work) after answer
+    (record { state = Some ran; lines = answer.lines.items; stores = answer.stores.items; fetched = [] })
+    → after ≡ unless_refused answer.lines.items ran
+    → AnswersAlone (GeneratesStack budget number n work) (Some after) answer
 stack_made budget number n work now cell ran after answer came runs is =
-    let effect_at : State → Effect State = λ s. record { state = s; lines = answer.lines.items; stores = answer.stores.items; fetched = [] } in
+    let effect_at : Workspace → Effect State = λ w. record { state = Some w; lines = answer.lines.items; stores = answer.stores.items; fetched = [] } in
     let here = subst (λ (c : ℕ). RunsExtracted (Stack n) budget number [] now c (effect_at ran)) came.place runs in
     inl (record {
       accepted = came.accepted;
@@ -86,17 +86,8 @@ stack_made budget number n work now cell ran after answer came runs is =
       generated = came.generated;
       ran = effect_at ran;
       extracts = subst (λ (w : Workspace). RunsExtracted (Stack n) budget number [] w (stack_cell work) (effect_at ran)) came.is here;
-      is = ap effect_at is ∙ forgotten (is_refused answer.lines.items) ran answer;
+      is = ap effect_at is;
     })
-  where
-    forgotten : (refused : Bool) (ran : State) (answer : Answer)
-        → ◌≡◌ {A = Effect State}
-        (record { state = if refused then ran else option_map without_versions ran; lines = answer.lines.items; stores = answer.stores.items; fetched = [] })
-        (if refused
-        then record { state = ran; lines = answer.lines.items; stores = answer.stores.items; fetched = [] }
-        else record { state = option_map without_versions ran; lines = answer.lines.items; stores = answer.stores.items; fetched = [] })
-    forgotten true ran answer = refl
-    forgotten false ran answer = refl
 
 -- it is refused
 pub stack_refused : (budget number n : ℕ) (work now : Workspace) (fault : GenerateFault) (answer : Answer)

@@ -11,3 +11,4 @@ pub mod OnCells
 pub mod CircuitEffects
 pub mod RunEffects
 pub mod StackEffects
+pub mod StackVersions

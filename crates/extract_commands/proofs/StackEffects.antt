@@ -1,7 +1,8 @@
 -- `generate` has one effect: the cells that it makes are those that the technology says, and the stack is one of them.
-use Rattle.std.proofs.Common.{◌≡◌, ◌<◌, ◌∙◌, ℕ, List, [], ◌∷◌, length, Some, None, inl, inr, refl, sym, ap, subst, arith, length-append}
+use Rattle.std.proofs.Common.{◌≡◌, ◌<◌, ◌∙◌, ℕ, List, [], ◌∷◌, length, Some, None, inl, inr, sym, ap, subst, arith, length-append}
 use Rattle.std.specs.Prelude.{◌+◌, Bool, true, false, if◌then◌else◌, option_map, codes}
 use Rattle.std.specs.Int.RustNames.{unsigned_abs}
+use Rattle.session_model.specs.declared.report.ReportLine.{ReportLine}
 use Rattle.session_model.specs.Effects.{Effect}
 use Rattle.cell_library.specs.Views.{CellView, LibraryView}
 use Rattle.layout_gen.specs.Generated.{IsGenerated, array_cell, row_grid, row_name, stack_grid, stack_name, tile_cell, with_generated}
@@ -9,7 +10,8 @@ use Rattle.network_runs.specs.declared.network_runs.NetworkRun.TheVariants.{Stac
 use Rattle.simulation_uniqueness.specs.Simulations.{CircuitAnswersAreUnique}
 use Rattle.workspace.specs.States.{State, Workspace}
 use Rattle.extract_commands.specs.CellRuns.{RunsExtracted}
-use Rattle.extract_commands.specs.CommandGenerate.{GeneratesStack, MakesStack, forgets_edits, is_refused, stack_cell, with_stack, without_versions}
+use Rattle.extract_commands.specs.CommandGenerate.{GeneratesStack, MakesStack, forgets_edits, is_refused, stack_cell, unless_refused, with_stack}
+use Rattle.extract_commands.specs.CommandGenerate.{without_versions}
 use Rattle.extract_commands.specs.OneCircuits.{CellCircuitsAreUnique, CellCircuitsPassNoLimit, CellLimitsAreUnique}
 use Rattle.extract_commands.specs.OneExtractions.{ExtractedCellsAreNotRefused, ExtractionsAreUnique, UncleanRefusalsAreUnique}
 use Rattle.extract_commands.specs.OneEffects.{GenerateMeansOneEffect}
@@ -42,20 +44,14 @@ library_after budget number n work cell effect (inl runs) sees = subst SeesSound
 library_after budget number n work cell effect (inr refuses) sees = subst SeesSoundLibrary (ap (λ (e : Effect State). e.state) refuses.is) sees
 
 -- what is forgotten are edits alone
-seen_before_forgetting : (refused : Bool) (state : State) → SeesSoundLibrary (if refused then state else option_map without_versions state)
-    → SeesSoundLibrary state
-seen_before_forgetting true state sees = sees
-seen_before_forgetting false None sees = sees
-seen_before_forgetting false (Some work) sees = sees
+sound_before : (refused : Bool) (work : Workspace) → IsSoundView (if refused then work else without_versions work).editing.library
+    → IsSoundView work.editing.library
+sound_before true work sound = sound
+sound_before false work sound = sound
 
-seen_before : (effect : Effect State) → SeesSoundLibrary (forgets_edits effect).state → SeesSoundLibrary effect.state
-seen_before effect sees = seen_before_forgetting (is_refused effect.lines) effect.state (subst SeesSoundLibrary (state_after (is_refused effect.lines)) sees)
-  where
-    state_after : (refused : Bool)
-        → (if refused then effect else record effect { state = option_map without_versions effect.state }).state
-        ≡ (if refused then effect.state else option_map without_versions effect.state)
-    state_after true = refl
-    state_after false = refl
+seen_before : (lines : List ReportLine) (state : State) → SeesSoundLibrary (option_map (unless_refused lines) state) → SeesSoundLibrary state
+seen_before lines None sees = sees
+seen_before lines (Some work) sees = sound_before (is_refused lines) work sees
 
 module _ (one_circuit : CellCircuitsAreUnique) (one_limit : CellLimitsAreUnique) (either : CellCircuitsPassNoLimit)
     (one_answer : CircuitAnswersAreUnique) (one_extraction : ExtractionsAreUnique) (one_refusal : UncleanRefusalsAreUnique)
@@ -68,7 +64,7 @@ module _ (one_circuit : CellCircuitsAreUnique) (one_limit : CellLimitsAreUnique)
       let now = with_stack work p.after in
       let extracts = subst (λ (view : LibraryView). RunsExtracted (Stack n) budget number [] (with_stack work view) (stack_cell work) q.ran) (sym after)
       q.extracts in
-      let ran = seen_before p.ran (subst (λ (e : Effect State). SeesSoundLibrary e.state) p.is sees) in
+      let ran = seen_before p.ran.lines p.ran.state (subst (λ (e : Effect State). SeesSoundLibrary e.state) p.is sees) in
       let sound = library_after budget number n now (stack_cell work) p.ran p.extracts ran in
       p.is
       ∙ ap forgets_edits

@@ -43,10 +43,13 @@ is_refused lines = list_any (λ line. is_refusal line.kind) lines
 abbrev pub without_versions : Workspace → Workspace
 without_versions work = record work { versions = no_versions }
 
+-- the same, unless these lines refuse the command
+abbrev pub unless_refused : List ReportLine → Workspace → Workspace
+unless_refused lines work = if is_refused lines then work else without_versions work
+
 -- Where the command is accepted, the edits before it can't be undone any more.
 abbrev pub forgets_edits : Effect State → Effect State
-forgets_edits effect =
-    if is_refused effect.lines then effect else record effect { state = option_map without_versions effect.state }
+forgets_edits effect = record effect { state = option_map (unless_refused effect.lines) effect.state }
 
 -- The cells are made, the stack is extracted, and its vectors are run. The cells stay, also where the command is refused then, and with them
 -- the edits that can be undone.

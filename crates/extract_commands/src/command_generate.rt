@@ -5,7 +5,7 @@ ghost use Rattle.script_lines.specs.Arguments.{is_between};
 ghost use Rattle.session_model.specs.Effects.{AnswersAlone};
 ghost use Rattle.line_answers.specs.LineEffects.{IsOfInside};
 ghost use Rattle.workspace.specs.KeptSessions.{IsEdited, IsSession, edited_state, state_of};
-ghost use Rattle.extract_commands.specs.CommandGenerate.{GenerateMeans, GeneratesStack, is_refused};
+ghost use Rattle.extract_commands.specs.CommandGenerate.{GenerateMeans, GeneratesStack, is_refused, unless_refused};
 ghost use Rattle.extract_commands.specs.MadeStacks.{IsCellOf, IsStackMade};
 
 use crate::cell_runs::run_extracted;
@@ -77,9 +77,7 @@ fn generate_into(
         MadeStack::Made(cell) => {
             let run = NetworkRun::Stack(n);
             let answer = run_extracted(alloc, edited, number, budget, &run, cell)?;
-            if !is_refused(answer.lines.as_slice()) {
-                edited.log.forget();
-            }
+            forget_unless_refused(edited, answer.lines.as_slice());
             Ok(answer)
         }
         MadeStack::Refused(fault) => refuse_generate(alloc, number, &fault),
@@ -95,6 +93,17 @@ fn is_refused(lines: &[ReportLine]) -> bool
         .any(|line| matches!(line.kind, LineKind::Refusal(_)))
 }
 
+// Forgets the edits that can be undone, unless these lines refuse the command.
+fn forget_unless_refused(edited: &mut Edited, lines: &[ReportLine])
+    requires { IsEdited edited.old }
+    ensures state { edited_state edited.new ≡ unless_refused lines.now (edited_state edited.old) }
+    ensures kept { IsEdited edited.new }
+{
+    if !is_refused(lines) {
+        edited.log.forget();
+    }
+}
+
 // Makes a stack of n rows in the library that is edited, where it becomes the current cell.
 fn make_stack(alloc: Global, edited: &mut Edited, n: u32) -> Result<MadeStack, Halt>
     requires edited { IsEdited edited.old }
@@ -108,6 +117,7 @@ fn make_stack(alloc: Global, edited: &mut Edited, n: u32) -> Result<MadeStack, H
     edited.library.lawful();
     match make_cells(alloc, &mut edited.library, n) {
         Ok(cell) => {
+            edited.library.sound_view();
             edited.current = Some(cell);
             Ok(MadeStack::Made(cell))
         }

@@ -21,7 +21,7 @@ use Rattle.library_commands.specs.declared.command_returns.Way.TheVariants.{Redo
 use Rattle.library_commands.specs.CommandEdits.{MarksAbove}
 use Rattle.library_commands.specs.CommandReturns.{IsBrought, ReturnIsRefused, nothing_left, return_by, versions_by}
 use Rattle.library_commands.proofs.MarkLaws.{current_edited}
-use Rattle.library_commands.proofs.VersionLaws.{KeepsSome}
+use Rattle.workspace.proofs.VersionLaws.{KeepsSome}
 
 -- ---- an edit that is left
 

@@ -10,5 +10,6 @@ pub mod ExtractionLaws
 pub mod KeptLaws
 pub mod SessionLaws
 pub mod StandingLaws
+pub mod VersionLaws
 pub mod WorkspaceLaws
 pub mod ReadableRecords

@@ -8,8 +8,7 @@ use Rattle.edit_script.specs.Editing.{IsCurrent, editing_of}
 use Rattle.cell_library.proofs.ViewLaws.{count_seen}
 use Rattle.ext_cache.specs.Caches.{Records, is_dirty}
 use Rattle.ext_cache.proofs.RecordLaws.{dirty_same}
-use Rattle.undo_log.specs.Inverses.{Inverses, Keeps, kept_versions}
-use Rattle.undo_log.specs.Versions.{Versions}
+use Rattle.undo_log.specs.Inverses.{Inverses, kept_versions}
 use Rattle.workspace.specs.States.{Workspace}
 
 -- what is edited and what is dirty, where the program keeps this
@@ -30,11 +29,6 @@ same_workspace old new current records log same = λ i. record {
   dirty = λ cell. dirty_same old new records cell same i;
   versions = kept_versions (same.seen i) log;
 }
-
--- a log keeps versions where nothing changed
-pub same_log : (old new : LibraryParts) (log : Inverses) → IsSame old new → (versions : Versions) × Keeps (seen old) log versions
-    → (versions : Versions) × Keeps (seen new) log versions
-same_log old new log same (versions, keeps) = (versions, subst (λ (view : LibraryView). Keeps view log versions) (sym same.seen) keeps)
 
 -- the current cell stays one of the library's where nothing changed
 pub same_current : (old new : LibraryParts) (current : Option CellKey) → IsSame old new → IsCurrent old current → IsCurrent new current

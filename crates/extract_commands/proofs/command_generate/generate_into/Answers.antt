@@ -1,13 +1,12 @@
-use Rattle.std.proofs.Common.{◌∙◌, ℕ, [], Some, ap, length, subst}
+use Rattle.std.proofs.Common.{◌≡◌, ◌∙◌, ℕ, List, Some, ap, length, subst}
 use Rattle.std.proofs.lemmas.Int.{to_z-of_z}
 use Rattle.std.specs.Int.RustNames.{unsigned_abs}
-use Rattle.std.proofs.lemmas.Result.{IfOk-weaker}
 use Rattle.session_model.specs.Effects.{AnswersAlone}
 use Rattle.extract_commands.specs.declared.command_generate.MadeStack.{MadeStack}
 use Rattle.workspace.specs.KeptSessions.{edited_state}
-use Rattle.extract_commands.specs.CommandGenerate.{GeneratesStack}
+use Rattle.session_model.specs.declared.report.ReportLine.{ReportLine}
+use Rattle.extract_commands.specs.CommandGenerate.{GeneratesStack, unless_refused}
 use Rattle.extract_commands.specs.MadeStacks.{IsCellOf, IsStackMade}
-use Rattle.workspace.specs.States.{State}
 use Rattle.line_answers.proofs.AnswerLaws.{both_ok}
 use Rattle.extract_commands.proofs.GenerateLaws.{stack_made, stack_refused}
 use Rattle.extract_commands.proofs.command_generate.generate_into.Goals as goal
@@ -16,18 +15,20 @@ pub run_extracted-requires-clause-cell : goal.run_extracted-requires-clause-cell
 run_extracted-requires-clause-cell c =
     subst (λ (made : MadeStack). IsCellOf (length c.make_stack.new.edited.library.contents) made) c.in-Made.is c.in_ok-cell.ensures.cell
 
-pub returns-in-Made-clause-effect : goal.returns-in-Made-clause-effect
-returns-in-Made-clause-effect c =
+pub returns-in_ok-answer-in-Made-clause-effect : goal.returns-in_ok-answer-in-Made-clause-effect
+returns-in_ok-answer-in-Made-clause-effect c =
     let work = edited_state c.args.edited.now in
     let now = edited_state c.make_stack.new.edited in
     let n = c.rows_of-n.result in
     let rows_are = c.rows_of-n.ensures.rows ∙ ap unsigned_abs (to_z-of_z _ _ c.ranges.count) in
-    let after : State = Some (edited_state c.run_extracted.new.edited) in
+    let ran = edited_state c.run_extracted.new.edited in
+    let after = edited_state c.forget_unless_refused.new.edited in
+    let answer = c.in_ok-answer-in-Made.answer in
     let came = subst (λ (made : MadeStack). IsStackMade n work now made) c.in-Made.is c.in_ok-cell.ensures.made in
-    IfOk-weaker c.run_extracted.result _ _
-    (λ answer runs. subst (λ (rows : ℕ). AnswersAlone (GeneratesStack c.args.budget c.args.number rows work) after answer) rows_are
-    (stack_made c.args.budget c.args.number n work now c.in-Made.cell.0 after answer came runs))
-    (c.run_extracted.ensures.effect [])
+    let is : after ≡ unless_refused answer.lines.items ran =
+    subst (λ (lines : List ReportLine). after ≡ unless_refused lines ran) c.as_slice.ensures.value c.forget_unless_refused.ensures.state in
+    subst (λ (rows : ℕ). AnswersAlone (GeneratesStack c.args.budget c.args.number rows work) (Some after) answer) rows_are
+    (stack_made c.args.budget c.args.number n work now c.in-Made.cell.0 ran after answer came c.in_ok-answer-in-Made.ensures.effect is)
 
 pub returns-in-Refused-clause-effect : goal.returns-in-Refused-clause-effect
 returns-in-Refused-clause-effect c =

@@ -10,7 +10,8 @@ use Rattle.line_answers.specs.LineEffects.{reply}
 use Rattle.workspace.specs.States.{State}
 use Rattle.line_answers.proofs.AnswerLaws.{both_ok}
 use Rattle.library_commands.proofs.EditLaws.{edit_done, edit_refused}
-use Rattle.library_commands.proofs.VersionLaws.{log_applied, log_same, versions_applied}
+use Rattle.library_commands.proofs.VersionLaws.{log_applied, versions_applied}
+use Rattle.workspace.proofs.VersionLaws.{log_same}
 use Rattle.workspace.proofs.WorkspaceLaws.{workspace_of}
 use Rattle.library_commands.proofs.MarkLaws.{marks_applied}
 use Rattle.library_commands.proofs.command_edits.edit.Goals as goal

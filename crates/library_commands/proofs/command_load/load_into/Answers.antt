@@ -12,7 +12,7 @@ use Rattle.line_answers.specs.LineEffects.{reply}
 use Rattle.line_answers.proofs.AnswerLaws.{both_ok}
 use Rattle.workspace.proofs.WorkspaceLaws.{same_current}
 use Rattle.library_commands.proofs.LoadLaws.{load_done, load_refused}
-use Rattle.library_commands.proofs.VersionLaws.{log_forgotten, log_same}
+use Rattle.workspace.proofs.VersionLaws.{log_forgotten, log_same}
 use Rattle.library_commands.proofs.command_load.load_into.Goals as goal
 
 pub returns-in_err-count-clause-kept : goal.returns-in_err-count-clause-kept

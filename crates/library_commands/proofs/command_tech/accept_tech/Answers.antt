@@ -8,7 +8,7 @@ use Rattle.line_answers.specs.LineEffects.{reply}
 use Rattle.line_answers.proofs.AnswerLaws.{both_ok}
 use Rattle.workspace.specs.KeptSessions.{state_of}
 use Rattle.library_commands.proofs.TechLaws.{tech_accepted, tech_text_refused}
-use Rattle.library_commands.proofs.VersionLaws.{log_forgotten}
+use Rattle.workspace.proofs.VersionLaws.{log_forgotten}
 use Rattle.library_commands.proofs.command_tech.accept_tech.Goals as goal
 
 pub returns-in-Ok-clause-effect : goal.returns-in-Ok-clause-effect
