@@ -1,6 +1,6 @@
 -- What `generate` does in each case.
 use Rattle.std.proofs.Common.{◌≡◌, ◌<◌, ◌+◌, ◌∙◌, ℕ, [], ◌∷◌, length, map, Option, Some, None, inl, inr, refl, sym, ap, subst, arith, length-append}
-use Rattle.std.specs.Prelude.{ℤ, pos, negsuc, ◌≤◌, IsTrue}
+use Rattle.std.specs.Prelude.{ℤ, pos, negsuc, ◌≤◌, Bool, true, false, if◌then◌else◌, option_map, IsTrue}
 use Rattle.std.specs.Int.RustNames.{unsigned_abs}
 use Rattle.std.proofs.lemmas.Bool.Decides.{nat_tests}
 use Rattle.std.proofs.lemmas.List.{length-map}
@@ -22,10 +22,11 @@ use Rattle.line_answers.proofs.AnswerLaws.{answers_refusal}
 use Rattle.line_answers.specs.Refusals.{refusal_line}
 use Rattle.library_answers.specs.Refusals.{generate_refusal}
 use Rattle.network_runs.specs.declared.network_runs.NetworkRun.TheVariants.{Stack}
+use Rattle.undo_log.specs.Inverses.{Inverses, kept_versions}
 use Rattle.workspace.proofs.WorkspaceLaws.{workspace_of}
 use Rattle.workspace.specs.States.{State, Workspace}
 use Rattle.extract_commands.specs.CellRuns.{RunsExtracted}
-use Rattle.extract_commands.specs.CommandGenerate.{GeneratesStack, stack_cell}
+use Rattle.extract_commands.specs.CommandGenerate.{GeneratesStack, is_refused, stack_cell, without_versions}
 use Rattle.extract_commands.specs.MadeStacks.{StackCame}
 
 -- the number of rows is one of those that there may be
@@ -38,9 +39,10 @@ rows_between (negsuc n) is = absurd (let no : ⊥ = cc in no)
 module _ (old new : LibraryParts) (records : Records) (n : ℕ) (lawful : IsLawfulLibrary old) (agrees : Agrees old records)
     (generated : IsGenerated (seen old) n (seen new)) (came : CameAtOnce old new) where
   -- the stack came
-  pub stack_came : (current : Option CellKey) (key : CellKey) → key.0 ≡ length old.contents + 2 → generate_fault (seen old) (edits_of old) ≡ None
-      → StackCame n (workspace_of old current records) (workspace_of new (Some key) records) key.0
-  stack_came current key key_is accepted =
+  pub stack_came : (current : Option CellKey) (log : Inverses) (key : CellKey) → kept_versions (seen new) log ≡ kept_versions (seen old) log
+      → key.0 ≡ length old.contents + 2 → generate_fault (seen old) (edits_of old) ≡ None
+      → StackCame n (workspace_of old current records log) (workspace_of new (Some key) records log) key.0
+  stack_came current log key kept key_is accepted =
       let place : key.0 ≡ length (seen old).cells + 2 = key_is ∙ ap (λ (count : ℕ). count + 2) (sym (count_seen old)) in
       let dirty = dirty_cells old new records came.cells lawful came.next agrees in
       record {
@@ -50,6 +52,7 @@ module _ (old new : LibraryParts) (records : Records) (n : ℕ) (lawful : IsLawf
         is = λ i. record {
           editing = record { library = seen new; edits = came.next.edits i; current = Some (place i) };
           dirty = λ cell. dirty cell i;
+          versions = kept i;
         };
         place = place;
       }
@@ -69,19 +72,31 @@ module _ (old new : LibraryParts) (records : Records) (n : ℕ) (lawful : IsLawf
 -- ---- the answers
 
 -- the stack was made, and this is done with it
-pub stack_made : (budget number n : ℕ) (work now : Workspace) (cell : ℕ) (after : State) (answer : Answer) → StackCame n work now cell
+pub stack_made : (budget number n : ℕ) (work now : Workspace) (cell : ℕ) (ran after : State) (answer : Answer) → StackCame n work now cell
     → RunsExtracted (Stack n) budget number [] now cell
-    (record { state = after; lines = answer.lines.items; stores = answer.stores.items; fetched = [] })
+    (record { state = ran; lines = answer.lines.items; stores = answer.stores.items; fetched = [] })
+    → after ≡ (if is_refused answer.lines.items then ran else option_map without_versions ran)
     → AnswersAlone (GeneratesStack budget number n work) after answer
-stack_made budget number n work now cell after answer came runs =
-    let effect : Effect State = record { state = after; lines = answer.lines.items; stores = answer.stores.items; fetched = [] } in
-    let here = subst (λ (c : ℕ). RunsExtracted (Stack n) budget number [] now c effect) came.place runs in
+stack_made budget number n work now cell ran after answer came runs is =
+    let effect_at : State → Effect State = λ s. record { state = s; lines = answer.lines.items; stores = answer.stores.items; fetched = [] } in
+    let here = subst (λ (c : ℕ). RunsExtracted (Stack n) budget number [] now c (effect_at ran)) came.place runs in
     inl (record {
       accepted = came.accepted;
       after = came.after;
       generated = came.generated;
-      extracts = subst (λ (w : Workspace). RunsExtracted (Stack n) budget number [] w (stack_cell work) effect) came.is here;
+      ran = effect_at ran;
+      extracts = subst (λ (w : Workspace). RunsExtracted (Stack n) budget number [] w (stack_cell work) (effect_at ran)) came.is here;
+      is = ap effect_at is ∙ forgotten (is_refused answer.lines.items) ran answer;
     })
+  where
+    forgotten : (refused : Bool) (ran : State) (answer : Answer)
+        → ◌≡◌ {A = Effect State}
+        (record { state = if refused then ran else option_map without_versions ran; lines = answer.lines.items; stores = answer.stores.items; fetched = [] })
+        (if refused
+        then record { state = ran; lines = answer.lines.items; stores = answer.stores.items; fetched = [] }
+        else record { state = option_map without_versions ran; lines = answer.lines.items; stores = answer.stores.items; fetched = [] })
+    forgotten true ran answer = refl
+    forgotten false ran answer = refl
 
 -- it is refused
 pub stack_refused : (budget number n : ℕ) (work now : Workspace) (fault : GenerateFault) (answer : Answer)

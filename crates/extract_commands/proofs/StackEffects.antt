@@ -1,6 +1,6 @@
 -- `generate` has one effect: the cells that it makes are those that the technology says, and the stack is one of them.
-use Rattle.std.proofs.Common.{◌≡◌, ◌<◌, ◌∙◌, ℕ, List, [], ◌∷◌, length, Some, None, inl, inr, sym, ap, subst, arith, length-append}
-use Rattle.std.specs.Prelude.{◌+◌, codes}
+use Rattle.std.proofs.Common.{◌≡◌, ◌<◌, ◌∙◌, ℕ, List, [], ◌∷◌, length, Some, None, inl, inr, refl, sym, ap, subst, arith, length-append}
+use Rattle.std.specs.Prelude.{◌+◌, Bool, true, false, if◌then◌else◌, option_map, codes}
 use Rattle.std.specs.Int.RustNames.{unsigned_abs}
 use Rattle.session_model.specs.Effects.{Effect}
 use Rattle.cell_library.specs.Views.{CellView, LibraryView}
@@ -9,7 +9,7 @@ use Rattle.network_runs.specs.declared.network_runs.NetworkRun.TheVariants.{Stac
 use Rattle.simulation_uniqueness.specs.Simulations.{CircuitAnswersAreUnique}
 use Rattle.workspace.specs.States.{State, Workspace}
 use Rattle.extract_commands.specs.CellRuns.{RunsExtracted}
-use Rattle.extract_commands.specs.CommandGenerate.{GeneratesStack, MakesStack, stack_cell, with_stack}
+use Rattle.extract_commands.specs.CommandGenerate.{GeneratesStack, MakesStack, forgets_edits, is_refused, stack_cell, with_stack, without_versions}
 use Rattle.extract_commands.specs.OneCircuits.{CellCircuitsAreUnique, CellCircuitsPassNoLimit, CellLimitsAreUnique}
 use Rattle.extract_commands.specs.OneExtractions.{ExtractedCellsAreNotRefused, ExtractionsAreUnique, UncleanRefusalsAreUnique}
 use Rattle.extract_commands.specs.OneEffects.{GenerateMeansOneEffect}
@@ -41,6 +41,22 @@ library_after : (budget number n : ℕ) (work : Workspace) (cell : ℕ) (effect 
 library_after budget number n work cell effect (inl runs) sees = subst SeesSoundLibrary (ap (λ (e : Effect State). e.state) runs.is) sees
 library_after budget number n work cell effect (inr refuses) sees = subst SeesSoundLibrary (ap (λ (e : Effect State). e.state) refuses.is) sees
 
+-- what is forgotten are edits alone
+seen_before_forgetting : (refused : Bool) (state : State) → SeesSoundLibrary (if refused then state else option_map without_versions state)
+    → SeesSoundLibrary state
+seen_before_forgetting true state sees = sees
+seen_before_forgetting false None sees = sees
+seen_before_forgetting false (Some work) sees = sees
+
+seen_before : (effect : Effect State) → SeesSoundLibrary (forgets_edits effect).state → SeesSoundLibrary effect.state
+seen_before effect sees = seen_before_forgetting (is_refused effect.lines) effect.state (subst SeesSoundLibrary (state_after (is_refused effect.lines)) sees)
+  where
+    state_after : (refused : Bool)
+        → (if refused then effect else record effect { state = option_map without_versions effect.state }).state
+        ≡ (if refused then effect.state else option_map without_versions effect.state)
+    state_after true = refl
+    state_after false = refl
+
 module _ (one_circuit : CellCircuitsAreUnique) (one_limit : CellLimitsAreUnique) (either : CellCircuitsPassNoLimit)
     (one_answer : CircuitAnswersAreUnique) (one_extraction : ExtractionsAreUnique) (one_refusal : UncleanRefusalsAreUnique)
     (not_both : ExtractedCellsAreNotRefused) where
@@ -50,11 +66,15 @@ module _ (one_circuit : CellCircuitsAreUnique) (one_limit : CellLimitsAreUnique)
   same_made budget number n work effect other sees p q =
       let after = same_generated work.editing.library p.after q.after n p.generated q.generated in
       let now = with_stack work p.after in
-      let extracts = subst (λ (view : LibraryView). RunsExtracted (Stack n) budget number [] (with_stack work view) (stack_cell work) other) (sym after)
+      let extracts = subst (λ (view : LibraryView). RunsExtracted (Stack n) budget number [] (with_stack work view) (stack_cell work) q.ran) (sym after)
       q.extracts in
-      let sound = library_after budget number n now (stack_cell work) effect p.extracts sees in
-      same_run one_circuit one_limit either one_answer one_extraction one_refusal not_both (Stack n) budget number [] now (stack_cell work) sound
-      (stack_there work p.after n p.generated) effect other p.extracts extracts
+      let ran = seen_before p.ran (subst (λ (e : Effect State). SeesSoundLibrary e.state) p.is sees) in
+      let sound = library_after budget number n now (stack_cell work) p.ran p.extracts ran in
+      p.is
+      ∙ ap forgets_edits
+      (same_run one_circuit one_limit either one_answer one_extraction one_refusal not_both (Stack n) budget number [] now (stack_cell work) sound
+      (stack_there work p.after n p.generated) p.ran q.ran p.extracts extracts)
+      ∙ sym q.is
 
   -- or it is refused
   same_stack : (budget number n : ℕ) (work : Workspace) (effect other : Effect State) → SeesSoundLibrary effect.state

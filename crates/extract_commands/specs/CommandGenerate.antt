@@ -1,6 +1,10 @@
 -- `generate n`: makes a stack of n rows of n tiles, extracts it, and runs its vectors on the network of its circuit.
-use Rattle.std.specs.Prelude.{◌≡◌, ◌⊎◌, ◌+◌, ℕ, suc, ℤ, [], length, Some, None, MatchOption}
+use Rattle.std.specs.Prelude.{◌≡◌, ◌⊎◌, ◌+◌, ℕ, suc, ℤ, Bool, true, false, if◌then◌else◌, List, [], length, option_map, Some, None, MatchOption}
+use Rattle.std.specs.List.{list_any}
 use Rattle.std.specs.Int.RustNames.{unsigned_abs}
+use Rattle.session_model.specs.declared.report.LineKind.{LineKind}
+use Rattle.session_model.specs.declared.report.LineKind.TheVariants.{Refusal}
+use Rattle.session_model.specs.declared.report.ReportLine.{ReportLine}
 use Rattle.session_model.specs.Effects.{Effect}
 use Rattle.cell_library.specs.Views.{LibraryView}
 use Rattle.layout_gen.specs.declared.faults.GenerateFault.{GenerateFault}
@@ -10,6 +14,7 @@ use Rattle.line_answers.specs.LineEffects.{refused}
 use Rattle.line_answers.specs.Refusals.{no_tech}
 use Rattle.library_answers.specs.Refusals.{generate_refusal}
 use Rattle.network_runs.specs.declared.network_runs.NetworkRun.TheVariants.{Stack}
+use Rattle.undo_log.specs.Versions.{no_versions}
 use Rattle.workspace.specs.States.{State, Workspace}
 use Rattle.extract_commands.specs.CellRuns.{RunsExtracted}
 
@@ -22,14 +27,36 @@ abbrev pub with_stack : Workspace → LibraryView → Workspace
 with_stack work after = record {
   editing = record { library = after; edits = suc work.editing.edits; current = Some (stack_cell work) };
   dirty = work.dirty;
+  versions = work.versions;
 }
 
--- The cells are made, the stack is extracted, and its vectors are run. The cells stay, also where the command is refused then.
+-- the line is a refusal
+abbrev pub is_refusal : LineKind → Bool
+is_refusal (Refusal cause) = true
+is_refusal _ = false
+
+-- the command is refused: one of the lines that answer it says so
+abbrev pub is_refused : List ReportLine → Bool
+is_refused lines = list_any (λ line. is_refusal line.kind) lines
+
+-- no edit can be undone or redone
+abbrev pub without_versions : Workspace → Workspace
+without_versions work = record work { versions = no_versions }
+
+-- Where the command is accepted, the edits before it can't be undone any more.
+abbrev pub forgets_edits : Effect State → Effect State
+forgets_edits effect =
+    if is_refused effect.lines then effect else record effect { state = option_map without_versions effect.state }
+
+-- The cells are made, the stack is extracted, and its vectors are run. The cells stay, also where the command is refused then, and with them
+-- the edits that can be undone.
 pub record MakesStack (budget number n : ℕ) (work : Workspace) (effect : Effect State) : Type 0 where
   pub accepted : generate_fault work.editing.library work.editing.edits ≡ None
   pub after : LibraryView
   pub generated : IsGenerated work.editing.library n after
-  pub extracts : RunsExtracted (Stack n) budget number [] (with_stack work after) (stack_cell work) effect
+  pub ran : Effect State
+  pub extracts : RunsExtracted (Stack n) budget number [] (with_stack work after) (stack_cell work) ran
+  pub is : effect ≡ forgets_edits ran
 
 -- The cells are not made.
 pub record RefusesStack (number : ℕ) (work : Workspace) (effect : Effect State) : Type 0 where

@@ -5,7 +5,7 @@ ghost use Rattle.script_lines.specs.Arguments.{is_between};
 ghost use Rattle.session_model.specs.Effects.{AnswersAlone};
 ghost use Rattle.line_answers.specs.LineEffects.{IsOfInside};
 ghost use Rattle.workspace.specs.KeptSessions.{IsEdited, IsSession, edited_state, state_of};
-ghost use Rattle.extract_commands.specs.CommandGenerate.{GenerateMeans, GeneratesStack};
+ghost use Rattle.extract_commands.specs.CommandGenerate.{GenerateMeans, GeneratesStack, is_refused};
 ghost use Rattle.extract_commands.specs.MadeStacks.{IsCellOf, IsStackMade};
 
 use crate::cell_runs::run_extracted;
@@ -15,7 +15,7 @@ use library_answers::refuse_generate;
 use line_answers::refuse_no_tech;
 use network_runs::NetworkRun;
 use script_lines::MOST_GENERATED;
-use session_model::{Answer, Halt};
+use session_model::{Answer, Halt, LineKind, ReportLine};
 use std::alloc::Global;
 use workspace::{Edited, LayoutSession};
 
@@ -76,10 +76,23 @@ fn generate_into(
     match make_stack(alloc, edited, n)? {
         MadeStack::Made(cell) => {
             let run = NetworkRun::Stack(n);
-            run_extracted(alloc, edited, number, budget, &run, cell)
+            let answer = run_extracted(alloc, edited, number, budget, &run, cell)?;
+            if !is_refused(answer.lines.as_slice()) {
+                edited.log.forget();
+            }
+            Ok(answer)
         }
         MadeStack::Refused(fault) => refuse_generate(alloc, number, &fault),
     }
+}
+
+// Whether the command is refused that these lines answer.
+fn is_refused(lines: &[ReportLine]) -> bool
+    ensures { result ≡ is_refused lines.now }
+{
+    lines
+        .iter()
+        .any(|line| matches!(line.kind, LineKind::Refusal(_)))
 }
 
 // Makes a stack of n rows in the library that is edited, where it becomes the current cell.

@@ -21,6 +21,8 @@ use Rattle.cell_loading.specs.declared.faults.LoadFault.TheVariants as load
 use Rattle.cell_loading.specs.Loads.{cause_of_load}
 use Rattle.edit_script.specs.declared.faults.EditFault.{EditFault}
 use Rattle.edit_script.specs.declared.faults.EditFault.TheVariants as edit
+use Rattle.undo_log.specs.declared.faults.UndoFault.{UndoFault}
+use Rattle.undo_log.specs.declared.faults.UndoFault.TheVariants as undo
 use Rattle.layout_gen.specs.declared.faults.GenerateFault.{GenerateFault}
 use Rattle.layout_gen.specs.declared.faults.GenerateFault.TheVariants as made
 
@@ -127,6 +129,18 @@ edit_fault_text edit.Memory = []
 
 abbrev pub edit_refusal : EditFault → Refusal
 edit_refusal fault = of_inside (edit_fault_text fault)
+
+-- ---- undo and redo
+
+-- why no edit is taken back, or made again
+abbrev pub undo_fault_text : UndoFault → List ℕ
+undo_fault_text undo.NothingToUndo = codes "E27 nothing to undo"
+undo_fault_text undo.NothingToRedo = codes "E28 nothing to redo"
+undo_fault_text undo.Edits = too_many_text (library_limit_word library.Edits)
+undo_fault_text undo.Memory = []
+
+abbrev pub undo_refusal : UndoFault → Refusal
+undo_refusal fault = of_inside (undo_fault_text fault)
 
 -- ---- stacks
 

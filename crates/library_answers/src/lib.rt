@@ -5,5 +5,7 @@ mod fault_codes;
 mod refusals;
 mod replies;
 
-pub use refusals::{refuse_edit, refuse_generate, refuse_load, refuse_tech, refuse_tech_again};
+pub use refusals::{
+    refuse_edit, refuse_generate, refuse_load, refuse_tech, refuse_tech_again, refuse_undo,
+};
 pub use replies::{loaded, ok, tech_reply};

@@ -2,8 +2,10 @@
 ghost use Rattle.std.specs.Prelude.{◌≡◌, ◌++◌, ◌∷◌, [], codes, IfOk, IsOkUnless, OnOk};
 ghost use Rattle.line_answers.specs.Refusals.{refusal_line};
 ghost use Rattle.library_answers.specs.Refusals.{edit_refusal, generate_refusal, load_refusal, tech_again, tech_fault_text, tech_refusal};
+ghost use Rattle.library_answers.specs.Refusals.{undo_refusal};
 
 use crate::fault_codes::{library_limit_word, list_word, mag_code, section_word};
+use cell_library::LibraryLimit;
 use cell_loading::LoadFault;
 use edit_script::EditFault;
 use layout_gen::GenerateFault;
@@ -16,6 +18,7 @@ use session_model::{Answer, Halt};
 use std::alloc::{AllocError, Global};
 use tech_file::TechAt;
 use tech_model::TechFault;
+use undo_log::UndoFault;
 
 // The fault of a technology's file.
 fn tech_refusal(alloc: Global, file: &Name, at: &TechAt) -> Result<Refusal, AllocError>
@@ -106,6 +109,18 @@ fn edit_refusal(alloc: Global, fault: &EditFault) -> Result<Refusal, AllocError>
     }
 }
 
+// Why no edit is taken back, or made again.
+fn undo_refusal(alloc: Global, fault: UndoFault) -> Result<Refusal, AllocError>
+    ensures { IfOk result (λ refusal. refusal ≡ undo_refusal fault) }
+{
+    match fault {
+        UndoFault::NothingToUndo => worded(alloc, b"E27 nothing to undo"),
+        UndoFault::NothingToRedo => worded(alloc, b"E28 nothing to redo"),
+        UndoFault::Edits => too_many(alloc, library_limit_word(LibraryLimit::Edits)),
+        UndoFault::Memory => worded(alloc, b""),
+    }
+}
+
 // Why the cells of a stack are not made.
 fn generate_refusal(alloc: Global, fault: &GenerateFault) -> Result<Refusal, AllocError>
     ensures { IfOk result (λ refusal. refusal ≡ generate_refusal fault.now) }
@@ -155,6 +170,16 @@ pub fn refuse_edit(alloc: Global, number: usize, fault: &EditFault) -> Result<An
     ensures memory { IsOkUnless result Halt.Memory }
 {
     let refusal = edit_refusal(alloc, fault)?;
+    refuse(alloc, number, refusal)
+}
+
+/// The answer where no edit is taken back, or made again.
+pub fn refuse_undo(alloc: Global, number: usize, fault: UndoFault) -> Result<Answer, Halt>
+    ensures lines { IfOk result (λ answer. answer.lines.items ≡ refusal_line number (undo_refusal fault) ∷ []) }
+    ensures stores { IfOk result (λ answer. answer.stores.items ≡ []) }
+    ensures memory { IsOkUnless result Halt.Memory }
+{
+    let refusal = undo_refusal(alloc, fault)?;
     refuse(alloc, number, refusal)
 }
 

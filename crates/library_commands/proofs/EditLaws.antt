@@ -1,16 +1,18 @@
 -- What the commands answer that edit.
-use Rattle.std.proofs.Common.{◌≡◌, ◌∙◌, ℕ, [], ◌∷◌, Option, Some, inl, inr, refl, sym, ap, subst}
+use Rattle.std.proofs.Common.{◌≡◌, ◌∙◌, ℕ, [], ◌∷◌, Option, Some, inl, inr, refl, sym, subst}
 use Rattle.std.specs.Prelude.{codes}
 use Rattle.session_model.specs.declared.answer.Answer.{Answer}
 use Rattle.session_model.specs.Effects.{AnswersAlone}
 use Rattle.ext_model.specs.declared.tables.CellKey.{CellKey}
-use Rattle.cell_library.specs.Libraries.{LibraryParts, IsLawfulLibrary, IsSame}
+use Rattle.cell_library.specs.Libraries.{LibraryParts, IsLawfulLibrary, IsSame, seen}
 use Rattle.script_lines.specs.declared.commands.Command.{Command}
 use Rattle.edit_script.specs.declared.faults.EditFault.{EditFault}
 use Rattle.edit_script.specs.Editing.{editing_of}
 use Rattle.edit_script.specs.Edits.{applied}
 use Rattle.edit_script.specs.Refusals.{ApplyIsRefused}
 use Rattle.edit_script.specs.Stamps.{IsStamped}
+use Rattle.undo_log.specs.Inverses.{Inverses, kept_versions}
+use Rattle.undo_log.specs.Versions.{versions_after}
 use Rattle.workspace.specs.Caches.{Agrees, Records, is_dirty}
 use Rattle.library_answers.specs.Refusals.{edit_refusal}
 use Rattle.library_commands.specs.CommandEdits.{EditMeans}
@@ -22,33 +24,39 @@ use Rattle.workspace.proofs.WorkspaceLaws.{same_workspace, workspace_of}
 use Rattle.library_commands.proofs.MarkLaws.{marks_applied}
 
 -- the command was applied
-pub edit_done : (number : ℕ) (old new : LibraryParts) (before now : Option CellKey) (records : Records) (command : Command) (answer : Answer)
+pub edit_done : (number : ℕ) (old new : LibraryParts) (before now : Option CellKey) (records : Records) (log later : Inverses) (command : Command)
+    (answer : Answer) → kept_versions (seen new) later ≡ versions_after (editing_of old before) command (kept_versions (seen old) log)
     → IsLawfulLibrary old → IsStamped old new before command → editing_of new now ≡ applied (editing_of old before) command → Agrees old records
     → ((fault : EditFault) → ApplyIsRefused (editing_of old before) command fault → ⊥)
     → answer.lines.items ≡ reply (codes "ok") ∷ [] → answer.stores.items ≡ []
-    → AnswersAlone (EditMeans number (Some (workspace_of old before records)) command) (Some (workspace_of new now records)) answer
-edit_done number old new before now records command answer lawful stamped done agrees accepts lines stores =
+    → AnswersAlone (EditMeans number (Some (workspace_of old before records log)) command) (Some (workspace_of new now records later)) answer
+edit_done number old new before now records log later command answer versions lawful stamped done agrees accepts lines stores =
     inl (record {
       accepts = accepts;
       dirty = is_dirty new records;
       marks = (marks_applied old new before now records command lawful stamped done agrees).1;
-      is = λ i. record { state = Some (record { editing = done i; dirty = is_dirty new records }); lines = lines i; stores = stores i; fetched = [] };
+      is = λ i. record {
+        state = Some (record { editing = done i; dirty = is_dirty new records; versions = versions i });
+        lines = lines i;
+        stores = stores i;
+        fetched = [];
+      };
     })
 
 -- where nothing changed, neither did what is edited
-pub edit_same : (old new : LibraryParts) (before now : Option CellKey) (records : Records) → IsSame old new → now ≡ before
-    → workspace_of new now records ≡ workspace_of old before records
-edit_same old new before now records same kept =
-    ap (λ (current : Option CellKey). workspace_of new current records) kept ∙ same_workspace old new before records same
+pub edit_same : (old new : LibraryParts) (before now : Option CellKey) (records : Records) (log later : Inverses) → IsSame old new → now ≡ before
+    → later ≡ log → workspace_of new now records later ≡ workspace_of old before records log
+edit_same old new before now records log later same kept logged =
+    (λ i. workspace_of new (kept i) records (logged i)) ∙ same_workspace old new before records log same
 
 -- the command is refused
-pub edit_refused : (number : ℕ) (old new : LibraryParts) (before now : Option CellKey) (records : Records) (command : Command) (fault : EditFault)
-    (answer : Answer) → IsSame old new → now ≡ before → ApplyIsRefused (editing_of old before) command fault
+pub edit_refused : (number : ℕ) (old new : LibraryParts) (before now : Option CellKey) (records : Records) (log later : Inverses) (command : Command)
+    (fault : EditFault) (answer : Answer) → IsSame old new → now ≡ before → later ≡ log → ApplyIsRefused (editing_of old before) command fault
     → answer.lines.items ≡ refusal_line number (edit_refusal fault) ∷ [] → answer.stores.items ≡ []
-    → AnswersAlone (EditMeans number (Some (workspace_of old before records)) command) (Some (workspace_of new now records)) answer
-edit_refused number old new before now records command fault answer same kept is lines stores =
-    let work = workspace_of old before records in
+    → AnswersAlone (EditMeans number (Some (workspace_of old before records log)) command) (Some (workspace_of new now records later)) answer
+edit_refused number old new before now records log later command fault answer same kept logged is lines stores =
+    let work = workspace_of old before records log in
     let means : EditMeans number (Some work) command (refused number (Some work) (edit_refusal fault) []) =
     inr (record { fault = fault; is_refused = is; is = refl }) in
-    subst (λ (w : Workspace). AnswersAlone (EditMeans number (Some work) command) (Some w) answer) (sym (edit_same old new before now records same kept))
+    subst (λ (w : Workspace). AnswersAlone (EditMeans number (Some work) command) (Some w) answer) (sym (edit_same old new before now records log later same kept logged))
     (answers_refusal (EditMeans number (Some work) command) number (Some work) (edit_refusal fault) [] answer lines stores means)

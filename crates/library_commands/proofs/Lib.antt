@@ -9,3 +9,5 @@ pub mod RestLaws
 pub mod OneEffects
 pub mod OneLook
 pub mod OneMarks
+pub mod ReturnLaws
+pub mod VersionLaws

@@ -19,7 +19,7 @@ use Rattle.library_commands.specs.CommandEdits.{MarksAfter, MarksCurrent}
 use Rattle.library_commands.proofs.ChangedCells.{ChangesCell, ChangesCells, ChangesCurrent, cells_changed}
 
 -- what an edit of the current cell leaves of records and marks
-current_edited : (old new : LibraryParts) (current : Option CellKey) (after : LibraryView) (records : Records) → IsLawfulLibrary old
+pub current_edited : (old new : LibraryParts) (current : Option CellKey) (after : LibraryView) (records : Records) → IsLawfulLibrary old
     → IsCurrentEdit old new current → IfSome (editing_of old current).current (λ cell. ChangesCell cell (seen old) after) → seen new ≡ after
     → Agrees old records
     → Agrees new records × MarksCurrent (editing_of old current) (is_dirty old records) (is_dirty new records)

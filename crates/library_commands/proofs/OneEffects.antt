@@ -1,6 +1,6 @@
 -- Each command on a library has one effect.
 use Rattle.std.proofs.Common.{◌≡◌, ◌<◌, inl, inr, ℕ, List, [], ◌∷◌, length, ap, sym, ◌∙◌, subst, refl}
-use Rattle.std.specs.Prelude.{None, Some, Option, Bool, MatchOption, codes}
+use Rattle.std.specs.Prelude.{None, Some, Option, Bool, IsSome, MatchOption, codes}
 use Rattle.outside_io.specs.Files.{Files}
 use Rattle.session_model.specs.declared.answer.Store.{Store}
 use Rattle.session_model.specs.declared.report.ReportLine.{ReportLine}
@@ -8,13 +8,16 @@ use Rattle.session_model.specs.Effects.{Effect}
 use Rattle.session_model.specs.Fetches.{text_in}
 use Rattle.line_answers.specs.LineEffects.{accepted, refused, reply}
 use Rattle.line_answers.specs.Refusals.{no_cell}
+use Rattle.cell_library.specs.Additions.{children_in}
 use Rattle.cell_library.specs.Libraries.{IsLawfulLibrary, LibraryParts, seen}
 use Rattle.cell_library.specs.Views.{LibraryView, cell_named}
 use Rattle.script_lines.specs.declared.commands.Command.{Command}
 use Rattle.edit_script.specs.declared.faults.EditFault.{EditFault}
 use Rattle.edit_script.specs.Edits.{applied}
 use Rattle.edit_script.proofs.CellLaws.{named_below}
-use Rattle.library_answers.specs.Refusals.{edit_refusal, load_refusal}
+use Rattle.undo_log.specs.declared.faults.UndoFault.{UndoFault}
+use Rattle.undo_log.specs.Versions.{Return, versions_after}
+use Rattle.library_answers.specs.Refusals.{edit_refusal, load_refusal, undo_refusal}
 use Rattle.library_answers.specs.Replies.{loaded_text}
 use Rattle.library_uniqueness.proofs.CommandFaults.{one_refusal}
 use Rattle.library_uniqueness.specs.UncleanCells.{UncleanCellsBelowAreUnique}
@@ -23,13 +26,15 @@ use Rattle.loading_uniqueness.proofs.OneLoad.{not_both, same_load, same_refusal}
 use Rattle.look_commands.specs.declared.looks.Look.{Look}
 use Rattle.look_commands.specs.Looks.{Tells}
 use Rattle.workspace.specs.States.{State, Workspace}
-use Rattle.library_commands.specs.CommandEdits.{Applies, EditMeans, RefusesEdit}
+use Rattle.library_commands.specs.declared.command_returns.Way.{Way}
+use Rattle.library_commands.specs.CommandEdits.{Applies, EditMeans, MarksAbove, RefusesEdit}
 use Rattle.library_commands.specs.CommandLoad.{LoadMeans, Loads, RefusesLoad, with_loaded}
 use Rattle.library_commands.specs.CommandLooks.{LookMeans, LooksAt}
+use Rattle.library_commands.specs.CommandReturns.{IsBrought, ReturnIsRefused, brought_back, return_by}
 use Rattle.library_commands.specs.CommandTech.{TechMeans, file_effect, tech_file}
-use Rattle.library_commands.specs.OneEffects.{EditMeansOneEffect, LoadMeansOneEffect, LookMeansOneEffect, TechMeansOneEffect}
+use Rattle.library_commands.specs.OneEffects.{EditMeansOneEffect, LoadMeansOneEffect, LookMeansOneEffect, ReturnMeansOneEffect, TechMeansOneEffect}
 use Rattle.library_commands.proofs.OneLook.{same_look}
-use Rattle.library_commands.proofs.OneMarks.{same_marks}
+use Rattle.library_commands.proofs.OneMarks.{same_above, same_marks}
 
 -- ---- tech
 
@@ -81,7 +86,11 @@ module _ (number : ℕ) (work : Workspace) (edit : Command) where
   one_edit : (effect other : Effect State) → Applies work edit effect → Applies work edit other → effect ≡ other
   one_edit effect other p q =
       p.is
-      ∙ ap (λ (dirty : ℕ → Bool). accepted (Some (record { editing = applied work.editing edit; dirty = dirty })) (reply (codes "ok") ∷ []) [])
+      ∙ ap (λ (dirty : ℕ → Bool). accepted (Some (record {
+        editing = applied work.editing edit;
+        dirty = dirty;
+        versions = versions_after work.editing edit work.versions;
+      })) (reply (codes "ok") ∷ []) [])
       (same_marks work.editing edit work.dirty p.dirty q.dirty p.marks q.marks)
       ∙ sym q.is
 
@@ -98,6 +107,48 @@ edits_do_one_thing number (Some work) edit effect other (inl p) (inl q) = one_ed
 edits_do_one_thing number (Some work) edit effect other (inl p) (inr q) = absurd (p.accepts q.fault q.is_refused)
 edits_do_one_thing number (Some work) edit effect other (inr p) (inl q) = absurd (q.accepts p.fault p.is_refused)
 edits_do_one_thing number (Some work) edit effect other (inr p) (inr q) = one_refused_edit number work edit effect other p q
+
+-- ---- undo and redo
+
+-- an edit that is left is one
+one_return : (found : Option Return) (one other : Return) → found ≡ Some one → found ≡ Some other → one ≡ other
+one_return found one other is also = cc
+
+module _ (way : Way) (work : Workspace) where
+  -- what is edited after it is one
+  one_brought : (now later : Workspace) → IsBrought way work now → IsBrought way work later → now ≡ later
+  one_brought now later p q =
+      let back = one_return (return_by way work) p.back q.back p.is_left q.is_left in
+      let marks = subst (λ (one : Return). MarksAbove (children_in work.editing.library) one.cell work.dirty q.dirty) (sym back) q.marks in
+      p.is
+      ∙ ap (λ (one : Return). brought_back way work one p.dirty) back
+      ∙ ap (brought_back way work q.back) (same_above (children_in work.editing.library) p.back.cell work.dirty p.dirty q.dirty p.marks marks)
+      ∙ sym q.is
+
+  -- it is refused for one fault
+  one_return_fault : (fault other : UndoFault) → ReturnIsRefused way work fault → ReturnIsRefused way work other → fault ≡ other
+  one_return_fault fault other (inl p) (inl q) = p.1 ∙ sym q.1
+  one_return_fault fault other (inl p) (inr q) = absurd (subst (λ (found : Option Return). IsSome found) p.0 q.0)
+  one_return_fault fault other (inr p) (inl q) = absurd (subst (λ (found : Option Return). IsSome found) q.0 p.0)
+  one_return_fault fault other (inr p) (inr q) = p.2 ∙ sym q.2
+
+  -- and then no cell is brought back
+  none_brought : (now : Workspace) (fault : UndoFault) → IsBrought way work now → ¬ (ReturnIsRefused way work fault)
+  none_brought now fault p (inl q) = (let some = p.is_left in let none = q.0 in let no : ⊥ = cc in no)
+  none_brought now fault p (inr q) = p.few q.1
+
+pub returns_do_one_thing : ReturnMeansOneEffect
+returns_do_one_thing way number None effect other p q = p ∙ sym q
+returns_do_one_thing way number (Some work) effect other (inl p) (inl q) =
+    p.is ∙ ap (λ (now : Workspace). accepted (Some now) (reply (codes "ok") ∷ []) []) (one_brought way work p.now q.now p.is_brought q.is_brought)
+    ∙ sym q.is
+returns_do_one_thing way number (Some work) effect other (inl p) (inr q) = absurd (none_brought way work p.now q.fault p.is_brought q.is_refused)
+returns_do_one_thing way number (Some work) effect other (inr p) (inl q) = absurd (none_brought way work q.now p.fault q.is_brought p.is_refused)
+returns_do_one_thing way number (Some work) effect other (inr p) (inr q) =
+    p.is
+    ∙ ap (λ (fault : UndoFault). refused number (Some work) (undo_refusal fault) [])
+    (one_return_fault way work p.fault q.fault p.is_refused q.is_refused)
+    ∙ sym q.is
 
 -- ---- looks
 

@@ -24,7 +24,7 @@ not_alone children cell other old new later p q marked unmarked =
     true≢false (sym marked ∙ p.kept other apart ∙ sym (q.kept other apart) ∙ unmarked)
 
 -- so the marks of all cells are one
-same_above : (children : List (List ℕ)) (cell : ℕ) (old new later : ℕ → Bool) → MarksAbove children cell old new → MarksAbove children cell old later
+pub same_above : (children : List (List ℕ)) (cell : ℕ) (old new later : ℕ → Bool) → MarksAbove children cell old new → MarksAbove children cell old later
     → new ≡ later
 same_above children cell old new later p q =
     fun_ext (λ other. same_bool (new other) (later other)

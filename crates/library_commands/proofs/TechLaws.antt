@@ -14,6 +14,7 @@ use Rattle.tech_model.specs.declared.raw.RawTech.{RawTech}
 use Rattle.tech_file.specs.declared.reading.TechAt.{TechAt}
 use Rattle.cell_tree.specs.Trees.{empty_tree}
 use Rattle.cell_library.specs.Libraries.{LibraryParts}
+use Rattle.undo_log.specs.Inverses.{Inverses, no_inverses}
 use Rattle.workspace.specs.Caches.{Records, no_records}
 use Rattle.workspace.proofs.RecordLaws.{dirty_none}
 use Rattle.library_answers.specs.Refusals.{tech_refusal}
@@ -59,24 +60,26 @@ tech_read number session after files name file text answer none file_is there is
     meant_at_first number session files name effect none meant
 
 -- what is edited at first
-pub begun : (raw : RawTech) (library : LibraryParts) (records : Records) → library ≡ record { tech = raw; scale = None; contents = []; tree = empty_tree }
-    → records ≡ no_records → workspace_of library None records ≡ begun_with raw
-begun raw library records is none =
-    (λ i. workspace_of (is i) None (none i))
+pub begun : (raw : RawTech) (library : LibraryParts) (records : Records) (log : Inverses) → library ≡ record { tech = raw; scale = None; contents = []; tree = empty_tree }
+    → records ≡ no_records → log ≡ no_inverses → workspace_of library None records log ≡ begun_with raw
+begun raw library records log is none unlogged =
+    (λ i. workspace_of (is i) None (none i) (unlogged i))
     ∙ (λ i. record {
       editing = (begun_with raw).editing;
       dirty = λ cell. dirty_none (record { tech = raw; scale = None; contents = []; tree = empty_tree }) cell i;
+      versions = (begun_with raw).versions;
     })
 
 -- a technology was read
-pub tech_accepted : (number : ℕ) (file : List ℕ) (read : Result RawTech TechAt) (raw : RawTech) (library : LibraryParts) (records : Records) (answer : Answer)
-    → read ≡ Ok raw → library ≡ record { tech = raw; scale = None; contents = []; tree = empty_tree } → records ≡ no_records
+pub tech_accepted : (number : ℕ) (file : List ℕ) (read : Result RawTech TechAt) (raw : RawTech) (library : LibraryParts) (records : Records) (log : Inverses)
+    (answer : Answer)
+    → read ≡ Ok raw → library ≡ record { tech = raw; scale = None; contents = []; tree = empty_tree } → records ≡ no_records → log ≡ no_inverses
     → answer.lines.items ≡ reply (tech_text raw) ∷ [] → answer.stores.items ≡ []
     → ◌≡◌ {A = Effect State}
-    (record { state = Some (workspace_of library None records); lines = answer.lines.items; stores = answer.stores.items; fetched = file ∷ [] })
+    (record { state = Some (workspace_of library None records log); lines = answer.lines.items; stores = answer.stores.items; fetched = file ∷ [] })
     (tech_effect number file read)
-tech_accepted number file read raw library records answer is library_is none lines stores =
-    (λ i. record { state = Some (begun raw library records library_is none i); lines = lines i; stores = stores i; fetched = file ∷ [] })
+tech_accepted number file read raw library records log answer is library_is none unlogged lines stores =
+    (λ i. record { state = Some (begun raw library records log library_is none unlogged i); lines = lines i; stores = stores i; fetched = file ∷ [] })
     ∙ ap (tech_effect number file) (sym is)
 
 -- a technology's text is refused

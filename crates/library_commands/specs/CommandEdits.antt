@@ -13,6 +13,7 @@ use Rattle.line_answers.specs.declared.refusals.Refusal.{Refusal}
 use Rattle.line_answers.specs.LineEffects.{accepted, refused, reply}
 use Rattle.line_answers.specs.Refusals.{no_cell, no_tech}
 use Rattle.library_answers.specs.Refusals.{edit_refusal}
+use Rattle.undo_log.specs.Versions.{versions_after}
 use Rattle.workspace.specs.States.{State, Workspace}
 
 -- Without a technology there is nothing to edit, and no cell to `edit`.
@@ -41,12 +42,16 @@ MarksAfter editing (command.Label layer area position text) old new = MarksCurre
 MarksAfter editing (command.Unlabel text) old new = MarksCurrent editing old new
 MarksAfter editing _ old new = new ≡ old
 
--- The command is not refused, and is applied.
+-- The command is not refused, and is applied. Where it changes the current cell, it can be undone, and no edit can be redone.
 pub record Applies (work : Workspace) (command : Command) (effect : Effect State) : Type 0 where
   pub accepts : (fault : EditFault) → ApplyIsRefused work.editing command fault → ⊥
   pub dirty : ℕ → Bool
   pub marks : MarksAfter work.editing command work.dirty dirty
-  pub is : effect ≡ accepted (Some (record { editing = applied work.editing command; dirty = dirty })) (reply (codes "ok") ∷ []) []
+  pub is : effect ≡ accepted (Some (record {
+    editing = applied work.editing command;
+    dirty = dirty;
+    versions = versions_after work.editing command work.versions;
+  })) (reply (codes "ok") ∷ []) []
 
 -- The command is refused.
 pub record RefusesEdit (number : ℕ) (work : Workspace) (command : Command) (effect : Effect State) : Type 0 where

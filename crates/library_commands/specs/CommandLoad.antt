@@ -9,13 +9,16 @@ use Rattle.line_answers.specs.LineEffects.{accepted, refused, reply}
 use Rattle.line_answers.specs.Refusals.{no_tech}
 use Rattle.library_answers.specs.Refusals.{load_refusal}
 use Rattle.library_answers.specs.Replies.{loaded_text}
+use Rattle.undo_log.specs.Versions.{no_versions}
 use Rattle.workspace.specs.States.{State, Workspace}
 
--- The cells came to the library, and the first of them is the current one. None of them was ever extracted.
+-- The cells came to the library, and the first of them is the current one. None of them was ever extracted. The edits before can't be undone
+-- any more.
 abbrev pub with_loaded : Workspace → LibraryView → Workspace
 with_loaded work after = record {
   editing = record { library = after; edits = suc work.editing.edits; current = Some (length work.editing.library.cells) };
   dirty = work.dirty;
+  versions = no_versions;
 }
 
 -- The cells of the files came.

@@ -3,5 +3,6 @@ pub use Rattle.workspace.specs as Workspace
 pub mod CommandEdits
 pub mod CommandLoad
 pub mod CommandLooks
+pub mod CommandReturns
 pub mod CommandTech
 pub mod OneEffects

@@ -9,7 +9,9 @@ use Rattle.workspace.specs.States.{State}
 use Rattle.library_commands.specs.CommandEdits.{EditMeans}
 use Rattle.library_commands.specs.CommandLoad.{LoadMeans}
 use Rattle.library_commands.specs.CommandLooks.{LookMeans}
+use Rattle.library_commands.specs.CommandReturns.{ReturnMeans}
 use Rattle.library_commands.specs.CommandTech.{TechMeans}
+use Rattle.library_commands.specs.declared.command_returns.Way.{Way}
 
 -- `tech` has one effect
 abbrev pub TechMeansOneEffect : Type 0
@@ -28,6 +30,12 @@ abbrev pub EditMeansOneEffect : Type 0
 EditMeansOneEffect =
     (number : ℕ) (state : State) (command : Command) (effect other : Effect State) → EditMeans number state command effect
     → EditMeans number state command other → effect ≡ other
+
+-- and `undo` and `redo`
+abbrev pub ReturnMeansOneEffect : Type 0
+ReturnMeansOneEffect =
+    (way : Way) (number : ℕ) (state : State) (effect other : Effect State) → ReturnMeans way number state effect → ReturnMeans way number state other
+    → effect ≡ other
 
 -- and each that looks at a cell of a lawful library
 abbrev pub LookMeansOneEffect : Type 0

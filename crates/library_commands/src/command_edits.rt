@@ -7,7 +7,7 @@ ghost use Rattle.line_answers.specs.Refusals.{refusal_line};
 ghost use Rattle.workspace.specs.KeptSessions.{IsSession, state_of};
 ghost use Rattle.library_commands.specs.CommandEdits.{EditMeans, nothing_to_edit};
 
-use edit_script::{EditFault, apply};
+use edit_script::EditFault;
 use library_answers::{ok, refuse_edit};
 use line_answers::{refuse_no_cell, refuse_no_tech, told};
 use script_lines::Command;
@@ -33,7 +33,10 @@ pub fn edit(
         return refuse_without_tech(alloc, number, command);
     };
     edited.library.lawful();
-    match apply(alloc, &mut edited.library, &mut edited.current, command) {
+    match edited
+        .log
+        .apply(&mut edited.library, &mut edited.current, command)
+    {
         Ok(()) => Ok(told(alloc, ok(alloc)?)),
         Err(EditFault::Memory) => Err(Halt::Memory),
         Err(fault) => refuse_edit(alloc, number, &fault),

@@ -61,6 +61,7 @@ fn load_into<F: Shelf>(
     match load_cells(alloc, &mut edited.library, shelf, cell)? {
         Loaded::Cells(count) => {
             edited.current = Some(CellKey(first));
+            edited.log.forget();
             let lines = loaded(alloc, cell, count)?;
             Ok(told(alloc, lines))
         }

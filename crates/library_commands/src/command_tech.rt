@@ -17,6 +17,7 @@ use session_model::{Answer, Fetched, Halt, fetch_text};
 use std::alloc::Global;
 use tech_file::{TechAt, read_tech};
 use tech_model::TechFault;
+use undo_log::Log;
 use workspace::{Cache, Edited, LayoutSession};
 
 /// `tech f`, the script's line of this number.
@@ -67,6 +68,7 @@ fn accept_tech(
                 library: Library::new(alloc, read),
                 current: None,
                 cache: Cache::new(alloc),
+                log: Log::new(alloc),
             });
             Ok(told(alloc, lines))
         }

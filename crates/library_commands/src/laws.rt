@@ -1,5 +1,6 @@
 //! The law of the commands on a library. The function here does nothing; its contract is the law.
-ghost use Rattle.library_commands.specs.OneEffects.{EditMeansOneEffect, LoadMeansOneEffect, LookMeansOneEffect, TechMeansOneEffect};
+ghost use Rattle.library_commands.specs.OneEffects.{EditMeansOneEffect, LoadMeansOneEffect, LookMeansOneEffect};
+ghost use Rattle.library_commands.specs.OneEffects.{ReturnMeansOneEffect, TechMeansOneEffect};
 
 use library_uniqueness::unclean_cells_are_unique;
 
@@ -8,6 +9,7 @@ pub fn library_lines_have_one_effect()
     ensures tech { TechMeansOneEffect }
     ensures load { LoadMeansOneEffect }
     ensures edits { EditMeansOneEffect }
+    ensures returns { ReturnMeansOneEffect }
     ensures looks { LookMeansOneEffect }
 {
     unclean_cells_are_unique();

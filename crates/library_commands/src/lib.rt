@@ -1,4 +1,4 @@
-//! Commands on the library that a session keeps: `tech`, `load`, those that edit, and those that look at a cell.
+//! Commands on the library that a session keeps: `tech`, `load`, those that edit, `undo` and `redo`, and those that look at a cell.
 //!
 //! # How the proof goes
 //!
@@ -13,12 +13,14 @@
 mod command_edits;
 mod command_load;
 mod command_looks;
+mod command_returns;
 mod command_tech;
 mod laws;
 
 pub use command_edits::edit;
 pub use command_load::load;
 pub use command_looks::look_at;
+pub use command_returns::{Way, bring_back};
 pub use command_tech::tech;
 pub use laws::library_lines_have_one_effect;
 pub use workspace::{LayoutSession, new_session};

@@ -1,6 +1,6 @@
 -- Where a cell of a lawful library is clean, so is each cell below it.
-use Rattle.std.proofs.Common.{◌≡◌, ◌<◌, ℕ, ℤ, zero, suc, inl, inr, List, [], ◌∷◌, length, map, refl, sym, subst, arith}
-use Rattle.std.specs.Prelude.{Option, Some, None, slice_index_or}
+use Rattle.std.proofs.Common.{◌≡◌, ◌<◌, ℕ, ℤ, inl, inr, List, [], ◌∷◌, length, map, refl, sym, subst, arith}
+use Rattle.std.specs.Prelude.{Option, Some, None}
 use Rattle.finite_sets.specs.Chain.{Chain}
 use Rattle.finite_sets.specs.Chain.Chain.{stay, go}
 use Rattle.finite_sets.specs.Lists.{In}
@@ -20,11 +20,11 @@ use Rattle.cell_tree.specs.Uses.{displacements}
 use Rattle.cell_library.specs.Additions.{children_in}
 use Rattle.cell_library.specs.LayoutTrees.{elements_at, elements_from, tree_at}
 use Rattle.cell_library.specs.Libraries.{IsLawfulLibrary, LibraryParts, seen}
-use Rattle.cell_library.specs.Views.{CellView, no_cell, view_at}
+use Rattle.cell_library.specs.Views.{view_at}
 use Rattle.cell_library.proofs.GridSteps.{displacement_count}
 use Rattle.cell_library.proofs.LayoutTreeLaws.{tree_unfolds}
 use Rattle.hier_merge.specs.UncleanCells.{IsCleanCell, IsUncleanBelow}
-use Rattle.hier_merge.proofs.CleanOrders.{below_there}
+use Rattle.hier_merge.proofs.CleanOrders.{below_there, child_of, children_at}
 
 -- a use has some element
 some_element : (grid : Option Grid) → 0 < length (displacements grid)
@@ -53,17 +53,6 @@ children_are_clean raw trees (first ∷ uses) clean entry (inl same) =
 children_are_clean raw trees (first ∷ uses) clean entry (inr later) =
     children_are_clean raw trees uses
     (others_are_clean raw (trees first.1.child.0) first.1.placed (displacements first.1.grid) (elements_from trees uses) clean) entry later
-
--- the child of a use
-abbrev child_of : List ℕ × UseBody → ℕ
-child_of entry = entry.1.child.0
-
--- the children of the cell at a position
-children_at : (cells : List CellView) (cell : ℕ)
-    → slice_index_or (map (λ (body : CellView). map child_of body.uses) cells) cell [] ≡ map child_of (slice_index_or cells cell no_cell).uses
-children_at [] cell = refl
-children_at (body ∷ cells) zero = refl
-children_at (body ∷ cells) (suc cell) = children_at cells cell
 
 module _ (library : LibraryParts) (lawful : IsLawfulLibrary library) where
   -- what a clean cell uses is clean

@@ -14,7 +14,8 @@ use Rattle.circuit_commands.specs.declared.circuits.CircuitFile.TheVariants as f
 use Rattle.circuit_uniqueness.specs.Ext2simEffects.{Ext2simMeansOneEffect}
 use Rattle.simulation_uniqueness.specs.Simulations.{SimrunMeansOneEffect}
 use Rattle.extract_commands.specs.OneEffects.{CircuitMeansOneEffect, ExtractMeansOneEffect, GenerateMeansOneEffect, VectorsMeansOneEffect}
-use Rattle.library_commands.specs.OneEffects.{EditMeansOneEffect, LoadMeansOneEffect, LookMeansOneEffect, TechMeansOneEffect}
+use Rattle.library_commands.specs.OneEffects.{EditMeansOneEffect, LoadMeansOneEffect, LookMeansOneEffect, ReturnMeansOneEffect, TechMeansOneEffect}
+use Rattle.library_commands.specs.declared.command_returns.Way.TheVariants as way
 use Rattle.library_commands.specs.Workspace.KeptSessions.{SeesSoundLibrary}
 use Rattle.library_commands.specs.Workspace.States.{State}
 use Rattle.library_commands.proofs.SessionLaws.{library_is_seen}
@@ -34,6 +35,7 @@ record Laws : Type 0 where
   tech : TechMeansOneEffect
   load : LoadMeansOneEffect
   edits : EditMeansOneEffect
+  returns : ReturnMeansOneEffect
   looks : LookMeansOneEffect
   extract : ExtractMeansOneEffect
   circuit : CircuitMeansOneEffect
@@ -60,6 +62,8 @@ module _ (laws : Laws) (budget number : ℕ) (state : State) (files : Files) (se
   one_command (command.Label layer area position text) p q =
       laws.edits number state (command.Label layer area position text) effect other p q
   one_command (command.Unlabel text) p q = laws.edits number state (command.Unlabel text) effect other p q
+  one_command command.Undo p q = laws.returns way.Undo number state effect other p q
+  one_command command.Redo p q = laws.returns way.Redo number state effect other p q
   one_command (command.Save cell) p q = laws.looks look.Save number state cell effect other sees p q
   one_command (command.Squares cell) p q = laws.looks look.Squares number state cell effect other sees p q
   one_command (command.Nodes cell) p q = laws.looks look.Nodes number state cell effect other sees p q

@@ -15,7 +15,7 @@ use Rattle.session_model.specs.Scripts.{WholeSession, stores_in}
 use Rattle.session_model.proofs.RerunLaws.{made_good}
 use Rattle.script_lines.specs.declared.commands.Command.{Command}
 use Rattle.script_lines.specs.declared.commands.Command.TheVariants.{Tech, Load, New, Edit, Paint, Erase, Place, Array, Move, Delete, Label, Unlabel}
-use Rattle.script_lines.specs.declared.commands.Command.TheVariants.{Save, Squares, Nodes, Extract, Flat, Sim, Ext2sim, Vectors, Simrun, Generate}
+use Rattle.script_lines.specs.declared.commands.Command.TheVariants.{Undo, Redo, Save, Squares, Nodes, Extract, Flat, Sim, Ext2sim, Vectors, Simrun, Generate}
 use Rattle.script_lines.specs.declared.faults.LineFault.{LineFault}
 use Rattle.script_lines.specs.Commands.{command_of}
 use Rattle.circuit_commands.proofs.RestLaws.{ext2sim_rests}
@@ -43,6 +43,8 @@ command_rests budget number state files others (Move id dx dy) effect means agre
 command_rests budget number state files others (Delete id) effect means agree = means
 command_rests budget number state files others (Label layer area position text) effect means agree = means
 command_rests budget number state files others (Unlabel text) effect means agree = means
+command_rests budget number state files others Undo effect means agree = means
+command_rests budget number state files others Redo effect means agree = means
 command_rests budget number state files others (Save cell) effect means agree = means
 command_rests budget number state files others (Squares cell) effect means agree = means
 command_rests budget number state files others (Nodes cell) effect means agree = means

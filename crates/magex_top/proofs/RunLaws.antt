@@ -7,7 +7,6 @@ use Rattle.text_scan.specs.Lines.{lines_of}
 use Rattle.outside_io.specs.Files.{Files}
 use Rattle.outside_io.specs.ToldBytes.{ToldBytes}
 use Rattle.outside_io.specs.declared.limits.TheConstants.{LONGEST_FILE}
-use Rattle.session_model.specs.declared.answer.Store.{Store}
 use Rattle.session_model.specs.declared.report.ReportLine.{ReportLine}
 use Rattle.outside_io.specs.declared.outside.Shelf.{Ghosts as ShelfWords}
 use Rattle.session_model.specs.declared.answer.Halt.{Halt}
@@ -15,10 +14,11 @@ use Rattle.session_model.specs.declared.answer.Halt.TheVariants as halt
 use Rattle.session_model.specs.Causes.{UnlessReadFault, UnlessWriteFault}
 use Rattle.session_model.specs.Counted.{AreCounted}
 use Rattle.session_model.specs.Effects.{Effect, with_stores}
-use Rattle.session_model.specs.Progress.{BeginsNext, DoesFirst, IsCutShort, IsPrefixOf, Progress, StoresSome}
+use Rattle.session_model.specs.Progress.{BeginsNext, DoesFirst, IsCutShort, IsPrefixOf, Progress}
 use Rattle.session_model.specs.Reports.{is_told, report_of, text_of}
 use Rattle.session_model.specs.Scripts.{Act, LinesMean, MeansInSound, ScriptActs, WholeSession, lines_in, stores_in}
 use Rattle.session_model.proofs.ProgressLaws.{DoesPart-weaker, LinesMean-weaker, Progress-weaker}
+use Rattle.session_model.proofs.SessionLaws.{no_stores}
 use Rattle.magex_top.specs.declared.status.Status.{Status}
 use Rattle.magex_top.specs.declared.status.Status.TheVariants.{Done, Told, ReadFault, WriteFault}
 use Rattle.run_words.specs.declared.words.RunWords.{RunWords}
@@ -167,15 +167,10 @@ reached_from_first asked run text files Failed Others before written left is wea
 
 -- ---- beginnings of each session
 
--- before any store the files are as they were
-none_stored : (Failed : Type 0) (files : Files) (stores : List Store) → StoresSome Failed files stores files
-none_stored Failed files [] = refl
-none_stored Failed files (store ∷ stores) = inl refl
-
 -- nothing is done of the first of these
 none_done : (quiet : Bool) (Failed : Type 0) (files : Files) (acts : List Act) → DoesFirst quiet Failed files acts [] files
 none_done quiet Failed files [] = (refl, refl)
-none_done quiet Failed files (act ∷ acts) = inl (refl, none_stored Failed files act.stores)
+none_done quiet Failed files (act ∷ acts) = inl (refl, no_stores Failed files act.stores files refl)
 
 -- nothing is the beginning of any session
 pub nothing_begins : (quiet : Bool) (Failed : Type 0) (files : Files) (acts : List Act) → IsCutShort quiet Failed files acts [] files

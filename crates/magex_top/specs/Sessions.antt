@@ -4,7 +4,7 @@ use Rattle.outside_io.specs.Files.{Files}
 use Rattle.session_model.specs.Effects.{Effect}
 use Rattle.script_lines.specs.declared.commands.Command.{Command}
 use Rattle.script_lines.specs.declared.commands.Command.TheVariants.{Tech, Load, New, Edit, Paint, Erase, Place, Array, Move, Delete, Label, Unlabel}
-use Rattle.script_lines.specs.declared.commands.Command.TheVariants.{Save, Squares, Nodes, Extract, Flat, Sim, Ext2sim, Vectors, Simrun, Generate}
+use Rattle.script_lines.specs.declared.commands.Command.TheVariants.{Undo, Redo, Save, Squares, Nodes, Extract, Flat, Sim, Ext2sim, Vectors, Simrun, Generate}
 use Rattle.script_lines.specs.declared.faults.LineFault.{LineFault}
 use Rattle.script_lines.specs.Commands.{command_of}
 use Rattle.line_answers.specs.LineEffects.{LeavesState, accepted, refused}
@@ -22,6 +22,8 @@ use Rattle.magex_top.specs.declared.session.RunSession.{RunSession}
 use Rattle.library_commands.specs.CommandEdits.{EditMeans}
 use Rattle.library_commands.specs.CommandLoad.{LoadMeans}
 use Rattle.library_commands.specs.CommandLooks.{LookMeans}
+use Rattle.library_commands.specs.CommandReturns.{ReturnMeans}
+use Rattle.library_commands.specs.declared.command_returns.Way.TheVariants as way
 use Rattle.library_commands.specs.CommandTech.{TechMeans}
 use Rattle.magex_top.specs.Refusals.{line_refusal}
 
@@ -39,6 +41,8 @@ CommandMeans budget number state files (Move id dx dy) effect = EditMeans number
 CommandMeans budget number state files (Delete id) effect = EditMeans number state (Delete id) effect
 CommandMeans budget number state files (Label layer area position text) effect = EditMeans number state (Label layer area position text) effect
 CommandMeans budget number state files (Unlabel text) effect = EditMeans number state (Unlabel text) effect
+CommandMeans budget number state files Undo effect = ReturnMeans way.Undo number state effect
+CommandMeans budget number state files Redo effect = ReturnMeans way.Redo number state effect
 CommandMeans budget number state files (Save cell) effect = LookMeans look.Save number state cell effect
 CommandMeans budget number state files (Squares cell) effect = LookMeans look.Squares number state cell effect
 CommandMeans budget number state files (Nodes cell) effect = LookMeans look.Nodes number state cell effect

@@ -11,7 +11,7 @@ ghost use Rattle.magex_top.specs.Sessions.{CommandMeans, LineMeans};
 
 use circuit_commands::{CircuitFile, ext2sim};
 use extract_commands::{circuit, extract, generate, vectors};
-use library_commands::{LayoutSession, edit, load, look_at, tech};
+use library_commands::{LayoutSession, Way, bring_back, edit, load, look_at, tech};
 use line_answers::{refuse, told, worded};
 use look_commands::Look;
 use network_commands::simrun;
@@ -128,6 +128,8 @@ fn answer<F: Shelf>(
         | Command::Delete(_)
         | Command::Label(_, _, _, _)
         | Command::Unlabel(_) => edit(alloc, session, number, command),
+        Command::Undo => bring_back(alloc, session, number, Way::Undo),
+        Command::Redo => bring_back(alloc, session, number, Way::Redo),
         Command::Save(cell) => look_at(alloc, session, number, cell, Look::Save),
         Command::Squares(cell) => look_at(alloc, session, number, cell, Look::Squares),
         Command::Nodes(cell) => look_at(alloc, session, number, cell, Look::Nodes),

@@ -12,7 +12,7 @@ use Rattle.session_model.proofs.EffectLaws.{lines_in-append, report_of-append, s
 use Rattle.session_model.proofs.StoreLaws.{StoresSome-after}
 
 -- no store is made yet
-no_stores : (Fails : Type 0) (files : Files) (stores : List Store) (after : Files) → after ≡ files → StoresSome Fails files stores after
+pub no_stores : (Fails : Type 0) (files : Files) (stores : List Store) (after : Files) → after ≡ files → StoresSome Fails files stores after
 no_stores Fails files [] after same = same
 no_stores Fails files (store ∷ stores) after same = inl same
 

@@ -17,12 +17,6 @@ pub refused_by : {T Fault : Type 0} (result : Result T (Stop Fault)) (stop : Sto
 refused_by {T} {Fault} result stop P Q is gives holds =
     subst (λ (r : Result T (Stop Fault)). IfRefused r Q) (sym is) (refusal_weaker stop P Q gives holds)
 
--- the shelf was asked once, whatever came of it
-pub asks_once : {T Fault : Type 0} (old new : Option CallPlan) (result : Result T (Stop Fault)) → new ≡ told_after_call old → AsksOnce old new result
-asks_once old new (Ok value) asked = asked
-asks_once old new (Err (Refused told)) asked = asked
-asks_once old new (Err (Halted halt)) asked = tt
-
 -- it was asked once for what is refused
 pub refused_asking : (T : Type 0) {Fault : Type 0} (old new : Option CallPlan) (stop : Stop Fault) (P : Fault → Type 0) → IfRefusal stop P
     → AsksOnce {T = T} old new (Err stop) → IfRefusal stop (λ told. P told × (new ≡ told_after_call old))

@@ -26,6 +26,7 @@ use Rattle.ext_cache.proofs.RecordLaws.{kept_clean}
 use Rattle.workspace.specs.declared.cells.Edited.{Edited}
 use Rattle.workspace.specs.declared.extractions.Extracting.TheVariants.{Done}
 use Rattle.workspace.specs.declared.extractions.Extraction.{Extraction}
+use Rattle.undo_log.specs.Inverses.{Inverses}
 use Rattle.workspace.specs.KeptSessions.{edited_state}
 use Rattle.workspace.specs.Extracting.{HasLawfulRecord, IsExtracted, IsFreshBelow, kept_store, told_lines}
 use Rattle.workspace.specs.Extractions.{MakesRecords, ext_store, with_clean}
@@ -87,11 +88,12 @@ marks_made library records after order told makes other = go (is_dirty library r
         (λ here. true≢false (sym (In-filter_passes (is_dirty library records) other order here) ∙ is)) ∙ is)
 
 -- what is edited after an extraction
-pub clean_workspace : (library : LibraryParts) (current : Option CellKey) (records after : Records) (order : List ℕ) (told : List Extracted)
+pub clean_workspace : (library : LibraryParts) (current : Option CellKey) (records after : Records) (log : Inverses) (order : List ℕ)
+    (told : List Extracted)
     → KeepsRecords library (dirty_cells library records order) records after told
-    → workspace_of library current after ≡ with_clean (workspace_of library current records) order
-clean_workspace library current records after order told makes =
-    λ i. record { editing = (workspace_of library current records).editing; dirty = λ other. marks_made library records after order told makes other i }
+    → workspace_of library current after log ≡ with_clean (workspace_of library current records log) order
+clean_workspace library current records after log order told makes =
+    λ i. record (workspace_of library current records log) { dirty = λ other. marks_made library records after order told makes other i }
 
 -- none of the cells of the order is dirty then
 pub fresh_in : (work after : Workspace) (order : List ℕ) (cell : ℕ) → after ≡ with_clean work order → In cell order → after.dirty cell ≡ false
@@ -200,11 +202,11 @@ module _ (library : LibraryParts) (records : Records) (root : ℕ) (after : Reco
       record { ext = kept.0; is_kept = kept.1.0; lawful = kept.1.1.lawful })
 
   -- what the program tells of it is what it comes to
-  pub extraction_told : (current : Option CellKey) (number : ℕ) (extraction : Extraction) → Agrees library after
+  pub extraction_told : (current : Option CellKey) (log : Inverses) (number : ℕ) (extraction : Extraction) → Agrees library after
       → extraction.lines ≡ flat_map (told_lines (seen library)) told
       → map (λ store. Some store) extraction.stores ≡ map (kept_store (seen library) after) told → extraction.count ≡ length told
-      → IsExtracted number (workspace_of library current records) (workspace_of library current after) root (Done extraction)
-  extraction_told current number extraction agrees lines stores count =
+      → IsExtracted number (workspace_of library current records log) (workspace_of library current after log) root (Done extraction)
+  extraction_told current log number extraction agrees lines stores count =
       let listed : In root extracts.order = (library_order-lists (children_in (seen library)) root extracts.order extracts.is_order).1 root stay in
       let kept = kept_clean library after root agrees (fresh_then root listed) in (
         record {
@@ -216,5 +218,5 @@ module _ (library : LibraryParts) (records : Records) (root : ℕ) (after : Reco
               lines stores;
           count = count ∙ told_count library (dirty_cells library records extracts.order) records after told extracts.makes;
         },
-        clean_workspace library current records after extracts.order told extracts.makes,
+        clean_workspace library current records after log extracts.order told extracts.makes,
       )

@@ -2,28 +2,39 @@
 use Rattle.std.proofs.Common.{◌≡◌, ◌<◌, ◌∙◌, ℕ, length, Option, sym, ap, subst}
 use Rattle.std.specs.Prelude.{IfSome}
 use Rattle.ext_model.specs.declared.tables.CellKey.{CellKey}
-use Rattle.cell_library.specs.Libraries.{IsSame, LibraryParts}
+use Rattle.cell_library.specs.Libraries.{IsSame, LibraryParts, seen}
 use Rattle.cell_library.specs.Views.{LibraryView}
 use Rattle.edit_script.specs.Editing.{IsCurrent, editing_of}
 use Rattle.cell_library.proofs.ViewLaws.{count_seen}
 use Rattle.ext_cache.specs.Caches.{Records, is_dirty}
 use Rattle.ext_cache.proofs.RecordLaws.{dirty_same}
+use Rattle.undo_log.specs.Inverses.{Inverses, Keeps, kept_versions}
+use Rattle.undo_log.specs.Versions.{Versions}
 use Rattle.workspace.specs.States.{Workspace}
 
 -- what is edited and what is dirty, where the program keeps this
-abbrev pub workspace_of : LibraryParts → Option CellKey → Records → Workspace
-workspace_of library current records = record { editing = editing_of library current; dirty = is_dirty library records }
+abbrev pub workspace_of : LibraryParts → Option CellKey → Records → Inverses → Workspace
+workspace_of library current records log =
+    record { editing = editing_of library current; dirty = is_dirty library records; versions = kept_versions (seen library) log }
 
 -- where nothing changed, the same is edited
 pub same_editing : (old new : LibraryParts) (current : Option CellKey) → IsSame old new → editing_of new current ≡ editing_of old current
 same_editing old new current same =
     λ i. record { library = same.seen i; edits = (same.tree i).edits; current = (editing_of old current).current }
 
--- and the same is dirty
-pub same_workspace : (old new : LibraryParts) (current : Option CellKey) (records : Records) → IsSame old new
-    → workspace_of new current records ≡ workspace_of old current records
-same_workspace old new current records same =
-    λ i. record { editing = same_editing old new current same i; dirty = λ cell. dirty_same old new records cell same i }
+-- the same is dirty, and the log leads to the same versions
+pub same_workspace : (old new : LibraryParts) (current : Option CellKey) (records : Records) (log : Inverses) → IsSame old new
+    → workspace_of new current records log ≡ workspace_of old current records log
+same_workspace old new current records log same = λ i. record {
+  editing = same_editing old new current same i;
+  dirty = λ cell. dirty_same old new records cell same i;
+  versions = kept_versions (same.seen i) log;
+}
+
+-- a log keeps versions where nothing changed
+pub same_log : (old new : LibraryParts) (log : Inverses) → IsSame old new → (versions : Versions) × Keeps (seen old) log versions
+    → (versions : Versions) × Keeps (seen new) log versions
+same_log old new log same (versions, keeps) = (versions, subst (λ (view : LibraryView). Keeps view log versions) (sym same.seen) keeps)
 
 -- the current cell stays one of the library's where nothing changed
 pub same_current : (old new : LibraryParts) (current : Option CellKey) → IsSame old new → IsCurrent old current → IsCurrent new current

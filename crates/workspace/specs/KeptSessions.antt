@@ -5,22 +5,28 @@ use Rattle.cell_library.specs.LawfulViews.{IsSoundView}
 use Rattle.cell_library.specs.Libraries.{seen}
 use Rattle.edit_script.specs.Editing.{IsCurrent, editing_of}
 use Rattle.ext_cache.specs.Caches.{Agrees, is_dirty}
+use Rattle.undo_log.specs.Inverses.{Keeps, kept_versions}
+use Rattle.undo_log.specs.Versions.{Versions}
 use Rattle.workspace.specs.declared.cells.Edited.{Edited}
 use Rattle.workspace.specs.declared.cells.LayoutSession.{LayoutSession}
 use Rattle.workspace.specs.States.{State, Workspace}
 
--- what is edited, and which cells are dirty
+-- what is edited, which cells are dirty, and to which versions the log leads
 abbrev pub edited_state : Edited → Workspace
-edited_state edited =
-    record { editing = editing_of edited.library edited.current; dirty = is_dirty edited.library edited.cache }
+edited_state edited = record {
+  editing = editing_of edited.library edited.current;
+  dirty = is_dirty edited.library edited.cache;
+  versions = kept_versions (seen edited.library) edited.log;
+}
 
 abbrev pub state_of : LayoutSession → State
 state_of session = option_map edited_state session.edited
 
--- The current cell is one of the library's, and the records that are kept are those of the library.
+-- The current cell is one of the library's, the records that are kept are those of the library, and the log keeps versions of it.
 pub record IsEdited (edited : Edited) : Type 0 where
   pub current : IsCurrent edited.library edited.current
   pub agrees : Agrees edited.library edited.cache
+  pub log : (versions : Versions) × Keeps (seen edited.library) edited.log versions
 
 abbrev pub IsSession : LayoutSession → Type 0
 IsSession session = IfSome session.edited IsEdited

@@ -2,12 +2,14 @@
 use Rattle.std.specs.Prelude.{ℕ, Bool, true, [], Option, None}
 use Rattle.tech_model.specs.declared.raw.RawTech.{RawTech}
 use Rattle.edit_script.specs.Editing.{Editing}
+use Rattle.undo_log.specs.Versions.{Versions, no_versions}
 
--- What is edited, and which cells are dirty: those, by their positions, that were never extracted, or that an edit changed since, or a cell
--- that stood below them at that edit. What is no cell was never extracted.
+-- What is edited, which cells are dirty, and the versions of cells to which `undo` and `redo` lead. Dirty are those, by their positions, that
+-- were never extracted, or that an edit changed since, or a cell that stood below them at that edit. What is no cell was never extracted.
 pub record Workspace : Type 0 where
   pub editing : Editing
   pub dirty : ℕ → Bool
+  pub versions : Versions
 
 -- Once a technology was read, there is a library over it, which is edited. A library has its cells in the order in which they came.
 abbrev pub State : Type 0
@@ -22,4 +24,5 @@ abbrev pub begun_with : RawTech → Workspace
 begun_with raw = record {
   editing = record { library = record { tech = raw; scale = None; cells = [] }; edits = 0; current = None };
   dirty = λ cell. true;
+  versions = no_versions;
 }

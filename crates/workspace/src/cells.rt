@@ -6,13 +6,15 @@ ghost use Rattle.workspace.specs.States.{first_state};
 use cell_library::Library;
 use ext_cache::Cache;
 use ext_model::CellKey;
+use undo_log::Log;
 
-/// A library, the current one of its cells, and the records that were made of its cells.
+/// A library, the current one of its cells, the records that were made of its cells, and the edits that can be undone and redone.
 #[derive(Drop)]
 pub struct Edited {
     pub library: Library,
     pub current: Option<CellKey>,
     pub cache: Cache,
+    pub log: Log,
 }
 
 /// What a session keeps between two lines.

@@ -51,6 +51,7 @@ pub fn extract_cell(
     requires cell { cell.0 < length edited.old.library.contents }
     ensures extracted { IfOk result (IsExtracted number (edited_state edited.old) (edited_state edited.new) cell.0) }
     ensures library { edited.new.library ≡ edited.old.library }
+    ensures log { edited.new.log ≡ edited.old.log }
     ensures edited { IsEdited edited.new }
     ensures memory { IsOkUnless result Halt.Memory }
 {

@@ -10,6 +10,7 @@ use Rattle.line_answers.specs.LineEffects.{reply}
 use Rattle.workspace.specs.States.{State}
 use Rattle.line_answers.proofs.AnswerLaws.{both_ok}
 use Rattle.library_commands.proofs.EditLaws.{edit_done, edit_refused}
+use Rattle.library_commands.proofs.VersionLaws.{log_applied, log_same, versions_applied}
 use Rattle.workspace.proofs.WorkspaceLaws.{workspace_of}
 use Rattle.library_commands.proofs.MarkLaws.{marks_applied}
 use Rattle.library_commands.proofs.command_edits.edit.Goals as goal
@@ -21,6 +22,8 @@ returns-in_err-ok-in-Ok-clause-kept c =
       current = c.apply.ensures.current;
       agrees = (marks_applied c.in-Some.edited.library c.apply.new.library c.in-Some.edited.current c.apply.new.current c.in-Some.edited.cache
           c.args.command.now c.lawful.ensures c.in-Ok.ensures.stamped c.in-Ok.ensures.done is.agrees).0;
+      log = log_applied c.in-Some.edited.library c.apply.new.library c.in-Some.edited.current c.in-Some.edited.log c.apply.new.self c.args.command.now is.log
+          c.in-Ok.ensures.versions;
     }
 
 pub returns-in_ok-ok-in-Ok-clause-effect : goal.returns-in_ok-ok-in-Ok-clause-effect
@@ -30,10 +33,13 @@ returns-in_ok-ok-in-Ok-clause-effect c =
     let lines : c.told.result.lines.items ≡ reply (codes "ok") ∷ [] = search rules in
     subst
     (λ (s : State). AnswersAlone (EditMeans c.args.number s c.args.command.now)
-    (Some (workspace_of c.apply.new.library c.apply.new.current c.in-Some.edited.cache)) c.told.result)
+    (Some (workspace_of c.apply.new.library c.apply.new.current c.in-Some.edited.cache c.apply.new.self)) c.told.result)
     (sym state)
     (edit_done c.args.number c.in-Some.edited.library c.apply.new.library c.in-Some.edited.current c.apply.new.current c.in-Some.edited.cache
-    c.args.command.now c.told.result c.lawful.ensures c.in-Ok.ensures.stamped c.in-Ok.ensures.done is.agrees c.in-Ok.ensures.accepted lines
+    c.in-Some.edited.log c.apply.new.self c.args.command.now c.told.result
+    (versions_applied c.in-Some.edited.library c.apply.new.library c.in-Some.edited.current c.in-Some.edited.log c.apply.new.self c.args.command.now is.log
+    c.in-Ok.ensures.versions)
+    c.lawful.ensures c.in-Ok.ensures.stamped c.in-Ok.ensures.done is.agrees c.in-Ok.ensures.accepted lines
     c.told.ensures.stores)
 
 pub returns-in_ok-ok-in-Ok-clause-kept : goal.returns-in_ok-ok-in-Ok-clause-kept
@@ -43,6 +49,8 @@ returns-in_ok-ok-in-Ok-clause-kept c =
       current = c.apply.ensures.current;
       agrees = (marks_applied c.in-Some.edited.library c.apply.new.library c.in-Some.edited.current c.apply.new.current c.in-Some.edited.cache
           c.args.command.now c.lawful.ensures c.in-Ok.ensures.stamped c.in-Ok.ensures.done is.agrees).0;
+      log = log_applied c.in-Some.edited.library c.apply.new.library c.in-Some.edited.current c.in-Some.edited.log c.apply.new.self c.args.command.now is.log
+          c.in-Ok.ensures.versions;
     }
 
 pub returns-in-Err-Memory-clause-kept : goal.returns-in-Err-Memory-clause-kept
@@ -51,6 +59,8 @@ returns-in-Err-Memory-clause-kept c =
     record {
       current = c.apply.ensures.current;
       agrees = agrees_same c.in-Some.edited.library c.apply.new.library c.in-Some.edited.cache c.in-Err-Memory.ensures.same is.agrees;
+      log = log_same c.in-Some.edited.library c.apply.new.library c.in-Some.edited.log c.apply.new.self c.in-Err-Memory.ensures.same c.in-Err-Memory.ensures.log
+          is.log;
     }
 
 pub returns-in-Err-clause-effect : goal.returns-in-Err-clause-effect
@@ -60,10 +70,11 @@ returns-in-Err-clause-effect c =
     both_ok c.refuse_edit.result _ _ _
     (λ answer lines stores. subst
     (λ (s : State). AnswersAlone (EditMeans c.args.number s c.args.command.now)
-    (Some (workspace_of c.apply.new.library c.apply.new.current c.in-Some.edited.cache)) answer)
+    (Some (workspace_of c.apply.new.library c.apply.new.current c.in-Some.edited.cache c.apply.new.self)) answer)
     (sym state)
     (edit_refused c.args.number c.in-Some.edited.library c.apply.new.library c.in-Some.edited.current c.apply.new.current c.in-Some.edited.cache
-    c.args.command.now c.in-Err.fault answer c.in-Err.ensures.same c.in-Err.ensures.kept refused lines stores))
+    c.in-Some.edited.log c.apply.new.self c.args.command.now c.in-Err.fault answer c.in-Err.ensures.same c.in-Err.ensures.kept c.in-Err.ensures.log refused
+    lines stores))
     c.refuse_edit.ensures.lines c.refuse_edit.ensures.stores
 
 pub returns-in-Err-clause-kept : goal.returns-in-Err-clause-kept
@@ -72,4 +83,5 @@ returns-in-Err-clause-kept c =
     record {
       current = c.apply.ensures.current;
       agrees = agrees_same c.in-Some.edited.library c.apply.new.library c.in-Some.edited.cache c.in-Err.ensures.same is.agrees;
+      log = log_same c.in-Some.edited.library c.apply.new.library c.in-Some.edited.log c.apply.new.self c.in-Err.ensures.same c.in-Err.ensures.log is.log;
     }

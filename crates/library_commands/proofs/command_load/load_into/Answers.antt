@@ -1,7 +1,7 @@
-use Rattle.std.proofs.Common.{◌≡◌, [], ◌∷◌, subst, rules}
+use Rattle.std.proofs.Common.{◌≡◌, [], ◌∷◌, refl, subst, rules}
 use Rattle.session_model.specs.declared.answer.Answer.{Answer}
 use Rattle.session_model.specs.Effects.{GivesFetching}
-use Rattle.cell_library.specs.Libraries.{IsSame}
+use Rattle.cell_library.specs.Libraries.{IsSame, seen}
 use Rattle.cell_loading.specs.declared.loading.Loaded.{Loaded}
 use Rattle.cell_loading.specs.Arrivals.{ArriveWithStamps}
 use Rattle.cell_loading.specs.Loads.{HasMoreIfLoaded, KeepsIfRefused, LoadGives}
@@ -12,6 +12,7 @@ use Rattle.line_answers.specs.LineEffects.{reply}
 use Rattle.line_answers.proofs.AnswerLaws.{both_ok}
 use Rattle.workspace.proofs.WorkspaceLaws.{same_current}
 use Rattle.library_commands.proofs.LoadLaws.{load_done, load_refused}
+use Rattle.library_commands.proofs.VersionLaws.{log_forgotten, log_same}
 use Rattle.library_commands.proofs.command_load.load_into.Goals as goal
 
 pub returns-in_err-count-clause-kept : goal.returns-in_err-count-clause-kept
@@ -22,6 +23,7 @@ returns-in_err-count-clause-kept g c =
     record {
       current = same_current old new c.args.edited.now.current same c.requires.edited.current;
       agrees = agrees_same old new c.args.edited.now.cache same c.requires.edited.agrees;
+      log = log_same old new c.args.edited.now.log c.args.edited.now.log same refl c.requires.edited.log;
     }
 
 pub returns-in_err-lines-in-Cells-clause-kept : goal.returns-in_err-lines-in-Cells-clause-kept
@@ -33,6 +35,7 @@ returns-in_err-lines-in-Cells-clause-kept g c =
     record {
       current = rw c.cell_count-first.ensures more;
       agrees = agrees_all old new c.args.edited.now.cache came.0 c.lawful.ensures came.1 c.requires.edited.agrees came.2;
+      log = log_forgotten (seen new) c.forget.new.self c.forget.ensures;
     }
 
 pub returns-in_ok-lines-in-Cells-clause-effect : goal.returns-in_ok-lines-in-Cells-clause-effect
@@ -47,8 +50,8 @@ returns-in_ok-lines-in-Cells-clause-effect g c files told =
     let answer : Answer = c.told.result in
     let lines : answer.lines.items ≡ reply (loaded_text c.args.cell.now c.in-Cells.count) ∷ [] = search rules in (
       fetched,
-      load_done c.args.number old new c.args.edited.now.current c.args.edited.now.cache c.cell_count-first.result files c.args.cell.now c.in-Cells.count fetched
-          answer (dirty_cells old new c.args.edited.now.cache came.0 c.lawful.ensures came.1 c.requires.edited.agrees)
+      load_done c.args.number old new c.args.edited.now.current c.args.edited.now.cache c.args.edited.now.log c.forget.new.self c.cell_count-first.result
+          files c.args.cell.now c.in-Cells.count fetched answer c.forget.ensures (dirty_cells old new c.args.edited.now.cache came.0 c.lawful.ensures came.1 c.requires.edited.agrees)
           is_loaded next c.cell_count-first.ensures lines c.told.ensures.stores,
       asked,
     )
@@ -62,6 +65,7 @@ returns-in_ok-lines-in-Cells-clause-kept g c =
     record {
       current = rw c.cell_count-first.ensures more;
       agrees = agrees_all old new c.args.edited.now.cache came.0 c.lawful.ensures came.1 c.requires.edited.agrees came.2;
+      log = log_forgotten (seen new) c.forget.new.self c.forget.ensures;
     }
 
 pub returns-in-Refused-clause-effect : goal.returns-in-Refused-clause-effect
@@ -76,7 +80,7 @@ returns-in-Refused-clause-effect g c files told =
     both_ok c.refuse_load.result _ _ _
     (λ answer lines stores. (
       fetched,
-      load_refused c.args.number old new c.args.edited.now.current c.args.edited.now.cache files c.args.cell.now c.in-Refused.fault fetched answer same
+      load_refused c.args.number old new c.args.edited.now.current c.args.edited.now.cache c.args.edited.now.log files c.args.cell.now c.in-Refused.fault fetched answer same
           is_refused lines stores,
       asked,
     ))
@@ -90,4 +94,5 @@ returns-in-Refused-clause-kept g c =
     record {
       current = same_current old new c.args.edited.now.current same c.requires.edited.current;
       agrees = agrees_same old new c.args.edited.now.cache same c.requires.edited.agrees;
+      log = log_same old new c.args.edited.now.log c.args.edited.now.log same refl c.requires.edited.log;
     }

@@ -1,5 +1,6 @@
 use Rattle.std.proofs.Common.{◌≡◌, [], ◌∷◌, Ok, Err, None, sym, subst, rules}
 use Rattle.tech_file.specs.Reading.{technology_of}
+use Rattle.cell_library.specs.Libraries.{seen}
 use Rattle.workspace.specs.Caches.{Agrees}
 use Rattle.workspace.proofs.RecordLaws.{agrees_none}
 use Rattle.library_answers.specs.Replies.{tech_text}
@@ -7,18 +8,23 @@ use Rattle.line_answers.specs.LineEffects.{reply}
 use Rattle.line_answers.proofs.AnswerLaws.{both_ok}
 use Rattle.workspace.specs.KeptSessions.{state_of}
 use Rattle.library_commands.proofs.TechLaws.{tech_accepted, tech_text_refused}
+use Rattle.library_commands.proofs.VersionLaws.{log_forgotten}
 use Rattle.library_commands.proofs.command_tech.accept_tech.Goals as goal
 
 pub returns-in-Ok-clause-effect : goal.returns-in-Ok-clause-effect
 returns-in-Ok-clause-effect c =
     let is : technology_of c.args.text.now ≡ Ok c.in-Ok.read = search rules in
     let lines : c.told.result.lines.items ≡ reply (tech_text c.in-Ok.read) ∷ [] = search rules in
-    tech_accepted c.args.number c.args.file (technology_of c.args.text.now) c.in-Ok.read c.new.result c.new-in-Ok.result c.told.result is c.new.ensures
-    c.new-in-Ok.ensures lines c.told.ensures.stores
+    tech_accepted c.args.number c.args.file (technology_of c.args.text.now) c.in-Ok.read c.new.result c.new-in-Ok.result c.new-in-Ok-2.result c.told.result is
+    c.new.ensures c.new-in-Ok.ensures c.new-in-Ok-2.ensures lines c.told.ensures.stores
 
 pub returns-in-Ok-clause-kept : goal.returns-in-Ok-clause-kept
 returns-in-Ok-clause-kept c =
-    record { current = tt; agrees = subst (Agrees c.new.result) (sym c.new-in-Ok.ensures) (agrees_none c.new.result) }
+    record {
+      current = tt;
+      agrees = subst (Agrees c.new.result) (sym c.new-in-Ok.ensures) (agrees_none c.new.result);
+      log = log_forgotten (seen c.new.result) c.new-in-Ok-2.result c.new-in-Ok-2.ensures;
+    }
 
 pub returns-clause-effect : goal.returns-clause-effect
 returns-clause-effect c =

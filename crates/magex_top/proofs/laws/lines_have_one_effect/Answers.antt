@@ -6,6 +6,7 @@ returns c = one_line (record {
   tech = c.library_lines_have_one_effect.ensures.tech;
   load = c.library_lines_have_one_effect.ensures.load;
   edits = c.library_lines_have_one_effect.ensures.edits;
+  returns = c.library_lines_have_one_effect.ensures.returns;
   looks = c.library_lines_have_one_effect.ensures.looks;
   extract = c.extracting_lines_have_one_effect.ensures.extract;
   circuit = c.extracting_lines_have_one_effect.ensures.circuit;
