@@ -1,5 +1,6 @@
 -- Commands that edit: what takes each of them back where it is accepted, and which are never accepted.
-use Rattle.std.proofs.Common.{◌≡◌, ◌<◌, ◌&&◌, ℕ, ℤ, true, false, Bool, List, [], ◌∷◌, ◌++◌, length, filter, insert, refl, sym, ap, subst, ◌∙◌, inl, inr, neg_ℤ, true≢false}
+use Rattle.std.proofs.Common.{◌≡◌, ◌<◌, ◌&&◌, ℕ, ℤ, true, false, Bool, List, [], ◌∷◌, ◌++◌, length, filter, insert, refl, sym, ap, subst, ◌∙◌, inl}
+use Rattle.std.proofs.Common.{inr, neg_ℤ, true≢false}
 use Rattle.std.specs.Prelude.{MatchOption, Option, None, Some, not, if◌then◌else◌}
 use Rattle.std.specs.Option.{option_map_or}
 use Rattle.std.specs.Str.{bytes_eq}

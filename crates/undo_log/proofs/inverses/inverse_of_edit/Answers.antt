@@ -110,7 +110,8 @@ returns-in-Array c =
     let arm = c.in-Array in
     let formed = subst IsFormed arm.is c.requires.formed in
     let grid = six_grid arm.field-1 formed.1.count in
-    IfOk-weaker c.grid_back.result (OfUse (view_at view cell.0) arm.id (GivesGrid (view_at view cell.0) arm.id)) (Inverts library cell c.args.command.now) (λ made is.
+    IfOk-weaker c.grid_back.result (OfUse (view_at view cell.0) arm.id (GivesGrid (view_at view cell.0) arm.id))
+    (Inverts library cell c.args.command.now) (λ made is.
     as_named library cell c.args.command.now (command.Array arm.id arm.field-1) made arm.is
     (made_inverts library cell (command.Array arm.id arm.field-1) (has_id (view_at view cell.0).uses arm.id ≡ false)
     (GivesGrid (view_at view cell.0) arm.id) made
@@ -125,7 +126,8 @@ returns-in-Delete c =
     let view : LibraryView = seen library in
     let there = cell_there library cell c.requires.cell in
     let arm = c.in-Delete in
-    IfOk-weaker c.use_back.result (OfUse (view_at view cell.0) arm.id (BringsAgain (view_at view cell.0) arm.id)) (Inverts library cell c.args.command.now) (λ made is.
+    IfOk-weaker c.use_back.result (OfUse (view_at view cell.0) arm.id (BringsAgain (view_at view cell.0) arm.id))
+    (Inverts library cell c.args.command.now) (λ made is.
     as_named library cell c.args.command.now (command.Delete arm.id) made arm.is
     (made_inverts library cell (command.Delete arm.id) (has_id (view_at view cell.0).uses arm.id ≡ false)
     (BringsAgain (view_at view cell.0) arm.id) made
