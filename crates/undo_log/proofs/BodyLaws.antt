@@ -1,8 +1,7 @@
 -- What a cell had is brought back: its uses and its labels.
-use Rattle.std.proofs.Common.{◌≡◌, ◌+◌, ◌-◌, ◌<◌, ◌≤◌, ℕ, zero, suc, true, false, Bool, List, [], ◌∷◌, ◌++◌, length, map, filter, take, drop, insert, remove}
+use Rattle.std.proofs.Common.{◌≡◌, ◌-◌, ◌<◌, ◌≤◌, ℕ, zero, suc, true, false, Bool, List, [], ◌∷◌, ◌++◌, length, map, filter, take, drop, insert, remove}
 use Rattle.std.proofs.Common.{refl, sym, ap, subst, ◌∙◌, inl, inr, arith, true≢false, ℤ, ◌+ℤ◌, neg_ℤ}
 use Rattle.std.specs.Prelude.{Option, Some, not, ◌||◌, slice_get, if◌then◌else◌}
-use Rattle.std.specs.List.{list_any}
 use Rattle.std.specs.Str.{bytes_eq}
 use Rattle.std.proofs.lemmas.Bool.{cases_Bool}
 use Rattle.std.proofs.lemmas.Int.{ints}
@@ -17,7 +16,7 @@ use Rattle.geo_core.specs.declared.grids.Grid.{Grid}
 use Rattle.cell_tree.specs.declared.use_tables.UseBody.{UseBody}
 use Rattle.cell_library.specs.Edits.{moved_use, with_use_changed}
 use Rattle.cell_library.specs.Refusals.{has_id}
-use Rattle.cell_library.proofs.UseLists.{has_there, id_same, removed_use, use_in}
+use Rattle.cell_library.proofs.UseLists.{id_same, removed_use, use_in}
 
 -- uses with their ids
 abbrev pub Uses : Type 0

@@ -1,7 +1,7 @@
 -- Cells come to a library: inverses lead on from it as before.
 use Rattle.std.proofs.Common.{◌≡◌, ◌<◌, ◌≤◌, ◌-◌, ◌+◌, ℕ, zero, suc, List, [], ◌∷◌, ◌++◌, length, map, drop, refl, sym, ap, subst, ◌∙◌, arith}
-use Rattle.std.specs.Prelude.{All, Option, Some, slice_get, slice_index_or}
-use Rattle.std.proofs.lemmas.List.{append_assoc, drop-map, drop_at, get_or-append_right, get_or_append_left, length-append, length-map, map-append}
+use Rattle.std.specs.Prelude.{All, slice_get, slice_index_or}
+use Rattle.std.proofs.lemmas.List.{drop-map, drop_at, get_or-append_right, get_or_append_left, length-append, length-map, map-append}
 use Rattle.std.proofs.lemmas.Option.{get_or_from_slice_get, slice_get_within}
 use Rattle.geo_core.specs.FiniteSets.Lists.{Distinct}
 use Rattle.geo_core.proofs.FiniteSets.Places.{All-slice_get}
@@ -12,15 +12,15 @@ use Rattle.cell_tree.specs.Trees.{cell_at, empty_cell}
 use Rattle.cell_library.specs.Contents.{Held}
 use Rattle.cell_library.specs.Libraries.{IsLawfulLibrary, LibraryParts, cells_seen, seen, uses_in}
 use Rattle.cell_library.specs.LawfulViews.{IsLawfulView}
-use Rattle.cell_library.specs.Views.{CellView, LibraryView, changed_at, names_of, no_cell, view_at, with_cell_changed}
+use Rattle.cell_library.specs.Views.{CellView, LibraryView, changed_at, names_of, no_cell, view_at}
 use Rattle.cell_library.proofs.UseEdits.{uses_here}
 use Rattle.cell_library.proofs.ViewLaws.{count_seen, names_seen}
 use Rattle.undo_log.specs.declared.changes.Change.{Change}
 use Rattle.undo_log.specs.declared.changes.Change.TheVariants.{Repaint, InsertUse, DeleteUse, MoveUse, SetGrid, AddLabel, DropLabel, SetLabels}
 use Rattle.undo_log.specs.declared.changes.Inverse.{Inverse}
-use Rattle.undo_log.specs.Inverses.{CanBeMade, CellsCame, LeadTo, SpeaksOf, changed}
+use Rattle.undo_log.specs.Inverses.{CellsCame, LeadTo, SpeaksOf, changed}
 use Rattle.undo_log.specs.Laws.{CellsMayCome}
-use Rattle.undo_log.specs.Versions.{Version, version_of}
+use Rattle.undo_log.specs.Versions.{Version}
 use Rattle.undo_log.proofs.CellLaws.{count_kept}
 use Rattle.undo_log.proofs.ChangeLaws.{changed_is, remade}
 use Rattle.undo_log.proofs.MoreCells.{StandApart, more_lawful, more_seen, with_more}

@@ -1,16 +1,15 @@
 -- After an edit and its undo each cell has what it had, and redo gives back what undo took.
-use Rattle.std.proofs.Common.{◌≡◌, ◌<◌, ℕ, true, Bool, List, [], ◌∷◌, length, refl, sym, ap, subst, ◌∙◌, inl, inr, arith}
-use Rattle.std.specs.Prelude.{Option, Some, IfSome, if◌then◌else◌}
-use Rattle.std.specs.Option.{option_map_or}
+use Rattle.std.proofs.Common.{◌≡◌, ◌<◌, ℕ, true, [], ◌∷◌, length, refl, sym, ap, subst, ◌∙◌, inl, inr, arith}
+use Rattle.std.specs.Prelude.{Option, Some, IfSome}
 use Rattle.std.proofs.lemmas.Bool.{cases_eq}
-use Rattle.cell_library.specs.Views.{CellView, LibraryView, view_at, with_cell_changed}
+use Rattle.cell_library.specs.Views.{CellView, LibraryView, view_at}
 use Rattle.script_lines.specs.declared.commands.Command.{Command}
 use Rattle.script_lines.specs.declared.commands.Command.TheVariants as command
 use Rattle.edit_script.specs.Editing.{Editing}
 use Rattle.edit_script.specs.Edits.{applied}
 use Rattle.edit_script.proofs.KeptCells.{KeepsButCurrent, KeepsOthers, cells_kept}
-use Rattle.undo_log.specs.Laws.{AreAlike, EditsAreTakenBack, HaveTheSame, IsRedoneTo, IsUndoneTo}
-use Rattle.undo_log.specs.Versions.{Return, Versions, after_edit, is_edit, undone, version_of, versions_after, versions_undone, with_version}
+use Rattle.undo_log.specs.Laws.{AreAlike, EditsAreTakenBack, HaveTheSame}
+use Rattle.undo_log.specs.Versions.{Versions, is_edit, undone, version_of, versions_after, with_version}
 use Rattle.undo_log.proofs.CellLaws.{cell_here, cell_other, count_kept}
 use Rattle.undo_log.proofs.LeadLaws.{edit_versions}
 

@@ -1,6 +1,7 @@
 -- Commands that edit: what takes each of them back where it is accepted, and which are never accepted.
-use Rattle.std.proofs.Common.{◌≡◌, ◌<◌, ◌&&◌, ℕ, ℤ, true, false, Bool, List, [], ◌∷◌, ◌++◌, length, filter, insert, refl, sym, ap, subst, ◌∙◌, inl, inr, neg_ℤ, true≢false}
-use Rattle.std.specs.Prelude.{IsTrue, MatchOption, Option, None, Some, not, if◌then◌else◌}
+use Rattle.std.proofs.Common.{◌≡◌, ◌<◌, ◌&&◌, ℕ, ℤ, true, false, Bool, List, [], ◌∷◌, ◌++◌, length, filter, insert, refl, sym, ap, subst, ◌∙◌, inl}
+use Rattle.std.proofs.Common.{inr, neg_ℤ, true≢false}
+use Rattle.std.specs.Prelude.{MatchOption, Option, None, Some, not, if◌then◌else◌}
 use Rattle.std.specs.Option.{option_map_or}
 use Rattle.std.specs.Str.{bytes_eq}
 use Rattle.std.proofs.lemmas.Bool.{and_from, cases_Bool, cases_eq}
@@ -18,19 +19,17 @@ use Rattle.tech_model.specs.Types.{layer_named}
 use Rattle.cell_library.specs.LowerLayoutTrees.LayoutModel.Layouts.{Layout}
 use Rattle.cell_library.specs.LowerLayoutTrees.LayoutModel.Places.{Place}
 use Rattle.cell_paint.specs.Painting.{column_at, is_in_range, with_columns, with_erased, with_paint}
-use Rattle.cell_tree.specs.declared.use_tables.UseBody.{UseBody}
 use Rattle.cell_library.specs.declared.faults.LibFault.{LibFault}
 use Rattle.cell_library.specs.declared.faults.LibFault.TheVariants as library
 use Rattle.cell_library.specs.declared.limits.LibraryLimit.TheVariants.{Edits}
 use Rattle.cell_library.specs.declared.limits.TheConstants.{MOST_EDITS}
 use Rattle.cell_tree.specs.declared.sizes.Dimension.TheVariants.{Hull}
 use Rattle.cell_library.specs.Limits.{GoesPast}
-use Rattle.cell_library.specs.Edits.{erased, labelled, moved, painted, placed, single_use, transform_of, with_grid, with_use_changed, without_use}
+use Rattle.cell_library.specs.Edits.{erased, labelled, painted, placed, single_use, transform_of, with_grid}
 use Rattle.cell_library.specs.Refusals.{ArrayIsRefused, DeleteIsRefused, EditIsRefused, EraseIsRefused, LabelIsRefused, MoveIsRefused, PaintIsRefused}
 use Rattle.cell_library.specs.Refusals.{AreaIsRefused, FirstOf, NothingElse, PlaceIsRefused, has_id}
 use Rattle.cell_library.specs.LawfulViews.{IsLawfulView}
 use Rattle.cell_library.specs.Views.{CellView, LibraryView, cell_named, view_at, with_cell_changed}
-use Rattle.script_lines.specs.declared.commands.Command.{Command}
 use Rattle.script_lines.specs.declared.commands.Command.TheVariants as command
 use Rattle.edit_script.specs.declared.faults.EditFault.{EditFault}
 use Rattle.edit_script.specs.declared.faults.EditFault.TheVariants.{NoCell, NoLayer}

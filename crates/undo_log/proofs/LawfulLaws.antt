@@ -1,14 +1,12 @@
 -- What holds of libraries that some lawful library is seen as.
-use Rattle.std.proofs.Common.{◌≡◌, ◌<◌, ℕ, List, length, map, sym, ap, subst, ◌∙◌}
+use Rattle.std.proofs.Common.{◌≡◌, ◌<◌, ℕ, List, length, map, sym, subst}
 use Rattle.std.specs.Prelude.{All, Some, slice_get}
 use Rattle.geo_core.specs.FiniteSets.Lists.{Distinct}
 use Rattle.cell_library.specs.CellBodies.Bodies.{IsLabel}
 use Rattle.cell_tree.specs.declared.sizes.Dimension.{Dimension}
 use Rattle.cell_tree.specs.declared.use_tables.UseBody.{UseBody}
-use Rattle.cell_tree.specs.Trees.{cell_at}
 use Rattle.cell_tree.specs.Uses.{IsLawfulUse}
-use Rattle.tech_model.specs.declared.raw.Label.{Label}
-use Rattle.cell_library.specs.Contents.{held_at, no_held}
+use Rattle.cell_library.specs.Contents.{no_held}
 use Rattle.cell_library.specs.Libraries.{LibraryParts, IsLawfulLibrary, seen}
 use Rattle.cell_library.specs.Limits.{GoesPast}
 use Rattle.cell_library.specs.LawfulViews.{IsLawfulView}

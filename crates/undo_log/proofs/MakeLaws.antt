@@ -1,9 +1,8 @@
 -- A change that can be made is refused for want of memory alone, and where there were too many edits.
-use Rattle.std.proofs.Common.{◌≡◌, ◌<◌, ◌&&◌, ◌||◌, ℕ, zero, suc, ℤ, pos, neg_ℤ, ◌^◌, ◌≤ℤ◌, true, false, Bool, List, [], ◌∷◌, ◌++◌, length, refl, sym, ap, subst, ◌∙◌}
+use Rattle.std.proofs.Common.{◌≡◌, ◌<◌, ◌&&◌, ◌||◌, ℕ, suc, ℤ, pos, neg_ℤ, ◌≤ℤ◌, true, false, Bool, List, [], ◌∷◌, ◌++◌, length, refl, sym, ap, subst, ◌∙◌}
 use Rattle.std.proofs.Common.{inl, inr, arith, true≢false}
-use Rattle.std.specs.Prelude.{FitsSigned, IsTrue, Result, Ok, Err, Some, not, slice_get, slice_index_or}
+use Rattle.std.specs.Prelude.{IsTrue, Result, Ok, Err, Some, not, slice_get, slice_index_or}
 use Rattle.std.specs.Int.{w64}
-use Rattle.std.specs.List.{list_any}
 use Rattle.std.specs.Str.{bytes_eq}
 use Rattle.std.proofs.lemmas.Bool.{and_from, and_parts, cases_Bool}
 use Rattle.std.proofs.lemmas.Grind.{common_steps}
@@ -22,7 +21,7 @@ use Rattle.cell_library.specs.declared.faults.LibFault.TheVariants.{TooMany}
 use Rattle.cell_library.specs.declared.limits.LibraryLimit.TheVariants.{Edits}
 use Rattle.cell_library.specs.declared.limits.TheConstants.{MOST_EDITS}
 use Rattle.cell_library.specs.Edits.{labelled, moved, moved_use, with_use_changed}
-use Rattle.cell_library.specs.Refusals.{Answers, AnswersOrLacksMemory, DeleteIsRefused, EditIsRefused, HasFaultOrLacksMemory, LabelIsRefused, MoveIsRefused}
+use Rattle.cell_library.specs.Refusals.{Answers, AnswersOrLacksMemory, DeleteIsRefused, EditIsRefused, LabelIsRefused, MoveIsRefused}
 use Rattle.cell_library.specs.Refusals.{NothingElse, has_id, moves_too_far, stands_in_range}
 use Rattle.cell_library.specs.LawfulViews.{IsLawfulView}
 use Rattle.cell_library.specs.Views.{CellView, LibraryView, view_at}

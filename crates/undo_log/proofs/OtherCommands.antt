@@ -1,12 +1,11 @@
 -- Commands that change no cell, or come where there is none to change: a log keeps its versions.
-use Rattle.std.proofs.Common.{◌≡◌, ◌⊎◌, ◌<◌, ◌≤◌, ℕ, zero, suc, true, false, Bool, List, [], ◌∷◌, ◌++◌, length, refl, sym, ap, subst, ◌∙◌, inl, inr, arith, true≢false}
-use Rattle.std.specs.Prelude.{All, Option, None, Some, if◌then◌else◌, slice_index_or, unwrap_or}
+use Rattle.std.proofs.Common.{◌≡◌, ◌⊎◌, ◌<◌, ℕ, zero, suc, true, false, Bool, List, [], ◌∷◌, length, refl, sym, ap, subst, ◌∙◌, inl, inr, arith, true≢false}
+use Rattle.std.specs.Prelude.{Option, None, Some, if◌then◌else◌, slice_index_or, unwrap_or}
 use Rattle.std.specs.Option.{option_map_or}
 use Rattle.ext_model.specs.declared.tables.CellKey.{CellKey}
 use Rattle.cell_tree.specs.declared.use_tables.UseBody.{UseBody}
 use Rattle.cell_library.specs.Edits.{empty_cell, with_new_cell}
 use Rattle.cell_library.specs.Libraries.{IsLawfulLibrary, IsLawfulScale, LibraryParts, seen}
-use Rattle.cell_library.specs.LawfulViews.{IsLawfulView}
 use Rattle.cell_library.specs.Views.{CellView, LibraryView}
 use Rattle.cell_library.proofs.ViewLaws.{count_seen}
 use Rattle.script_lines.specs.declared.commands.Command.{Command}

@@ -1,5 +1,6 @@
 -- Uses that a lawful library has: which move far, and which ids are new.
-use Rattle.std.proofs.Common.{◌≡◌, ◌+◌, ◌<◌, ◌≤◌, ◌^◌, ℕ, zero, suc, ℤ, pos, neg_ℤ, ◌+ℤ◌, ◌-ℤ◌, ◌≤ℤ◌, true, false, Bool, List, [], ◌∷◌, ◌++◌, length, map, take, drop, insert}
+use Rattle.std.proofs.Common.{◌≡◌, ◌+◌, ◌<◌, ◌≤◌, ◌^◌, ℕ, zero, suc, ℤ, pos, neg_ℤ, ◌+ℤ◌, ◌-ℤ◌, ◌≤ℤ◌, true, false, Bool, List, [], ◌∷◌, ◌++◌, length}
+use Rattle.std.proofs.Common.{map, take, drop, insert}
 use Rattle.std.proofs.Common.{refl, sym, ap, subst, ◌∙◌, inl, inr, arith, true≢false}
 use Rattle.std.specs.Prelude.{FitsSigned, None, Some, ◌||◌, slice_get, if◌then◌else◌}
 use Rattle.std.specs.Int.{w64}
@@ -61,6 +62,7 @@ place_past (first ∷ rest) id past = elim (cases_Bool (bytes_eq first.0 id)) [
       ap (λ (b : Bool). b || has_id rest id) away ∙ place_past rest id (omega arith)
 ]
 
+-- a search that finds none tells so
 pub place_nowhere : (uses : Uses) (id : List ℕ) → place_of uses id ≡ None → has_id uses id ≡ false
 place_nowhere uses id none = place_past uses id (position_past (λ (entry : List ℕ × UseBody). bytes_eq entry.0 id) uses none)
 

@@ -67,14 +67,13 @@ fn use_of(library: &Library, cell: CellKey, id: &Name) -> Option<(usize, UseBody
     ensures there { IfSome result (λ found. slice_get (view_at (seen library.now) cell.0).uses found.0 ≡ Some (id.now, found.1)) }
     ensures none { IfNone result (has_id (view_at (seen library.now) cell.0).uses id.now ≡ false) }
 {
-    let place = match library.find_use(cell, id.bytes()) {
-        Some(place) => place,
-        None => return None,
+    let Some(place) = library.find_use(cell, id.bytes()) else {
+        return None;
     };
-    match library.use_at(cell, place) {
-        Some((_, used)) => Some((place, *used)),
-        None => unreachable!(),
-    }
+    let Some((_, used)) = library.use_at(cell, place) else {
+        unreachable!();
+    };
+    Some((place, *used))
 }
 
 // What brings the use of the id again where it stands, if there is one.

@@ -1,25 +1,20 @@
-use Rattle.std.proofs.Common.{◌≡◌, ℕ, ℤ, true, false, List, map, subst, sym, true≢false, neg_ℤ, refl, ◌<◌}
-use Rattle.std.specs.Int.{w64}
+use Rattle.std.proofs.Common.{◌≡◌, ℕ, ℤ, List, map, subst, sym, refl, ◌<◌}
 use Rattle.std.proofs.lemmas.Result.{IfOk-weaker}
 use Rattle.geo_core.specs.FiniteSets.Lists.{Distinct}
-use Rattle.tech_model.specs.declared.raw.Label.{Label}
 use Rattle.cell_tree.specs.declared.use_tables.UseBody.{UseBody}
 use Rattle.cell_library.specs.Libraries.{seen}
-use Rattle.cell_library.specs.Refusals.{has_id}
 use Rattle.cell_library.specs.LawfulViews.{IsLawfulView}
 use Rattle.cell_library.specs.Views.{CellView, LibraryView, view_at}
 use Rattle.undo_log.specs.declared.changes.Change.{Change}
 use Rattle.undo_log.specs.declared.changes.Change.TheVariants.{AddLabel, DeleteUse, DropLabel, InsertUse, MoveUse, Repaint, SetGrid, SetLabels}
 use Rattle.undo_log.specs.Inverses.{CanBeMade, TakesBack, changed}
 use Rattle.undo_log.specs.Makings.{AddsLast, PutsBack}
-use Rattle.undo_log.proofs.BodyLaws.{Uses}
 use Rattle.undo_log.proofs.CellLaws.{cell_here, count_kept}
-use Rattle.undo_log.proofs.ChangeLaws.{change_taken_back, deletion_taken_back, drop_taken_back, grid_taken_back, insertion_taken_back, label_taken_back}
+use Rattle.undo_log.proofs.ChangeLaws.{deletion_taken_back, drop_taken_back, grid_taken_back, insertion_taken_back, label_taken_back}
 use Rattle.undo_log.proofs.ChangeLaws.{labels_taken_back, move_taken_back, remade, repaint_taken_back}
 use Rattle.undo_log.proofs.LawfulLaws.{lawful_ids}
 use Rattle.undo_log.proofs.UseMoves.{IsShort, moves_are_short, new_id, short_opposite, short_opposite_is}
 use Rattle.undo_log.proofs.inverses.inverse_of_change.Goals as goal
-use mir.Val.{of_z, to_z}
 
 -- what takes another name of the change back takes it back
 as_named : (view : LibraryView) (cell : ℕ) (change named back : Change) → change ≡ named → TakesBack view (changed view cell named) cell back

@@ -1,14 +1,13 @@
-use Rattle.std.proofs.Common.{◌≡◌, ◌<◌, ◌&&◌, ℕ, ℤ, true, false, List, [], ◌∷◌, length, refl, subst, sym, arith}
+use Rattle.std.proofs.Common.{◌≡◌, ◌<◌, ◌&&◌, ℕ, ℤ, false, List, [], ◌∷◌, length, refl, subst, sym, arith}
 use Rattle.std.specs.Prelude.{IsSomeAnd, MatchOption, Option, None, Some}
 use Rattle.std.proofs.lemmas.Result.{IfOk-weaker}
 use Rattle.cell_paint.specs.Painting.{is_in_range}
 use Rattle.geo_core.specs.Areas.{has_square}
 use Rattle.ext_model.specs.declared.tables.CellKey.{CellKey}
 use Rattle.geo_core.specs.declared.grids.Grid.{Grid}
-use Rattle.geo_core.specs.declared.squares.Rect.{Rect}
 use Rattle.cell_library.specs.Libraries.{LibraryParts, edits_of, seen}
 use Rattle.cell_library.specs.Refusals.{has_id}
-use Rattle.cell_library.specs.Views.{CellView, LibraryView, view_at}
+use Rattle.cell_library.specs.Views.{LibraryView, view_at}
 use Rattle.cell_library.proofs.UseLists.{has_there}
 use Rattle.cell_library.proofs.ViewLaws.{count_seen}
 use Rattle.script_lines.specs.declared.commands.Command.{Command}
@@ -17,7 +16,7 @@ use Rattle.script_lines.specs.Forms.{IsFormed}
 use Rattle.edit_script.specs.Editing.{editing_of}
 use Rattle.edit_script.specs.Edits.{applied, grid_of}
 use Rattle.undo_log.specs.declared.changes.Change.{Change}
-use Rattle.undo_log.specs.declared.changes.Change.TheVariants.{DeleteUse, DropLabel, MoveUse, SetLabels}
+use Rattle.undo_log.specs.declared.changes.Change.TheVariants.{DeleteUse, DropLabel, MoveUse}
 use Rattle.undo_log.specs.Inverses.{TakesBack}
 use Rattle.undo_log.specs.Makings.{Accepts, BringsAgain, GivesGrid, OfUse, PutsBack}
 use Rattle.undo_log.proofs.EditLaws.{arraying_refused, arraying_taken_back, deleting_refused, deleting_taken_back, erasing_refused, erasing_taken_back}
@@ -111,7 +110,8 @@ returns-in-Array c =
     let arm = c.in-Array in
     let formed = subst IsFormed arm.is c.requires.formed in
     let grid = six_grid arm.field-1 formed.1.count in
-    IfOk-weaker c.grid_back.result (OfUse (view_at view cell.0) arm.id (GivesGrid (view_at view cell.0) arm.id)) (Inverts library cell c.args.command.now) (λ made is.
+    IfOk-weaker c.grid_back.result (OfUse (view_at view cell.0) arm.id (GivesGrid (view_at view cell.0) arm.id))
+    (Inverts library cell c.args.command.now) (λ made is.
     as_named library cell c.args.command.now (command.Array arm.id arm.field-1) made arm.is
     (made_inverts library cell (command.Array arm.id arm.field-1) (has_id (view_at view cell.0).uses arm.id ≡ false)
     (GivesGrid (view_at view cell.0) arm.id) made
@@ -126,7 +126,8 @@ returns-in-Delete c =
     let view : LibraryView = seen library in
     let there = cell_there library cell c.requires.cell in
     let arm = c.in-Delete in
-    IfOk-weaker c.use_back.result (OfUse (view_at view cell.0) arm.id (BringsAgain (view_at view cell.0) arm.id)) (Inverts library cell c.args.command.now) (λ made is.
+    IfOk-weaker c.use_back.result (OfUse (view_at view cell.0) arm.id (BringsAgain (view_at view cell.0) arm.id))
+    (Inverts library cell c.args.command.now) (λ made is.
     as_named library cell c.args.command.now (command.Delete arm.id) made arm.is
     (made_inverts library cell (command.Delete arm.id) (has_id (view_at view cell.0).uses arm.id ≡ false)
     (BringsAgain (view_at view cell.0) arm.id) made

@@ -1,8 +1,8 @@
-use Rattle.std.proofs.Common.{◌≡◌, ◌<◌, ℕ, List, ◌∷◌, drop, length, ap, refl, subst, sym, ◌∙◌}
+use Rattle.std.proofs.Common.{◌≡◌, ◌<◌, ℕ, List, ◌∷◌, drop, length, ap, refl, subst, ◌∙◌}
 use Rattle.cell_library.specs.Libraries.{LibraryParts, edits_of, seen}
 use Rattle.cell_library.proofs.ViewLaws.{count_seen}
 use Rattle.undo_log.specs.declared.changes.Inverse.{Inverse}
-use Rattle.undo_log.specs.Inverses.{CanBeMade, LeadTo, TakesBack, changed}
+use Rattle.undo_log.specs.Inverses.{LeadTo}
 use Rattle.undo_log.specs.Versions.{Version}
 use Rattle.undo_log.proofs.LeadLaws.{brought_back, first_can_be_made}
 use Rattle.undo_log.proofs.MakeLaws.{few_edits}

@@ -1,5 +1,5 @@
-use Rattle.std.proofs.Common.{◌≡◌, ℕ, List, [], ◌∷◌, ap, refl, subst, sym, ◌∙◌}
-use Rattle.std.specs.Prelude.{IsSomeAnd, Option, Some}
+use Rattle.std.proofs.Common.{◌≡◌, List, ◌∷◌, ap, refl, subst, sym, ◌∙◌}
+use Rattle.std.specs.Prelude.{Option, Some}
 use Rattle.std.specs.Option.{option_map}
 use Rattle.ext_model.specs.declared.tables.CellKey.{CellKey}
 use Rattle.cell_library.specs.Libraries.{LibraryParts, seen}
