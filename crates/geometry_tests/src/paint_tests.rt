@@ -471,3 +471,31 @@ fn the_first_bad_area_of_a_list_is_told(rt: HostRuntime) -> Result<(), Fail> {
     }
     Ok(())
 }
+
+/// Whether what stood in the area stands there again when it is put back, after a layer was erased there.
+fn comes_back(alloc: Global, tech: &Tech, area: Rect) -> Result<bool, PaintFault> {
+    let Some(layer) = layer_of(tech, b"diff") else {
+        return Ok(false);
+    };
+    if !is_sound(&area) {
+        return Ok(false);
+    }
+    let mut cell = painted(alloc, tech, CROSSING)?;
+    cell.sound();
+    let taken = cell.take_out(area)?;
+    cell.erase(tech, layer, area)?;
+    let whole = painted(alloc, tech, CROSSING)?;
+    if are_alike(&cell, &whole) {
+        return Ok(false);
+    }
+    cell.put_back(area, taken.as_slice())?;
+    Ok(are_alike(&cell, &whole))
+}
+
+#[test]
+fn what_was_taken_out_comes_back(rt: HostRuntime) -> Result<(), Fail> {
+    let tech = read_tech(rt.alloc(), NM)?;
+    assert!(rt; comes_back(rt.alloc(), &tech, rect([1, 1, 5, 5]))?);
+    assert!(rt; comes_back(rt.alloc(), &tech, rect([-9, -9, 9, 9]))?);
+    Ok(())
+}
