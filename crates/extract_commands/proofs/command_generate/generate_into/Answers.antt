@@ -1,4 +1,4 @@
-use Rattle.std.proofs.Common.{◌≡◌, ◌∙◌, ℕ, List, Some, ap, length, subst}
+use Rattle.std.proofs.Common.{◌≡◌, ◌∙◌, ℕ, List, [], Some, ap, length, subst}
 use Rattle.std.proofs.lemmas.Int.{to_z-of_z}
 use Rattle.std.specs.Int.RustNames.{unsigned_abs}
 use Rattle.session_model.specs.Effects.{AnswersAlone}
@@ -28,7 +28,7 @@ returns-in_ok-answer-in-Made-clause-effect c =
     let is : after ≡ unless_refused answer.lines.items ran =
     subst (λ (lines : List ReportLine). after ≡ unless_refused lines ran) c.as_slice.ensures.value c.forget_unless_refused.ensures.state in
     subst (λ (rows : ℕ). AnswersAlone (GeneratesStack c.args.budget c.args.number rows work) (Some after) answer) rows_are
-    (stack_made c.args.budget c.args.number n work now c.in-Made.cell.0 ran after answer came c.in_ok-answer-in-Made.ensures.effect is)
+    (stack_made c.args.budget c.args.number n work now c.in-Made.cell.0 ran after answer came (c.in_ok-answer-in-Made.ensures.effect []) is)
 
 pub returns-in-Refused-clause-effect : goal.returns-in-Refused-clause-effect
 returns-in-Refused-clause-effect c =
