@@ -110,6 +110,10 @@ edits_do_one_thing number (Some work) edit effect other (inr p) (inr q) = one_re
 
 -- ---- undo and redo
 
+-- an edit is left or none is
+some_or_none : (found : Option Return) → found ≡ None → IsSome found → ⊥
+some_or_none found none some = cc
+
 -- an edit that is left is one
 one_return : (found : Option Return) (one other : Return) → found ≡ Some one → found ≡ Some other → one ≡ other
 one_return found one other is also = cc
@@ -128,8 +132,8 @@ module _ (way : Way) (work : Workspace) where
   -- it is refused for one fault
   one_return_fault : (fault other : UndoFault) → ReturnIsRefused way work fault → ReturnIsRefused way work other → fault ≡ other
   one_return_fault fault other (inl p) (inl q) = p.1 ∙ sym q.1
-  one_return_fault fault other (inl p) (inr q) = absurd (subst (λ (found : Option Return). IsSome found) p.0 q.0)
-  one_return_fault fault other (inr p) (inl q) = absurd (subst (λ (found : Option Return). IsSome found) q.0 p.0)
+  one_return_fault fault other (inl p) (inr q) = absurd (some_or_none (return_by way work) p.0 q.0)
+  one_return_fault fault other (inr p) (inl q) = absurd (some_or_none (return_by way work) q.0 p.0)
   one_return_fault fault other (inr p) (inr q) = p.2 ∙ sym q.2
 
   -- and then no cell is brought back

@@ -1,27 +1,29 @@
 -- What `undo` and `redo` do to what a session keeps.
 use Rattle.std.proofs.Common.{◌≡◌, ◌≢◌, ◌⊎◌, ◌<◌, ◌∙◌, ℕ, length, List, [], ◌∷◌, Err, inl, inr, sym, ap, subst, refl, arith}
-use Rattle.std.specs.Prelude.{IfSome, IsErrOf, IsSome, Option, None, Result, Some}
+use Rattle.std.specs.Prelude.{◌↔◌, IfErr, IfSome, IsErrOf, IsSome, OnErr, OnOk, Option, None, Result, Some, Ok}
 use Rattle.ext_model.specs.declared.tables.CellKey.{CellKey}
 use Rattle.cell_library.specs.declared.limits.TheConstants.{MOST_EDITS}
 use Rattle.cell_library.specs.Additions.{children_in}
-use Rattle.cell_library.specs.Libraries.{LibraryParts, IsLawfulLibrary, IsNextEdit, edits_of, seen}
+use Rattle.cell_library.specs.Libraries.{LibraryParts, IsLawfulLibrary, IsSame, edits_of, seen}
 use Rattle.cell_library.specs.Views.{CellView, LibraryView, view_at, with_cell_changed}
 use Rattle.cell_library.proofs.ViewLaws.{count_seen, length-changed_at}
 use Rattle.edit_script.specs.Editing.{IsCurrent}
 use Rattle.undo_log.specs.declared.changes.Inverse.{Inverse}
 use Rattle.undo_log.specs.declared.faults.UndoFault.{UndoFault}
 use Rattle.undo_log.specs.declared.faults.UndoFault.TheVariants as undo
-use Rattle.undo_log.specs.Inverses.{Inverses, IsReturned, Keeps, kept_versions, led_to}
+use Rattle.undo_log.specs.Inverses.{Inverses, IsReturned, Keeps, LeadTo, kept_versions, led_to}
 use Rattle.undo_log.specs.Versions.{Return, Version, Versions, returned}
 use Rattle.undo_log.proofs.LeadLaws.{versions_unique}
 use Rattle.workspace.specs.Caches.{Agrees, Records, is_dirty}
-use Rattle.workspace.proofs.WorkspaceLaws.{workspace_of}
+use Rattle.workspace.specs.States.{Workspace}
+use Rattle.workspace.proofs.WorkspaceLaws.{same_current, workspace_of}
 use Rattle.library_commands.specs.declared.command_returns.Way.{Way}
 use Rattle.library_commands.specs.declared.command_returns.Way.TheVariants.{Redo, Undo}
 use Rattle.library_commands.specs.CommandEdits.{MarksAbove}
 use Rattle.library_commands.specs.CommandReturns.{IsBrought, ReturnIsRefused, nothing_left, return_by, versions_by}
 use Rattle.library_commands.proofs.MarkLaws.{current_edited}
-use Rattle.workspace.proofs.VersionLaws.{KeepsSome}
+use Rattle.workspace.proofs.RecordLaws.{agrees_same}
+use Rattle.workspace.proofs.VersionLaws.{KeepsSome, log_same}
 
 -- ---- an edit that is left
 
@@ -39,95 +41,118 @@ returned_changes view (version ∷ earlier) later back is =
     let same : one ≡ back = cc in
     (version.body, subst (λ (b : Return). b.library ≡ with_cell_changed view b.cell (λ _. version.body)) same refl)
 
--- the library was brought to a version by the lists of the way
-abbrev pub IsReturnedBy : Way → LibraryParts → LibraryParts → Versions → Inverses → Type 0
-IsReturnedBy Undo old new versions log = IsReturned old new versions.done versions.undone log.done log.undone
-IsReturnedBy Redo old new versions log = IsReturned old new versions.undone versions.done log.undone log.done
+-- the versions and the inverses of the way, and the others
+abbrev pub earlier_by : Way → Versions → List Version
+earlier_by Undo versions = versions.done
+earlier_by Redo versions = versions.undone
 
--- the return
-back_by : (way : Way) (old new : LibraryParts) (versions : Versions) (log : Inverses) → IsReturnedBy way old new versions log → Return
-back_by Undo old new versions log is = is.back
-back_by Redo old new versions log is = is.back
+abbrev pub later_by : Way → Versions → List Version
+later_by Undo versions = versions.undone
+later_by Redo versions = versions.done
 
-module _ (old new : LibraryParts) (log later : Inverses) (versions : Versions) (keeps : Keeps (seen old) log versions) where
-  -- the versions are those that the log keeps
-  kept : versions ≡ kept_versions (seen old) log
-  kept = versions_unique (seen old) log versions keeps
-
-  -- which are those that are returned from
-  left_by : (way : Way) (current : Option CellKey) (records : Records) (is : IsReturnedBy way old new versions later)
-      → return_by way (workspace_of old current records log) ≡ Some (back_by way old new versions later is)
-  left_by Undo current records is = ap (λ (v : Versions). returned (seen old) v.done v.undone) (sym kept) ∙ is.is
-  left_by Redo current records is = ap (λ (v : Versions). returned (seen old) v.undone v.done) (sym kept) ∙ is.is
-
-  -- the log keeps the versions of the return then
-  keeps_by : (way : Way) (is : IsReturnedBy way old new versions later) → Keeps (seen new) later (versions_by way (back_by way old new versions later is))
-  keeps_by Undo is = record { done = is.leads; undone = is.leads_back }
-  keeps_by Redo is = record { done = is.leads_back; undone = is.leads }
-
-  library_by : (way : Way) (is : IsReturnedBy way old new versions later) → seen new ≡ (back_by way old new versions later is).library
-  library_by Undo is = is.library
-  library_by Redo is = is.library
-
-  edit_by : (way : Way) (is : IsReturnedBy way old new versions later) → IsNextEdit old new (back_by way old new versions later is).cell
-  edit_by Undo is = is.edit
-  edit_by Redo is = is.edit
-
-  change_by : (way : Way) (is : IsReturnedBy way old new versions later)
-      → (body : CellView) × ((back_by way old new versions later is).library
-      ≡ with_cell_changed (seen old) (back_by way old new versions later is).cell (λ _. body))
-  change_by Undo is = returned_changes (seen old) versions.done versions.undone is.back is.is
-  change_by Redo is = returned_changes (seen old) versions.undone versions.done is.back is.is
-
-  module _ (way : Way) (is : IsReturnedBy way old new versions later) (lawful : IsLawfulLibrary old) (current : Option CellKey) (records : Records)
-      (agrees : Agrees old records) where
-    -- what the edit leaves of records and marks
-    edited : Agrees new records × MarksAbove (children_in (seen old)) (back_by way old new versions later is).cell (is_dirty old records)
-        (is_dirty new records)
-    edited =
-        let back = back_by way old new versions later is in
-        let (body, change) = change_by way is in
-        current_edited old new (Some (record { 0 = back.cell })) back.library records lawful (edit_by way is) ((λ _. body), change) (library_by way is)
-        agrees
-
-    -- so a cell is brought to its version
-    pub is_brought : edits_of old ≢ MOST_EDITS → IsBrought way (workspace_of old current records log) (workspace_of new current records later)
-    is_brought few = record {
-      back = back_by way old new versions later is;
-      is_left = left_by way current records is;
-      few = few;
-      dirty = is_dirty new records;
-      marks = edited.1;
-      is = λ i. record {
-        editing = record { library = library_by way is i; edits = (edit_by way is).edits i; current = (workspace_of new current records later).editing.current };
-        dirty = is_dirty new records;
-        versions = versions_unique (seen new) later (versions_by way (back_by way old new versions later is)) (keeps_by way is) (~ i);
-      };
-    }
-
-    -- and all agrees then
-    pub agrees_then : Agrees new records
-    agrees_then = edited.0
-
-    pub keeps_then : KeepsSome (seen new) later
-    keeps_then = (versions_by way (back_by way old new versions later is), keeps_by way is)
-
-    -- there are as many cells
-    pub current_then : IsCurrent old current → IsCurrent new current
-    current_then there =
-        let (body, change) = change_by way is in
-        let back = back_by way old new versions later is in
-        let same = library_by way is ∙ change in
-        let long = (λ i. length (same i).cells) ∙ length-changed_at (seen old).cells back.cell (λ _. body) in
-        let count : length old.contents ≡ length new.contents = sym (count_seen old) ∙ sym long ∙ count_seen new in
-        subst (λ (n : ℕ). IfSome current (λ key. key.0 < n)) count there
-
--- ---- what is refused
-
--- the inverses of the way
 abbrev pub inverses_by : Way → Inverses → List Inverse
 inverses_by Undo log = log.done
 inverses_by Redo log = log.undone
+
+abbrev pub others_by : Way → Inverses → List Inverse
+others_by Undo log = log.undone
+others_by Redo log = log.done
+
+-- the library was brought to a version by the lists of the way
+abbrev pub IsReturnedBy : Way → LibraryParts → LibraryParts → Versions → Inverses → Type 0
+IsReturnedBy way old new versions log =
+    IsReturned old new (earlier_by way versions) (later_by way versions) (inverses_by way log) (others_by way log)
+
+-- what is left of versions
+left_by : (way : Way) (work : Workspace) → return_by way work ≡ returned work.editing.library (earlier_by way work.versions) (later_by way work.versions)
+left_by Undo work = refl
+left_by Redo work = refl
+
+-- a log keeps the versions of a return to which its lists lead
+kept_by : (way : Way) (view : LibraryView) (back : Return) (log : Inverses) → LeadTo view (inverses_by way log) back.earlier
+    → LeadTo view (others_by way log) back.later → Keeps view log (versions_by way back)
+kept_by Undo view back log leads leads_back = record { done = leads; undone = leads_back }
+kept_by Redo view back log leads leads_back = record { done = leads_back; undone = leads }
+
+module _ (way : Way) (old new : LibraryParts) (log later : Inverses) (versions : Versions) (keeps : Keeps (seen old) log versions)
+    (is : IsReturnedBy way old new versions later) (lawful : IsLawfulLibrary old) (current : Option CellKey) (records : Records)
+    (agrees : Agrees old records) where
+  -- the return is from the versions that the log keeps
+  is_left : return_by way (workspace_of old current records log) ≡ Some is.back
+  is_left =
+      let same = sym (versions_unique (seen old) log versions keeps) in
+      left_by way (workspace_of old current records log)
+      ∙ ap (λ (v : Versions). returned (seen old) (earlier_by way v) (later_by way v)) same
+      ∙ is.is
+
+  -- and the log keeps those of the return then
+  keeps_back : Keeps (seen new) later (versions_by way is.back)
+  keeps_back = kept_by way (seen new) is.back later is.leads is.leads_back
+
+  -- what the edit leaves of records and marks
+  edited : Agrees new records × MarksAbove (children_in (seen old)) is.back.cell (is_dirty old records) (is_dirty new records)
+  edited =
+      let (body, change) = returned_changes (seen old) (earlier_by way versions) (later_by way versions) is.back is.is in
+      current_edited old new (Some (record { 0 = is.back.cell })) is.back.library records lawful is.edit ((λ _. body), change) is.library agrees
+
+  -- so a cell is brought to its version
+  pub is_brought : edits_of old ≢ MOST_EDITS → IsBrought way (workspace_of old current records log) (workspace_of new current records later)
+  is_brought few =
+      let kept = sym (versions_unique (seen new) later (versions_by way is.back) keeps_back) in
+      record {
+        back = is.back;
+        is_left = is_left;
+        few = few;
+        dirty = is_dirty new records;
+        marks = edited.1;
+        is = λ i. record {
+          editing = record { library = is.library i; edits = is.edit.edits i; current = (workspace_of new current records later).editing.current };
+          dirty = is_dirty new records;
+          versions = kept i;
+        };
+      }
+
+  -- all agrees then, and there are as many cells
+  pub is_edited : IsCurrent old current → (IsCurrent new current) × Agrees new records × KeepsSome (seen new) later
+  is_edited there =
+      let (body, change) = returned_changes (seen old) (earlier_by way versions) (later_by way versions) is.back is.is in
+      let same = is.library ∙ change in
+      let long = (λ i. length (same i).cells) ∙ length-changed_at (seen old).cells is.back.cell (λ _. body) in
+      let count : length old.contents ≡ length new.contents = sym (count_seen old) ∙ sym long ∙ count_seen new in
+      (subst (λ (n : ℕ). IfSome current (λ key. key.0 < n)) count there, edited.0, (versions_by way is.back, keeps_back))
+
+module _ {T : Type 0} (way : Way) (old new : LibraryParts) (current : Option CellKey) (records : Records) (log later : Inverses) (lawful : IsLawfulLibrary old)
+    (agrees : Agrees old records) (keeps : KeepsSome (seen old) log) where
+  -- where the log did it, a cell is brought to its version
+  pub way_brought : (result : Result T UndoFault)
+      → OnOk result ((versions : Versions) → Keeps (seen old) log versions → IsReturnedBy way old new versions later)
+      → OnOk result (edits_of old ≢ MOST_EDITS)
+      → OnOk result (IsBrought way (workspace_of old current records log) (workspace_of new current records later))
+  way_brought (Ok done) returns few = is_brought way old new log later keeps.0 keeps.1 (returns keeps.0 keeps.1) lawful current records agrees few
+  way_brought (Err fault) returns few = tt
+
+  -- and all agrees, whether it did or not
+  pub way_kept : (result : Result T UndoFault)
+      → OnOk result ((versions : Versions) → Keeps (seen old) log versions → IsReturnedBy way old new versions later) → OnErr result (IsSame old new)
+      → OnErr result (later ≡ log) → IsCurrent old current → (IsCurrent new current) × Agrees new records × KeepsSome (seen new) later
+  way_kept (Ok done) returns same logged there =
+      is_edited way old new log later keeps.0 keeps.1 (returns keeps.0 keeps.1) lawful current records agrees there
+  way_kept (Err fault) returns same logged there =
+      (same_current old new current same there, agrees_same old new records same agrees, log_same old new log later same logged keeps)
+
+-- ---- what is refused
+
+-- the other way
+abbrev back_way : Way → Way
+back_way Undo = Redo
+back_way Redo = Undo
+
+one_fault : (T : Type 0) (fault other : UndoFault) → ◌≡◌ {A = Result T UndoFault} (Err fault) (Err other) → fault ≡ other
+one_fault T fault other same = cc
+
+not_nothing : (way : Way) → undo.Edits ≡ nothing_left way → ⊥
+not_nothing Undo same = cc
+not_nothing Redo same = cc
 
 module _ (old : LibraryParts) (current : Option CellKey) (records : Records) (log : Inverses) where
   -- without inverses nothing is left
@@ -138,17 +163,40 @@ module _ (old : LibraryParts) (current : Option CellKey) (records : Records) (lo
   -- and with some there is
   some_of : (inverses : List Inverse) (others : List Version) → inverses ≢ [] → IsSome (returned (seen old) (led_to (seen old) inverses) others)
   some_of [] others some = absurd (some refl)
-  some_of (inverse ∷ inverses) others some = tt
+  some_of (inverse ∷ inverses) others some = refl
 
   some_left : (way : Way) → inverses_by way log ≢ [] → IsSome (return_by way (workspace_of old current records log))
   some_left Undo some = some_of log.done (kept_versions (seen old) log).undone some
   some_left Redo some = some_of log.undone (kept_versions (seen old) log).done some
 
-  -- a fault that is told for what is left, or for the number of edits
-  pub return_refused : (way : Way) (fault : UndoFault) → (nothing_left way ≡ fault → inverses_by way log ≡ [])
+  -- a fault is told for what is left, or for the number of edits, or for want of memory
+  told_alone : (way : Way) (fault : UndoFault) → (fault ≡ nothing_left way → inverses_by way log ≡ [])
       → (fault ≡ undo.Edits → (edits_of old ≡ MOST_EDITS) × (inverses_by way log ≢ []))
       → (fault ≡ nothing_left way) ⊎ ((fault ≡ undo.Edits) ⊎ (fault ≡ undo.Memory))
       → (fault ≡ undo.Memory) ⊎ ReturnIsRefused way (workspace_of old current records log) fault
-  return_refused way fault nothing edits (inl is) = inr (inl (none_left way (nothing (sym is)), is))
-  return_refused way fault nothing edits (inr (inl is)) = inr (inr (some_left way (edits is).1, (edits is).0, is))
-  return_refused way fault nothing edits (inr (inr is)) = inl is
+  told_alone way fault nothing edits (inl is) = inr (inl (none_left way (nothing is), is))
+  told_alone way fault nothing edits (inr (inl is)) = inr (inr (some_left way (edits is).1, (edits is).0, is))
+  told_alone way fault nothing edits (inr (inr is)) = inl is
+
+  -- no other is told
+  which : (way : Way) (fault : UndoFault) → (fault ≡ nothing_left (back_way way) → ⊥)
+      → (fault ≡ nothing_left way) ⊎ ((fault ≡ undo.Edits) ⊎ (fault ≡ undo.Memory))
+  which Undo undo.NothingToUndo other = inl refl
+  which Undo undo.NothingToRedo other = absurd (other refl)
+  which Undo undo.Edits other = inr (inl refl)
+  which Undo undo.Memory other = inr (inr refl)
+  which Redo undo.NothingToUndo other = absurd (other refl)
+  which Redo undo.NothingToRedo other = inl refl
+  which Redo undo.Edits other = inr (inl refl)
+  which Redo undo.Memory other = inr (inr refl)
+
+  -- what the log told is why the command is refused
+  pub way_refused : {T : Type 0} (way : Way) (result : Result T UndoFault) → (IsErrOf result (nothing_left way) ↔ (inverses_by way log ≡ []))
+      → (IsErrOf result undo.Edits → edits_of old ≡ MOST_EDITS) → (IsErrOf result (nothing_left (back_way way)) → ⊥)
+      → IfErr result (λ fault. (fault ≡ undo.Memory) ⊎ ReturnIsRefused way (workspace_of old current records log) fault)
+  way_refused way (Ok done) nothing edits other = tt
+  way_refused {T} way (Err fault) nothing edits other =
+      let err : UndoFault → Result T UndoFault = λ f. Err f in
+      told_alone way fault (λ is. nothing.0 (ap err is))
+      (λ is. (edits (ap err is), λ none. not_nothing way (sym is ∙ one_fault T fault (nothing_left way) (nothing.1 none))))
+      (which way fault (λ is. other (ap err is)))
