@@ -31,18 +31,18 @@ one_free state Means one effect other p q =
     ap (λ (at : State). with_state at (free effect)) (p.0 ∙ sym q.0) ∙ ap (with_state other.state) (one (free effect) (free other) p.1 q.1)
 
 -- What each kind of command is held to.
-record Laws : Type 0 where
-  tech : TechMeansOneEffect
-  load : LoadMeansOneEffect
-  edits : EditMeansOneEffect
-  returns : ReturnMeansOneEffect
-  looks : LookMeansOneEffect
-  extract : ExtractMeansOneEffect
-  circuit : CircuitMeansOneEffect
-  vectors : VectorsMeansOneEffect
-  generate : GenerateMeansOneEffect
-  ext2sim : Ext2simMeansOneEffect
-  simrun : SimrunMeansOneEffect
+pub record Laws : Type 0 where
+  pub tech : TechMeansOneEffect
+  pub load : LoadMeansOneEffect
+  pub edits : EditMeansOneEffect
+  pub returns : ReturnMeansOneEffect
+  pub looks : LookMeansOneEffect
+  pub extract : ExtractMeansOneEffect
+  pub circuit : CircuitMeansOneEffect
+  pub vectors : VectorsMeansOneEffect
+  pub generate : GenerateMeansOneEffect
+  pub ext2sim : Ext2simMeansOneEffect
+  pub simrun : SimrunMeansOneEffect
 
 module _ (laws : Laws) (budget number : ℕ) (state : State) (files : Files) (sees : SeesSoundLibrary state) (effect other : Effect State)
     (leaves : SeesSoundLibrary effect.state) where
