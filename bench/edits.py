@@ -1,9 +1,10 @@
 #!/usr/bin/env python3
 """Times the built program on scripts that edit, save and load, made from a number.
 
-    bench/edits.py [--sizes 10000,30000,60000] [--program PATH]
+    bench/edits.py [--sizes 10000,30000,60000] [--kinds paint,undo] [--program PATH]
 
-It prints for each kind of script seconds and growth from one size to the next (n to the power that is printed).
+It prints for each kind of script seconds and growth from one size to the next (n to the power that is printed). For undo and redo it prints what so
+many of them took in a cell of so many rectangles: the seconds of the whole script less those of the same script without them.
 """
 import argparse
 import math
@@ -81,16 +82,52 @@ def load_tree(program, count, folder):
     return timed(program, ["load top"], folder)
 
 
+def sheet(count):
+    """A cell's file with so many rectangles, none of which touches another."""
+    side = math.isqrt(count)
+    rects = ["rect %d %d %d %d" % (6 * (k % side), 6 * (k // side), 6 * (k % side) + 4, 6 * (k // side) + 4) for k in range(count)]
+    return "\n".join(["magic", "<< metal >>"] + rects + ["<< end >>"]) + "\n"
+
+
+def crossed(count, rects):
+    """Paint and erasure in turn, over some of the rectangles of a sheet, at places that are spread over it."""
+    side = math.isqrt(rects)
+    lines = []
+    for k in range(count):
+        x, y = 6 * (k * 7919 % (side - 2)), 6 * (k * 104729 % (side - 2))
+        lines.append("%s metal %d %d %d %d" % ("erase" if k % 2 else "paint", x + 1, y + 1, x + 9, y + 9))
+    return lines
+
+
+def undo_and_redo(program, sizes, folder):
+    """Edits of a large cell, taken back and made again: the seconds of each, for cells of two sizes."""
+    for rects in (30000, 300000):
+        (folder / "sheet.mag").write_text(sheet(rects))
+        last = None
+        for count in sizes:
+            parts = [["load sheet"], crossed(count, rects), ["undo"] * count, ["redo"] * count]
+            ends = [timed(program, sum(parts[:k + 1], []), folder) for k in range(len(parts))]
+            spent = [after - before for before, after in zip(ends, ends[1:])]
+            growth = ["n^%.2f" % (math.log(now / then) / math.log(count / last[0])) for now, then in zip(spent, last[1])] if last else [""] * 3
+            told = ", ".join("%s %.2f s %s" % entry for entry in zip(("edits", "undos", "redos"), spent, growth))
+            print("undo   %7d in a cell of %d rectangles (loaded in %.2f s): %s" % (count, rects, ends[0], told), flush=True)
+            last = (count, spent)
+
+
 def main():
     options = argparse.ArgumentParser(description=__doc__.split("\n")[0])
     options.add_argument("--sizes", default="10000,30000,60000")
+    options.add_argument("--kinds", default=",".join(list(SCRIPTS) + ["tree", "undo"]))
     options.add_argument("--program", default=str(PROGRAM))
     given = options.parse_args()
     sizes = [int(size) for size in given.sizes.split(",")]
     with tempfile.TemporaryDirectory() as name:
         folder = Path(name)
         (folder / "nm.tech").write_text((TOP / "crates/run_tests/data/nm.tech").read_text())
-        for kind in list(SCRIPTS) + ["tree"]:
+        for kind in given.kinds.split(","):
+            if kind == "undo":
+                undo_and_redo(given.program, sizes, folder)
+                continue
             last = None
             for size in sizes:
                 seconds = load_tree(given.program, size, folder) if kind == "tree" else timed(given.program, SCRIPTS[kind](size), folder)

@@ -26,7 +26,6 @@ use Rattle.square_lines.specs.HierMerge.UncleanCells.{IsCleanCell, IsUncleanBelo
 use Rattle.library_uniqueness.proofs.CleanBelow.{all_are_clean}
 use Rattle.library_uniqueness.specs.UncleanCells.{CleanCellsHaveNoneBelow}
 
-
 -- ---- what is said of a library
 
 -- a clean cell has one record

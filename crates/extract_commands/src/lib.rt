@@ -26,4 +26,6 @@ pub use command_circuits::circuit;
 pub use command_extract::extract;
 pub use command_generate::generate;
 pub use command_vectors::vectors;
-pub use laws::{cell_circuits_are_unique, extracting_lines_have_one_effect, extractions_are_unique};
+pub use laws::{
+    cell_circuits_are_unique, extracting_lines_have_one_effect, extractions_are_unique,
+};

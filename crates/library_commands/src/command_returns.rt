@@ -51,12 +51,7 @@ fn nothing_left(way: Way) -> UndoFault
 }
 
 // Brings a cell of the library that is edited to a version.
-fn bring_edited(
-    alloc: Global,
-    edited: &mut Edited,
-    number: usize,
-    way: Way,
-) -> Result<Answer, Halt>
+fn bring_edited(alloc: Global, edited: &mut Edited, number: usize, way: Way) -> Result<Answer, Halt>
     requires edited { IsEdited edited.old }
     ensures effect { IfOk result (AnswersAlone (ReturnMeans way number (Some (edited_state edited.old))) (Some (edited_state edited.new))) }
     ensures kept { IsEdited edited.new }

@@ -21,9 +21,9 @@ uses_lead_to_cells library lawful parent child uses =
       | inl there ↦ (
           let within = below_there library lawful parent child there (Chain-one uses) in
           omega (arith, within, long, all)
-      )
+          )
       | inr past ↦ (
           let beyond : length children ≤ parent = omega (arith, past, long, all) in
           absurd (subst (λ (used : List ℕ). In child used) (get_or_past children parent [] beyond) uses)
-      )
+          )
     ]

@@ -222,15 +222,15 @@ begins_from_first asked run text files Failed Others before written left is weak
   told,
   stays,
   λ session means.
-  let cut = begins session.acts (subst (λ (r : RunState). ScriptActs RunLineMeans r files (lines_of text) session.acts) (sym is) means.acts) in
-  record {
-    past = cut.past;
-    left = cut.left;
-    split = cut.split;
-    front = cut.front;
-    next = first_weaker asked.quiet Failed Others weaker (with_stores files (stores_in cut.past)) cut.left cut.front after cut.next;
-    reported = cut.reported;
-  },
+      let cut = begins session.acts (subst (λ (r : RunState). ScriptActs RunLineMeans r files (lines_of text) session.acts) (sym is) means.acts) in
+      record {
+        past = cut.past;
+        left = cut.left;
+        split = cut.split;
+        front = cut.front;
+        next = first_weaker asked.quiet Failed Others weaker (with_stores files (stores_in cut.past)) cut.left cut.front after cut.next;
+        reported = cut.reported;
+      },
 )
 
 -- a session of a script that is not too long is one of its lines

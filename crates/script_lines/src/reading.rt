@@ -9,8 +9,8 @@ ghost use Rattle.text_scan.specs.Words.{words_of};
 use crate::commands::Command;
 use crate::faults::LineFault;
 use crate::readings::{
-    cell_id_and_six, count, id_alone, id_and_numbers, id_and_pair, label, layer_and_area,
-    nothing, plain_alone, plain_pair, text_alone,
+    cell_id_and_six, count, id_alone, id_and_numbers, id_and_pair, label, layer_and_area, nothing,
+    plain_alone, plain_pair, text_alone,
 };
 use crate::verbs::Verb;
 use std::alloc::Global;
