@@ -1,7 +1,7 @@
 #!/usr/bin/env python3
 """Times the built program on scripts that edit, save and load, made from a number.
 
-    bench/edits.py [--sizes 10000,30000,60000] [--kinds paint,undo] [--program PATH]
+    bench/edits.py [--sizes 10000,30000,60000] [--kinds paint,undo,undo-far] [--program PATH]
 
 It prints for each kind of script seconds and growth from one size to the next (n to the power that is printed). For undo and redo it prints what so
 many of them took in a cell of so many rectangles: the seconds of the whole script less those of the same script without them.
@@ -58,6 +58,7 @@ def save_and_load(count):
 
 
 SCRIPTS = {"paint": paint, "place": place, "label": label, "below": below, "cells": cells, "save": save_and_load}
+STEPS = {"undo": 1, "undo-far": 7919}  # how many rectangles an edit is after the one before
 
 
 def timed(program, script, folder):
@@ -89,35 +90,35 @@ def sheet(count):
     return "\n".join(["magic", "<< metal >>"] + rects + ["<< end >>"]) + "\n"
 
 
-def crossed(count, rects):
-    """Paint and erasure in turn, over some of the rectangles of a sheet, at places that are spread over it."""
-    side = math.isqrt(rects)
+def crossed(count, rects, step):
+    """Paint and erasure in turn over the rectangles of a sheet, each so many rectangles after the one before."""
+    side = math.isqrt(rects) - 2
     lines = []
     for k in range(count):
-        x, y = 6 * (k * 7919 % (side - 2)), 6 * (k * 104729 % (side - 2))
+        x, y = 6 * (k * step % side), 6 * (k * step // side % side)
         lines.append("%s metal %d %d %d %d" % ("erase" if k % 2 else "paint", x + 1, y + 1, x + 9, y + 9))
     return lines
 
 
-def undo_and_redo(program, sizes, folder):
+def undo_and_redo(program, sizes, step, folder):
     """Edits of a large cell, taken back and made again: the seconds of each, for cells of two sizes."""
     for rects in (30000, 300000):
         (folder / "sheet.mag").write_text(sheet(rects))
         last = None
         for count in sizes:
-            parts = [["load sheet"], crossed(count, rects), ["undo"] * count, ["redo"] * count]
-            ends = [timed(program, sum(parts[:k + 1], []), folder) for k in range(len(parts))]
-            spent = [after - before for before, after in zip(ends, ends[1:])]
+            parts = [["load sheet"], crossed(count, rects, step), ["undo"] * count, ["redo"] * count]
+            ends = [min(timed(program, sum(parts[:k + 1], []), folder) for _ in range(3)) for k in range(len(parts))]
+            spent = [max(after - before, 0.001) for before, after in zip(ends, ends[1:])]
             growth = ["n^%.2f" % (math.log(now / then) / math.log(count / last[0])) for now, then in zip(spent, last[1])] if last else [""] * 3
-            told = ", ".join("%s %.2f s %s" % entry for entry in zip(("edits", "undos", "redos"), spent, growth))
-            print("undo   %7d in a cell of %d rectangles (loaded in %.2f s): %s" % (count, rects, ends[0], told), flush=True)
+            told = ", ".join("%s %.3f s %s" % entry for entry in zip(("edits", "undos", "redos"), spent, growth))
+            print("%d in a cell of %d rectangles, %d apart: %s" % (count, rects, step, told), flush=True)
             last = (count, spent)
 
 
 def main():
     options = argparse.ArgumentParser(description=__doc__.split("\n")[0])
     options.add_argument("--sizes", default="10000,30000,60000")
-    options.add_argument("--kinds", default=",".join(list(SCRIPTS) + ["tree", "undo"]))
+    options.add_argument("--kinds", default=",".join(list(SCRIPTS) + ["tree"] + list(STEPS)))
     options.add_argument("--program", default=str(PROGRAM))
     given = options.parse_args()
     sizes = [int(size) for size in given.sizes.split(",")]
@@ -125,8 +126,8 @@ def main():
         folder = Path(name)
         (folder / "nm.tech").write_text((TOP / "crates/run_tests/data/nm.tech").read_text())
         for kind in given.kinds.split(","):
-            if kind == "undo":
-                undo_and_redo(given.program, sizes, folder)
+            if kind in STEPS:
+                undo_and_redo(given.program, sizes, STEPS[kind], folder)
                 continue
             last = None
             for size in sizes:
