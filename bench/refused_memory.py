@@ -27,6 +27,7 @@ SCRIPTS = {
     "wires": ("trees.cases", "wires upon each other are counted once"),
     "inverter": ("simulations.cases", "the circuit of an inverter turns its input over"),
     "array": ("trees.cases", "the elements of an array touch"),
+    "undo": ("undos.cases", "each edit is taken back and made again, in its place among the others"),
 }
 COMPLAINTS = {5: b"magex: there was not enough memory\n", 7: b"magex: the words of the command line could not be had\n"}
 

@@ -1,6 +1,6 @@
 -- What gives a cell back its paint or its labels: it has room for them, and what becomes of the library.
 use Rattle.std.proofs.Common.{◌≡◌, ◌<◌, ◌-◌, ℕ, List, ◌++◌, length, set, Option, refl, sym, ap, subst, ◌∙◌, arith, inl, inr}
-use Rattle.std.specs.Prelude.{All, IsTrue, IfSome, Some, None}
+use Rattle.std.specs.Prelude.{All, Bool, IsTrue, IfSome, Some, None, false, if◌then◌else◌}
 use Rattle.std.specs.Option.{option_to_list}
 use Rattle.std.proofs.lemmas.Int.{ints}
 use Rattle.std.proofs.lemmas.List.{get_or-set_same, length-set}
@@ -11,10 +11,15 @@ use Rattle.finite_sets.proofs.Places.{In-take}
 use Rattle.geo_core.specs.declared.squares.Rect.{Rect}
 use Rattle.geo_core.specs.declared.squares.Piece.{Piece}
 use Rattle.geo_core.specs.Areas.{LiesWithin}
+use Rattle.geo_core.specs.Covering.{is_covered}
 use Rattle.tech_model.specs.declared.raw.Label.{Label}
 use Rattle.tech_model.specs.declared.raw.RawTech.{RawTech}
 use Rattle.tech_model.specs.declared.raw.TypeRec.{TypeRec}
+use Rattle.tech_model.specs.declared.raw.TypeId.{TypeId}
+use Rattle.tech_model.specs.Columns.{erased_column, type_on}
 use Rattle.layout_model.specs.Layouts.{Layout}
+use Rattle.layout_model.specs.Places.{Place}
+use Rattle.cell_paint.specs.Painting.{column_at, with_columns, with_erased}
 use Rattle.cell_paint.specs.Paints.{layout_of, IsSoundPaint}
 use Rattle.cell_paint.specs.Pieces.{with_pieces}
 use Rattle.cell_paint.proofs.PieceLaws.{pieces_outside}
@@ -66,21 +71,42 @@ room_relabelled tree cell labels old new below is room =
     subst (λ (h : Held). HasRoomFor tree cell (layout_of h.paint) h.labels) (sym (put_there old new cell (with_labels (held_at old cell) labels) below is))
     room
 
--- the box that the cell had is that of a layout that differs in the area alone
-pub box_before_put : (area : Rect) (pieces : List (ℕ × Piece)) (old new : List Held) (cell : ℕ) (box : Option Rect) → cell < length old
-    → IsRepainted old new cell (with_pieces area pieces) → OwnBoxIs (layout_of (held_at old cell).paint) (held_at old cell).labels box
+-- the box that the cell had is that of a layout that differs in the area alone, where the paint changed there alone
+pub box_before_repaint : (area : Rect) (change : Layout → Layout)
+    → ((own : Layout) (place : Place) → is_covered area place.square ≡ false → change own place ≡ own place)
+    → (old new : List Held) (cell : ℕ) (box : Option Rect) → cell < length old → IsRepainted old new cell change
+    → OwnBoxIs (layout_of (held_at old cell).paint) (held_at old cell).labels box
     → IsBoxBefore area (layout_of (held_at new cell).paint) (held_at new cell).labels box
-box_before_put area pieces old new cell box below put is =
+box_before_repaint area change stays old new cell box below repainted is =
     let held = held_at old cell in
-    subst (λ (h : Held). IsBoxBefore area (layout_of h.paint) h.labels box) (sym (put_there old new cell (record held { paint = put.paint }) below put.is))
+    subst (λ (h : Held). IsBoxBefore area (layout_of h.paint) h.labels box)
+    (sym (put_there old new cell (record held { paint = repainted.paint }) below repainted.is))
     (record {
       layout = layout_of held.paint;
       labels_before = held.labels;
       is = is;
-      agrees = λ place outside. sym (put.layout place ∙ pieces_outside area pieces (layout_of held.paint) place outside);
+      agrees = λ place outside. sym (repainted.layout place ∙ stays (layout_of held.paint) place outside);
       came = λ label among. inl among;
       went = λ label among. inl among;
     })
+
+-- so where pieces were put
+pub box_before_put : (area : Rect) (pieces : List (ℕ × Piece)) (old new : List Held) (cell : ℕ) (box : Option Rect) → cell < length old
+    → IsRepainted old new cell (with_pieces area pieces) → OwnBoxIs (layout_of (held_at old cell).paint) (held_at old cell).labels box
+    → IsBoxBefore area (layout_of (held_at new cell).paint) (held_at new cell).labels box
+box_before_put area pieces = box_before_repaint area (with_pieces area pieces) (pieces_outside area pieces)
+
+-- a change of columns leaves what stands outside its area
+pub columns_outside : (change : List TypeId → List TypeId) (area : Rect) (layout : Layout) (place : Place) → is_covered area place.square ≡ false
+    → with_columns change area layout place ≡ layout place
+columns_outside change area layout place outside =
+    ap (λ (b : Bool). if b then type_on (change (column_at layout place.square)) place.plane else layout place) outside
+
+-- so where a layer was erased
+pub box_before_erase : (raw : RawTech) (layer : ℕ) (area : Rect) (old new : List Held) (cell : ℕ) (box : Option Rect) → cell < length old
+    → IsRepainted old new cell (with_erased raw layer area) → OwnBoxIs (layout_of (held_at old cell).paint) (held_at old cell).labels box
+    → IsBoxBefore area (layout_of (held_at new cell).paint) (held_at new cell).labels box
+box_before_erase raw layer area = box_before_repaint area (with_erased raw layer area) (columns_outside (erased_column raw layer) area)
 
 -- and where the last label went, what differs lies in that label's area
 pub box_before_drop : (gone : Option Label) (old new : List Held) (cell : ℕ) (box : Option Rect) → cell < length old

@@ -1,10 +1,8 @@
 -- Lists of the tiles of standing cells.
 use Rattle.std.proofs.Common.{◌≡◌, ◌+◌, ℕ, List, [], ◌++◌, length, refl, sym, ap, subst, ◌∙◌, arith, inl, inr}
 use Rattle.std.proofs.Common.{append_assoc}
-use Rattle.std.specs.Prelude.{slice_get}
 use Rattle.std.proofs.lemmas.Option.{slice_get_within}
 use Rattle.std.proofs.lemmas.List.{append-nil}
-use Rattle.finite_sets.specs.Lists.{In}
 use Rattle.finite_sets.proofs.Members.{In-append_left, In-append_right, In-append_cases}
 use Rattle.finite_sets.proofs.Distincts.{Distinct-append}
 use Rattle.finite_sets.proofs.Places.{In-slice_get, slice_get-append_left, slice_get-append_right, slice_get-append_cases}

@@ -1,11 +1,9 @@
 -- What gives a cell back its paint or its labels undoes the edits of these.
-use Rattle.std.proofs.Common.{◌≡◌, ◌<◌, ◌++◌, ◌∷◌, [], ℕ, zero, suc, List, length, length-append, refl, sym, ap, subst, arith}
+use Rattle.std.proofs.Common.{◌≡◌, ◌<◌, ◌∷◌, [], ℕ, zero, suc, List, length, refl, sym, ap, subst, arith}
 use Rattle.std.specs.Prelude.{false, slice_index_or}
-use Rattle.std.proofs.lemmas.List.{take_at}
 use Rattle.geo_core.specs.declared.squares.Piece.{Piece}
 use Rattle.geo_core.specs.declared.squares.Rect.{Rect}
 use Rattle.geo_core.specs.Covering.{is_covered}
-use Rattle.tech_model.specs.declared.raw.Label.{Label}
 use Rattle.tech_model.specs.declared.raw.TypeRec.{TypeRec}
 use Rattle.tech_model.specs.Columns.{painted_column, erased_column}
 use Rattle.layout_model.specs.Layouts.{Layout}
@@ -15,9 +13,8 @@ use Rattle.cell_paint.specs.Paints.{IsSoundPaint}
 use Rattle.cell_paint.specs.Pieces.{with_pieces, AreTakenOut}
 use Rattle.cell_paint.proofs.PaintLaws.{changed_outside}
 use Rattle.cell_paint.proofs.PieceLaws.{taken_brings_back}
-use Rattle.cell_library.specs.Contents.{without_last}
-use Rattle.cell_library.specs.Edits.{painted, erased, labelled, unlabelled}
-use Rattle.cell_library.specs.Restorations.{repainted, relabelled, without_last_label}
+use Rattle.cell_library.specs.Edits.{painted, erased}
+use Rattle.cell_library.specs.Restorations.{repainted}
 use Rattle.cell_library.specs.Views.{CellView, LibraryView, changed_at, no_cell, view_at, with_cell_changed}
 
 -- ---- one cell
@@ -82,19 +79,3 @@ module _ (view : LibraryView) (cell layer : ℕ) (area : Rect) (taken : List (�
   -- and erasing
   pub erased_back : repainted (erased view cell layer area) cell area taken ≡ view
   erased_back = paint_back view cell area taken are (with_erased view.tech layer area) erasing_differs
-
--- ---- labels
-
--- the last of labels goes, and those before it stay
-last_back : (labels : List Label) (label : Label) → without_last (labels ++ label ∷ []) ≡ labels
-last_back labels label = take_at labels (label ∷ []) _ (omega (arith, length-append labels (label ∷ [])))
-
--- a label that came goes
-pub labelled_back : (view : LibraryView) (cell : ℕ) (label : Label) → without_last_label (labelled view cell label) cell ≡ view
-labelled_back view cell label =
-    cell_back view cell (λ body. record body { labels = body.labels ++ label ∷ [] }) (λ body. record body { labels = without_last body.labels })
-    (ap (λ (labels : List Label). record (view_at view cell) { labels = labels }) (last_back (view_at view cell).labels label))
-
--- the labels of a cell come back
-pub unlabelled_back : (view : LibraryView) (cell : ℕ) (text : List ℕ) → relabelled (unlabelled view cell text) cell (view_at view cell).labels ≡ view
-unlabelled_back view cell text = cell_back view cell _ (λ body. record body { labels = (view_at view cell).labels }) refl

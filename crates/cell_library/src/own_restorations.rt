@@ -36,9 +36,9 @@ fn is_inside(area: &Rect, outer: &Rect) -> bool
         && are_between(area.ylo, area.yhi, outer.ylo, outer.yhi)
 }
 
-// The box of what the cell has of its own, where the tree has the box of what differs in the area alone. Where the area touches no side of
-// that box, it stays, whatever the size of the cell.
-fn box_after(contents: &Contents, tree: &CellTree, cell: usize, area: &Rect) -> Option<Rect>
+/// The box of what the cell has of its own, where the tree has the box of what differs in the area alone. Where the area touches no side of
+/// that box, it stays, whatever the size of the cell.
+pub fn box_after(contents: &Contents, tree: &CellTree, cell: usize, area: &Rect) -> Option<Rect>
     requires cell { cell < length contents.now }
     requires so_many { length tree.now.cells ≡ length contents.now }
     requires before { IsBoxBefore area.now (layout_of (held_at contents.now cell).paint) (held_at contents.now cell).labels (cell_at tree.now.cells cell).own }

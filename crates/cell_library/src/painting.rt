@@ -15,6 +15,7 @@ use crate::contents::Contents;
 use crate::faults::LibFault;
 use crate::limits::MOST_EDITS;
 use crate::own_boxes::{box_of_own, box_with};
+use crate::own_restorations::box_after;
 use cell_tree::CellTree;
 use geo_core::Rect;
 use tech_model::{Label, LayerId, Tech};
@@ -102,7 +103,7 @@ pub fn erase_cell(
     contents.sound(cell);
     tree.lawful();
     contents.erase(cell, tech, layer, area)?;
-    let own = box_of_own(contents, cell);
+    let own = box_after(contents, tree, cell, &area);
     tree.shrink_box(cell, own);
     Ok(())
 }

@@ -1,6 +1,6 @@
 -- What `vectors` does rests on the file alone that it fetches.
 use Rattle.std.proofs.Common.{◌≡◌, ℕ, List, [], ◌∷◌, Option, Some, None, inl, inr, refl, sym, ap, subst, arith}
-use Rattle.std.specs.Prelude.{Contains, MatchOption, Result, Ok, Err}
+use Rattle.std.specs.Prelude.{MatchOption, Result, Ok, Err}
 use Rattle.outside_io.specs.Files.{Files}
 use Rattle.session_model.specs.declared.fetching.FetchFault.{FetchFault}
 use Rattle.session_model.specs.Effects.{Effect}

@@ -5,7 +5,6 @@ use Rattle.outside_io.specs.Files.{Files}
 use Rattle.session_model.specs.declared.answer.Store.{Store}
 use Rattle.session_model.specs.declared.report.ReportLine.{ReportLine}
 use Rattle.session_model.specs.Effects.{Effect}
-use Rattle.session_model.specs.Fetches.{text_in}
 use Rattle.line_answers.specs.LineEffects.{accepted, refused, reply}
 use Rattle.line_answers.specs.Refusals.{no_cell}
 use Rattle.cell_library.specs.Additions.{children_in}
@@ -27,11 +26,10 @@ use Rattle.look_commands.specs.declared.looks.Look.{Look}
 use Rattle.look_commands.specs.Looks.{Tells}
 use Rattle.workspace.specs.States.{State, Workspace}
 use Rattle.library_commands.specs.declared.command_returns.Way.{Way}
-use Rattle.library_commands.specs.CommandEdits.{Applies, EditMeans, MarksAbove, RefusesEdit}
-use Rattle.library_commands.specs.CommandLoad.{LoadMeans, Loads, RefusesLoad, with_loaded}
-use Rattle.library_commands.specs.CommandLooks.{LookMeans, LooksAt}
+use Rattle.library_commands.specs.CommandEdits.{Applies, MarksAbove, RefusesEdit}
+use Rattle.library_commands.specs.CommandLoad.{Loads, RefusesLoad, with_loaded}
+use Rattle.library_commands.specs.CommandLooks.{LooksAt}
 use Rattle.library_commands.specs.CommandReturns.{IsBrought, ReturnIsRefused, brought_back, return_by}
-use Rattle.library_commands.specs.CommandTech.{TechMeans, file_effect, tech_file}
 use Rattle.library_commands.specs.OneEffects.{EditMeansOneEffect, LoadMeansOneEffect, LookMeansOneEffect, ReturnMeansOneEffect, TechMeansOneEffect}
 use Rattle.library_commands.proofs.OneLook.{same_look}
 use Rattle.library_commands.proofs.OneMarks.{same_above, same_marks}

@@ -1,5 +1,5 @@
 -- What `undo` and `redo` do to what a session keeps.
-use Rattle.std.proofs.Common.{◌≡◌, ◌≢◌, ◌⊎◌, ◌<◌, ◌∙◌, ℕ, length, List, [], ◌∷◌, Err, inl, inr, sym, ap, subst, refl, arith}
+use Rattle.std.proofs.Common.{◌≡◌, ◌≢◌, ◌⊎◌, ◌<◌, ◌∙◌, ℕ, length, List, [], ◌∷◌, Err, inl, inr, sym, ap, subst, refl}
 use Rattle.std.specs.Prelude.{◌↔◌, IfErr, IfSome, IsErrOf, IsSome, OnErr, OnOk, Option, None, Result, Some, Ok}
 use Rattle.ext_model.specs.declared.tables.CellKey.{CellKey}
 use Rattle.cell_library.specs.declared.limits.TheConstants.{MOST_EDITS}

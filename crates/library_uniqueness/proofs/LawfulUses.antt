@@ -1,5 +1,5 @@
 -- The uses of a lawful library lead to its cells.
-use Rattle.std.proofs.Common.{inl, inr, ◌<◌, ◌≤◌, ℕ, List, [], length, map, sym, subst, ◌∙◌, arith}
+use Rattle.std.proofs.Common.{inl, inr, ◌<◌, ◌≤◌, ℕ, List, [], length, map, subst, ◌∙◌, arith}
 use Rattle.std.proofs.lemmas.Bool.{cases_lt}
 use Rattle.std.proofs.lemmas.List.{get_or_past, length-map}
 use Rattle.finite_sets.specs.Lists.{In}

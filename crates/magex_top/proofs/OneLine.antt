@@ -1,5 +1,5 @@
 -- Each line of a script has one effect in a sound run.
-use Rattle.std.proofs.Common.{◌≡◌, ℕ, ℤ, List, [], ap, sym, ◌∙◌, subst}
+use Rattle.std.proofs.Common.{◌≡◌, ℕ, ℤ, [], ap, sym, ◌∙◌, subst}
 use Rattle.std.specs.Prelude.{None, Some, Ok, Err, Option, Result}
 use Rattle.outside_io.specs.Files.{Files}
 use Rattle.session_model.specs.Effects.{Effect}
@@ -19,8 +19,7 @@ use Rattle.library_commands.specs.declared.command_returns.Way.TheVariants as wa
 use Rattle.library_commands.specs.Workspace.KeptSessions.{SeesSoundLibrary}
 use Rattle.library_commands.specs.Workspace.States.{State}
 use Rattle.library_commands.proofs.SessionLaws.{library_is_seen}
-use Rattle.magex_top.specs.declared.session.RunSession.{RunSession}
-use Rattle.magex_top.specs.Sessions.{CommandMeans, IsRunSession, LineMeans, ReadLineMeans, RunLineMeans, RunState, run_state_of, session_effect}
+use Rattle.magex_top.specs.Sessions.{CommandMeans, IsRunSession, ReadLineMeans, RunLineMeans, RunState, run_state_of, session_effect}
 
 -- the effects of commands that leave the state are as those of the commands alone
 one_free : (state : State) (Means : FreeEffect → Type 0) → ((effect other : FreeEffect) → Means effect → Means other → effect ≡ other)

@@ -1,5 +1,5 @@
 -- What a line does rests on the files alone that it fetches, and so a run that was cut short is made good by another.
-use Rattle.std.proofs.Common.{◌≡◌, ◌∙◌, ℕ, Bool, true, false, List, [], Option, Some, None, refl, sym, ap, subst}
+use Rattle.std.proofs.Common.{◌≡◌, ◌∙◌, ℕ, Bool, true, false, List, [], Option, Some, None, refl, ap, subst}
 use Rattle.std.specs.Prelude.{nat_lt, length, MatchBool, MatchOption, Result, Ok, Err}
 use Rattle.text_scan.specs.Lines.{lines_of}
 use Rattle.outside_io.specs.Files.{Files}
@@ -25,7 +25,7 @@ use Rattle.library_commands.proofs.RestLaws.{load_rests, tech_rests}
 use Rattle.library_commands.specs.Workspace.States.{State}
 use Rattle.magex_top.specs.declared.status.Status.{Status}
 use Rattle.magex_top.specs.Runs.{IsScriptSession, SessionsAreMadeGood, long_session, usage_session}
-use Rattle.magex_top.specs.Sessions.{CommandMeans, ReadLineMeans, RunLineMeans, RunState, first_run, session_effect}
+use Rattle.magex_top.specs.Sessions.{CommandMeans, ReadLineMeans, RunLineMeans, first_run, session_effect}
 
 -- most commands read no file
 command_rests : (budget number : ℕ) (state : State) (files others : Files) (command : Command) (effect : Effect State)

@@ -1,9 +1,8 @@
 -- What is left of a run belongs to each session that its script means.
-use Rattle.std.proofs.Common.{◌≡◌, ◌⊎◌, inl, inr, ◌+◌, ℕ, suc, Bool, List, [], ◌∷◌, ◌++◌, length, refl, sym, ◌∙◌, ap, subst, append_assoc, append-nil, arith}
+use Rattle.std.proofs.Common.{◌≡◌, ◌⊎◌, inl, inr, ◌+◌, ℕ, suc, Bool, List, [], ◌∷◌, ◌++◌, length, refl, sym, ◌∙◌, ap, subst, append_assoc, arith}
 use Rattle.std.proofs.lemmas.List.{map-append}
 use Rattle.outside_io.specs.Files.{Files, with_file}
 use Rattle.session_model.specs.declared.answer.Store.{Store}
-use Rattle.session_model.specs.declared.report.ReportLine.{ReportLine}
 use Rattle.session_model.specs.Effects.{Effect, state_after, with_stores}
 use Rattle.session_model.specs.Progress.{BeginsNext, DoesFirst, DoesPart, IsCutShort, IsPrefixOf, Progress, StoresSome}
 use Rattle.session_model.specs.Reports.{report_of}

@@ -69,11 +69,6 @@ inserted_goes uses at id used none =
     ++ (first_goes id used (drop at uses) ∙ all_stay id (drop at uses) (drop_none at uses id none)) i)
     ∙ take-append-drop at uses
 
--- the same at the end
-pub placed_goes : (uses : Uses) (id : List ℕ) (used : UseBody) → has_id uses id ≡ false → without id (uses ++ (id, used) ∷ []) ≡ uses
-placed_goes uses id used none =
-    ap (without id) (sym (insert_end uses (id, used))) ∙ inserted_goes uses (length uses) id used none
-
 -- what was removed is inserted again
 inserted_again : (uses : Uses) (k : ℕ) (entry : List ℕ × UseBody) → slice_get uses k ≡ Some entry → insert (remove uses k) k entry ≡ uses
 inserted_again [] k entry is = absurd (cc)

@@ -151,9 +151,3 @@ module _ (view : LibraryView) (cell : ℕ) (there : cell < length view.cells) wh
       → TakesBack view (with_cell_changed view cell (λ held. record held { labels = change held.labels })) cell (SetLabels body.labels)
   labels_taken_back change =
       taken_back view cell (λ held. record held { labels = change held.labels }) (SetLabels body.labels) there tt refl
-
--- what takes a change of a cell back, where it stands for another
-pub change_taken_back : (view : LibraryView) (cell : ℕ) (change back : Change) → TakesBack view (with_cell_changed view cell (remade change)) cell back
-    → TakesBack view (changed view cell change) cell back
-change_taken_back view cell change back takes =
-    subst (λ (after : LibraryView). TakesBack view after cell back) (sym (changed_is view cell change)) takes

@@ -1,7 +1,7 @@
 -- Commands that edit: what takes each of them back where it is accepted, and which are never accepted.
-use Rattle.std.proofs.Common.{◌≡◌, ◌<◌, ◌&&◌, ℕ, ℤ, true, false, Bool, List, [], ◌∷◌, ◌++◌, length, filter, insert, refl, sym, ap, subst, ◌∙◌, inl}
+use Rattle.std.proofs.Common.{◌≡◌, ◌<◌, ◌&&◌, ℕ, ℤ, true, false, List, [], ◌∷◌, ◌++◌, length, filter, insert, refl, sym, ap, subst, ◌∙◌, inl}
 use Rattle.std.proofs.Common.{inr, neg_ℤ, true≢false}
-use Rattle.std.specs.Prelude.{MatchOption, Option, None, Some, not, if◌then◌else◌}
+use Rattle.std.specs.Prelude.{MatchOption, Option, None, Some, not}
 use Rattle.std.specs.Option.{option_map_or}
 use Rattle.std.specs.Str.{bytes_eq}
 use Rattle.std.proofs.lemmas.Bool.{and_from, cases_Bool, cases_eq}
@@ -13,12 +13,11 @@ use Rattle.geo_core.specs.Areas.{has_square}
 use Rattle.geo_core.specs.Covering.{is_covered}
 use Rattle.tech_model.specs.declared.raw.Label.{Label}
 use Rattle.tech_model.specs.declared.raw.LayerId.{LayerId}
-use Rattle.tech_model.specs.declared.raw.TypeId.{TypeId}
-use Rattle.tech_model.specs.Columns.{erased_column, painted_column, type_on}
+use Rattle.tech_model.specs.Columns.{erased_column, painted_column}
 use Rattle.tech_model.specs.Types.{layer_named}
 use Rattle.cell_library.specs.LowerLayoutTrees.LayoutModel.Layouts.{Layout}
 use Rattle.cell_library.specs.LowerLayoutTrees.LayoutModel.Places.{Place}
-use Rattle.cell_paint.specs.Painting.{column_at, is_in_range, with_columns, with_erased, with_paint}
+use Rattle.cell_paint.specs.Painting.{is_in_range, with_erased, with_paint}
 use Rattle.cell_library.specs.declared.faults.LibFault.{LibFault}
 use Rattle.cell_library.specs.declared.faults.LibFault.TheVariants as library
 use Rattle.cell_library.specs.declared.limits.LibraryLimit.TheVariants.{Edits}
@@ -41,6 +40,7 @@ use Rattle.undo_log.specs.declared.changes.Change.TheVariants.{DeleteUse, DropLa
 use Rattle.undo_log.specs.Inverses.{TakesBack}
 use Rattle.undo_log.specs.Makings.{Accepts, BringsAgain, GivesGrid, PutsBack}
 use Rattle.undo_log.proofs.BodyLaws.{Uses}
+use Rattle.cell_library.proofs.OwnRestorations.{columns_outside}
 use Rattle.cell_library.proofs.ViewLaws.{changed_at-same}
 use Rattle.undo_log.proofs.CellLaws.{cell_alike}
 use Rattle.undo_log.proofs.ChangeLaws.{deletion_taken_back, grid_taken_back, insertion_taken_back, label_taken_back, labels_taken_back, move_taken_back}
@@ -115,12 +115,6 @@ module _ (view : LibraryView) (edits : ℕ) (cell : ℕ) (there : cell < length 
       (λ number told. LibraryRefuses editing layer (EraseIsRefused view cell number area) told) refl (λ number accepts.
       let fault = area_refused area (FirstOf (GoesPast Hull (erased view cell number area)) library.OutOfRange NothingElse) bad in
       not_accepted editing layer (EraseIsRefused view cell number area) fault.0 fault.1 accepts)
-
-  -- a change of columns leaves what stands outside its area
-  columns_outside : (change : List TypeId → List TypeId) (area : Rect) (layout : Layout) (place : Place) → is_covered area place.square ≡ false
-      → with_columns change area layout place ≡ layout place
-  columns_outside change area layout place outside =
-      ap (λ (b : Bool). if b then type_on (change (column_at layout place.square)) place.plane else layout place) outside
 
   -- what is made with a layer, where it is found
   with_found : (found : Option ℕ) (change : ℕ → Layout → Layout) (area : Rect) (back : Change)

@@ -17,10 +17,6 @@ use Rattle.cell_library.proofs.OwnEdits.{labels_here}
 use Rattle.cell_library.proofs.UseEdits.{ids_differ, uses_here}
 use Rattle.cell_library.proofs.ViewLaws.{count_seen}
 
--- a library that is lawful is seen so
-pub lawful_seen : (library : LibraryParts) (view : LibraryView) → IsLawfulLibrary library → seen library ≡ view → IsLawfulView view
-lawful_seen library view lawful is = (library, lawful, is)
-
 -- a fact of each cell of a lawful library is one of each cell that is seen
 of_each : (P : LibraryView → ℕ → Type 0)
     → ((library : LibraryParts) → IsLawfulLibrary library → (cell : ℕ) → cell < length library.contents → P (seen library) cell)

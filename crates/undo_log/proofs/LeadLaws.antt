@@ -117,18 +117,6 @@ led_there view (inverse ∷ inverses) [] leads = absurd leads
 led_there view (inverse ∷ inverses) (version ∷ versions) leads =
     λ i. leads.1 i ∷ led_there (changed view inverse.cell.0 inverse.change) inverses versions leads.2 i
 
--- no inverses lead to no versions
-pub none_led : (view : LibraryView) (inverses : List Inverse) (versions : List Version) → LeadTo view inverses versions → inverses ≡ [] → versions ≡ []
-none_led view [] [] leads none = refl
-none_led view [] (version ∷ versions) leads none = absurd leads
-none_led view (inverse ∷ inverses) versions leads none = absurd (cc)
-
--- and to none only these
-pub none_lead : (view : LibraryView) (inverses : List Inverse) (versions : List Version) → LeadTo view inverses versions → versions ≡ [] → inverses ≡ []
-none_lead view [] versions leads none = refl
-none_lead view (inverse ∷ inverses) [] leads none = absurd leads
-none_lead view (inverse ∷ inverses) (version ∷ versions) leads none = absurd (cc)
-
 -- so a log keeps one
 pub versions_unique : KeptVersionsAreUnique
 versions_unique view log versions keeps =

@@ -1,4 +1,4 @@
-use Rattle.std.proofs.Common.{◌≡◌, ◌∙◌, sym, ap, subst, refl, List, [], ◌∷◌, map, ◌≤◌, ◌<◌, Global, Err, Option, Some, None, string_bytes, ℕ, length, rules}
+use Rattle.std.proofs.Common.{◌≡◌, ◌∙◌, ap, subst, refl, List, [], ◌∷◌, map, ◌≤◌, ◌<◌, Global, Err, Option, Some, None, string_bytes, ℕ, length, rules}
 use Rattle.std.proofs.Common.{arith}
 use Rattle.std.specs.Prelude.{is_some}
 use Rattle.text_scan.specs.Lines.{lines_of}
@@ -17,7 +17,7 @@ use Rattle.magex_top.specs.declared.status.Status.TheVariants.{Memory, ReadFault
 use Rattle.magex_top.specs.Runs.{IsScriptSession, is_quiet, long_session, usage_session, usage_text}
 use Rattle.magex_top.specs.Sessions.{RunLineMeans, first_run}
 use Rattle.line_answers.specs.LineEffects.{reply}
-use Rattle.magex_top.proofs.RunLaws.{long_run, nothing, nothing_more, nothing_reached, nothing_written, script_reached, script_run, script_written, something}
+use Rattle.magex_top.proofs.RunLaws.{long_run, nothing, nothing_more, nothing_reached, nothing_written, script_reached, script_run, script_written}
 use Rattle.magex_top.proofs.RunLaws.{nothing_begins, script_begins, usage_begins, usage_counted, usage_reached, usage_run, usage_written}
 use Rattle.magex_top.proofs.top_call.run.Goals as goal
 

@@ -9,7 +9,7 @@ use Rattle.session_model.specs.Scripts.{lines_in}
 use Rattle.magex_top.specs.declared.status.Status.{Status}
 use Rattle.magex_top.specs.declared.status.Status.TheVariants.{Done, Told, WriteFault}
 use Rattle.library_commands.specs.Workspace.KeptSessions.{state_of}
-use Rattle.magex_top.specs.Sessions.{RunState, first_run}
+use Rattle.magex_top.specs.Sessions.{RunState}
 use Rattle.magex_top.specs.Statuses.{status_of}
 use Rattle.magex_top.proofs.RunLaws.{begins_from_first, calm_read, calm_write, reached_from_first, session_from_first}
 use Rattle.magex_top.proofs.top_call.run_script.Goals as goal
