@@ -4,10 +4,11 @@
     bench/edits.py [--sizes 10000,30000,60000] [--kinds paint,undo,undo-far] [--program PATH]
 
 It prints for each kind of script seconds and growth from one size to the next (n to the power that is printed). For undo and redo it prints what so
-many of them took in a cell of so many rectangles: the seconds of the whole script less those of the same script without them.
+many of them took in a cell of so many rectangles: the seconds of processor of the whole script less those of the same script without them.
 """
 import argparse
 import math
+import resource
 import subprocess
 import tempfile
 import time
@@ -100,17 +101,25 @@ def crossed(count, rects, step):
     return lines
 
 
+def used(program, script, folder):
+    """The seconds of processor that a script took."""
+    before = resource.getrusage(resource.RUSAGE_CHILDREN)
+    timed(program, script, folder)
+    after = resource.getrusage(resource.RUSAGE_CHILDREN)
+    return after.ru_utime + after.ru_stime - before.ru_utime - before.ru_stime
+
+
 def undo_and_redo(program, sizes, step, folder):
-    """Edits of a large cell, taken back and made again: the seconds of each, for cells of two sizes."""
+    """Edits of a large cell, taken back and made again: the seconds of processor of each, for cells of two sizes."""
     for rects in (30000, 300000):
         (folder / "sheet.mag").write_text(sheet(rects))
         last = None
         for count in sizes:
             parts = [["load sheet"], crossed(count, rects, step), ["undo"] * count, ["redo"] * count]
-            ends = [min(timed(program, sum(parts[:k + 1], []), folder) for _ in range(3)) for k in range(len(parts))]
+            ends = [min(used(program, sum(parts[:k + 1], []), folder) for _ in range(3)) for k in range(len(parts))]
             spent = [max(after - before, 0.001) for before, after in zip(ends, ends[1:])]
             growth = ["n^%.2f" % (math.log(now / then) / math.log(count / last[0])) for now, then in zip(spent, last[1])] if last else [""] * 3
-            told = ", ".join("%s %.3f s %s" % entry for entry in zip(("edits", "undos", "redos"), spent, growth))
+            told = ", ".join("%s %.2f s %s" % entry for entry in zip(("edits", "undos", "redos"), spent, growth))
             print("%d in a cell of %d rectangles, %d apart: %s" % (count, rects, step, told), flush=True)
             last = (count, spent)
 
