@@ -11,6 +11,8 @@ enum Asked {
     /// Nothing.
     Nothing(&'static [u8]),
     Refused(&'static [u8], LineFault),
+    /// A command of one word.
+    Alone(&'static [u8], Verb),
     /// A command with one name, id or text.
     One(&'static [u8], Verb, &'static [u8]),
     /// A command with two names.
@@ -56,6 +58,8 @@ const QUESTIONS: &[Asked] = &[
     Asked::One(b"delete i1", Verb::Delete, b"i1"),
     Asked::Label(b"label poly 0 2 0 4 7 in", b"poly", [0, 2, 0, 4], 7, b"in"),
     Asked::One(b"unlabel GND!", Verb::Unlabel, b"GND!"),
+    Asked::Alone(b"undo", Verb::Undo),
+    Asked::Alone(b" redo\t", Verb::Redo),
     Asked::One(b"save inv", Verb::Save, b"inv"),
     Asked::One(b"nodes inv", Verb::Nodes, b"inv"),
     Asked::One(b"squares inv", Verb::Squares, b"inv"),
@@ -90,6 +94,8 @@ const QUESTIONS: &[Asked] = &[
     Asked::Refused(b"generate", LineFault::BadForm),
     Asked::Refused(b"generate 1 1", LineFault::BadForm),
     Asked::Refused(b"delete i j", LineFault::BadForm),
+    Asked::Refused(b"undo inv", LineFault::BadForm),
+    Asked::Refused(b"redo 1", LineFault::BadForm),
     Asked::Refused(b"unlabel", LineFault::BadForm),
     Asked::Refused(b"unlabel \t ", LineFault::BadForm),
     Asked::Refused(b"label", LineFault::BadForm),
@@ -208,6 +214,14 @@ fn only_word(command: &Command) -> Option<(Verb, &Name)> {
     }
 }
 
+fn is_alone(command: &Command, verb: Verb) -> bool {
+    match command {
+        Command::Undo => verb == Verb::Undo,
+        Command::Redo => verb == Verb::Redo,
+        _ => false,
+    }
+}
+
 fn is_one(command: &Command, verb: Verb, want: &[u8]) -> bool {
     match only_word(command) {
         Some((found, name)) => found == verb && name.bytes() == want,
@@ -281,6 +295,7 @@ fn line_of(asked: &Asked) -> &'static [u8] {
     match asked {
         Asked::Nothing(line) => line,
         Asked::Refused(line, _) => line,
+        Asked::Alone(line, _) => line,
         Asked::One(line, _, _) => line,
         Asked::Two(line, _, _, _) => line,
         Asked::Area(line, _, _, _) => line,
@@ -295,6 +310,7 @@ fn line_of(asked: &Asked) -> &'static [u8] {
 fn is_command(command: &Command, asked: &Asked) -> bool {
     match asked {
         Asked::Nothing(_) | Asked::Refused(_, _) => false,
+        Asked::Alone(_, verb) => is_alone(command, *verb),
         Asked::One(_, verb, name) => is_one(command, *verb, name),
         Asked::Two(_, verb, cell, file) => is_two(command, *verb, cell, file),
         Asked::Area(_, verb, layer, area) => is_area(command, *verb, layer, area),
