@@ -1,0 +1,8 @@
+use Rattle.std.proofs.Common.{◌≡◌, drop}
+use Rattle.std.specs.Prelude.{fold}
+use Rattle.tech_draft.specs.Lookups.{with_type_once}
+use Rattle.drc_rules.proofs.lookups.push_each_once.Given as goal
+
+-- what is left gives what all give
+abbrev pub invariant-loop-kind : goal.invariant-loop-kind
+invariant-loop-kind l = fold with_type_once l.types.items (drop l.kind-index l.more) ≡ fold with_type_once l.initial.types.items l.more

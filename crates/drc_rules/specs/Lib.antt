@@ -1,0 +1,4 @@
+pub mod Pieces
+pub mod RuleLines
+pub mod RuleFiles
+pub mod LawfulRules

@@ -1,0 +1,5 @@
+pub mod BoundLaws
+pub mod BoxLaws
+pub mod CombinedLaws
+pub mod DilationLaws
+pub mod ErosionLaws

@@ -1,0 +1,7 @@
+use Rattle.std.proofs.Common.{◌≡◌, take, map}
+use Rattle.square_sets.specs.Reaches.{grown}
+use Rattle.square_sets.proofs.reaches.dilated.Given as goal
+
+-- the rectangles so far are grown
+abbrev pub invariant-loop-area : goal.invariant-loop-area
+invariant-loop-area l = l.found.items ≡ map (grown l.low l.high) (take l.area-index l.rects)
