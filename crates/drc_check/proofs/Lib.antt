@@ -1,0 +1,13 @@
+pub mod AreaLaws
+pub mod BandLaws
+pub mod CellPieceLaws
+pub mod FoundLists
+pub mod ListedLaws
+pub mod MarkLaws
+pub mod PieceLaws
+pub mod PlanePieces
+pub mod SquareLaws
+pub mod StackPieces
+pub mod TileUnions
+pub mod ViolationLaws
+pub mod VisitPieces

@@ -1,0 +1,7 @@
+use Rattle.std.proofs.Common.{◌≡◌, ◌++◌, take}
+use Rattle.std.specs.List.{filter_map}
+use Rattle.drc_check.specs.Pieces.{stack_piece}
+use Rattle.drc_check.proofs.pieces.add_marked.Given as goal
+
+abbrev pub invariant-loop-stack : goal.invariant-loop-stack
+invariant-loop-stack l = l.pieces.items ≡ l.fn.pieces.items ++ filter_map (stack_piece l.tech l.marks l.plane l.sets) (take l.stack-index l.stacks)

@@ -1,0 +1,6 @@
+pub mod Bands
+pub mod CellPieces
+pub mod Checks
+pub mod Listed
+pub mod Pieces
+pub mod Violations

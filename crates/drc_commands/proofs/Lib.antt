@@ -1,0 +1,3 @@
+pub mod DrcLaws
+pub mod OneDrc
+pub mod RestLaws

@@ -1,0 +1,3 @@
+pub mod CommandDrc
+pub mod OneEffect
+pub mod Refusals
