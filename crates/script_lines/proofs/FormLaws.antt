@@ -132,6 +132,7 @@ formed_with verb.Redo given are = tt
 formed_with verb.Save given are = are.0
 formed_with verb.Nodes given are = are.0
 formed_with verb.Squares given are = are.0
+formed_with verb.Drc given are = (are.0, are.1.0)
 formed_with verb.Extract given are = are.0
 formed_with verb.Flat given are = are.0
 formed_with verb.Sim given are = are.0

@@ -49,6 +49,7 @@ IsFormed command.Redo = Unit {0}
 IsFormed (command.Save cell) = IsPlain cell
 IsFormed (command.Nodes cell) = IsPlain cell
 IsFormed (command.Squares cell) = IsPlain cell
+IsFormed (command.Drc cell file) = IsPlain cell × IsPlain file
 IsFormed (command.Extract cell) = IsPlain cell
 IsFormed (command.Flat cell) = IsPlain cell
 IsFormed (command.Sim cell) = IsPlain cell

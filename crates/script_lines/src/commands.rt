@@ -43,6 +43,8 @@ pub enum Command {
     Nodes(Name),
     /// `squares CELL`: tell the squares by which the cell and those below it are not clean.
     Squares(Name),
+    /// `drc CELL FILE`: tell the squares of the cell at which it violates the design rules of the file.
+    Drc(Name, Name),
     /// `extract CELL`: extract the cell and those below it.
     Extract(Name),
     /// `flat CELL`: write the flat circuit of the cell.

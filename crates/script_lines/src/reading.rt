@@ -83,6 +83,7 @@ fn command_on(alloc: Global, verb: Verb, line: &[u8]) -> Result<Command, LineFau
         Verb::Save => plain_alone(alloc, line).map(Command::Save),
         Verb::Nodes => plain_alone(alloc, line).map(Command::Nodes),
         Verb::Squares => plain_alone(alloc, line).map(Command::Squares),
+        Verb::Drc => plain_pair(alloc, line).map(|(cell, file)| Command::Drc(cell, file)),
         Verb::Extract => plain_alone(alloc, line).map(Command::Extract),
         Verb::Flat => plain_alone(alloc, line).map(Command::Flat),
         Verb::Sim => plain_alone(alloc, line).map(Command::Sim),

@@ -22,6 +22,7 @@ pub enum Verb {
     Save,
     Nodes,
     Squares,
+    Drc,
     Extract,
     Flat,
     Sim,
@@ -32,7 +33,7 @@ pub enum Verb {
 }
 
 /// All of them.
-pub const VERBS: [Verb; 24] = [
+pub const VERBS: [Verb; 25] = [
     Verb::Tech,
     Verb::Load,
     Verb::New,
@@ -50,6 +51,7 @@ pub const VERBS: [Verb; 24] = [
     Verb::Save,
     Verb::Nodes,
     Verb::Squares,
+    Verb::Drc,
     Verb::Extract,
     Verb::Flat,
     Verb::Sim,
@@ -89,6 +91,7 @@ impl Verb {
             Verb::Save => b"save",
             Verb::Nodes => b"nodes",
             Verb::Squares => b"squares",
+            Verb::Drc => b"drc",
             Verb::Extract => b"extract",
             Verb::Flat => b"flat",
             Verb::Sim => b"sim",

@@ -63,6 +63,7 @@ const QUESTIONS: &[Asked] = &[
     Asked::One(b"save inv", Verb::Save, b"inv"),
     Asked::One(b"nodes inv", Verb::Nodes, b"inv"),
     Asked::One(b"squares inv", Verb::Squares, b"inv"),
+    Asked::Two(b"drc inv mosis", Verb::Drc, b"inv", b"mosis"),
     Asked::One(b"extract inv", Verb::Extract, b"inv"),
     Asked::One(b"flat inv", Verb::Flat, b"inv"),
     Asked::One(b"sim inv", Verb::Sim, b"inv"),
@@ -235,6 +236,7 @@ fn is_two(command: &Command, verb: Verb, cell: &[u8], file: &[u8]) -> bool {
             verb == Verb::Vectors && c.bytes() == cell && f.bytes() == file
         }
         Command::Simrun(c, f) => verb == Verb::Simrun && c.bytes() == cell && f.bytes() == file,
+        Command::Drc(c, f) => verb == Verb::Drc && c.bytes() == cell && f.bytes() == file,
         _ => false,
     }
 }
