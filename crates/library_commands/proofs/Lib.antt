@@ -6,6 +6,7 @@ pub mod LoadLaws
 pub mod MarkLaws
 pub mod TechLaws
 pub mod RestLaws
+pub mod OneChecks
 pub mod OneEffects
 pub mod OneLook
 pub mod OneMarks

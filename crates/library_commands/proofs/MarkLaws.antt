@@ -76,6 +76,7 @@ marks_applied old new current now records one lawful stamped is agrees =
     go (command.Save name) stamped is changes = same stamped
     go (command.Nodes name) stamped is changes = same stamped
     go (command.Squares name) stamped is changes = same stamped
+    go (command.Drc name file) stamped is changes = same stamped
     go (command.Extract name) stamped is changes = same stamped
     go (command.Flat name) stamped is changes = same stamped
     go (command.Sim name) stamped is changes = same stamped

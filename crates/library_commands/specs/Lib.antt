@@ -1,5 +1,6 @@
 -- what crates above name of those below
 pub use Rattle.workspace.specs as Workspace
+pub mod CommandChecks
 pub mod CommandEdits
 pub mod CommandLoad
 pub mod CommandLooks

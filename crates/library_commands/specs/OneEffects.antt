@@ -6,6 +6,7 @@ use Rattle.script_lines.specs.declared.commands.Command.{Command}
 use Rattle.look_commands.specs.declared.looks.Look.{Look}
 use Rattle.workspace.specs.KeptSessions.{SeesSoundLibrary}
 use Rattle.workspace.specs.States.{State}
+use Rattle.library_commands.specs.CommandChecks.{CheckMeans}
 use Rattle.library_commands.specs.CommandEdits.{EditMeans}
 use Rattle.library_commands.specs.CommandLoad.{LoadMeans}
 use Rattle.library_commands.specs.CommandLooks.{LookMeans}
@@ -42,3 +43,9 @@ abbrev pub LookMeansOneEffect : Type 0
 LookMeansOneEffect =
     (look : Look) (number : ℕ) (state : State) (name : List ℕ) (effect other : Effect State) → SeesSoundLibrary state
     → LookMeans look number state name effect → LookMeans look number state name other → effect ≡ other
+
+-- and a check by design rules
+abbrev pub CheckMeansOneEffect : Type 0
+CheckMeansOneEffect =
+    (number : ℕ) (state : State) (files : Files) (name file : List ℕ) (effect other : Effect State) → CheckMeans number state files name file effect
+    → CheckMeans number state files name file other → effect ≡ other

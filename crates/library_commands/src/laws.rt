@@ -1,7 +1,8 @@
 //! The law of the commands on a library. The function here does nothing; its contract is the law.
-ghost use Rattle.library_commands.specs.OneEffects.{EditMeansOneEffect, LoadMeansOneEffect, LookMeansOneEffect};
+ghost use Rattle.library_commands.specs.OneEffects.{CheckMeansOneEffect, EditMeansOneEffect, LoadMeansOneEffect, LookMeansOneEffect};
 ghost use Rattle.library_commands.specs.OneEffects.{ReturnMeansOneEffect, TechMeansOneEffect};
 
+use drc_commands::drc_means_one_effect;
 use library_uniqueness::unclean_cells_are_unique;
 
 /// Each command on a library has one effect, for each number of its line, state and files.
@@ -11,6 +12,8 @@ pub fn library_lines_have_one_effect()
     ensures edits { EditMeansOneEffect }
     ensures returns { ReturnMeansOneEffect }
     ensures looks { LookMeansOneEffect }
+    ensures checks { CheckMeansOneEffect }
 {
     unclean_cells_are_unique();
+    drc_means_one_effect();
 }

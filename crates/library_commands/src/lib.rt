@@ -1,4 +1,4 @@
-//! Commands on the library that a session keeps: `tech`, `load`, those that edit, `undo` and `redo`, and those that look at a cell.
+//! Commands on the library that a session keeps: `tech`, `load`, those that edit, `undo` and `redo`, those that look at a cell, and `drc`.
 //!
 //! # How the proof goes
 //!
@@ -7,9 +7,10 @@
 //! the cases of each command.
 //!
 //! Each has one effect: edits and loads by the laws of a library, where the marks of cells are Booleans that are known at each cell (`OneMarks`),
-//! and looks since a cell has one text, one list of nodes and one of squares that offend (`OneLook`).
+//! and looks since a cell has one text, one list of nodes and one of squares that offend (`OneLook`). A check has that of `drc_commands`.
 #![tactic(auto)]
 
+mod command_checks;
 mod command_edits;
 mod command_load;
 mod command_looks;
@@ -17,6 +18,7 @@ mod command_returns;
 mod command_tech;
 mod laws;
 
+pub use command_checks::check;
 pub use command_edits::edit;
 pub use command_load::load;
 pub use command_looks::look_at;

@@ -11,7 +11,7 @@ ghost use Rattle.magex_top.specs.Sessions.{CommandMeans, LineMeans};
 
 use circuit_commands::{CircuitFile, ext2sim};
 use extract_commands::{circuit, extract, generate, vectors};
-use library_commands::{LayoutSession, Way, bring_back, edit, load, look_at, tech};
+use library_commands::{LayoutSession, Way, bring_back, check, edit, load, look_at, tech};
 use line_answers::{refuse, told, worded};
 use look_commands::Look;
 use network_commands::simrun;
@@ -132,6 +132,7 @@ fn answer<F: Shelf>(
         Command::Redo => bring_back(alloc, session, number, Way::Redo),
         Command::Save(cell) => look_at(alloc, session, number, cell, Look::Save),
         Command::Squares(cell) => look_at(alloc, session, number, cell, Look::Squares),
+        Command::Drc(cell, file) => check(alloc, session, shelf, number, cell, file),
         Command::Nodes(cell) => look_at(alloc, session, number, cell, Look::Nodes),
         Command::Extract(cell) => extract(alloc, session, number, cell),
         Command::Flat(cell) => circuit(alloc, session, number, cell, CircuitFile::Flat),

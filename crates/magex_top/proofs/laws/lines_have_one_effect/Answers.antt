@@ -8,6 +8,7 @@ returns c = one_line (record {
   edits = c.library_lines_have_one_effect.ensures.edits;
   returns = c.library_lines_have_one_effect.ensures.returns;
   looks = c.library_lines_have_one_effect.ensures.looks;
+  checks = c.library_lines_have_one_effect.ensures.checks;
   extract = c.extracting_lines_have_one_effect.ensures.extract;
   circuit = c.extracting_lines_have_one_effect.ensures.circuit;
   vectors = c.extracting_lines_have_one_effect.ensures.vectors;

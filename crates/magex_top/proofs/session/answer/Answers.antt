@@ -18,6 +18,12 @@ returns-in-Load-clause-effect g c files told =
     (λ answer means. subst (λ (command : Command). Answers (CommandMeans c.args.budget c.args.number (state_of c.args.session.now) files command)
     (state_of c.load.new.session) answer (g.F.Shelf.fetch_plan c.args.shelf.now) (g.F.Shelf.fetch_plan c.load.new.shelf)) (sym c.in-Load.is) means) (c.load.ensures.effect files told)
 
+pub returns-in-Drc-clause-effect : goal.returns-in-Drc-clause-effect
+returns-in-Drc-clause-effect g c files told =
+    IfOk-weaker c.check.result _ _
+    (λ answer means. subst (λ (command : Command). Answers (CommandMeans c.args.budget c.args.number (state_of c.args.session.now) files command)
+    (state_of c.args.session.now) answer (g.F.Shelf.fetch_plan c.args.shelf.now) (g.F.Shelf.fetch_plan c.check.new.shelf)) (sym c.in-Drc.is) means) (c.check.ensures.effect files told)
+
 pub returns-in-Ext2sim-clause-effect : goal.returns-in-Ext2sim-clause-effect
 returns-in-Ext2sim-clause-effect g c files told =
     IfOk-weaker c.ext2sim.result _ _

@@ -1,0 +1,15 @@
+use Rattle.std.proofs.Common.{◌≡◌, Some, IfOk, sym, subst, rules}
+use Rattle.session_model.specs.Effects.{Answers}
+use Rattle.workspace.specs.KeptSessions.{edited_state, state_of}
+use Rattle.workspace.specs.States.{State}
+use Rattle.library_commands.specs.CommandChecks.{CheckMeans}
+use Rattle.library_commands.proofs.command_checks.check.Goals as goal
+
+pub returns-in-Some-clause-effect : goal.returns-in-Some-clause-effect
+returns-in-Some-clause-effect g c files told =
+    let state : state_of c.args.session.now ≡ Some (edited_state c.in-Some.edited) = search rules in
+    subst
+    (λ (s : State). IfOk c.check_named.result (λ answer.
+    Answers (CheckMeans c.args.number s files c.args.name.now c.args.file.now) s answer
+    (g.F.Shelf.fetch_plan c.args.shelf.now) (g.F.Shelf.fetch_plan c.check_named.new.shelf)))
+    (sym state) (c.check_named.ensures.effect files told)

@@ -1,0 +1,27 @@
+use Rattle.std.proofs.Common.{◌≡◌, Some, refl, rules}
+use Rattle.std.proofs.lemmas.Result.{IfOk-weaker}
+use Rattle.cell_library.specs.Libraries.{seen}
+use Rattle.cell_library.specs.Views.{cell_named}
+use Rattle.edit_script.proofs.CellLaws.{found_there}
+use Rattle.workspace.proofs.CellCommands.{answers_on_cell}
+use Rattle.workspace.specs.KeptSessions.{edited_state}
+use Rattle.library_commands.specs.CommandChecks.{ChecksIn}
+use Rattle.library_commands.proofs.command_checks.check_named.Goals as goal
+
+pub drc-requires : goal.drc-requires
+drc-requires g c =
+    let named : cell_named (seen c.args.edited.now.library) c.args.name.now ≡ Some c.in-Some.cell.0 = search rules in
+    found_there c.args.edited.now.library c.args.name.now c.in-Some.cell named
+
+pub returns-in-Some-clause-effect : goal.returns-in-Some-clause-effect
+returns-in-Some-clause-effect g c files told =
+    let named : cell_named (seen c.args.edited.now.library) c.args.name.now ≡ Some c.in-Some.cell.0 = search rules in
+    let work = edited_state c.args.edited.now in
+    IfOk-weaker c.drc.result _ _
+    (λ answer (fetched, means, asked). (
+      fetched,
+      answers_on_cell c.args.number work c.args.name.now (ChecksIn c.args.number files c.args.name.now c.args.file.now) (Some work) c.in-Some.cell.0 answer
+          fetched named (refl, means),
+      asked,
+    ))
+    (c.drc.ensures.effect files told)
