@@ -8,4 +8,6 @@ mod nm;
 #[cfg(test)]
 mod questions;
 #[cfg(test)]
+mod rule_files;
+#[cfg(test)]
 mod wholes;
