@@ -1,0 +1,9 @@
+pub mod CommentLaws
+pub mod FormLaws
+pub mod NumberLaws
+pub mod CuttingLaws
+pub mod TextLaws
+pub mod WordLaws
+pub mod WrittenTexts
+pub mod WrittenWords
+pub mod WrittenLaws

@@ -1,0 +1,163 @@
+-- A written text is cut into the commands that it was made of, and read one command after another.
+use Rattle.std.proofs.Common.{◌≡◌, ℕ, ◌+◌, ◌<◌, ◌==◌, ◌||◌, Bool, true, false, Result, Ok, Err}
+use Rattle.std.proofs.Common.{List, [], ◌∷◌, ◌++◌, length, refl, sym, ap, ◌∙◌, arith, append_assoc}
+use Rattle.std.specs.Prelude.{codes}
+use Rattle.std.specs.List.{slice_split, All}
+use Rattle.std.proofs.lemmas.Bool.{and_from, and_parts, not-true, or_parts}
+use Rattle.std.proofs.lemmas.List.Elements.{All-cons, All-nil}
+use Rattle.std.proofs.lemmas.List.Folds.{list_all-append}
+use Rattle.std.proofs.lemmas.List.Splits.{slice_split_at, slice_split_none}
+use Rattle.text_form.specs.declared.reading.At.{At}
+use Rattle.text_form.specs.Folds.{unless_faulty}
+use Rattle.text_form.specs.Parts.{first_faulty_part_or}
+use Rattle.text_form.specs.SaidLines.{and_then}
+use Rattle.cif_forms.specs.Bytes.{is_semicolon}
+use Rattle.cif_forms.specs.Comments.{without_comments}
+use Rattle.cif_forms.specs.Cutting.{commands_from, commands_of, line_ends, line_ends_before, line_of_command, step_on}
+use Rattle.cif_forms.specs.Written.{ArePlain, LooksPastLineFeeds, closed, first_fault_of, is_plain}
+use Rattle.cif_forms.specs.Written.{is_plain_text, without_line, written_parts, written_text}
+use Rattle.cif_forms.proofs.CuttingLaws.{commands_from-cons}
+use Rattle.cif_forms.proofs.TextLaws.{HasNoComment, without_comments-plain}
+
+-- ---- plain bytes
+
+plain_parts : (byte : ℕ) → is_plain byte ≡ true → (is_semicolon byte ≡ false) × ((byte == 40) ≡ false)
+plain_parts byte plain = or_parts (is_semicolon byte) (byte == 40) (not-true (is_semicolon byte || byte == 40) plain)
+
+plain-ends_none : (bytes : List ℕ) → is_plain_text bytes ≡ true → All (λ byte. is_semicolon byte ≡ false) bytes
+plain-ends_none [] plain = All-nil (λ byte. is_semicolon byte ≡ false)
+plain-ends_none (byte ∷ bytes) plain =
+    let parts = and_parts (is_plain byte) (is_plain_text bytes) plain in
+    All-cons (λ b. is_semicolon b ≡ false) byte bytes (plain_parts byte parts.0).0 (plain-ends_none bytes parts.1)
+
+plain-no_comment : (bytes : List ℕ) → is_plain_text bytes ≡ true → HasNoComment bytes
+plain-no_comment [] plain = tt
+plain-no_comment (byte ∷ bytes) plain =
+    let parts = and_parts (is_plain byte) (is_plain_text bytes) plain in
+    ((plain_parts byte parts.0).1, plain-no_comment bytes parts.1)
+
+-- plain bytes and more plain bytes
+pub plain-append : (bytes more : List ℕ) → is_plain_text bytes ≡ true → is_plain_text more ≡ true → is_plain_text (bytes ++ more) ≡ true
+plain-append bytes more one other = list_all-append is_plain bytes more ∙ and_from (is_plain_text bytes) (is_plain_text more) one other
+
+-- plain commands and more plain commands
+pub ArePlain-append : (commands more : List (List ℕ)) → ArePlain commands → ArePlain more → ArePlain (commands ++ more)
+ArePlain-append [] more one other = other
+ArePlain-append (command ∷ commands) more one other = (one.0, ArePlain-append commands more one.1 other)
+
+-- ---- comments
+
+no_comment-append : (bytes more : List ℕ) → HasNoComment bytes → HasNoComment more → HasNoComment (bytes ++ more)
+no_comment-append [] more one other = other
+no_comment-append (byte ∷ bytes) more one other = (one.0, no_comment-append bytes more one.1 other)
+
+written-no_comment : (commands : List (List ℕ)) → ArePlain commands → HasNoComment (written_text commands)
+written-no_comment [] plain = (refl, (refl, tt))
+written-no_comment (command ∷ commands) plain =
+    no_comment-append (closed command) (10 ∷ written_text commands)
+    (no_comment-append command (59 ∷ []) (plain-no_comment command plain.0) (refl, tt))
+    (refl, written-no_comment commands plain.1)
+
+-- a written text has no comments
+pub without_comments-written : (commands : List (List ℕ)) → ArePlain commands → without_comments (written_text commands) ≡ written_text commands
+without_comments-written commands plain = without_comments-plain (written_text commands) (written-no_comment commands plain)
+
+-- ---- cutting
+
+split-written : (front : List ℕ) (commands : List (List ℕ)) → is_plain_text front ≡ true → ArePlain commands
+    → slice_split is_semicolon (front ++ written_text commands) ≡ written_parts front commands
+split-written front [] one plain =
+    let last = codes "E" ++ 10 ∷ [] in
+    slice_split_none is_semicolon (front ++ last) (plain-ends_none (front ++ last) (plain-append front last one refl))
+split-written front (command ∷ commands) one plain =
+    let rest = written_text commands in
+    ap (λ text. slice_split is_semicolon (front ++ text)) (append_assoc command (59 ∷ []) (10 ∷ rest))
+    ∙ (ap (slice_split is_semicolon) (sym (append_assoc front command (59 ∷ 10 ∷ rest)))
+    ∙ (slice_split_at is_semicolon (front ++ command) 59 (10 ∷ rest) (plain-ends_none (front ++ command) (plain-append front command one plain.0)) refl
+    ∙ ap (λ parts. (front ++ command) ∷ parts) (split-written (10 ∷ []) commands refl plain.1)))
+
+-- The commands of a written text are those that it was made of, each with its semicolon, and behind them `E`.
+pub commands_of-written : (commands : List (List ℕ)) → ArePlain commands
+    → commands_of (written_text commands) ≡ commands_from 1 (written_parts [] commands)
+unfolding commands_of
+commands_of-written commands plain =
+    ap (λ text. commands_from 1 (slice_split is_semicolon text)) (without_comments-written commands plain)
+    ∙ ap (commands_from 1) (split-written [] commands refl plain)
+
+-- ---- reading
+
+written_parts-some : (front : List ℕ) (commands : List (List ℕ)) → 0 < length (written_parts front commands)
+written_parts-some front [] = omega arith
+written_parts-some front (command ∷ commands) = omega arith
+
+last-read : {S F : Type 0} (line : ℕ) (found : Result S F) → without_line (unless_faulty line found (λ next. Ok next)) ≡ found
+last-read line (Ok next) = refl
+last-read line (Err fault) = refl
+
+first-read : {S F : Type 0} (line : ℕ) (found : Result S F) (rest : S → Result S (At F)) (more : S → Result S F) (end : S → Result S F)
+    → ((next : S) → without_line (rest next) ≡ and_then (more next) end)
+    → without_line (unless_faulty line found rest) ≡ and_then (and_then found more) end
+first-read line (Ok next) rest more end same = same next
+first-read line (Err fault) rest more end same = refl
+
+read-parts : {S F : Type 0} (step : S → List ℕ → Bool → Result S F) → LooksPastLineFeeds step
+    → (front : List ℕ) → ((state : S) (bytes : List ℕ) (closed : Bool) → step state (front ++ bytes) closed ≡ step state bytes closed)
+    → (line : ℕ) (state : S) (commands : List (List ℕ))
+    → without_line (first_faulty_part_or line_of_command (step_on step) state (commands_from line (written_parts front commands)))
+    ≡ and_then (first_fault_of step state commands) (λ next. step next (codes "E" ++ 10 ∷ []) false)
+read-parts step looks front past line state [] =
+    let last = codes "E" ++ 10 ∷ [] in
+    last-read (line + line_ends_before (front ++ last)) (step state (front ++ last) false) ∙ past state last false
+read-parts {S} {F} step looks front past line state (command ∷ commands) =
+    let more = written_parts (10 ∷ []) commands in
+    let behind = line + line_ends (front ++ command) in
+    let rest : S → Result S (At F) = λ next. first_faulty_part_or line_of_command (step_on step) next (commands_from behind more) in
+    ap (λ all. without_line (first_faulty_part_or line_of_command (step_on step) state all))
+    (commands_from-cons line (front ++ command) more (written_parts-some (10 ∷ []) commands))
+    ∙ (ap (λ found. without_line (unless_faulty (line + line_ends_before (front ++ command)) found rest)) (past state command true)
+    ∙ first-read (line + line_ends_before (front ++ command)) (step state command true) rest
+    (λ next. first_fault_of step next commands) (λ next. step next (codes "E" ++ 10 ∷ []) false)
+    (λ next. read-parts step looks (10 ∷ []) looks behind next commands))
+
+-- What is read of a written text is what its commands make of the state, one after another, and then `E`; or the first fault.
+pub read-written : {S F : Type 0} (step : S → List ℕ → Bool → Result S F) → LooksPastLineFeeds step
+    → (state : S) (commands : List (List ℕ)) → ArePlain commands
+    → without_line (first_faulty_part_or line_of_command (step_on step) state (commands_of (written_text commands)))
+    ≡ and_then (first_fault_of step state commands) (λ next. step next (codes "E" ++ 10 ∷ []) false)
+read-written step looks state commands plain =
+    ap (λ all. without_line (first_faulty_part_or line_of_command (step_on step) state all)) (commands_of-written commands plain)
+    ∙ read-parts step looks [] (λ state bytes closed. refl) 1 state commands
+
+fine : {S F : Type 0} (found : Result S (At F)) (last : S) → without_line found ≡ Ok last → found ≡ Ok last
+fine (Ok state) last e = let same : state ≡ last = cc in ap Ok same
+fine (Err at) last e = absurd (let no : ⊥ = cc in no)
+
+-- a written text without fault
+pub read-written-fine : {S F : Type 0} (step : S → List ℕ → Bool → Result S F) → LooksPastLineFeeds step
+    → (state middle last : S) (commands : List (List ℕ)) → ArePlain commands
+    → first_fault_of step state commands ≡ Ok middle → step middle (codes "E" ++ 10 ∷ []) false ≡ Ok last
+    → first_faulty_part_or line_of_command (step_on step) state (commands_of (written_text commands)) ≡ Ok last
+read-written-fine step looks state middle last commands plain before end =
+    fine (first_faulty_part_or line_of_command (step_on step) state (commands_of (written_text commands))) last
+    (read-written step looks state commands plain ∙ (ap (λ found. and_then found (λ next. step next (codes "E" ++ 10 ∷ []) false)) before ∙ end))
+
+-- ---- commands, one after another
+
+behind : {S F : Type 0} (found : Result S F) (more end whole : S → Result S F) → ((next : S) → whole next ≡ and_then (more next) end)
+    → and_then found whole ≡ and_then (and_then found more) end
+behind (Ok next) more end whole same = same next
+behind (Err fault) more end whole same = refl
+
+-- some commands and more commands
+pub first_fault_of-append : {S F : Type 0} (step : S → List ℕ → Bool → Result S F) (state : S) (commands more : List (List ℕ))
+    → first_fault_of step state (commands ++ more) ≡ and_then (first_fault_of step state commands) (λ next. first_fault_of step next more)
+first_fault_of-append step state [] more = refl
+first_fault_of-append step state (command ∷ commands) more =
+    behind (step state command true) (λ next. first_fault_of step next commands) (λ next. first_fault_of step next more)
+    (λ next. first_fault_of step next (commands ++ more)) (λ next. first_fault_of-append step next commands more)
+
+-- the same where the first commands are without fault
+pub first_fault_of-fine : {S F : Type 0} (step : S → List ℕ → Bool → Result S F) (state middle : S) (commands more : List (List ℕ))
+    → first_fault_of step state commands ≡ Ok middle → first_fault_of step state (commands ++ more) ≡ first_fault_of step middle more
+first_fault_of-fine step state middle commands more before =
+    first_fault_of-append step state commands more ∙ ap (λ found. and_then found (λ next. first_fault_of step next more)) before
