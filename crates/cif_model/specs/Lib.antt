@@ -1,0 +1,4 @@
+pub mod Cifs
+pub mod Meanings
+pub mod Sizes
+pub mod Placings
