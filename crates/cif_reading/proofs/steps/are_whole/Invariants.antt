@@ -1,0 +1,10 @@
+use Rattle.std.proofs.Common.{◌≡◌, drop, true}
+use Rattle.std.specs.List.{list_all}
+use Rattle.cif_reading.specs.Steps.{move_is_in_range, move_is_whole}
+use Rattle.cif_reading.proofs.steps.are_whole.Given as goal
+
+abbrev pub invariant-loop-step : goal.invariant-loop-step
+invariant-loop-step l = record {
+  range : list_all move_is_in_range (drop l.step-index l.moves) ≡ true;
+  rest : list_all (move_is_whole l.scale) (drop l.step-index l.moves) ≡ list_all (move_is_whole l.scale) l.moves;
+}

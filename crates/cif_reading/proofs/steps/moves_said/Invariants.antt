@@ -1,0 +1,10 @@
+use Rattle.std.proofs.Common.{◌≡◌, ◌++◌, drop, map, true}
+use Rattle.std.specs.List.{list_all}
+use Rattle.cif_reading.specs.Steps.{move_is_in_range, move_said}
+use Rattle.cif_reading.proofs.steps.moves_said.Given as goal
+
+abbrev pub invariant-loop-step : goal.invariant-loop-step
+invariant-loop-step l = record {
+  range : list_all move_is_in_range (drop l.step-index l.moves) ≡ true;
+  rest : l.said.items ++ map (move_said l.scale) (drop l.step-index l.moves) ≡ map (move_said l.scale) l.moves;
+}
