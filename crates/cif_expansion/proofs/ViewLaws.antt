@@ -1,0 +1,45 @@
+-- What is computed from the fields of a placement, said of the transform that it is seen as.
+use Rattle.std.proofs.Common.{◌≡◌, ℕ, ℤ, Bool, cond, sym, ◌∙◌, ap, subst}
+use Rattle.geo_core.specs.declared.orients.Orient.{Orient}
+use Rattle.geo_core.specs.declared.squares.Rect.{Rect}
+use Rattle.geo_core.specs.declared.transforms.Transform.{Transform}
+use Rattle.geo_core.specs.Orientation.{orient_then}
+use Rattle.geo_core.specs.Images.{composed, point_x, point_y, rect_image, turns_x, turns_y}
+use Rattle.geo_core.proofs.ImageLaws.{transform_of, across, upward, point_x_at, point_y_at, composed-from_parts, rect_image-from_corners}
+use Rattle.cif_expansion.specs.Reach.{IsAtMost, MovesWithin}
+
+-- how far the parts move, if the whole moves no farther
+pub dx_seen : (n : ℕ) (inside t : Transform) → inside ≡ t → MovesWithin n t → IsAtMost n inside.dx
+dx_seen n inside t seen moves = (subst (MovesWithin n) (sym seen) moves).dx
+
+pub dy_seen : (n : ℕ) (inside t : Transform) → inside ≡ t → MovesWithin n t → IsAtMost n inside.dy
+dy_seen n inside t seen moves = (subst (MovesWithin n) (sym seen) moves).dy
+
+-- what the arm of an orientation computes is the x of the image
+pub point_x_seen : (inside t : Transform) (o : Orient) (r x y : ℤ) → inside ≡ t → inside.orient ≡ o → r ≡ across o inside.dx x y → r ≡ point_x t x y
+point_x_seen inside t o r x y seen is e = subst (λ s. r ≡ point_x s x y) seen (point_x_at inside o r x y is e)
+
+-- and its y
+pub point_y_seen : (inside t : Transform) (o : Orient) (r x y : ℤ) → inside ≡ t → inside.orient ≡ o → r ≡ upward o inside.dy x y → r ≡ point_y t x y
+point_y_seen inside t o r x y seen is e = subst (λ s. r ≡ point_y s x y) seen (point_y_at inside o r x y is e)
+
+-- the composed transform from its parts
+pub composed_seen : (inside inner outside outer : Transform) (o : Orient) (x y dx dy : ℤ) → inside ≡ inner → outside ≡ outer
+    → o ≡ orient_then inside.orient outside.orient → x ≡ inside.dx → y ≡ inside.dy → dx ≡ point_x outer x y → dy ≡ point_y outer x y
+    → transform_of o dx dy ≡ composed inner outer
+composed_seen inside inner outside outer o x y dx dy seen seen' e-o e-x e-y e-dx e-dy =
+    composed-from_parts inner outer o x y dx dy
+    (e-o ∙ ap (λ (t : Transform). orient_then t.orient outside.orient) seen ∙ ap (λ (t : Transform). orient_then inner.orient t.orient) seen')
+    (e-x ∙ ap (λ (t : Transform). t.dx) seen) (e-y ∙ ap (λ (t : Transform). t.dy) seen) e-dx e-dy
+
+-- the rectangle from the images of two opposite corners
+pub rect_seen : (inside t : Transform) (area : Rect) (turned_x turned_y : Bool) (left bottom right top left' bottom' right' top' xlo ylo xhi yhi : ℤ)
+    → inside ≡ t → turned_x ≡ turns_x inside.orient → turned_y ≡ turns_y inside.orient
+    → left ≡ area.xlo → bottom ≡ area.ylo → right ≡ area.xhi → top ≡ area.yhi
+    → left' ≡ point_x t left bottom → bottom' ≡ point_y t left bottom → right' ≡ point_x t right top → top' ≡ point_y t right top
+    → xlo ≡ cond turned_x right' left' → xhi ≡ cond turned_x left' right'
+    → ylo ≡ cond turned_y top' bottom' → yhi ≡ cond turned_y bottom' top'
+    → record { xlo = xlo; ylo = ylo; xhi = xhi; yhi = yhi } ≡ rect_image t area
+rect_seen inside t area turned_x turned_y left bottom right top left' bottom' right' top' xlo ylo xhi yhi seen e-x e-y =
+    rect_image-from_corners t area turned_x turned_y left bottom right top left' bottom' right' top' xlo ylo xhi yhi
+    (e-x ∙ ap (λ (s : Transform). turns_x s.orient) seen) (e-y ∙ ap (λ (s : Transform). turns_y s.orient) seen)

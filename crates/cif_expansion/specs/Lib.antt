@@ -1,0 +1,6 @@
+pub mod Limits
+pub mod CappedSizes
+pub mod Reach
+pub mod WideRects
+pub mod Drawings
+pub mod Expansions
