@@ -24,8 +24,8 @@ use Rattle.cif_forms.specs.Bytes.{is_blank, is_mark}
 use Rattle.cif_forms.specs.Commands.{goes_on, is_broken, is_layer_byte, is_layer_name, layer_said}
 use Rattle.cif_forms.specs.Commands.{moves_in, said_by, says, trimmed, without_last_blanks}
 use Rattle.cif_forms.specs.Words.{from_first_word, words_of}
-use Rattle.cif_forms.specs.Written.{ArePlain, MoveFits, is_plain_text, move_words}
-use Rattle.cif_forms.proofs.WrittenWords.{decimal-digit, plain-decimal, plain-decimals, plain-kinds, plain-line_of}
+use Rattle.cif_forms.specs.Written.{AreUnmarked, MoveFits, is_unmarked_text, move_words}
+use Rattle.cif_forms.proofs.WrittenWords.{decimal-digit, unmarked-decimal, unmarked-decimals, unmarked-kinds, unmarked-line_of}
 use Rattle.cif_forms.proofs.WrittenWords.{words_of-decimal, words_of-decimals, words_of-line_of}
 
 -- a line feed before a command says nothing
@@ -221,27 +221,27 @@ is_layer_name-part k few =
     (and_from (nat_lt 0 (length name)) (nat_lt (length name) 5) (lt-ltb 0 (length name) (omega arith)) (lt-ltb (length name) 5 short))
     (digits-layer_bytes digits (digits-decimal k))
 
--- ---- plain commands
+-- ---- unmarked commands
 
 -- `9 NAME`, where the name is plain
-pub plain-name : (name : List ℕ) → is_plain_name name ≡ true → is_plain_text (line_of (codes "9" ∷ name ∷ [])) ≡ true
-plain-name name is = plain-kinds is_plain_byte refl refl name (and_parts _ (list_all is_plain_byte name) is).1
+pub unmarked-name : (name : List ℕ) → is_plain_name name ≡ true → is_unmarked_text (line_of (codes "9" ∷ name ∷ [])) ≡ true
+unmarked-name name is = unmarked-kinds is_plain_byte refl refl refl name (and_parts _ (list_all is_plain_byte name) is).1
 
 -- `L NAME`
-pub plain-layer : (name : List ℕ) → is_layer_name name ≡ true → is_plain_text (line_of (codes "L" ∷ name ∷ [])) ≡ true
-plain-layer name is = plain-kinds is_layer_byte refl refl name (and_parts _ (list_all is_layer_byte name) is).1
+pub unmarked-layer : (name : List ℕ) → is_layer_name name ≡ true → is_unmarked_text (line_of (codes "L" ∷ name ∷ [])) ≡ true
+unmarked-layer name is = unmarked-kinds is_layer_byte refl refl refl name (and_parts _ (list_all is_layer_byte name) is).1
 
 -- a word and numbers
-pub plain-numbers : (word : List ℕ) (numbers : List ℤ) → is_plain_text word ≡ true → is_plain_text (line_of (word ∷ map decimal numbers)) ≡ true
-plain-numbers word numbers plain = plain-line_of (word ∷ map decimal numbers) (plain, plain-decimals numbers)
+pub unmarked-numbers : (word : List ℕ) (numbers : List ℤ) → is_unmarked_text word ≡ true → is_unmarked_text (line_of (word ∷ map decimal numbers)) ≡ true
+unmarked-numbers word numbers unmarked = unmarked-line_of (word ∷ map decimal numbers) (unmarked, unmarked-decimals numbers)
 
-plain-moves : (moves : List SaidMove) → ArePlain (flat_map move_words moves)
-plain-moves [] = tt
-plain-moves (Shift x y ∷ moves) = (refl, (plain-decimal x, (plain-decimal y, plain-moves moves)))
-plain-moves (MirrorX ∷ moves) = (refl, (refl, plain-moves moves))
-plain-moves (MirrorY ∷ moves) = (refl, (refl, plain-moves moves))
-plain-moves (Toward p q ∷ moves) = (refl, (plain-decimal p, (plain-decimal q, plain-moves moves)))
+unmarked-moves : (moves : List SaidMove) → AreUnmarked (flat_map move_words moves)
+unmarked-moves [] = tt
+unmarked-moves (Shift x y ∷ moves) = (refl, (unmarked-decimal x, (unmarked-decimal y, unmarked-moves moves)))
+unmarked-moves (MirrorX ∷ moves) = (refl, (refl, unmarked-moves moves))
+unmarked-moves (MirrorY ∷ moves) = (refl, (refl, unmarked-moves moves))
+unmarked-moves (Toward p q ∷ moves) = (refl, (unmarked-decimal p, (unmarked-decimal q, unmarked-moves moves)))
 
 -- a call with its steps
-pub plain-call : (n : ℤ) (moves : List SaidMove) → is_plain_text (line_of (codes "C" ∷ decimal n ∷ flat_map move_words moves)) ≡ true
-plain-call n moves = plain-line_of (codes "C" ∷ decimal n ∷ flat_map move_words moves) (refl, (plain-decimal n, plain-moves moves))
+pub unmarked-call : (n : ℤ) (moves : List SaidMove) → is_unmarked_text (line_of (codes "C" ∷ decimal n ∷ flat_map move_words moves)) ≡ true
+unmarked-call n moves = unmarked-line_of (codes "C" ∷ decimal n ∷ flat_map move_words moves) (refl, (unmarked-decimal n, unmarked-moves moves))

@@ -11,39 +11,41 @@ use Rattle.text_form.specs.declared.reading.At.{At}
 use Rattle.text_form.specs.Folds.{unless_faulty}
 use Rattle.text_form.specs.Parts.{first_faulty_part_or}
 use Rattle.text_form.specs.SaidLines.{and_then}
-use Rattle.cif_forms.specs.Bytes.{is_semicolon}
+use Rattle.cif_forms.specs.Bytes.{is_mark, is_semicolon}
 use Rattle.cif_forms.specs.Comments.{without_comments}
 use Rattle.cif_forms.specs.Cutting.{commands_from, commands_of, line_ends, line_ends_before, line_of_command, step_on}
-use Rattle.cif_forms.specs.Written.{ArePlain, LooksPastLineFeeds, closed, first_fault_of, is_plain}
-use Rattle.cif_forms.specs.Written.{is_plain_text, without_line, written_parts, written_text}
+use Rattle.cif_forms.specs.Written.{AreUnmarked, LooksPastLineFeeds, first_fault_of, is_unmarked}
+use Rattle.cif_forms.specs.Written.{is_unmarked_text, without_line, with_semicolon, written_parts, written_text}
 use Rattle.cif_forms.proofs.CuttingLaws.{commands_from-cons}
 use Rattle.cif_forms.proofs.TextLaws.{HasNoComment, without_comments-plain}
 
--- ---- plain bytes
+-- ---- unmarked bytes
 
-plain_parts : (byte : ℕ) → is_plain byte ≡ true → (is_semicolon byte ≡ false) × ((byte == 40) ≡ false)
-plain_parts byte plain = or_parts (is_semicolon byte) (byte == 40) (not-true (is_semicolon byte || byte == 40) plain)
+mark_parts : (byte : ℕ) → is_unmarked byte ≡ true → (is_semicolon byte ≡ false) × ((byte == 40) ≡ false)
+mark_parts byte unmarked =
+    let parts = or_parts ((byte == 40) || (byte == 41)) (byte == 59) (not-true (is_mark byte) unmarked) in
+    (parts.1, (or_parts (byte == 40) (byte == 41) parts.0).0)
 
-plain-ends_none : (bytes : List ℕ) → is_plain_text bytes ≡ true → All (λ byte. is_semicolon byte ≡ false) bytes
-plain-ends_none [] plain = All-nil (λ byte. is_semicolon byte ≡ false)
-plain-ends_none (byte ∷ bytes) plain =
-    let parts = and_parts (is_plain byte) (is_plain_text bytes) plain in
-    All-cons (λ b. is_semicolon b ≡ false) byte bytes (plain_parts byte parts.0).0 (plain-ends_none bytes parts.1)
+unmarked-ends_none : (bytes : List ℕ) → is_unmarked_text bytes ≡ true → All (λ byte. is_semicolon byte ≡ false) bytes
+unmarked-ends_none [] unmarked = All-nil (λ byte. is_semicolon byte ≡ false)
+unmarked-ends_none (byte ∷ bytes) unmarked =
+    let parts = and_parts (is_unmarked byte) (is_unmarked_text bytes) unmarked in
+    All-cons (λ b. is_semicolon b ≡ false) byte bytes (mark_parts byte parts.0).0 (unmarked-ends_none bytes parts.1)
 
-plain-no_comment : (bytes : List ℕ) → is_plain_text bytes ≡ true → HasNoComment bytes
-plain-no_comment [] plain = tt
-plain-no_comment (byte ∷ bytes) plain =
-    let parts = and_parts (is_plain byte) (is_plain_text bytes) plain in
-    ((plain_parts byte parts.0).1, plain-no_comment bytes parts.1)
+unmarked-no_comment : (bytes : List ℕ) → is_unmarked_text bytes ≡ true → HasNoComment bytes
+unmarked-no_comment [] unmarked = tt
+unmarked-no_comment (byte ∷ bytes) unmarked =
+    let parts = and_parts (is_unmarked byte) (is_unmarked_text bytes) unmarked in
+    ((mark_parts byte parts.0).1, unmarked-no_comment bytes parts.1)
 
--- plain bytes and more plain bytes
-pub plain-append : (bytes more : List ℕ) → is_plain_text bytes ≡ true → is_plain_text more ≡ true → is_plain_text (bytes ++ more) ≡ true
-plain-append bytes more one other = list_all-append is_plain bytes more ∙ and_from (is_plain_text bytes) (is_plain_text more) one other
+-- unmarked bytes and more unmarked bytes
+pub unmarked-append : (bytes more : List ℕ) → is_unmarked_text bytes ≡ true → is_unmarked_text more ≡ true → is_unmarked_text (bytes ++ more) ≡ true
+unmarked-append bytes more one other = list_all-append is_unmarked bytes more ∙ and_from (is_unmarked_text bytes) (is_unmarked_text more) one other
 
--- plain commands and more plain commands
-pub ArePlain-append : (commands more : List (List ℕ)) → ArePlain commands → ArePlain more → ArePlain (commands ++ more)
-ArePlain-append [] more one other = other
-ArePlain-append (command ∷ commands) more one other = (one.0, ArePlain-append commands more one.1 other)
+-- unmarked commands and more unmarked commands
+pub AreUnmarked-append : (commands more : List (List ℕ)) → AreUnmarked commands → AreUnmarked more → AreUnmarked (commands ++ more)
+AreUnmarked-append [] more one other = other
+AreUnmarked-append (command ∷ commands) more one other = (one.0, AreUnmarked-append commands more one.1 other)
 
 -- ---- comments
 
@@ -51,38 +53,38 @@ no_comment-append : (bytes more : List ℕ) → HasNoComment bytes → HasNoComm
 no_comment-append [] more one other = other
 no_comment-append (byte ∷ bytes) more one other = (one.0, no_comment-append bytes more one.1 other)
 
-written-no_comment : (commands : List (List ℕ)) → ArePlain commands → HasNoComment (written_text commands)
-written-no_comment [] plain = (refl, (refl, tt))
-written-no_comment (command ∷ commands) plain =
-    no_comment-append (closed command) (10 ∷ written_text commands)
-    (no_comment-append command (59 ∷ []) (plain-no_comment command plain.0) (refl, tt))
-    (refl, written-no_comment commands plain.1)
+written-no_comment : (commands : List (List ℕ)) → AreUnmarked commands → HasNoComment (written_text commands)
+written-no_comment [] unmarked = (refl, (refl, tt))
+written-no_comment (command ∷ commands) unmarked =
+    no_comment-append (with_semicolon command) (10 ∷ written_text commands)
+    (no_comment-append command (59 ∷ []) (unmarked-no_comment command unmarked.0) (refl, tt))
+    (refl, written-no_comment commands unmarked.1)
 
 -- a written text has no comments
-pub without_comments-written : (commands : List (List ℕ)) → ArePlain commands → without_comments (written_text commands) ≡ written_text commands
-without_comments-written commands plain = without_comments-plain (written_text commands) (written-no_comment commands plain)
+pub without_comments-written : (commands : List (List ℕ)) → AreUnmarked commands → without_comments (written_text commands) ≡ written_text commands
+without_comments-written commands unmarked = without_comments-plain (written_text commands) (written-no_comment commands unmarked)
 
 -- ---- cutting
 
-split-written : (front : List ℕ) (commands : List (List ℕ)) → is_plain_text front ≡ true → ArePlain commands
+split-written : (front : List ℕ) (commands : List (List ℕ)) → is_unmarked_text front ≡ true → AreUnmarked commands
     → slice_split is_semicolon (front ++ written_text commands) ≡ written_parts front commands
-split-written front [] one plain =
+split-written front [] one unmarked =
     let last = codes "E" ++ 10 ∷ [] in
-    slice_split_none is_semicolon (front ++ last) (plain-ends_none (front ++ last) (plain-append front last one refl))
-split-written front (command ∷ commands) one plain =
+    slice_split_none is_semicolon (front ++ last) (unmarked-ends_none (front ++ last) (unmarked-append front last one refl))
+split-written front (command ∷ commands) one unmarked =
     let rest = written_text commands in
     ap (λ text. slice_split is_semicolon (front ++ text)) (append_assoc command (59 ∷ []) (10 ∷ rest))
     ∙ (ap (slice_split is_semicolon) (sym (append_assoc front command (59 ∷ 10 ∷ rest)))
-    ∙ (slice_split_at is_semicolon (front ++ command) 59 (10 ∷ rest) (plain-ends_none (front ++ command) (plain-append front command one plain.0)) refl
-    ∙ ap (λ parts. (front ++ command) ∷ parts) (split-written (10 ∷ []) commands refl plain.1)))
+    ∙ (slice_split_at is_semicolon (front ++ command) 59 (10 ∷ rest) (unmarked-ends_none (front ++ command) (unmarked-append front command one unmarked.0)) refl
+    ∙ ap (λ parts. (front ++ command) ∷ parts) (split-written (10 ∷ []) commands refl unmarked.1)))
 
 -- The commands of a written text are those that it was made of, each with its semicolon, and behind them `E`.
-pub commands_of-written : (commands : List (List ℕ)) → ArePlain commands
+pub commands_of-written : (commands : List (List ℕ)) → AreUnmarked commands
     → commands_of (written_text commands) ≡ commands_from 1 (written_parts [] commands)
 unfolding commands_of
-commands_of-written commands plain =
-    ap (λ text. commands_from 1 (slice_split is_semicolon text)) (without_comments-written commands plain)
-    ∙ ap (commands_from 1) (split-written [] commands refl plain)
+commands_of-written commands unmarked =
+    ap (λ text. commands_from 1 (slice_split is_semicolon text)) (without_comments-written commands unmarked)
+    ∙ ap (commands_from 1) (split-written [] commands refl unmarked)
 
 -- ---- reading
 
@@ -121,11 +123,11 @@ read-parts {S} {F} step looks front past line state (command ∷ commands) =
 
 -- What is read of a written text is what its commands make of the state, one after another, and then `E`; or the first fault.
 pub read-written : {S F : Type 0} (step : S → List ℕ → Bool → Result S F) → LooksPastLineFeeds step
-    → (state : S) (commands : List (List ℕ)) → ArePlain commands
+    → (state : S) (commands : List (List ℕ)) → AreUnmarked commands
     → without_line (first_faulty_part_or line_of_command (step_on step) state (commands_of (written_text commands)))
     ≡ and_then (first_fault_of step state commands) (λ next. step next (codes "E" ++ 10 ∷ []) false)
-read-written step looks state commands plain =
-    ap (λ all. without_line (first_faulty_part_or line_of_command (step_on step) state all)) (commands_of-written commands plain)
+read-written step looks state commands unmarked =
+    ap (λ all. without_line (first_faulty_part_or line_of_command (step_on step) state all)) (commands_of-written commands unmarked)
     ∙ read-parts step looks [] (λ state bytes closed. refl) 1 state commands
 
 fine : {S F : Type 0} (found : Result S (At F)) (last : S) → without_line found ≡ Ok last → found ≡ Ok last
@@ -134,12 +136,12 @@ fine (Err at) last e = absurd (let no : ⊥ = cc in no)
 
 -- a written text without fault
 pub read-written-fine : {S F : Type 0} (step : S → List ℕ → Bool → Result S F) → LooksPastLineFeeds step
-    → (state middle last : S) (commands : List (List ℕ)) → ArePlain commands
+    → (state middle last : S) (commands : List (List ℕ)) → AreUnmarked commands
     → first_fault_of step state commands ≡ Ok middle → step middle (codes "E" ++ 10 ∷ []) false ≡ Ok last
     → first_faulty_part_or line_of_command (step_on step) state (commands_of (written_text commands)) ≡ Ok last
-read-written-fine step looks state middle last commands plain before end =
+read-written-fine step looks state middle last commands unmarked before end =
     fine (first_faulty_part_or line_of_command (step_on step) state (commands_of (written_text commands))) last
-    (read-written step looks state commands plain ∙ (ap (λ found. and_then found (λ next. step next (codes "E" ++ 10 ∷ []) false)) before ∙ end))
+    (read-written step looks state commands unmarked ∙ (ap (λ found. and_then found (λ next. step next (codes "E" ++ 10 ∷ []) false)) before ∙ end))
 
 -- ---- commands, one after another
 

@@ -1,4 +1,4 @@
--- The words of written commands, and that written commands are plain.
+-- The words of written commands, and that written commands are unmarked.
 use Rattle.std.proofs.Common.{◌≡◌, ℕ, suc, ◌+◌, ◌<◌, ◌^◌, ◌==◌, ◌&&◌, ◌||◌, Bool, true, false, not, cond, List, [], ◌∷◌}
 use Rattle.std.proofs.Common.{◌++◌, length, map, ℤ, pos, negsuc, FitsSigned, refl, sym, ap, ◌∙◌, arith, append-nil, inl, inr}
 use lib.Signed.{mag}
@@ -19,10 +19,10 @@ use Rattle.cif_forms.specs.declared.limits.TheConstants.{HIGHEST, LOWEST}
 use Rattle.cif_forms.specs.declared.words.CifWord.TheVariants.{Number}
 use Rattle.cif_forms.specs.Bytes.{is_mark, is_numeral}
 use Rattle.cif_forms.specs.Words.{held, letter_of, word_of, words_in, words_of}
-use Rattle.cif_forms.specs.Written.{ArePlain, is_plain, is_plain_text}
+use Rattle.cif_forms.specs.Written.{AreUnmarked, is_unmarked, is_unmarked_text}
 use Rattle.cif_forms.proofs.TextLaws.{words_in-join}
 use Rattle.cif_forms.proofs.WordLaws.{numeral-is_shown, shown, words_in-numeral}
-use Rattle.cif_forms.proofs.WrittenTexts.{plain-append}
+use Rattle.cif_forms.proofs.WrittenTexts.{unmarked-append}
 
 -- ---- words
 
@@ -115,37 +115,51 @@ words_of-decimals (z ∷ numbers) fit =
     ap (λ words. words ++ flat_map words_of (map decimal numbers)) (words_of-decimal z fit.0)
     ∙ ap (λ words. Number z ∷ words) (words_of-decimals numbers fit.1)
 
--- ---- plain bytes
+-- ---- unmarked bytes
 
--- bytes of a kind that has neither `;` nor `(`
-plain-kind : (kind : ℕ → Bool) → kind 59 ≡ false → kind 40 ≡ false → (byte : ℕ) → kind byte ≡ true → is_plain byte ≡ true
-plain-kind kind no_end no_comment byte is =
-    elim (cases_Bool (byte == 59)) [
-      | inl ends ↦ absurd (let same = eqb-true byte 59 ends in let bad : false ≡ true = sym no_end ∙ (ap kind (sym same) ∙ is) in cc)
-      | inr goes_on ↦
-          elim (cases_Bool (byte == 40)) [
-            | inl opens ↦ absurd (let same = eqb-true byte 40 opens in let bad : false ≡ true = sym no_comment ∙ (ap kind (sym same) ∙ is) in cc)
-            | inr other ↦ ap (λ test. not (test || (byte == 40))) goes_on ∙ ap not other
+other_kind : (kind : ℕ → Bool) (mark byte : ℕ) → kind mark ≡ false → kind byte ≡ true → (byte == mark) ≡ true → ⊥
+other_kind kind mark byte none is same =
+    let bad : false ≡ true = sym none ∙ (ap kind (sym (eqb-true byte mark same)) ∙ is) in
+    cc
+
+-- bytes of a kind that has no mark
+unmarked-kind : (kind : ℕ → Bool) → kind 40 ≡ false → kind 41 ≡ false → kind 59 ≡ false → (byte : ℕ) → kind byte ≡ true → is_unmarked byte ≡ true
+unmarked-kind kind no_start no_close no_end byte is =
+    elim (cases_Bool (byte == 40)) [
+      | inl starts ↦ absurd (other_kind kind 40 byte no_start is starts)
+      | inr no_40 ↦
+          elim (cases_Bool (byte == 41)) [
+            | inl closes ↦ absurd (other_kind kind 41 byte no_close is closes)
+            | inr no_41 ↦
+                elim (cases_Bool (byte == 59)) [
+                  | inl ends ↦ absurd (other_kind kind 59 byte no_end is ends)
+                  | inr no_59 ↦
+                      ap (λ test. not (test || (byte == 41) || (byte == 59))) no_40
+                      ∙ (ap (λ test. not (test || (byte == 59))) no_41 ∙ ap not no_59)
+                ]
           ]
     ]
 
-pub plain-kinds : (kind : ℕ → Bool) → kind 59 ≡ false → kind 40 ≡ false → (bytes : List ℕ) → list_all kind bytes ≡ true → is_plain_text bytes ≡ true
-plain-kinds kind no_end no_comment [] all = refl
-plain-kinds kind no_end no_comment (byte ∷ bytes) all =
+-- the same of all bytes of such a kind
+pub unmarked-kinds : (kind : ℕ → Bool) → kind 40 ≡ false → kind 41 ≡ false → kind 59 ≡ false
+    → (bytes : List ℕ) → list_all kind bytes ≡ true → is_unmarked_text bytes ≡ true
+unmarked-kinds kind no_start no_close no_end [] all = refl
+unmarked-kinds kind no_start no_close no_end (byte ∷ bytes) all =
     let parts = and_parts (kind byte) (list_all kind bytes) all in
-    and_from (is_plain byte) (is_plain_text bytes) (plain-kind kind no_end no_comment byte parts.0) (plain-kinds kind no_end no_comment bytes parts.1)
+    and_from (is_unmarked byte) (is_unmarked_text bytes)
+    (unmarked-kind kind no_start no_close no_end byte parts.0) (unmarked-kinds kind no_start no_close no_end bytes parts.1)
 
--- a line of plain words
-pub plain-line_of : (parts : List (List ℕ)) → ArePlain parts → is_plain_text (line_of parts) ≡ true
-plain-line_of [] plain = refl
-plain-line_of (part ∷ []) plain = plain.0
-plain-line_of (part ∷ next ∷ parts) plain = plain-append part (32 ∷ line_of (next ∷ parts)) plain.0 (plain-line_of (next ∷ parts) plain.1)
+-- a line of unmarked words
+pub unmarked-line_of : (parts : List (List ℕ)) → AreUnmarked parts → is_unmarked_text (line_of parts) ≡ true
+unmarked-line_of [] unmarked = refl
+unmarked-line_of (part ∷ []) unmarked = unmarked.0
+unmarked-line_of (part ∷ next ∷ parts) unmarked = unmarked-append part (32 ∷ line_of (next ∷ parts)) unmarked.0 (unmarked-line_of (next ∷ parts) unmarked.1)
 
 -- the text of a number
-pub plain-decimal : (z : ℤ) → is_plain_text (decimal z) ≡ true
-plain-decimal z = plain-kinds is_numeral refl refl (decimal z) (decimal-numerals z)
+pub unmarked-decimal : (z : ℤ) → is_unmarked_text (decimal z) ≡ true
+unmarked-decimal z = unmarked-kinds is_numeral refl refl refl (decimal z) (decimal-numerals z)
 
 -- the texts of numbers
-pub plain-decimals : (numbers : List ℤ) → ArePlain (map decimal numbers)
-plain-decimals [] = tt
-plain-decimals (z ∷ numbers) = (plain-decimal z, plain-decimals numbers)
+pub unmarked-decimals : (numbers : List ℤ) → AreUnmarked (map decimal numbers)
+unmarked-decimals [] = tt
+unmarked-decimals (z ∷ numbers) = (unmarked-decimal z, unmarked-decimals numbers)

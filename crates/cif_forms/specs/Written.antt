@@ -1,5 +1,5 @@
 -- CIF texts as they are written: a command and its semicolon on each line, and `E` on the last. A command's words stand apart by one blank.
-use Rattle.std.specs.Prelude.{◌≡◌, ◌==◌, ◌||◌, not, ℕ, FitsSigned, Bool, true, List, [], ◌∷◌, ◌++◌, map, codes, Result, Ok, Err, ⊤}
+use Rattle.std.specs.Prelude.{◌≡◌, not, ℕ, FitsSigned, Bool, true, List, [], ◌∷◌, ◌++◌, map, codes, Result, Ok, Err, ⊤}
 use Rattle.std.specs.Int.{w32}
 use Rattle.std.specs.List.{list_all, AllByRecursion}
 use Rattle.text_scan.specs.Decimal.{decimal}
@@ -8,27 +8,27 @@ use Rattle.text_form.specs.declared.reading.At.{At}
 use Rattle.text_form.specs.SaidLines.{and_then}
 use Rattle.cif_forms.specs.declared.commands.SaidMove.{SaidMove}
 use Rattle.cif_forms.specs.declared.commands.SaidMove.TheVariants.{Shift, MirrorX, MirrorY, Toward}
-use Rattle.cif_forms.specs.Bytes.{is_semicolon}
+use Rattle.cif_forms.specs.Bytes.{is_mark}
 
--- a byte that neither ends a command nor opens a comment
-abbrev pub is_plain : ℕ → Bool
-is_plain byte = not (is_semicolon byte || byte == 40)
+-- a byte that is no parenthesis and ends no command
+abbrev pub is_unmarked : ℕ → Bool
+is_unmarked byte = not (is_mark byte)
 
 -- all bytes are such bytes
-abbrev pub is_plain_text : List ℕ → Bool
-is_plain_text bytes = list_all is_plain bytes
+abbrev pub is_unmarked_text : List ℕ → Bool
+is_unmarked_text bytes = list_all is_unmarked bytes
 
 -- commands, or words, of such bytes
-abbrev pub ArePlain : List (List ℕ) → Type 0
-ArePlain texts = AllByRecursion (λ text. is_plain_text text ≡ true) texts
+abbrev pub AreUnmarked : List (List ℕ) → Type 0
+AreUnmarked texts = AllByRecursion (λ text. is_unmarked_text text ≡ true) texts
 
 -- a command with its semicolon
-abbrev pub closed : List ℕ → List ℕ
-closed command = command ++ 59 ∷ []
+abbrev pub with_semicolon : List ℕ → List ℕ
+with_semicolon command = command ++ 59 ∷ []
 
 -- the text of these commands
 abbrev pub written_text : List (List ℕ) → List ℕ
-written_text commands = text_of (map closed commands ++ codes "E" ∷ [])
+written_text commands = text_of (map with_semicolon commands ++ codes "E" ∷ [])
 
 -- What stands between the semicolons of such a text: each command, of which the first has this in front and all others have the line feed of the
 -- line before; and last `E` and a line feed.

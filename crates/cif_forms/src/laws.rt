@@ -11,7 +11,7 @@ ghost use Rattle.cif_forms.specs.declared.commands.CifCommand.TheVariants.{Area,
 ghost use Rattle.cif_forms.specs.declared.commands.SaidMove.{SaidMove};
 ghost use Rattle.cif_forms.specs.Commands.{is_layer_name, says};
 ghost use Rattle.cif_forms.specs.Cutting.{commands_from, commands_of, line_of_command, step_on};
-ghost use Rattle.cif_forms.specs.Written.{ArePlain, LooksPastLineFeeds, MoveFits, first_fault_of, is_plain_text};
+ghost use Rattle.cif_forms.specs.Written.{AreUnmarked, LooksPastLineFeeds, MoveFits, first_fault_of, is_unmarked_text};
 ghost use Rattle.cif_forms.specs.Written.{move_words, without_line, written_parts, written_text};
 
 use crate::cutting::CommandReader;
@@ -20,9 +20,9 @@ use crate::cutting::CommandReader;
 /// that does not look at the line feed before a command reads them one after another, and then `E`, or meets the same first fault.
 pub fn reads_written_texts<R: CommandReader>()
     ensures commands { (commands : List (List ℕ))
-        → ArePlain commands → commands_of (written_text commands) ≡ commands_from 1 (written_parts [] commands) }
+        → AreUnmarked commands → commands_of (written_text commands) ≡ commands_from 1 (written_parts [] commands) }
     ensures read { (state : R) (commands : List (List ℕ))
-        → LooksPastLineFeeds R.step → ArePlain commands
+        → LooksPastLineFeeds R.step → AreUnmarked commands
         → without_line (first_faulty_part_or line_of_command (step_on R.step) state (commands_of (written_text commands)))
         ≡ and_then (first_fault_of R.step state commands) (λ next. R.step next (codes "E" ++ 10 ∷ []) false) }
 {}
@@ -46,11 +46,11 @@ pub fn says_what_is_written()
     ensures line_feed { (bytes : List ℕ) → says (10 ∷ bytes) ≡ says bytes }
 {}
 
-/// A law: no byte of a written command ends a command or opens a comment.
-pub fn written_commands_are_plain()
-    ensures line { (words : List (List ℕ)) → ArePlain words → is_plain_text (line_of words) ≡ true }
-    ensures name { (name : List ℕ) → is_plain_name name ≡ true → is_plain_text (line_of (codes "9" ∷ name ∷ [])) ≡ true }
-    ensures layer { (name : List ℕ) → is_layer_name name ≡ true → is_plain_text (line_of (codes "L" ∷ name ∷ [])) ≡ true }
-    ensures numbers { (word : List ℕ) (numbers : List ℤ) → is_plain_text word ≡ true → is_plain_text (line_of (word ∷ map decimal numbers)) ≡ true }
-    ensures call { (n : ℤ) (moves : List SaidMove) → is_plain_text (line_of (codes "C" ∷ decimal n ∷ flat_map move_words moves)) ≡ true }
+/// A law: no byte of a written command is a parenthesis, or ends a command.
+pub fn written_commands_are_unmarked()
+    ensures line { (words : List (List ℕ)) → AreUnmarked words → is_unmarked_text (line_of words) ≡ true }
+    ensures name { (name : List ℕ) → is_plain_name name ≡ true → is_unmarked_text (line_of (codes "9" ∷ name ∷ [])) ≡ true }
+    ensures layer { (name : List ℕ) → is_layer_name name ≡ true → is_unmarked_text (line_of (codes "L" ∷ name ∷ [])) ≡ true }
+    ensures numbers { (word : List ℕ) (numbers : List ℤ) → is_unmarked_text word ≡ true → is_unmarked_text (line_of (word ∷ map decimal numbers)) ≡ true }
+    ensures call { (n : ℤ) (moves : List SaidMove) → is_unmarked_text (line_of (codes "C" ∷ decimal n ∷ flat_map move_words moves)) ≡ true }
 {}

@@ -28,6 +28,6 @@ pub use bytes::{is_blank, is_numeral, is_semicolon};
 pub use commands::{CifCommand, SaidMove, says};
 pub use comments::{Place, Scan, without_comments};
 pub use cutting::{CommandReader, read_commands};
-pub use laws::{reads_written_texts, says_what_is_written, written_commands_are_plain};
+pub use laws::{reads_written_texts, says_what_is_written, written_commands_are_unmarked};
 pub use limits::{HIGHEST, LOWEST};
 pub use words::{CifWord, words_of};

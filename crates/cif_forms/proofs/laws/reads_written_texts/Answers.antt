@@ -5,4 +5,4 @@ pub returns-clause-commands : goal.returns-clause-commands
 returns-clause-commands g c = commands_of-written
 
 pub returns-clause-read : goal.returns-clause-read
-returns-clause-read g c = λ state commands looks plain. read-written g.R.CommandReader.step looks state commands plain
+returns-clause-read g c = λ state commands looks unmarked. read-written g.R.CommandReader.step looks state commands unmarked
