@@ -1,0 +1,9 @@
+pub mod CommandLaws
+pub mod ElementLaws
+pub mod LineLaws
+pub mod OneText
+pub mod OrderLaws
+pub mod PartLaws
+pub mod StripLaws
+pub mod SymbolLaws
+pub mod WritingLaws

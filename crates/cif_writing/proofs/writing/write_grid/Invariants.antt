@@ -1,0 +1,13 @@
+use Rattle.std.proofs.Common.{◌≡◌, ◌++◌, map, drop}
+use Rattle.std.specs.Prelude.{Some}
+use Rattle.text_scan.specs.Written.{text_of}
+use Rattle.cell_tree.specs.Uses.{displacements}
+use Rattle.cell_library.specs.LayoutTrees.{element_transform}
+use Rattle.cif_writing.specs.Commands.{call_command}
+use Rattle.cif_writing.proofs.writing.write_grid.Given as goal
+
+-- what stands and the calls that are left are all
+abbrev pub invariant-loop-k : goal.invariant-loop-k
+invariant-loop-k l =
+    l.out.items ++ text_of (map (call_command l.number) (drop l.k (map (element_transform l.placed) (displacements (Some l.grid)))))
+    ≡ l.initial.out.items ++ text_of (map (call_command l.number) (map (element_transform l.placed) (displacements (Some l.grid))))
