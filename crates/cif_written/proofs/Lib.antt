@@ -1,0 +1,14 @@
+pub mod FirstPlaces
+pub mod HalfNumbers
+pub mod KeptSymbols
+pub mod LibraryNumbers
+pub mod LibraryOrders
+pub mod NumberedSymbols
+pub mod ReadCalls
+pub mod ReadCommands
+pub mod ReadLines
+pub mod ReadOrders
+pub mod ReadParts
+pub mod ReadRuns
+pub mod ReadSymbols
+pub mod WrittenCells

@@ -1,0 +1,2 @@
+pub mod CellCifs
+pub mod Laws
