@@ -7,7 +7,6 @@ use Rattle.session_model.specs.declared.fetching.FetchFault.{FetchFault}
 use Rattle.session_model.specs.declared.report.LineKind.TheVariants as kind
 use Rattle.session_model.specs.declared.report.ReportLine.{ReportLine}
 use Rattle.session_model.specs.Fetches.{text_in}
-use Rattle.geo_core.specs.declared.squares.Rect.{Rect}
 use Rattle.tech_model.specs.declared.raw.RawTech.{RawTech}
 use Rattle.tech_model.specs.Types.{plane_name}
 use Rattle.drc_rules.specs.declared.faults.DrcFault.{DrcFault}
@@ -19,14 +18,10 @@ use Rattle.drc_check.specs.declared.violations.Violation.{Violation}
 use Rattle.drc_check.specs.Violations.{AreViolations}
 use Rattle.line_answers.specs.LineEffects.{FreeEffect, accepted, refused, reply}
 use Rattle.line_answers.specs.Refusals.{file_refusal}
+use Rattle.line_answers.specs.Texts.{bounds_text}
 use Rattle.drc_commands.specs.Refusals.{drc_refusal}
 
 -- ---- what is told
-
--- the four numbers of a strip, a blank before each
-abbrev pub bounds_text : Rect → List ℕ
-bounds_text area =
-    codes " " ++ decimal area.xlo ++ codes " " ++ decimal area.ylo ++ codes " " ++ decimal area.xhi ++ codes " " ++ decimal area.yhi
 
 -- `violation CELL RULE PLANE XLO YLO XHI YHI`: a strip of squares at which the cell violates the rule of this number
 abbrev pub violation_line : RawTech → List ℕ → Violation → ReportLine

@@ -1,17 +1,14 @@
 //! The lines that tell where a cell violates design rules.
-ghost use Rattle.std.specs.Prelude.{◌≡◌, ◌<◌, ◌++◌, All, map, length, codes, IfOk, OnOk};
-ghost use Rattle.text_scan.specs.Decimal.{decimal};
+ghost use Rattle.std.specs.Prelude.{◌≡◌, ◌<◌, All, map, length, IfOk};
 ghost use Rattle.line_answers.specs.LineEffects.{reply};
-ghost use Rattle.drc_commands.specs.CommandDrc.{bounds_text, check_lines, sum_text, violation_line};
+ghost use Rattle.drc_commands.specs.CommandDrc.{check_lines, sum_text, violation_line};
 
 use drc_check::Violation;
-use geo_core::Rect;
-use line_answers::{append_count, append_with_name, reply};
+use line_answers::{append_bounds, append_count, append_with_name, reply};
 use names_lists::{List, Name};
 use session_model::{LineKind, ReportLine};
 use std::alloc::{AllocError, Global};
 use tech_model::Tech;
-use text_scan::append_decimal;
 
 /// A line for each strip at which the cell of this name violates a rule, and then one with how many rules and strips there are.
 pub fn check_lines(
@@ -66,24 +63,6 @@ fn violation_line(
         kind: LineKind::Violation,
         text: List::of(text),
     })
-}
-
-// Writes the four numbers of a strip, a blank before each.
-fn append_bounds(text: &mut Vec<u8>, area: &Rect) -> Result<(), AllocError>
-    ensures { OnOk result (text.new.items ≡ text.old.items ++ bounds_text area.now) }
-{
-    append_number(text, area.xlo)?;
-    append_number(text, area.ylo)?;
-    append_number(text, area.xhi)?;
-    append_number(text, area.yhi)
-}
-
-// Writes a blank and a number.
-fn append_number(text: &mut Vec<u8>, number: i64) -> Result<(), AllocError>
-    ensures { OnOk result (text.new.items ≡ text.old.items ++ (codes " " ++ decimal number)) }
-{
-    text.push(b' ')?;
-    append_decimal(text, i128::from(number))
 }
 
 // `drc CELL: R rules S strips`.

@@ -1,2 +1,3 @@
 pub mod LineEffects
 pub mod Refusals
+pub mod Texts

@@ -16,4 +16,4 @@ pub use replies::{
     file_name, joined, one_line, one_store, refuse, refuse_file, refuse_no_cell, refuse_no_tech,
     refuse_too_many, refused_line, reply, told,
 };
-pub use texts::{append_count, append_two, append_with_name};
+pub use texts::{append_bounds, append_count, append_two, append_with_name};

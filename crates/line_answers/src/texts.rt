@@ -1,7 +1,9 @@
 //! Texts that are written piece by piece.
-ghost use Rattle.std.specs.Prelude.{◌≡◌, ◌++◌, pos, OnOk};
+ghost use Rattle.std.specs.Prelude.{◌≡◌, ◌++◌, pos, codes, OnOk};
 ghost use Rattle.text_scan.specs.Decimal.{decimal};
+ghost use Rattle.line_answers.specs.Texts.{bounds_text};
 
+use geo_core::Rect;
 use names_lists::Name;
 use std::alloc::AllocError;
 use text_scan::append_decimal;
@@ -33,4 +35,22 @@ pub fn append_count(
     text.extend_from_slice(before)?;
     append_decimal(text, count as i128)?;
     text.extend_from_slice(after)
+}
+
+/// Writes the four numbers of a rectangle, a blank before each.
+pub fn append_bounds(text: &mut Vec<u8>, area: &Rect) -> Result<(), AllocError>
+    ensures { OnOk result (text.new.items ≡ text.old.items ++ bounds_text area.now) }
+{
+    append_number(text, area.xlo)?;
+    append_number(text, area.ylo)?;
+    append_number(text, area.xhi)?;
+    append_number(text, area.yhi)
+}
+
+// Writes a blank and a number.
+fn append_number(text: &mut Vec<u8>, number: i64) -> Result<(), AllocError>
+    ensures { OnOk result (text.new.items ≡ text.old.items ++ (codes " " ++ decimal number)) }
+{
+    text.push(b' ')?;
+    append_decimal(text, i128::from(number))
 }

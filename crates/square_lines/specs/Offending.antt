@@ -1,16 +1,11 @@
 -- Lines that tell which squares offend.
 use Rattle.std.specs.Prelude.{ℕ, List, ◌++◌, codes}
-use Rattle.text_scan.specs.Decimal.{decimal}
 use Rattle.geo_core.specs.declared.squares.Rect.{Rect}
 use Rattle.tech_model.specs.declared.raw.RawTech.{RawTech}
 use Rattle.tech_model.specs.Types.{plane_name}
 use Rattle.session_model.specs.declared.report.LineKind.TheVariants.{Offending}
 use Rattle.session_model.specs.declared.report.ReportLine.{ReportLine}
-
--- the four numbers of a rectangle, a blank before each
-abbrev pub bounds_text : Rect → List ℕ
-bounds_text area =
-    codes " " ++ decimal area.xlo ++ codes " " ++ decimal area.ylo ++ codes " " ++ decimal area.xhi ++ codes " " ++ decimal area.yhi
+use Rattle.line_answers.specs.Texts.{bounds_text}
 
 -- `offending CELL PLANE XLO YLO XHI YHI`
 abbrev pub offending_line : RawTech → List ℕ → ℕ × Rect → ReportLine

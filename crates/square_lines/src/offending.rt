@@ -1,19 +1,17 @@
 //! The lines that tell which squares of a cell offend.
-ghost use Rattle.std.specs.Prelude.{◌≡◌, ◌<◌, ◌++◌, All, map, length, codes, IfOk, OnOk};
-ghost use Rattle.text_scan.specs.Decimal.{decimal};
+ghost use Rattle.std.specs.Prelude.{◌≡◌, ◌<◌, All, map, length, IfOk};
 ghost use Rattle.cell_library.specs.Libraries.{seen};
 ghost use Rattle.cell_library.specs.Views.{view_at};
-ghost use Rattle.square_lines.specs.Offending.{bounds_text, offending_line};
+ghost use Rattle.square_lines.specs.Offending.{offending_line};
 
 use cell_library::Reader;
 use ext_model::CellKey;
 use geo_core::Rect;
-use line_answers::append_with_name;
+use line_answers::{append_bounds, append_with_name};
 use names_lists::{List, Name};
 use session_model::{LineKind, ReportLine};
 use std::alloc::{AllocError, Global};
 use tech_model::Tech;
-use text_scan::append_decimal;
 
 /// The lines of the strips of a cell's squares that offend, each on a plane of the technology.
 pub fn offending_lines(
@@ -72,22 +70,4 @@ fn offending_line(
         kind: LineKind::Offending,
         text: List::of(text),
     })
-}
-
-// Writes the four numbers of a rectangle, a blank before each.
-fn append_bounds(text: &mut Vec<u8>, area: &Rect) -> Result<(), AllocError>
-    ensures { OnOk result (text.new.items ≡ text.old.items ++ bounds_text area.now) }
-{
-    append_number(text, area.xlo)?;
-    append_number(text, area.ylo)?;
-    append_number(text, area.xhi)?;
-    append_number(text, area.yhi)
-}
-
-// Writes a blank and a number.
-fn append_number(text: &mut Vec<u8>, number: i64) -> Result<(), AllocError>
-    ensures { OnOk result (text.new.items ≡ text.old.items ++ (codes " " ++ decimal number)) }
-{
-    text.push(b' ')?;
-    append_decimal(text, i128::from(number))
 }

@@ -2,7 +2,7 @@ use Rattle.std.proofs.Common.{◌≡◌, ◌∙◌, ◌++◌, ℕ, ℤ, List, ap
 use Rattle.std.proofs.lemmas.Result.{IfOk-weaker}
 use Rattle.text_scan.specs.Decimal.{decimal}
 use Rattle.line_answers.proofs.TextLaws.{four_numbers}
-use Rattle.drc_commands.proofs.violation_lines.append_bounds.Goals as goal
+use Rattle.line_answers.proofs.texts.append_bounds.Goals as goal
 
 -- a number is written as it is passed
 as_passed : (text written : List ℕ) (passed number : ℤ) → passed ≡ number → written ≡ text ++ (codes " " ++ decimal passed)
