@@ -45,6 +45,10 @@ pub enum Command {
     Squares(Name),
     /// `drc CELL FILE`: tell the squares of the cell at which it violates the design rules of the file.
     Drc(Name, Name),
+    /// `cif CELL`: write the cell and those below it as a CIF text.
+    Cif(Name),
+    /// `cifstat FILE`: tell the areas of the layers of a CIF text.
+    Cifstat(Name),
     /// `extract CELL`: extract the cell and those below it.
     Extract(Name),
     /// `flat CELL`: write the flat circuit of the cell.

@@ -84,6 +84,8 @@ fn command_on(alloc: Global, verb: Verb, line: &[u8]) -> Result<Command, LineFau
         Verb::Nodes => plain_alone(alloc, line).map(Command::Nodes),
         Verb::Squares => plain_alone(alloc, line).map(Command::Squares),
         Verb::Drc => plain_pair(alloc, line).map(|(cell, file)| Command::Drc(cell, file)),
+        Verb::Cif => plain_alone(alloc, line).map(Command::Cif),
+        Verb::Cifstat => plain_alone(alloc, line).map(Command::Cifstat),
         Verb::Extract => plain_alone(alloc, line).map(Command::Extract),
         Verb::Flat => plain_alone(alloc, line).map(Command::Flat),
         Verb::Sim => plain_alone(alloc, line).map(Command::Sim),

@@ -23,6 +23,8 @@ pub enum Verb {
     Nodes,
     Squares,
     Drc,
+    Cif,
+    Cifstat,
     Extract,
     Flat,
     Sim,
@@ -33,7 +35,7 @@ pub enum Verb {
 }
 
 /// All of them.
-pub const VERBS: [Verb; 25] = [
+pub const VERBS: [Verb; 27] = [
     Verb::Tech,
     Verb::Load,
     Verb::New,
@@ -52,6 +54,8 @@ pub const VERBS: [Verb; 25] = [
     Verb::Nodes,
     Verb::Squares,
     Verb::Drc,
+    Verb::Cif,
+    Verb::Cifstat,
     Verb::Extract,
     Verb::Flat,
     Verb::Sim,
@@ -92,6 +96,8 @@ impl Verb {
             Verb::Nodes => b"nodes",
             Verb::Squares => b"squares",
             Verb::Drc => b"drc",
+            Verb::Cif => b"cif",
+            Verb::Cifstat => b"cifstat",
             Verb::Extract => b"extract",
             Verb::Flat => b"flat",
             Verb::Sim => b"sim",
