@@ -1,0 +1,5 @@
+pub mod CommandCif
+pub mod CommandCifstat
+pub mod Layers
+pub mod OneEffects
+pub mod Refusals
