@@ -7,6 +7,7 @@ pub mod MarkLaws
 pub mod TechLaws
 pub mod RestLaws
 pub mod OneChecks
+pub mod OneCif
 pub mod OneEffects
 pub mod OneLook
 pub mod OneMarks

@@ -14,11 +14,11 @@ use Rattle.library_commands.specs.CommandChecks.{CheckMeans, ChecksIn}
 use Rattle.library_commands.specs.OneEffects.{CheckMeansOneEffect}
 
 -- an effect without its state
-abbrev free_of : Effect State → FreeEffect
+abbrev pub free_of : Effect State → FreeEffect
 free_of effect = record { state = tt; lines = effect.lines; stores = effect.stores; fetched = effect.fetched }
 
 -- an effect with a state
-abbrev with_state : State → FreeEffect → Effect State
+abbrev pub with_state : State → FreeEffect → Effect State
 with_state state effect = record { state = state; lines = effect.lines; stores = effect.stores; fetched = effect.fetched }
 
 module _ (one : DrcMeansOneEffect) (number : ℕ) (files : Files) (name file : List ℕ) (work : Workspace) (effect other : Effect State) where

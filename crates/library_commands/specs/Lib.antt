@@ -1,6 +1,7 @@
 -- what crates above name of those below
 pub use Rattle.workspace.specs as Workspace
 pub mod CommandChecks
+pub mod CommandCif
 pub mod CommandEdits
 pub mod CommandLoad
 pub mod CommandLooks

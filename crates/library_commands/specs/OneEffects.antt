@@ -7,6 +7,7 @@ use Rattle.look_commands.specs.declared.looks.Look.{Look}
 use Rattle.workspace.specs.KeptSessions.{SeesSoundLibrary}
 use Rattle.workspace.specs.States.{State}
 use Rattle.library_commands.specs.CommandChecks.{CheckMeans}
+use Rattle.library_commands.specs.CommandCif.{WriteMeans}
 use Rattle.library_commands.specs.CommandEdits.{EditMeans}
 use Rattle.library_commands.specs.CommandLoad.{LoadMeans}
 use Rattle.library_commands.specs.CommandLooks.{LookMeans}
@@ -49,3 +50,9 @@ abbrev pub CheckMeansOneEffect : Type 0
 CheckMeansOneEffect =
     (number : ℕ) (state : State) (files : Files) (name file : List ℕ) (effect other : Effect State) → CheckMeans number state files name file effect
     → CheckMeans number state files name file other → effect ≡ other
+
+-- and a cell that is written as a CIF text
+abbrev pub WriteMeansOneEffect : Type 0
+WriteMeansOneEffect =
+    (number : ℕ) (state : State) (name : List ℕ) (effect other : Effect State) → SeesSoundLibrary state → WriteMeans number state name effect
+    → WriteMeans number state name other → effect ≡ other

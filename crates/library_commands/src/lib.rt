@@ -1,4 +1,4 @@
-//! Commands on the library that a session keeps: `tech`, `load`, those that edit, `undo` and `redo`, those that look at a cell, and `drc`.
+//! Commands on the library that a session keeps: `tech`, `load`, those that edit, `undo` and `redo`, those that look at a cell, `drc` and `cif`.
 //!
 //! # How the proof goes
 //!
@@ -7,10 +7,12 @@
 //! the cases of each command.
 //!
 //! Each has one effect: edits and loads by the laws of a library, where the marks of cells are Booleans that are known at each cell (`OneMarks`),
-//! and looks since a cell has one text, one list of nodes and one of squares that offend (`OneLook`). A check has that of `drc_commands`.
+//! and looks since a cell has one text, one list of nodes and one of squares that offend (`OneLook`). A check has that of `drc_commands`,
+//! and a cell that is written that of `cif_commands`.
 #![tactic(auto)]
 
 mod command_checks;
+mod command_cif;
 mod command_edits;
 mod command_load;
 mod command_looks;
@@ -19,6 +21,7 @@ mod command_tech;
 mod laws;
 
 pub use command_checks::check;
+pub use command_cif::write;
 pub use command_edits::edit;
 pub use command_load::load;
 pub use command_looks::look_at;

@@ -14,7 +14,9 @@ use Rattle.circuit_commands.specs.declared.circuits.CircuitFile.TheVariants as f
 use Rattle.circuit_uniqueness.specs.Ext2simEffects.{Ext2simMeansOneEffect}
 use Rattle.simulation_uniqueness.specs.Simulations.{SimrunMeansOneEffect}
 use Rattle.extract_commands.specs.OneEffects.{CircuitMeansOneEffect, ExtractMeansOneEffect, GenerateMeansOneEffect, VectorsMeansOneEffect}
-use Rattle.library_commands.specs.OneEffects.{CheckMeansOneEffect, EditMeansOneEffect, LoadMeansOneEffect, LookMeansOneEffect, ReturnMeansOneEffect, TechMeansOneEffect}
+use Rattle.cif_commands.specs.OneEffects.{CifstatMeansOneEffect}
+use Rattle.library_commands.specs.OneEffects.{CheckMeansOneEffect, EditMeansOneEffect, LoadMeansOneEffect, LookMeansOneEffect, ReturnMeansOneEffect}
+use Rattle.library_commands.specs.OneEffects.{TechMeansOneEffect, WriteMeansOneEffect}
 use Rattle.library_commands.specs.declared.command_returns.Way.TheVariants as way
 use Rattle.library_commands.specs.Workspace.KeptSessions.{SeesSoundLibrary}
 use Rattle.library_commands.specs.Workspace.States.{State}
@@ -37,6 +39,8 @@ pub record Laws : Type 0 where
   pub returns : ReturnMeansOneEffect
   pub looks : LookMeansOneEffect
   pub checks : CheckMeansOneEffect
+  pub writes : WriteMeansOneEffect
+  pub cifstat : CifstatMeansOneEffect
   pub extract : ExtractMeansOneEffect
   pub circuit : CircuitMeansOneEffect
   pub vectors : VectorsMeansOneEffect
@@ -67,6 +71,8 @@ module _ (laws : Laws) (budget number : ℕ) (state : State) (files : Files) (se
   one_command (command.Save cell) p q = laws.looks look.Save number state cell effect other sees p q
   one_command (command.Squares cell) p q = laws.looks look.Squares number state cell effect other sees p q
   one_command (command.Drc cell name) p q = laws.checks number state files cell name effect other p q
+  one_command (command.Cif cell) p q = laws.writes number state cell effect other sees p q
+  one_command (command.Cifstat name) p q = one_free state _ (laws.cifstat number files name) effect other p q
   one_command (command.Nodes cell) p q = laws.looks look.Nodes number state cell effect other sees p q
   one_command (command.Extract cell) p q = laws.extract number state cell effect other sees p q
   one_command (command.Flat cell) p q = laws.circuit file.Flat number state cell effect other sees p q

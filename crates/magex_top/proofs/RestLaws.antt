@@ -15,12 +15,13 @@ use Rattle.session_model.specs.Scripts.{WholeSession, stores_in}
 use Rattle.session_model.proofs.RerunLaws.{made_good}
 use Rattle.script_lines.specs.declared.commands.Command.{Command}
 use Rattle.script_lines.specs.declared.commands.Command.TheVariants.{Tech, Load, New, Edit, Paint, Erase, Place, Array, Move, Delete, Label, Unlabel}
-use Rattle.script_lines.specs.declared.commands.Command.TheVariants.{Undo, Redo, Save, Squares, Drc, Nodes, Extract, Flat, Sim, Ext2sim, Vectors, Simrun, Generate}
+use Rattle.script_lines.specs.declared.commands.Command.TheVariants.{Undo, Redo, Save, Squares, Drc, Cif, Cifstat, Nodes, Extract, Flat, Sim, Ext2sim, Vectors, Simrun, Generate}
 use Rattle.script_lines.specs.declared.faults.LineFault.{LineFault}
 use Rattle.script_lines.specs.Commands.{command_of}
 use Rattle.circuit_commands.proofs.RestLaws.{ext2sim_rests}
 use Rattle.network_commands.proofs.RestLaws.{simrun_rests}
 use Rattle.extract_commands.proofs.RestLaws.{vectors_rest}
+use Rattle.cif_commands.proofs.RestLaws.{cifstat_rests}
 use Rattle.library_commands.proofs.OneChecks.{check_rests}
 use Rattle.library_commands.proofs.RestLaws.{load_rests, tech_rests}
 use Rattle.library_commands.specs.Workspace.States.{State}
@@ -49,6 +50,11 @@ command_rests budget number state files others Redo effect means agree = means
 command_rests budget number state files others (Save cell) effect means agree = means
 command_rests budget number state files others (Squares cell) effect means agree = means
 command_rests budget number state files others (Drc cell file) effect means agree = check_rests number state files others cell file effect means agree
+command_rests budget number state files others (Cif cell) effect means agree = means
+command_rests budget number state files others (Cifstat file) effect (stays, means) agree = (
+  stays,
+  cifstat_rests number files others file (record { state = tt; lines = effect.lines; stores = effect.stores; fetched = effect.fetched }) means agree,
+)
 command_rests budget number state files others (Nodes cell) effect means agree = means
 command_rests budget number state files others (Extract cell) effect means agree = means
 command_rests budget number state files others (Flat cell) effect means agree = means

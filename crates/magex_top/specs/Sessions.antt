@@ -4,7 +4,7 @@ use Rattle.outside_io.specs.Files.{Files}
 use Rattle.session_model.specs.Effects.{Effect}
 use Rattle.script_lines.specs.declared.commands.Command.{Command}
 use Rattle.script_lines.specs.declared.commands.Command.TheVariants.{Tech, Load, New, Edit, Paint, Erase, Place, Array, Move, Delete, Label, Unlabel}
-use Rattle.script_lines.specs.declared.commands.Command.TheVariants.{Undo, Redo, Save, Squares, Drc, Nodes, Extract, Flat, Sim, Ext2sim, Vectors, Simrun, Generate}
+use Rattle.script_lines.specs.declared.commands.Command.TheVariants.{Undo, Redo, Save, Squares, Drc, Cif, Cifstat, Nodes, Extract, Flat, Sim, Ext2sim, Vectors, Simrun, Generate}
 use Rattle.script_lines.specs.declared.faults.LineFault.{LineFault}
 use Rattle.script_lines.specs.Commands.{command_of}
 use Rattle.line_answers.specs.LineEffects.{LeavesState, accepted, refused}
@@ -19,7 +19,9 @@ use Rattle.extract_commands.specs.CommandExtract.{ExtractMeans}
 use Rattle.extract_commands.specs.CommandGenerate.{GenerateMeans}
 use Rattle.extract_commands.specs.CommandVectors.{VectorsMeans}
 use Rattle.magex_top.specs.declared.session.RunSession.{RunSession}
+use Rattle.cif_commands.specs.CommandCifstat.{CifstatMeans}
 use Rattle.library_commands.specs.CommandChecks.{CheckMeans}
+use Rattle.library_commands.specs.CommandCif.{WriteMeans}
 use Rattle.library_commands.specs.CommandEdits.{EditMeans}
 use Rattle.library_commands.specs.CommandLoad.{LoadMeans}
 use Rattle.library_commands.specs.CommandLooks.{LookMeans}
@@ -47,6 +49,8 @@ CommandMeans budget number state files Redo effect = ReturnMeans way.Redo number
 CommandMeans budget number state files (Save cell) effect = LookMeans look.Save number state cell effect
 CommandMeans budget number state files (Squares cell) effect = LookMeans look.Squares number state cell effect
 CommandMeans budget number state files (Drc cell file) effect = CheckMeans number state files cell file effect
+CommandMeans budget number state files (Cif cell) effect = WriteMeans number state cell effect
+CommandMeans budget number state files (Cifstat file) effect = LeavesState state (CifstatMeans number files file) effect
 CommandMeans budget number state files (Nodes cell) effect = LookMeans look.Nodes number state cell effect
 CommandMeans budget number state files (Extract cell) effect = ExtractMeans number state cell effect
 CommandMeans budget number state files (Flat cell) effect = CircuitMeans file.Flat number state cell effect

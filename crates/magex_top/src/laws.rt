@@ -3,6 +3,7 @@ ghost use Rattle.session_model.specs.Scripts.{HasOneEffect, MeansInSound};
 ghost use Rattle.magex_top.specs.Runs.{SessionsAreMadeGood};
 ghost use Rattle.magex_top.specs.Sessions.{IsRunSession, RunLineMeans, run_state_of};
 
+use cif_commands::cif_commands_mean_one_effect;
 use circuit_uniqueness::ext2sim_means_one_effect;
 use extract_commands::extracting_lines_have_one_effect;
 use library_commands::library_lines_have_one_effect;
@@ -22,4 +23,5 @@ pub fn lines_have_one_effect()
     extracting_lines_have_one_effect();
     ext2sim_means_one_effect();
     simrun_means_one_effect();
+    cif_commands_mean_one_effect();
 }

@@ -24,6 +24,13 @@ returns-in-Drc-clause-effect g c files told =
     (λ answer means. subst (λ (command : Command). Answers (CommandMeans c.args.budget c.args.number (state_of c.args.session.now) files command)
     (state_of c.args.session.now) answer (g.F.Shelf.fetch_plan c.args.shelf.now) (g.F.Shelf.fetch_plan c.check.new.shelf)) (sym c.in-Drc.is) means) (c.check.ensures.effect files told)
 
+pub returns-in-Cifstat-clause-effect : goal.returns-in-Cifstat-clause-effect
+returns-in-Cifstat-clause-effect g c files told =
+    IfOk-weaker c.cifstat.result _ _
+    (λ answer means. subst (λ (command : Command). Answers (CommandMeans c.args.budget c.args.number (state_of c.args.session.now) files command)
+    (state_of c.args.session.now) answer (g.F.Shelf.fetch_plan c.args.shelf.now) (g.F.Shelf.fetch_plan c.cifstat.new.shelf)) (sym c.in-Cifstat.is)
+    (means.0, (refl, means.1), means.2)) (c.cifstat.ensures.effect files told)
+
 pub returns-in-Ext2sim-clause-effect : goal.returns-in-Ext2sim-clause-effect
 returns-in-Ext2sim-clause-effect g c files told =
     IfOk-weaker c.ext2sim.result _ _
