@@ -638,13 +638,19 @@ def layout_cases(dice, count):
         yield "layout %d" % number, [("t.tech", text), ("c.mag", cell)], ["tech t", "load c", "nodes c"], report, 0
 
 
+def written_text(text):
+    """The lines of a case that stand for a text."""
+    for line in text.splitlines(keepends=True):
+        print("|" + line[:-1] if line.endswith("\n") else "~" + line.replace("\\", "\\\\"))
+
+
 def written_cases(cases):
-    for name, files, script, report, status in cases:
+    """Writes cases: their names, files, scripts, reports and statuses, and behind these the stores that they make, if any."""
+    for name, files, script, report, status, *stored in cases:
         print("\ncase " + name)
         for file, text in files:
             print("file " + file)
-            for line in lines_of(text):
-                print("|" + line)
+            written_text(text)
         print("script")
         for line in script:
             print("|" + line)
@@ -653,6 +659,10 @@ def written_cases(cases):
         print("report")
         for line in report:
             print("|" + line)
+        for file, lines in (stored[0] if stored else []):
+            print("stored " + file)
+            for line in lines:
+                print("|" + line)
 
 
 def main():
