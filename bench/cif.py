@@ -1,15 +1,17 @@
 #!/usr/bin/env python3
 """Times `cif` and `cifstat` of the built program, and reads its CIF texts with Magic where that is installed.
 
-    bench/cif.py [--program PATH] [--magic PATH]
+    bench/cif.py [--program PATH] [--magic PATH] [--only times|magic]
 
-Times are those of the run with the command less those of the run without it, the least of three each. The text of a cell with arrays in all eight orientations is
-read by Magic with a technology that has a type for each part, and flattened there; the areas of its types are compared with what `cifstat` tells.
+Times are those of the run with the command less those of the run without it, the least of three each. The text of a cell with arrays in all eight
+orientations is read by Magic with a technology that has a type for each part, and flattened there; the areas of its types are compared with what
+`cifstat` tells. Where they are not alike the status is 1.
 """
 import argparse
 import re
 import shutil
 import subprocess
+import sys
 import tempfile
 from pathlib import Path
 
@@ -190,7 +192,9 @@ def compare(program, magic, folder):
     print("\n| Part | cifstat | Magic |\n|---|---:|---:|")
     for part in sorted(ours):
         print("| %s | %d | %d |" % (part, ours[part], theirs.get(part, 0)))
-    print("\nalike" if ours and all(theirs.get(part) == area for part, area in ours.items()) else "\nnot alike")
+    alike = bool(ours) and all(theirs.get(part, 0) == area for part, area in ours.items()) and theirs.keys() <= ours.keys()
+    print("\nalike" if alike else "\nnot alike")
+    return alike
 
 
 def main():
@@ -203,7 +207,8 @@ def main():
         if chosen.only != "magic":
             times(str(Path(chosen.program).resolve()), Path(name))
         if chosen.magic and chosen.only != "times":
-            compare(str(Path(chosen.program).resolve()), chosen.magic, Path(name))
+            if not compare(str(Path(chosen.program).resolve()), chosen.magic, Path(name)):
+                sys.exit(1)
 
 
 if __name__ == "__main__":

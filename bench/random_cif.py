@@ -359,7 +359,8 @@ def random_command(dice, numbers, even):
         return random_box(dice, even)
     if kind < 0.93 and numbers:
         return random_call(dice, numbers, even)
-    return dice.choice([["9 name (of the cell)"], ["0 user"], [""], ["L ABCDE"], ["P", 1, 2, 3, 4], ["W", 2, 0, 0, 2, 2], ["DD", 1], ["DF"], ["X"], ["( all blank )"]])
+    return dice.choice([["9 name (of the cell)"], ["0 user"], [""], ["L ABCDE"], ["P", 1, 2, 3, 4], ["W", 2, 0, 0, 2, 2], ["DD", 1], ["DF"], ["X"],
+                        ["( all blank )"]])
 
 
 def text_cases(dice, count):
