@@ -1,5 +1,5 @@
 -- Where the symbols of cells stand: that of a child before that of its user.
-use Rattle.std.proofs.Common.{◌≡◌, ◌∙◌, ◌==◌, ◌+◌, ◌<◌, ℕ, zero, suc, Bool, true, false, cond, not, List, [], ◌∷◌, map, take, Some, refl, sym, ap, subst}
+use Rattle.std.proofs.Common.{◌≡◌, ◌∙◌, ◌==◌, ◌+◌, ◌<◌, ℕ, suc, Bool, true, false, cond, not, List, [], ◌∷◌, map, take, Some, sym, ap, subst}
 use Rattle.std.proofs.Common.{inl, inr, arith}
 use Rattle.std.specs.Prelude.{slice_get, slice_index_or}
 use Rattle.std.specs.List.{position_or_len}
@@ -14,8 +14,9 @@ use Rattle.use_orders.specs.Uses.{UsesCell}
 use Rattle.use_orders.proofs.Visiting.{library_order-behind, library_order-lists}
 use Rattle.cell_tree.specs.declared.use_tables.UseBody.{UseBody}
 use Rattle.cell_library.specs.Additions.{children_in}
-use Rattle.cell_library.specs.Views.{CellView, LibraryView, no_cell, view_at}
+use Rattle.cell_library.specs.Views.{LibraryView, view_at}
 use Rattle.cif_written.specs.CellCifs.{symbol_place}
+use Rattle.cif_written.proofs.LibraryOrders.{children_at}
 
 -- ---- places
 
@@ -44,14 +45,6 @@ place_of_symbol (first ∷ order) cell (inr among) = elim (cases_eq cell first) 
 ]
 
 -- ---- the children of a cell
-
--- the children of the cell at a position
-children_at : (cells : List CellView) (cell : ℕ)
-    → slice_index_or (map (λ (body : CellView). map (λ (entry : List ℕ × UseBody). entry.1.child.0) body.uses) cells) cell []
-    ≡ map (λ (entry : List ℕ × UseBody). entry.1.child.0) (slice_index_or cells cell no_cell).uses
-children_at [] cell = refl
-children_at (body ∷ cells) zero = refl
-children_at (body ∷ cells) (suc cell) = children_at cells cell
 
 -- the cell uses the child of each of its uses
 child_used : (view : LibraryView) (cell : ℕ) (entry : List ℕ × UseBody) → In entry (view_at view cell).uses

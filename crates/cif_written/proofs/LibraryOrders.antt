@@ -20,11 +20,11 @@ use Rattle.cell_library.specs.Libraries.{IsLawfulLibrary, LibraryParts, seen}
 use Rattle.cell_library.specs.Views.{CellView, LibraryView, no_cell, view_at}
 use Rattle.cell_library.proofs.ElementCounts.{use_is_lawful}
 
-abbrev child_of : List ℕ × UseBody → ℕ
+abbrev pub child_of : List ℕ × UseBody → ℕ
 child_of entry = entry.1.child.0
 
 -- the children of the cell at a position
-children_at : (cells : List CellView) (cell : ℕ)
+pub children_at : (cells : List CellView) (cell : ℕ)
     → slice_index_or (map (λ (body : CellView). map child_of body.uses) cells) cell [] ≡ map child_of (slice_index_or cells cell no_cell).uses
 children_at [] cell = refl
 children_at (body ∷ cells) zero = refl
