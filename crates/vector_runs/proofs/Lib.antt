@@ -5,3 +5,4 @@ pub mod NameSearch
 pub mod RailStates
 pub mod RunningLines
 pub mod RestingRuns
+pub mod WatchedRuns

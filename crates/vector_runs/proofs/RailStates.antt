@@ -1,6 +1,8 @@
 -- Power and ground: the states in which a network begins, and that a fresh network has no other form.
-use Rattle.std.proofs.Common.{◌≡◌, ℕ, ◌<◌, List, Bool, true, false, inl, inr, refl, sym, ap, subst, ◌∙◌, arith, length, replicate}
-use Rattle.std.proofs.lemmas.Bool.{cases_eq}
+use Rattle.std.proofs.Common.{◌≡◌, ℕ, ◌<◌, List, [], ◌∷◌, Bool, true, false, inl, inr, refl, sym, ap, subst, ◌∙◌, arith, length, replicate}
+use Rattle.std.proofs.lemmas.Bool.{cases_Bool, cases_eq, false≢true}
+use Rattle.std.proofs.lemmas.Slice.Eq.{bytes_eq-Decides}
+use Rattle.std.specs.Str.{bytes_eq}
 use Rattle.std.proofs.lemmas.List.{length-set, get_or-set_same, get_or-set_other, same_lists, get_or_default}
 use Rattle.std.proofs.lemmas.List.{length-replicate, get_or-replicate}
 use Rattle.std.specs.Prelude.{◌↔◌, ◌⊎◌, Option, Some, None, codes}
@@ -10,13 +12,17 @@ use Rattle.switch_net.specs.declared.switches.Switch.{Switch}
 use Rattle.switch_net.specs.declared.network.Net.{Net}
 use Rattle.switch_net.specs.Net.{network_of}
 use Rattle.switch_net.proofs.Sound.{sound_of}
-use Rattle.switch_net.specs.Names.{HasName, NameNodesBelow}
+use Rattle.switch_net.specs.Names.{HasName, NameNodesBelow, NameOneNodeEach}
 use Rattle.switch_net.specs.Network.{Network, IsSound}
 use Rattle.switch_net.specs.Path.{is_input, state_of}
 use Rattle.switch_net.specs.SimRecords.{AreStarts}
+use Rattle.vector_files.specs.LineForms.{is_rail, node_named}
+use Rattle.vector_files.specs.NodeLookup.{ground_name, is_either_node, power_name}
+use Rattle.vector_files.proofs.Rails.{rail_found}
 use Rattle.vector_runs.specs.declared.rails.Rails.{Rails}
 use Rattle.vector_runs.specs.RailNodes.{AreBelow, AreRails, with_state}
 use Rattle.vector_runs.specs.Runs.{IsFresh}
+use Rattle.vector_runs.proofs.Starts.{pairs_eq}
 
 -- whether a node is the one that there may be
 cases_node : (rail : Option ℕ) (v : ℕ) → (rail ≡ Some v) ⊎ ¬ (rail ≡ Some v)
@@ -113,6 +119,44 @@ rails_below nodes names read rails within same power ground =
       power = λ v is. within (codes "Vdd!") v ((are.power v).0 is);
       ground = λ v is. within (codes "GND!") v ((are.ground v).0 is);
     }
+
+-- the node of a name stands beside it
+name_stands : (names : List (List ℕ × ℕ)) (name : List ℕ) (v : ℕ) → node_named names name ≡ Some v → HasName names v name
+name_stands [] name v is = absurd (cc)
+name_stands (named ∷ names) name v is = elim (cases_Bool (bytes_eq named.0 name)) [
+  | inl same ↦
+      let found : Some named.1 ≡ Some v = rw same at is in
+      let node : named.1 ≡ v = cc in
+      inl (pairs_eq ((bytes_eq-Decides named.0 name).0 same) node)
+  | inr other ↦ inr (name_stands names name v (rw other at is))
+]
+
+-- a name that has a node is found
+name_found : (names : List (List ℕ × ℕ)) (name : List ℕ) (v : ℕ) → HasName names v name → ¬ (node_named names name ≡ None)
+name_found [] name v stands none = absurd stands
+name_found (named ∷ names) name v stands none = elim (cases_Bool (bytes_eq named.0 name)) [
+  | inl same ↦ (let found : Some named.1 ≡ None = rw same at none in absurd (cc))
+  | inr other ↦ elim stands [
+    | inl e ↦ false≢true (sym other ∙ (bytes_eq-Decides named.0 name).1 (ap (λ (p : List ℕ × ℕ). p.0) e))
+    | inr later ↦ name_found names name v later (rw other at none)
+  ]
+]
+
+-- the node that a name has is the first that is found
+same_node : (names : List (List ℕ × ℕ)) (name : List ℕ) (rail found : Option ℕ) → node_named names name ≡ found →
+    ((v : ℕ) → (rail ≡ Some v) ↔ HasName names v name) → found ≡ rail
+same_node names name rail (Some v) is has = sym ((has v).1 (name_stands names name v is))
+same_node names name None None is has = refl
+same_node names name (Some v) None is has = absurd (name_found names name v ((has v).0 refl) is)
+
+-- and so it is known which nodes are power or ground
+pub rails_known : (names : List (List ℕ × ℕ)) → NameOneNodeEach names → (rails : Rails) → AreRails names rails → (v : ℕ)
+    → is_rail names v ≡ is_either_node rails.power rails.ground v
+rails_known names one rails are v =
+    let power : node_named names power_name ≡ rails.power = same_node names power_name rails.power (node_named names power_name) refl are.power in
+    let ground : node_named names ground_name ≡ rails.ground = same_node names ground_name rails.ground (node_named names ground_name) refl are.ground in
+    rail_found names one v ∙ ap (λ (node : Option ℕ). is_either_node node (node_named names ground_name) v) power
+    ∙ ap (λ (node : Option ℕ). is_either_node rails.power node v) ground
 
 -- two bits that say the same are one
 same_bits : (a b : Bool) {P : Type 0} → (a ≡ true) ↔ P → (b ≡ true) ↔ P → a ≡ b

@@ -1,5 +1,5 @@
 -- What the replies of a vector file are held to.
-use Rattle.std.specs.Prelude.{◌≡◌, ◌<◌, ℕ, true, false, List, [], ◌∷◌, ◌++◌, All}
+use Rattle.std.specs.Prelude.{◌≡◌, ◌<◌, ℕ, true, false, List, [], ◌∷◌, ◌++◌, All, Option}
 use Rattle.switch_net.specs.Network.{IsSound, Network}
 use Rattle.switch_net.specs.Path.{is_input, state_of}
 use Rattle.switch_net.specs.Steady.{IsSteadyValue}
@@ -9,7 +9,10 @@ use Rattle.vector_files.specs.declared.files.Vectors.{Vectors}
 use Rattle.vector_files.specs.VectorFiles.{IsLineWithin}
 use Rattle.vector_runs.specs.declared.replies.VecReply.{VecReply}
 use Rattle.vector_runs.specs.declared.replies.VecReply.TheVariants.{Settled}
+use Rattle.vector_runs.specs.declared.stuck_faults.StuckFault.{StuckFault}
+use Rattle.vector_runs.specs.declared.watching.Seen.{Seen}
 use Rattle.vector_runs.specs.Runs.{IsRun, LinesRun, RunsPhase, Standing}
+use Rattle.vector_runs.specs.Watching.{AreSeen}
 
 -- vectors that fit a network have one run on it: their replies are determined by the network, its names and the budget
 abbrev pub EachRunHasOneOutcome : Type 0
@@ -17,6 +20,13 @@ EachRunHasOneOutcome =
     (net : Network) (names : List (List ℕ × ℕ)) (budget : ℕ) (vectors : Vectors) (replies others : List VecReply) → IsSound net
     → All (λ line. IsLineWithin names net.nodes line.1) vectors.lines
     → IsRun net names budget vectors replies → IsRun net names budget vectors others → replies ≡ others
+
+-- and so is what they show, in which a node may be stuck
+abbrev pub EachWatchHasOneOutcome : Type 0
+EachWatchHasOneOutcome =
+    (net : Network) (names : List (List ℕ × ℕ)) (budget : ℕ) (vectors : Vectors) (stuck : Option StuckFault) (shown others : List Seen) → IsSound net
+    → All (λ line. IsLineWithin names net.nodes line.1) vectors.lines
+    → AreSeen net names budget vectors stuck shown → AreSeen net names budget vectors stuck others → shown ≡ others
 
 -- the line only asks for states
 abbrev pub IsShow : VecLine → Type 0

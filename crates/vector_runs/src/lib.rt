@@ -1,4 +1,4 @@
-//! Runs vectors on a network: what each line sets, frees, runs and shows.
+//! Runs vectors on a network: what each line sets, frees, runs and shows; and tells what runs show in which a node is stuck.
 //!
 //! # How the proof goes
 //!
@@ -12,6 +12,10 @@
 //! and every line that fits the network keeps both (`LineOutcomes`). Whether a node has a name can be decided, so a network begins in one
 //! list of states (`Starts`). A run is cut between any two lines (`SplitRuns`). Lines that only show change nothing, and a step leaves
 //! the states of a settled phase as they are, which is what it means that each node is at rest.
+//!
+//! A watched run takes the same lines one by one, but for those of the stuck node, which are left out of the list as a whole: the lines that
+//! count of two lists are those of the one and then those of the other, so a watched run grows by a line as others do, and what it shows has
+//! one outcome (`WatchedRuns`).
 #![tactic(auto)]
 
 mod laws;
@@ -19,7 +23,12 @@ mod progress;
 mod rails;
 mod replies;
 mod runs;
+mod stuck_faults;
+mod watching;
 
-pub use laws::{runs_are_unique, shown_values_are_steady};
+pub use laws::{runs_are_unique, shown_values_are_steady, watches_are_unique};
+pub use rails::{Rails, make_fresh, rails_of};
 pub use replies::VecReply;
 pub use runs::{run_to_end, run_vectors};
+pub use stuck_faults::StuckFault;
+pub use watching::{Seen, WatchedRun, watch};

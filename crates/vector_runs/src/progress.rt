@@ -1,11 +1,11 @@
 //! How far a run has come, and what each line does.
-ghost use Rattle.std.specs.Prelude.{◌≡◌, ◌<◌, ◌≤◌, ◌+◌, ◌++◌, [], true, false, All, length, map, slice_set, IfSome, OnOk};
+ghost use Rattle.std.specs.Prelude.{◌≡◌, ◌<◌, ◌≤◌, ◌+◌, ◌++◌, ◌∷◌, [], true, false, All, length, map, slice_set, IfSome, OnOk};
 ghost use Rattle.switch_net.specs.Network.{IsSize};
 ghost use Rattle.switch_net.specs.Net.{network_of};
 ghost use Rattle.switch_net.specs.Phase.{IsPhase};
 ghost use Rattle.vector_files.specs.declared.files.VecLine.TheVariants.{Phase};
 ghost use Rattle.vector_runs.specs.Running.{AddsReplies, AreTouchedAfter, FitsNodes, IsRested, RanLine, RanLines, standing};
-ghost use Rattle.vector_runs.specs.Runs.{phase_reply as reply_of_phase, shown_in, with_input, with_size};
+ghost use Rattle.vector_runs.specs.Runs.{RunsPhase, phase_reply as reply_of_phase, shown_in, with_input, with_size};
 
 use crate::replies::VecReply;
 use names_lists::Name;
@@ -102,8 +102,8 @@ impl Progress {
         Ok(())
     }
 
-    // Makes a node an input in this state.
-    fn set(&mut self, net: &mut Net, node: u32, level: Level)
+    /// Makes a node an input in this state.
+    pub fn set(&mut self, net: &mut Net, node: u32, level: Level)
         requires node { node < net.old.nodes }
         requires states { length self.old.states.items ≡ net.old.nodes }
         requires rested { IsRested net.old self.old }
@@ -119,8 +119,8 @@ impl Progress {
         self.states[node as usize] = level;
     }
 
-    // Makes a node store charge.
-    fn free(&mut self, net: &mut Net, node: u32)
+    /// Makes a node store charge.
+    pub fn free(&mut self, net: &mut Net, node: u32)
         requires node { node < net.old.nodes }
         ensures standing { standing net.new self.new ≡ record (standing net.old self.old) { net = with_input (network_of net.old) node false } }
         ensures rested { IsRested net.new self.new }
@@ -129,8 +129,8 @@ impl Progress {
         net.set_storage(node);
     }
 
-    // Gives a node a size.
-    fn resize(&mut self, net: &mut Net, node: u32, size: u8)
+    /// Gives a node a size.
+    pub fn resize(&mut self, net: &mut Net, node: u32, size: u8)
         requires node { node < net.old.nodes }
         requires size { IsSize size }
         ensures standing { standing net.new self.new ≡ record (standing net.old self.old) { net = with_size (network_of net.old) node size } }
@@ -155,6 +155,24 @@ impl Progress {
         }
     }
 
+    /// Runs a phase.
+    pub fn take_phase(&mut self, alloc: Global, net: &mut Net, budget: u32) -> Settled
+        requires states { length self.old.states.items ≡ net.old.nodes }
+        requires rested { IsRested net.old self.old }
+        requires room { self.old.phases < usize.MAX }
+        ensures ran { RunsPhase budget (standing net.old self.old) (standing net.new self.new)
+            (reply_of_phase self.new.phases result.done result.steps ∷ []) }
+        ensures network { network_of net.new ≡ network_of net.old }
+        ensures states { length self.new.states.items ≡ length self.old.states.items }
+        ensures rested { IsRested net.new self.new }
+        ensures counted { self.new.phases ≡ self.old.phases + 1 }
+    {
+        let settled = self.settle(net, budget);
+        self.touched = touched_by_none(alloc, settled);
+        self.phases += 1;
+        settled
+    }
+
     fn run_phase(
         &mut self,
         alloc: Global,
@@ -173,9 +191,7 @@ impl Progress {
         ensures counted { self.new.phases ≡ self.old.phases + 1 }
         ensures added { AddsReplies replies.old.items replies.new.items }
     {
-        let settled = self.settle(net, budget);
-        self.touched = touched_by_none(alloc, settled);
-        self.phases += 1;
+        let settled = self.take_phase(alloc, net, budget);
         replies.push(phase_reply(self.phases, settled))?;
         Ok(())
     }

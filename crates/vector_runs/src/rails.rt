@@ -4,6 +4,8 @@ ghost use Rattle.switch_net.specs.declared.switches.Level.TheVariants.{Zero, One
 ghost use Rattle.switch_net.specs.Names.{HasName, NameOneNodeEach};
 ghost use Rattle.switch_net.specs.Net.{network_of};
 ghost use Rattle.switch_net.specs.SimRecords.{AreStarts};
+ghost use Rattle.vector_files.specs.LineForms.{is_rail};
+ghost use Rattle.vector_files.specs.NodeLookup.{is_either_node, is_node as is_node_at};
 ghost use Rattle.vector_runs.specs.RailNodes.{AreBelow, AreRails, with_rail, with_state};
 ghost use Rattle.vector_runs.specs.Runs.{IsFresh};
 
@@ -12,10 +14,28 @@ use std::alloc::{AllocError, Global};
 use switch_net::{Level, NamedNet, Net};
 
 /// The nodes of power and of ground, where the network has them.
-#[derive(Clone, Copy)]
-struct Rails {
-    power: Option<u32>,
-    ground: Option<u32>,
+#[derive(Clone, Copy, Debug, PartialEq, Eq)]
+pub struct Rails {
+    pub power: Option<u32>,
+    pub ground: Option<u32>,
+}
+
+impl Rails {
+    /// Whether the node is power or ground.
+    pub fn has(&self, node: u32) -> bool
+        ensures { result ≡ is_either_node self.now.power self.now.ground node }
+    {
+        is_node(self.power, node) || is_node(self.ground, node)
+    }
+}
+
+fn is_node(rail: Option<u32>, node: u32) -> bool
+    ensures { result ≡ is_node_at rail node }
+{
+    match rail {
+        Some(other) => other == node,
+        None => false,
+    }
 }
 
 /// The states in which the network begins: one for power, zero for ground, and X for any other node, as for one that is both.
@@ -39,8 +59,10 @@ pub fn make_fresh(named: &mut NamedNet)
     set_inputs(&mut named.net, &rails);
 }
 
-fn rails_of(named: &NamedNet) -> Rails
+/// Power and ground of a network.
+pub fn rails_of(named: &NamedNet) -> Rails
     ensures are { AreRails named.now.names result }
+    ensures known { (v : ℕ) → is_rail named.now.names v ≡ is_either_node result.power result.ground v }
     ensures below { AreBelow named.now.net.nodes result }
 {
     let names = named.names.items();

@@ -1,5 +1,5 @@
 use Rattle.vector_runs.proofs.RestingRuns.{phase_touches_none}
-use Rattle.vector_runs.proofs.progress.Progress.run_phase.Goals as goal
+use Rattle.vector_runs.proofs.progress.Progress.take_phase.Goals as goal
 
 pub returns-clause-rested : goal.returns-clause-rested
 returns-clause-rested c =

@@ -1,0 +1,152 @@
+//! The line that detects a fault.
+ghost use Rattle.std.specs.Prelude.{◌≡◌, ◌≢◌, ◌<◌, true, All, Some, IfOk, MatchOption};
+ghost use Rattle.std.specs.List.Sorted.{IsNonDecreasingBy};
+ghost use Rattle.switch_net.specs.Net.{network_of};
+ghost use Rattle.vector_files.specs.VectorFiles.{IsWithin};
+ghost use Rattle.vector_runs.specs.Running.{FitsNodes, IsUnderWay, watched};
+ghost use Rattle.vector_runs.specs.Runs.{IsFresh};
+ghost use Rattle.vector_runs.specs.Watching.{Watched as WatchedAt};
+ghost use Rattle.fault_grade.specs.Comparing.{Finds, HasShown, IsGoodRun};
+ghost use Rattle.fault_grade.specs.Grades.{IsDetectedAt, IsUndetected};
+
+use crate::comparing::{asked_count, is_apart, least_of};
+use std::alloc::{AllocError, Global};
+use switch_net::{NamedNet, Net};
+use vector_files::{VecLine, Vectors};
+use vector_runs::{Seen, StuckFault, WatchedRun, make_fresh, watch};
+
+/// The run of vectors without a fault: what it shows, and whether the numbers of their lines rise.
+#[derive(Drop)]
+pub struct GoodRun {
+    pub seen: Vec<Seen>,
+    pub rises: bool,
+}
+
+// Whether no line has a lower number than one before it.
+fn are_rising(lines: &[(u32, VecLine)]) -> bool
+    ensures { result ≡ true → IsNonDecreasingBy (λ line. line.0) lines.now }
+{
+    let mut last = 0;
+    for (number, _) in lines {
+        if *number < last {
+            return false;
+        }
+        last = *number;
+    }
+    true
+}
+
+impl GoodRun {
+    /// Runs the vectors without a fault.
+    pub fn of(
+        alloc: Global,
+        named: &mut NamedNet,
+        vectors: &Vectors,
+        budget: u32,
+    ) -> Result<GoodRun, AllocError>
+        requires fresh { IsFresh (network_of named.old.net) named.old.names }
+        requires within { IsWithin named.old vectors.now }
+        ensures good { IfOk result (λ good. IsGoodRun (network_of named.old.net) named.old.names budget vectors.now good) }
+        ensures network { network_of named.new.net ≡ network_of named.old.net }
+        ensures names { named.new.names ≡ named.old.names }
+    {
+        let seen = watch(alloc, named, vectors, budget, None)?;
+        Ok(GoodRun {
+            seen,
+            rises: are_rising(vectors.lines.items()),
+        })
+    }
+
+    // Whether no later line is less than what was found.
+    fn decides(&self, found: Option<u32>) -> bool
+        ensures rises { result ≡ true → self.now.rises ≡ true }
+        ensures some { result ≡ true → found ≢ None }
+    {
+        self.rises && found.is_some()
+    }
+}
+
+// Takes lines from the beginning until one detects the fault, where their numbers rise, and else all of them. The least that detects it.
+fn run_to_detection(
+    alloc: Global,
+    run: &mut WatchedRun,
+    net: &mut Net,
+    lines: &[(u32, VecLine)],
+    budget: u32,
+    good: &GoodRun,
+) -> Option<u32>
+    requires under_way { IsUnderWay net.old run.old }
+    requires begins { (watched net.old run.old).at.phases ≡ 0 }
+    requires within { All (λ line. FitsNodes net.old.nodes line.1) lines.now }
+    requires shown { (from : WatchedAt) × HasShown budget net.old.nodes from lines.now good.now.seen.items }
+    requires rises { good.now.rises ≡ true → IsNonDecreasingBy (λ line. line.0) lines.now }
+    ensures finds { (from : WatchedAt) → HasShown budget net.old.nodes from lines.now good.now.seen.items
+        → Finds budget from (watched net.old run.old) run.old.stuck lines.now result }
+    ensures nodes { net.new.nodes ≡ net.old.nodes }
+    ensures switches { net.new.switches ≡ net.old.switches }
+{
+    let mut found = None;
+    let mut seen = good.seen.as_slice();
+    for (number, line) in lines {
+        let (here, later) = seen.split_at(asked_count(line));
+        found = least_of(found, is_apart(run, line, here), *number);
+        if good.decides(found) {
+            return found;
+        }
+        seen = later;
+        run.take_line(alloc, net, line, budget);
+    }
+    found
+}
+
+// Looks for the line as `detect` does, but leaves the inputs and sizes as the run changed them.
+fn detect_from_start(
+    alloc: Global,
+    named: &mut NamedNet,
+    vectors: &Vectors,
+    budget: u32,
+    good: &GoodRun,
+    fault: StuckFault,
+) -> Result<Option<u32>, AllocError>
+    requires within { All (λ line. FitsNodes named.old.net.nodes line.1) vectors.now.lines }
+    requires good { IsGoodRun (network_of named.old.net) named.old.names budget vectors.now good.now }
+    requires node { fault.node < named.old.net.nodes }
+    ensures line { IfOk result (λ line. MatchOption line (IsUndetected (network_of named.old.net) named.old.names budget vectors.now fault)
+        (IsDetectedAt (network_of named.old.net) named.old.names budget vectors.now fault)) }
+    ensures names { named.new.names ≡ named.old.names }
+    ensures nodes { named.new.net.nodes ≡ named.old.net.nodes }
+    ensures switches { named.new.net.switches ≡ named.old.net.switches }
+{
+    let mut run = WatchedRun::begin(alloc, named, Some(fault))?;
+    Ok(run_to_detection(
+        alloc,
+        &mut run,
+        &mut named.net,
+        vectors.lines.items(),
+        budget,
+        good,
+    ))
+}
+
+/// The line that detects a fault, if there is one. The network is left with the inputs and sizes that it had.
+pub fn detect(
+    alloc: Global,
+    named: &mut NamedNet,
+    vectors: &Vectors,
+    budget: u32,
+    good: &GoodRun,
+    fault: StuckFault,
+) -> Result<Option<u32>, AllocError>
+    requires fresh { IsFresh (network_of named.old.net) named.old.names }
+    requires within { All (λ line. FitsNodes named.old.net.nodes line.1) vectors.now.lines }
+    requires good { IsGoodRun (network_of named.old.net) named.old.names budget vectors.now good.now }
+    requires node { fault.node < named.old.net.nodes }
+    ensures line { IfOk result (λ line. MatchOption line (IsUndetected (network_of named.old.net) named.old.names budget vectors.now fault)
+        (IsDetectedAt (network_of named.old.net) named.old.names budget vectors.now fault)) }
+    ensures network { network_of named.new.net ≡ network_of named.old.net }
+    ensures names { named.new.names ≡ named.old.names }
+{
+    let line = detect_from_start(alloc, named, vectors, budget, good, fault);
+    make_fresh(named);
+    line
+}
