@@ -6,6 +6,7 @@ pub mod ArrivingUses
 pub mod BoxLaws
 pub mod BoxSteps
 pub mod BoxesBelow
+pub mod ChildLaws
 pub mod ContentLaws
 pub mod EditLaws
 pub mod ElementCounts

@@ -1,6 +1,6 @@
 -- Areas that paint may go over: what their strips are, and which squares they cover.
 use Rattle.std.proofs.Common.{◌≡◌, inl, inr, ℕ, ◌+◌, ◌<◌, pos, neg_ℤ, ◌-ℤ◌, ◌≤ℤ◌, ◌<ℤ◌, ℤ, true, false, ◌||◌, List, [], ◌∷◌, length, take, zero, suc, get_or, refl, sym, ◌∙◌, ap, subst, arith}
-use Rattle.std.specs.Prelude.{All, AllPairs, Option, Some, None}
+use Rattle.std.specs.Prelude.{All, Option, Some, None}
 use Rattle.std.specs.List.{list_any}
 use Rattle.std.specs.Option.{option_or}
 use Rattle.std.proofs.lemmas.Bool.{cases_Bool, true≢false}
@@ -10,11 +10,11 @@ use Rattle.geo_core.proofs.FiniteSets.Members.{In-get_or}
 use Rattle.geo_core.proofs.FiniteSets.Searches.{list_any-In, option_or-none, list_any-source}
 use Rattle.geo_core.specs.declared.squares.Square.{Square}
 use Rattle.geo_core.specs.declared.squares.Rect.{Rect}
-use Rattle.geo_core.specs.Areas.{AreDisjoint, IsNear, LiesWithin, has_square}
+use Rattle.geo_core.specs.Areas.{IsNear, LiesWithin, has_square}
 use Rattle.geo_core.specs.Covering.{Covers, is_covered, IsProper}
-use Rattle.geo_core.specs.Strips.{IsStrips, IsInUnion, StandsBefore}
+use Rattle.geo_core.specs.Strips.{IsStrips, IsInUnion}
 use Rattle.geo_core.proofs.CoveringLaws.{Covers-is_covered, is_covered-Covers}
-use Rattle.geo_core.proofs.StripSets.{strip_is_proper, strip_within, one_strip_at}
+use Rattle.geo_core.proofs.StripSets.{strip_is_proper, strip_within}
 use Rattle.cell_paint.specs.declared.faults.PaintFault.{PaintFault}
 use Rattle.cell_paint.specs.declared.faults.PaintFault.TheVariants.{EmptyRect, OutOfRange}
 use Rattle.cell_paint.specs.Painting.{is_in_range, is_in_some, paint_range, area_fault, first_area_fault}
@@ -133,13 +133,6 @@ near_corners area proper first last =
       yhi = (omega (arith, ints), omega (arith, ints));
     }
 
-stands_before_itself : (a b : Rect) → a ≡ b → StandsBefore a b → ⊥
-stands_before_itself a b e before = go (subst (λ (r : Rect). StandsBefore a r) (sym e) before)
-  where
-    go : StandsBefore a a → ⊥
-    go (inl less) = omega (arith, ints, less)
-    go (inr less) = let l : a.xlo <ℤ a.xlo = less.1 in omega (arith, ints)
-
 module _ (areas found : List Rect) (fits : first_area_fault areas ≡ None) (strips : IsStrips (IsInUnion areas) found) where
   -- each strip has a square
   pub strips_proper : All IsProper found
@@ -159,15 +152,6 @@ module _ (areas found : List Rect) (fits : first_area_fault areas ≡ None) (str
       (covered strip.xlo strip.ylo (record { right_of_xlo = omega (arith, ints); left_of_xhi = wide; above_ylo = omega (arith, ints); below_yhi = high }))
       (covered (strip.xhi -ℤ pos 1) (strip.yhi -ℤ pos 1)
       (record { right_of_xlo = omega (arith, ints); left_of_xhi = omega (arith, ints); above_ylo = omega (arith, ints); below_yhi = omega (arith, ints) }))
-
-  -- they lie apart
-  pub strips_apart : AllPairs AreDisjoint found
-  strips_apart = λ i j d less below square first second.
-      let a = get_or found i d in
-      let b = get_or found j d in
-      stands_before_itself a b
-      (one_strip_at (IsInUnion areas) a b (strips.each a (In-get_or found i d (omega arith))) (strips.each b (In-get_or found j d below)) square first second)
-      (strips.ordered i j d less below)
 
   -- they cover what the areas cover
   pub strips_cover : (square : Square) → is_in_some found square ≡ is_in_some areas square

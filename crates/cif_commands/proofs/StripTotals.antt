@@ -1,6 +1,5 @@
 -- The areas of the strips of a set count its squares.
-use Rattle.std.proofs.Common.{◌≡◌, ◌⊎◌, ◌∙◌, ◌<◌, ◌+◌, inl, inr, ℕ, pos, ◌+ℤ◌, List, [], ◌∷◌, length, take, get_or, refl, sym, ap, subst, arith}
-use Rattle.std.specs.Prelude.{AllPairs}
+use Rattle.std.proofs.Common.{◌≡◌, ◌⊎◌, ◌∙◌, ◌<◌, ◌+◌, inl, inr, ℕ, pos, ◌+ℤ◌, List, [], ◌∷◌, length, take, get_or, refl, sym, ap, subst}
 use Rattle.std.proofs.lemmas.List.{take_more}
 use Rattle.geo_core.specs.declared.squares.Rect.{Rect}
 use Rattle.geo_core.specs.declared.squares.Square.{Square}
@@ -8,14 +7,12 @@ use Rattle.geo_core.specs.Areas.{AreDisjoint}
 use Rattle.geo_core.specs.Covering.{Covers, IsProper}
 use Rattle.geo_core.specs.FiniteSets.Lists.{In}
 use Rattle.geo_core.specs.FiniteSets.Total.{sum_on}
-use Rattle.geo_core.specs.Strips.{IsInUnion, IsStrips, StandsBefore}
-use Rattle.geo_core.proofs.FiniteSets.Members.{In-get_or}
+use Rattle.geo_core.specs.Strips.{IsInUnion, IsStrips}
 use Rattle.geo_core.proofs.FiniteSets.Pairs.{Pairwise, Pairwise-from_AllPairs}
 use Rattle.geo_core.proofs.FiniteSets.Searches.{All-In}
 use Rattle.geo_core.proofs.FiniteSets.Sums.{sum_on-push}
 use Rattle.geo_core.proofs.FiniteSets.Totals.{Total-at, Total-from_list, Total-iff, Total-none, Total-union}
-use Rattle.geo_core.proofs.StripSets.{one_strip_at}
-use Rattle.geo_strips.proofs.StripListLaws.{StandsBefore-irreflexive}
+use Rattle.geo_core.proofs.StripSets.{strips_apart}
 use Rattle.rect_contacts.proofs.Leading.{Lists-squares_of, sum_on-squares_of}
 use Rattle.rect_contacts.specs.Squares.{area_of, squares_of}
 use Rattle.square_sets.proofs.ErosionLaws.{strips_cover}
@@ -42,15 +39,6 @@ union_total (area ∷ areas) proper apart =
     ])
     (Total-union (Covers area) (IsInUnion areas) (λ square. pos 1) (area_of area) (sum_on area_of areas)
     (λ square here there. apart.0 there.0 there.1.0 square here there.1.1) (rect_total area (proper area (inl refl))) rest)
-
--- strips of a set share no square
-strips_apart : (S : Square → Type 0) (strips : List Rect) → IsStrips S strips → AllPairs AreDisjoint strips
-strips_apart S strips are i j default less below square in_first in_second =
-    let a = get_or strips i default in
-    let b = get_or strips j default in
-    let first = are.each a (In-get_or strips i default (omega (arith, less, below))) in
-    let second = are.each b (In-get_or strips j default below) in
-    StandsBefore-irreflexive a (subst (StandsBefore a) (sym (one_strip_at S a b first second square in_first in_second)) (are.ordered i j default less below))
 
 -- so the set has as many squares as the areas of its strips say
 pub strips_total : (S : Square → Type 0) (strips : List Rect) → IsStrips S strips → HasSquares S (sum_on area_of strips)

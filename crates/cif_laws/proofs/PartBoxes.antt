@@ -1,10 +1,10 @@
 -- The boxes of a cell's parts: those of the layer of a part cover the squares of the cell's own paint that hold the part.
-use Rattle.std.proofs.Common.{◌≡◌, ◌≢◌, ◌∙◌, ◌+◌, ℕ, zero, suc, pos, List, [], ◌∷◌, Some, refl, sym, ap, subst, inl, inr, arith}
+use Rattle.std.proofs.Common.{◌≡◌, ◌∙◌, ◌+◌, ℕ, zero, suc, pos, List, [], ◌∷◌, Some, refl, sym, ap, subst, inl, inr, arith}
 use Rattle.std.specs.Prelude.{slice_get}
 use Rattle.text_scan.specs.Decimal.{decimal}
 use Rattle.text_scan.proofs.DecimalLemmas.{decimal-injective}
 use Rattle.finite_sets.specs.Lists.{In}
-use Rattle.finite_sets.proofs.Members.{In-append_cases, In-append_left, In-append_right, In-map, In-map_source}
+use Rattle.finite_sets.proofs.Members.{In-append_cases, In-append_left, In-append_right, In-map, In-map_source, In-some}
 use Rattle.finite_sets.proofs.Places.{slice_get-one}
 use Rattle.geo_core.specs.declared.squares.Rect.{Rect}
 use Rattle.geo_core.specs.declared.squares.Square.{Square}
@@ -29,11 +29,6 @@ name_tells j k same =
     let numbers : pos j ≡ pos k = decimal-injective (pos j) (pos k) digits in
     cc
 
--- what stands in a list, the list is not empty
-not_empty : {X : Type 0} (x : X) (xs : List X) → In x xs → xs ≢ []
-not_empty x [] among none = among
-not_empty x (y ∷ ys) among none = cc
-
 module _ (cif : CifParts) (raw : RawTech) (own : Layout) where
   -- A box comes from the part whose name its layer has, which the own paint holds wherever it covers.
   pub record IsBoxOf (number : ℕ) (parts : List ℕ) (layer : ℕ) (box : Rect) : Type 0 where
@@ -55,7 +50,7 @@ module _ (cif : CifParts) (raw : RawTech) (own : Layout) where
         part = part;
         there = refl;
         named = subst (λ (l : ℕ). slice_get cif.layers l ≡ Some (part_name (number + 0))) layers_same
-            (named (not_empty source.0 areas source.1.0) ∙ ap (λ (n : ℕ). Some (part_name n)) (omega arith));
+            (named (In-some source.0 areas source.1.0) ∙ ap (λ (n : ℕ). Some (part_name n)) (omega arith));
         holds = λ square covers. strip_within (HoldsPart raw own part) box strip square.x square.y covers;
       }
 
@@ -91,7 +86,7 @@ module _ (cif : CifParts) (raw : RawTech) (own : Layout) where
       let found = strips.whole square holds in (
         layer,
         (
-          named (not_empty found.0 areas found.1.0),
+          named (In-some found.0 areas found.1.0),
           (
             found.0,
             (subst (λ (l : List CifItem). In (Area layer found.0) l) (sym is) (In-map (Area layer) found.0 areas found.1.0), found.1.1),

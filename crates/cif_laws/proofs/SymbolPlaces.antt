@@ -15,8 +15,8 @@ use Rattle.use_orders.proofs.Visiting.{library_order-behind, library_order-lists
 use Rattle.cell_tree.specs.declared.use_tables.UseBody.{UseBody}
 use Rattle.cell_library.specs.Additions.{children_in}
 use Rattle.cell_library.specs.Views.{LibraryView, view_at}
+use Rattle.cell_library.proofs.ChildLaws.{children_at}
 use Rattle.cif_written.specs.CellCifs.{symbol_place}
-use Rattle.cif_written.proofs.LibraryOrders.{children_at}
 
 -- ---- places
 

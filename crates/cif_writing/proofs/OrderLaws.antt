@@ -1,57 +1,28 @@
 -- The cells of a library order are cells of the library, and an index of them gives their numbers.
-use Rattle.std.proofs.Common.{◌≡◌, ◌+◌, ◌<◌, ℕ, zero, suc, Bool, List, [], ◌∷◌, ◌++◌, map, take, refl, sym, ap, subst, ◌∙◌, length}
-use Rattle.std.proofs.Common.{arith, inl, inr, not, if◌then◌else◌}
-use Rattle.std.specs.Prelude.{Option, None, Some, nat_eq, slice_get, slice_index_or, unwrap_or, cond}
+use Rattle.std.proofs.Common.{◌≡◌, ◌+◌, ◌<◌, ℕ, Bool, List, [], ◌∷◌, ◌++◌, map, take, sym, ap, ◌∙◌, length}
+use Rattle.std.proofs.Common.{arith, if◌then◌else◌}
+use Rattle.std.specs.Prelude.{Option, Some, nat_eq, slice_get, unwrap_or}
 use Rattle.std.specs.List.{position, position_or_len}
-use Rattle.std.proofs.lemmas.Bool.{cases_lt, le-ltb, lt-ltb}
 use Rattle.std.proofs.lemmas.Bool.Decides.{Decides-eqb}
-use Rattle.std.proofs.lemmas.List.Sums.{prefix_len-le-length}
 use Rattle.std.proofs.lemmas.List.{map-append}
 use Rattle.indexmap.specs.IndexSet.{insert_key}
 use Rattle.ext_model.specs.declared.tables.CellKey.{CellKey}
 use Rattle.geo_core.specs.FiniteSets.Lists.{Distinct, In, Lists}
-use Rattle.geo_core.proofs.FiniteSets.Chains.{Chain-carries}
 use Rattle.geo_core.proofs.FiniteSets.Members.{In-map_source}
-use Rattle.geo_core.proofs.FiniteSets.Places.{one_place, slice_get-In, slice_get-In_take, slice_get-map_there, take-slice_get}
+use Rattle.geo_core.proofs.FiniteSets.Places.{one_place, slice_get-In_take, slice_get-map_there, take-slice_get}
 use Rattle.geo_core.proofs.FiniteSets.Searches.{list_any-of_absent}
-use Rattle.use_orders.specs.Uses.{IsAtOrBelow, UsesCell}
-use Rattle.cell_tree.specs.declared.use_tables.UseBody.{UseBody}
+use Rattle.geo_core.proofs.FiniteSets.FirstPlaces.{found_or_length}
+use Rattle.use_orders.specs.Uses.{IsAtOrBelow}
 use Rattle.cell_library.specs.Additions.{children_in}
 use Rattle.cell_library.specs.Libraries.{IsLawfulLibrary, LibraryParts, seen}
-use Rattle.cell_library.specs.Views.{CellView, no_cell, view_at}
-use Rattle.cell_library.proofs.ElementCounts.{use_is_lawful}
+use Rattle.cell_library.proofs.ChildLaws.{below_there}
 use Rattle.cif_writing.specs.Symbols.{symbol_number}
 
--- the children of the cell at a position
-children_at : (cells : List CellView) (cell : ℕ)
-    → slice_index_or (map (λ (body : CellView). map (λ (entry : List ℕ × UseBody). entry.1.child.0) body.uses) cells) cell []
-    ≡ map (λ (entry : List ℕ × UseBody). entry.1.child.0) (slice_index_or cells cell no_cell).uses
-children_at [] cell = refl
-children_at (body ∷ cells) zero = refl
-children_at (body ∷ cells) (suc cell) = children_at cells cell
-
 module _ (library : LibraryParts) (lawful : IsLawfulLibrary library) where
-  -- what a cell uses is a cell
-  child_there : (cell child : ℕ) → UsesCell (children_in (seen library)) cell child → cell < length library.contents
-      → child < length library.contents
-  child_there cell child uses below =
-      let own = (view_at (seen library) cell).uses in
-      let from = In-map_source (λ (entry : List ℕ × UseBody). entry.1.child.0) child own
-      (subst (In child) (children_at (seen library).cells cell) uses) in
-      let at = slice_get-In from.0 own from.1.0 in
-      subst (λ (c : ℕ). c < length library.contents) from.1.1
-      (use_is_lawful library lawful cell below at.0 from.0.0 from.0.1 at.1).1
-
-  -- and so is all that is at or below one
-  pub below_there : (root cell : ℕ) → root < length library.contents → IsAtOrBelow (children_in (seen library)) root cell
-      → cell < length library.contents
-  below_there root cell there way =
-      Chain-carries (λ (c : ℕ). c < length library.contents) (λ a b uses below. child_there a b uses below) way there
-
   -- so the cells of an order are
   pub order_there : (root : ℕ) (order : List ℕ) → root < length library.contents → Lists (IsAtOrBelow (children_in (seen library)) root) order
       → (cell : ℕ) → In cell order → cell < length library.contents
-  order_there root order there lists cell among = below_there root cell there (lists.2 cell among)
+  order_there root order there lists cell among = below_there library lawful root cell there (lists.2 cell among)
 
 -- ---- an index of cells
 
@@ -79,16 +50,6 @@ cells_more order k key keys new once at are is =
     (list_any-of_absent nat_eq Decides-eqb key.0 old (new_cell order k key once at))
     ∙ sym (map-append (λ (one : CellKey). one.0) (take k order) (key ∷ []))
     ∙ ap (map (λ (one : CellKey). one.0)) (sym (take-slice_get order k key at))
-
--- the place that is found, or else the length, is the first place or the length
-pub found_or_length : {X : Type 0} (test : X → Bool) (xs : List X) → unwrap_or (position test xs) (length xs) ≡ position_or_len test xs
-found_or_length test xs = elim (cases_lt (position_or_len test xs) (length xs)) [
-  | inl below ↦ ap (λ (b : Bool). unwrap_or (cond b (Some (position_or_len test xs)) None) (length xs)) (lt-ltb (position_or_len test xs) (length xs) below)
-  | inr past ↦ (
-      let most = prefix_len-le-length (λ x. not (test x)) xs in
-      let same : length xs ≡ position_or_len test xs = omega arith in
-      ap (λ (b : Bool). unwrap_or (cond b (Some (position_or_len test xs)) None) (length xs)) (le-ltb (position_or_len test xs) (length xs) past) ∙ same)
-]
 
 -- so the number of a cell's symbol is found
 pub number_found : (keys order : List ℕ) (cell found count : ℕ) (place : Option ℕ) → keys ≡ order → place ≡ position (nat_eq cell) keys

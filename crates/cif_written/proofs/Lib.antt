@@ -1,4 +1,4 @@
-pub mod FirstPlaces
+pub mod LayerPlaces
 pub mod HalfNumbers
 pub mod KeptSymbols
 pub mod LibraryNumbers

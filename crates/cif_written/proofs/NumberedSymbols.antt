@@ -9,7 +9,7 @@ use Rattle.finite_sets.proofs.Places.{In-slice_get, slice_get-In, slice_get-belo
 use Rattle.finite_sets.proofs.Searches.{list_any-fails, list_any-passes}
 use Rattle.cif_model.specs.declared.cifs.CifSymbol.{CifSymbol}
 use Rattle.cif_reading.specs.Drafts.{has_number, has_symbol, symbol_place}
-use Rattle.cif_written.proofs.FirstPlaces.{first_place}
+use Rattle.finite_sets.proofs.FirstPlaces.{first_place}
 
 -- Each symbol has the number behind its place.
 abbrev pub AreNumbered : List CifSymbol → Type 0

@@ -13,7 +13,7 @@ use Rattle.cif_model.specs.declared.cifs.CifSymbol.{CifSymbol}
 use Rattle.cif_reading.specs.Drafts.{has_symbol}
 use Rattle.cif_writing.specs.Symbols.{AreSymbols, IsSymbol}
 use Rattle.cif_written.specs.CellCifs.{IsCellSymbol, symbol_place}
-use Rattle.cif_written.proofs.FirstPlaces.{place_of}
+use Rattle.finite_sets.proofs.FirstPlaces.{place_of}
 use Rattle.cif_written.proofs.LibraryNumbers.{element_is_near, name_is_plain, parts_few, strip_is_near}
 use Rattle.cif_written.proofs.LibraryOrders.{child_before, order_few, order_once, order_there}
 use Rattle.cif_written.proofs.NumberedSymbols.{AreNumbered, numbered_new, numbered_place, numbered_there}

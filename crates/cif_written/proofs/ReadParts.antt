@@ -12,7 +12,7 @@ use Rattle.cif_reading.specs.Additions.{with_layer}
 use Rattle.cif_reading.specs.Drafts.{layer_place}
 use Rattle.cif_reading.proofs.PlaceLaws.{with_layer-there}
 use Rattle.cif_writing.specs.Commands.{box_command, layer_command, part_lines, part_name}
-use Rattle.cif_written.proofs.FirstPlaces.{layer_named, layer_place_kept, layer_there, layers_kept}
+use Rattle.cif_written.proofs.LayerPlaces.{layer_named, layer_place_kept, layer_there, layers_kept}
 use Rattle.cif_written.proofs.HalfNumbers.{IsNearBox}
 use Rattle.cif_written.proofs.ReadCommands.{box_read_in, in_symbol, layer_read}
 use Rattle.cif_written.proofs.ReadLines.{Reads, reads_none, reads_then}

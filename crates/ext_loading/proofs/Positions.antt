@@ -1,12 +1,11 @@
 -- The positions of records by the names of their cells, and the graph that they make.
 use Rattle.std.proofs.Common.{◌≡◌, ◌<◌, ℕ, Bool, true, false, List, [], length, get_or, refl, sym, ap, ◌∙◌, subst, arith, true≢false}
-use Rattle.std.specs.Prelude.{not, nat_lt, Some, None, cond, slice_index}
+use Rattle.std.specs.Prelude.{nat_lt, slice_index}
 use Rattle.std.specs.List.{list_any, position, position_or_len}
-use Rattle.std.specs.Option.{unwrap_or}
 use Rattle.std.specs.Str.{bytes_eq}
 use Rattle.std.proofs.lemmas.Bool.{ltb-false, ltb-true}
 use Rattle.std.proofs.lemmas.List.{length-map, get_or-map, get_or_past}
-use Rattle.std.proofs.lemmas.List.Sums.{position_or_len_is, prefix_len-le-length}
+use Rattle.std.proofs.lemmas.List.Sums.{position_or_len_is}
 use Rattle.std.proofs.lemmas.Slice.Eq.{bytes_eq-Decides}
 use Rattle.finite_sets.specs.Lists.{In, Distinct}
 use Rattle.finite_sets.proofs.Distincts.{Distinct-places}
@@ -23,15 +22,6 @@ use Rattle.ext_loading.specs.Readings.{cells_used}
 -- the position of the record of a cell
 abbrev pub position_in : List ArrayExt → List ℕ → ℕ
 position_in read name = position_or_len (bytes_eq name) (cells_read read)
-
--- the position of what passes, or else the length
-pub position_or-length : {X : Type 0} (test : X → Bool) (xs : List X) → unwrap_or (position test xs) (length xs) ≡ position_or_len test xs
-position_or-length test xs = step (nat_lt (position_or_len test xs) (length xs)) refl
-  where
-    step : (t : Bool) → nat_lt (position_or_len test xs) (length xs) ≡ t
-        → unwrap_or (cond t (Some (position_or_len test xs)) None) (length xs) ≡ position_or_len test xs
-    step true below = refl
-    step false past = omega (arith, ltb-false (position_or_len test xs) (length xs) past, prefix_len-le-length (λ x. not (test x)) xs)
 
 -- a cell that was read has a position
 pub position_below : (read : List ArrayExt) (name : List ℕ) → In name (cells_read read) → position_in read name < length read

@@ -4,9 +4,8 @@ use Rattle.std.specs.Prelude.{Option, Some, None, MatchOption, filter, not}
 use Rattle.std.specs.List.{AllZip, flat_map, range_with_len}
 use Rattle.std.proofs.Math.Path.{fun_ext}
 use Rattle.std.proofs.lemmas.Grind.{flat_map-append}
-use Rattle.std.proofs.lemmas.List.{append-nil, map-id}
+use Rattle.std.proofs.lemmas.List.{append-nil}
 use Rattle.std.proofs.lemmas.List.Elements.{filter-append}
-use Rattle.std.proofs.lemmas.List.FromFn.{map-range_with_len_more}
 use Rattle.std.proofs.lemmas.Slice.Zip.{all_zipped_more}
 use Rattle.switch_net.specs.declared.switches.Level.{Level}
 use Rattle.switch_net.specs.declared.switches.Level.TheVariants.{Zero, One}
@@ -21,6 +20,7 @@ use Rattle.vector_runs.specs.declared.stuck_faults.StuckFault.{StuckFault}
 use Rattle.vector_runs.specs.Running.{HasBegun}
 use Rattle.vector_runs.specs.Watching.{LinesShow, Watched, begun_with}
 use Rattle.vector_runs.proofs.Starts.{same_starts}
+use Rattle.finite_sets.proofs.Searches.{range_one_more}
 use Rattle.fault_grade.specs.declared.detecting.GoodRun.{GoodRun}
 use Rattle.fault_grade.specs.declared.grading.Graded.{Graded}
 use Rattle.fault_grade.specs.declared.limits.TheConstants.{MOST_FAULTS}
@@ -112,17 +112,11 @@ module _ (net : Network) (names : List (List ℕ × ℕ)) (budget : ℕ) (vector
 pub same_faults : (p q : ℕ → Bool) (nodes : ℕ) → ((v : ℕ) → p v ≡ q v) → faults_but p nodes ≡ faults_but q nodes
 same_faults p q nodes same = ap (λ (test : ℕ → Bool). faults_but test nodes) (fun_ext same)
 
--- the numbers below one more
-range_more : (n : ℕ) → range_with_len 0 (n + 1) ≡ range_with_len 0 n ++ n ∷ []
-range_more n =
-    sym (map-id (range_with_len 0 (n + 1))) ∙ map-range_with_len_more (λ (v : ℕ). v) 0 n n (omega arith)
-    ∙ ap (λ (all : List ℕ). all ++ n ∷ []) (map-id (range_with_len 0 n))
-
 -- the faults of one node more
 faults_more : (p : ℕ → Bool) (nodes : ℕ) → faults_but p (nodes + 1) ≡ faults_but p nodes ++ flat_map faults_at (filter (λ v. not (p v)) (nodes ∷ []))
 faults_more p nodes =
     let kept : ℕ → Bool = λ v. not (p v) in
-    ap (λ (all : List ℕ). flat_map faults_at (filter kept all)) (range_more nodes)
+    ap (λ (all : List ℕ). flat_map faults_at (filter kept all)) (range_one_more nodes)
     ∙ ap (flat_map faults_at) (filter-append kept (range_with_len 0 nodes) (nodes ∷ []))
     ∙ flat_map-append faults_at (filter kept (range_with_len 0 nodes)) (filter kept (nodes ∷ []))
 

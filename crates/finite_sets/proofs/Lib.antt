@@ -11,6 +11,7 @@ pub mod Pairs
 pub mod Searches
 pub mod Places
 pub mod Images
+pub mod FirstPlaces
 pub mod Firsts
 pub mod InOrder
 pub mod OneForOne

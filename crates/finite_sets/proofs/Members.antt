@@ -1,5 +1,5 @@
 -- What stands in a list: laws of `In`.
-use Rattle.std.proofs.Common.{◌≡◌, ℕ, zero, suc, ◌<◌, Bool, true, false, cond, List, [], ◌∷◌, ◌++◌, ◌⊎◌}
+use Rattle.std.proofs.Common.{◌≡◌, ℕ, zero, suc, ◌<◌, Bool, true, false, cond, List, [], ◌∷◌, ◌++◌, ◌⊎◌, ◌≢◌}
 use Rattle.std.proofs.Common.{inl, inr, map, filter, length, get_or, refl, sym, ◌∙◌, ap, subst, arith}
 use Rattle.std.proofs.lemmas.Bool.{cases_Bool}
 use Rattle.std.specs.Prelude.{IsPermutation}
@@ -96,3 +96,8 @@ In-from_Contains {X} x xs h = let P : X → Type 0 = λ y. In y xs in subst P h.
 -- a permutation of a list has the same things
 pub In-permutation : {X : Type 0} (x : X) (xs ys : List X) → IsPermutation xs ys → In x xs → In x ys
 In-permutation x xs ys moved here = In-from_Contains x ys (Contains-permutation xs ys x moved (Contains-from_In x xs here))
+
+-- a list that has a thing is not empty
+pub In-some : {X : Type 0} (x : X) (xs : List X) → In x xs → xs ≢ []
+In-some x [] i = absurd i
+In-some x (y ∷ xs) i = λ e. absurd (cc)

@@ -236,3 +236,7 @@ range_split a (suc n) m more = ap (λ (k : ℕ). a ∷ range_with_len (a + 1) k)
 -- what is left of a list, as its first thing and the rest
 pub drop_split : {X : Type 0} (xs : List X) (i : ℕ) (x : X) → i < length xs → x ≡ get_or xs i x → drop i xs ≡ x ∷ drop (i + 1) xs
 drop_split {X} xs i x inside is = rw add-one (drop-cons xs i x inside ∙ ap (λ (y : X). y ∷ drop (suc i) xs) (sym is))
+
+-- one more number in a row
+pub range_one_more : (n : ℕ) → range_with_len 0 (n + 1) ≡ range_with_len 0 n ++ n ∷ []
+range_one_more n = range_push 0 n ∙ ap (λ (k : ℕ). range_with_len 0 n ++ k ∷ []) (omega arith)

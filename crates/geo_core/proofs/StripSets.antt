@@ -1,13 +1,16 @@
 -- Strips of sets: of two sets with the same squares, of a set within a band of rows, and that each run lies in a strip.
-use Rattle.std.proofs.Common.{◌≡◌, ◌⊎◌, inl, inr, ℕ, zero, suc, ℤ, pos, negsuc, ◌+ℤ◌, ◌-ℤ◌, ◌≤ℤ◌, ◌<ℤ◌, List, refl, sym, subst, arith}
+use Rattle.std.proofs.Common.{◌≡◌, ◌⊎◌, inl, inr, ℕ, zero, suc, ℤ, pos, negsuc, ◌+ℤ◌, ◌-ℤ◌, ◌≤ℤ◌, ◌<ℤ◌, List, refl, sym, subst, arith, get_or}
 use Rattle.std.specs.Int.{int_min, int_max}
 use Rattle.std.proofs.lemmas.Int.{ints, clamps}
-use Rattle.finite_sets.proofs.Orders.{at_most_or_greater, equal_from_both}
+use Rattle.std.specs.Prelude.{AllPairs}
+use Rattle.finite_sets.proofs.Orders.{Lexicographic-irreflexive, at_most_or_greater, equal_from_both, less-irreflexive}
+use Rattle.finite_sets.proofs.Members.{In-get_or}
 use Rattle.geo_core.specs.declared.squares.Square.{Square}
 use Rattle.geo_core.specs.declared.squares.Rect.{Rect}
 use Rattle.geo_core.specs.Covering.{Covers, IsProper}
-use Rattle.geo_core.specs.Strips.{IsRun, IsStrip, IsStrips}
+use Rattle.geo_core.specs.Strips.{IsRun, IsStrip, IsStrips, StandsBefore}
 use Rattle.geo_core.proofs.SquareLaws.{rect_is}
+use Rattle.geo_core.specs.Areas.{AreDisjoint}
 
 -- a strip has a square
 pub strip_is_proper : (S : Square → Type 0) (strip : Rect) → IsStrip S strip → IsProper strip
@@ -285,3 +288,16 @@ module _ (S : Square → Type 0) (low high : ℤ) where
         one_strip (InBand S low high) (clipped low high found.area) part (strip_clipped found.area found.is_strip tall') strip found.left found.right y
             (omega (arith, ints, clamps)) (omega (arith, ints, clamps)) (omega (arith, ints)) tall,
       )
+
+-- no rectangle stands before itself
+pub StandsBefore-irreflexive : (a : Rect) → StandsBefore a a → ⊥
+StandsBefore-irreflexive a = Lexicographic-irreflexive a.ylo (less-irreflexive a.xlo)
+
+-- strips of a set share no square
+pub strips_apart : (S : Square → Type 0) (strips : List Rect) → IsStrips S strips → AllPairs AreDisjoint strips
+strips_apart S strips are i j default less below square in_first in_second =
+    let a = get_or strips i default in
+    let b = get_or strips j default in
+    let first = are.each a (In-get_or strips i default (omega (arith, less, below))) in
+    let second = are.each b (In-get_or strips j default below) in
+    StandsBefore-irreflexive a (subst (StandsBefore a) (sym (one_strip_at S a b first second square in_first in_second)) (are.ordered i j default less below))

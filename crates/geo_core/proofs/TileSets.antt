@@ -1,5 +1,5 @@
 -- Tiles of a plane in an area: they lie apart, inside the area, and each square of one has its value.
-use Rattle.std.proofs.Common.{◌≡◌, inl, inr, ℕ, ◌<ℤ◌, List, get_or, sym, ◌∙◌, ap, subst, arith}
+use Rattle.std.proofs.Common.{◌≡◌, ℕ, List, get_or, sym, ◌∙◌, ap, subst, arith}
 use Rattle.std.specs.Prelude.{AllPairs}
 use Rattle.std.proofs.lemmas.Int.{ints, clamps}
 use Rattle.finite_sets.proofs.Members.{In-get_or}
@@ -11,7 +11,7 @@ use Rattle.geo_core.specs.Covering.{Covers}
 use Rattle.geo_core.specs.Planes.{HasValue, IsTileIn, AreTilesIn}
 use Rattle.geo_core.specs.Strips.{IsStrip, StandsBefore}
 use Rattle.geo_core.proofs.CoveringLaws.{covers_first}
-use Rattle.geo_core.proofs.StripSets.{one_strip_at, strip_within}
+use Rattle.geo_core.proofs.StripSets.{StandsBefore-irreflexive, one_strip_at, strip_within}
 
 -- a square of a tile has its value
 pub tile_value : (values : Square → ℕ) (area : Rect) (tile : Piece) → IsTileIn values area tile → (square : Square) → Covers tile.area square
@@ -42,18 +42,10 @@ one_tile_at values area a b p q square c d =
     let second = covers_first q.strip area square (subst (λ (r : Rect). Covers r square) q.cut d) in
     p.cut ∙ ap (λ (r : Rect). common_rect r area) (one_strip_at (HasValue values b.value) p.strip q.strip strip q.is_strip square first second) ∙ sym q.cut
 
-stands_before_itself : (a b : Rect) → a ≡ b → StandsBefore a b → ⊥
-stands_before_itself a b e before = go (subst (λ (r : Rect). StandsBefore a r) (sym e) before)
-  where
-    go : StandsBefore a a → ⊥
-    go (inl less) = omega (arith, ints, less)
-    go (inr less) = let l : a.xlo <ℤ a.xlo = less.1 in omega (arith, ints)
-
 -- no square lies in two tiles
 pub tiles_apart : (values : Square → ℕ) (area : Rect) (tiles : List Piece) → AreTilesIn values area tiles → AllPairs (λ a b. AreDisjoint a.area b.area) tiles
 tiles_apart values area tiles are i j d less below square c c' =
     let a = get_or tiles i d in
     let b = get_or tiles j d in
-    stands_before_itself a.area b.area
-    (one_tile_at values area a b (are.each a (In-get_or tiles i d (omega arith))) (are.each b (In-get_or tiles j d below)) square c c')
-    (are.ordered i j d less below)
+    let same = one_tile_at values area a b (are.each a (In-get_or tiles i d (omega arith))) (are.each b (In-get_or tiles j d below)) square c c' in
+    StandsBefore-irreflexive a.area (subst (StandsBefore a.area) (sym same) (are.ordered i j d less below))

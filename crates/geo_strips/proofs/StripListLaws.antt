@@ -21,6 +21,7 @@ use Rattle.geo_strips.specs.declared.bars.Bar.{Bar}
 use Rattle.geo_strips.specs.declared.strip_lists.Strip.{Strip}
 use Rattle.geo_strips.specs.Bars.{bar_cmp, strip_cmp, joined, strip_of, rect_of, AreStripsOf}
 use Rattle.geo_core.specs.Strips.{IsStrip, IsStrips, IsInUnion, StandsBefore, StripsAreUnique}
+use Rattle.geo_core.proofs.StripSets.{StandsBefore-irreflexive}
 use Rattle.geo_strips.specs.Sweeping.{AreRunBars}
 use Rattle.geo_strips.proofs.JoinLaws.{AreJoined, joined-are}
 use Rattle.geo_strips.proofs.BarOrderLaws.{bars_in_order}
@@ -134,10 +135,6 @@ strips_found S bars upright columns strips ordered areas are upright_moved uprig
 pub strips_of_bars : (S : Square → Type 0) (bars : List Bar) (areas : List Rect) → AreRunBars S bars → AreStripsOf bars areas → IsStrips S areas
 strips_of_bars S bars areas runs a = strips_found S bars a.upright (joined a.upright) (map strip_of (joined a.upright)) a.ordered areas runs
     a.upright_moved a.upright_sorted refl refl a.ordered_moved a.ordered_sorted a.are
-
--- no rectangle stands before itself
-pub StandsBefore-irreflexive : (a : Rect) → StandsBefore a a → ⊥
-StandsBefore-irreflexive a = Lexicographic-irreflexive a.ylo (less-irreflexive a.xlo)
 
 StandsBefore-trans : IsTransitive StandsBefore
 StandsBefore-trans a b c = Lexicographic-trans a.ylo b.ylo c.ylo (less-trans a.xlo b.xlo c.xlo)

@@ -1,13 +1,13 @@
 -- The merges of a group, and of one group behind the other.
 use Rattle.std.proofs.Common.{◌≡◌, ◌<◌, ◌+◌, ℕ, Bool, true, false, cond, List, [], ◌∷◌, ◌++◌, map, filter, length, get_or}
-use Rattle.std.proofs.Common.{refl, sym, ◌∙◌, ap, arith}
+use Rattle.std.proofs.Common.{refl, sym, ◌∙◌, ap}
 use Rattle.std.specs.Prelude.{pos}
 use Rattle.std.specs.List.{flat_map, range_with_len}
 use Rattle.std.proofs.lemmas.Bool.{cond-true, cond-false}
 use Rattle.std.proofs.lemmas.List.{append-nil, get_or_default, map-append}
 use Rattle.std.proofs.lemmas.List.Concat.{flat_map-append}
 use Rattle.std.proofs.lemmas.List.Elements.{filter-append}
-use Rattle.finite_sets.proofs.Searches.{range_push}
+use Rattle.finite_sets.proofs.Searches.{range_one_more}
 use Rattle.layout_model.specs.Technologies.{Class}
 use Rattle.ext_model.specs.declared.records.MergeRec.{MergeRec}
 use Rattle.ext_model.specs.declared.arrays.MergeRow.{MergeRow}
@@ -80,9 +80,6 @@ module _ (members : List Member) (sums : List MeetingSum) (nothing : MeetingSum)
         (all ∙ sym (append-nil (one ∷ others)) ∙ ap (merges_with classes) (sym next.names))
         (add_then (merge ∷ []) (merges_behind members (adjustment_of nothing) first second) old middle new is_middle is_new);
   }
-
-range_one_more : (n : ℕ) → range_with_len 0 (n + 1) ≡ range_with_len 0 n ++ n ∷ []
-range_one_more n = range_push 0 n ∙ ap (λ (k : ℕ). range_with_len 0 n ++ k ∷ []) (omega arith)
 
 -- the groups before the next place
 groups_more : (members : List Member) (sums : List MeetingSum) (place : ℕ)

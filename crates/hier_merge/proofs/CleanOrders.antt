@@ -1,14 +1,11 @@
 -- Library orders: their cells are cells of the library, and each stands behind those that are below it.
-use Rattle.std.proofs.Common.{◌≡◌, ◌<◌, ◌+◌, ◌∙◌, ℕ, ℤ, zero, suc, inl, inr, refl, sym, ap, subst, arith}
+use Rattle.std.proofs.Common.{◌≡◌, ◌<◌, ◌+◌, ◌∙◌, ℕ, ℤ, suc, refl, sym, ap, subst, arith}
 use Rattle.std.proofs.Common.{List, [], ◌∷◌, ◌++◌, length, map, take, drop, get_or}
-use Rattle.std.specs.Prelude.{All, Some, slice_get, slice_index_or}
+use Rattle.std.specs.Prelude.{All, Some, slice_get}
 use Rattle.std.proofs.lemmas.List.{drop_more, get_or-map, length-map, take-append-drop}
 use Rattle.std.proofs.lemmas.List.Elements.{All-get_or, All-more}
-use Rattle.std.proofs.lemmas.Option.{slice_get-get_or}
-use Rattle.finite_sets.specs.Chain.{Chain}
-use Rattle.finite_sets.specs.Chain.Chain.{stay, go}
 use Rattle.finite_sets.specs.Lists.{In, Lists}
-use Rattle.finite_sets.proofs.Members.{In-get_or, In-index, In-map_source}
+use Rattle.finite_sets.proofs.Members.{In-get_or, In-index}
 use Rattle.geo_core.specs.declared.transforms.Transform.{Transform}
 use Rattle.tech_model.specs.declared.raw.RawTech.{RawTech}
 use Rattle.ext_model.specs.declared.tables.CellKey.{CellKey}
@@ -22,8 +19,8 @@ use Rattle.cell_tree.specs.Uses.{displacements}
 use Rattle.cell_library.specs.Additions.{children_in}
 use Rattle.cell_library.specs.LayoutTrees.{elements_at, elements_from, own_cell, tree_at}
 use Rattle.cell_library.specs.Libraries.{IsLawfulLibrary, LibraryParts, seen}
-use Rattle.cell_library.specs.Views.{CellView, LibraryView, no_cell, view_at}
-use Rattle.cell_library.proofs.LayoutTreeLaws.{children_are_cells}
+use Rattle.cell_library.specs.Views.{LibraryView, view_at}
+use Rattle.cell_library.proofs.ChildLaws.{below_there, child_of, child_used}
 
 -- ---- clean trees
 
@@ -45,51 +42,6 @@ uses_clean raw trees [] clean = tt
 uses_clean raw trees (entry ∷ rest) clean =
     elements_clean raw (trees entry.1.child.0) entry.1.placed (displacements entry.1.grid) (elements_from trees rest) (clean 0 entry refl)
     (uses_clean raw trees rest (λ k other is. clean (suc k) other is))
-
--- ---- the children of a cell
-
--- the child of a use
-abbrev pub child_of : List ℕ × UseBody → ℕ
-child_of entry = entry.1.child.0
-
--- the children of the cell at a position
-pub children_at : (cells : List CellView) (cell : ℕ)
-    → slice_index_or (map (λ (body : CellView). map child_of body.uses) cells) cell [] ≡ map child_of (slice_index_or cells cell no_cell).uses
-children_at [] cell = refl
-children_at (body ∷ cells) zero = refl
-children_at (body ∷ cells) (suc cell) = children_at cells cell
-
--- what is somewhere in a list has its image in the image of the list
-image_there : (uses : Uses) (k : ℕ) (entry : List ℕ × UseBody) → slice_get uses k ≡ Some entry → In (child_of entry) (map child_of uses)
-image_there [] k entry is = absurd (cc)
-image_there (first ∷ rest) zero entry is = inl (ap child_of (let same : first ≡ entry = cc in same))
-image_there (first ∷ rest) (suc k) entry is = inr (image_there rest k entry is)
-
--- the cell uses the child of each of its uses
-pub child_used : (view : LibraryView) (cell k : ℕ) (entry : List ℕ × UseBody) → slice_get (view_at view cell).uses k ≡ Some entry
-    → UsesCell (children_in view) cell (child_of entry)
-child_used view cell k entry is =
-    subst (λ (children : List ℕ). In (child_of entry) children) (sym (children_at view.cells cell))
-    (image_there (view_at view cell).uses k entry is)
-
--- what a cell uses is a cell of the library
-child_there : (library : LibraryParts) → IsLawfulLibrary library → (cell child : ℕ) → cell < length library.contents
-    → UsesCell (children_in (seen library)) cell child → child < length library.contents
-child_there library lawful cell child below uses =
-    let entries = (view_at (seen library) cell).uses in
-    let source = In-map_source child_of child entries
-    (subst (λ (children : List ℕ). In child children) (children_at (seen library).cells cell) uses) in
-    let place = In-index source.0 entries source.1.0 in
-    let there = children_are_cells library lawful cell below place.0 source.0
-    (slice_get-get_or entries place.0 source.0 place.1.0 ∙ ap Some (place.1.1 source.0)) in
-    subst (λ (key : ℕ). key < length library.contents) source.1.1 there
-
--- and so is what stands at or below one
-pub below_there : (library : LibraryParts) → IsLawfulLibrary library → (root cell : ℕ) → root < length library.contents
-    → Chain (UsesCell (children_in (seen library))) root cell → cell < length library.contents
-below_there library lawful root cell there stay = there
-below_there library lawful root cell there (go {b = child} step rest) =
-    below_there library lawful child cell (child_there library lawful root child there step) rest
 
 -- ---- library orders
 

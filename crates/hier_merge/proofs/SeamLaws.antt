@@ -1,12 +1,12 @@
 -- Tiles of areas that lie apart have seams between the visits, and the tiles of a plane share no square over a seam.
-use Rattle.std.proofs.Common.{◌≡◌, ◌≤◌, ◌<◌, ◌+◌, ◌-◌, ◌⊎◌, ℕ, zero, suc, Bool, cond, List, [], ◌∷◌, ◌++◌, length, take, drop, get_or, inl, inr}
+use Rattle.std.proofs.Common.{◌≡◌, ◌≤◌, ◌<◌, ◌+◌, ◌-◌, ◌⊎◌, ℕ, zero, suc, Bool, cond, List, [], ◌∷◌, ◌++◌, length, take, drop, inl, inr}
 use Rattle.std.proofs.Common.{refl, sym, ap, subst, ◌∙◌, arith}
 use Rattle.std.specs.Prelude.{◌==◌, All, AllPairs, slice_index_or}
 use Rattle.std.proofs.lemmas.Bool.{cases_Bool}
 use Rattle.std.proofs.lemmas.List.{length-append}
 use Rattle.std.proofs.Math.Seq.{take-length}
 use Rattle.finite_sets.specs.Lists.{In}
-use Rattle.finite_sets.proofs.Members.{In-append_cases, In-push_cases, In-get_or}
+use Rattle.finite_sets.proofs.Members.{In-append_cases, In-push_cases}
 use Rattle.finite_sets.proofs.Pairs.{AllPairs-from_Pairwise, Pairwise, Pairwise-from_AllPairs, Pairwise-push}
 use Rattle.finite_sets.proofs.Searches.{All-from_In, All-In}
 use Rattle.finite_sets.proofs.Places.{In-take, take_both}
@@ -15,10 +15,7 @@ use Rattle.geo_core.specs.declared.squares.Square.{Square}
 use Rattle.geo_core.specs.Areas.{AreDisjoint, IsNear}
 use Rattle.geo_core.specs.Covering.{Covers}
 use Rattle.geo_core.specs.Images.{rect_image}
-use Rattle.geo_core.specs.Strips.{IsStrips, StandsBefore}
 use Rattle.geo_core.proofs.CoveringLaws.{covers_second}
-use Rattle.geo_strips.proofs.StripListLaws.{StandsBefore-irreflexive}
-use Rattle.geo_core.proofs.StripSets.{one_strip_at}
 use Rattle.tech_model.specs.declared.raw.RawTech.{RawTech}
 use Rattle.layout_trees.specs.CellTrees.{CellTree}
 use Rattle.offences.specs.declared.set_tiles.SetTile.{SetTile}
@@ -91,15 +88,6 @@ seam_added tiles seams are = record {
 }
 
 -- ---- visits of areas that lie apart
-
--- strips of a set lie apart
-pub strips_apart : (S : Square → Type 0) (areas : List Rect) → IsStrips S areas → AllPairs AreDisjoint areas
-strips_apart S areas are i j default less below square in_first in_second =
-    let a = get_or areas i default in
-    let b = get_or areas j default in
-    let same = one_strip_at S a b (are.each a (In-get_or areas i default (omega (arith, less, below)))) (are.each b (In-get_or areas j default below)) square
-    in_first in_second in
-    StandsBefore-irreflexive a (subst (StandsBefore a) (sym same) (are.ordered i j default less below))
 
 -- a part tile lies in the area that it is cut to
 inside : (tree : CellTree) (area : Rect) (tile : PartTile) (square : Square) → IsPartTileIn tree area tile → Covers tile.area square → Covers area square

@@ -23,8 +23,8 @@ use Rattle.cell_library.specs.Libraries.{IsLawfulLibrary, LibraryParts, seen}
 use Rattle.cell_library.specs.Views.{view_at}
 use Rattle.cell_library.proofs.GridSteps.{displacement_count}
 use Rattle.cell_library.proofs.LayoutTreeLaws.{tree_unfolds}
+use Rattle.cell_library.proofs.ChildLaws.{below_there, child_of, children_at}
 use Rattle.hier_merge.specs.UncleanCells.{IsCleanCell, IsUncleanBelow}
-use Rattle.hier_merge.proofs.CleanOrders.{below_there, child_of, children_at}
 
 -- a use has some element
 some_element : (grid : Option Grid) → 0 < length (displacements grid)

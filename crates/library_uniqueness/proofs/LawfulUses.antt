@@ -10,7 +10,7 @@ use Rattle.cell_library.specs.Additions.{children_in}
 use Rattle.cell_library.specs.Libraries.{IsLawfulLibrary, LibraryParts, seen}
 use Rattle.cell_library.specs.Views.{CellView}
 use Rattle.cell_library.proofs.ViewLaws.{count_seen}
-use Rattle.hier_merge.proofs.CleanOrders.{below_there}
+use Rattle.cell_library.proofs.ChildLaws.{below_there}
 
 pub uses_lead_to_cells : (library : LibraryParts) → IsLawfulLibrary library → AreCells (children_in (seen library))
 uses_lead_to_cells library lawful parent child uses =

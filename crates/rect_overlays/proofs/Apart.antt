@@ -3,7 +3,7 @@ use Rattle.std.proofs.Common.{◌≡◌, inl, inr, ℕ, ◌<◌, false, List, []
 use Rattle.std.specs.Prelude.{AllPairs}
 use Rattle.std.specs.List.{list_any}
 use Rattle.finite_sets.specs.Lists.{In}
-use Rattle.finite_sets.proofs.Members.{In-append_left, In-append_right, In-append_cases, In-map, In-map_source, In-push, In-push_cases}
+use Rattle.finite_sets.proofs.Members.{In-append_left, In-append_right, In-append_cases, In-map, In-map_source, In-push, In-push_cases, In-some}
 use Rattle.finite_sets.proofs.Pairs.{Pairwise, Pairwise-append, Pairwise-map, AllPairs-from_Pairwise, Pairwise-from_AllPairs, AllPairs-push, Pairwise-unmap}
 use Rattle.finite_sets.proofs.Searches.{list_any-In}
 use Rattle.geo_core.specs.declared.squares.Square.{Square}
@@ -18,7 +18,7 @@ use Rattle.rect_overlays.specs.Singles.{AreApart, single_of, contents_of}
 use Rattle.rect_overlays.specs.Splits.{IsSplit}
 use Rattle.geo_core.specs.Covering.{CoversAt}
 use Rattle.rect_overlays.specs.Stacks.{IsStack}
-use Rattle.rect_overlays.proofs.Lists.{AllPairs-front, In-some}
+use Rattle.rect_overlays.proofs.Lists.{AllPairs-front}
 use Rattle.rect_overlays.proofs.Parts.{square_meets, rect_at_covers, covered_at}
 use Rattle.rect_overlays.proofs.Splitting.{last_is_region}
 

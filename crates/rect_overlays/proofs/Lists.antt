@@ -1,6 +1,6 @@
 -- Lists of indices and of regions.
 use Rattle.std.proofs.Common.{◌≡◌, ◌≢◌, inl, inr, Bool, true, false, ℕ, ◌+◌, ◌-◌, ◌<◌, List, [], ◌∷◌, ◌++◌, length, map, get_or, take, drop}
-use Rattle.std.proofs.Common.{Some, refl, ◌∙◌, ap, subst, cond, arith}
+use Rattle.std.proofs.Common.{Some, refl, ap, subst, cond, arith}
 use Rattle.std.specs.Prelude.{All, AllPairs, filter, find, not, None}
 use Rattle.std.specs.List.{range_with_len}
 use Rattle.std.proofs.Math.Seq.{drop-append_seam, take-append_seam}
@@ -10,7 +10,7 @@ use Rattle.std.proofs.lemmas.List.FromFn.{length-range_with_len, get_or-range_wi
 use Rattle.finite_sets.specs.Lists.{In}
 use Rattle.finite_sets.proofs.Members.{In-append_left, In-push}
 use Rattle.finite_sets.proofs.Pairs.{Pairwise, AllPairs-from_Pairwise, Pairwise-from_AllPairs}
-use Rattle.finite_sets.proofs.Searches.{find-In, find-passes, find-none, range_push, All-In}
+use Rattle.finite_sets.proofs.Searches.{find-In, find-passes, find-none, All-In}
 use Rattle.geo_core.specs.declared.squares.Rect.{Rect}
 use Rattle.rect_overlays.specs.Regions.{AllMeet, AllGoRound, meets_at, goes_round_at}
 
@@ -25,10 +25,6 @@ Pairwise-front {X} R (x ∷ xs) y h =
 -- and without the one at the end
 pub AllPairs-front : {X : Type 0} (R : X → X → Type 0) (xs : List X) (y : X) → AllPairs R (xs ++ y ∷ []) → AllPairs R xs × ((x : X) → In x xs → R x y)
 AllPairs-front R xs y h = let p = Pairwise-front R xs y (Pairwise-from_AllPairs R (xs ++ y ∷ []) h) in (AllPairs-from_Pairwise R xs p.0, p.1)
-
--- one more number in a row
-pub range_one_more : (n : ℕ) → range_with_len 0 (n + 1) ≡ range_with_len 0 n ++ n ∷ []
-range_one_more n = range_push 0 n ∙ ap (λ (k : ℕ). range_with_len 0 n ++ k ∷ []) (omega arith)
 
 -- numbers in a row rise
 pub range_rises : (n : ℕ) → AllPairs ◌<◌ (range_with_len 0 n)
@@ -61,11 +57,6 @@ front_is {X} xs ys = subst (λ (n : ℕ). take n (xs ++ ys) ≡ xs) (let all = l
 -- one thing more, kept or not
 pub kept_more : {X : Type 0} (p : X → Bool) (xs : List X) (x : X) → filter p (xs ++ x ∷ []) ≡ filter p xs ++ cond (p x) (x ∷ []) []
 kept_more p xs x = filter-append p xs (x ∷ [])
-
--- a list that has a thing is not empty
-pub In-some : {X : Type 0} (x : X) (xs : List X) → In x xs → xs ≢ []
-In-some x [] i = absurd i
-In-some x (y ∷ xs) i = λ e. absurd (cc)
 
 -- and one that is not empty has a thing
 pub some-In : {X : Type 0} (xs : List X) → xs ≢ [] → (x : X) × In x xs

@@ -20,8 +20,7 @@ use Rattle.geo_core.proofs.CornerLaws.{corner_key, pair_cmp, sorted_by_corner}
 use Rattle.finite_sets.proofs.Pairs.{AllPairs-permutation}
 use Rattle.finite_sets.proofs.Searches.{All-In}
 use Rattle.geo_core.proofs.SquareLaws.{piece_is}
-use Rattle.geo_strips.proofs.StripListLaws.{StandsBefore-irreflexive}
-use Rattle.geo_core.proofs.StripSets.{one_strip_at, strip_within, strips_same}
+use Rattle.geo_core.proofs.StripSets.{one_strip_at, strip_within, strips_same, StandsBefore-irreflexive}
 use Rattle.run_plane.specs.Listings.{rects_with, parts_in, IsInPieces, AgreeOnSquares, IsTileFrom, HaveTileAt, AreTilesFrom}
 
 same_number : (m n : ℕ) → (m == n) ≡ true → m ≡ n

@@ -9,13 +9,13 @@ use Rattle.geo_core.specs.declared.squares.Square.{Square}
 use Rattle.use_orders.proofs.Visiting.{library_order-lists}
 use Rattle.layout_trees.specs.FlatSets.{parts_in}
 use Rattle.hier_merge.specs.Offences.Offences.{OffendsOn}
-use Rattle.hier_merge.proofs.CleanOrders.{below_there}
 use Rattle.hier_merge.specs.StripLists.{AreStripsByPlane, AreStripsFrom}
 use Rattle.hier_merge.specs.UncleanCells.{AreOffendingOf, IsUncleanBelow}
 use Rattle.cell_library.specs.Additions.{children_in}
 use Rattle.cell_library.specs.LayoutTrees.{tree_at}
 use Rattle.cell_library.specs.Libraries.{IsLawfulLibrary, LibraryParts, seen}
 use Rattle.cell_library.specs.Views.{LibraryView}
+use Rattle.cell_library.proofs.ChildLaws.{below_there}
 
 -- ---- strips by plane
 

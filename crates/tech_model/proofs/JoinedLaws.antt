@@ -10,7 +10,7 @@ use Rattle.tech_model.specs.declared.raw.RawTech.{RawTech}
 use Rattle.tech_model.specs.Types.{is_type, type_at, no_type, plane_of, parts_of, is_kind, joined}
 use Rattle.tech_model.specs.Rules.{HaveOwnSets}
 use Rattle.tech_model.proofs.WellFormedLaws.{type_bounds, type_from_bounds}
-use Rattle.tech_model.proofs.FirstPlaces.{position_at, position_found}
+use Rattle.geo_core.proofs.FiniteSets.FirstPlaces.{position_at, position_found}
 
 -- a type's parts are those of its record
 pub parts_at : (raw : RawTech) (t : ℕ) → IsTrue (is_type raw t) → parts_of raw t ≡ (type_at raw t).parts.0

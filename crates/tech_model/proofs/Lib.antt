@@ -1,6 +1,5 @@
 -- what crates above name of those below
 pub use Rattle.geo_core.proofs as GeoCore
-pub mod FirstPlaces
 pub mod LayerWordLaws
 pub mod PairTableLaws
 pub mod WellFormedLaws

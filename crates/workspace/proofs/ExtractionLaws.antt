@@ -18,10 +18,10 @@ use Rattle.ext_model.specs.declared.tables.CellKey.{CellKey}
 use Rattle.cell_library.specs.Additions.{children_in}
 use Rattle.cell_library.specs.Libraries.{IsLawfulLibrary, LibraryParts, seen}
 use Rattle.cell_library.specs.Views.{LibraryView, view_at}
+use Rattle.cell_library.proofs.ChildLaws.{below_there}
 use Rattle.ext_cache.specs.declared.extraction.Extracted.{Extracted}
 use Rattle.ext_cache.specs.Caches.{Agrees, Extracts, MakesRecords as KeepsRecords, Records, dirty_cells, is_dirty, stamp_in, with_record}
 use Rattle.ext_cache.proofs.MakingLaws.{clean_making, dirty_unmade}
-use Rattle.square_lines.proofs.HierMerge.CleanOrders.{below_there}
 use Rattle.ext_cache.proofs.RecordLaws.{kept_clean}
 use Rattle.workspace.specs.declared.cells.Edited.{Edited}
 use Rattle.workspace.specs.declared.extractions.Extracting.TheVariants.{Done}

@@ -20,6 +20,7 @@ use Rattle.cell_tree.specs.Uses.{HasChild}
 use Rattle.cell_library.specs.Additions.{children_in}
 use Rattle.cell_library.specs.Libraries.{IsLawfulLibrary, LibraryParts, seen}
 use Rattle.cell_library.specs.Views.{LibraryView, view_at}
+use Rattle.cell_library.proofs.ChildLaws.{below_there}
 use Rattle.network_laws.specs.TreeRecords.TreeRecords.{HasTreeRecords}
 use Rattle.library_trees.specs.NamedCells.{IsAtOrBelow as IsSeenAtOrBelow, named_tree_at}
 use Rattle.kept_records.specs.KeptRecords.{HasKeptRecord}
@@ -27,7 +28,7 @@ use Rattle.kept_records.specs.Laws.{ListedRecordsAreOfTheTree}
 use Rattle.workspace.proofs.CellNames.{names_tell, tree_named}
 use Rattle.ext_cache.specs.Caches.{Agrees, IsRecordNow, Records, record_in}
 use Rattle.ext_cache.proofs.OrderLaws.{below_is_before}
-use Rattle.square_lines.proofs.HierMerge.CleanOrders.{below_there, numbers}
+use Rattle.square_lines.proofs.HierMerge.CleanOrders.{numbers}
 use Rattle.ext_cache.proofs.RecordLaws.{kept_clean}
 use Rattle.workspace.specs.Extracting.{IsFreshBelow}
 

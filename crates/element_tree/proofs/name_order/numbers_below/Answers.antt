@@ -1,12 +1,6 @@
-use Rattle.std.proofs.Common.{◌≡◌, ℕ, ◌+◌, ◌++◌, [], ◌∷◌, sym, ◌∙◌, ap, arith}
-use Rattle.std.specs.List.{range_with_len}
-use Rattle.std.proofs.lemmas.List.{map-id}
-use Rattle.std.proofs.lemmas.List.FromFn.{map-range_with_len_more}
+use Rattle.std.proofs.Common.{◌+◌, ◌++◌, [], ◌∷◌, sym, ◌∙◌, ap}
+use Rattle.finite_sets.proofs.Searches.{range_one_more}
 use Rattle.element_tree.proofs.name_order.numbers_below.Goals as goal
 
-one_more : (n : ℕ) → range_with_len 0 (n + 1) ≡ range_with_len 0 n ++ n ∷ []
-one_more n = sym (map-id (range_with_len 0 (n + 1))) ∙ map-range_with_len_more (λ k. k) 0 n n (omega arith)
-    ∙ ap (λ z. z ++ n ∷ []) (map-id (range_with_len 0 n))
-
 pub loop-number-preserved : goal.loop-number-preserved
-loop-number-preserved c = c.in_ok-push.ensures.items ∙ ap (λ z. z ++ c.loop-number.number ∷ []) c.loop-number.invariant ∙ sym (one_more c.loop-number.number)
+loop-number-preserved c = c.in_ok-push.ensures.items ∙ ap (λ z. z ++ c.loop-number.number ∷ []) c.loop-number.invariant ∙ sym (range_one_more c.loop-number.number)
