@@ -2,22 +2,13 @@
 use Rattle.std.proofs.Common.{◌≡◌, ℕ, ℤ, pos, ◌+ℤ◌, ◌*ℤ◌, Bool, false, List, [], ◌∷◌, ◌++◌, map, refl, sym, ap, ◌∙◌, append_assoc, append-nil}
 use Rattle.std.specs.Prelude.{◌-ℤ◌, codes, if◌then◌else◌}
 use Rattle.text_scan.specs.Decimal.{decimal, natural_text}
-use Rattle.text_scan.specs.Written.{line_of, text_of}
+use Rattle.text_scan.specs.Written.{line_of, text_of, behind_blanks}
+use Rattle.text_scan.proofs.WrittenLemmas.{blanks-append, line-words}
 use Rattle.geo_core.specs.declared.orients.Orient.{Orient}
 use Rattle.geo_core.specs.declared.squares.Rect.{Rect}
 use Rattle.geo_core.specs.declared.transforms.Transform.{Transform}
-use Rattle.cif_writing.specs.Commands.{behind_blanks, command, start_command, name_command, layer_command, box_command, direction, stays}
+use Rattle.cif_writing.specs.Commands.{command, start_command, name_command, layer_command, box_command, direction, stays}
 use Rattle.cif_writing.specs.Commands.{mirror_words, turn_words, shift_words, call_command, plain_call, end_line}
-
--- the words of two lists, one behind the other
-blanks-append : (xs ys : List (List ℕ)) → behind_blanks (xs ++ ys) ≡ behind_blanks xs ++ behind_blanks ys
-blanks-append [] ys = refl
-blanks-append (x ∷ xs) ys = ap (λ (rest : List ℕ). (32 ∷ x) ++ rest) (blanks-append xs ys) ∙ sym (append_assoc (32 ∷ x) (behind_blanks xs) (behind_blanks ys))
-
--- a line is its first word and the others behind blanks
-line-words : (word : List ℕ) (words : List (List ℕ)) → line_of (word ∷ words) ≡ word ++ behind_blanks words
-line-words word [] = sym (append-nil word)
-line-words word (next ∷ words) = ap (λ (rest : List ℕ). word ++ 32 ∷ rest) (line-words next words)
 
 -- what is appended to what has been appended
 behind : (a b c x y : List ℕ) → b ≡ a ++ x → c ≡ b ++ y → c ≡ a ++ (x ++ y)

@@ -2,7 +2,7 @@
 use Rattle.std.proofs.Common.{◌≡◌, ◌<◌, ℕ, false, List, [], ◌∷◌, ◌++◌, length, map, refl, sym, ap, subst, ◌∙◌, append-nil}
 use Rattle.std.specs.Prelude.{◌==◌, Option, Some, slice_get}
 use Rattle.text_scan.specs.Written.{text_of}
-use Rattle.text_scan.proofs.WrittenLemmas.{text_of-append}
+use Rattle.text_scan.proofs.WrittenLemmas.{text_of-append, lines_behind}
 use Rattle.geo_core.specs.declared.grids.Grid.{Grid}
 use Rattle.geo_core.specs.declared.squares.Rect.{Rect}
 use Rattle.geo_core.specs.Strips.{IsStrips}
@@ -24,7 +24,7 @@ use Rattle.cif_writing.specs.Parts.{HoldsPart}
 use Rattle.cif_writing.specs.Symbols.{elements_of_use, symbol_number, AreCalls, AreParts, AreSymbols, IsCifText, IsPart, IsSymbol, IsUse}
 use Rattle.cif_writing.specs.Writing.{Writes, IsTooLongWith, AreTooLong}
 use Rattle.cif_writing.proofs.OneText.{one_list_of_parts, one_list_of_symbols, one_use}
-use Rattle.cif_writing.proofs.WritingLaws.{longer, then_lines, too_long_among}
+use Rattle.cif_writing.proofs.WritingLaws.{longer, too_long_among}
 
 -- ---- parts
 
@@ -52,7 +52,7 @@ part_lines-some k (area ∷ areas) some = refl
 pub boxes_written : (k : ℕ) (areas : List Rect) (old now new : List ℕ) → (length areas == 0) ≡ false → now ≡ old ++ text_of (layer_command k ∷ [])
     → new ≡ now ++ text_of (map box_command areas) → new ≡ old ++ text_of (part_lines k areas)
 boxes_written k areas old now new some first rest =
-    then_lines (layer_command k ∷ []) (map box_command areas) old now new first rest
+    lines_behind (layer_command k ∷ []) (map box_command areas) old now new first rest
     ∙ ap (λ (l : List (List ℕ)). old ++ text_of l) (sym (part_lines-some k areas some))
 
 -- and boxes that make the text too long
@@ -101,8 +101,8 @@ module _ (view : LibraryView) (order : List ℕ) (number cell : ℕ) where
   symbol_written old a b c new head parts calls finish = record {
     lines = head_lines ++ (parts.lines ++ (calls.lines ++ finish_command ∷ []));
     are = record { parts = parts.lines; are_parts = parts.are; calls = calls.lines; are_calls = calls.are; is = refl };
-    is = then_lines head_lines (parts.lines ++ (calls.lines ++ finish_command ∷ [])) old a new head
-        (then_lines parts.lines (calls.lines ++ finish_command ∷ []) a b new parts.is (then_lines calls.lines (finish_command ∷ []) b c new calls.is finish));
+    is = lines_behind head_lines (parts.lines ++ (calls.lines ++ finish_command ∷ [])) old a new head
+        (lines_behind parts.lines (calls.lines ++ finish_command ∷ []) a b new parts.is (lines_behind calls.lines (finish_command ∷ []) b c new calls.is finish));
   }
 
   -- where its parts make the text too long, the symbol does
@@ -119,7 +119,7 @@ module _ (view : LibraryView) (order : List ℕ) (number cell : ℕ) where
       let same : parts.lines ≡ symbol.parts =
       one_list_of_parts view.tech (view_at view cell).own parts.lines symbol.parts parts.are symbol.are_parts in
       let written : b ≡ old ++ text_of (head_lines ++ symbol.parts) =
-      then_lines head_lines symbol.parts old a b head (parts.is ∙ ap (λ (l : List (List ℕ)). a ++ text_of l) same) in
+      lines_behind head_lines symbol.parts old a b head (parts.is ∙ ap (λ (l : List (List ℕ)). a ++ text_of l) same) in
       subst (λ (l : List (List ℕ)). IsTooLongWith l old) (sym symbol.is)
       (too_long_among (head_lines ++ symbol.parts) symbol.calls (finish_command ∷ []) old b written (long symbol.calls symbol.are_calls))
 
@@ -148,7 +148,7 @@ module _ (library : LibraryParts) (lawful : IsLawfulLibrary library) (cell : ℕ
     is_order = is_order;
     symbols = symbols.lines;
     are_symbols = symbols.are;
-    is = then_lines symbols.lines (plain_call number ∷ end_line ∷ []) start a b symbols.is last
+    is = lines_behind symbols.lines (plain_call number ∷ end_line ∷ []) start a b symbols.is last
         ∙ ap (λ (text : List ℕ). text ++ text_of (symbols.lines ++ plain_call number ∷ end_line ∷ [])) empty
         ∙ ap (λ (n : ℕ). text_of (symbols.lines ++ plain_call n ∷ end_line ∷ [])) is;
   }

@@ -6,7 +6,7 @@ use Rattle.std.proofs.lemmas.List.{drop_all, length-append, length-take-le, take
 use Rattle.std.proofs.lemmas.Option.{slice_get_within}
 use Rattle.geo_core.proofs.FiniteSets.Places.{cut-slice_get, drop-slice_get, take-slice_get}
 use Rattle.text_scan.specs.Written.{text_of}
-use Rattle.text_scan.proofs.WrittenLemmas.{text_of-append}
+use Rattle.text_scan.proofs.WrittenLemmas.{text_of-append, lines_behind}
 use Rattle.cif_writing.specs.declared.faults.CifWriteFault.{CifWriteFault}
 use Rattle.cif_writing.specs.declared.faults.CifWriteFault.TheVariants.{Memory}
 use Rattle.cif_writing.specs.declared.limits.TheConstants.{LONGEST_TEXT}
@@ -15,13 +15,6 @@ use Rattle.cif_writing.specs.Writing.{Writes, IsTooLongWith, AreTooLong}
 use Rattle.cif_writing.proofs.LineLaws.{lines_more, lines_cut, one_list_of_lines, HasOne, LinesCut}
 
 -- ---- lines behind a text
-
--- lines behind lines
-pub then_lines : (first second : List (List ℕ)) (old now new : List ℕ) → now ≡ old ++ text_of first → new ≡ now ++ text_of second
-    → new ≡ old ++ text_of (first ++ second)
-then_lines first second old now new one two =
-    two ∙ ap (λ (text : List ℕ). text ++ text_of second) one ∙ append_assoc old (text_of first) (text_of second)
-    ∙ ap (λ (text : List ℕ). old ++ text) (sym (text_of-append first second))
 
 -- a text that is too long stays so with more behind it
 pub longer : (now more whole : List ℕ) → now ++ more ≡ whole → LONGEST_TEXT < length now → LONGEST_TEXT < length whole
@@ -38,7 +31,7 @@ pub too_long_among : (before here after : List (List ℕ)) (old now : List ℕ) 
     → IsTooLongWith (before ++ (here ++ after)) old
 too_long_among before here after old now is long =
     longer (now ++ text_of here) (text_of after) (old ++ text_of (before ++ (here ++ after)))
-    (then_lines before (here ++ after) old now ((now ++ text_of here) ++ text_of after) is
+    (lines_behind before (here ++ after) old now ((now ++ text_of here) ++ text_of after) is
     (append_assoc now (text_of here) (text_of after) ∙ ap (λ (text : List ℕ). now ++ text) (sym (text_of-append here after)))) long
 
 -- ---- the answer that is passed on
@@ -104,7 +97,7 @@ module _ {X : Type 0} (Of : ℕ → X → List (List ℕ) → Type 0) (number : 
         lines = before.lines ++ next.lines;
         are = subst (λ (ys : List X). AreRuns Of number ys (before.lines ++ next.lines)) (sym (take-slice_get xs k x at))
             (lines_more Of number last (take k xs) x before.lines next.lines (omega arith) before.are next.are);
-        is = then_lines before.lines next.lines old now new before.is next.is;
+        is = lines_behind before.lines next.lines old now new before.is next.is;
       }
 
   -- all of them

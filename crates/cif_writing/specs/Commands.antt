@@ -1,6 +1,5 @@
 -- The commands of a CIF text that is written, each on a line.
 use Rattle.std.specs.Prelude.{◌&&◌, ◌++◌, ◌∷◌, [], ℕ, ℤ, pos, negsuc, neg_ℤ, ◌+ℤ◌, ◌-ℤ◌, ◌*ℤ◌, Bool, if◌then◌else◌, List, map, codes}
-use Rattle.std.specs.List.{flat_map}
 use Rattle.std.specs.Ordering.{int_eq}
 use Rattle.text_scan.specs.Decimal.{decimal}
 use Rattle.text_scan.specs.Written.{line_of}
@@ -8,10 +7,6 @@ use Rattle.geo_core.specs.declared.orients.Orient.{Orient}
 use Rattle.geo_core.specs.declared.squares.Rect.{Rect}
 use Rattle.geo_core.specs.declared.transforms.Transform.{Transform}
 use Rattle.geo_core.specs.Orientation.{matrix}
-
--- words, each behind a blank
-abbrev pub behind_blanks : List (List ℕ) → List ℕ
-behind_blanks words = flat_map (λ word. 32 ∷ word) words
 
 -- a command: its words with a blank between two, and a semicolon
 abbrev pub command : List (List ℕ) → List ℕ

@@ -1,8 +1,8 @@
 //! Writes single commands, each behind what a text has already.
 ghost use Rattle.std.specs.Prelude.{◌≡◌, ◌∷◌, ◌++◌, [], pos, ◌+ℤ◌, ◌-ℤ◌, ◌*ℤ◌, map, codes, OnOk};
 ghost use Rattle.text_scan.specs.Decimal.{decimal};
-ghost use Rattle.text_scan.specs.Written.{text_of};
-ghost use Rattle.cif_writing.specs.Commands.{behind_blanks, start_command, name_command, layer_command, box_command};
+ghost use Rattle.text_scan.specs.Written.{behind_blanks, text_of};
+ghost use Rattle.cif_writing.specs.Commands.{start_command, name_command, layer_command, box_command};
 ghost use Rattle.cif_writing.specs.Commands.{is_reflection, mirror_words, direction, stays, turn_words, shift_words, call_command};
 ghost use Rattle.cif_writing.specs.Commands.{finish_command, plain_call, end_line};
 

@@ -8,6 +8,7 @@ pub mod PathNames
 pub mod PartOrders
 pub mod RecordNameLaws
 pub mod TextCuts
+pub mod CutLaws
 pub mod IndexedNames
 pub mod ElementForms
 pub mod NearSteps

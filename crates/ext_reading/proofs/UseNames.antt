@@ -12,7 +12,7 @@ use Rattle.text_scan.proofs.DecimalLemmas.{number_of-decimal}
 use Rattle.ext_model.specs.ElementNames.{is_use_id, indexed_name, IsIndexed}
 use Rattle.ext_model.specs.Plain.{before, behind, index_of, first_index, raised}
 use Rattle.ext_model.proofs.IndexedNames.{id_plain, number_comma}
-use Rattle.ext_text.proofs.PathCuts.{before-cut, behind-cut}
+use Rattle.ext_model.proofs.CutLaws.{before-cut, behind-cut}
 use Rattle.ext_reading.specs.declared.faults.ExtReadFault.{ExtReadFault}
 use Rattle.ext_reading.specs.declared.faults.ExtReadFault.TheVariants.{BadLine}
 use Rattle.ext_reading.specs.declared.lines.Version as lines

@@ -22,8 +22,8 @@ use Rattle.ext_model.specs.NodeNames.{is_node_name}
 use Rattle.ext_model.specs.Plain.{before, behind, index_of, first_index}
 use Rattle.ext_model.proofs.IndexedNames.{id_whole, id_plain, number_comma, number_bracket}
 use Rattle.ext_model.proofs.TextCuts.{Lacks, lacks-append, lacks-decimal, one_cut}
+use Rattle.ext_model.proofs.CutLaws.{before-cut, behind-cut}
 use Rattle.ext_text.specs.WrittenTexts.{use_name, row_path, ranged}
-use Rattle.ext_text.proofs.PathCuts.{before-cut, behind-cut}
 use Rattle.ext_reading.specs.declared.faults.ExtReadFault.{ExtReadFault}
 use Rattle.ext_reading.specs.declared.faults.ExtReadFault.TheVariants.{BadLine}
 use Rattle.ext_reading.specs.declared.lines.UseName.{UseName}

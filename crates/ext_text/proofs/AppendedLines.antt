@@ -6,7 +6,8 @@ use Rattle.std.specs.List.{flat_map}
 use Rattle.std.proofs.Math.Seq.{take-suc}
 use Rattle.std.proofs.lemmas.List.{map_more, flat_map_more, length-append}
 use Rattle.text_scan.specs.Decimal.{decimal}
-use Rattle.text_scan.specs.Written.{line_of}
+use Rattle.text_scan.specs.Written.{line_of, behind_blanks}
+use Rattle.text_scan.proofs.WrittenLemmas.{blanks-append, line-words}
 use Rattle.geo_core.specs.declared.grids.Grid.{Grid}
 use Rattle.ext_model.specs.declared.records.NodeRec.{NodeRec}
 use Rattle.ext_model.specs.declared.records.TermRec.{TermRec}
@@ -18,22 +19,12 @@ use Rattle.ext_model.specs.declared.circuits.Circuit.{Circuit}
 use Rattle.ext_text.specs.declared.faults.ExtFault.{ExtFault}
 use Rattle.ext_text.specs.declared.faults.ExtFault.TheVariants.{Memory}
 use Rattle.ext_text.specs.NodeLines.{quoted, measure_words, node_words, node_line}
-use Rattle.ext_text.specs.Appended.{behind_blanks, whole_line}
+use Rattle.ext_text.specs.Appended.{whole_line}
 use Rattle.ext_text.specs.WrittenTexts.{header_words, span_text, use_name, use_words, equiv_words, node_lines, term_words, square_words, fet_words}
 use Rattle.ext_text.specs.WrittenTexts.{row_path, merge_words}
 use Rattle.ext_text.specs.WrittenTexts.{lines_text, ext_text, flat_text, IsTooLong}
 
 -- ---- words
-
--- the words of two lists, one behind the other
-pub blanks-append : (xs ys : List (List ℕ)) → behind_blanks (xs ++ ys) ≡ behind_blanks xs ++ behind_blanks ys
-blanks-append [] ys = refl
-blanks-append (x ∷ xs) ys = ap (λ (rest : List ℕ). (32 ∷ x) ++ rest) (blanks-append xs ys) ∙ sym (append_assoc (32 ∷ x) (behind_blanks xs) (behind_blanks ys))
-
--- a line is its first word and the others behind blanks
-pub line-words : (word : List ℕ) (words : List (List ℕ)) → line_of (word ∷ words) ≡ word ++ behind_blanks words
-line-words word [] = sym (append-nil word)
-line-words word (next ∷ words) = ap (λ (rest : List ℕ). word ++ 32 ∷ rest) (line-words next words)
 
 -- ---- lines
 

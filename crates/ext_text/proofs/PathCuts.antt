@@ -21,32 +21,6 @@ use Rattle.ext_model.proofs.IndexedNames.{id_plain, number_comma}
 abbrev place : ℕ → List ℕ → ℕ
 place mark text = position_or_len (λ byte. byte == mark) text
 
--- what stands behind the first such byte, by its place
-pub behind-after_first : (mark : ℕ) (text : List ℕ) → after_first (λ byte. byte == mark) text ≡ behind mark text
-behind-after_first mark [] = refl
-behind-after_first mark (byte ∷ bytes) =
-    let rest = behind-after_first mark bytes in
-    elim (byte == mark)
-    as (λ (test : Bool). drop (cond (not test) (1 + place mark bytes) 0 + 1) (byte ∷ bytes) ≡ cond test bytes (behind mark bytes)) [
-      | true ↦ refl
-      | false ↦
-          let next : 1 + place mark bytes + 1 ≡ suc (place mark bytes + 1) = omega arith in ap (λ n. drop n (byte ∷ bytes)) next ∙ rest
-    ]
-
--- what stands before the byte
-pub before-cut : (mark : ℕ) (text rest : List ℕ) → Lacks mark text → before mark (text ++ mark ∷ rest) ≡ text
-before-cut mark [] rest lacks = ap (λ (test : Bool). take (cond (not test) (1 + place mark rest) 0) (mark ∷ rest)) (eq-eqb mark mark refl)
-before-cut mark (byte ∷ text) rest lacks =
-    let next : 1 + place mark (text ++ mark ∷ rest) ≡ suc (place mark (text ++ mark ∷ rest)) = omega arith in
-    ap (λ (test : Bool). take (cond (not test) (1 + place mark (text ++ mark ∷ rest)) 0) (byte ∷ (text ++ mark ∷ rest))) lacks.0
-    ∙ (ap (λ n. take n (byte ∷ (text ++ mark ∷ rest))) next ∙ ap (λ (bytes : List ℕ). byte ∷ bytes) (before-cut mark text rest lacks.1))
-
--- what stands behind the byte
-pub behind-cut : (mark : ℕ) (text rest : List ℕ) → Lacks mark text → behind mark (text ++ mark ∷ rest) ≡ rest
-behind-cut mark [] rest lacks = ap (λ (test : Bool). cond test rest (behind mark rest)) (eq-eqb mark mark refl)
-behind-cut mark (byte ∷ text) rest lacks =
-    ap (λ (test : Bool). cond test (text ++ mark ∷ rest) (behind mark (text ++ mark ∷ rest))) lacks.0 ∙ behind-cut mark text rest lacks.1
-
 -- a number of 32 bits is one of 64
 wider : (z : ℤ) → FitsSigned w32 z → FitsSigned w64 z
 wider z fits = record { sfits = grind (arith, ints) }

@@ -1,8 +1,8 @@
 //! Words behind what a line has already.
 ghost use Rattle.std.specs.Prelude.{◌≡◌, ◌∷◌, ◌++◌, ◌+ℤ◌, pos, map, OnOk};
 ghost use Rattle.text_scan.specs.Decimal.{decimal};
+ghost use Rattle.text_scan.specs.Written.{behind_blanks};
 ghost use Rattle.ext_text.specs.NodeLines.{quoted, measure_words};
-ghost use Rattle.ext_text.specs.Appended.{behind_blanks};
 
 use std::alloc::AllocError;
 use text_scan::append_decimal;

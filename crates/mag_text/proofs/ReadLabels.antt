@@ -18,7 +18,7 @@ use Rattle.text_scan.specs.Words.{words_of, is_blank, from_first_word}
 use Rattle.text_scan.specs.Written.{IsWord, line_of}
 use Rattle.text_scan.proofs.DecimalLemmas.{number_of-decimal}
 use Rattle.text_scan.proofs.WordLemmas.{words_of-blank, words_of-at, from_first_word-in_word}
-use Rattle.text_scan.proofs.WrittenLemmas.{IsWord-test}
+use Rattle.text_scan.proofs.WrittenLemmas.{IsWord-test, words-decimals}
 use Rattle.text_form.specs.SaidLines.{and_then}
 use Rattle.tech_model.specs.declared.limits.TheConstants.{LONGEST_LABEL}
 use Rattle.tech_model.specs.declared.raw.Label.{Label as OneLabel}
@@ -40,7 +40,7 @@ use Rattle.mag_text.specs.WrittenTexts.{label_line as written_label}
 use Rattle.tech_model.specs.Types.{layer_at, first_name}
 use Rattle.tech_model.specs.WellFormed.{IsWellFormed}
 use Rattle.mag_text.proofs.LayerNames.{first_name-plain, label_layer-word}
-use Rattle.mag_text.proofs.ReadLines.{IsWord-plain_name, has_coordinates, coordinate_fits, rect-read, words-decimals}
+use Rattle.mag_text.proofs.ReadLines.{IsWord-plain_name, has_coordinates, coordinate_fits, rect-read}
 
 first_word-blank : (line : List ℕ) → from_first_word (32 ∷ line) ≡ from_first_word line
 first_word-blank line = rw one-add refl

@@ -16,7 +16,7 @@ use Rattle.text_scan.specs.Words.{words_of, is_blank, from_first_word}
 use Rattle.text_scan.specs.Written.{is_separator, IsWord, line_of}
 use Rattle.text_scan.proofs.DecimalLemmas.{number_of-decimal}
 use Rattle.text_scan.proofs.WordLemmas.{words_of-split, words_of-none}
-use Rattle.text_scan.proofs.WrittenLemmas.{IsWord-decimal, IsWord-test, words_of-line_of}
+use Rattle.text_scan.proofs.WrittenLemmas.{IsWord-test, words_of-line_of, words-decimals}
 use Rattle.text_form.specs.SaidLines.{and_then}
 use Rattle.tech_model.specs.declared.raw.RawTech.{RawTech}
 use Rattle.cell_paint.specs.Painting.{is_coordinate, is_in_range}
@@ -66,11 +66,6 @@ says-words raw key words all plain =
     let line = line_of (key ∷ words) in
     ap (λ (b : Bool). cond b (Ok Nothing) (words_say raw (words_of line) (after_word line))) plain
     ∙ ap (λ (ws : List (List ℕ)). words_say raw ws (after_word line)) (words_of-line_of (key ∷ words) all)
-
--- numbers are words, and are read as what they are
-pub words-decimals : (numbers : List ℤ) → AllByRecursion IsWord (map decimal numbers)
-words-decimals [] = tt
-words-decimals (z ∷ numbers) = (IsWord-decimal z, words-decimals numbers)
 
 pub coordinate_fits : (z : ℤ) → is_coordinate z ≡ true → FitsSigned w64 z
 coordinate_fits z is = record { sfits = grind (arith, ints) }

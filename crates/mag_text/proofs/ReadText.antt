@@ -12,7 +12,7 @@ use Rattle.text_scan.specs.Decimal.{decimal}
 use Rattle.text_scan.specs.Lines.{is_line_feed}
 use Rattle.text_scan.specs.Words.{is_blank}
 use Rattle.text_scan.specs.Written.{IsWord, IsLine, line_of}
-use Rattle.text_scan.proofs.WrittenLemmas.{IsWord-test, IsLine-plain, IsLine-line_of, lines_of-text_of}
+use Rattle.text_scan.proofs.WrittenLemmas.{IsWord-test, IsLine-plain, IsLine-line_of, lines_of-text_of, words-decimals}
 use Rattle.text_form.specs.Folds.{text_state}
 use Rattle.text_form.proofs.FoldLaws.{text_state-ended}
 use Rattle.tech_model.specs.declared.limits.TheConstants.{LONGEST_LABEL}
@@ -31,7 +31,7 @@ use Rattle.mag_text.specs.WrittenTexts.{transform_line, box_line, use_lines, lay
 use Rattle.mag_text.specs.WrittenTexts.{mag_text}
 use Rattle.mag_text.specs.ReadBack.{AreWritable, IsWritableUse, IsWritable, draft_of}
 use Rattle.mag_text.proofs.LayerNames.{first_name-plain}
-use Rattle.mag_text.proofs.ReadLines.{words-decimals, IsWord-plain_name, IsWord-use_id}
+use Rattle.mag_text.proofs.ReadLines.{IsWord-plain_name, IsWord-use_id}
 use Rattle.mag_text.proofs.ReadLabels.{layer_word-is}
 use Rattle.mag_text.proofs.ReadBack.{cell_lines-read}
 

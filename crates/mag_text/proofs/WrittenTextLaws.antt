@@ -9,7 +9,7 @@ use Rattle.std.proofs.lemmas.List.{length-append, get_or_push, get_or_append_lef
 use Rattle.std.proofs.Common.{get_or}
 use Rattle.text_scan.specs.Decimal.{decimal}
 use Rattle.text_scan.specs.Written.{line_of, text_of}
-use Rattle.text_scan.proofs.WrittenLemmas.{text_of-append}
+use Rattle.text_scan.proofs.WrittenLemmas.{text_of-append, lines_behind}
 use Rattle.tech_model.specs.declared.raw.Label.{Label}
 use Rattle.tech_model.specs.declared.raw.RawTech.{RawTech}
 use Rattle.tech_model.specs.Types.{first_name, layer_at}
@@ -40,14 +40,10 @@ pub text_of-map : {X : Type 0} (line : X → List ℕ) (records : List X) → te
 text_of-map line [] = refl
 text_of-map line (x ∷ records) = ap (λ (rest : List ℕ). line x ++ 10 ∷ rest) (text_of-map line records) ∙ sym (append_assoc (line x) (10 ∷ []) (text_of_each (λ x. line x ∷ []) records))
 
--- one list of lines behind another
-pub two_appended : (first second : List (List ℕ)) (out a b : List ℕ) → a ≡ out ++ text_of first → b ≡ a ++ text_of second → b ≡ out ++ text_of (first ++ second)
-two_appended first second out a b ha hb = rw (hb, ha, text_of-append first second) (simp append_assoc)
-
 pub group_appended : (name : List ℕ) (areas : List Rect) (area : Rect) (out a b : List ℕ) → a ≡ out ++ text_of (group_line name ∷ [])
     → b ≡ a ++ text_of_each (λ area. area_line area ∷ []) (area ∷ areas) → b ≡ out ++ text_of (group_lines name (area ∷ areas))
 group_appended name areas area out a b ha hb =
-    two_appended (group_line name ∷ []) (map area_line (area ∷ areas)) out a b ha (hb ∙ ap (λ (text : List ℕ). a ++ text) (sym (text_of-map area_line (area ∷ areas))))
+    lines_behind (group_line name ∷ []) (map area_line (area ∷ areas)) out a b ha (hb ∙ ap (λ (text : List ℕ). a ++ text) (sym (text_of-map area_line (area ∷ areas))))
 
 -- a layer whose image stands somewhere has a group
 pub layer_appended : (raw : RawTech) (strips : LayerStrips) (name : List ℕ) (areas : List Rect) (out a b : List ℕ)
@@ -68,10 +64,10 @@ use_appended placed cell out a b c d e cell_is ha hb hc hd he =
     ha ∙ ap (λ (w : List ℕ). out ++ text_of (use_line w placed.id.now ∷ [])) cell_is in
     let transform = transform_line placed.six in
     let edges = box_line placed.hull in
-    let ab = two_appended (use_line placed.cell.now placed.id.now ∷ []) (array_lines placed.grid) out a b first hb in
-    let de = two_appended (transform ∷ []) (edges ∷ []) c d e hd he in
-    let ce = two_appended (no_time_line ∷ []) (transform ∷ edges ∷ []) b c e hc de in
-    two_appended (use_line placed.cell.now placed.id.now ∷ array_lines placed.grid) (no_time_line ∷ transform ∷ edges ∷ []) out b e ab ce
+    let ab = lines_behind (use_line placed.cell.now placed.id.now ∷ []) (array_lines placed.grid) out a b first hb in
+    let de = lines_behind (transform ∷ []) (edges ∷ []) c d e hd he in
+    let ce = lines_behind (no_time_line ∷ []) (transform ∷ edges ∷ []) b c e hc de in
+    lines_behind (use_line placed.cell.now placed.id.now ∷ array_lines placed.grid) (no_time_line ∷ transform ∷ edges ∷ []) out b e ab ce
 
 -- a word, then numbers, then another word
 numbers_between : (word text : List ℕ) (numbers : List ℤ) → join_with_byte 32 (word ∷ (map decimal numbers ++ text ∷ [])) ≡ word ++ (numbers_behind_blanks numbers ++ 32 ∷ text)
@@ -97,7 +93,7 @@ label_appended raw label word text out a b c d e word_is text_is ha hb hc hd he 
 pub labels_appended : (raw : RawTech) (labels : List Label) (label : Label) (out a b : List ℕ) → a ≡ out ++ text_of (codes "<< labels >>" ∷ [])
     → b ≡ a ++ text_of_each (λ label. label_line raw label ∷ []) (label ∷ labels) → b ≡ out ++ text_of (labels_lines raw (label ∷ labels))
 labels_appended raw labels label out a b ha hb =
-    two_appended (codes "<< labels >>" ∷ []) (map (label_line raw) (label ∷ labels)) out a b ha
+    lines_behind (codes "<< labels >>" ∷ []) (map (label_line raw) (label ∷ labels)) out a b ha
     (hb ∙ ap (λ (text : List ℕ). a ++ text) (sym (text_of-map (label_line raw) (label ∷ labels))))
 
 -- labels have a group, where there are some
@@ -110,8 +106,8 @@ pub header_appended : (name word : List ℕ) (scale : ℕ × ℕ) (out a b c : L
     → b ≡ a ++ text_of (scale_lines scale) → c ≡ b ++ text_of (no_time_line ∷ []) → c ≡ out ++ text_of (header_lines name scale)
 header_appended name word scale out a b c is ha hb hc =
     let first : a ≡ out ++ text_of (codes "magic" ∷ tech_line name ∷ []) = ha ∙ ap (λ (w : List ℕ). out ++ text_of (codes "magic" ∷ tech_line w ∷ [])) is in
-    two_appended (codes "magic" ∷ tech_line name ∷ []) (scale_lines scale ++ no_time_line ∷ []) out a c first
-    (two_appended (scale_lines scale) (no_time_line ∷ []) a b c hb hc)
+    lines_behind (codes "magic" ∷ tech_line name ∷ []) (scale_lines scale ++ no_time_line ∷ []) out a c first
+    (lines_behind (scale_lines scale) (no_time_line ∷ []) a b c hb hc)
 
 -- the parts of a cell make its text
 pub cell_appended : (raw : RawTech) (scale : ℕ × ℕ) (strips : List LayerStrips) (uses : List WrittenUse) (labels : List Label) (out a b c d e : List ℕ)
@@ -121,10 +117,10 @@ unfolding mag_text
 cell_appended raw scale strips uses labels out a b c d e ha hb hc hd he =
     let paint = hb ∙ ap (λ (text : List ℕ). a ++ text) (sym (text_of-each (layer_lines raw) strips)) in
     let used = hc ∙ ap (λ (text : List ℕ). b ++ text) (sym (text_of-each use_lines uses)) in
-    let de = two_appended (labels_lines raw labels) (end_line ∷ []) c d e hd he in
-    let ce = two_appended (flat_map use_lines uses) (labels_lines raw labels ++ end_line ∷ []) b c e used de in
-    let be = two_appended (flat_map (layer_lines raw) strips) (flat_map use_lines uses ++ (labels_lines raw labels ++ end_line ∷ [])) a b e paint ce in
-    two_appended (header_lines raw.name scale) (flat_map (layer_lines raw) strips ++ (flat_map use_lines uses ++ (labels_lines raw labels ++ end_line ∷ []))) out a e ha be
+    let de = lines_behind (labels_lines raw labels) (end_line ∷ []) c d e hd he in
+    let ce = lines_behind (flat_map use_lines uses) (labels_lines raw labels ++ end_line ∷ []) b c e used de in
+    let be = lines_behind (flat_map (layer_lines raw) strips) (flat_map use_lines uses ++ (labels_lines raw labels ++ end_line ∷ [])) a b e paint ce in
+    lines_behind (header_lines raw.name scale) (flat_map (layer_lines raw) strips ++ (flat_map use_lines uses ++ (labels_lines raw labels ++ end_line ∷ []))) out a e ha be
 
 -- the strips of one more layer
 pub strips_more : (raw : RawTech) (layout : Layout) (strips after : List LayerStrips) (more : LayerStrips) (index : ℕ) → length strips ≡ index

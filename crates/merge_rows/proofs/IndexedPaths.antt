@@ -13,7 +13,7 @@ use Rattle.ext_model.specs.LawfulArrays.{BeginsIndexed}
 use Rattle.ext_model.specs.Plain.{before, behind}
 use Rattle.ext_model.proofs.IndexedNames.{id_plain, number_comma, number_bracket}
 use Rattle.merge_rows.specs.IndexTexts.{IsIndexText, HasIndexParts}
-use Rattle.merge_rows.proofs.CutLaws.{before-cut, behind-cut, cut_whole}
+use Rattle.ext_model.proofs.CutLaws.{before-cut, behind-cut, cut_whole}
 
 -- ---- indices
 

@@ -13,7 +13,7 @@ use Rattle.text_scan.specs.Decimal.{decimal}
 use Rattle.text_scan.specs.Words.{words_of}
 use Rattle.text_scan.specs.Written.{is_separator, IsWord, line_of}
 use Rattle.text_scan.proofs.DecimalLemmas.{wide_of-decimal}
-use Rattle.text_scan.proofs.WrittenLemmas.{IsWord-decimal, IsWord-test, words_of-line_of}
+use Rattle.text_scan.proofs.WrittenLemmas.{IsWord-decimal, IsWord-test, words_of-line_of, words-decimals}
 use Rattle.text_form.specs.SaidLines.{and_then}
 use Rattle.sim_text.specs.declared.faults.SimFault.TheVariants.{Header as NoHeader, Letter, Name, Range}
 use Rattle.sim_text.specs.declared.files.SimFet.{SimFet}
@@ -51,10 +51,6 @@ IsWord-letter byte is = record {
   some = omega arith;
   plain = All-cons (λ b. is_separator b ≡ false) byte [] (letter_is_plain byte is) (λ k d inside. absurd (omega arith));
 }
-
-words-decimals : (numbers : List ℤ) → AllByRecursion IsWord (map decimal numbers)
-words-decimals [] = tt
-words-decimals (z ∷ numbers) = (IsWord-decimal z, words-decimals numbers)
 
 -- the words of each line are words
 pub words-Header : (name : List ℕ) → is_sim_name name ≡ true → AllByRecursion IsWord (words_saying (Header name))

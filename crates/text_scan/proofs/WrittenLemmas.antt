@@ -1,6 +1,6 @@
 -- What is written is read again.
 use Rattle.std.proofs.Common.{◌≡◌, ℕ, suc, ◌-◌, true, false, not, cond, ◌&&◌, ◌||◌, eqb, List, [], ◌∷◌, ◌++◌, length, get_or, take, ℤ, pos, negsuc, refl, sym}
-use Rattle.std.proofs.Common.{ap, ◌∙◌, arith, append_assoc}
+use Rattle.std.proofs.Common.{ap, ◌∙◌, arith, append_assoc, append-nil, map}
 use Rattle.std.specs.Char.{is_ascii_digit}
 use Rattle.std.specs.List.{All, AllByRecursion, list_all}
 use Rattle.std.specs.Str.{all_ascii_digits}
@@ -10,7 +10,7 @@ use Rattle.std.proofs.lemmas.List.Elements.{All-append, All-cons}
 use Rattle.text_scan.specs.Decimal.{natural_text, decimal}
 use Rattle.text_scan.specs.Lines.{lines_of, is_line_feed}
 use Rattle.text_scan.specs.Words.{words_of, is_blank}
-use Rattle.text_scan.specs.Written.{is_separator, IsWord, IsLine, line_of, text_of}
+use Rattle.text_scan.specs.Written.{behind_blanks, is_separator, IsWord, IsLine, line_of, text_of}
 use Rattle.text_scan.proofs.DecimalLemmas.{all_ascii_digits-natural_text, length-natural_text}
 use Rattle.text_scan.proofs.LineLemmas.{lines_of-nil, lines_of-at}
 use Rattle.text_scan.proofs.NumberLemmas.{digit_is}
@@ -94,3 +94,25 @@ IsWord-test word passes =
     let parts = and_parts (not (eqb (length word) 0)) (list_all (λ byte. not (is_separator byte)) word) passes in
     let tells = Decides-by_and (λ b. not (is_separator b)) (λ b. is_separator b ≡ false) (list_all (λ byte. not (is_separator byte))) (λ b. (λ e. not-true (is_separator b) e, λ e. ap not e)) refl (λ _ _. refl) word in
     record { some = grind (arith, nat_tests, parts.0); plain = tells.0 parts.1 }
+
+-- the words of two lists, one behind the other
+pub blanks-append : (xs ys : List (List ℕ)) → behind_blanks (xs ++ ys) ≡ behind_blanks xs ++ behind_blanks ys
+blanks-append [] ys = refl
+blanks-append (x ∷ xs) ys = ap (λ (rest : List ℕ). (32 ∷ x) ++ rest) (blanks-append xs ys) ∙ sym (append_assoc (32 ∷ x) (behind_blanks xs) (behind_blanks ys))
+
+-- a line is its first word and the others behind blanks
+pub line-words : (word : List ℕ) (words : List (List ℕ)) → line_of (word ∷ words) ≡ word ++ behind_blanks words
+line-words word [] = sym (append-nil word)
+line-words word (next ∷ words) = ap (λ (rest : List ℕ). word ++ 32 ∷ rest) (line-words next words)
+
+-- numbers are words
+pub words-decimals : (numbers : List ℤ) → AllByRecursion IsWord (map decimal numbers)
+words-decimals [] = tt
+words-decimals (z ∷ numbers) = (IsWord-decimal z, words-decimals numbers)
+
+-- lines that are written behind lines
+pub lines_behind : (first second : List (List ℕ)) (old now new : List ℕ) → now ≡ old ++ text_of first → new ≡ now ++ text_of second
+    → new ≡ old ++ text_of (first ++ second)
+lines_behind first second old now new one two =
+    two ∙ ap (λ (text : List ℕ). text ++ text_of second) one ∙ append_assoc old (text_of first) (text_of second)
+    ∙ ap (λ (text : List ℕ). old ++ text) (sym (text_of-append first second))

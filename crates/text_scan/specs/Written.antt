@@ -1,5 +1,5 @@
 -- Texts as they are written: one blank between two words, and a line feed behind each line.
-use Rattle.std.specs.Prelude.{◌≡◌, ℕ, ◌<◌, ◌==◌, Bool, ◌||◌, false, List, [], ◌∷◌, ◌++◌, length, All}
+use Rattle.std.specs.Prelude.{◌≡◌, ℕ, ◌<◌, ◌==◌, Bool, ◌||◌, false, List, [], ◌∷◌, ◌++◌, length, All, flat_map}
 use Rattle.std.specs.List.{join_with_byte}
 use Rattle.std.specs.Str.Lines.{strip_carriage_return}
 use Rattle.text_scan.specs.Lines.{is_line_feed}
@@ -25,3 +25,7 @@ line_of words = join_with_byte 32 words
 abbrev pub text_of : List (List ℕ) → List ℕ
 text_of [] = []
 text_of (line ∷ lines) = line ++ 10 ∷ text_of lines
+
+-- words, each behind a blank
+abbrev pub behind_blanks : List (List ℕ) → List ℕ
+behind_blanks words = flat_map (λ word. 32 ∷ word) words

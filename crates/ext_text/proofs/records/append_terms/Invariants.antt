@@ -1,6 +1,6 @@
 use Rattle.std.proofs.Common.{◌≡◌, ◌++◌, take}
 use Rattle.std.specs.List.{flat_map}
-use Rattle.ext_text.specs.Appended.{behind_blanks}
+use Rattle.text_scan.specs.Written.{behind_blanks}
 use Rattle.ext_text.specs.WrittenTexts.{term_words}
 use Rattle.ext_text.proofs.records.append_terms.Given as goal
 

@@ -1,6 +1,6 @@
 use Rattle.std.proofs.Common.{arith}
 use Rattle.std.proofs.lemmas.Grind.{common_steps}
-use Rattle.merge_rows.proofs.CutLaws.{behind-after}
+use Rattle.ext_model.proofs.CutLaws.{behind-after}
 use Rattle.merge_rows.proofs.paths.cut_at.Goals as goal
 
 pub returns-in-Some-clause-behind : goal.returns-in-Some-clause-behind
