@@ -25,22 +25,6 @@ use Rattle.cell_library.proofs.ViewLaws.{cell_viewed, length-cell_views}
 
 -- ---- paint
 
-not_space : (raw : RawTech) (plane kind : ℕ) → IsOnPlane raw plane kind → kind ≢ 0 → IsTrue (is_type raw kind) × (plane_of raw kind ≡ plane)
-not_space raw plane kind (inl space) some = absurd (some space)
-not_space raw plane kind (inr type) some = type
-
--- the types of sound paint are those of its technology
-pub paint_is_typed : (raw : RawTech) (paint : Paint) → raw.types ≡ paint.kinds → length paint.planes ≤ MOST_PLANES
-    → IsSoundPaint paint.kinds (layout_of paint)
-    → HasTypesOf raw (layout_of paint)
-paint_is_typed raw paint same few sound place some = elim (cases_lt place.plane MOST_PLANES) [
-  | inl below ↦
-      not_space raw place.plane (layout_of paint place)
-      (subst (IsOnPlane raw place.plane) (column_type (layout_of paint) place.square place.plane below)
-      ((sound.types raw same place.square).0 place.plane)) some
-  | inr past ↦ absurd (some (space_past paint.planes place.plane place.square (omega arith)))
-]
-
 -- ---- trees
 
 elements_typed : (raw : RawTech) (tree : CellTree) (placed : Transform) (steps : List (ℤ × ℤ)) (rest : Elements) → IsTyped raw tree

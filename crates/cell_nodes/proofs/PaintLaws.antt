@@ -9,11 +9,11 @@ use Rattle.tech_model.specs.declared.raw.RawTech.{RawTech}
 use Rattle.tech_model.specs.Types.{is_type, plane_of}
 use Rattle.layout_model.specs.Places.{Place}
 use Rattle.layout_model.specs.Layouts.{IsMaterial}
-use Rattle.layout_model.specs.LayerTypes.{seen_in, HasTypesOf}
+use Rattle.layout_model.specs.LayerTypes.{seen_in}
 use Rattle.measures.specs.Bounds.{IsNearPlace}
 use Rattle.cell_paint.specs.Painting.{paint_range}
 use Rattle.cell_paint.specs.Paints.{Paint, layout_of, seen_kind, IsSoundPaint}
-use Rattle.cell_nodes.proofs.PaintTypes.{paint_types}
+use Rattle.cell_paint.proofs.PaintTypes.{paint_has_types}
 
 seen_at : (paint : Paint) (place : Place) → IsSoundPaint paint.kinds (layout_of paint) → seen_in paint_range (seen_kind paint) place ≡ layout_of paint place
 seen_at paint place sound = elim (cases_Bool (is_covered paint_range place.square)) [
@@ -28,12 +28,6 @@ seen_at paint place sound = elim (cases_Bool (is_covered paint_range place.squar
 pub all_seen : (paint : Paint) → IsSoundPaint paint.kinds (layout_of paint) → seen_in paint_range (seen_kind paint) ≡ layout_of paint
 all_seen paint sound = let same : (place : Place) → seen_in paint_range (seen_kind paint) place ≡ layout_of paint place = λ place. seen_at paint place sound in
     λ i place. same place i
-
--- the types of paint are the technology's
-pub paint_has_types : (raw : RawTech) (paint : Paint) → raw.types ≡ paint.kinds → length paint.planes ≤ MOST_PLANES → IsSoundPaint paint.kinds (layout_of paint)
-    → HasTypesOf raw (layout_of paint)
-paint_has_types raw paint same few sound place material =
-    paint_types raw paint same few sound place.plane place.square (layout_of paint place) refl material
 
 -- all paint is near
 pub paint_is_near : (raw : RawTech) (paint : Paint) → raw.types ≡ paint.kinds → length paint.planes ≤ MOST_PLANES → length raw.planes ≤ MOST_PLANES

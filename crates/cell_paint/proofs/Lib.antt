@@ -4,6 +4,7 @@ pub mod ChangeLaws
 pub mod ColumnsLaws
 pub mod PaintLaws
 pub mod PaintTiles
+pub mod PaintTypes
 pub mod PieceLaws
 pub mod PlaneLaws
 pub mod ShownLaws

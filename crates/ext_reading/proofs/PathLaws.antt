@@ -7,7 +7,7 @@ use Rattle.std.proofs.lemmas.List.{take_all, take_rest, drop_all}
 use Rattle.std.proofs.lemmas.List.Splits.{slice_split_first, slice_split_none}
 use Rattle.std.proofs.lemmas.List.Sums.{fails_before_first}
 use Rattle.ext_model.specs.Plain.{before, behind}
-use Rattle.ext_text.proofs.PathCuts.{behind-after_first}
+use Rattle.ext_model.proofs.CutLaws.{behind-after}
 
 place_is : (test : Bool) (k i : ℕ) → cond test (Some k) None ≡ Some i → (test ≡ true) × (k ≡ i)
 place_is true k i e = (refl, cc)
@@ -53,7 +53,7 @@ pub behind_found : (mark : ℕ) (text : List ℕ) (at : ℕ) → position (λ by
 behind_found mark text at e =
     let test : ℕ → Bool = λ byte. byte == mark in
     let found = place_is (nat_lt (position_or_len test text) (length text)) (position_or_len test text) at e in
-    take_rest text (at + 1) ∙ (ap (λ (k : ℕ). drop (k + 1) text) (sym found.1) ∙ behind-after_first mark text)
+    take_rest text (at + 1) ∙ (ap (λ (k : ℕ). drop (k + 1) text) (sym found.1) ∙ sym (behind-after mark text))
 
 -- and where there is none
 far : (test : ℕ → Bool) (text : List ℕ) → position test text ≡ None → length text ≤ position_or_len test text
@@ -68,4 +68,4 @@ pub behind_nothing : (mark : ℕ) (text : List ℕ) → position (λ byte. byte 
 behind_nothing mark text e =
     let test : ℕ → Bool = λ byte. byte == mark in
     let past = far test text e in
-    sym (drop_all (position_or_len test text + 1) text (omega (arith, past))) ∙ behind-after_first mark text
+    sym (drop_all (position_or_len test text + 1) text (omega (arith, past))) ∙ sym (behind-after mark text)

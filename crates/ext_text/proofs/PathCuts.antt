@@ -1,11 +1,9 @@
 -- Texts cut at a byte, and paths at the index of their first name.
-use Rattle.std.proofs.Common.{◌≡◌, ◌+◌, ◌==◌, ℕ, ℤ, Bool, true, false, cond, not, List, [], ◌∷◌, ◌++◌, take, drop, refl, ap, ◌∙◌, append_assoc, arith, w32, w64, FitsSigned}
-use Rattle.std.proofs.Common.{pos, suc, ◌<◌, ◌^◌, ◌+ℤ◌, ◌-ℤ◌, sym, subst}
+use Rattle.std.proofs.Common.{◌≡◌, ◌+◌, ℕ, ℤ, List, [], ◌∷◌, ◌++◌, ap, ◌∙◌, append_assoc, arith, w32, w64, FitsSigned}
+use Rattle.std.proofs.Common.{pos, ◌<◌, ◌^◌, ◌+ℤ◌, ◌-ℤ◌, sym, subst}
 use Rattle.std.specs.Int.{w128}
 use mir.Val.{of_z, to_z}
 use Rattle.std.specs.Prelude.{Result, Ok, Err}
-use Rattle.std.specs.List.{after_first, position_or_len}
-use Rattle.std.proofs.lemmas.Bool.{eq-eqb}
 use Rattle.std.proofs.lemmas.Int.{ints, to_z-of_z}
 use Rattle.text_scan.specs.declared.numeral.NumFault.{NumFault}
 use Rattle.text_scan.specs.Decimal.{decimal}
@@ -14,12 +12,8 @@ use Rattle.text_scan.proofs.DecimalLemmas.{number_of-decimal}
 use Rattle.ext_model.specs.declared.names.TheConstants.{SLASH}
 use Rattle.ext_model.specs.LawfulArrays.{BeginsIndexed}
 use Rattle.ext_model.specs.Plain.{before, behind, first_index}
-use Rattle.ext_model.proofs.TextCuts.{Lacks}
 use Rattle.ext_model.proofs.IndexedNames.{id_plain, number_comma}
-
--- where the first such byte stands
-abbrev place : ℕ → List ℕ → ℕ
-place mark text = position_or_len (λ byte. byte == mark) text
+use Rattle.ext_model.proofs.CutLaws.{before-cut, behind-cut}
 
 -- a number of 32 bits is one of 64
 wider : (z : ℤ) → FitsSigned w32 z → FitsSigned w64 z

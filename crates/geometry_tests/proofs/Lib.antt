@@ -1,3 +1,2 @@
-pub mod PaintTypes
 pub mod PieceRects
 pub mod Rows

@@ -3,7 +3,6 @@ pub mod NewNames
 pub mod StandingCells
 pub mod TileCorners
 pub mod NodesFound
-pub mod LabelLaws
 pub mod OpenedLaws
 pub mod ChildCells
 pub mod Climbs

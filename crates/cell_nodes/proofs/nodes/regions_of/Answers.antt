@@ -4,8 +4,8 @@ use Rattle.tech_model.specs.declared.limits.TheConstants.{MOST_PLANES}
 use Rattle.tech_model.specs.Types.{connects}
 use Rattle.layout_model.specs.Layouts.{Layout}
 use Rattle.layout_model.specs.RegionTiles.{AreRegions}
-use Rattle.cell_nodes.proofs.PaintTypes.{paint_types}
-use Rattle.cell_nodes.proofs.PaintLaws.{all_seen, paint_has_types, paint_is_near}
+use Rattle.cell_paint.proofs.PaintTypes.{paint_has_types, paint_types}
+use Rattle.cell_nodes.proofs.PaintLaws.{all_seen, paint_is_near}
 use Rattle.cell_nodes.proofs.nodes.regions_of.Goals as goal
 
 pub regions-requires-clause-types : goal.regions-requires-clause-types

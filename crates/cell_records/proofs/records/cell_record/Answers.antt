@@ -12,10 +12,11 @@ use Rattle.layout_model.specs.RegionTiles.{IsInRegion}
 use Rattle.layout_model.specs.Transistors.{AreTransistors}
 use Rattle.fet_regions.specs.Measures.Bounds.{IsNearPlace}
 use Rattle.cell_paint.specs.Paints.{Paint, layout_of, IsSoundPaint}
+use Rattle.cell_paint.proofs.PaintTypes.{paint_has_types}
 use Rattle.fet_regions.specs.declared.transistors.Fet.{Fet}
 use Rattle.fet_regions.specs.Transistors.{transistor_of}
 use Rattle.cell_nodes.specs.NodeRecords.{AreNodeRecords}
-use Rattle.cell_nodes.proofs.PaintLaws.{paint_has_types, paint_is_near}
+use Rattle.cell_nodes.proofs.PaintLaws.{paint_is_near}
 use Rattle.own_record_laws.specs.OwnRecords.FetRecords.{AreFetRecords, IsNodeBefore}
 use Rattle.cell_records.specs.Exts.{IsExtOf}
 use Rattle.cell_records.specs.FetsOfRegions.{IsSmallFet, AreRecordsOfFets}

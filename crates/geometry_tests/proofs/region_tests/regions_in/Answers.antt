@@ -1,6 +1,6 @@
 use Rattle.std.proofs.Common.{◌≤◌, length, sym, arith}
 use Rattle.tech_model.specs.declared.limits.TheConstants.{MOST_PLANES}
-use Rattle.geometry_tests.proofs.PaintTypes.{paint_types}
+use Rattle.cell_paint.proofs.PaintTypes.{paint_types}
 use Rattle.geometry_tests.proofs.region_tests.regions_in.Goals as goal
 
 pub regions-requires-clause-types : goal.regions-requires-clause-types

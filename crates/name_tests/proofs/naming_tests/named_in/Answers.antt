@@ -2,7 +2,7 @@ use Rattle.std.proofs.Common.{◌≤◌, pos, negsuc, length, sym, arith, subst}
 use Rattle.tech_model.specs.declared.limits.TheConstants.{MOST_PLANES}
 use Rattle.cell_paint.specs.Paints.{seen_kind}
 use Rattle.names.proofs.TypedTiles.{seen_typed}
-use Rattle.name_tests.proofs.PaintTypes.{paint_types}
+use Rattle.cell_paint.proofs.PaintTypes.{paint_types}
 use Rattle.name_tests.proofs.naming_tests.named_in.Goals as goal
 
 pub regions-requires-clause-types : goal.regions-requires-clause-types

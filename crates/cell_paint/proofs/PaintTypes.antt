@@ -1,12 +1,12 @@
 -- The types of a cell's paint are those of its technology, each on its plane.
-use Rattle.std.proofs.Common.{◌≡◌, ◌≢◌, inl, inr, ◌≤◌, ℕ, length, sym, ◌∙◌, subst, arith}
+use Rattle.std.proofs.Common.{◌≡◌, ◌≢◌, inl, inr, ◌≤◌, ℕ, length, sym, ◌∙◌, subst, arith, refl}
 use Rattle.std.specs.Prelude.{IsTrue}
 use Rattle.std.proofs.lemmas.Bool.{cases_lt}
 use Rattle.tech_model.specs.declared.limits.TheConstants.{MOST_PLANES}
 use Rattle.tech_model.specs.declared.raw.RawTech.{RawTech}
 use Rattle.tech_model.specs.ColumnForms.{IsOnPlane}
 use Rattle.tech_model.specs.Types.{is_type, plane_of}
-use Rattle.layout_model.specs.LayerTypes.{AreTypesOf}
+use Rattle.layout_model.specs.LayerTypes.{AreTypesOf, HasTypesOf}
 use Rattle.cell_paint.specs.Painting.{kinds_on}
 use Rattle.cell_paint.specs.Paints.{Paint, layout_of, seen_kind, IsSoundPaint}
 use Rattle.cell_paint.proofs.ColumnsLaws.{column_type}
@@ -26,3 +26,9 @@ paint_types raw paint same few sound plane square kind is some =
           (subst (IsOnPlane raw plane) (column_type (layout_of paint) square plane below ∙ value) ((sound.types raw same square).0 plane)) some
       | inr past ↦ absurd (some (sym value ∙ space_past paint.planes plane square (omega arith)))
     ]
+
+-- the types of paint are the technology's
+pub paint_has_types : (raw : RawTech) (paint : Paint) → raw.types ≡ paint.kinds → length paint.planes ≤ MOST_PLANES → IsSoundPaint paint.kinds (layout_of paint)
+    → HasTypesOf raw (layout_of paint)
+paint_has_types raw paint same few sound place material =
+    paint_types raw paint same few sound place.plane place.square (layout_of paint place) refl material
