@@ -1,6 +1,6 @@
 -- How the box of what a cell has of its own changes with its paint and its labels.
 use Rattle.std.proofs.Common.{◌≡◌, ◌⊎◌, List, [], ◌∷◌, ◌++◌, Option, refl, ap, subst, arith, inl, inr}
-use Rattle.std.specs.Prelude.{Some, None, IsNone, IfSome, ◌↔◌, pos, ◌-ℤ◌}
+use Rattle.std.specs.Prelude.{Some, None, IsNone, IfSome, ◌↔◌}
 use Rattle.std.proofs.lemmas.Int.{ints}
 use Rattle.finite_sets.specs.Lists.{In}
 use Rattle.finite_sets.proofs.Members.{In-append_left, In-push_cases, In-push}
@@ -8,7 +8,7 @@ use Rattle.geo_core.specs.declared.squares.Square.{Square}
 use Rattle.geo_core.specs.declared.squares.Rect.{Rect}
 use Rattle.geo_core.specs.Areas.{LiesWithin, joined_rect}
 use Rattle.geo_core.specs.Covering.{Covers, IsProper}
-use Rattle.geo_core.proofs.CoveringLaws.{joined_within, within_trans, within_antisym, within_joined_first, within_joined_second, within_covers}
+use Rattle.geo_core.proofs.CoveringLaws.{joined_within, within_trans, within_antisym, within_joined_first, within_joined_second, within_covers, filled_within}
 use Rattle.tech_model.specs.declared.raw.Label.{Label}
 use Rattle.layout_model.specs.Places.{Place}
 use Rattle.layout_model.specs.Layouts.{Layout, IsMaterial}
@@ -17,14 +17,6 @@ use Rattle.cell_tree.specs.Hulls.{IsInside}
 use Rattle.cell_library.specs.OwnBoxes.{HoldsOwn, IsOwnBox, OwnBoxIs, box_with}
 
 -- ---- rectangles
-
--- a rectangle whose squares an area covers lies within it
-pub filled_within : (core area : Rect) → IsProper core → ((square : Square) → Covers core square → Covers area square) → LiesWithin core area
-filled_within core area proper each =
-    let low : Covers area (record { x = core.xlo; y = core.ylo }) = each (record { x = core.xlo; y = core.ylo }) (omega (arith, ints)) in
-    let high : Covers area (record { x = core.xhi -ℤ pos 1; y = core.yhi -ℤ pos 1 }) =
-    each (record { x = core.xhi -ℤ pos 1; y = core.yhi -ℤ pos 1 }) (omega (arith, ints)) in
-    omega (arith, ints)
 
 -- ---- what is held
 

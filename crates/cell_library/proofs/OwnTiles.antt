@@ -15,7 +15,7 @@ use Rattle.geo_core.specs.Covering.{Covers, IsProper}
 use Rattle.geo_core.specs.Images.{inverted, rect_image}
 use Rattle.geo_core.specs.Planes.{HasValue, IsTileIn, AreTilesIn}
 use Rattle.geo_core.specs.Strips.{IsStrip, StandsBefore}
-use Rattle.geo_core.proofs.CoveringLaws.{covers_both}
+use Rattle.geo_core.proofs.CoveringLaws.{covers_both, filled_within}
 use Rattle.geo_core.proofs.ImageLaws.{image-forth, rect_image-covers}
 use Rattle.geo_core.proofs.StripSets.{strip_is_proper, strip_within}
 use Rattle.layout_model.specs.Layouts.{Layout, IsMaterial}
@@ -27,7 +27,6 @@ use Rattle.cell_library.specs.declared.spots.Spot.{Spot}
 use Rattle.cell_library.specs.Spots.{standing_at, tile_at, AddsOwn}
 use Rattle.cell_library.specs.Views.{LibraryView, view_at}
 use Rattle.cell_library.specs.VisitedTiles.{IsCutOf, HasTileAt, HasThere, AreOwnTold, AddsTiles}
-use Rattle.cell_library.proofs.BoxLaws.{filled_within}
 use Rattle.cell_library.proofs.PlacedRects.{cut_there, rect_back, rect_proper, rect_unproper, covers_back}
 
 -- ---- pieces

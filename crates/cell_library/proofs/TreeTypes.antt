@@ -1,20 +1,17 @@
 -- The types of the tree of a cell are those of the technology.
-use Rattle.std.proofs.Common.{◌≡◌, ◌≢◌, ◌≤◌, inl, inr, ℕ, zero, suc, ℤ, List, [], ◌∷◌, length, sym, ap, subst, arith}
-use Rattle.std.specs.Prelude.{All, IsTrue}
+use Rattle.std.proofs.Common.{◌≡◌, ◌≤◌, inl, inr, ℕ, zero, suc, ℤ, List, [], ◌∷◌, length, sym, ap, subst, arith}
+use Rattle.std.specs.Prelude.{All}
 use Rattle.std.proofs.lemmas.Bool.{cases_lt}
 use Rattle.std.proofs.lemmas.List.{get_or_past}
 use Rattle.geo_core.specs.declared.transforms.Transform.{Transform}
 use Rattle.tech_model.specs.declared.limits.TheConstants.{MOST_PLANES}
 use Rattle.tech_model.specs.declared.raw.RawTech.{RawTech}
-use Rattle.tech_model.specs.ColumnForms.{IsOnPlane}
-use Rattle.tech_model.specs.Types.{is_type, plane_of}
 use Rattle.layout_model.specs.Layouts.{Layout}
 use Rattle.layout_model.specs.LayerTypes.{HasTypesOf}
 use Rattle.layout_trees.specs.CellTrees.{CellTree, Elements}
 use Rattle.layout_trees.specs.FlatSets.{IsTyped, AreTyped}
-use Rattle.cell_paint.specs.Paints.{Paint, layout_of, IsSoundPaint}
-use Rattle.cell_paint.proofs.ColumnsLaws.{column_type}
-use Rattle.cell_paint.proofs.PlaneLaws.{space_past}
+use Rattle.cell_paint.specs.Paints.{layout_of}
+use Rattle.cell_paint.proofs.PaintTypes.{paint_has_types}
 use Rattle.cell_tree.specs.declared.use_tables.UseBody.{UseBody}
 use Rattle.cell_tree.specs.Uses.{displacements}
 use Rattle.cell_library.specs.Contents.{held_at, no_held, IsSoundHeld}
@@ -60,7 +57,7 @@ module _ (library : LibraryParts) (lawful : IsLawfulLibrary library) (sound : Al
         let few : length held.paint.planes ≤ MOST_PLANES = omega arith in
         let own : layout_of held.paint ≡ (view_at (seen library) cell).own =
         ap (λ (view : CellView). view.own) (sym (cell_viewed library.contents (uses_in library.tree.cells) cell below)) in
-        subst (HasTypesOf library.tech) own (paint_is_typed library.tech held.paint (sym is.kinds) few (sound cell no_held below))
+        subst (HasTypesOf library.tech) own (paint_has_types library.tech held.paint (sym is.kinds) few (sound cell no_held below))
     | inr past ↦
         let long = length-cell_views library.contents (uses_in library.tree.cells) in
         let over : length (cells_seen library.contents library.tree) ≤ cell = omega arith in

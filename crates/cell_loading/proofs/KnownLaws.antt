@@ -1,5 +1,5 @@
 -- Which names cells have, of the library and of those that were read, and whether there is room for one more.
-use Rattle.std.proofs.Common.{◌≡◌, ◌≤◌, ◌-◌, ◌+◌, inl, inr, ℕ, Bool, false, List, [], length, refl, sym, ap, ◌∙◌, arith, true≢false}
+use Rattle.std.proofs.Common.{◌≡◌, ◌≤◌, ◌-◌, ◌+◌, inl, inr, ℕ, Bool, false, List, [], refl, sym, ap, ◌∙◌, arith, true≢false}
 use Rattle.std.specs.Prelude.{◌||◌, nat_le, Option, Some, None, IsSome, is_some}
 use Rattle.std.specs.List.{list_any, position}
 use Rattle.std.specs.Option.{option_map}
@@ -11,10 +11,9 @@ use Rattle.std.proofs.lemmas.List.Sums.{fails_before_first}
 use Rattle.ext_model.specs.declared.tables.CellKey.{CellKey}
 use Rattle.cell_bodies.specs.declared.bodies.CellBody.{CellBody}
 use Rattle.cell_library.specs.declared.limits.TheConstants.{MOST_CELLS}
-use Rattle.cell_library.specs.Libraries.{LibraryParts, seen, uses_in}
+use Rattle.cell_library.specs.Libraries.{LibraryParts, seen}
 use Rattle.cell_library.specs.Views.{cell_named, names_of}
 use Rattle.cell_library.proofs.ContentLaws.{position_past}
-use Rattle.cell_library.proofs.ViewLaws.{length-cell_views}
 use Rattle.cell_loading.specs.ReadCells.{is_among, names_in}
 
 found_or_not : (test : List ℕ → Bool) (names : List (List ℕ)) (found : Option ℕ) → position test names ≡ found
@@ -45,10 +44,6 @@ pub new_is_not_among : (library : LibraryParts) (name : List ℕ) (found : Optio
     → option_map (λ key. key.0) found ≡ cell_named (seen library) name → is_some found ≡ false → is_among (seen library) [] name ≡ false
 new_is_not_among library name found is none =
     sym (known_is_among library [] name found false is refl) ∙ ap (λ (b : Bool). b || false) none
-
--- the library has as many cells as contents
-pub count_seen : (library : LibraryParts) → length (seen library).cells ≡ length library.contents
-count_seen library = length-cell_views library.contents (uses_in library.tree.cells)
 
 nat_le_same : (a b c d : ℕ) → (a ≤ b → c ≤ d) → (c ≤ d → a ≤ b) → nat_le a b ≡ nat_le c d
 nat_le_same a b c d on back = elim (cases_Bool (nat_le a b)) [

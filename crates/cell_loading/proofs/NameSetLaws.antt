@@ -10,6 +10,7 @@ use Rattle.std.proofs.lemmas.List.{map-append}
 use Rattle.std.proofs.lemmas.List.Folds.{list_any-append}
 use Rattle.std.proofs.lemmas.List.Sorted.{list_any-IsPermutation}
 use Rattle.cell_bodies.specs.declared.bodies.CellBody.{CellBody}
+use Rattle.mag_text.proofs.UseIdLaws.{or_same, or_swapped}
 use Rattle.cell_loading.specs.ReadCells.{AreNamesOf, names_in}
 
 abbrev is_word : List ℕ → Vec ℕ Global → Bool
@@ -17,18 +18,6 @@ is_word name word = bytes_eq name word.items
 
 abbrev has_name : List ℕ → List (List ℕ × CellBody) → Bool
 has_name name cells = list_any (bytes_eq name) (names_in cells)
-
-or_swapped : (x y : Bool) → (x || y) ≡ (y || (x || false))
-or_swapped true true = refl
-or_swapped true false = refl
-or_swapped false true = refl
-or_swapped false false = refl
-
-or_same : (x y : Bool) → (x ≡ true → y ≡ true) → y ≡ (y || (x || false))
-or_same true true implies = refl
-or_same true false implies = implies refl
-or_same false true implies = refl
-or_same false false implies = refl
 
 -- a cell at the end has its name beside those of the others
 has_name-push : (name : List ℕ) (cells : List (List ℕ × CellBody)) (cell : List ℕ × CellBody)

@@ -1,16 +1,15 @@
 -- The pieces that the tiles of visits make are those of the flat layout.
-use Rattle.std.proofs.Common.{◌≡◌, ◌+◌, ◌<◌, ◌<ℤ◌, ◌-ℤ◌, inl, inr, ◌⊎◌, ℕ, suc, pos, List, [], ◌∷◌, ◌++◌, length, take, sym, ap, subst, ◌∙◌, arith}
+use Rattle.std.proofs.Common.{◌≡◌, ◌+◌, ◌<◌, inl, inr, ◌⊎◌, ℕ, suc, List, [], ◌∷◌, ◌++◌, length, take, sym, ap, subst, ◌∙◌, arith}
 use Rattle.std.specs.Prelude.{slice_index_or}
 use Rattle.std.proofs.Math.Seq.{take-suc}
-use Rattle.std.proofs.lemmas.Int.{ints}
 use Rattle.finite_sets.specs.Lists.{In, Lists}
 use Rattle.finite_sets.proofs.Members.{In-append_cases, In-push_cases}
 use Rattle.geo_core.specs.declared.squares.Square.{Square}
 use Rattle.geo_core.specs.declared.squares.Rect.{Rect}
-use Rattle.geo_core.specs.Areas.{LiesWithin, corner_of}
-use Rattle.geo_core.specs.Covering.{Covers, IsProper}
+use Rattle.geo_core.specs.Areas.{LiesWithin}
+use Rattle.geo_core.specs.Covering.{Covers}
 use Rattle.geo_core.specs.Strips.{IsInUnion}
-use Rattle.geo_core.proofs.CoveringLaws.{corner_covered, within_trans}
+use Rattle.geo_core.proofs.CoveringLaws.{within_trans, filled_within}
 use Rattle.tech_model.specs.declared.raw.RawTech.{RawTech}
 use Rattle.offences.specs.LayoutModel.Places.{Place}
 use Rattle.offences.specs.LayoutTrees.CellTrees.{CellTree}
@@ -25,22 +24,6 @@ use Rattle.drc_check.specs.CellPieces.{AreListedPiecesIn, AreListedPiecesOf, IsL
 use Rattle.drc_check.specs.Pieces.{AddsListed}
 use Rattle.drc_check.proofs.PieceLaws.{no_pieces, pieces_for, pieces_joined}
 use Rattle.drc_check.proofs.TileUnions.{flat_of_tiles, tile_inside}
-
--- a rectangle all of whose squares lie in another goes nowhere past it
-within_by_squares : (inner outer : Rect) → IsProper inner → ((square : Square) → Covers inner square → Covers outer square) → LiesWithin inner outer
-within_by_squares inner outer proper inside =
-    let wide : inner.xlo <ℤ inner.xhi = proper.wide in
-    let high : inner.ylo <ℤ inner.yhi = proper.high in
-    let low = inside (corner_of inner) (corner_covered inner proper) in
-    let top = inside (record { x = inner.xhi -ℤ pos 1; y = inner.yhi -ℤ pos 1 }) (record {
-      right_of_xlo = omega (arith, ints);
-      left_of_xhi = omega (arith, ints);
-      above_ylo = omega (arith, ints);
-      below_yhi = omega (arith, ints);
-    }) in
-    let e : (inner.xhi -ℤ pos 1) <ℤ outer.xhi = top.left_of_xhi in
-    let f : (inner.yhi -ℤ pos 1) <ℤ outer.yhi = top.below_yhi in
-    record { right_of_xlo = low.right_of_xlo; above_ylo = low.above_ylo; left_of_xhi = omega (arith, ints); below_yhi = omega (arith, ints) }
 
 -- what the tiles of a visit make are the pieces in its area
 pub pieces_of_visit : (raw : RawTech) (tree : CellTree) (rules : List Rule) (area : Rect) (tiles : List PartTile) (old new : List ListedPiece)
@@ -63,7 +46,7 @@ pieces_of_visit raw tree rules area tiles old new lists sets adds =
                 sym (flat (on_plane piece.plane square) (inside piece among square covers)) ∙ adds.are.sound piece among square covers;
             whole = λ place kind wanted is. adds.are.whole place kind wanted.1 (flat place wanted.0 ∙ is);
           };
-          within = λ piece among. within_by_squares piece.area area (adds.are.proper piece among) (inside piece among);
+          within = λ piece among. filled_within piece.area area (adds.are.proper piece among) (inside piece among);
         },
       ),
     )

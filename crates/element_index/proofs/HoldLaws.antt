@@ -112,7 +112,7 @@ holds_grown ids more uses rects id form (inr grown) holds =
     })
 
 -- the names of one use more
-names_more : (uses : List UseElements) (used : UseElements) → names_in (uses ++ used ∷ []) ≡ names_in uses ++ element_ids used.id used.grid
+pub names_more : (uses : List UseElements) (used : UseElements) → names_in (uses ++ used ∷ []) ≡ names_in uses ++ element_ids used.id used.grid
 names_more uses used =
     flat_map-append (λ (one : UseElements). element_ids one.id one.grid) uses (used ∷ [])
     ∙ ap (λ (more : List (List ℕ)). names_in uses ++ more) (append-nil (element_ids used.id used.grid))

@@ -1,11 +1,10 @@
 -- The names of the elements of uses: they are those of the plain form, those of one use differ, and each is an id or has indices.
 use Rattle.std.proofs.Common.{◌≡◌, ◌⊎◌, ℕ, ℤ, pos, Bool, true, false, cond, Option, List, [], ◌∷◌, ◌++◌, map}
-use Rattle.std.proofs.Common.{FitsSigned, refl, sym, ap, ◌∙◌, subst, arith, inl, inr, IsTrue, append-nil}
+use Rattle.std.proofs.Common.{FitsSigned, refl, sym, ap, ◌∙◌, subst, arith, inl, inr, IsTrue}
 use Rattle.std.specs.Prelude.{Some, None, ◌≤ℤ◌, ◌<ℤ◌, ◌+ℤ◌, ◌-ℤ◌, int_le}
 use Rattle.std.specs.Int.{w32}
 use Rattle.std.specs.List.{flat_map}
 use Rattle.std.specs.Str.{bytes_eq}
-use Rattle.std.proofs.lemmas.Grind.{flat_map-append}
 use Rattle.std.proofs.lemmas.Int.{ints}
 use Rattle.std.proofs.lemmas.List.{map-append}
 use Rattle.std.proofs.lemmas.Slice.Eq.{bytes_eq-Decides}
@@ -27,6 +26,7 @@ use Rattle.ext_model.specs.Plain.{plain_uses, uses_of_grid, element_use}
 use Rattle.ext_model.proofs.IndexedNames.{indexed_told}
 use Rattle.element_index.specs.declared.uses.UseElements.{UseElements}
 use Rattle.element_index.specs.GivenNames.{element_ids, names_in, is_among, gives_again}
+use Rattle.element_index.proofs.HoldLaws.{names_more}
 use Rattle.ext_reading.specs.Drafts.{elements_of}
 use Rattle.ext_reading.proofs.Outcomes.{Each}
 
@@ -119,16 +119,11 @@ names_formed uses forms name here =
 
 -- one use more
 
-pub names_push : (uses : List UseElements) (used : UseElements) → names_in (uses ++ used ∷ []) ≡ names_in uses ++ element_ids used.id used.grid
-names_push uses used =
-    flat_map-append (λ (one : UseElements). element_ids one.id one.grid) uses (used ∷ [])
-    ∙ ap (λ l. names_in uses ++ l) (append-nil (element_ids used.id used.grid))
-
 pub distinct_push : (uses : List UseElements) (used : UseElements) → Distinct (names_in uses) → HasIdForm used.grid used.id → gives_again uses used ≡ false
     → Distinct (names_in (uses ++ used ∷ []))
 distinct_push uses used differ form new =
     let names = element_ids used.id used.grid in
-    subst Distinct (sym (names_push uses used))
+    subst Distinct (sym (names_more uses used))
     (Distinct-append (names_in uses) names differ (element_ids-differ used.id used.grid form)
     (λ name old there. absent-from_list_any bytes_eq bytes_eq-Decides name (names_in uses)
     (list_any-In (λ n. is_among n (names_in uses)) names name new there) old))

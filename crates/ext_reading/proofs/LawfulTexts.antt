@@ -35,6 +35,7 @@ use Rattle.ext_model.specs.Plain.{plain, plain_uses, plain_merge, plain_merges, 
 use Rattle.ext_model.proofs.PlainUses.{elements_are_lawful}
 use Rattle.element_index.specs.declared.uses.UseElements.{UseElements}
 use Rattle.element_index.specs.GivenNames.{element_ids, names_in, is_among, gives_again}
+use Rattle.element_index.proofs.HoldLaws.{names_more}
 use Rattle.ext_model.specs.Lawful.{IsLawfulUse, IsLawfulNode, IsLawfulTerm, IsLawfulFet, IsLawfulMerge, LeadsIntoElement, IsPathIn}
 use Rattle.ext_reading.specs.declared.faults.ExtReadFault.{ExtReadFault}
 use Rattle.ext_reading.specs.declared.faults.ExtReadFault.TheVariants.{BadLine, NoHeader, Version as OtherVersion, NameTwice, Range, UseTwice, NoName}
@@ -55,7 +56,7 @@ use Rattle.ext_reading.specs.Drafts.{node_from, takes_alias, fet_from, has_its_n
 use Rattle.ext_reading.specs.Drafts.{takes_record, fits_classes, fits_version, takes_body, takes, step, finish}
 use Rattle.ext_reading.specs.ExtTexts.{with_use_said, with_words, with_line, outline_of, draft_in, record_of}
 use Rattle.ext_reading.proofs.NameLaws.{place_found}
-use Rattle.ext_reading.proofs.ElementIds.{names_push, names_given}
+use Rattle.ext_reading.proofs.ElementIds.{names_given}
 use Rattle.ext_reading.proofs.OutlineLaws.{kept_use, IsNameOf, use_cases}
 use Rattle.ext_reading.proofs.Outcomes.{OkHas, next_has, given_has, passed_has, failed_has, value_has, Each, each_none, range_in_bounds}
 use Rattle.ext_reading.proofs.LawfulLines.{IsFormed, says-formed}
@@ -169,7 +170,7 @@ use_added : (draft : Draft) (line : UseLine) (used : UseElements) → used.id �
     → (next : Draft) → next.given ≡ draft.given ++ used ∷ [] → HasNames draft (Use line) next
 use_added draft line used same_id read next more =
     let names = names_in draft.given in
-    let whole = ap names_in more ∙ names_push draft.given used in
+    let whole = ap names_in more ∙ names_more draft.given used in
     record {
       kept = λ name h. subst (λ (l : List (List ℕ)). In name l) (sym whole) (In-append_left name names (element_ids used.id used.grid) h);
       added = λ name is.

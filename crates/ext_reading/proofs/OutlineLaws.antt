@@ -8,6 +8,7 @@ use Rattle.finite_sets.proofs.Members.{In-append_left, In-append_cases}
 use Rattle.geo_core.specs.declared.grids.Grid.{Grid}
 use Rattle.element_index.specs.declared.uses.UseElements.{UseElements}
 use Rattle.element_index.specs.GivenNames.{element_ids, names_in, gives_again}
+use Rattle.element_index.proofs.HoldLaws.{names_more}
 use Rattle.ext_reading.specs.declared.faults.ExtReadFault.{ExtReadFault}
 use Rattle.ext_reading.specs.declared.lines.UseName.{UseName}
 use Rattle.ext_reading.specs.declared.lines.ExtLine.{ExtLine}
@@ -15,7 +16,6 @@ use Rattle.ext_reading.specs.declared.lines.ExtLine.TheVariants.{Use}
 use Rattle.ext_reading.specs.LineForms.{use_line}
 use Rattle.ext_reading.specs.Ranges.{grid_in}
 use Rattle.ext_reading.specs.ExtTexts.{with_elements, with_allowed, with_use_name, with_use_said, with_words}
-use Rattle.ext_reading.proofs.ElementIds.{names_push}
 use Rattle.ext_reading.proofs.Outcomes.{Each}
 
 -- the names so far stay
@@ -24,7 +24,7 @@ Keeps known more = Each (λ name. In name (names_in more)) (names_in known)
 
 kept_push : (known : List UseElements) (used : UseElements) → Keeps known (known ++ used ∷ [])
 kept_push known used = λ name h.
-    subst (λ (l : List (List ℕ)). In name l) (sym (names_push known used)) (In-append_left name (names_in known) (element_ids used.id used.grid) h)
+    subst (λ (l : List (List ℕ)). In name l) (sym (names_more known used)) (In-append_left name (names_in known) (element_ids used.id used.grid) h)
 
 kept_elements : (known : List UseElements) (used : UseElements) → Keeps known (with_elements known used)
 kept_elements known used = step (gives_again known used)
@@ -66,7 +66,7 @@ name_cases known used name h = step (gives_again known used) h
     step : (t : Bool) → In name (names_in (cond t known (known ++ used ∷ []))) → In name (names_in known) ⊎ In name (element_ids used.id used.grid)
     step true h = inl h
     step false h =
-        In-append_cases name (names_in known) (element_ids used.id used.grid) (subst (λ (l : List (List ℕ)). In name l) (names_push known used) h)
+        In-append_cases name (names_in known) (element_ids used.id used.grid) (subst (λ (l : List (List ℕ)). In name l) (names_more known used) h)
 
 allowed_cases : (arrays : Bool) (known : List UseElements) (used : UseElements) (name : List ℕ) → In name (names_in (with_allowed arrays known used))
     → In name (names_in known) ⊎ In name (element_ids used.id used.grid)

@@ -5,7 +5,7 @@ use Rattle.std.specs.Prelude.{Some, None, ◌-ℤ◌, ◌<ℤ◌, int_lt, nat_le
 use Rattle.std.specs.Int.{w32}
 use Rattle.std.specs.Str.{bytes_eq}
 use Rattle.std.specs.List.{list_any}
-use Rattle.std.proofs.lemmas.Bool.{and_from, eq-eqb, ne_eqb, true≢false, false_from_ne_true}
+use Rattle.std.proofs.lemmas.Bool.{and_from, ne_eqb, true≢false, false_from_ne_true}
 use Rattle.std.proofs.lemmas.Bool.Decides.{nat_tests}
 use Rattle.std.proofs.lemmas.Int.{ints}
 use Rattle.std.proofs.lemmas.List.Folds.{list_any_none}
@@ -24,6 +24,7 @@ use Rattle.ext_model.proofs.IndexedNames.{id_whole, id_plain, number_comma, numb
 use Rattle.ext_model.proofs.TextCuts.{Lacks, lacks-append, lacks-decimal, one_cut}
 use Rattle.ext_model.proofs.CutLaws.{before-cut, behind-cut}
 use Rattle.ext_text.specs.WrittenTexts.{use_name, row_path, ranged}
+use Rattle.element_index.proofs.IdLaws.{has_byte}
 use Rattle.ext_reading.specs.declared.faults.ExtReadFault.{ExtReadFault}
 use Rattle.ext_reading.specs.declared.faults.ExtReadFault.TheVariants.{BadLine}
 use Rattle.ext_reading.specs.declared.lines.UseName.{UseName}
@@ -43,11 +44,6 @@ number_colon = lacks-decimal 58 (λ byte digit. let is = digit_is byte digit in 
 
 number_open : (z : ℤ) → Lacks 91 (decimal z)
 number_open = lacks-decimal 91 (λ byte digit. let is = digit_is byte digit in ne_eqb byte 91 (λ e. omega (arith, is.0, is.1, e))) refl
-
--- a text does not lack a byte that stands in it
-pub has_it : (mark : ℕ) (text rest : List ℕ) → Lacks mark (text ++ mark ∷ rest) → ⊥
-has_it mark [] rest lacks = true≢false (sym (eq-eqb mark mark refl) ∙ lacks.0)
-has_it mark (byte ∷ text) rest lacks = has_it mark text rest lacks.1
 
 -- an id with indices
 indexed_from : (word : List ℕ) → IsIndexed word → is_indexed word ≡ true
@@ -150,7 +146,7 @@ array_back id grid is lawful =
     ∙ behind-cut 91 (x ++ 93 ∷ []) last (lacks-append 91 x (93 ∷ []) x_open (refl, tt)) in
     let rows : before 93 (behind 91 (behind 91 word)) ≡ y = ap (before 93) others ∙ before-cut 93 y [] y_bracket in
     let no_id : is_use_id word ≡ false =
-    false_from_ne_true (is_use_id word) (λ wrong. has_it 91 id spans (subst (Lacks 91) whole (id_plain word wrong))) in
+    false_from_ne_true (is_use_id word) (λ wrong. has_byte 91 id spans (subst (Lacks 91) whole (id_plain word wrong))) in
     let no_comma : Lacks 44 spans =
     lacks-append 44 x (93 ∷ 91 ∷ last) (span_lacks 44 refl number_comma grid.xlo grid.xhi grid.xsep)
     (refl, (refl, lacks-append 44 y (93 ∷ []) (span_lacks 44 refl number_comma grid.ylo grid.yhi grid.ysep) (refl, tt))) in
@@ -159,7 +155,7 @@ array_back id grid is lawful =
     let other = indexed_is word wrong in
     let rest = decimal other.j ++ 93 ∷ [] in
     let same = one_cut 91 id other.id spans (decimal other.i ++ 44 ∷ rest) (id_plain id is) (id_plain other.id other.id_form) (sym whole ∙ other.text) in
-    has_it 44 (decimal other.i) rest (subst (Lacks 44) same.1 no_comma)) in
+    has_byte 44 (decimal other.i) rest (subst (Lacks 44) same.1 no_comma)) in
     let a = before 91 word in
     let b = before 93 (behind 91 word) in
     let c = before 93 (behind 91 (behind 91 word)) in
@@ -260,7 +256,7 @@ name_whole name (inr is) = subst (Lacks SLASH) (sym is.text) (indexed_lacks is.i
 -- and is not that of a range
 no_range_name : (range : ElementRange) → IsTrue (is_use_id range.id) → (name : List ℕ) → IsElementName name → name ≡ range_name range → ⊥
 no_range_name range form name (inl is) same =
-    has_it 91 range.id (decimal range.lo ++ 58 ∷ (decimal range.hi ++ 44 ∷ (decimal range.j ++ 93 ∷ []))) (subst (Lacks 91) same (id_plain name is))
+    has_byte 91 range.id (decimal range.lo ++ 58 ∷ (decimal range.hi ++ 44 ∷ (decimal range.j ++ 93 ∷ []))) (subst (Lacks 91) same (id_plain name is))
 no_range_name range form name (inr is) same =
     let last = decimal range.j ++ 93 ∷ [] in
     let two = decimal range.lo ++ 58 ∷ decimal range.hi in
@@ -269,7 +265,7 @@ no_range_name range form name (inr is) same =
     let numbers = one_cut 44 (decimal is.i) two (decimal is.j ++ 93 ∷ []) last (number_comma is.i)
     (lacks-append 44 (decimal range.lo) (58 ∷ decimal range.hi) (number_comma range.lo) (refl, number_comma range.hi))
     (inner.1 ∙ sym (append_assoc (decimal range.lo) (58 ∷ decimal range.hi) (44 ∷ last))) in
-    has_it 58 (decimal range.lo) (decimal range.hi) (subst (Lacks 58) numbers.0 (number_colon is.i))
+    has_byte 58 (decimal range.lo) (decimal range.hi) (subst (Lacks 58) numbers.0 (number_colon is.i))
 
 -- The path begins with the name of an element.
 pub record BeginsNamed (path : List ℕ) : Type 0 where

@@ -33,9 +33,10 @@ use Rattle.ext_reading.specs.Ranges.{grid_in}
 use Rattle.element_index.specs.declared.uses.UseElements.{UseElements}
 use Rattle.element_index.specs.GivenNames as given_names
 use Rattle.element_index.specs.GivenNames.{element_ids, is_among, gives_again}
+use Rattle.element_index.proofs.HoldLaws.{names_more}
 use Rattle.ext_reading.specs.Drafts.{Draft, elements_of, leads, all_lead, has_its_nodes, step}
 use Rattle.geo_core.proofs.OrientationLaws.{is_orientation-six_of}
-use Rattle.ext_reading.proofs.ElementIds.{names_push, new_use}
+use Rattle.ext_reading.proofs.ElementIds.{new_use}
 use Rattle.ext_reading.proofs.Outcomes.{Each, each_of_All}
 use Rattle.ext_reading.proofs.SoundRecords.{names_in}
 use Rattle.ext_reading.proofs.WrittenPaths.{is_among-not}
@@ -107,7 +108,7 @@ pub names_moved : (done : List ArrayUse) (used : ArrayUse) (uses : List ArrayUse
 names_moved done used uses =
     let others = given_names.names_in (map elements_of uses) in
     ap (λ (l : List UseElements). given_names.names_in l ++ others) (map-append elements_of done (used ∷ []))
-    ∙ (ap (λ (l : List (List ℕ)). l ++ others) (names_push (map elements_of done) (elements_of used))
+    ∙ (ap (λ (l : List (List ℕ)). l ++ others) (names_more (map elements_of done) (elements_of used))
     ∙ append_assoc (given_names.names_in (map elements_of done)) (element_ids used.id used.grid) others)
 
 pub new_here : (done : List ArrayUse) (used : ArrayUse) (uses : List ArrayUse) → Distinct (names_of_both done (used ∷ uses))

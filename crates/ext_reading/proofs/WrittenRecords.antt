@@ -41,6 +41,7 @@ use Rattle.ext_model.proofs.TextCuts.{Lacks, one_cut}
 use Rattle.ext_text.specs.WrittenTexts.{row_path, ranged}
 use Rattle.element_index.specs.declared.uses.UseElements.{UseElements}
 use Rattle.element_index.specs.GivenNames.{is_among}
+use Rattle.element_index.proofs.IdLaws.{has_byte}
 use Rattle.ext_reading.specs.declared.lines.ElementRange.{ElementRange}
 use Rattle.ext_reading.specs.Parts.{is_slash, is_path}
 use Rattle.ext_reading.specs.Drafts.{elements_of, leads, has_its_nodes, IsElementRange, range_path, second_of, count_of}
@@ -51,7 +52,7 @@ use Rattle.ext_reading.proofs.RowPaths.{all_whole, indexed_lacks, split_bytes, j
 use Rattle.ext_reading.proofs.RowPaths.{path_rest, range_named}
 use Rattle.ext_reading.proofs.SoundRecords.{names_in}
 use Rattle.ext_reading.proofs.UseNames.{raised-is}
-use Rattle.ext_reading.proofs.WrittenNames.{has_it, range_back, row_path-range, name_whole, BeginsNamed, no_range}
+use Rattle.ext_reading.proofs.WrittenNames.{range_back, row_path-range, name_whole, BeginsNamed, no_range}
 use Rattle.ext_reading.proofs.WrittenPaths.{is_among-In, is_path-text, bytes_of_path, leads-text, is_path-name, leads-name, no_slash, slashed}
 use Rattle.ext_reading.proofs.WrittenWords.{IsMeasured, IsWrittenTerm, node_name_word, word_bytes}
 use Rattle.ext_reading.proofs.WrittenLines.{IsWrittenFet, IsReadRow}
@@ -238,7 +239,7 @@ alone_read ext second count lawful is form bytes one =
 -- the index of an indexed path that leads
 index_fits : (name id : List ℕ) (i j : ℤ) → IsTrue (is_use_id id) → IsElementName name → indexed_name id i j ≡ name → FitsSigned w32 i
 index_fits name id i j form (inl is) same =
-    absurd (has_it 91 id (decimal i ++ 44 ∷ (decimal j ++ 93 ∷ [])) (subst (Lacks 91) (sym same) (id_plain name is)))
+    absurd (has_byte 91 id (decimal i ++ 44 ∷ (decimal j ++ 93 ∷ [])) (subst (Lacks 91) (sym same) (id_plain name is)))
 index_fits name id i j form (inr is) same =
     let told = indexed_told id is.id i j is.i is.j form is.id_form (same ∙ is.text) in
     subst (FitsSigned w32) (sym told.1) is.i_fits

@@ -1,5 +1,5 @@
 -- The tests of covering and of having a square and the facts say the same, what a common part covers, and what lies within what.
-use Rattle.std.proofs.Common.{◌≡◌, true, ◌≤ℤ◌, ◌<ℤ◌, arith}
+use Rattle.std.proofs.Common.{◌≡◌, true, ◌≤ℤ◌, ◌<ℤ◌, arith, pos, ◌-ℤ◌}
 use Rattle.std.proofs.lemmas.Int.{ints, clamps}
 use Rattle.finite_sets.proofs.Orders.{at_most-trans, equal_from_both}
 use Rattle.geo_core.specs.declared.squares.Square.{Square}
@@ -210,3 +210,11 @@ covers_widened area square covers =
       above_ylo = omega (arith, ints);
       below_yhi = omega (arith, ints);
     }
+
+-- a rectangle whose squares an area covers lies within it
+pub filled_within : (core area : Rect) → IsProper core → ((square : Square) → Covers core square → Covers area square) → LiesWithin core area
+filled_within core area proper each =
+    let low : Covers area (record { x = core.xlo; y = core.ylo }) = each (record { x = core.xlo; y = core.ylo }) (omega (arith, ints)) in
+    let high : Covers area (record { x = core.xhi -ℤ pos 1; y = core.yhi -ℤ pos 1 }) =
+    each (record { x = core.xhi -ℤ pos 1; y = core.yhi -ℤ pos 1 }) (omega (arith, ints)) in
+    omega (arith, ints)

@@ -30,7 +30,7 @@ pub AreOneNode-sym : (connects : ℕ → ℕ → Bool) (layout : Layout) → Con
 AreOneNode-sym connects layout symmetric chain = Chain-back (AreLinked-sym connects layout symmetric) chain
 
 -- the measures of a set are determined
-same_measures : (classes : List Class) (layout : Layout) (Within : Place → Type 0) (ms ns : List (ℤ × ℤ)) → AreMeasures classes layout Within ms
+pub same_measures : (classes : List Class) (layout : Layout) (Within : Place → Type 0) (ms ns : List (ℤ × ℤ)) → AreMeasures classes layout Within ms
     → AreMeasures classes layout Within ns → ms ≡ ns
 same_measures [] layout Within [] [] p q = refl
 same_measures [] layout Within [] (n ∷ ns) p q = absurd q

@@ -17,13 +17,13 @@ use Rattle.mag_text.specs.Drafts.{has_id}
 abbrev is_word : List ℕ → Vec ℕ Global → Bool
 is_word id word = bytes_eq id word.items
 
-or_swapped : (x y : Bool) → (x || y) ≡ (y || (x || false))
+pub or_swapped : (x y : Bool) → (x || y) ≡ (y || (x || false))
 or_swapped true true = refl
 or_swapped true false = refl
 or_swapped false true = refl
 or_swapped false false = refl
 
-or_same : (x y : Bool) → (x ≡ true → y ≡ true) → y ≡ (y || (x || false))
+pub or_same : (x y : Bool) → (x ≡ true → y ≡ true) → y ≡ (y || (x || false))
 or_same true true implies = refl
 or_same true false implies = implies refl
 or_same false true implies = refl

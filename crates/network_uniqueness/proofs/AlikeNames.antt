@@ -8,6 +8,7 @@ use Rattle.switch_net.specs.Names.{HasName, NameOneNodeEach}
 use Rattle.vector_files.specs.LineForms.{node_named}
 use Rattle.vector_files.specs.NodeLookup.{IsLikeNamed, ground_name, is_either_node, power_name}
 use Rattle.vector_files.proofs.Rails.{rail_found}
+use Rattle.vector_runs.proofs.RailStates.{name_stands}
 use Rattle.network_uniqueness.specs.Networks.{NameAlike}
 
 -- a name with a node is found
@@ -23,17 +24,6 @@ is_found (x ∷ names) one name v has = elim (cases_Bool (bytes_eq x.0 name)) [
   ]
 ]
 
--- and what is found is its node
-pub has_found : (names : List (List ℕ × ℕ)) (name : List ℕ) (v : ℕ) → node_named names name ≡ Some v → HasName names v name
-has_found [] name v found = absurd (let no : ⊥ = cc in no)
-has_found (x ∷ names) name v found = elim (cases_Bool (bytes_eq x.0 name)) [
-  | inl same ↦
-      let named : x.0 ≡ name = (bytes_eq-Decides x.0 name).0 same in
-      let node : x.1 ≡ v = (let here = rw same at found in cc) in
-      inl (ap (λ (n : List ℕ). (n, x.1)) named ∙ ap (λ (u : ℕ). (name, u)) node)
-  | inr away ↦ inr (has_found names name v (rw away at found))
-]
-
 -- of two searches of which each finds what the other does, both find one thing
 same_found : (a b : Option ℕ) → ((v : ℕ) → a ≡ Some v → b ≡ Some v) → ((v : ℕ) → b ≡ Some v → a ≡ Some v) → a ≡ b
 same_found None None there back = refl
@@ -43,8 +33,8 @@ same_found (Some v) b there back = sym (there v refl)
 module _ (names others : List (List ℕ × ℕ)) (one : NameOneNodeEach names) (also : NameOneNodeEach others) (alike : NameAlike names others) where
   same_node : (name : List ℕ) → node_named names name ≡ node_named others name
   same_node name = same_found (node_named names name) (node_named others name)
-      (λ v found. is_found others also name v ((alike name v).0 (has_found names name v found)))
-      (λ v found. is_found names one name v ((alike name v).1 (has_found others name v found)))
+      (λ v found. is_found others also name v ((alike name v).0 (name_stands names name v found)))
+      (λ v found. is_found names one name v ((alike name v).1 (name_stands others name v found)))
 
   pub like_named : IsLikeNamed names others
   like_named = record {

@@ -1,5 +1,5 @@
 -- Sim records have one network: a node that has a name in the one has that number in the other.
-use Rattle.std.proofs.Common.{◌≡◌, inl, inr, ◌<◌, ◌≤◌, ℕ, zero, suc, Bool, true, false, List, [], ◌∷◌, ◌++◌, length, refl, sym, ◌∙◌, ap, subst, arith}
+use Rattle.std.proofs.Common.{◌≡◌, inl, inr, ◌<◌, ◌≤◌, ℕ, zero, suc, Bool, true, false, List, [], ◌∷◌, length, refl, sym, ◌∙◌, ap, subst, arith}
 use Rattle.std.specs.Prelude.{Option, Some, slice_get}
 use Rattle.std.proofs.lemmas.Bool.{cases_lt, cases_order}
 use Rattle.std.proofs.lemmas.List.{get_or_default, same_lists}
@@ -8,7 +8,7 @@ use Rattle.finite_sets.specs.Chain.Chain.{stay}
 use Rattle.finite_sets.specs.Least.{IsLeast}
 use Rattle.finite_sets.specs.Lists.{In}
 use Rattle.finite_sets.proofs.Leasts.{IsLeast-iff}
-use Rattle.finite_sets.proofs.Members.{In-append_cases, In-append_left, In-append_right, In-index}
+use Rattle.finite_sets.proofs.Members.{In-index}
 use Rattle.switch_net.specs.declared.switches.Switch.{Switch}
 use Rattle.switch_net.specs.declared.switches.SwitchKind.{SwitchKind}
 use Rattle.switch_net.specs.declared.switches.SwitchKind.TheVariants.{N, P, D}
@@ -16,9 +16,10 @@ use Rattle.switch_net.specs.Names.{HasName, NameNodesBelow, NameOneNodeEach}
 use Rattle.switch_net.specs.Network.{Network}
 use Rattle.switch_net.specs.Path.{is_input}
 use Rattle.switch_net.specs.SimRecords.{AreOfOneNode, AreTransistors, IsLetterOf, IsNetworkOf, SimRecords, TransistorLine}
-use Rattle.switch_net.specs.SimRecords.{names_of, names_of_aliases, names_of_transistors}
 use Rattle.sim_networks.specs.Numbering.{arrivals}
 use Rattle.sim_networks.specs.SimNetworks.{StandsAt}
+use Rattle.sim_networks.proofs.NodeLaws.{to_arrivals}
+use Rattle.vector_runs.proofs.RailStates.{same_networks}
 use Rattle.network_uniqueness.specs.Networks.{IsNumbered, NameAlike}
 
 -- ---- names
@@ -30,19 +31,6 @@ one_node_each records net names is name v w here also = (is.classes name name v 
 -- the node of a name is one of the network
 pub nodes_below : (records : SimRecords) (net : Network) (names : List (List ℕ × ℕ)) → IsNetworkOf records net names → NameNodesBelow net.nodes names
 nodes_below records net names is name v here = (is.stands name v here).1
-
--- each name of the records is met in the order by which nodes are numbered
-is_met : (records : SimRecords) (name : List ℕ) → In name (names_of records) → In name (arrivals records)
-is_met records name among =
-    let fets = names_of_transistors records.transistors in
-    let aliases = names_of_aliases records.aliases in
-    elim (In-append_cases name (fets ++ records.capacitors) aliases among) [
-      | inl front ↦ In-append_left name (records.capacitors ++ fets) aliases (elim (In-append_cases name fets records.capacitors front) [
-        | inl fet ↦ In-append_right name records.capacitors fets fet
-        | inr cap ↦ In-append_left name records.capacitors fets cap
-      ])
-      | inr alias ↦ In-append_right name (records.capacitors ++ fets) aliases alias
-    ]
 
 -- one name at one place
 one_name : (found : Option (List ℕ)) (a b : List ℕ) → found ≡ Some a → found ≡ Some b → a ≡ b
@@ -103,7 +91,7 @@ module _ (records : SimRecords) (net other : Network) (names others : List (List
   -- a name of a node stands somewhere
   met_somewhere : (v : ℕ) (name : List ℕ) → HasName names v name → (place : ℕ) × IsMetAt records names v place
   met_somewhere v name has =
-      let (place, (within, is)) = In-index name (arrivals records) (is_met records name (p.is_network.stands name v has).0) in
+      let (place, (within, is)) = In-index name (arrivals records) (to_arrivals records name (p.is_network.stands name v has).0) in
       (place, (name, slice_get-get_or (arrivals records) place [] within ∙ ap (λ (n : List ℕ). Some n) (is []), has))
 
 module _ (records : SimRecords) (net other : Network) (names others : List (List ℕ × ℕ)) (p : IsNumbered records net names)
@@ -229,11 +217,6 @@ same_tests true b there back = sym (there refl)
 same_tests false true there back = back refl
 same_tests false false there back = refl
 
-same_parts : (a b : Network) → a.nodes ≡ b.nodes → a.switches ≡ b.switches → a.sizes ≡ b.sizes → a.inputs ≡ b.inputs → a ≡ b
-same_parts a b nodes switches sizes inputs =
-    let made : Network = record { nodes = a.nodes; switches = a.switches; sizes = a.sizes; inputs = a.inputs } in
-    let is : made ≡ b = rw (nodes, switches, sizes, inputs) refl in is
-
 module _ (records : SimRecords) (net other : Network) (names others : List (List ℕ × ℕ)) (p : IsNumbered records net names)
     (q : IsNumbered records other others) where
   -- an input of the one network is one of the other
@@ -266,4 +249,4 @@ module _ (records : SimRecords) (net other : Network) (names others : List (List
       let same : is_input net k ≡ is_input other k = same_tests (is_input net k) (is_input other k)
       (input_there records net other names others p q k within inside) (input_there records other net others names q p k inside within) in
       rw (get_or_default net.inputs k d false below, get_or_default other.inputs k d false held) same) in
-      same_parts net other nodes switches sizes inputs
+      same_networks net other nodes switches sizes inputs

@@ -1,40 +1,24 @@
 -- A layout with labels has one list of node records.
-use Rattle.std.proofs.Common.{◌≡◌, ◌<◌, ℕ, ℤ, pos, List, [], ◌∷◌, length, get_or, drop, refl, sym, ◌∙◌, ap, subst}
+use Rattle.std.proofs.Common.{◌≡◌, ◌<◌, ℕ, pos, List, [], length, get_or, drop, sym, ◌∙◌, ap, subst}
 use Rattle.std.proofs.lemmas.List.{same_lists}
 use Rattle.finite_sets.specs.Lists.{In}
 use Rattle.finite_sets.proofs.InOrder.{same_by_order}
 use Rattle.finite_sets.proofs.Members.{In-index}
 use Rattle.finite_sets.proofs.Pairs.{Pairwise-from_AllPairs}
-use Rattle.finite_sets.proofs.Totals.{Total-unique}
 use Rattle.tech_model.specs.declared.raw.Label.{Label}
 use Rattle.tech_model.specs.declared.raw.RawTech.{RawTech}
 use Rattle.ext_model.specs.declared.records.NodeRec.{NodeRec}
 use Rattle.ext_model.specs.RecordNames.{names_of}
 use Rattle.full_names.proofs.ListOrders.{StandsBefore, names_in_order, same_in_order}
 use Rattle.own_record_laws.specs.CellNodes.LayoutModel.Layouts.{Layout}
-use Rattle.own_record_laws.specs.CellNodes.LayoutModel.Measures.{area_at, perimeter_at}
-use Rattle.own_record_laws.specs.CellNodes.LayoutModel.Nodes.{AreMeasures}
 use Rattle.own_record_laws.specs.CellNodes.LayoutModel.Places.{Place, IsBefore}
-use Rattle.own_record_laws.specs.CellNodes.LayoutModel.Technologies.{Class, capacitance, rules_of}
+use Rattle.own_record_laws.specs.CellNodes.LayoutModel.Technologies.{capacitance, rules_of}
 use Rattle.own_record_laws.specs.CellNodes.NodeRecords.{AreNodeRecords, IsNodeRecord}
 use Rattle.own_record_laws.specs.Names.NamedNodes.{AreOneNamedNode}
 use Rattle.own_record_laws.proofs.CellNodes.LayoutModel.PlaceLaws.{IsBefore-irreflexive, IsBefore-trans, IsNoLater-antisym}
 use Rattle.own_record_laws.proofs.CellNodes.NodePlaces.{AreOneNamedNode-sym}
+use Rattle.own_record_laws.proofs.CellNodes.LayoutModel.NodeLaws.{same_measures}
 use Rattle.own_record_uniqueness.specs.OwnUniqueness.{NodeRecordsAreUnique}
-
--- a set has one list of areas and perimeters
-same_measures : (classes : List Class) (layout : Layout) (Within : Place → Type 0) (ms ns : List (ℤ × ℤ)) → AreMeasures classes layout Within ms
-    → AreMeasures classes layout Within ns → ms ≡ ns
-same_measures [] layout Within [] [] p q = refl
-same_measures [] layout Within [] (n ∷ ns) p q = absurd q
-same_measures [] layout Within (m ∷ ms) ns p q = absurd p
-same_measures (class ∷ classes) layout Within [] ns p q = absurd p
-same_measures (class ∷ classes) layout Within (m ∷ ms) [] p q = absurd q
-same_measures (class ∷ classes) layout Within (m ∷ ms) (n ∷ ns) p q =
-    let area = Total-unique Within (area_at class.contains layout) m.0 n.0 p.0 q.0 in
-    let perimeter = Total-unique Within (perimeter_at class.contains layout) m.1 n.1 p.1 q.1 in
-    let rest = same_measures classes layout Within ms ns p.2 q.2 in
-    (λ i. (area i, perimeter i) ∷ rest i)
 
 -- a place and a record for what is read past the end
 abbrev pub origin : Place

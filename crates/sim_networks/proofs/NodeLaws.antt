@@ -55,7 +55,7 @@ alias_names (one ∷ aliases) pair (inl same) =
 alias_names (one ∷ aliases) pair (inr here) = let rest = alias_names aliases pair here in (inr (inr rest.0), inr (inr rest.1))
 
 -- the names of the records, in one order and in the other
-to_arrivals : (records : SimRecords) (name : List ℕ) → In name (names_of records) → In name (arrivals records)
+pub to_arrivals : (records : SimRecords) (name : List ℕ) → In name (names_of records) → In name (arrivals records)
 to_arrivals records name here =
     let fets = names_of_transistors records.transistors in
     let caps = records.capacitors in

@@ -17,11 +17,11 @@ use Rattle.vector_runs.specs.declared.replies.VecReply.{VecReply}
 use Rattle.vector_runs.specs.Runs.{EndsRun, LinesRun, Standing, begun_in, lines_of, phase_reply}
 use Rattle.vector_runs.proofs.LineOutcomes.{IsSoundAt, line_sound, same_line, same_lines}
 use Rattle.vector_runs.proofs.Starts.{same_starts}
+use Rattle.vector_runs.proofs.RailStates.{name_stands}
 use Rattle.stack_runs.specs.declared.outcomes.Outcome.{Outcome}
 use Rattle.stack_runs.specs.Outcomes.{IsOutcome, is_one, is_zero}
 use Rattle.stack_runs.specs.StackVectors.{column_lines, column_name, lines_below, row_lines, row_name, set_named, stack_vectors}
 use Rattle.network_uniqueness.specs.Networks.{NameAlike}
-use Rattle.network_uniqueness.proofs.AlikeNames.{has_found}
 use Rattle.network_uniqueness.proofs.SameReplies.{begins_alike}
 
 -- ---- the vectors
@@ -55,7 +55,7 @@ module _ (nodes : ℕ) (names : List (List ℕ × ℕ)) (below : NameNodesBelow 
     where
       step : (found : Option ℕ) → node_named names name ≡ found → All (Fits nodes) (option_map_or (λ v. (0, Set v level) ∷ []) found [])
       step None is = All-nil (Fits nodes)
-      step (Some v) is = All-cons (Fits nodes) (0, Set v level) [] (below name v (has_found names name v is), refl) (All-nil (Fits nodes))
+      step (Some v) is = All-cons (Fits nodes) (0, Set v level) [] (below name v (name_stands names name v is), refl) (All-nil (Fits nodes))
 
   below_fits : (f : ℕ → List (ℕ × VecLine)) → ((j : ℕ) → All (Fits nodes) (f j)) → (n : ℕ) → All (Fits nodes) (lines_below f n)
   below_fits f fits zero = All-nil (Fits nodes)

@@ -121,7 +121,7 @@ rails_below nodes names read rails within same power ground =
     }
 
 -- the node of a name stands beside it
-name_stands : (names : List (List ℕ × ℕ)) (name : List ℕ) (v : ℕ) → node_named names name ≡ Some v → HasName names v name
+pub name_stands : (names : List (List ℕ × ℕ)) (name : List ℕ) (v : ℕ) → node_named names name ≡ Some v → HasName names v name
 name_stands [] name v is = absurd (cc)
 name_stands (named ∷ names) name v is = elim (cases_Bool (bytes_eq named.0 name)) [
   | inl same ↦
@@ -166,7 +166,7 @@ same_bits true false first second = sym (second.1 (first.0 refl))
 same_bits false true first second = first.1 (second.0 refl)
 
 -- networks with the same nodes, switches, sizes and inputs are one
-same_networks : (a b : Network) → a.nodes ≡ b.nodes → a.switches ≡ b.switches → a.sizes ≡ b.sizes → a.inputs ≡ b.inputs → a ≡ b
+pub same_networks : (a b : Network) → a.nodes ≡ b.nodes → a.switches ≡ b.switches → a.sizes ≡ b.sizes → a.inputs ≡ b.inputs → a ≡ b
 same_networks a b nodes switches sizes inputs =
     let network : ℕ → List Switch → List ℕ → List Bool → Network = λ n w z i. record { nodes = n; switches = w; sizes = z; inputs = i } in
     ap (λ (n : ℕ). network n a.switches a.sizes a.inputs) nodes ∙ ap (λ (w : List Switch). network b.nodes w a.sizes a.inputs) switches

@@ -1,6 +1,7 @@
 use Rattle.std.proofs.Common.{length}
 use Rattle.cell_library.specs.Libraries.{seen}
-use Rattle.cell_loading.proofs.KnownLaws.{count_seen, full_either_way}
+use Rattle.cell_library.proofs.ViewLaws.{count_seen}
+use Rattle.cell_loading.proofs.KnownLaws.{full_either_way}
 use Rattle.cell_loading.proofs.cell_files.is_full.Goals as goal
 
 pub returns : goal.returns

@@ -1,30 +1,10 @@
 -- The types of a cell's paint are those of its technology, each on its plane.
-use Rattle.std.proofs.Common.{◌≡◌, ◌≢◌, inl, inr, ◌≤◌, ℕ, length, sym, ◌∙◌, subst, arith}
-use Rattle.std.specs.Prelude.{IsTrue}
-use Rattle.std.proofs.lemmas.Bool.{cases_lt}
+use Rattle.std.proofs.Common.{◌≤◌, length, sym, arith}
 use Rattle.tech_model.specs.declared.limits.TheConstants.{MOST_PLANES}
-use Rattle.tech_model.specs.declared.raw.RawTech.{RawTech}
-use Rattle.tech_model.specs.ColumnForms.{IsOnPlane}
-use Rattle.tech_model.specs.Types.{is_type, plane_of}
-use Rattle.cell_paint.specs.Painting.{kinds_on}
-use Rattle.cell_paint.specs.Paints.{layout_of}
-use Rattle.cell_paint.proofs.ColumnsLaws.{column_type}
-use Rattle.cell_paint.proofs.PlaneLaws.{space_past}
+use Rattle.cell_paint.proofs.PaintTypes.{paint_types}
 use Rattle.transistor_tests.proofs.fet_tests.regions_in.Goals as goal
 
-not_space : (raw : RawTech) (plane kind : ℕ) → IsOnPlane raw plane kind → kind ≢ 0 → IsTrue (is_type raw kind) × (plane_of raw kind ≡ plane)
-not_space raw plane kind (inl space) some = absurd (some space)
-not_space raw plane kind (inr type) some = type
-
 pub regions-requires-clause-types : goal.regions-requires-clause-types
-regions-requires-clause-types c = λ plane square kind is some.
-    let raw = c.args.tech.now in
-    let paint = c.args.cell.now in
-    let few : length paint.planes ≤ MOST_PLANES = omega (arith, c.requires.planes, c.raw.ensures.well_formed.planes_limit) in
-    let value : kinds_on (layout_of paint) plane square ≡ kind = cc in
-    elim (cases_lt plane MOST_PLANES) [
-      | inl below ↦
-          not_space raw plane kind (subst (IsOnPlane raw plane) (column_type (layout_of paint) square plane below ∙ value)
-          ((c.box_of.ensures.sound.types raw (sym c.requires.kinds) square).0 plane)) some
-      | inr past ↦ absurd (some (sym value ∙ space_past paint.planes plane square (omega arith)))
-    ]
+regions-requires-clause-types c =
+    let few : length c.args.cell.now.planes ≤ MOST_PLANES = omega (arith, c.requires.planes, c.raw.ensures.well_formed.planes_limit) in
+    paint_types c.args.tech.now c.args.cell.now (sym c.requires.kinds) few c.box_of.ensures.sound
