@@ -1,14 +1,13 @@
 -- What `cif` answers in each case.
-use Rattle.std.proofs.Common.{◌≡◌, ◌∙◌, ◌<◌, ◌≤◌, inl, inr, ℕ, List, [], ◌∷◌, length, refl, sym, ap, subst}
+use Rattle.std.proofs.Common.{◌≡◌, ◌∙◌, ◌<◌, ◌≤◌, inl, inr, ℕ, List, [], ◌∷◌, length, refl, ap}
 use Rattle.std.specs.Prelude.{codes}
 use Rattle.session_model.specs.declared.answer.Answer.{Answer}
-use Rattle.session_model.specs.declared.report.ReportLine.{ReportLine}
 use Rattle.session_model.specs.Effects.{AnswersAlone}
 use Rattle.cell_library.specs.Views.{LibraryView}
 use Rattle.cif_writing.specs.declared.limits.TheConstants.{LONGEST_TEXT}
 use Rattle.cif_writing.specs.Symbols.{IsCifText}
 use Rattle.line_answers.proofs.AnswerLaws.{answers_refusal, answers_with}
-use Rattle.line_answers.specs.LineEffects.{IsOfInside, reply}
+use Rattle.line_answers.specs.LineEffects.{reply}
 use Rattle.line_answers.specs.Refusals.{refusal_line, too_many}
 use Rattle.cif_commands.specs.CommandCif.{CifMeans, cif_store, written_text}
 
@@ -29,7 +28,3 @@ module _ (number : ℕ) (library : LibraryView) (cell : ℕ) (name : List ℕ) (
   text_refused long lines stores =
       answers_refusal (CifMeans number library cell name) number tt (too_many (codes "Text")) [] answer lines stores
       (inr (record { long = long; is = refl }))
-
--- no shelf has to answer for the reply
-pub reply_alone_inside : (text : List ℕ) (lines : List ReportLine) → lines ≡ reply text ∷ [] → IsOfInside lines
-reply_alone_inside text lines are = subst (λ (all : List ReportLine). IsOfInside all) (sym are) (record { present = refl; fits = refl })

@@ -1,5 +1,5 @@
 -- What items give in the instances of their symbol: one by one, and together.
-use Rattle.std.proofs.Common.{◌≡◌, ◌⊎◌, ℕ, ◌+◌, ◌<◌, List, [], ◌∷◌, ◌++◌, inl, inr, length, map, take, get_or, refl, sym, ◌∙◌, ap, subst}
+use Rattle.std.proofs.Common.{◌≡◌, ◌⊎◌, ℕ, ◌+◌, ◌<◌, List, [], ◌∷◌, ◌++◌, inl, inr, length, map, take, get_or, sym, ◌∙◌, ap, subst}
 use Rattle.std.specs.Prelude.{All, slice_set}
 use Rattle.std.proofs.lemmas.List.{take_more}
 use Rattle.finite_sets.specs.Lists.{In}
@@ -13,7 +13,7 @@ use Rattle.cif_model.specs.declared.cifs.CifItem.{CifItem}
 use Rattle.cif_model.specs.declared.cifs.CifItem.TheVariants.{Area, Call}
 use Rattle.cif_model.specs.declared.cifs.CifMove.{CifMove}
 use Rattle.cif_model.specs.Meanings.{moved}
-use Rattle.cif_expansion.specs.Drawings.{list_at, AreAdded, IsBoxOf, IsCallOf, IsDrawn, IsRangeFault, LeavesRange, LeavesRangeIn}
+use Rattle.cif_expansion.specs.Drawings.{list_at, AreAdded, IsBoxOf, IsCallOf, IsDrawn, IsRangeFault, LeavesRange}
 use Rattle.cif_expansion.specs.declared.faults.ExpansionFault.{ExpansionFault}
 use Rattle.cif_expansion.specs.declared.faults.ExpansionFault.TheVariants.{TooMany, OutOfRange, Memory}
 use Rattle.cif_expansion.specs.Reach.{LiesInRange, MovesWithin, call_reach}
@@ -63,15 +63,6 @@ call_cases items more placements symbol called is = elim (In-append_cases (Call 
   | inl first ↦ inl (record { moves = is.moves; placement = is.placement; is_item = first; is_placement = is.is_placement; is_composed = is.is_composed })
   | inr second ↦ inr (record { moves = is.moves; placement = is.placement; is_item = second; is_placement = is.is_placement; is_composed = is.is_composed })
 ]
-
--- no items give nothing
-pub drawn-none : (placements : List Transform) (boxes : List (List Rect)) (waiting : List (List Transform)) → IsDrawn [] placements boxes boxes waiting waiting
-drawn-none placements boxes waiting = record {
-  boxes_are = added-none (IsBoxOf [] placements) boxes (λ layer box is. absurd is.is_item);
-  calls_are = added-none (IsCallOf [] placements) waiting (λ symbol called is. absurd is.is_item);
-  in_range = λ layer box is. absurd is.is_item;
-  near = λ symbol moves there. absurd there;
-}
 
 -- first some items, and then more
 pub drawn-more : (items more : List CifItem) (placements : List Transform) (boxes boxes' boxes'' : List (List Rect)) (waiting waiting' waiting'' : List (List Transform))
@@ -155,15 +146,6 @@ drawn-area layer area placements boxes boxes' waiting below is lie =
           subst LiesInRange source.1.1 (All-In (λ placement. LiesInRange (rect_image placement area)) placements source.0 lie source.1.0);
       near = λ symbol moves there. let same = one_item (Area layer area) (Call symbol moves) there in cc;
     }
-
--- where a box leaves the range in an instance
-pub outside-area : (layer : ℕ) (area : Rect) (placements : List Transform) → LeavesRangeIn placements area → LeavesRange (Area layer area ∷ []) placements
-outside-area layer area placements outside = record {
-  layer = layer;
-  box = rect_image outside.placement area;
-  is_box = record { area = area; placement = outside.placement; is_item = inl refl; is_placement = outside.is_placement; is_image = refl };
-  is_outside = outside.is_outside;
-}
 
 moves_of_call : (symbol place : ℕ) (moves steps : List CifMove) → Call symbol moves ≡ Call place steps → (symbol ≡ place) × (moves ≡ steps)
 moves_of_call symbol place moves steps same = (cc, cc)

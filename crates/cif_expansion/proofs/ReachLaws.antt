@@ -1,18 +1,12 @@
 -- How far transforms move: a composed one no farther than both together.
-use Rattle.std.proofs.Common.{ℕ, ◌+◌, ◌<◌, ◌≤◌, ℤ, pos, negsuc, refl, subst, arith}
+use Rattle.std.proofs.Common.{ℕ, ◌+◌, ◌≤◌, ℤ, refl, subst, arith}
 use Rattle.std.proofs.lemmas.Int.{ints}
-use Rattle.std.specs.Int.RustNames.{unsigned_abs}
 use Rattle.geo_core.specs.declared.orients.Orient.{Orient}
 use Rattle.geo_core.specs.declared.orients.Orient.TheVariants.{R0}
 use Rattle.geo_core.specs.declared.transforms.Transform.{Transform}
 use Rattle.geo_core.specs.Images.{composed, identity}
 use Rattle.geo_core.proofs.ImageLaws.{across, upward, point_x_at, point_y_at}
 use Rattle.cif_expansion.specs.Reach.{IsAtMost, MovesWithin}
-
--- what is less than this in absolute value is at most this
-pub at_most_abs : (n : ℕ) (z : ℤ) → unsigned_abs z < n → IsAtMost n z
-at_most_abs n (pos k) less = record { low = omega (arith, ints); high = omega (arith, ints) }
-at_most_abs n (negsuc k) less = record { low = omega (arith, ints); high = omega (arith, ints) }
 
 -- and what is at most this is at most more
 pub at_most_weaker : (m n : ℕ) (z : ℤ) → m ≤ n → IsAtMost m z → IsAtMost n z

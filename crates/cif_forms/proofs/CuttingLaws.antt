@@ -57,35 +57,6 @@ last-at text e = λ line.
 
 -- ---- reading
 
--- a command without fault, and what stands behind it
-pub read-more : {S F : Type 0} (step : S → List ℕ → Bool → Result S F) (state next : S) (line : ℕ) (text command rest : List ℕ)
-    → IsFirstCommand text command rest → step state command true ≡ Ok next
-    → first_faulty_part_or line_of_command (step_on step) state (commands_from line (slice_split is_semicolon text))
-    ≡ first_faulty_part_or line_of_command (step_on step) next (commands_from (line + line_ends command) (slice_split is_semicolon rest))
-read-more step state next line text command rest cut fine =
-    ap (first_faulty_part_or line_of_command (step_on step) state) (cut line)
-    ∙ ap (λ found. unless_faulty (line + line_ends_before command) found
-    (λ after. first_faulty_part_or line_of_command (step_on step) after (commands_from (line + line_ends command) (slice_split is_semicolon rest)))) fine
-
--- a faulty command
-pub read-faulty : {S F : Type 0} (step : S → List ℕ → Bool → Result S F) (state : S) (line : ℕ) (text command rest : List ℕ) (at : At F)
-    → IsFirstCommand text command rest
-    → step state command true ≡ Err at.fault → at.line ≡ line + line_ends_before command
-    → first_faulty_part_or line_of_command (step_on step) state (commands_from line (slice_split is_semicolon text)) ≡ Err at
-read-faulty step state line text command rest at cut faulty there =
-    ap (first_faulty_part_or line_of_command (step_on step) state) (cut line)
-    ∙ (ap (λ found. unless_faulty (line + line_ends_before command) found
-    (λ after. first_faulty_part_or line_of_command (step_on step) after (commands_from (line + line_ends command) (slice_split is_semicolon rest)))) faulty
-    ∙ ap (λ (k : ℕ). Err (fault_at k at.fault)) (sym there))
-
--- the last command, without fault
-pub last-fine : {S F : Type 0} (step : S → List ℕ → Bool → Result S F) (state next : S) (line : ℕ) (text : List ℕ)
-    → IsLastCommand text → step state text false ≡ Ok next
-    → first_faulty_part_or line_of_command (step_on step) state (commands_from line (slice_split is_semicolon text)) ≡ Ok next
-last-fine step state next line text last fine =
-    ap (first_faulty_part_or line_of_command (step_on step) state) (last line)
-    ∙ ap (λ found. unless_faulty (line + line_ends_before text) found (λ after. Ok after)) fine
-
 -- the last command, with a fault
 pub last-faulty : {S F : Type 0} (step : S → List ℕ → Bool → Result S F) (state : S) (line : ℕ) (text : List ℕ) (at : At F) → IsLastCommand text
     → step state text false ≡ Err at.fault → at.line ≡ line + line_ends_before text

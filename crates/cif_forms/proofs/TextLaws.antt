@@ -1,8 +1,7 @@
 -- What is written is cut into the commands that it was made of.
 use Rattle.std.proofs.Common.{◌≡◌, ℕ, ◌<◌, ◌==◌, ◌&&◌, true, false, cond, List, [], ◌∷◌, ◌++◌, length, refl, sym, ap, ◌∙◌, arith, inl, inr}
-use Rattle.std.specs.List.{slice_split, onto_first, All}
+use Rattle.std.specs.List.{onto_first}
 use Rattle.std.proofs.lemmas.Bool.{and_parts, cases_Bool}
-use Rattle.std.proofs.lemmas.List.Splits.{slice_split_at}
 use Rattle.cif_forms.specs.declared.comments.Place.{Place}
 use Rattle.cif_forms.specs.declared.comments.Place.TheVariants.{Before, ReadOver, Within}
 use Rattle.cif_forms.specs.Bytes.{is_semicolon, is_numeral, is_blank}
@@ -51,17 +50,6 @@ without_comments-plain text none = shown_from-plain Before text none
 abbrev pub joined : List (List ℕ) → List ℕ → List ℕ
 joined [] tail = tail
 joined (command ∷ commands) tail = command ++ 59 ∷ joined commands tail
-
-abbrev pub AreCommands : List (List ℕ) → Type 0
-AreCommands [] = Unit {0}
-AreCommands (command ∷ commands) = All (λ byte. is_semicolon byte ≡ false) command × AreCommands commands
-
--- the parts of such a text are the commands and the tail
-pub parts-joined : (commands : List (List ℕ)) (tail : List ℕ) → AreCommands commands
-    → slice_split is_semicolon (joined commands tail) ≡ commands ++ slice_split is_semicolon tail
-parts-joined [] tail all = refl
-parts-joined (command ∷ commands) tail all =
-    slice_split_at is_semicolon command 59 (joined commands tail) all.0 refl ∙ ap (λ parts. command ∷ parts) (parts-joined commands tail all.1)
 
 -- ---- words
 

@@ -10,14 +10,6 @@ use Rattle.geo_core.specs.Areas.{IsNear, LiesWithin}
 use Rattle.cell_library.specs.CellTree.Hulls.{SpansInRange}
 use Rattle.drc_check.specs.Bands.{AreBandsBelow}
 
--- below the hull there is no square of it
-pub no_band : (hull : Rect) → AreBandsBelow hull hull.ylo []
-no_band hull = record {
-  near = λ band among. absurd among;
-  within = λ band among. absurd among;
-  whole = λ square covers below. let above : hull.ylo ≤ℤ square.y = covers.above_ylo in absurd (omega (arith, ints));
-}
-
 -- the rows of a hull between two of its rows
 abbrev pub rows_between : Rect → ℤ → ℤ → Rect
 rows_between hull low high = record { xlo = hull.xlo; ylo = low; xhi = hull.xhi; yhi = high }

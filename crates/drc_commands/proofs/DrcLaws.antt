@@ -14,7 +14,7 @@ use Rattle.cell_library.specs.Views.{LibraryView}
 use Rattle.drc_check.specs.declared.violations.Violation.{Violation}
 use Rattle.line_answers.proofs.AnswerLaws.{answers_refusal, answers_with}
 use Rattle.line_answers.proofs.InsideLaws.{both_inside, no_lines_inside, reply_inside}
-use Rattle.line_answers.specs.LineEffects.{FreeEffect, IsOfInside, accepted, refused, reply}
+use Rattle.line_answers.specs.LineEffects.{IsOfInside, accepted, refused, reply}
 use Rattle.line_answers.specs.Refusals.{file_refusal, refusal_line}
 use Rattle.drc_commands.specs.CommandDrc.{ChecksFetched, ChecksText, TellsViolations, check_lines, sum_text, violation_line}
 use Rattle.drc_commands.specs.Refusals.{drc_refusal}
@@ -37,11 +37,6 @@ check_inside raw cell rules found =
 pub lines_inside : (raw : RawTech) (cell : List ℕ) (rules : ℕ) (found : List Violation) (lines : List ReportLine)
     → lines ≡ check_lines raw cell rules found → IsOfInside lines
 lines_inside raw cell rules found lines are = subst (λ (all : List ReportLine). IsOfInside all) (sym are) (check_inside raw cell rules found)
-
--- the refusal of a text
-pub drc_inside : (number : ℕ) (file : List ℕ) (at : At DrcFault) (lines : List ReportLine)
-    → lines ≡ refusal_line number (drc_refusal file at) ∷ [] → IsOfInside lines
-drc_inside number file at lines are = subst (λ (all : List ReportLine). IsOfInside all) (sym are) (record { present = refl; fits = refl })
 
 -- ---- what is answered
 

@@ -84,15 +84,6 @@ module _ (ids names : List (List ℕ)) (id : List ℕ) (area : Rect) (number : �
 
 -- ---- what an index holds
 
-pub holds_none : Holds [] [] []
-holds_none = record {
-  once = tt;
-  few = omega arith;
-  forms = λ id here. absurd here;
-  named = λ square union. absurd (union.1.0);
-  covered = λ name here. absurd here;
-}
-
 -- ids may come before uses that have them
 pub holds_grown : (ids more : List (List ℕ)) (uses : List UseElements) (rects : List Rect) (id : List ℕ) → IsTrue (is_use_id id)
     → IsGrown ids more id → Holds ids uses rects → Holds more uses rects

@@ -1,4 +1,3 @@
-pub mod PlainNames
 pub mod IdLaws
 pub mod PartLaws
 pub mod SquareLaws

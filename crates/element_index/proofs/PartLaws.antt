@@ -18,7 +18,7 @@ use Rattle.text_scan.proofs.DecimalLemmas.{number_of-decimal}
 use Rattle.ext_model.specs.ElementNames.{is_use_id, IsIndexed}
 use Rattle.ext_model.proofs.TextCuts.{Lacks, one_cut}
 use Rattle.ext_model.proofs.IndexedNames.{id_plain, number_comma, number_bracket}
-use Rattle.element_index.specs.NameParts.{is_byte, ArePartsOf, IsIndexText}
+use Rattle.element_index.specs.NameParts.{is_byte, IsIndexText}
 use Rattle.element_index.proofs.IdLaws.{has_byte}
 use Rattle.element_index.proofs.SquareLaws.{kept_short}
 
@@ -114,18 +114,6 @@ cut_name name id rest first more second behind at before then_at then_before las
   before_comma = lacks_absent 44 first then_before;
   at_end = last_at;
   before_end = lacks_absent 93 second last_before;
-}
-
--- parts of their forms make the name
-pub parts_from_cuts : (name id first second : List ℕ) (i j : ℤ) → IsCutName name id first second [] → IsTrue (is_use_id id)
-    → IsIndexText first i → IsIndexText second j → ArePartsOf name id i j
-parts_from_cuts name id first second i j cut form one two = record {
-  id_form = form;
-  i_fits = one.fits;
-  j_fits = two.fits;
-  text = cut.at_bracket ∙ ap (λ (rest : List ℕ). id ++ 91 ∷ rest)
-      (cut.at_comma ∙ ap (λ (text : List ℕ). text ++ 44 ∷ cut.more) one.text
-      ∙ ap (λ (more : List ℕ). decimal i ++ 44 ∷ more) (cut.at_end ∙ ap (λ (text : List ℕ). text ++ 93 ∷ []) two.text));
 }
 
 -- The cuts of a name with indices are its parts.

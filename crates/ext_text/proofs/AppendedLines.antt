@@ -178,10 +178,6 @@ pub ranged_appended : (front back : List ℕ) (lo hi : ℤ) (out a b c d e f g :
 ranged_appended front back lo hi out a b c d e f g ha hb hc hd he hf hg =
     then out a g _ _ ha (then a b g _ _ hb (then b c g _ _ hc (then c d g _ _ hd (then d e g _ _ he (then e f g _ _ hf hg)))))
 
--- a name between quotes, its quotes by themselves
-pub quoted_appended : (name : List ℕ) (out a b c : List ℕ) → a ≡ out ++ codes " \"" → b ≡ a ++ name → c ≡ b ++ 34 ∷ [] → c ≡ out ++ 32 ∷ quoted name
-quoted_appended name out a b c ha hb hc = then out a c _ _ ha (then a b c _ _ hb hc)
-
 pub merge_appended : (row : MergeRow) (first second : List ℕ) (measures : List (ℤ × ℤ)) (out a b c d e : List ℕ) → a ≡ out ++ codes "merge"
     → b ≡ a ++ 32 ∷ quoted first
     → first ≡ row.first → c ≡ b ++ 32 ∷ quoted (row_path second row.count) → second ≡ row.second → d ≡ c ++ 32 ∷ decimal row.cap

@@ -22,12 +22,6 @@ pub AllByRecursion-append : {X : Type 0} (P : X → Type 0) (xs ys : List X) →
 AllByRecursion-append P [] ys first second = second
 AllByRecursion-append P (x ∷ xs) ys first second = (first.0, AllByRecursion-append P xs ys first.1 second)
 
--- what holds of all of a list, told by recursion, holds of each thing in it
-pub AllByRecursion-In : {X : Type 0} (P : X → Type 0) (xs : List X) (x : X) → AllByRecursion P xs → In x xs → P x
-AllByRecursion-In P [] x all here = absurd here
-AllByRecursion-In P (y ∷ ys) x all (inl same) = subst P same all.0
-AllByRecursion-In P (y ∷ ys) x all (inr later) = AllByRecursion-In P ys x all.1 later
-
 -- what holds of each thing in a list holds of all of it, told by recursion
 pub AllByRecursion-from_In : {X : Type 0} (P : X → Type 0) (xs : List X) → ((x : X) → In x xs → P x) → AllByRecursion P xs
 AllByRecursion-from_In P [] each = tt
@@ -96,13 +90,6 @@ list_any-of_absent eq decides x xs absent = elim (cases_Bool (list_any (eq x) xs
 pub absent-from_list_any : {X : Type 0} (eq : X → X → Bool) → ((a b : X) → Decides (eq a b) (a ≡ b)) → (x : X) (xs : List X)
     → list_any (eq x) xs ≡ false → In x xs → ⊥
 absent-from_list_any eq decides x xs none here = both_ways (list_any (eq x) xs) none (list_any-of_In eq decides x xs here)
-
--- tests that agree on a list keep the same of it
-pub filter-same : {X : Type 0} (p q : X → Bool) (xs : List X) → ((x : X) → In x xs → p x ≡ q x) → filter p xs ≡ filter q xs
-filter-same p q [] same = refl
-filter-same {X} p q (x ∷ xs) same =
-    let rest = filter-same p q xs (λ y later. same y (inr later)) in
-    ap (λ (b : Bool). cond b (x ∷ filter p xs) (filter p xs)) (same x (inl refl)) ∙ ap (λ (kept : List X). cond (q x) (x ∷ kept) kept) rest
 
 -- what is found in an image is the image of what is found in the list
 pub find-map : {X Y : Type 0} (f : X → Y) (test : Y → Bool) (xs : List X) → find test (map f xs) ≡ option_map f (find (λ x. test (f x)) xs)

@@ -1,8 +1,7 @@
 -- The faults and the meaning of records with arrays are those of the records that are made of them.
-use Rattle.std.proofs.Common.{◌≡◌, ℕ, ◌<◌, Bool, true, false, All, List, length, refl, sym, ◌∙◌, ap, subst, arith}
+use Rattle.std.proofs.Common.{◌≡◌, ℕ, true, false, List, length, refl, sym, ◌∙◌, ap, subst}
 use Rattle.std.specs.Prelude.{Option, Some, None, slice_get, IsSome}
 use Rattle.std.specs.Option.{option_or, option_map}
-use Rattle.std.proofs.lemmas.List.{length-map}
 use Rattle.std.proofs.lemmas.Option.{same_Some}
 use Rattle.ext_model.specs.declared.records.CellExt.{CellExt}
 use Rattle.ext_model.specs.declared.arrays.ArrayExt.{ArrayExt}
@@ -19,10 +18,9 @@ use Rattle.full_names.specs.NameLists.{name_fault, HasNoNameFault, IsNameFaultOf
 use Rattle.flat_limits.specs.Counts.{node_fault, merge_fault, HasNoNodeFault, IsNodeFaultOf, IsMergeFaultOf}
 use Rattle.plain_records.specs.Plains.{plains, AreArrayRecords}
 use Rattle.plain_records.specs.Thin.{thin, thins}
-use Rattle.plain_records.specs.Reached.{with_merges, AreReached, AreCalled, HasNoReachFault, IsReachFaultOf, IsExpandedAt}
+use Rattle.plain_records.specs.Reached.{with_merges, AreCalled, HasNoReachFault, IsExpandedAt}
 use Rattle.plain_records.proofs.PlaceLaws.{array_of, ext_of-plains, ext_of-thins, leads_plain}
 use Rattle.plain_records.proofs.ReachLaws.{new_of, top_at, reach_fault-new, node_count-new, name_bytes-new, flat_fault-new, meaning-new}
-use Rattle.plain_records.proofs.RowLaws.{as_many}
 use Rattle.plain_records.proofs.ThinLaws.{cells-form, thins_are_records}
 use Rattle.flatten.specs.Stages.{use_fault, number_fault, late_fault, IsFaultAt, IsUseFaultOf}
 use Rattle.flatten.proofs.FaultLaws.{something}
@@ -44,11 +42,6 @@ fault-stages exts top =
     let late = late_fault exts top in
     ap (option_or walk) (or-or depth (option_or count numbers) late ∙ ap (option_or depth) (or-or count numbers late))
     ∙ sym (or-or walk (option_or depth count) (option_or numbers late) ∙ ap (option_or walk) (or-or depth count (option_or numbers late)))
-
--- a fault of uses is the fault
-pub use_is_fault : (exts : List CellExt) (root : ℕ) (fault : FlatFault) → IsReachFaultOf exts root fault → IsFaultAt flat_fault exts root fault
-use_is_fault exts root fault told top at =
-    fault-stages exts top ∙ ap (λ o. option_or o (option_or (number_fault exts top) (late_fault exts top))) (told top at)
 
 -- and after uses without one that of numbers
 number_is_fault : (exts : List CellExt) (top : CellExt) (fault : FlatFault) → use_fault exts top ≡ None → number_fault exts top ≡ Some fault
@@ -109,14 +102,6 @@ thin_called exts slim are = let C : List CellExt → Type 0 = AreCalled exts in 
 -- and lawful
 pub thin_lawful : (exts : List ArrayExt) (slim : List CellExt) → AreArrayRecords exts → slim ≡ thins exts → AreRecords slim
 thin_lawful exts slim lawful are = let R : List CellExt → Type 0 = AreRecords in subst R (sym are) (thins_are_records exts lawful)
-
--- those reached are records
-pub reached_within : (exts : List ArrayExt) (root : ℕ) (order : List ℕ) → AreReached (plains exts) root order → All (λ cell. cell < length exts) order
-reached_within exts root order reached k d h = let below = reached.is.within k d h in omega (arith, below, length-map exts plain)
-
--- there are as many new records
-pub as_many_at : (merged : Bool) (exts : List ArrayExt) (root : ℕ) (news : List CellExt) → IsExpandedAt merged exts root news → length news ≡ length exts
-as_many_at merged exts root news are = as_many exts news are.expanded.called
 
 -- ---- the record of the root
 

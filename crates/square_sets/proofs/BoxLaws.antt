@@ -9,7 +9,7 @@ use Rattle.geo_core.specs.declared.squares.Rect.{Rect}
 use Rattle.geo_core.specs.Covering.{Covers, is_covered}
 use Rattle.geo_core.specs.Strips.{IsInUnion}
 use Rattle.geo_core.proofs.CoveringLaws.{Covers-is_covered, is_covered-Covers}
-use Rattle.square_sets.specs.Boxes.{box_at, IsNearBy, IsOutside, IsTooNarrow, IsTooNear, IsTooTight, LiesInBox, LiesInNoBox}
+use Rattle.square_sets.specs.Boxes.{box_at, IsNearBy, IsOutside, IsTooNarrow, LiesInBox, LiesInNoBox}
 use Rattle.square_sets.specs.Reaches.{AreSameSquares, IsDilated, IsEroded, Reaches}
 
 -- ---- squares of a box, and its corner
@@ -114,16 +114,4 @@ pub narrow_same : (S T : Square → Type 0) (d : ℤ) → AreSameSquares S T →
 narrow_same S T d same = record {
   to = λ square n. (same.to square n.0, λ box. n.1 (in_wider T S d square same.back box));
   back = λ square n. (same.back square n.0, λ box. n.1 (in_wider S T d square same.to box));
-}
-
--- and too tight at the same squares
-pub tight_same : (S T : Square → Type 0) (d : ℤ) → AreSameSquares S T → AreSameSquares (IsTooTight S d) (IsTooTight T d)
-tight_same S T d same = narrow_same (IsOutside S) (IsOutside T) d
-    (record { to = λ square out t. out (same.back square t); back = λ square out s. out (same.to square s) })
-
--- and too near to sets with the same squares
-pub near_same : (S T S' T' : Square → Type 0) (d : ℤ) → AreSameSquares S S' → AreSameSquares T T' → AreSameSquares (IsTooNear S T d) (IsTooNear S' T' d)
-near_same S T S' T' d first second = record {
-  to = λ square n. (first.to square n.0, (n.1.0, (second.to n.1.0 n.1.1.0, n.1.1.1)));
-  back = λ square n. (first.back square n.0, (n.1.0, (second.back n.1.0 n.1.1.0, n.1.1.1)));
 }

@@ -13,7 +13,7 @@ use Rattle.vector_files.specs.VectorFiles.{IsLineWithin}
 use Rattle.vector_runs.specs.declared.replies.VecReply.{VecReply}
 use Rattle.vector_runs.specs.declared.stuck_faults.StuckFault.{StuckFault}
 use Rattle.vector_runs.specs.declared.watching.Seen.{Seen}
-use Rattle.vector_runs.specs.Running.{FitsNodes, HasBegun}
+use Rattle.vector_runs.specs.Running.{FitsNodes}
 use Rattle.vector_runs.specs.Runs.{RunsPhase, Standing, phase_reply, shown_in}
 use Rattle.vector_runs.specs.Watching.{AreSeen, LineIsTaken, LinesShow, Watched, begun_with, counting, held, is_left_out, is_of, seen_in, settled_after}
 use Rattle.vector_runs.proofs.LineOutcomes.{IsSoundAt, input_sound, line_sound, same_line}
@@ -194,18 +194,3 @@ same_seen net names budget vectors stuck shown others sound fits a b =
     let both = same_shown net.nodes budget (counting stuck vectors.lines) (begun_with stuck net a.start) a.last b.last shown others
     (counting_fits net.nodes stuck vectors.lines fits) (begun_sound net stuck a.start sound a.starts.one_state) a.show other in
     both.1
-
--- lines that were taken from where a network begins show what its vectors show
-pub seen_told : (net : Network) (names : List (List ℕ × ℕ)) (budget : ℕ) (vectors : Vectors) (stuck held_at : Option StuckFault) (read : List (ℕ × VecLine))
-    (first last : Watched) (shown : List Seen) → HasBegun net names stuck first → held_at ≡ stuck → read ≡ vectors.lines →
-    LinesShow budget first (counting held_at read) last shown → AreSeen net names budget vectors stuck shown
-seen_told net names budget vectors stuck held_at read first last shown begun same same_lines show =
-    let counted : counting held_at read ≡ counting stuck vectors.lines = rw (same, same_lines) refl in
-    let from : LinesShow budget (begun_with stuck net begun.start) (counting held_at read) last shown =
-    subst (λ (at : Watched). LinesShow budget at (counting held_at read) last shown) begun.stands show in
-    record {
-      start = begun.start;
-      starts = begun.starts;
-      last = last;
-      show = subst (λ (lines : List (ℕ × VecLine)). LinesShow budget (begun_with stuck net begun.start) lines last shown) counted from;
-    }
