@@ -1,5 +1,5 @@
 //! Grades.
-ghost use Rattle.std.specs.Prelude.{◌≡◌, ◌↔◌, ◌<◌, ◌++◌, List, length, IfOk, OnOk, IsErrOf};
+ghost use Rattle.std.specs.Prelude.{◌≡◌, ◌↔◌, ◌<◌, ◌++◌, List, length, true, IfOk, OnOk, IsErrOf};
 ghost use Rattle.std.specs.List.{AllZip};
 ghost use Rattle.switch_net.specs.Net.{network_of};
 ghost use Rattle.vector_files.specs.NodeLookup.{is_either_node};
@@ -48,11 +48,17 @@ pub fn grade(
     ensures network { network_of named.new.net ≡ network_of named.old.net }
     ensures names { named.new.names ≡ named.old.names }
 {
-    let rails = rails_of(named);
-    if count_faults(named.net.nodes, &rails) > MOST_FAULTS {
+    if has_too_many_faults(named) {
         return Err(GradeFault::TooManyFaults);
     }
-    Ok(grade_all(alloc, named, vectors, budget, &rails)?)
+    Ok(grade_all(alloc, named, vectors, budget)?)
+}
+
+/// Whether a network has more faults than can be graded.
+pub fn has_too_many_faults(named: &NamedNet) -> bool
+    ensures { (result ≡ true) ↔ (MOST_FAULTS < length (faults_of named.now.names named.now.net.nodes)) }
+{
+    count_faults(named.net.nodes, &rails_of(named)) > MOST_FAULTS
 }
 
 // How many faults so many nodes have, of which these are power and ground.
@@ -85,21 +91,20 @@ fn faults_at(node: u32) -> [StuckFault; 2]
     ]
 }
 
-// The grades of all faults of the network, of which these are power and ground.
+// The grades of all faults of the network.
 fn grade_all(
     alloc: Global,
     named: &mut NamedNet,
     vectors: &Vectors,
     budget: u32,
-    rails: &Rails,
 ) -> Result<Vec<Graded>, AllocError>
     requires fresh { IsFresh (network_of named.old.net) named.old.names }
     requires within { IsWithin named.old vectors.now }
-    ensures graded { IfOk result (λ grades. AllZip (IsGrade (network_of named.old.net) named.old.names budget vectors.now)
-        (faults_but (is_either_node rails.now.power rails.now.ground) named.old.net.nodes) grades.items) }
+    ensures graded { IfOk result (λ grades. AreGrades (network_of named.old.net) named.old.names budget vectors.now grades.items) }
     ensures network { network_of named.new.net ≡ network_of named.old.net }
     ensures names { named.new.names ≡ named.old.names }
 {
+    let rails = rails_of(named);
     let good = GoodRun::of(alloc, named, vectors, budget)?;
     let mut grades = Vec::new(alloc);
     for node in 0..named.net.nodes {

@@ -23,6 +23,6 @@ mod laws;
 mod limits;
 
 pub use faults::GradeFault;
-pub use grading::{Graded, grade};
+pub use grading::{Graded, grade, has_too_many_faults};
 pub use laws::grades_are_unique;
 pub use limits::MOST_FAULTS;

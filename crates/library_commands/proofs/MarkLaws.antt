@@ -83,6 +83,7 @@ marks_applied old new current now records one lawful stamped is agrees =
     go (command.Flat name) stamped is changes = same stamped
     go (command.Sim name) stamped is changes = same stamped
     go (command.Vectors name file) stamped is changes = same stamped
+    go (command.Grade name file) stamped is changes = same stamped
     go (command.Generate n) stamped is changes = same stamped
     go (command.Ext2sim name) stamped is changes = same stamped
     go (command.Simrun name file) stamped is changes = same stamped

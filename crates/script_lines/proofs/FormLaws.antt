@@ -139,6 +139,7 @@ formed_with verb.Extract given are = are.0
 formed_with verb.Flat given are = are.0
 formed_with verb.Sim given are = are.0
 formed_with verb.Vectors given are = (are.0, are.1.0)
+formed_with verb.Grade given are = (are.0, are.1.0)
 formed_with verb.Generate given are = are.0
 formed_with verb.Ext2sim given are = are.0
 formed_with verb.Simrun given are = (are.0, are.1.0)

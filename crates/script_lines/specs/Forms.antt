@@ -56,6 +56,7 @@ IsFormed (command.Extract cell) = IsPlain cell
 IsFormed (command.Flat cell) = IsPlain cell
 IsFormed (command.Sim cell) = IsPlain cell
 IsFormed (command.Vectors cell file) = IsPlain cell × IsPlain file
+IsFormed (command.Grade cell file) = IsPlain cell × IsPlain file
 IsFormed (command.Generate count) = IsTrue (is_between (pos 1) MOST_GENERATED count)
 IsFormed (command.Ext2sim cell) = IsPlain cell
 IsFormed (command.Simrun cell file) = IsPlain cell × IsPlain file

@@ -57,6 +57,8 @@ pub enum Command {
     Sim(Name),
     /// `vectors CELL FILE`: simulate the cell with the vectors of the file.
     Vectors(Name, Name),
+    /// `grade CELL FILE`: tell which stuck faults of the cell the vectors of the file detect.
+    Grade(Name, Name),
     /// `generate N`: make a cell of that many rows with as many tiles in each, and simulate it. The number is from 1 to 500.
     Generate(i64),
     /// `ext2sim CELL`: write the switches of circuit files.

@@ -90,6 +90,7 @@ fn command_on(alloc: Global, verb: Verb, line: &[u8]) -> Result<Command, LineFau
         Verb::Flat => plain_alone(alloc, line).map(Command::Flat),
         Verb::Sim => plain_alone(alloc, line).map(Command::Sim),
         Verb::Vectors => plain_pair(alloc, line).map(|(cell, file)| Command::Vectors(cell, file)),
+        Verb::Grade => plain_pair(alloc, line).map(|(cell, file)| Command::Grade(cell, file)),
         Verb::Generate => count(line).map(Command::Generate),
         Verb::Ext2sim => plain_alone(alloc, line).map(Command::Ext2sim),
         Verb::Simrun => plain_pair(alloc, line).map(|(cell, file)| Command::Simrun(cell, file)),

@@ -29,13 +29,14 @@ pub enum Verb {
     Flat,
     Sim,
     Vectors,
+    Grade,
     Generate,
     Ext2sim,
     Simrun,
 }
 
 /// All of them.
-pub const VERBS: [Verb; 27] = [
+pub const VERBS: [Verb; 28] = [
     Verb::Tech,
     Verb::Load,
     Verb::New,
@@ -60,6 +61,7 @@ pub const VERBS: [Verb; 27] = [
     Verb::Flat,
     Verb::Sim,
     Verb::Vectors,
+    Verb::Grade,
     Verb::Generate,
     Verb::Ext2sim,
     Verb::Simrun,
@@ -102,6 +104,7 @@ impl Verb {
             Verb::Flat => b"flat",
             Verb::Sim => b"sim",
             Verb::Vectors => b"vectors",
+            Verb::Grade => b"grade",
             Verb::Generate => b"generate",
             Verb::Ext2sim => b"ext2sim",
             Verb::Simrun => b"simrun",

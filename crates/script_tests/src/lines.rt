@@ -70,6 +70,7 @@ const QUESTIONS: &[Asked] = &[
     Asked::One(b"flat inv", Verb::Flat, b"inv"),
     Asked::One(b"sim inv", Verb::Sim, b"inv"),
     Asked::Two(b"vectors inv clocks", Verb::Vectors, b"inv", b"clocks"),
+    Asked::Two(b"grade inv clocks", Verb::Grade, b"inv", b"clocks"),
     Asked::Generate(b"generate 20", 20),
     Asked::One(b"ext2sim inv", Verb::Ext2sim, b"inv"),
     Asked::Two(b"simrun inv clocks", Verb::Simrun, b"inv", b"clocks"),
@@ -86,6 +87,8 @@ const QUESTIONS: &[Asked] = &[
     Asked::Refused(b"tech", LineFault::BadForm),
     Asked::Refused(b"load inv inv", LineFault::BadForm),
     Asked::Refused(b"vectors inv", LineFault::BadForm),
+    Asked::Refused(b"grade inv", LineFault::BadForm),
+    Asked::Refused(b"grade inv clocks 1", LineFault::BadForm),
     Asked::Refused(b"simrun inv f g", LineFault::BadForm),
     Asked::Refused(b"cif", LineFault::BadForm),
     Asked::Refused(b"cifstat mask inv", LineFault::BadForm),
@@ -241,6 +244,7 @@ fn is_two(command: &Command, verb: Verb, cell: &[u8], file: &[u8]) -> bool {
         Command::Vectors(c, f) => {
             verb == Verb::Vectors && c.bytes() == cell && f.bytes() == file
         }
+        Command::Grade(c, f) => verb == Verb::Grade && c.bytes() == cell && f.bytes() == file,
         Command::Simrun(c, f) => verb == Verb::Simrun && c.bytes() == cell && f.bytes() == file,
         Command::Drc(c, f) => verb == Verb::Drc && c.bytes() == cell && f.bytes() == file,
         _ => false,
