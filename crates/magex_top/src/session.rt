@@ -11,7 +11,7 @@ ghost use Rattle.magex_top.specs.Sessions.{CommandMeans, LineMeans};
 
 use cif_commands::cifstat;
 use circuit_commands::{CircuitFile, ext2sim};
-use extract_commands::{circuit, extract, generate, vectors};
+use extract_commands::{VectorQuestion, circuit, extract, generate, vectors};
 use library_commands::{LayoutSession, Way, bring_back, check, edit, load, look_at, tech, write};
 use line_answers::{refuse, told, worded};
 use look_commands::Look;
@@ -141,7 +141,14 @@ fn answer<F: Shelf>(
         Command::Flat(cell) => circuit(alloc, session, number, cell, CircuitFile::Flat),
         Command::Sim(cell) => circuit(alloc, session, number, cell, CircuitFile::Sim),
         Command::Ext2sim(cell) => ext2sim(alloc, shelf, number, cell),
-        Command::Vectors(cell, file) => vectors(alloc, session, shelf, number, budget, cell, file),
+        Command::Vectors(cell, file) => {
+            let question = VectorQuestion::Replies;
+            vectors(alloc, session, shelf, number, budget, question, cell, file)
+        }
+        Command::Grade(cell, file) => {
+            let question = VectorQuestion::Faults;
+            vectors(alloc, session, shelf, number, budget, question, cell, file)
+        }
         Command::Simrun(cell, file) => simrun(alloc, shelf, number, budget, cell, file),
         Command::Generate(count) => generate(alloc, session, number, budget, *count),
     }
