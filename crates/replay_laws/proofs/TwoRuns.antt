@@ -1,4 +1,4 @@
--- The steady value of a node depends on its part of the network alone, also from one network to another.
+-- A node that no difference between two runs reaches takes the same step in both.
 use Rattle.std.proofs.Common.{◌≡◌, ◌≢◌, ℕ, ◌<◌, ◌≤◌, List, [], ◌∷◌, true, false, ◌⊎◌, inl, inr, min, refl, sym, ap, subst, arith, ◌∙◌, slice_index}
 use Rattle.std.specs.Prelude.{Contains, cond}
 use Rattle.std.proofs.lemmas.Bool.{cases_Bool, cases_eq}
@@ -15,8 +15,8 @@ use Rattle.switch_net.proofs.Ranges.{strength_low, at_input, end_in_range, ends_
 use Rattle.switch_net.proofs.Vicinities.{in_more, in_self, in_turn, turned, chain_to}
 use Rattle.replay_laws.specs.Differences.{AreWiredAlike, IsAlike, HoldsDifferences}
 
--- two runs agree on a part: its nodes are alike, so are the gates of all switches that end in it and the inputs from which conducting switches lead to it,
--- and conducting switches lead from inputs or the part alone
+-- Two runs agree on a part: its nodes are alike; the gates of all switches that end in it have the same states; and where a switch that may conduct
+-- leads into it, that is from the part, or from an input of both that is in one state.
 record AgreeOn (net other : Network) (s t : List Level) (V : ℕ → Type 0) : Type 0 where
   nodes_are : other.nodes ≡ net.nodes
   switches_are : other.switches ≡ net.switches
@@ -26,6 +26,7 @@ record AgreeOn (net other : Network) (s t : List Level) (V : ℕ → Type 0) : T
   nodes : (v : ℕ) → V v → state_of s v ≡ state_of t v
   roots : (v : ℕ) → V v → root_strength net v ≡ root_strength other v
 
+-- and so they do the other way round
 other_way : (net other : Network) (s t : List Level) (V : ℕ → Type 0) → AgreeOn net other s t V → AgreeOn other net t s V
 other_way net other s t V g = record {
   nodes_are = sym g.nodes_are;
@@ -45,6 +46,7 @@ record IsMatched (net : Network) (s : List Level) (v k : ℕ) : Type 0 where
   path : DefiniteTo net s v by
   as_strong : k ≤ by
 
+-- each definite path to the part has a match
 matched : (net other : Network) (s t : List Level) (V : ℕ → Type 0) → IsSound net → AgreeOn net other s t V → (root : ℕ) (p : List Hop)
     → IsPath net s root p → IsDefinite s p → V (end_of root p) → IsMatched other t (end_of root p) (strength net root p)
 matched net other s t V sound g root [] i d in_v =
@@ -108,6 +110,7 @@ record IsSame (net other : Network) (s t : List Level) (root : ℕ) (p : List Ho
   same_root : state_of s root ≡ state_of t root
   as_strong : strength net root p ≤ strength other root p
 
+-- each unblocked path to the part has one
 same : (net other : Network) (s t : List Level) (V : ℕ → Type 0) → IsSound net → IsSound other → AgreeOn net other s t V → (root : ℕ) (p : List Hop)
     → IsPath net s root p → ¬ (IsBlocked net s root p) → V (end_of root p) → IsSame net other s t root p
 same net other s t V sound sound' g root [] i u in_v =
@@ -149,6 +152,7 @@ same net other s t V sound sound' g root (h ∷ p) i u in_v =
       as_strong = le;
     }
 
+-- the roots of all unblocked paths to a node of the part are in this state in both runs or in none
 all_same : (net other : Network) (s t : List Level) (V : ℕ → Type 0) → IsSound net → IsSound other → AgreeOn net other s t V → (v : ℕ) (x : Level) → V v
     → AllRootsAre net s v x → AllRootsAre other t v x
 all_same net other s t V sound sound' g v x in_v all root path u =
@@ -165,10 +169,11 @@ same_steady net other s t V sound sound' g v X in_v st =
     let back = other_way net other s t V g in
     (λ all. st.0 (all_same other net t s V sound' sound back v One in_v all), λ all. st.1 (all_same other net t s V sound' sound back v Zero in_v all))
 
--- a node that is alike in both is an input of both or of none
+-- the size of a node is below the strength of an input
 storage_low : (net : Network) → IsSound net → (v : ℕ) → slice_index net.sizes v ≤ 3
 storage_low net sound v = low_everywhere net.sizes 3 (λ k lt. let size = sound.sizes_in_range k 0 lt in omega (arith, size)) v
 
+-- a node that is as strong in both is an input of both or of none
 input_too : (net other : Network) → IsSound net → (v : ℕ) → root_strength net v ≡ root_strength other v → is_input other v ≡ true → is_input net v ≡ true
 input_too net other sound v e i = elim (cases_Bool (is_input net v)) [
   | inl stands ↦ stands
@@ -179,6 +184,7 @@ input_too net other sound v e i = elim (cases_Bool (is_input net v)) [
       absurd (omega (arith, six, low, own, e)))
 ]
 
+-- whether a node is alike in both can be decided
 alike_cases : (net other : Network) (s t : List Level) (v : ℕ) → IsAlike net other s t v ⊎ (IsAlike net other s t v → ⊥)
 alike_cases net other s t v = elim (level_cases (state_of s v) (state_of t v)) [
   | inr ne ↦ inr (λ a. ne a.state)
@@ -188,21 +194,26 @@ alike_cases net other s t v = elim (level_cases (state_of s v) (state_of t v)) [
   ]
 ]
 
+-- a storage node of the other network that is in no vicinity of a seed there
 module _ (net other : Network) (s t : List Level) (IsSeed : ℕ → Type 0) (v : ℕ) (sound : IsSound net) (sound' : IsSound other)
     (wired : AreWiredAlike net other) (seeds : HoldsDifferences net other s t IsSeed) (storage : IsStorage other v)
     (outside : (m : ℕ) → IsSeed m → IsInVicinity other t m v → ⊥) where
+  -- no node of its vicinity is a seed
   none_seed : (u : ℕ) → IsInVicinity other t v u → IsSeed u → ⊥
   none_seed u i sd = outside u sd (in_turn other t v u i)
 
+  -- each is alike in both runs
   alike : (u : ℕ) → IsInVicinity other t v u → IsAlike net other s t u
   alike u i = elim (alike_cases net other s t u) [ inl e ↦ e | inr ne ↦ absurd (none_seed u i (seeds.own u ne)) ]
 
+  -- and so are the gates of the switches at it
   same_gate : (w : Switch) (a b : ℕ) → Contains net.switches w → Joins w a b → IsInVicinity other t v b → state_of s w.gate ≡ state_of t w.gate
   same_gate w a b c j i = elim (level_cases (state_of s w.gate) (state_of t w.gate)) [
     | inl e ↦ e
     | inr ne ↦ absurd (none_seed b i (seeds.gated w a b c j ne))
   ]
 
+  -- so the runs agree on it
   agree : AgreeOn net other s t (IsInVicinity other t v)
   agree = record {
     nodes_are = wired.nodes;
@@ -222,6 +233,7 @@ module _ (net other : Network) (s t : List Level) (IsSeed : ℕ → Type 0) (v :
     roots = λ u i. (alike u i).root;
   }
 
+  -- and the node takes one step in both
   far : (x : Level) → IsNextLevel net s v x → IsNextLevel other t v x
   far x next =
       let own = alike v (in_self other t v storage) in
@@ -232,6 +244,7 @@ module _ (net other : Network) (s t : List Level) (IsSeed : ℕ → Type 0) (v :
       let st = same_steady net other s t (IsInVicinity other t v) sound sound' agree v x (in_self other t v storage) (next.storage store) in
       record { input = λ e. absurd (let f = storage.1 in cc); storage = λ e. st }
 
+-- the same, with all that it rests on
 pub far_step : (net other : Network) (s t : List Level) (IsSeed : ℕ → Type 0) (v : ℕ) (x : Level) → IsSound net → IsSound other → AreWiredAlike net other
     → HoldsDifferences net other s t IsSeed → IsStorage other v → ((m : ℕ) → IsSeed m → IsInVicinity other t m v → ⊥)
     → IsNextLevel net s v x → IsNextLevel other t v x
