@@ -1,8 +1,7 @@
 -- From what is found to grades, and that these are determined.
-use Rattle.std.proofs.Common.{◌≡◌, ℕ, ◌<◌, ◌≤◌, List, [], ◌∷◌, ◌++◌, ◌+◌, Bool, true, false, refl, sym, ap, subst, ◌∙◌, length, arith, append_assoc}
+use Rattle.std.proofs.Common.{◌≡◌, ℕ, List, [], ◌∷◌, ◌++◌, ◌+◌, Bool, true, false, refl, sym, ap, subst, ◌∙◌, arith, append_assoc}
 use Rattle.std.specs.Prelude.{Option, Some, None, MatchOption, filter, not}
 use Rattle.std.specs.List.{AllZip, flat_map, range_with_len}
-use Rattle.std.proofs.Math.Path.{fun_ext}
 use Rattle.std.proofs.lemmas.Grind.{flat_map-append}
 use Rattle.std.proofs.lemmas.List.{append-nil}
 use Rattle.std.proofs.lemmas.List.Elements.{filter-append}
@@ -13,9 +12,6 @@ use Rattle.switch_net.specs.Network.{IsSound, Network}
 use Rattle.switch_net.specs.SimRecords.{AreStarts}
 use Rattle.vector_files.specs.declared.files.VecLine.{VecLine}
 use Rattle.vector_files.specs.declared.files.Vectors.{Vectors}
-use Rattle.vector_files.specs.LineForms.{is_rail}
-use Rattle.vector_files.specs.NodeLookup.{is_either_node}
-use Rattle.vector_runs.specs.declared.rails.Rails.{Rails}
 use Rattle.vector_runs.specs.declared.stuck_faults.StuckFault.{StuckFault}
 use Rattle.vector_runs.specs.Running.{HasBegun}
 use Rattle.vector_runs.specs.Watching.{LinesShow, Watched, begun_with}
@@ -23,9 +19,8 @@ use Rattle.vector_runs.proofs.Starts.{same_starts}
 use Rattle.finite_sets.proofs.Searches.{range_one_more}
 use Rattle.fault_grade.specs.declared.detecting.GoodRun.{GoodRun}
 use Rattle.fault_grade.specs.declared.grading.Graded.{Graded}
-use Rattle.fault_grade.specs.declared.limits.TheConstants.{MOST_FAULTS}
 use Rattle.fault_grade.specs.Comparing.{Finds, HasShown, IsGoodRun}
-use Rattle.fault_grade.specs.Grades.{Detects, IsDetectedAt, IsGrade, IsUndetected, TellsApart, faults_at, faults_but, faults_of}
+use Rattle.fault_grade.specs.Grades.{Detects, IsDetectedAt, IsGrade, IsUndetected, TellsApart, faults_at, faults_but}
 
 module _ (net : Network) (names : List (List ℕ × ℕ)) (budget : ℕ) (vectors : Vectors) where
   -- the run without a fault has shown what it shows
@@ -108,10 +103,6 @@ module _ (net : Network) (names : List (List ℕ × ℕ)) (budget : ℕ) (vector
 
 -- ---- the list of faults
 
--- the faults but those of the nodes that two tests tell alike
-pub same_faults : (p q : ℕ → Bool) (nodes : ℕ) → ((v : ℕ) → p v ≡ q v) → faults_but p nodes ≡ faults_but q nodes
-same_faults p q nodes same = ap (λ (test : ℕ → Bool). faults_but test nodes) (fun_ext same)
-
 -- the faults of one node more
 faults_more : (p : ℕ → Bool) (nodes : ℕ) → faults_but p (nodes + 1) ≡ faults_but p nodes ++ flat_map faults_at (filter (λ v. not (p v)) (nodes ∷ []))
 faults_more p nodes =
@@ -152,10 +143,3 @@ graded_more net here names listed budget vectors p nodes old new same same_names
     λ n l. (faults : List StuckFault) → AllZip (IsGrade n l budget vectors) faults old → AllZip (IsGrade n l budget vectors) (faults ++ faults_at nodes) new in
     let step = subst (λ (n : Network). Adds n names) same (subst (Adds here) same_names more) in
     subst (λ (faults : List StuckFault). AllZip (IsGrade net names budget vectors) faults new) (sym (faults_kept p nodes can)) (step (faults_but p nodes) before)
-
--- few faults are counted where there are few
-pub few_faults : (names : List (List ℕ × ℕ)) (nodes : ℕ) (rails : Rails) (count : ℕ) → ((v : ℕ) → is_rail names v ≡ is_either_node rails.power rails.ground v)
-    → count ≡ length (faults_but (is_either_node rails.power rails.ground) nodes) → count ≤ MOST_FAULTS → ¬ (MOST_FAULTS < length (faults_of names nodes))
-few_faults names nodes rails count known counted few more =
-    let same = ap length (same_faults (is_rail names) (is_either_node rails.power rails.ground) nodes known) in
-    omega (arith, same, counted, few, more)

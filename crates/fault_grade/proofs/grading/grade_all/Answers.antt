@@ -9,7 +9,7 @@ use Rattle.fault_grade.proofs.grading.grade_all.Goals as goal
 
 pub loop-node-preserved-then-has : goal.loop-node-preserved-then-has
 loop-node-preserved-then-has c =
-    let rails = c.args.rails.now in
+    let rails = c.rails_of-rails.result in
     let before = c.loop-node.invariant in
     record {
       graded = subst (λ (faults : List StuckFault). AllZip (IsGrade (network_of c.args.named.now.net) c.args.named.now.names c.args.budget c.args.vectors.now) faults
@@ -20,7 +20,7 @@ loop-node-preserved-then-has c =
 
 pub loop-node-preserved : goal.loop-node-preserved
 loop-node-preserved c =
-    let rails = c.args.rails.now in
+    let rails = c.rails_of-rails.result in
     let before = c.loop-node.invariant in
     let added = c.grade_node.ensures in
     record {
