@@ -3,10 +3,10 @@
 Nothing of this comes from the program. Refused lines are known for edits and for design rules, CIF texts and vectors; a script of the examples has no others.
 """
 import random_cif
-import random_rules
 from plain_circuits import Circuits
-from random_cases import answer, lines_of, read_technology
-from random_edits import Library, Refused, erase_column, paint_column
+from random_cases import answer, read_technology
+from random_edits import Library, Refused, erase_column, paint_column, strips
+from random_rules import read_rules, squares_of
 from random_squares import below, reply
 from random_vectors import Network, Refused as BadVectors, read_vectors, vector_lines
 
@@ -46,6 +46,38 @@ def seen(net, lines):
         else:
             net.sizes[node] = int(words[1])
     return found
+
+
+# ---- design rules over many squares
+def in_boxes(squares, d):
+    """The squares that lie in a box of d by d all of which are of these: by the greatest box that ends at each."""
+    side = {}
+    for x, y in sorted(squares):
+        side[x, y] = 1 + min(side.get(place, 0) for place in ((x - 1, y), (x, y - 1), (x - 1, y - 1)))
+    return {(x - i, y - j) for (x, y), least in side.items() if least >= d for i in range(d) for j in range(d)}
+
+
+def violating(kind, squares, others, d):
+    if kind == "width":
+        return squares - in_boxes(squares, d)
+    if kind == "separation":
+        return squares & {(x + i, y + j) for x, y in others for i in range(-d, d + 1) for j in range(-d, d + 1)}
+    if not squares:
+        return set()
+    xs, ys = [x for x, _ in squares], [y for _, y in squares]
+    free = {(x, y) for x in range(min(xs) - d, max(xs) + d + 1) for y in range(min(ys) - d, max(ys) + d + 1)} - squares
+    return free - in_boxes(free, d)
+
+
+def violations(layouts, cell, rules):
+    """The lines of a cell's strips, rule by rule."""
+    whole, found = layouts.whole(cell), []
+    for number, (kind, lists, d) in enumerate(rules, 1):
+        squares, plane = squares_of(layouts, whole, lists[0])
+        others = squares_of(layouts, whole, lists[1])[0] if kind == "separation" else set()
+        bad = strips(violating(kind, squares, others, d))
+        found += ["violation %s %d %s %d %d %d %d" % ((cell.name, number, layouts.tech.planes[plane]) + strip) for strip in bad]
+    return found + ["drc %s: %d rules %d strips" % (cell.name, len(rules), len(found))]
 
 
 class Run:
@@ -162,11 +194,11 @@ class Run:
         return reply(layouts, layouts.cell(name))
 
     def do_drc(self, number, name, file):
-        rules, fault = random_rules.read_rules(self.library.tech, self.files[file + ".drc"])
+        rules, fault = read_rules(self.library.tech, self.files[file + ".drc"])
         if fault:
             raise Refused("E29 %s.drc %d %s" % (file, rules, fault.code))
         layouts = self.at().layouts
-        return random_rules.violations(layouts, layouts.cell(name), rules)
+        return violations(layouts, layouts.cell(name), rules)
 
     def do_cif(self, number, name):
         layouts = self.at().layouts
