@@ -47,6 +47,13 @@ def used(files, script):
     return {name: files[name] for name in sorted(names) if name in files}
 
 
+def is_made(name, script):
+    """Whether a script stores a file that it reads."""
+    makers = MAKERS.get(name[-4:], ())
+    return any(words[:1] == [verb] and (name[-4:] == ".ext" or words[1:] == [name[:-4]]) for words in map(str.split, script) for verb in makers)
+
+
+MAKERS = {".ext": ["extract"], ".sim": ["sim", "ext2sim"], ".cif": ["cif"]}
 FETCHED = {"tech": [".tech"], "load": [".mag"], "drc": ["", ".drc"], "cifstat": [".cif"], "vectors": ["", ".vec"], "grade": ["", ".vec"],
            "simrun": [".sim", ".vec"], "ext2sim": [".ext"]}
 
@@ -58,9 +65,7 @@ def text_of(lines):
 def example(path):
     """A script's case, and the files that are to stand beside it."""
     script = lines_of(path)
-    made_before = {line.split()[1] for line in script if line.split()[:1] in (["sim"], ["ext2sim"])}
-    files = {name: lines for name, lines in used(given(path), script).items() if not (name.endswith(".sim") and name[:-4] in made_before)}
-    files = {name: lines for name, lines in files.items() if not (name.endswith(".cif") and ["cif", name[:-4]] in [line.split() for line in script])}
+    files = {name: lines for name, lines in used(given(path), script).items() if not is_made(name, script)}
     report, stored, status = run(files, script)
     beside = {path.with_suffix(".report"): text_of(report)}
     for name, lines in stored:

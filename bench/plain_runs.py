@@ -232,6 +232,9 @@ class Run:
 
     def do_sim(self, number, name):
         self.extract(name)
+        return self.flat_switches(name)
+
+    def flat_switches(self, name):
         switches, without = self.at().switches(name)
         self.store(name + ".sim", self.at().sim_lines(name))
         return ["no terminal " + gate for gate in without] + ["sim %s: %d nodes %d switches" % (name, len(self.at().circuit(name)[0]), len(switches))]
@@ -239,6 +242,13 @@ class Run:
     def do_vectors(self, number, name, file):
         self.extract(name)
         return vector_lines(Strengths(self.at().sim_lines(name)[1:]), self.files[file + ".vec"])
+
+    def do_ext2sim(self, number, name):
+        """Circuit files are those of the cells as they are, of which the flat circuit is known."""
+        circuits = self.at()
+        for cell in below(circuits.layouts.cell(name)):
+            assert self.files[cell.name + ".ext"] == circuits.record_lines(cell.name), cell.name
+        return self.flat_switches(name)
 
     def do_simrun(self, number, name, file):
         return vector_lines(Strengths(self.files[name + ".sim"][1:]), self.files[file + ".vec"])
@@ -254,6 +264,29 @@ class Run:
             lines.append("fault %s %s %s" % (node, value, "detected %d" % told[0] if told else "undetected"))
             detected += bool(told)
         return lines + ["grade %s: %d faults %d detected" % (name, len(lines), detected)]
+
+    # ---- stacks
+    def do_generate(self, number, n):
+        library, n = self.library, int(n)
+        library.new("gtile")
+        library.draw(paint_column, "poly", (0, 2, 6, 4))
+        library.draw(paint_column, "diff", (2, 0, 4, 6))
+        library.label("poly", (0, 2, 0, 4), 7, "w")
+        library.label("diff", (2, 0, 4, 0), 5, "b")
+        for cell, child, use, grid in ("grow", "gtile", "t", [0, n - 1, 6, 0, 0, 0]), ("gen", "grow", "r", [0, 0, 0, 0, n - 1, 6]):
+            library.new(cell)
+            library.place(child, use, [1, 0, 0, 0, 1, 0])
+            library.array(use, grid)
+        self.circuits, self.done, self.undone = None, [], []
+        self.extract("gen")
+        nodes, fets = self.at().circuit("gen")
+        net = Strengths(self.at().sim_lines("gen")[1:])
+        sets = ["set r[0,%d]/t[0,0]/w 1" % j for j in range(n)] + ["set r[0,0]/t[%d,0]/b 0" % i for i in range(n)]
+        settled = vector_lines(net, sets + ["phase"])[0]
+        assert settled.startswith("phase 1 settled"), settled
+        counts = [library.elements("gen"), len(nodes), len(fets), sum(sum(node[1][1::2]) for node in nodes), sum(sum(node[1][2::2]) for node in nodes)]
+        counts += [int(settled.split()[3]), net.states.count("0"), net.states.count("1")]
+        return ["generate %d: cells 3 elements %d nodes %d transistors %d area %d perimeter %d steps %d zeros %d ones %d" % (n, *counts)]
 
 
 def run(files, script):
