@@ -38,10 +38,10 @@ WELLS = ("nwell", "pwell")
 class Picture:
     """The lines of an SVG picture of a frame of squares; y goes up in a layout, and down in SVG."""
 
-    def __init__(self, frame, scale, below=0):
+    def __init__(self, frame, scale):
         self.xlo, self.ylo, self.xhi, self.yhi = frame
         self.scale, self.lines = scale, []
-        self.width, self.height = (self.xhi - self.xlo) * scale, (self.yhi - self.ylo) * scale + below
+        self.width, self.height = round((self.xhi - self.xlo) * scale), round((self.yhi - self.ylo) * scale)
 
     def x(self, x):
         return round((x - self.xlo) * self.scale, 2)
@@ -67,12 +67,15 @@ class Picture:
         self.text(x, y, text, size, stroke="#ffffff", stroke_width=3, stroke_linejoin="round", paint_order="stroke", fill="#000000")
 
     def legend(self, names):
-        """Colours with their names below the picture."""
-        x, y = 8, self.height - 14
+        """Colours with their names below the picture, in as many rows as they need."""
+        x, y = 8, self.height + 10
         for name, colour in names:
+            if x > 8 and x + 24 + 6.5 * len(name) > self.width:
+                x, y = 8, y + 18
             self.lines.append('<rect x="%g" y="%g" width="12" height="12" fill="%s" stroke="#404040" stroke-width="0.5"/>' % (x, y - 6, colour))
             self.lines.append('<text x="%g" y="%g" font-size="11" font-family="sans-serif">%s</text>' % (x + 16, y + 4, html.escape(name)))
             x += 30 + 6.5 * len(name)
+        self.height = y + 12
 
     def svg(self):
         size = 'width="%g" height="%g" viewBox="0 0 %g %g"' % (self.width, self.height, self.width, self.height)
@@ -91,9 +94,9 @@ def frame_of(places, margin=MARGIN):
     return min(xs) - margin, min(ys) - margin, max(xs) + 1 + margin, max(ys) + 1 + margin
 
 
-def picture_of(places, below=0):
+def picture_of(places):
     frame = frame_of(places)
-    return Picture(frame, min(24, WIDEST / (frame[2] - frame[0]), WIDEST / (frame[3] - frame[1])), below)
+    return Picture(frame, min(24, WIDEST / (frame[2] - frame[0]), WIDEST / (frame[3] - frame[1])))
 
 
 # ---- what is drawn
@@ -140,7 +143,7 @@ def layers(run, cell, report=()):
     """A cell with all that stands below it, layer by layer."""
     circuits = Circuits(run.library, run.text)
     layout = circuits.layouts.whole(circuits.layouts.cell(cell))
-    picture, parts = picture_of(layout, 30), parts_of(run.library.tech)
+    picture, parts = picture_of(layout), parts_of(run.library.tech)
     stands = [part for part in parts if squares_with(layout, part)]
     for part in sorted(stands, key=lambda part: part not in WELLS):
         for strip in strips(squares_with(layout, part)):
@@ -224,8 +227,9 @@ def tiles(run, cell, plane):
         fill = "none" if kind is None else colour_of(circuits.word(kind), parts)
         picture.box(strip, fill=fill, fill_opacity=0.6, stroke="#303030", stroke_width=1)
     for (xlo, ylo, xhi, yhi), kind in tiles_of(squares, frame):
-        for (x, y), (dx, dy) in ((xlo + 0.3, ylo + 0.3), (-1, 0)), ((xlo + 0.3, ylo + 0.3), (0, -1)), ((xhi - 0.3, yhi - 0.3), (1, 0)), ((xhi - 0.3, yhi - 0.3), (0, 1)):
-            stitch(picture, x, y, dx, dy)
+        for x, y, way in (xlo + 0.3, ylo + 0.3, -1), (xhi - 0.3, yhi - 0.3, 1):
+            stitch(picture, x, y, way, 0)
+            stitch(picture, x, y, 0, way)
     return picture.svg()
 
 
@@ -267,7 +271,7 @@ def growth_curves():
             for row in rows:
                 title = row[0] or title
                 for who, column in ("magex", head.index("`simrun`")), ("vvp", head.index("`vvp`")):
-                    runs.setdefault((title.split(",")[0], who), []).append((number(row[1]), number(row[column])))
+                    runs.setdefault((title, who), []).append((number(row[1]), number(row[column])))
     return loads, runs
 
 
@@ -315,7 +319,7 @@ def growth():
     left = Chart(60, 360, 270, (8000, 400000), (0.01, 60))
     left.axes("loading a cell and finding its nodes: magex full, Magic broken", "rectangles")
     left.curves(loads, "magex")
-    right = Chart(520, 360, 270, (40000, 300000), (0.05, 10))
+    right = Chart(490, 380, 270, (40000, 300000), (0.05, 10))
     right.axes("switch-level runs: magex full, vvp broken", "switches")
     right.curves(runs, "magex")
     left.lines += right.lines

@@ -355,7 +355,8 @@ class Circuits:
         """The switches of a cell's circuit as lines, and the gates of transistors without a terminal."""
         lines, without = [], []
         for fet, point, gate, terminals in self.circuit(name)[1]:
-            pairs = [(one, other) for at, one in enumerate(terminals) for other in terminals[at + 1:]] if len(terminals) > 1 else list(zip(terminals, terminals))
+            pairs = [(one, other) for at, one in enumerate(terminals) for other in terminals[at + 1:]]
+            pairs = pairs or list(zip(terminals, terminals))
             without += [gate] * (not pairs)
             for (one, p), (other, q) in pairs:
                 width = max(1, (p if len(terminals) == 1 else p + q) // 2)
