@@ -343,6 +343,19 @@ def documents():
     yield "growth", growth()
 
 
+def write_documents(is_check):
+    """Writes the pictures of docs/pictures, or tells those that stand otherwise."""
+    wrong = []
+    for name, text in documents():
+        path = TOP / "docs/pictures" / (name + ".svg")
+        if not is_check:
+            path.write_text(text)
+        elif not path.exists() or path.read_text() != text:
+            wrong.append(name)
+    if wrong:
+        sys.exit("not up to date: " + " ".join(wrong))
+
+
 def main():
     options = argparse.ArgumentParser(description=__doc__, formatter_class=argparse.RawDescriptionHelpFormatter)
     options.add_argument("file", nargs="?", type=Path, help="the cell's file, or a script")
@@ -351,10 +364,10 @@ def main():
     options.add_argument("--line", type=int, help="the last line of the script that counts")
     options.add_argument("--tiles", metavar="PLANE", help="draw the tiles of this plane")
     options.add_argument("--docs", action="store_true", help="write the pictures of docs/pictures")
+    options.add_argument("--check", action="store_true", help="with --docs: write nothing, and end with status 1 where one is not up to date")
     chosen = options.parse_args()
     if chosen.docs:
-        for name, text in documents():
-            (TOP / "docs/pictures" / (name + ".svg")).write_text(text)
+        write_documents(chosen.check)
         return
     if chosen.file is None:
         options.error("there is no file to draw")
