@@ -79,7 +79,11 @@ module _ (elements : List Element) (classes : ℕ) (circuit : Circuit) (are : Ar
       → (first : List ℕ) × In first (map (λ (node : NodeRec). node.name) circuit.nodes) × AreOfOneNode records first name
   of_preferred of name here =
       let node = of name here in
-      (node.node.name, (In-map (λ (one : NodeRec). one.name) node.node circuit.nodes node.within, joined elements classes circuit are node.node node.within name node.named))
+      (
+        node.node.name,
+        In-map (λ (one : NodeRec). one.name) node.node circuit.nodes node.within,
+        joined elements classes circuit are node.node node.within name node.named,
+      )
 
 pub flat_networks_have_the_nodes : FlatNetworksHaveTheNodes
 flat_networks_have_the_nodes exts root circuit net names are_records is network in_order =

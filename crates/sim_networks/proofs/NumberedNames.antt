@@ -2,6 +2,7 @@
 use Rattle.std.proofs.Common.{◌≡◌, ◌<◌, ◌≤◌, ◌++◌, ℕ, zero, suc, List, [], length, Some, get_or, inl, inr, refl, sym, subst, ◌∙◌, arith}
 use Rattle.std.specs.Prelude.{AllPairs, slice_get}
 use Rattle.std.proofs.lemmas.Bool.{cases_eq, cases_lt}
+use Rattle.std.proofs.lemmas.List.{length-append}
 use Rattle.std.proofs.lemmas.Option.{get_or_from_slice_get, slice_get_within}
 use Rattle.finite_sets.specs.Chain.Chain.{stay}
 use Rattle.finite_sets.specs.Least.{IsLeast}
@@ -65,21 +66,20 @@ module _ (records : SimRecords) (net : Network) (names : List (List ℕ × ℕ))
   least_place place v at = (
     (
       at.name,
-      (
-        slice_get-append_left (caps ++ names_of_transistors records.transistors) (names_of_aliases records.aliases) place at.name
-            (slice_get-append_left caps (names_of_transistors records.transistors) place at.name at.stands),
-        at.named,
-      ),
+      slice_get-append_left (caps ++ names_of_transistors records.transistors) (names_of_aliases records.aliases) place at.name
+          (slice_get-append_left caps (names_of_transistors records.transistors) place at.name at.stands),
+      at.named,
     ),
     λ other stands. elim (cases_lt other place) [
       | inr past ↦ past
       | inl less ↦ (
           let inside : place < length caps = slice_get_within caps place at.name at.stands in
+          let longer = length-append caps (names_of_transistors records.transistors) in
           let front : slice_get order other ≡ slice_get caps other =
-          slice_get-append_front (caps ++ names_of_transistors records.transistors) (names_of_aliases records.aliases) other (omega (arith, inside))
+          slice_get-append_front (caps ++ names_of_transistors records.transistors) (names_of_aliases records.aliases) other (omega (arith, inside, longer))
           ∙ slice_get-append_front caps (names_of_transistors records.transistors) other (omega (arith, inside)) in
           absurd (never_earlier place other v less at
-          (record { name = stands.0; stands = sym front ∙ stands.1.0; named = stands.1.1 })))
+          (record { name = stands.0; stands = sym front ∙ stands.1; named = stands.2 })))
     ],
   )
 
@@ -93,9 +93,9 @@ module _ (records : SimRecords) (net : Network) (names : List (List ℕ × ℕ))
       let some = is.each_node v below in
       let stands = is.stands some.0 v some.1 in
       let cap = of some.0 stands.0 in
-      let node = is.named cap.0 (name_of_cap records cap.0 cap.1.0) in
-      let same : node.0 ≡ v = (is.classes cap.0 some.0 node.0 v node.1 some.1).1 cap.1.1 in
-      let at = slice_get-In cap.0 caps cap.1.0 in
+      let node = is.named cap.0 (name_of_cap records cap.0 cap.1) in
+      let same : node.0 ≡ v = (is.classes cap.0 some.0 node.0 v node.1 some.1).1 cap.2 in
+      let at = slice_get-In cap.0 caps cap.1 in
       (at.0, record { name = cap.0; stands = at.1; named = subst (λ (w : ℕ). HasName names w cap.0) same node.1 })
 
   -- a node at a place is one of the network
