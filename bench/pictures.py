@@ -90,6 +90,8 @@ def attributes(style):
 
 
 def frame_of(places, margin=MARGIN):
+    if not places:
+        sys.exit("there is nothing to draw")
     xs, ys = [x for _, _, x in places], [y for _, y, _ in places]
     return min(xs) - margin, min(ys) - margin, max(xs) + 1 + margin, max(ys) + 1 + margin
 
@@ -105,24 +107,26 @@ def library_of(path, cell, last=None):
     files = {other.name: other.read_text().splitlines() for other in path.parent.iterdir() if other.suffix in (".tech", ".mag")}
     run = Run(files)
     if path.suffix == ".mag":
-        name = next(line.split()[1] for line in files[path.name] if line.startswith("tech "))
-        lines = ["tech " + tech_file(path.parent, name), "load " + cell]
+        names = [line.split()[1] for line in files[path.name] if line.startswith("tech ")]
+        lines = ["tech " + tech_file(path.parent, names), "load " + cell]
     else:
         lines = path.read_text().splitlines()[:last]
         lines = [line for line in lines if line.split()[:1] and line.split()[0] not in READ_OVER]
     run.run(lines)
+    if cell not in run.library.cells:
+        sys.exit("there is no cell %s" % cell)
     return run
 
 
 READ_OVER = ("nodes", "squares", "drc", "cif", "cifstat", "extract", "flat", "sim", "vectors", "simrun", "ext2sim", "grade", "save")
 
 
-def tech_file(folder, name):
-    """The file whose technology has the name."""
+def tech_file(folder, names):
+    """The file whose technology has the name, or the first one where the cell names none."""
     for path in sorted(folder.glob("*.tech")):
-        if ["tech", name] == re.sub(r"#.*", "", path.read_text()).split()[:2]:
+        if not names or ["tech", names[0]] == re.sub(r"(?m)^\s*#.*", "", path.read_text()).split()[:2]:
             return path.stem
-    sys.exit("no file beside the cell has the technology %s" % name)
+    sys.exit("no file beside the cell has its technology")
 
 
 def squares_with(layout, part):
