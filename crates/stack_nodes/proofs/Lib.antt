@@ -1,0 +1,11 @@
+mod Arrays
+mod CircuitNodes
+mod FreshPaint
+mod LeastPlaces
+mod NetworkNodes
+mod StackElements
+mod StackNames
+mod StackSets
+mod StackTrees
+mod TileNodes
+mod TilePaint
