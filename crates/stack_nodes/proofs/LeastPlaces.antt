@@ -22,12 +22,12 @@ part_of (negsuc n) from = absurd (omega (arith, ints, from))
 -- an earlier place of a tile has a lower number
 lower_number : (a b : Place) → IsInTile a → IsInTile b → IsBefore a b → number_of a < number_of b
 lower_number a b in_a in_b before =
-    let x = part_of a.square.x in_a.left in
-    let y = part_of a.square.y in_a.below in
-    let u = part_of b.square.x in_b.left in
-    let v = part_of b.square.y in_b.below in
-    let right = in_a.right in
-    let above = in_a.above in
+    let x = part_of a.square.x in_a.right_of_xlo in
+    let y = part_of a.square.y in_a.above_ylo in
+    let u = part_of b.square.x in_b.right_of_xlo in
+    let v = part_of b.square.y in_b.above_ylo in
+    let right = in_a.left_of_xhi in
+    let above = in_a.below_yhi in
     elim before [
       | inl plane ↦ omega (arith, ints)
       | inr (plane, inl row) ↦ omega (arith, ints)

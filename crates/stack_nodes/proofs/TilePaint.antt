@@ -17,16 +17,18 @@ use Rattle.cell_library.specs.LowerLayoutTrees.LayoutModel.Places.{Place}
 use Rattle.cell_paint.specs.Painting.{place_at, with_paint}
 use Rattle.cell_paint.proofs.PaintLaws.{changed_outside}
 use Rattle.layout_gen.specs.Generated.{diff_area, no_paint, poly_area, tile_layout}
+use Rattle.layout_gen.proofs.Sizes.{area_to}
 use Rattle.stack_nodes.proofs.FreshPaint.{HasPlaneTypes, fresh_paint, painted_on}
 
 -- ---- where a tile lies
 
+-- The place lies between these sides, from 0 on.
+abbrev pub IsInArea : ℕ → ℕ → Place → Type 0
+IsInArea width height place = Covers (area_to width height) place.square
+
 -- The place lies in the tile.
-pub record IsInTile (place : Place) : Type 0 where
-  pub left : pos 0 ≤ℤ place.square.x
-  pub right : place.square.x <ℤ pos 6
-  pub below : pos 0 ≤ℤ place.square.y
-  pub above : place.square.y <ℤ pos 6
+abbrev pub IsInTile : Place → Type 0
+IsInTile = IsInArea 6 6
 
 -- the square right of the middle of the label of poly
 abbrev pub poly_square : Square
@@ -47,20 +49,20 @@ module _ (raw : RawTech) (poly diff : ℕ) where
     | inl in_diff ↦ (
         let covers = Covers-is_covered diff_area place.square in_diff in
         record {
-          left = omega (arith, ints, covers.right_of_xlo);
-          right = omega (arith, ints, covers.left_of_xhi);
-          below = omega (arith, ints, covers.above_ylo);
-          above = omega (arith, ints, covers.below_yhi);
+          right_of_xlo = omega (arith, ints, covers.right_of_xlo);
+          left_of_xhi = omega (arith, ints, covers.left_of_xhi);
+          above_ylo = omega (arith, ints, covers.above_ylo);
+          below_yhi = omega (arith, ints, covers.below_yhi);
         })
     | inr outside ↦ elim (cases_Bool (is_covered poly_area place.square)) [
       | inl in_poly ↦ (
           let covers = Covers-is_covered poly_area place.square in_poly in
           record {
-            left = omega (arith, ints, covers.right_of_xlo);
-            right = omega (arith, ints, covers.left_of_xhi);
-            below = omega (arith, ints, covers.above_ylo);
-            above = omega (arith, ints, covers.below_yhi);
-          })
+          right_of_xlo = omega (arith, ints, covers.right_of_xlo);
+          left_of_xhi = omega (arith, ints, covers.left_of_xhi);
+          above_ylo = omega (arith, ints, covers.above_ylo);
+          below_yhi = omega (arith, ints, covers.below_yhi);
+        })
       | inr beyond ↦ absurd (material
           (changed_outside (painted_column raw diff) (is_covered diff_area) poly_layout place outside
           ∙ changed_outside (painted_column raw poly) (is_covered poly_area) no_paint place beyond))
