@@ -51,14 +51,14 @@ module _ (before : LibraryView) (n : ℕ) (circuit : Circuit) (is : IsStackCircu
   abbrev count : ℕ
   count = length before.cells
 
-  poly_below : poly < length raw.layers
+  pub poly_below : poly < length raw.layers
   poly_below = layer_below before.tech poly_name is.made.poly is.made.poly_is
 
-  diff_below : diff < length raw.layers
+  pub diff_below : diff < length raw.layers
   diff_below = layer_below before.tech diff_name is.made.diff is.made.diff_is
 
   -- it is the circuit of the tree of rows of tiles
-  is_of_tree : IsFlatCircuit raw (stack_tree raw poly diff n count) circuit
+  pub is_of_tree : IsFlatCircuit raw (stack_tree raw poly diff n count) circuit
   is_of_tree =
       subst (λ tree. IsFlatCircuit before.tech tree circuit) (stack_is before is.made.poly is.made.diff n)
       (subst (λ (after : LibraryView). IsFlatCircuit after.tech (named_tree_at after (length before.cells + 2)) circuit) is.made.is is.is_circuit)

@@ -15,7 +15,7 @@ abbrev number_of : Place → ℕ
 number_of place = place.plane * 36 + nonnegative_part place.square.y * 6 + nonnegative_part place.square.x
 
 -- a number is its nonnegative part
-part_of : (z : ℤ) → pos 0 ≤ℤ z → pos (nonnegative_part z) ≡ z
+pub part_of : (z : ℤ) → pos 0 ≤ℤ z → pos (nonnegative_part z) ≡ z
 part_of (pos n) from = refl
 part_of (negsuc n) from = absurd (omega (arith, ints, from))
 

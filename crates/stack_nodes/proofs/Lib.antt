@@ -3,6 +3,8 @@ mod CircuitNodes
 mod FreshPaint
 mod LeastPlaces
 mod NetworkNodes
+mod NodeSums
+mod PlaceSums
 mod StackElements
 mod StackNames
 mod StackSets

@@ -1,1 +1,2 @@
 pub mod StackNodes
+pub mod StackSums
