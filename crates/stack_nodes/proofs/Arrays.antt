@@ -1,5 +1,5 @@
 -- Elements of one child: what of its flat layout they have at a place, and the paths through them. And the elements of a grid.
-use Rattle.std.proofs.Common.{◌≡◌, ◌⊎◌, ◌∙◌, ℕ, suc, ℤ, pos, ◌+ℤ◌, neg_ℤ, bit_or, List, [], ◌∷◌, inl, inr, refl, sym, ap, subst, arith}
+use Rattle.std.proofs.Common.{◌≡◌, ◌⊎◌, ◌∙◌, ℕ, ℤ, pos, ◌+ℤ◌, neg_ℤ, bit_or, List, [], ◌∷◌, inl, inr, refl, sym, ap, subst, arith}
 use Rattle.std.specs.Prelude.{Some}
 use Rattle.std.proofs.lemmas.Int.{ints}
 use Rattle.tech_model.specs.GeoCore.FiniteSets.Lists.{In}
@@ -145,4 +145,6 @@ back_by step place =
 
 -- two places of one plane, with the same columns and rows
 pub same_place : (a b : Place) → a.plane ≡ b.plane → a.square.x ≡ b.square.x → a.square.y ≡ b.square.y → a ≡ b
-same_place a b planes columns rows = let whole : record { plane = a.plane; square = record { x = a.square.x; y = a.square.y } } ≡ b = rw (planes, columns, rows) refl in whole
+same_place a b planes columns rows =
+    let whole : record { plane = a.plane; square = record { x = a.square.x; y = a.square.y } } ≡ b = rw (planes, columns, rows) refl in
+    whole

@@ -1,5 +1,5 @@
 -- The circuit of a stack has a node for each row and each column.
-use Rattle.std.proofs.Common.{◌≡◌, ◌<◌, ◌+◌, ◌∙◌, ℕ, List, length, refl, subst, arith, inl, inr, false}
+use Rattle.std.proofs.Common.{◌≡◌, ◌<◌, ◌+◌, ℕ, List, length, refl, subst, arith, inl, inr, false}
 use Rattle.std.specs.Prelude.{Some, codes}
 use Rattle.std.specs.List.{flat_map, list_any}
 use Rattle.std.specs.Str.{bytes_eq}
@@ -15,7 +15,7 @@ use Rattle.ext_model.specs.declared.circuits.Circuit.{Circuit}
 use Rattle.ext_model.specs.declared.records.NodeRec.{NodeRec}
 use Rattle.ext_model.specs.NodeNames.{is_global, slashes_in}
 use Rattle.ext_model.specs.RecordNames.{names_of}
-use Rattle.layout_gen.specs.Generated.{diff_name, poly_name, tile_name, with_generated}
+use Rattle.layout_gen.specs.Generated.{diff_name, poly_name, tile_name}
 use Rattle.library_trees.specs.NamedCells.{named_tree_at}
 use Rattle.library_trees.specs.NamedTrees.FlatLayouts.{HasOwnName}
 use Rattle.library_trees.specs.TreeRecords.TreeCircuits.{IsFlatCircuit}

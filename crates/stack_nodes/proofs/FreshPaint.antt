@@ -1,6 +1,6 @@
 -- Paint of a layer where there was none: the layer's images stand, and no type stands on a plane that is not its own.
 use Rattle.std.proofs.Common.{◌≡◌, ◌<◌, ◌≤◌, ◌∙◌, ℕ, true, false, Bool, List, length, refl, sym, ap, subst, arith, inl, inr}
-use Rattle.std.specs.Prelude.{◌==◌, ◌||◌, Option, Some, None, IsTrue}
+use Rattle.std.specs.Prelude.{◌||◌, Option, Some, None, IsTrue}
 use Rattle.std.specs.Option.{option_map_or}
 use Rattle.std.proofs.lemmas.Bool.{cases_Bool, cases_lt, eq-eqb, eqb-true}
 use Rattle.tech_model.specs.GeoCore.FiniteSets.Lists.{In}

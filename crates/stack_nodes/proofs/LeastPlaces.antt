@@ -51,12 +51,15 @@ module _ (Has : Place → Type 0) (inside : (place : Place) → Has place → Is
   none_below : (bound : ℕ) (place : Place) → number_of place < bound → Has place → ⊥
   none_below zero place below has = omega (arith, below)
   none_below (suc bound) place below has =
-      none place (has, λ other also. elim (in_order place other) [
-        | inl first ↦ first
-        | inr before ↦
-            let lower = lower_number other place (inside other also) (inside place has) before in
-            absurd (none_below bound other (omega (arith, below, lower)) also)
-      ])
+      none place (
+        has,
+        λ other also. elim (in_order place other) [
+          | inl first ↦ first
+          | inr before ↦
+              let lower = lower_number other place (inside other also) (inside place has) before in
+              absurd (none_below bound other (omega (arith, below, lower)) also)
+        ],
+      )
 
 -- where a place of a tile has a fact that places of the tile alone have, it can't be that no place is the least that has it
 pub not_without_least : (Has : Place → Type 0) → ((place : Place) → Has place → IsInTile place) → (place : Place) → Has place

@@ -1,6 +1,5 @@
 -- The network of a circuit has a node of each name of the circuit's nodes.
-use Rattle.std.proofs.Common.{◌≡◌, ◌∙◌, ℕ, ℤ, List, [], ◌∷◌, ◌++◌, map, inl, inr, refl, sym, ap, subst, true≢false}
-use Rattle.std.specs.Prelude.{Some}
+use Rattle.std.proofs.Common.{◌∙◌, ℕ, ℤ, List, [], ◌∷◌, ◌++◌, map, inl, inr, refl, sym, ap, subst, true≢false}
 use Rattle.std.specs.List.{flat_map}
 use Rattle.std.specs.Str.{bytes_eq}
 use Rattle.std.proofs.lemmas.Bool.{cases_Bool}
@@ -11,11 +10,10 @@ use Rattle.tech_model.proofs.GeoCore.FiniteSets.Members.{In-append_left, In-appe
 use Rattle.ext_model.specs.declared.circuits.Circuit.{Circuit}
 use Rattle.ext_model.specs.declared.records.NodeRec.{NodeRec}
 use Rattle.sim_records.specs.SimRecords.{aliases_of, cap_of, sim_of}
-use Rattle.sim_networks.specs.SimNetworks.{records_of, transistor_of}
+use Rattle.sim_networks.specs.SimNetworks.{records_of}
 use Rattle.switch_net.specs.Names.{HasName}
 use Rattle.switch_net.specs.Network.{Network}
 use Rattle.switch_net.specs.SimRecords.{IsNetworkOf, names_of, names_of_aliases, names_of_transistors}
-use Rattle.vector_files.specs.LineForms.{node_named}
 use Rattle.stack_nodes.specs.StackNodes.{HasNodeOfName, NetworkHasName, StackNetworksHaveTheirNodes}
 use Rattle.stack_nodes.proofs.CircuitNodes.{stack_circuits_have_their_nodes}
 

@@ -1,18 +1,16 @@
 -- The sums that are reported of a stack fit 128 bits: its circuit has no more nodes than its layout has places, and the areas and perimeters of
 -- each node are small.
-use Rattle.std.proofs.Common.{◌≡◌, ◌<◌, ◌≤◌, ◌+◌, ◌-◌, ◌*◌, ◌^◌, ◌⊎◌, ◌∙◌, ℕ, zero, suc, ℤ, pos, ◌≤ℤ◌, ◌*ℤ◌, List, [], ◌∷◌, length, map, get_or, inl, inr}
+use Rattle.std.proofs.Common.{◌≡◌, ◌<◌, ◌≤◌, ◌*◌, ◌^◌, ◌∙◌, ℕ, zero, suc, ℤ, pos, ◌≤ℤ◌, ◌*ℤ◌, List, [], ◌∷◌, length, map, get_or, inl, inr}
 use Rattle.std.proofs.Common.{refl, sym, ap, subst, arith}
 use Rattle.std.specs.Prelude.{IsTrue, Some, codes}
 use Rattle.std.specs.Int.RustNames.{unsigned_abs}
 use Rattle.std.proofs.lemmas.Bool.{true≢false}
 use Rattle.std.proofs.lemmas.Int.{ints}
 use Rattle.std.proofs.lemmas.List.{length-map}
-use Rattle.tech_model.specs.GeoCore.FiniteSets.Chain.{Chain}
 use Rattle.tech_model.specs.GeoCore.FiniteSets.Lists.{Distinct, In}
 use Rattle.tech_model.specs.GeoCore.FiniteSets.Total.{sum_on}
 use Rattle.tech_model.specs.GeoCore.Images.{identity}
 use Rattle.tech_model.specs.GeoCore.declared.transforms.Transform.{Transform}
-use Rattle.tech_model.specs.declared.limits.TheConstants.{MOST_CLASSES}
 use Rattle.tech_model.specs.declared.raw.RawTech.{RawTech}
 use Rattle.tech_model.proofs.GeoCore.FiniteSets.Chains.{Chain-carries}
 use Rattle.tech_model.proofs.GeoCore.FiniteSets.Members.{In-map}
@@ -32,9 +30,8 @@ use Rattle.library_trees.specs.NamedTrees.FlatLayouts.{AreFlatLinked, AreOneFlat
 use Rattle.library_trees.specs.NamedTrees.NamedTrees.{NamedTree}
 use Rattle.library_trees.specs.NamedTrees.NamedTrees.NamedElements.{no_more}
 use Rattle.library_trees.specs.Names.Attachments.{label_at}
-use Rattle.library_trees.specs.TreeRecords.TreeCircuits.{IsFlatCircuit, IsFlatNodeRecord}
+use Rattle.library_trees.specs.TreeRecords.TreeCircuits.{IsFlatNodeRecord}
 use Rattle.library_trees.proofs.NameClasses.FullNames.ListOrders.{Distinct-names, pairwise_names, same_in_order}
-use Rattle.stack_runs.specs.Summaries.{area_of, perimeter_of}
 use Rattle.stack_nodes.specs.StackNodes.{IsStackCircuit}
 use Rattle.stack_nodes.specs.StackSums.{StackSumsFit, SumsFit}
 use Rattle.stack_nodes.proofs.CircuitNodes.{diff_below, is_of_tree, poly_below}
@@ -171,7 +168,8 @@ module _ (before : LibraryView) (n : ℕ) (circuit : Circuit) (few : n ≤ MOST_
   few_nodes : length circuit.nodes ≤ MOST_PLACES
   few_nodes =
       let flat = is_of_tree before n circuit is in
-      let once = Distinct-names (map (λ (node : NodeRec). node.name) circuit.nodes) (pairwise_names (map (λ (node : NodeRec). node.name) circuit.nodes) flat.in_order) in
+      let names = map (λ (node : NodeRec). node.name) circuit.nodes in
+      let once = Distinct-names names (pairwise_names names flat.in_order) in
       let places = places_of before.tech tree circuit.nodes flat.sound in
       let most = few_places places (Distinct-places_of before.tech tree circuit.nodes flat.sound once)
       (λ place there. material_may place (place_source before.tech tree circuit.nodes flat.sound place there).2.material) in

@@ -1,6 +1,6 @@
 -- Sums over places: how many places of a region a list may have, and so what areas and perimeters there may be.
-use Rattle.std.proofs.Common.{◌≡◌, ◌<◌, ◌≤◌, ◌+◌, ◌*◌, ◌∙◌, ℕ, suc, ℤ, pos, ◌≤ℤ◌, ◌*ℤ◌, Bool, true, false, not, List, [], ◌∷◌, length, map, inl, inr, refl, sym, ap}
-use Rattle.std.proofs.Common.{subst, arith}
+use Rattle.std.proofs.Common.{◌≡◌, ◌<◌, ◌≤◌, ◌+◌, ◌*◌, ◌∙◌, ℕ, suc, ℤ, pos, ◌≤ℤ◌, ◌*ℤ◌, Bool, true, false, not, List, [], ◌∷◌, length, map}
+use Rattle.std.proofs.Common.{inl, inr, refl, sym, ap, subst, arith}
 use Rattle.std.proofs.lemmas.Bool.{cases_Bool}
 use Rattle.std.proofs.lemmas.Int.{ints}
 use Rattle.std.proofs.lemmas.List.{length-map}
@@ -79,7 +79,8 @@ one_place a b may also same =
     let also_right = also.area.left_of_xhi in
     let also_above = also.area.below_yhi in
     let planes = one_plane a.plane b.plane (nonnegative_part a.square.y * 3000 + nonnegative_part a.square.x)
-    (nonnegative_part b.square.y * 3000 + nonnegative_part b.square.x) (omega (arith, ints, x, y, right, above)) (omega (arith, ints, u, v, also_right, also_above)) same in
+    (nonnegative_part b.square.y * 3000 + nonnegative_part b.square.x) (omega (arith, ints, x, y, right, above))
+    (omega (arith, ints, u, v, also_right, also_above)) same in
     let rows = one_row (nonnegative_part a.square.y) (nonnegative_part b.square.y) (nonnegative_part a.square.x) (nonnegative_part b.square.x)
     (omega (arith, ints, x, right)) (omega (arith, ints, u, also_right)) planes.1 in
     same_place a b planes.0 (sym x ∙ ap pos rows.1 ∙ u) (sym y ∙ ap pos rows.0 ∙ v)

@@ -1,5 +1,5 @@
 -- A node of the tile has its name in each tile of a stack, behind the names of the row and of the tile.
-use Rattle.std.proofs.Common.{◌≡◌, ◌<◌, ◌∙◌, ℕ, ℤ, pos, Bool, false, cond, List, [], ◌∷◌, ◌++◌, append_assoc, length, refl, sym, ap, subst, inl, inr}
+use Rattle.std.proofs.Common.{◌≡◌, ◌<◌, ◌∙◌, ℕ, pos, Bool, false, cond, List, [], ◌∷◌, ◌++◌, append_assoc, length, refl, sym, ap, subst, inl, inr}
 use Rattle.std.specs.Prelude.{Some, codes}
 use Rattle.tech_model.specs.GeoCore.FiniteSets.Chain.Chain.{stay}
 use Rattle.tech_model.specs.GeoCore.Images.{identity}

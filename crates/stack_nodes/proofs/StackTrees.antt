@@ -1,5 +1,5 @@
 -- The named tree of a stack: its rows, and their tiles.
-use Rattle.std.proofs.Common.{◌≡◌, ◌+◌, ◌∙◌, ℕ, suc, List, [], ◌∷◌, length, refl, ap, arith}
+use Rattle.std.proofs.Common.{◌≡◌, ◌+◌, ◌∙◌, ℕ, suc, List, [], ◌∷◌, length, ap, arith}
 use Rattle.std.specs.Prelude.{Some, codes}
 use Rattle.std.proofs.lemmas.List.{get_or-append-add}
 use Rattle.tech_model.specs.GeoCore.Images.{identity}

@@ -1,9 +1,8 @@
 -- The names that the labels of a tile give to nodes of its paint.
-use Rattle.std.proofs.Common.{◌≡◌, ◌<◌, ◌∙◌, ℕ, zero, suc, ℤ, pos, List, length, get_or, refl, sym, ap, subst, arith, inl, inr}
+use Rattle.std.proofs.Common.{◌≡◌, ◌<◌, ℕ, zero, suc, List, length, get_or, refl, sym, ap, subst, arith, inl, inr}
 use Rattle.std.specs.Prelude.{IsTrue, codes, Some, slice_index_or}
 use Rattle.std.proofs.lemmas.Int.{ints}
 use Rattle.tech_model.specs.GeoCore.FiniteSets.Chain.Chain.{stay}
-use Rattle.tech_model.specs.GeoCore.FiniteSets.Least.{IsLeast}
 use Rattle.tech_model.specs.GeoCore.FiniteSets.Lists.{In}
 use Rattle.tech_model.specs.GeoCore.declared.squares.Square.{Square}
 use Rattle.tech_model.specs.GeoCore.Covering.{Covers}
@@ -15,20 +14,20 @@ use Rattle.tech_model.specs.Types.{image_on, images_of, is_within, layer_number,
 use Rattle.tech_model.specs.WellFormed.{IsWellFormed}
 use Rattle.tech_model.proofs.GeoCore.FiniteSets.Members.{In-get_or}
 use Rattle.tech_model.proofs.TypeLaws.{within_self}
-use Rattle.cell_library.specs.LowerLayoutTrees.LayoutModel.Layouts.{IsMaterial, Layout}
-use Rattle.cell_library.specs.LowerLayoutTrees.LayoutModel.Places.{Place, IsNoLater}
+use Rattle.cell_library.specs.LowerLayoutTrees.LayoutModel.Layouts.{IsMaterial}
+use Rattle.cell_library.specs.LowerLayoutTrees.LayoutModel.Places.{Place}
 use Rattle.cell_paint.specs.Painting.{place_at}
 use Rattle.cell_paint.proofs.AgainLaws.{found_image}
 use Rattle.ext_model.specs.NodeNames.{is_naming_text}
 use Rattle.layout_gen.specs.Generated.{diff_label, poly_label, tile_labels, tile_layout}
 use Rattle.library_trees.specs.NamedTrees.FlatLayouts.{HasOwnName}
 use Rattle.library_trees.specs.NamedTrees.NamedTrees.{OwnBody}
-use Rattle.library_trees.specs.Names.Attachments.{AttachesTo, HasText, IsFirstToAttach, Suits, label_at, touched}
+use Rattle.library_trees.specs.Names.Attachments.{HasText, IsFirstToAttach, Suits, label_at, touched}
 use Rattle.library_trees.specs.Names.NamedNodes.{AreOneNamedNode}
 use Rattle.library_trees.proofs.CellNodes.NodePlaces.{AreOneNamedNode-sym, material_along}
 use Rattle.library_trees.proofs.TreeNames.Names.AttachLaws.{suits_material}
 use Rattle.stack_nodes.proofs.LeastPlaces.{not_without_least}
-use Rattle.stack_nodes.proofs.TilePaint.{IsInTile, diff_square, diff_stands, paint_in_tile, poly_square, poly_stands}
+use Rattle.stack_nodes.proofs.TilePaint.{diff_square, diff_stands, paint_in_tile, poly_square, poly_stands}
 
 -- what a tile has of its own
 abbrev pub tile_body : ℕ → List ℕ → RawTech → ℕ → ℕ → OwnBody

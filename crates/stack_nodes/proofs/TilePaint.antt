@@ -1,5 +1,5 @@
 -- The paint of a tile: it lies in the tile, has types of its planes alone, and beside each label the images of the label's layer.
-use Rattle.std.proofs.Common.{◌≡◌, ◌<◌, ◌∙◌, ℕ, ℤ, pos, ◌≤ℤ◌, ◌<ℤ◌, length, refl, arith, inl, inr}
+use Rattle.std.proofs.Common.{◌≡◌, ◌<◌, ◌∙◌, ℕ, pos, length, refl, arith, inl, inr}
 use Rattle.std.proofs.lemmas.Bool.{cases_Bool, cases_eq}
 use Rattle.std.proofs.lemmas.Int.{ints}
 use Rattle.tech_model.specs.GeoCore.FiniteSets.Lists.{In}
@@ -58,11 +58,11 @@ module _ (raw : RawTech) (poly diff : ℕ) where
       | inl in_poly ↦ (
           let covers = Covers-is_covered poly_area place.square in_poly in
           record {
-          right_of_xlo = omega (arith, ints, covers.right_of_xlo);
-          left_of_xhi = omega (arith, ints, covers.left_of_xhi);
-          above_ylo = omega (arith, ints, covers.above_ylo);
-          below_yhi = omega (arith, ints, covers.below_yhi);
-        })
+            right_of_xlo = omega (arith, ints, covers.right_of_xlo);
+            left_of_xhi = omega (arith, ints, covers.left_of_xhi);
+            above_ylo = omega (arith, ints, covers.above_ylo);
+            below_yhi = omega (arith, ints, covers.below_yhi);
+          })
       | inr beyond ↦ absurd (material
           (changed_outside (painted_column raw diff) (is_covered diff_area) poly_layout place outside
           ∙ changed_outside (painted_column raw poly) (is_covered poly_area) no_paint place beyond))
