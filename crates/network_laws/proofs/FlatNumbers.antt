@@ -78,8 +78,7 @@ module _ (elements : List Element) (classes : ℕ) (circuit : Circuit) (are : Ar
       → In name (Records.names_of records)
       → (first : List ℕ) × In first (map (λ (node : NodeRec). node.name) circuit.nodes) × AreOfOneNode records first name
   of_preferred of name here =
-      let node = of name here in
-      (
+      let node = of name here in (
         node.node.name,
         In-map (λ (one : NodeRec). one.name) node.node circuit.nodes node.within,
         joined elements classes circuit are node.node node.within name node.named,
