@@ -1,16 +1,13 @@
 -- Records that are made one after another: how far they are counted, and which serials they have.
-use Rattle.std.proofs.Common.{◌≡◌, ◌⊎◌, ◌<◌, ◌≤◌, ◌+◌, ℕ, suc, List, [], ◌∷◌, length, map, Some, inl, inr, refl, sym, ap, subst, ◌∙◌, arith}
+use Rattle.std.proofs.Common.{◌≡◌, ◌⊎◌, ◌<◌, ◌+◌, ℕ, suc, List, [], ◌∷◌, length, map, Some, inl, inr, sym, ap, ◌∙◌, arith}
 use Rattle.std.specs.List.{range_with_len}
 use Rattle.std.specs.Prelude.{Option, option_map}
-use Rattle.finite_sets.specs.Lists.{Distinct, In}
+use Rattle.finite_sets.specs.Lists.{Distinct}
 use Rattle.finite_sets.proofs.Distincts.{Distinct-filter}
 use Rattle.ext_model.specs.declared.arrays.ArrayExt.{ArrayExt}
 use Rattle.ext_model.specs.declared.tables.ExtEntry.{ExtEntry}
-use Rattle.use_orders.specs.LibraryOrder.{IsLibraryOrder}
-use Rattle.cell_library.specs.Additions.{children_in}
-use Rattle.cell_library.specs.Libraries.{LibraryParts, seen}
+use Rattle.cell_library.specs.Libraries.{LibraryParts}
 use Rattle.ext_cache.specs.declared.extraction.Extracted.{Extracted}
-use Rattle.ext_cache.specs.declared.limits.TheConstants.{LAST_SERIAL}
 use Rattle.ext_cache.specs.Caches.{Extracts, HasNewSerials, HasSerialsFor, IsCounted, MakesRecords, Records, dirty_cells, entry_in, is_dirty}
 use Rattle.ext_cache.specs.Caches.{next_serial, serial_in, stamp_in, with_record}
 use Rattle.ext_cache.proofs.MakingLaws.{kept_unmade}
