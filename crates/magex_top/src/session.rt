@@ -12,7 +12,9 @@ ghost use Rattle.magex_top.specs.Sessions.{CommandMeans, LineMeans};
 use cif_commands::cifstat;
 use circuit_commands::{CircuitFile, ext2sim};
 use extract_commands::{VectorQuestion, circuit, extract, generate, vectors};
-use library_commands::{LayoutSession, Way, bring_back, check, edit, load, look_at, tech, write};
+use library_commands::{
+    LayoutSession, Way, bring_back, check, edit, load, look_at, tech, write_cif,
+};
 use line_answers::{refuse, told, worded};
 use look_commands::Look;
 use network_commands::simrun;
@@ -134,7 +136,7 @@ fn answer<F: Shelf>(
         Command::Save(cell) => look_at(alloc, session, number, cell, Look::Save),
         Command::Squares(cell) => look_at(alloc, session, number, cell, Look::Squares),
         Command::Drc(cell, file) => check(alloc, session, shelf, number, cell, file),
-        Command::Cif(cell) => write(alloc, session, number, cell),
+        Command::Cif(cell) => write_cif(alloc, session, number, cell),
         Command::Cifstat(file) => cifstat(alloc, shelf, number, file),
         Command::Nodes(cell) => look_at(alloc, session, number, cell, Look::Nodes),
         Command::Extract(cell) => extract(alloc, session, number, cell),

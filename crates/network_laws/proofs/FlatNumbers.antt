@@ -35,7 +35,7 @@ module _ (elements : List Element) (classes : ℕ) (circuit : Circuit) (are : Ar
 
   -- each name of a flat node is of one node with its preferred name
   of_one : (node : NodeRec) → In node circuit.nodes → (name : List ℕ) → In name (names_of node) → AreOneNode elements node.name name
-  of_one node within name named = ((are.sound node within).names name).0 named.1
+  of_one node within name named = (((are.sound node within).names name).0 named).1
 
   -- so are the two names of an alias line
   alias_of_one : (a b : List ℕ) → IsAlias records a b → AreOneNode elements a b
@@ -78,8 +78,7 @@ module _ (elements : List Element) (classes : ℕ) (circuit : Circuit) (are : Ar
       → In name (Records.names_of records)
       → (first : List ℕ) × In first (map (λ (node : NodeRec). node.name) circuit.nodes) × AreOfOneNode records first name
   of_preferred of name here =
-      let node = of name here in
-      (
+      let node = of name here in (
         node.node.name,
         In-map (λ (one : NodeRec). one.name) node.node circuit.nodes node.within,
         joined elements classes circuit are node.node node.within name node.named,

@@ -1,5 +1,5 @@
 //! Which stuck faults of a circuit a vector file detects.
-ghost use Rattle.std.specs.Prelude.{◌≡◌, ◌++◌, ◌<◌, ◌≤◌, All, length, IfOk, OnOk, IsOkUnless, map};
+ghost use Rattle.std.specs.Prelude.{◌≡◌, ◌++◌, ◌<◌, ◌≤◌, All, length, IfOk, OnOk, IsOkUnless};
 ghost use Rattle.std.specs.List.{count_by};
 ghost use Rattle.switch_net.specs.Net.{network_of};
 ghost use Rattle.vector_files.specs.VectorFiles.{IsWithin};
@@ -13,7 +13,7 @@ ghost use Rattle.network_runs.specs.Grading.{grade_text, is_detected, preferred_
 
 use crate::refusals::limit_passed;
 use crate::simulations::refused_vectors;
-use ext_model::{Circuit, NodeRec};
+use ext_model::Circuit;
 use fault_grade::{GradeFault, Graded, grade, has_too_many_faults};
 use line_answers::reply;
 use names_lists::{List, Name};
@@ -85,21 +85,20 @@ fn grade_lines(
     requires { All (λ graded. graded.node < length circuit.now.nodes) grades.now }
     ensures { IfOk result (λ lines. lines.items ≡ grade_lines cell.now (preferred_names circuit.now) grades.now) }
 {
-    let nodes = circuit.nodes.items();
     let mut lines = Vec::new(alloc);
     for graded in grades {
-        lines.push(grade_line(alloc, nodes, graded)?)?;
+        lines.push(grade_line(alloc, circuit, graded)?)?;
     }
     lines.push(reply(coverage_text(alloc, cell, grades)?))?;
     Ok(lines)
 }
 
-// The line of a grade, of one of these nodes.
-fn grade_line(alloc: Global, nodes: &[NodeRec], graded: &Graded) -> Result<ReportLine, AllocError>
-    requires { graded.now.node < length nodes.now }
-    ensures { IfOk result (λ line. line ≡ grade_line (map (λ node. node.name) nodes.now) graded.now) }
+// The line of a grade, of one of the nodes of the circuit.
+fn grade_line(alloc: Global, circuit: &Circuit, graded: &Graded) -> Result<ReportLine, AllocError>
+    requires { graded.now.node < length circuit.now.nodes }
+    ensures { IfOk result (λ line. line ≡ grade_line (preferred_names circuit.now) graded.now) }
 {
-    let node = &nodes[graded.node as usize];
+    let node = &circuit.nodes.items()[graded.node as usize];
     Ok(ReportLine {
         kind: LineKind::Fault,
         text: List::of(grade_text(alloc, &node.name, graded)?),

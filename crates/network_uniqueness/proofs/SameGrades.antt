@@ -1,5 +1,6 @@
 -- How vectors grade faults rests on the network and on which name has which node, and not on how the names are listed.
-use Rattle.std.proofs.Common.{◌≡◌, ℕ, List, [], ◌∷◌, Option, Some, None, refl, sym, subst}
+use Rattle.std.proofs.Common.{◌≡◌, ℕ, Bool, List, [], ◌∷◌, Option, Some, None, refl, sym, ap, subst}
+use Rattle.std.proofs.Math.Path.{fun_ext}
 use Rattle.std.specs.Prelude.{MatchOption}
 use Rattle.std.specs.List.{AllZip}
 use Rattle.switch_net.specs.Network.{Network}
@@ -7,9 +8,8 @@ use Rattle.vector_files.specs.declared.files.Vectors.{Vectors}
 use Rattle.vector_files.specs.LineForms.{is_rail}
 use Rattle.vector_runs.specs.declared.stuck_faults.StuckFault.{StuckFault}
 use Rattle.fault_grade.specs.declared.grading.Graded.{Graded}
-use Rattle.fault_grade.specs.Grades.{AreGrades, Detects, IsDetectedAt, IsGrade, IsUndetected, faults_of}
+use Rattle.fault_grade.specs.Grades.{AreGrades, Detects, IsDetectedAt, IsGrade, IsUndetected, faults_but, faults_of}
 use Rattle.fault_grade.specs.Laws as Grading
-use Rattle.fault_grade.proofs.GradeLaws.{same_faults}
 use Rattle.network_uniqueness.specs.Networks.{NameAlike}
 use Rattle.network_uniqueness.proofs.SameReplies.{begins_alike}
 
@@ -50,7 +50,7 @@ module _ (net : Network) (budget : ℕ) (vectors : Vectors) where
 pub faults_alike : (names others : List (List ℕ × ℕ)) → ((v : ℕ) → is_rail names v ≡ is_rail others v) → (nodes more : ℕ) → nodes ≡ more
     → faults_of names nodes ≡ faults_of others more
 faults_alike names others rails nodes more same =
-    subst (λ (n : ℕ). faults_of names nodes ≡ faults_of others n) same (same_faults (is_rail names) (is_rail others) nodes rails)
+    subst (λ (n : ℕ). faults_of names nodes ≡ faults_of others n) same (ap (λ (test : ℕ → Bool). faults_but test nodes) (fun_ext rails))
 
 -- vectors have one list of grades
 pub grades_alike : Grading.GradesAreUnique → (net other : Network) (names others : List (List ℕ × ℕ)) → net ≡ other → NameAlike names others

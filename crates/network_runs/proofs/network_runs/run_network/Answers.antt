@@ -35,5 +35,5 @@ returns-in-Grade-clause-tells c =
     IfOk-weaker c.coverage_lines.result _ _
     (λ lines tells. subst (λ (run : NetworkRun). TellsOn run c.args.budget c.args.number circuit lines.items) (sym c.in-Grade.is)
     (tells_coverage c.args.budget c.args.number c.in-Grade.cell c.in-Grade.text circuit net names lines.items c.requires.net c.requires.nodes
-    (subst (λ (text : List ℕ). TellsFaults c.args.budget c.args.number c.in-Grade.cell text circuit net names lines.items) c.items.ensures tells)))
+    (subst (λ (text : List ℕ). TellsFaults c.args.budget c.args.number c.in-Grade.cell text circuit net names lines.items) c.items-in-Grade.ensures tells)))
     c.coverage_lines.ensures.tells
