@@ -8,6 +8,7 @@ pub mod MadeLaws
 pub mod MakingLaws
 pub mod OrderLaws
 pub mod RecordLaws
+pub mod SerialLaws
 pub mod UncleanLaws
 pub mod UndoingLaws
 pub mod WorkLaws

@@ -25,7 +25,7 @@ use Rattle.ext_cache.proofs.MakingLaws.{clean_making, dirty_unmade, makes_more}
 use Rattle.ext_cache.proofs.OrderLaws.{below_is_before, place_of}
 use Rattle.ext_cache.proofs.RecordLaws.{agrees_made, kept_clean}
 use Rattle.ext_cache.proofs.UndoingLaws.{log_more}
-use Rattle.ext_cache.proofs.WorkLaws.{work_within}
+use Rattle.ext_cache.proofs.WorkLaws.{HasWorkOf, has_work_more, work_within}
 
 -- The cells before the place are clean, and a record was made of each of them that was dirty, and was told and logged.
 pub record IsMadeTo (library : LibraryParts) (order : List ℕ) (place : ℕ) (before records : Records) (told : List Extracted) (log : List Undo)
@@ -159,6 +159,24 @@ module _ (library : LibraryParts) (order : List ℕ) (place : ℕ) (before recor
       }
 
   -- ---- the work
+
+  -- a cell that is passed over adds none
+  pub has_work_passed : (start here : ℕ) → is_dirty library records cell ≡ false
+      → HasWorkOf (seen library) (dirty_cells library before (take place order)) start here
+      → HasWorkOf (seen library) (dirty_cells library before (take (place + 1) order)) start here
+  has_work_passed start here clean =
+      subst (λ (cells : List ℕ). HasWorkOf (seen library) cells start here)
+      (sym (dirty_no_more library before order place cell below at (sym dirty_here ∙ clean)))
+
+  -- and one of which a new record is made adds its own
+  pub has_work_next : (start here after : ℕ) → is_dirty library records cell ≡ true
+      → ((own : ℕ) × IsWork (seen library) cell own × (after ≤ here + (2 * own + 2)))
+      → HasWorkOf (seen library) (dirty_cells library before (take place order)) start here
+      → HasWorkOf (seen library) (dirty_cells library before (take (place + 1) order)) start after
+  has_work_next start here after dirty own work =
+      subst (λ (cells : List ℕ). HasWorkOf (seen library) cells start after)
+      (sym (dirty_one_more library before order place cell below at (sym dirty_here ∙ dirty)))
+      (has_work_more (seen library) (dirty_cells library before (take place order)) cell start here after work own)
 
   module _ (start here : ℕ)
       (bound : (work : ℕ) → IsWorkOfAll (seen library) (dirty_cells library before (take place order)) work → here ≤ start + work) where

@@ -1,14 +1,15 @@
 -- Records that are made one after another, and which cells are dirty then.
-use Rattle.std.proofs.Common.{◌≡◌, ◌⊎◌, ◌<◌, ℕ, false, List, [], ◌∷◌, ◌++◌, length, inl, inr, refl, sym, ap, subst, ◌∙◌}
+use Rattle.std.proofs.Common.{◌≡◌, ◌⊎◌, ◌<◌, ℕ, false, List, [], ◌∷◌, ◌++◌, length, Option, inl, inr, refl, sym, ap, subst, ◌∙◌}
 use Rattle.std.proofs.lemmas.Bool.Decides.{eqb_tells}
 use Rattle.finite_sets.specs.Lists.{In}
 use Rattle.ext_model.specs.declared.arrays.ArrayExt.{ArrayExt}
+use Rattle.ext_model.specs.declared.tables.ExtEntry.{ExtEntry}
 use Rattle.names.specs.Attachments.{AreUnattached}
 use Rattle.cell_library.specs.Libraries.{LibraryParts, seen}
 use Rattle.cell_library.specs.Views.{view_at}
 use Rattle.ext_cache.specs.declared.extraction.Extracted.{Extracted}
-use Rattle.ext_cache.specs.Caches.{Agrees, IsRecordNow, MakesRecords, Records, is_dirty, stamp_in, with_record}
-use Rattle.ext_cache.proofs.RecordLaws.{agrees_made, clean_made, dirty_besides}
+use Rattle.ext_cache.specs.Caches.{Agrees, IsRecordNow, MakesRecords, Records, entry_in, is_dirty, is_stale, stamp_in, with_record}
+use Rattle.ext_cache.proofs.RecordLaws.{agrees_made, clean_made, found_there}
 
 -- the cell is listed, or it is none of the list
 listed_or_not : (key : ℕ) (cells : List ℕ) → In key cells ⊎ (In key cells → ⊥)
@@ -30,13 +31,19 @@ module _ (library : LibraryParts) where
       agrees_making cells (with_record records cell ext (stamp_in library cell)) after rest (λ key listed. there key (inr listed))
       (agrees_made library records cell ext (there cell (inl refl)) now agrees) later
 
-  -- a cell of which no record is made is dirty as before
+  -- a cell of which no record is made has the entry that it had
+  pub kept_unmade : (cells : List ℕ) (records after : Records) (told : List Extracted) → MakesRecords library cells records after told
+      → (key : ℕ) → (In key cells → ⊥) → entry_in after key ≡ entry_in records key
+  kept_unmade [] records after told makes key absent = ap (λ (r : Records). entry_in r key) makes.0
+  kept_unmade (cell ∷ cells) records after told (ext, unattached, rest, now, are, told_is, later) key absent =
+      kept_unmade cells (with_record records cell ext (stamp_in library cell)) after rest later key (λ listed. absent (inr listed))
+      ∙ found_there records cell ext (stamp_in library cell) key (λ same. absent (inl (sym same)))
+
+  -- so it is dirty as before
   pub dirty_unmade : (cells : List ℕ) (records after : Records) (told : List Extracted) → MakesRecords library cells records after told
       → (key : ℕ) → (In key cells → ⊥) → is_dirty library after key ≡ is_dirty library records key
-  dirty_unmade [] records after told makes key absent = ap (λ (r : Records). is_dirty library r key) makes.0
-  dirty_unmade (cell ∷ cells) records after told (ext, unattached, rest, now, are, told_is, later) key absent =
-      dirty_unmade cells (with_record records cell ext (stamp_in library cell)) after rest later key (λ listed. absent (inr listed))
-      ∙ dirty_besides library records cell ext key (λ same. absent (inl (sym same)))
+  dirty_unmade cells records after told makes key absent =
+      ap (λ (found : Option ExtEntry). is_stale found (stamp_in library key)) (kept_unmade cells records after told makes key absent)
 
   -- a cell of which a record is made is not dirty then
   pub clean_making : (cells : List ℕ) (records after : Records) (told : List Extracted) → MakesRecords library cells records after told

@@ -1,12 +1,12 @@
 -- Records that are kept, one more of them, and which cells are dirty then.
 use Rattle.std.proofs.Common.{◌≡◌, ◌≢◌, ◌⊎◌, ◌<◌, ◌≤◌, ◌==◌, not, ℕ, Bool, true, false, cond, length, map, Option, Some, None}
 use Rattle.std.proofs.Common.{refl, sym, ap, subst, ◌∙◌, inl, inr, arith}
-use Rattle.std.specs.Prelude.{option_map}
+use Rattle.std.specs.Prelude.{nat_lt, option_map, suc}
 use Rattle.std.specs.Cmp.{unsigned_tied}
 use Rattle.std.specs.FinMap as fin_map
 use Rattle.std.specs.Ordering.{nat_cmp}
-use Rattle.std.proofs.lemmas.Bool.{eq-eqb, ne_eqb}
-use Rattle.std.proofs.lemmas.Bool.Decides.{eqb_tells}
+use Rattle.std.proofs.lemmas.Bool.{cases_lt, eq-eqb, ne_eqb}
+use Rattle.std.proofs.lemmas.Bool.Decides.{eqb_tells, nat_tests}
 use Rattle.std.proofs.lemmas.Cmp.{nat_cmp_total}
 use Rattle.ext_model.specs.declared.arrays.ArrayExt.{ArrayExt}
 use Rattle.ext_model.specs.declared.tables.ExtEntry.{ExtEntry}
@@ -31,6 +31,7 @@ use Rattle.cell_tree.specs.Uses.{HasChild}
 use Rattle.cell_library.specs.Libraries.{LibraryParts, IsSame, seen}
 use Rattle.cell_library.specs.Views.{CellView, LibraryView, view_at}
 use Rattle.cell_library.proofs.ViewLaws.{count_seen}
+use Rattle.ext_cache.specs.declared.limits.TheConstants.{LAST_SERIAL}
 use Rattle.ext_cache.specs.Caches.{Agrees, IsRecordNow, Records, entry_in, is_dirty, is_stale, next_serial, no_records}
 use Rattle.ext_cache.specs.Caches.{record_in, stamp_in, with_record}
 
@@ -46,6 +47,7 @@ agrees_none library = record {
   known = λ cell entry is. absurd (some_none entry (sym (none_in cell) ∙ is));
   past = λ cell entry is. absurd (some_none entry (sym (none_in cell) ∙ is));
   now = λ cell entry is. absurd (some_none entry (sym (none_in cell) ∙ is));
+  serials = λ cell entry is. absurd (some_none entry (sym (none_in cell) ∙ is));
 }
   where
     some_none : (entry : ExtEntry) → ◌≡◌ {A = Option ExtEntry} None (Some entry) → ⊥
@@ -103,6 +105,7 @@ agrees_with old new records more tech past now agrees = record {
   now = λ cell entry is stamp.
       let stayed = now cell entry is stamp in
       record_stays (seen old) (seen new) cell entry.ext tech stayed.1 (agrees.now cell entry is (stamp ∙ stayed.0));
+  serials = agrees.serials;
 }
 
 -- Where nothing changed, records agree as before.
@@ -116,6 +119,19 @@ agrees_same old new records same agrees =
 -- And the same cells are dirty.
 pub dirty_same : (old new : LibraryParts) (records : Records) (cell : ℕ) → IsSame old new → is_dirty new records cell ≡ is_dirty old records cell
 dirty_same old new records cell same = λ i. is_stale (entry_in records cell) (stamp_at (same.tree i).stamps cell)
+
+-- ---- serials
+
+-- the count never falls
+pub serial_keeps : (made : ℕ) → made ≤ next_serial made
+serial_keeps made = elim (cases_lt made LAST_SERIAL) [
+  | inl below ↦ let is : nat_lt made LAST_SERIAL ≡ true = grind (arith, nat_tests) in rw is (omega arith)
+  | inr last ↦ let is : nat_lt made LAST_SERIAL ≡ false = grind (arith, nat_tests) in rw is (omega arith)
+]
+
+-- and rises by one, as long as it has not come to its end
+pub serial_rises : (made : ℕ) → made < LAST_SERIAL → next_serial made ≡ suc made
+serial_rises made below = let is : nat_lt made LAST_SERIAL ≡ true = grind (arith, nat_tests) in rw is refl
 
 -- ---- one more record
 
@@ -149,12 +165,12 @@ module _ (records : Records) (cell : ℕ) (ext : ArrayExt) (stamp : ℕ) where
   found_here = found_in cell ∙ ap (λ (tied : Bool). cond tied (Some entry_made) (entry_in records cell)) (eq-eqb cell cell refl)
 
   -- and any other cell the one that it had
-  found_there : (key : ℕ) → key ≢ cell → entry_in (with_record records cell ext stamp) key ≡ entry_in records key
+  pub found_there : (key : ℕ) → key ≢ cell → entry_in (with_record records cell ext stamp) key ≡ entry_in records key
   found_there key other =
       found_in key ∙ ap (λ (tied : Bool). cond tied (Some entry_made) (entry_in records key)) (ne_eqb key cell other)
 
   -- an entry is the new one of the cell, or was there before
-  found_as : (key : ℕ) (entry : ExtEntry) → entry_in (with_record records cell ext stamp) key ≡ Some entry
+  pub found_as : (key : ℕ) (entry : ExtEntry) → entry_in (with_record records cell ext stamp) key ≡ Some entry
       → ((key ≡ cell) × (entry_made ≡ entry)) ⊎ (entry_in records key ≡ Some entry)
   found_as key entry is = elim (eqb_tells key cell) [
     | inl here ↦
@@ -186,6 +202,12 @@ module _ (library : LibraryParts) (records : Records) (cell : ℕ) (ext : ArrayE
           (subst (λ (e : ExtEntry). IsRecordNow (seen library) cell e.ext) here.1 now)
       | inr there ↦ agrees.now key entry there stamp
     ];
+    serials = λ key entry is. elim (found_as records cell ext (stamp_in library cell) key entry is) [
+      | inl here ↦
+          let serial : next_serial records.made ≡ entry.serial = ap (λ (e : ExtEntry). e.serial) here.1 in
+          omega (arith, serial)
+      | inr there ↦ omega (arith, agrees.serials key entry there, serial_keeps records.made)
+    ];
   }
 
   -- The cell is not dirty then.
@@ -193,12 +215,6 @@ module _ (library : LibraryParts) (records : Records) (cell : ℕ) (ext : ArrayE
   clean_made =
       ap (λ (found : Option ExtEntry). is_stale found (stamp_in library cell)) (found_here records cell ext (stamp_in library cell))
       ∙ fresh (entry_made records cell ext (stamp_in library cell)) (stamp_in library cell) refl
-
-  -- Any other cell is dirty as before.
-  pub dirty_besides : (key : ℕ) → key ≢ cell
-      → is_dirty library (with_record records cell ext (stamp_in library cell)) key ≡ is_dirty library records key
-  dirty_besides key other =
-      ap (λ (found : Option ExtEntry). is_stale found (stamp_in library key)) (found_there records cell ext (stamp_in library cell) key other)
 
 -- A cell that is not dirty has a record, which is that of the cell as it is.
 pub kept_clean : (library : LibraryParts) (records : Records) (cell : ℕ) → Agrees library records → is_dirty library records cell ≡ false

@@ -33,3 +33,20 @@ work_within view first rest cell start here after before own work is =
     let bound = before split.before split.is_before in
     let next = own split.is_after.0 split.is_after.2 in
     omega (arith, bound, next, split.sum, split.is_after.4)
+
+-- There is such work of the cells, and the steps since the start are within it.
+abbrev pub HasWorkOf : LibraryView → List ℕ → ℕ → ℕ → Type 0
+HasWorkOf view cells start here = (work : ℕ) × IsWorkOfAll view cells work × (here ≤ start + work)
+
+-- the work of one more cell behind the others
+work_more : (view : LibraryView) (cells : List ℕ) (cell work own : ℕ) → IsWorkOfAll view cells work → IsWork view cell own
+    → IsWorkOfAll view (cells ++ cell ∷ []) (work + (2 * own + 2))
+work_more view [] cell work own none is_own = (own, 0, is_own, refl, omega (arith, none))
+work_more view (first ∷ cells) cell work own (one, others, is_one, are_others, sum) is_own =
+    (one, others + (2 * own + 2), is_one, work_more view cells cell others own are_others is_own, omega (arith, sum))
+
+-- Where the cells took no more than work of theirs, and one more cell no more than work of its own, all of them took no more than theirs.
+pub has_work_more : (view : LibraryView) (cells : List ℕ) (cell start here after : ℕ) → HasWorkOf view cells start here
+    → ((own : ℕ) × IsWork view cell own × (after ≤ here + (2 * own + 2))) → HasWorkOf view (cells ++ cell ∷ []) start after
+has_work_more view cells cell start here after (work, is, within) (own, is_own, next) =
+    (work + (2 * own + 2), work_more view cells cell work own is is_own, omega (arith, within, next))

@@ -1,6 +1,7 @@
 -- The records that are kept of a library's cells, which cells are dirty, and what an extraction does.
-use Rattle.std.specs.Prelude.{◌≡◌, ◌<◌, ◌≤◌, ◌==◌, nat_lt, not, if◌then◌else◌, ℕ, suc, ◌+◌, ◌*◌, Bool, true, List, [], ◌∷◌, length, filter, Option, Some}
-use Rattle.std.specs.Prelude.{None, option_map, refl}
+use Rattle.std.specs.Prelude.{◌≡◌, ◌⊎◌, ◌<◌, ◌≤◌, ◌==◌, nat_lt, not, if◌then◌else◌, ℕ, suc, ◌+◌, ◌*◌, Bool, true, List, [], ◌∷◌, length, filter, map}
+use Rattle.std.specs.Prelude.{Option, Some, None, option_map, refl}
+use Rattle.std.specs.List.{range_with_len}
 use Rattle.std.specs.Coded.{Coded, code_by, coded×, coded_ℕ}
 use Rattle.std.specs.FinMap as fin_map
 use Rattle.std.specs.Ordering.{nat_cmp}
@@ -43,6 +44,10 @@ entry_in records cell = fin_map.get records.entries cell
 abbrev pub record_in : Records → ℕ → Option ArrayExt
 record_in records cell = option_map (λ entry. entry.ext) (entry_in records cell)
 
+-- the serial of the record of a cell
+abbrev pub serial_in : Records → ℕ → Option ℕ
+serial_in records cell = option_map (λ entry. entry.serial) (entry_in records cell)
+
 -- the stamp that a cell has now
 abbrev pub stamp_in : LibraryParts → ℕ → ℕ
 stamp_in library cell = stamp_at library.tree.stamps cell
@@ -53,13 +58,14 @@ pub record IsRecordNow (view : LibraryView) (cell : ℕ) (ext : ArrayExt) : Type
   pub is : IsRecordOf view cell ext
   pub lawful : IsLawfulArrayExt ext
 
--- Records are kept of cells of the library alone, none is of a later stamp than its cell has, and one of its cell's stamp is that of the
--- cell as it is.
+-- Records are kept of cells of the library alone, none is of a later stamp than its cell has, one of its cell's stamp is that of the cell as
+-- it is, and none has a serial above the count of those that were made.
 pub record Agrees (library : LibraryParts) (records : Records) : Type 0 where
   pub known : (cell : ℕ) (entry : ExtEntry) → entry_in records cell ≡ Some entry → cell < length library.contents
   pub past : (cell : ℕ) (entry : ExtEntry) → entry_in records cell ≡ Some entry → entry.stamp ≤ stamp_in library cell
   pub now : (cell : ℕ) (entry : ExtEntry) → entry_in records cell ≡ Some entry → entry.stamp ≡ stamp_in library cell
       → IsRecordNow (seen library) cell entry.ext
+  pub serials : (cell : ℕ) (entry : ExtEntry) → entry_in records cell ≡ Some entry → entry.serial ≤ records.made
 
 -- the entry is missing, or of an earlier stamp
 abbrev pub is_stale : Option ExtEntry → ℕ → Bool
@@ -100,6 +106,24 @@ pub record Extracts (library : LibraryParts) (records : Records) (root : ℕ) (a
   pub order : List ℕ
   pub is_order : IsLibraryOrder (children_in (seen library)) root order
   pub makes : MakesRecords library (dirty_cells library records order) records after told
+
+-- So many more records can be made before the count comes to its end.
+abbrev pub HasSerialsFor : Records → ℕ → Type 0
+HasSerialsFor records more = records.made + more ≤ LAST_SERIAL
+
+-- Exactly the dirty cells at and below the root were told, in library order, and the count rose by their number, where it does not come to its
+-- end.
+pub record IsCounted (library : LibraryParts) (before : Records) (root : ℕ) (after : Records) (told : List Extracted) : Type 0 where
+  pub order : List ℕ
+  pub is_order : IsLibraryOrder (children_in (seen library)) root order
+  pub cells : map (λ one. one.cell.0) told ≡ dirty_cells library before order
+  pub made : HasSerialsFor before (length told) → after.made ≡ before.made + length told
+
+-- Each record that is kept was its cell's before, or has a serial above the count before, which no record had then. The cells that were told
+-- have the serials that follow that count, one after another.
+pub record HasNewSerials (before after : Records) (told : List Extracted) : Type 0 where
+  pub each : (cell : ℕ) (entry : ExtEntry) → entry_in after cell ≡ Some entry → (entry_in before cell ≡ Some entry) ⊎ (before.made < entry.serial)
+  pub in_order : map (λ one. serial_in after one.cell.0) told ≡ map Some (range_with_len (before.made + 1) (length told))
 
 -- The steps that records of these cells may take: for each, two for each tile where its parts interact, and two.
 abbrev pub IsWorkOfAll : LibraryView → List ℕ → ℕ → Type 0

@@ -10,7 +10,8 @@ ghost use Rattle.cell_library.specs.Libraries.{seen};
 ghost use Rattle.cell_library.specs.Views.{view_at};
 ghost use Rattle.use_records.specs.KeptRecords.KeptRecords.{HaveKeptRecordsBelow};
 ghost use Rattle.tree_merges.specs.HierMerge.Interactions.{IsWork};
-ghost use Rattle.ext_cache.specs.Caches.{Agrees, Extracts, IsRecordNow, IsWorkOfAll, IsWorkOfExtraction, MakesRecords, dirty_cells, record_in};
+ghost use Rattle.ext_cache.specs.Caches.{Agrees, Extracts, HasNewSerials, HasSerialsFor, IsCounted, IsRecordNow, IsWorkOfAll, IsWorkOfExtraction};
+ghost use Rattle.ext_cache.specs.Caches.{MakesRecords, dirty_cells, record_in};
 ghost use Rattle.ext_cache.specs.MadeRecords.{IsMadeOf};
 ghost use Rattle.ext_cache.specs.Refusals.{IsUncleanFault, IsUncleanIn, IsUncleanCell};
 ghost use Rattle.ext_cache.specs.Undoing.{IsLogOf};
@@ -45,7 +46,8 @@ pub struct MadeRecord {
     pub unattached: List<Name>,
 }
 
-/// Makes a new record of each dirty cell at and below the root, in library order, and tells of each. Where a cell there is not clean, the
+/// Makes a new record of each dirty cell at and below the root, in library order, and tells of each. The count of records rises by the number of
+/// cells that are told, which have the serials that follow it, and no record had before. Where a cell at or below the root is not clean, the
 /// first such is told with the squares that offend. A refusal leaves the records as they were.
 pub fn extract_dirty<L: Ledger>(
     cache: &mut Cache,
@@ -56,10 +58,13 @@ pub fn extract_dirty<L: Ledger>(
     requires root { root.0 < length library.now.contents }
     requires agrees { Agrees library.now cache.old }
     ensures extracted { IfOk result (λ made. Extracts library.now cache.old root.0 cache.new made.items) }
+    ensures counted { IfOk result (λ made. IsCounted library.now cache.old root.0 cache.new made.items) }
+    ensures serials { IfOk result (λ made. HasSerialsFor cache.old (length made.items) → HasNewSerials cache.old cache.new made.items) }
     ensures agrees { Agrees library.now cache.new }
     ensures unclean { IfErr result (IsUncleanFault (seen library.now) root.0) }
     ensures refused { OnErr result (cache.new ≡ cache.old) }
     ensures keeps { OnOk result (KeepsWhatItHas library.now.tech (tree_at (seen library.now) root.0)) }
+    ensures work { IfOk result (λ _. (work : ℕ) × IsWorkOfExtraction library.now cache.old root.0 work × (steps.new ≤ steps.old + work)) }
     ensures steps { (work : ℕ) → IsWorkOfExtraction library.now cache.old root.0 work → steps.new ≤ steps.old + work }
 {
     library.lawful();
@@ -107,6 +112,8 @@ fn extract_all<L: Ledger>(
     ensures agrees { OnOk result (Agrees library.now cache.new) }
     ensures logged { IsLogOf cache.old log.new.items cache.new }
     ensures unclean { IfErr result (IsUncleanIn (seen library.now) (map (λ key. key.0) order.now)) }
+    ensures work { OnOk result ((work : ℕ) × IsWorkOfAll (seen library.now) (dirty_cells library.now cache.old (map (λ key. key.0) order.now)) work
+        × (steps.new ≤ steps.old + work)) }
     ensures steps { (work : ℕ) → IsWorkOfAll (seen library.now) (dirty_cells library.now cache.old (map (λ key. key.0) order.now)) work
         → steps.new ≤ steps.old + work }
 {
@@ -149,6 +156,7 @@ fn tree_record<L: Ledger>(
     ensures unattached { let body = view_at (seen library.now) cell.0 in
         IfOk result (λ made. AreUnattached library.now.tech body.own body.labels made.unattached) }
     ensures unclean { IfErr result (IsUncleanCell (seen library.now) cell.0) }
+    ensures work { IfOk result (λ _. (work : ℕ) × IsWork (seen library.now) cell.0 work × (steps.new ≤ steps.old + (2 * work + 2))) }
     ensures steps { (work : ℕ) → IsWork (seen library.now) cell.0 work → steps.new ≤ steps.old + (2 * work + 2) }
 {
     library.lawful();

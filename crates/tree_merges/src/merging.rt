@@ -2,20 +2,17 @@
 ghost use Rattle.std.specs.Prelude.{◌≤◌, ◌+◌, ◌<◌, ℕ, List, IfOk, length};
 ghost use Rattle.finite_sets.specs.Lists.{Distinct};
 ghost use Rattle.ext_model.specs.declared.records.MergeRec.{MergeRec};
-ghost use Rattle.ext_model.specs.declared.records.NodeRec.{NodeRec};
 ghost use Rattle.ext_model.specs.Rows.{AreRowsOf};
-ghost use Rattle.group_meetings.specs.CellNodes.NodeRecords.{AreNodeRecords};
 ghost use Rattle.hierarchy_model.specs.CleanCells.{IsClean};
 ghost use Rattle.cell_library.specs.Libraries.{seen};
 ghost use Rattle.cell_library.specs.LayoutTrees.{tree_at};
-ghost use Rattle.cell_library.specs.Views.{view_at};
 ghost use Rattle.library_trees.specs.NamedCells.{named_tree_at};
 ghost use Rattle.kept_records.specs.KeptRecords.{HaveKeptRecordsBelow};
 ghost use Rattle.meeting_sums.specs.TreeRecords.Merges.{AreGroupMerges};
 ghost use Rattle.hier_merge.specs.MeetingPieces.{AreMeetingPieces};
 ghost use Rattle.tree_merges.specs.MarkedMerges.{AreMarkedMerges};
 ghost use Rattle.tree_merges.specs.Pieces.{AreNumbered, ArePieceRegions, ArePieces};
-ghost use Rattle.tree_merges.specs.Relations.{records_in};
+ghost use Rattle.tree_merges.specs.Relations.{HasOwnNodes, records_in};
 
 use crate::marking::{marks_of, marks_of_pieces};
 use crate::piece_tiles::regions_of_pieces;
@@ -83,8 +80,7 @@ pub fn merges_of<L: Ledger>(
     requires cell { cell.0 < length library.now.contents }
     requires clean { IsClean library.now.tech (tree_at (seen library.now) cell.0) }
     requires records { HaveKeptRecordsBelow (seen library.now) (records_in records.now) cell.0 }
-    requires nodes { let body = view_at (seen library.now) cell.0 in
-        (nodes : List NodeRec) × AreNodeRecords library.now.tech body.own body.labels nodes }
+    requires nodes { HasOwnNodes (seen library.now) cell.0 }
     requires pieces { AreMeetingPieces library.now.tech (tree_at (seen library.now) cell.0)
         meeting.now.tiles.items meeting.now.starts.items meeting.now.stacks.items }
     ensures merges { IfOk result (λ rows. (merges : List MergeRec)

@@ -1,19 +1,16 @@
 //! What the parts of a cell do to each other: its merges in rows, or the squares at which its parts spoil each other.
 ghost use Rattle.std.specs.Prelude.{◌≡◌, ◌≢◌, ◌↔◌, ◌≤◌, ◌+◌, ◌*◌, ◌<◌, ℕ, List, [], IfOk, length};
 ghost use Rattle.ext_model.specs.declared.records.MergeRec.{MergeRec as OneMerge};
-ghost use Rattle.ext_model.specs.declared.records.NodeRec.{NodeRec as OneNode};
 ghost use Rattle.ext_model.specs.Rows.{AreRowsOf};
-ghost use Rattle.group_meetings.specs.CellNodes.NodeRecords.{AreNodeRecords};
 ghost use Rattle.hierarchy_model.specs.CleanCells.{IsCleanBelow};
 ghost use Rattle.hierarchy_model.specs.Laws.{KeepsWhatItHas};
 ghost use Rattle.cell_library.specs.Libraries.{seen};
 ghost use Rattle.cell_library.specs.LayoutTrees.{tree_at};
-ghost use Rattle.cell_library.specs.Views.{view_at};
 ghost use Rattle.library_trees.specs.NamedCells.{named_tree_at};
 ghost use Rattle.kept_records.specs.KeptRecords.{HaveKeptRecordsBelow};
 ghost use Rattle.meeting_sums.specs.TreeRecords.Merges.{AreGroupMerges};
 ghost use Rattle.hier_merge.specs.Interactions.{IsWork};
-ghost use Rattle.tree_merges.specs.Relations.{records_in};
+ghost use Rattle.tree_merges.specs.Relations.{HasOwnNodes, records_in};
 ghost use Rattle.hier_merge.specs.UncleanCells.{AreOffendingOf, IsCleanCell};
 
 use crate::merging::merges_of;
@@ -35,8 +32,10 @@ pub struct Related {
 
 /// The rows of the merges of a cell, or the strips of its squares that offend, by plane; there are no merges then.
 ///
-/// All cells below the cell are clean, and their records are in the table. It opens the cell for a step, visits the areas in which its parts
-/// interact, for a step each tile, and opens each cell once that has such a tile. Want of memory alone refuses.
+/// All cells below the cell are clean, and their records are in the table. The cell's own paint and labels have node records: a list of them
+/// exists for every cell, but only one that was computed proves it, so whoever calls this has made the records of the own paint before. It opens
+/// the cell for a step, visits the areas in which its parts interact, for a step each tile, and opens each cell once that has such a tile. Want of
+/// memory alone refuses.
 pub fn relate<L: Ledger>(
     alloc: Global,
     library: &Reader<'_>,
@@ -47,8 +46,7 @@ pub fn relate<L: Ledger>(
     requires cell { cell.0 < length library.now.contents }
     requires clean { IsCleanBelow library.now.tech (tree_at (seen library.now) cell.0) }
     requires records { HaveKeptRecordsBelow (seen library.now) (records_in records.now) cell.0 }
-    requires nodes { let body = view_at (seen library.now) cell.0 in
-        (nodes : List OneNode) × AreNodeRecords library.now.tech body.own body.labels nodes }
+    requires nodes { HasOwnNodes (seen library.now) cell.0 }
     ensures squares { IfOk result (λ found. AreOffendingOf (seen library.now) cell.0 found.offending) }
     ensures clean { IfOk result (λ found. (found.offending ≡ []) ↔ IsCleanCell (seen library.now) cell.0) }
     ensures merges { IfOk result (λ found. found.offending ≡ []

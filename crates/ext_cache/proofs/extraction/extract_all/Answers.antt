@@ -1,16 +1,18 @@
-use Rattle.std.proofs.Common.{◌≡◌, ◌≤◌, ◌<◌, ◌+◌, ◌∙◌, ◌++◌, ◌∷◌, [], ℕ, true, false, List, length, get_or, vec_capacity, Vec, Global}
+use Rattle.std.proofs.Common.{◌≡◌, ◌≤◌, ◌<◌, ◌+◌, ◌∙◌, ◌++◌, ◌∷◌, [], ℕ, true, false, List, length, get_or, take, vec_capacity, Vec, Global}
 use Rattle.std.proofs.Common.{ap, sym, subst, arith, length-append}
 use Rattle.std.proofs.lemmas.List.{length-map}
 use Rattle.ext_model.specs.declared.tables.CellKey.{CellKey}
 use Rattle.cell_library.specs.Libraries.{seen}
-use Rattle.ext_cache.specs.Caches.{is_dirty, stamp_in, with_record}
+use Rattle.ext_cache.specs.Caches.{dirty_cells, is_dirty, stamp_in, with_record}
 use Rattle.ext_cache.specs.declared.extraction.Extracted.{Extracted}
 use Rattle.ext_cache.specs.declared.undo.Undo.{Undo}
 use Rattle.ext_cache.specs.Refusals.{IsUncleanIn}
 use Rattle.ext_cache.specs.Undoing.{undo_of}
 use Rattle.tree_merges.proofs.HierMerge.CleanOrders.{clean_before, first_unclean_there, number_at, numbers, ordered_there}
-use Rattle.ext_cache.proofs.LoopLaws.{kept_below, made_along, passed, renewed, told_dirty, work_all, work_next, work_passed}
+use Rattle.ext_cache.proofs.LoopLaws.{has_work_next, has_work_passed, kept_below, made_along, passed, renewed, told_dirty, work_all, work_next}
+use Rattle.ext_cache.proofs.LoopLaws.{work_passed}
 use Rattle.ext_cache.proofs.UncleanLaws.{fault_same, unclean_in_order}
+use Rattle.ext_cache.proofs.WorkLaws.{HasWorkOf}
 use Rattle.ext_cache.proofs.extraction.extract_all.Goals as goal
 use Rattle.ext_cache.proofs.extraction.extract_all.Goals.{then-is_stale+in_ok-made+in_ok-keep_logged, else-is_stale}
 
@@ -130,6 +132,10 @@ loop-cell-preserved g c =
             told = one_longer at.told.items told c.if-is_stale.told.items index told_is at.invariant.told;
             room_in_log = omega (arith, ap (λ (vector : Vec Undo Global). vec_capacity vector) w.log-is, w.keep_logged.ensures.room);
             room_in_told = omega (arith, ap (λ (vector : Vec Extracted Global). vec_capacity vector) w.told-is, w.tell.ensures.room);
+            work = subst (HasWorkOf (seen library) (dirty_cells library c.args.cache.now (take (index + 1) (numbers order))) c.args.steps.now)
+                (sym w.steps-is)
+                (has_work_next library (numbers order) index c.args.cache.now at.cache at.told.items at.log.items cell below here lists.0
+                at.invariant.made c.args.steps.now at.steps w.tree_record.new.steps dirty w.in_ok-made.ensures.work at.invariant.work);
             steps = λ work is. subst (λ (steps : ℕ). steps ≤ c.args.steps.now + work) (sym w.steps-is)
                 (work_next library (numbers order) index c.args.cache.now at.cache at.told.items at.log.items cell below here lists.0
                 at.invariant.made c.args.steps.now at.steps at.invariant.steps w.tree_record.new.steps dirty w.tree_record.ensures.steps work is);
@@ -146,6 +152,10 @@ loop-cell-preserved g c =
             told = omega (arith, ap (λ (vector : Vec Extracted Global). length vector.items) w.told-is, at.invariant.told);
             room_in_log = omega (arith, ap (λ (vector : Vec Undo Global). vec_capacity vector) w.log-is);
             room_in_told = omega (arith, ap (λ (vector : Vec Extracted Global). vec_capacity vector) w.told-is);
+            work = subst (HasWorkOf (seen library) (dirty_cells library c.args.cache.now (take (index + 1) (numbers order))) c.args.steps.now)
+                (sym w.steps-is)
+                (has_work_passed library (numbers order) index c.args.cache.now at.cache at.told.items at.log.items cell below here lists.0
+                at.invariant.made c.args.steps.now at.steps clean at.invariant.work);
             steps = λ work is. subst (λ (steps : ℕ). steps ≤ c.args.steps.now + work) (sym w.steps-is)
                 (work_passed library (numbers order) index c.args.cache.now at.cache at.told.items at.log.items cell below here lists.0
                 at.invariant.made c.args.steps.now at.steps at.invariant.steps clean work is);

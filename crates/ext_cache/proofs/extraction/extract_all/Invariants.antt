@@ -3,6 +3,7 @@ use Rattle.cell_library.specs.Libraries.{seen}
 use Rattle.ext_cache.specs.Caches.{IsWorkOfAll, dirty_cells}
 use Rattle.tree_merges.proofs.HierMerge.CleanOrders.{numbers}
 use Rattle.ext_cache.proofs.LoopLaws.{IsMadeTo}
+use Rattle.ext_cache.proofs.WorkLaws.{HasWorkOf}
 use Rattle.ext_cache.proofs.extraction.extract_all.Given as goal
 
 -- new records were made of the dirty cells so far, what was told and logged of them has room for the others, and the steps are theirs
@@ -13,6 +14,7 @@ invariant-loop-cell g l = record {
   told : length l.told.items ≤ l.cell-index;
   room_in_log : length l.order ≤ vec_capacity l.log;
   room_in_told : length l.order ≤ vec_capacity l.told;
+  work : HasWorkOf (seen l.library) (dirty_cells l.library l.fn.cache (take l.cell-index (numbers l.order))) l.fn.steps l.steps;
   steps : (work : ℕ) → IsWorkOfAll (seen l.library) (dirty_cells l.library l.fn.cache (take l.cell-index (numbers l.order))) work
       → l.steps ≤ l.fn.steps + work;
 }

@@ -52,3 +52,9 @@ returns-clause-record g c =
 
 pub returns-clause-steps : goal.returns-clause-steps
 returns-clause-steps g c work is = omega (arith, c.open.ensures.step, c.relate.ensures.steps work is)
+
+pub returns-clause-work : goal.returns-clause-work
+returns-clause-work g c =
+    let work = c.in_ok-related.ensures.work in
+    IfOk-weaker c.with_relations.result _ _ (λ (made : MadeRecord) _. (work.0, work.1, omega (arith, c.open.ensures.step, work.2)))
+    c.with_relations.ensures.made
