@@ -10,16 +10,21 @@ ghost use Rattle.fault_grade.specs.Comparing.{Finds, HasShown, IsGoodRun};
 ghost use Rattle.fault_grade.specs.Grades.{IsDetectedAt, IsUndetected};
 
 use crate::comparing::{asked_count, is_apart, least_of};
+use fault_replay::{PhaseRecord, ReplayedRun, record};
 use std::alloc::{AllocError, Global};
-use switch_net::{NamedNet, Net};
+use switch_net::{Level, NamedNet, Net};
 use vector_files::{VecLine, Vectors};
-use vector_runs::{Seen, StuckFault, WatchedRun, make_fresh, watch};
+use vector_runs::{Rails, Seen, StuckFault, make_net_fresh, rails_of, starts, watch};
 
-/// The run of vectors without a fault: what it shows, and whether the numbers of their lines rise.
+/// The run of vectors without a fault: what it shows, whether the numbers of their lines rise, power and ground of the network, the states
+/// in which it begins, and what is recorded of the phases.
 #[derive(Drop)]
 pub struct GoodRun {
     pub seen: Vec<Seen>,
     pub rises: bool,
+    pub rails: Rails,
+    pub starts: Vec<Level>,
+    pub phases: Vec<PhaseRecord>,
 }
 
 // Whether no line has a lower number than one before it.
@@ -34,6 +39,23 @@ fn are_rising(lines: &[(u32, VecLine)]) -> bool
         last = *number;
     }
     true
+}
+
+// The record of the run without a fault, or none where there is no memory for it.
+fn record_phases(
+    alloc: Global,
+    named: &mut NamedNet,
+    vectors: &Vectors,
+    budget: u32,
+    starts: &[Level],
+) -> Vec<PhaseRecord> {
+    let rails = rails_of(named);
+    let phases = match Vec::from_slice(alloc, starts) {
+        Ok(mut states) => record(alloc, &mut named.net, &mut states, vectors.lines.items(), budget).unwrap_or(Vec::new(alloc)),
+        Err(_) => Vec::new(alloc),
+    };
+    make_net_fresh(&mut named.net, &rails);
+    phases
 }
 
 impl GoodRun {
@@ -51,9 +73,13 @@ impl GoodRun {
         ensures names { named.new.names ≡ named.old.names }
     {
         let seen = watch(alloc, named, vectors, budget, None)?;
+        let starts = starts(alloc, named)?;
         Ok(GoodRun {
             seen,
             rises: are_rising(vectors.lines.items()),
+            rails: rails_of(named),
+            phases: record_phases(alloc, named, vectors, budget, &starts),
+            starts,
         })
     }
 
@@ -69,19 +95,19 @@ impl GoodRun {
 // Takes lines from the beginning until one detects the fault, where their numbers rise, and else all of them. The least that detects it.
 fn run_to_detection(
     alloc: Global,
-    run: &mut WatchedRun,
+    run: &mut ReplayedRun<'_>,
     net: &mut Net,
     lines: &[(u32, VecLine)],
     budget: u32,
     good: &GoodRun,
 ) -> Option<u32>
-    requires under_way { IsUnderWay net.old run.old }
-    requires begins { (watched net.old run.old).at.phases ≡ 0 }
+    requires under_way { IsUnderWay net.old run.old.run }
+    requires begins { (watched net.old run.old.run).at.phases ≡ 0 }
     requires within { All (λ line. FitsNodes net.old.nodes line.1) lines.now }
     requires shown { (from : WatchedAt) × HasShown budget net.old.nodes from lines.now good.now.seen.items }
     requires rises { good.now.rises ≡ true → IsNonDecreasingBy (λ line. line.0) lines.now }
     ensures finds { (from : WatchedAt) → HasShown budget net.old.nodes from lines.now good.now.seen.items
-        → Finds budget from (watched net.old run.old) run.old.stuck lines.now result }
+        → Finds budget from (watched net.old run.old.run) run.old.run.stuck lines.now result }
     ensures nodes { net.new.nodes ≡ net.old.nodes }
     ensures switches { net.new.switches ≡ net.old.switches }
 {
@@ -89,7 +115,7 @@ fn run_to_detection(
     let mut seen = good.seen.as_slice();
     for (number, line) in lines {
         let (here, later) = seen.split_at(asked_count(line));
-        found = least_of(found, is_apart(run, line, here), *number);
+        found = least_of(found, is_apart(&run.run, line, here), *number);
         if good.decides(found) {
             return found;
         }
@@ -117,11 +143,12 @@ fn detect_from_start(
     ensures nodes { named.new.net.nodes ≡ named.old.net.nodes }
     ensures switches { named.new.net.switches ≡ named.old.net.switches }
 {
-    let mut run = WatchedRun::begin(alloc, named, Some(fault))?;
+    let net = &mut named.net;
+    let mut run = ReplayedRun::begin(alloc, net, &good.starts, &good.phases, fault)?;
     Ok(run_to_detection(
         alloc,
         &mut run,
-        &mut named.net,
+        net,
         vectors.lines.items(),
         budget,
         good,
@@ -147,6 +174,6 @@ pub fn detect(
     ensures names { named.new.names ≡ named.old.names }
 {
     let line = detect_from_start(alloc, named, vectors, budget, good, fault);
-    make_fresh(named);
+    make_net_fresh(&mut named.net, &good.rails);
     line
 }
