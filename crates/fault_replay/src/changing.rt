@@ -1,15 +1,15 @@
 //! Changes of states.
 
-ghost use Rattle.std.specs.Prelude.{◌≡◌, ◌≢◌, ◌<◌, ℕ, All, false, filter, length, map, slice_index, IfOk};
+ghost use Rattle.std.specs.Prelude.{◌≡◌, ◌<◌, ℕ, All, IfOk, false, filter, length, slice_index};
 ghost use Rattle.switch_net.specs.Path.{state_of};
 ghost use Rattle.switch_net.specs.Sets.{IsInside};
-ghost use Rattle.fault_replay.specs.Changes.{AreTold, changed, changes_between, is_copied, taken_from};
+ghost use Rattle.fault_replay.specs.Changes.{IsTold, changed, is_copied as is_copied_node, taken_from};
 
-use crate::records::Change;
 use std::alloc::{AllocError, Global};
 use switch_net::{Level, NodeSet};
 
 /// Makes changes.
+#[tactic(auto, using(crate::proofs::ChangedStates::changed_more))]
 pub fn make_changes(changes: &[(u32, Level)], states: &mut [Level])
     requires { All (λ change. change.0 < length states.old) changes.now }
     ensures { states.new ≡ changed changes.now states.old }
@@ -22,7 +22,7 @@ pub fn make_changes(changes: &[(u32, Level)], states: &mut [Level])
 // Whether a node is neither marked nor held.
 fn is_copied(marks: &NodeSet, held: u32, node: u32) -> bool
     requires { node < length marks.now.inside }
-    ensures { result ≡ is_copied marks.now.inside held node }
+    ensures { result ≡ is_copied_node marks.now.inside held node }
 {
     node != held && !marks.has(node)
 }
@@ -31,7 +31,7 @@ fn is_copied(marks: &NodeSet, held: u32, node: u32) -> bool
 pub fn copy_changes(changes: &[(u32, Level)], marks: &NodeSet, held: u32, states: &mut [Level])
     requires changes { All (λ change. change.0 < length states.old) changes.now }
     requires marks { length marks.now.inside ≡ length states.old }
-    ensures { states.new ≡ changed (filter (λ change. is_copied marks.now.inside held change.0) changes.now) states.old }
+    ensures { states.new ≡ changed (filter (λ change. is_copied_node marks.now.inside held change.0) changes.now) states.old }
 {
     for (node, level) in changes {
         if is_copied(marks, held, *node) {
@@ -41,6 +41,7 @@ pub fn copy_changes(changes: &[(u32, Level)], marks: &NodeSet, held: u32, states
 }
 
 /// Gives nodes these new states.
+#[tactic(auto, using(crate::proofs::ChangedStates::taken_more))]
 pub fn take_states(nodes: &[u32], next: &[Level], states: &mut [Level])
     requires nodes { All (λ v. v < length states.old) nodes.now }
     requires next { length next.now ≡ length states.old }
@@ -73,7 +74,7 @@ pub fn tell_at(node: u32, one: &[Level], other: &[Level], told: &mut NodeSet)
     requires fits { length told.old.inside ≡ length one.now }
     ensures fits { length told.new.inside ≡ length told.old.inside }
     ensures grown { (v : ℕ) → IsInside told.old.inside v → IsInside told.new.inside v }
-    ensures here { AreTold one.now other.now told.new.inside node }
+    ensures here { IsTold one.now other.now told.new.inside node }
 {
     if one[node as usize] != other[node as usize] {
         told.add(node);
@@ -87,7 +88,7 @@ pub fn tell_all_at(nodes: &[u32], one: &[Level], other: &[Level], told: &mut Nod
     requires fits { length told.old.inside ≡ length one.now }
     ensures fits { length told.new.inside ≡ length told.old.inside }
     ensures grown { (v : ℕ) → IsInside told.old.inside v → IsInside told.new.inside v }
-    ensures all { (i : ℕ) → i < length nodes.now → AreTold one.now other.now told.new.inside (slice_index nodes.now i) }
+    ensures all { (i : ℕ) → i < length nodes.now → IsTold one.now other.now told.new.inside (slice_index nodes.now i) }
 {
     for node in nodes {
         tell_at(*node, one, other, told);
@@ -100,7 +101,7 @@ pub fn tell_all(nodes: u32, one: &[Level], other: &[Level], told: &mut NodeSet)
     requires other { length other.now ≡ nodes }
     requires fits { length told.old.inside ≡ nodes }
     ensures fits { length told.new.inside ≡ nodes }
-    ensures all { (v : ℕ) → AreTold one.now other.now told.new.inside v }
+    ensures all { (v : ℕ) → IsTold one.now other.now told.new.inside v }
 {
     told.clear();
     for node in 0..nodes {
@@ -117,7 +118,8 @@ pub fn changes_between(
 ) -> Result<Vec<(u32, Level)>, AllocError>
     requires nodes { All (λ v. v < length old.now) nodes.now }
     requires new { length new.now ≡ length old.now }
-    ensures { IfOk result (λ changes. changes.items ≡ changes_between old.now new.now nodes.now) }
+    ensures same { IfOk result (λ changes. changed changes.items old.now ≡ changed (taken_from new.now nodes.now) old.now) }
+    ensures within { IfOk result (λ changes. All (λ change. change.0 < length old.now) changes.items) }
 {
     let mut changes = Vec::new(alloc);
     for node in nodes {

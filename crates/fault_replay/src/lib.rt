@@ -8,5 +8,5 @@ mod replaying;
 mod runs;
 
 pub use recording::record;
-pub use records::{Change, PhaseRecord};
+pub use records::PhaseRecord;
 pub use runs::ReplayedRun;

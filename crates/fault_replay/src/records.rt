@@ -3,9 +3,6 @@
 use names_lists::List;
 use switch_net::Level;
 
-/// A node, and the state that it takes.
-pub type Change = (u32, Level);
-
 /// What is kept of a phase: the changes of each step, where it settled, and else the states in which it ended.
 #[derive(Debug, Drop)]
 pub enum PhaseRecord {

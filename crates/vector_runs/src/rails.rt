@@ -39,7 +39,7 @@ fn is_node(rail: Option<u32>, node: u32) -> bool
 }
 
 /// The states in which the network begins: one for power, zero for ground, and X for any other node, as for one that is both.
-pub fn starts(alloc: Global, named: &NamedNet) -> Result<Vec<Level>, AllocError>
+pub fn start_states(alloc: Global, named: &NamedNet) -> Result<Vec<Level>, AllocError>
     ensures { IfOk result (λ states. AreStarts (network_of named.now.net) named.now.names states.items) }
 {
     let rails = rails_of(named);

@@ -10,7 +10,7 @@ ghost use Rattle.vector_runs.specs.Runs.{IsFresh};
 ghost use Rattle.vector_runs.specs.Watching.{AreSeen, LineIsTaken, LinesShow, begun_with, counting, held, is_left_out as is_line_left_out, seen_in};
 
 use crate::progress::Progress;
-use crate::rails::{make_fresh, starts};
+use crate::rails::{make_fresh, start_states};
 use crate::stuck_faults::{StuckFault, is_left_out};
 use names_lists::Name;
 use std::alloc::{AllocError, Global};
@@ -66,7 +66,7 @@ impl WatchedRun {
         ensures nodes { named.new.net.nodes ≡ named.old.net.nodes }
         ensures switches { named.new.net.switches ≡ named.old.net.switches }
     {
-        let states = starts(alloc, named)?;
+        let states = start_states(alloc, named)?;
         Ok(WatchedRun::begin_in(states, &mut named.net, stuck))
     }
 

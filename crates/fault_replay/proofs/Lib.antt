@@ -1,0 +1,3 @@
+pub mod ChangedStates
+pub mod Beside
+pub mod PhaseEnds
