@@ -1,8 +1,8 @@
 -- Steps of two runs beside each other.
-use Rattle.std.proofs.Common.{◌≡◌, ◌≢◌, ℕ, ◌<◌, ◌≤◌, ◌==◌, ◌⊎◌, List, Bool, true, false, inl, inr, refl, sym, ap, subst, ◌∙◌, length, get_or-take, arith, slice_index, slice_index_or, take}
-use Rattle.std.specs.Prelude.{Contains, Some, filter, not}
+use Rattle.std.proofs.Common.{◌≡◌, ◌≢◌, ℕ, ◌<◌, ◌≤◌, ◌==◌, ◌⊎◌, List, Bool, true, false, inl, inr, refl, sym, ap, subst, ◌∙◌, length, get_or, get_or-take, arith, drop, slice_index, slice_index_or, take, ◌+◌}
+use Rattle.std.specs.Prelude.{All, Contains, Some, filter, not}
 use Rattle.std.proofs.lemmas.Bool.{cases_Bool, cases_eq, cases_lt, eq-eqb, eqb-true, false≢true}
-use Rattle.std.proofs.lemmas.List.{get_or_past, length-take-le}
+use Rattle.std.proofs.lemmas.List.{drop_all, drop_more, get_or_past, length-take-le}
 use Rattle.finite_sets.specs.Lists.{In}
 use Rattle.finite_sets.proofs.Members.{In-get_or, In-index}
 use Rattle.switch_net.specs.declared.node_set.NodeSet.{NodeSet}
@@ -22,7 +22,7 @@ use Rattle.steady_state.specs.Marked.{EndsInside, IsGated, IsNear}
 use Rattle.replay_laws.specs.Differences.{AreWiredAlike, HoldsDifferences, IsAlike}
 use Rattle.replay_laws.proofs.TwoRuns.{far_step}
 use Rattle.fault_replay.specs.Changes.{IsTold, changed, is_copied, replayed, taken_from}
-use Rattle.fault_replay.specs.Replays.{AreAlikeBut, IsAlong, listed}
+use Rattle.fault_replay.specs.Replays.{AreAlikeBut, IsAlong, StepsBy, listed}
 use Rattle.fault_replay.proofs.ChangedStates.{changed-length, passed_alike, stopped_same, taken_here, taken_other}
 
 -- ---- sets and their lists
@@ -55,6 +55,18 @@ pub each_inside : (set : NodeSet) (P : ℕ → Type 0) → ((i : ℕ) → i < le
 each_inside set P each v inside =
     let at = In-index v (listed set) (is_listed set v inside) in
     subst P (at.1.1 0) (each at.0 at.1.0)
+
+-- the same where the list is known to be this
+pub each_of : (set : NodeSet) (nodes : List ℕ) (P : ℕ → Type 0) → nodes ≡ listed set → ((i : ℕ) → i < length nodes → P (slice_index nodes i)) → (v : ℕ)
+    → IsInside set.inside v → P v
+each_of set nodes P is each =
+    each_inside set P (subst (λ (all : List ℕ). (i : ℕ) → i < length all → P (slice_index all i)) is each)
+
+-- the listed nodes are among as many as have marks
+pub listed_below : (set : NodeSet) (nodes : List ℕ) (n : ℕ) → nodes ≡ listed set → length set.inside ≡ n → All (λ v. v < n) nodes
+listed_below set nodes n is fits = subst (All (λ (v : ℕ). v < n)) (sym is) (λ k d lt.
+    let below = inside_range set.inside (slice_index_or (listed set) k d) (is_inside set (slice_index_or (listed set) k d) (In-get_or (listed set) k d lt)) in
+    omega (arith, below, fits))
 
 -- ---- a step beside another
 
@@ -192,7 +204,7 @@ module _ (good net : Network) (held : ℕ) (s t : List Level) (differing : NodeS
 is_copied_there : (inside : List Bool) (held v : ℕ) → v ≢ held → slice_index_or inside v false ≡ false → is_copied inside held v ≡ true
 is_copied_there inside held v ne out = elim (cases_Bool (v == held)) [
   | inl e ↦ absurd (ne (eqb-true v held e))
-  | inr no ↦ rw (no, out) refl
+  | inr other ↦ rw (other, out) refl
 ]
 
 -- the held node is not
@@ -202,10 +214,12 @@ held_stays inside held = rw (eq-eqb held held refl) refl
 module _ (good net : Network) (held : ℕ) (s t : List Level) (differing marks : NodeSet) (next : List Level) (changes : List (ℕ × Level))
     (sound : IsSound net) (along : IsAlong good net held s t differing.inside)
     (near : IsNear net t (listed differing) (Some held) marks.inside) (steady : AreSteady net t marks.inside next) where
-  new : List Level
+  -- the states after the step
+  abbrev pub new : List Level
   new = replayed changes marks.inside (listed marks) held next t
 
-  copy : List Level
+  -- those in which the run without the fault is copied
+  abbrev pub copy : List Level
   copy = changed (filter (λ change. is_copied marks.inside held change.0) changes) t
 
   new-length : length new ≡ length t
@@ -247,3 +261,57 @@ module _ (good net : Network) (held : ℕ) (s t : List Level) (differing marks :
   pub rests : IsStep good s s → ((v : ℕ) → IsInside marks.inside v → state_of t v ≡ state_of next v) → IsStep net t t
   rests step still =
       is_step good net held s t differing marks.inside sound along near s t step refl (λ v ins. rw (still v ins) (steady v ins)) refl (λ v ne out same. same)
+
+-- the same of states that are known to be these
+module _ (good net : Network) (held held' : ℕ) (s s1 t : List Level) (differing marks : NodeSet) (next : List Level) (changes : List (ℕ × Level))
+    (good' new' : List Level) (same_held : held' ≡ held) (same_good : s1 ≡ s) (is_good : good' ≡ changed changes s1)
+    (is_new : new' ≡ replayed changes marks.inside (listed marks) held' next t) (sound : IsSound net) (along : IsAlong good net held s t differing.inside)
+    (near : IsNear net t (listed differing) (Some held) marks.inside) (steady : AreSteady net t marks.inside next)
+    (step : IsStep good s (changed changes s)) where
+  abbrev pub there : List Level
+  there = replayed changes marks.inside (listed marks) held next t
+
+  is_there : new' ≡ there
+  is_there = is_new ∙ ap (λ (h : ℕ). replayed changes marks.inside (listed marks) h next t) same_held
+
+  is_changed : good' ≡ changed changes s
+  is_changed = is_good ∙ ap (changed changes) same_good
+
+  pub taken_step : IsStep net t new'
+  taken_step = subst (IsStep net t) (sym is_there) (replayed_step good net held s t differing marks next changes sound along near steady step)
+
+  pub taken_along : (told : List Bool) → ((v : ℕ) → IsInside marks.inside v ⊎ (v ≡ held') → IsTold good' new' told v) → IsAlong good net held good' new' told
+  taken_along told tells =
+      let tells' : (v : ℕ) → IsInside marks.inside v ⊎ (v ≡ held) → IsTold (changed changes s) there told v =
+      λ v at differ. tells v (elim at [ inl ins ↦ inl ins | inr e ↦ inr (e ∙ sym same_held) ])
+      (λ same. differ (ap (λ (x : List Level). state_of x v) (sym is_changed) ∙ same ∙ ap (λ (x : List Level). state_of x v) is_there)) in
+      let there_along = replayed_along good net held s t differing marks next changes sound along near steady told step tells' in
+      subst (λ (g : List Level). IsAlong good net held g new' told) (sym is_changed)
+      (subst (λ (n : List Level). IsAlong good net held (changed changes s) n told) (sym is_there) there_along)
+
+-- ---- steps that are recorded
+
+-- the first of the steps that are left, and those behind it
+pub split_steps : (good : Network) (s t : List Level) (steps : List (List (ℕ × Level))) (i : ℕ) (item d : List (ℕ × Level)) → i < length steps
+    → item ≡ get_or steps i d → StepsBy good s (drop i steps) t → IsStep good s (changed item s) × StepsBy good (changed item s) (drop (i + 1) steps) t
+split_steps good s t steps i item d below is by =
+    let split = drop_more steps i d below in
+    let both : IsStep good s (changed (get_or steps i d) s) × StepsBy good (changed (get_or steps i d) s) (drop (i + 1) steps) t =
+    subst (λ (left : List (List (ℕ × Level))). StepsBy good s left t) split by in
+    subst (λ (changes : List (ℕ × Level)). IsStep good s (changed changes s) × StepsBy good (changed changes s) (drop (i + 1) steps) t) (sym is) both
+
+-- where none are left, they lead nowhere
+pub no_steps : (good : Network) (s t : List Level) (steps : List (List (ℕ × Level))) (i : ℕ) → length steps ≤ i → StepsBy good s (drop i steps) t → t ≡ s
+no_steps good s t steps i all by = subst (λ (left : List (List (ℕ × Level))). StepsBy good s left t) (drop_all i steps all) by
+
+-- the same network and node
+pub along_at : (good net other : Network) (held node : ℕ) (s t : List Level) (told : List Bool) → net ≡ other → held ≡ node
+    → IsAlong good net held s t told → IsAlong good other node s t told
+along_at good net other held node s t told same is along =
+    subst (λ (v : ℕ). IsAlong good other v s t told) is (subst (λ (n : Network). IsAlong good n held s t told) same along)
+
+-- and the same states of the run without the fault
+pub along_as : (good net other : Network) (held node : ℕ) (s last t : List Level) (told : List Bool) → net ≡ other → held ≡ node → s ≡ last
+    → IsAlong good net held s t told → IsAlong good other node last t told
+along_as good net other held node s last t told same is at along =
+    subst (λ (x : List Level). IsAlong good other node x t told) at (along_at good net other held node s t told same is along)

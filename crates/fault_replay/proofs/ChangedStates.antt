@@ -1,9 +1,9 @@
 -- Changes of states: what each leaves, and what several make.
-use Rattle.std.proofs.Common.{◌≡◌, ◌≢◌, ℕ, ◌+◌, ◌<◌, ◌≤◌, List, [], ◌∷◌, ◌++◌, Bool, true, false, inl, inr, refl, sym, ap, ◌∙◌, length, get_or, take, slice_set, arith, cond}
-use Rattle.std.specs.Prelude.{filter, map}
+use Rattle.std.proofs.Common.{◌≡◌, ◌≢◌, ℕ, ◌+◌, ◌<◌, ◌≤◌, List, [], ◌∷◌, ◌++◌, Bool, true, false, inl, inr, refl, sym, ap, subst, ◌∙◌, length, get_or, take, slice_set, arith}
+use Rattle.std.specs.Prelude.{All, filter, map}
 use Rattle.std.proofs.lemmas.Bool.{cases_Bool, cases_eq, cases_lt}
 use Rattle.std.proofs.lemmas.List.{get_or-set_other, get_or-set_same, length-set, map-append, set-get_or, set_past, take_more}
-use Rattle.std.proofs.lemmas.List.Elements.{filter_more}
+use Rattle.std.proofs.lemmas.List.Elements.{All-head, All-tail, filter_more}
 use Rattle.finite_sets.specs.Lists.{In}
 use Rattle.switch_net.specs.declared.switches.Level.{Level}
 use Rattle.switch_net.specs.declared.switches.Level.TheVariants.{X}
@@ -26,17 +26,22 @@ pub changed-length : (changes : List (ℕ × Level)) (s : List Level) → length
 changed-length [] s = refl
 changed-length (change ∷ changes) s = changed-length changes (slice_set s change.0 change.1) ∙ length-set s change.0 change.1
 
--- of the changes that a test lets through, one more
-pub passed_more : (test : ℕ × Level → Bool) (changes : List (ℕ × Level)) (i : ℕ) (d : ℕ × Level) (s : List Level) → i < length changes
-    → changed (filter test (take (i + 1) changes)) s
-    ≡ cond (test (get_or changes i d)) (slice_set (changed (filter test (take i changes)) s) (get_or changes i d).0 (get_or changes i d).1)
-        (changed (filter test (take i changes)) s)
-passed_more test changes i d s below =
+-- of the changes that a test lets through, one more is let through
+pub passed_on : (test : ℕ × Level → Bool) (changes : List (ℕ × Level)) (i : ℕ) (d : ℕ × Level) (s : List Level) → i < length changes
+    → test (get_or changes i d) ≡ true → changed (filter test (take (i + 1) changes)) s
+    ≡ slice_set (changed (filter test (take i changes)) s) (get_or changes i d).0 (get_or changes i d).1
+passed_on test changes i d s below passes =
     let more = ap (λ (front : List (ℕ × Level)). changed front s) (filter_more test changes i d below) in
-    elim (cases_Bool (test (get_or changes i d))) [
-      | inl passes ↦ (let all = rw passes at more in rw passes (all ∙ changed-append (filter test (take i changes)) (get_or changes i d ∷ []) s))
-      | inr stops ↦ (let all = rw stops at more in rw stops (all ∙ changed-append (filter test (take i changes)) [] s))
-    ]
+    let all = rw passes at more in
+    all ∙ changed-append (filter test (take i changes)) (get_or changes i d ∷ []) s
+
+-- or is not
+pub passed_off : (test : ℕ × Level → Bool) (changes : List (ℕ × Level)) (i : ℕ) (d : ℕ × Level) (s : List Level) → i < length changes
+    → test (get_or changes i d) ≡ false → changed (filter test (take (i + 1) changes)) s ≡ changed (filter test (take i changes)) s
+passed_off test changes i d s below stops =
+    let more = ap (λ (front : List (ℕ × Level)). changed front s) (filter_more test changes i d below) in
+    let all = rw stops at more in
+    all ∙ changed-append (filter test (take i changes)) [] s
 
 -- one node more takes its new state
 pub taken_more : (next : List Level) (nodes : List ℕ) (i d : ℕ) (s : List Level) → i < length nodes
@@ -118,3 +123,13 @@ pub taken_again : (next : List Level) (nodes : List ℕ) (s : List Level) (v : �
 taken_again next nodes s v same =
     let now = changed (taken_from next nodes) s in
     ap (slice_set now v) (sym (taken_stays next nodes s v same)) ∙ set-get_or now v X
+
+-- a node that differs is one of the changes, and has what all of these have
+pub changed_of : (P : ℕ → Type 0) (changes : List (ℕ × Level)) (s : List Level) (v : ℕ) → All (λ change. P change.0) changes
+    → state_of s v ≢ state_of (changed changes s) v → P v
+changed_of P [] s v all differ = absurd (differ refl)
+changed_of P (change ∷ changes) s v all differ = elim (cases_eq v change.0) [
+  | inl e ↦ subst P (sym e) (All-head (λ (c : ℕ × Level). P c.0) change changes all)
+  | inr ne ↦ changed_of P changes (slice_set s change.0 change.1) v (All-tail (λ (c : ℕ × Level). P c.0) change changes all)
+      (λ same. differ (sym (get_or-set_other s change.0 v change.1 X ne) ∙ same))
+]

@@ -2,13 +2,16 @@
 use Rattle.std.proofs.Common.{◌≡◌, ◌≢◌, ℕ, zero, suc, ◌+◌, ◌-◌, ◌≤◌, ◌⊎◌, List, [], ◌∷◌, Bool, true, false, inl, inr, refl, sym, ap, subst, ◌∙◌, length, arith}
 use Rattle.switch_net.specs.declared.switches.Level.{Level}
 use Rattle.switch_net.specs.Network.{IsSound, Network}
-use Rattle.switch_net.specs.Path.{state_of}
+use Rattle.switch_net.specs.Path.{is_input, state_of}
 use Rattle.switch_net.specs.Phase.{SettlesAfter, Steps}
 use Rattle.switch_net.specs.Steady.{IsStep}
 use Rattle.switch_net.proofs.Phases.{one_way, steps_length}
-use Rattle.switch_net.proofs.Ranges.{level_cases}
+use Rattle.switch_net.proofs.Ranges.{input_in_range, level_cases}
 use Rattle.switch_net.proofs.Unique.{one_step}
-use Rattle.fault_replay.specs.Replays.{EndsPhase, SettlesDown}
+use Rattle.vector_runs.proofs.LineOutcomes.{phase_length}
+use Rattle.vector_runs.proofs.SplitRuns.{phase_keeps}
+use Rattle.fault_replay.specs.Changes.{IsTold}
+use Rattle.fault_replay.specs.Replays.{EndsPhase, IsAlong, SettlesDown}
 
 -- whether two lists of states are one can be decided
 cases_states : (s t : List Level) → (s ≡ t) ⊎ (s ≢ t)
@@ -29,24 +32,26 @@ cases_states (x ∷ s) (y ∷ t) = elim (level_cases x y) [
 
 -- steps, and then others
 pub steps_then : (net : Network) (s u t : List Level) (k n : ℕ) → Steps net k s u → Steps net n u t → Steps net (k + n) s t
-steps_then net s u t k zero first second = subst (λ (m : ℕ). Steps net m s t) (omega arith) (subst (Steps net k s) second first)
+steps_then net s u t k zero first second = let e : k ≡ k + zero = omega arith in subst (λ (m : ℕ). Steps net m s t) e (subst (Steps net k s) second first)
 steps_then net s u t k (suc n) first second =
     let more : Steps net (suc (k + n)) s t = (second.0, steps_then net s u second.0 k n first second.1, second.2) in
-    subst (λ (m : ℕ). Steps net m s t) (omega arith) more
+    let e : suc (k + n) ≡ k + suc n = omega arith in
+    subst (λ (m : ℕ). Steps net m s t) e more
 
 module _ (net : Network) (sound : IsSound net) (s : List Level) (len : length s ≡ net.nodes) where
   -- a rest leads to itself
   stays : (m j : ℕ) (u w : List Level) → Steps net m s u → IsStep net u u → Steps net (m + j) s w → w ≡ u
-  stays m zero u w a r b = one_way net sound s len m w u (subst (λ (n : ℕ). Steps net n s w) (omega arith) b) a
+  stays m zero u w a r b = let e : m + zero ≡ m = omega arith in one_way net sound s len m w u (subst (λ (n : ℕ). Steps net n s w) e b) a
   stays m (suc j) u w a r b =
-      let b' : Steps net (suc (m + j)) s w = subst (λ (n : ℕ). Steps net n s w) (omega arith) b in
+      let e : m + suc j ≡ suc (m + j) = omega arith in
+      let b' : Steps net (suc (m + j)) s w = subst (λ (n : ℕ). Steps net n s w) e b in
       let before = stays m j u b'.0 a r b'.1 in
       let step : IsStep net u w = subst (λ (x : List Level). IsStep net x w) before b'.2 in
       one_step net u sound w u (steps_length net sound s len m u a) step r
 
   -- and so do all that come behind it
   rests_on : (m n : ℕ) (u w : List Level) → m ≤ n → Steps net m s u → IsStep net u u → Steps net n s w → w ≡ u
-  rests_on m n u w le a r b = stays m (n - m) u w a r (subst (λ (k : ℕ). Steps net k s w) (omega (arith, le)) b)
+  rests_on m n u w le a r b = let e : n ≡ m + (n - m) = omega (arith, le) in stays m (n - m) u w a r (subst (λ (k : ℕ). Steps net k s w) e b)
 
   -- where steps lead to rest, the network settles after at most as many
   pub settles : (k : ℕ) (t : List Level) → Steps net k s t → IsStep net t t → (n : ℕ) × (n ≤ k) × SettlesAfter net n s t
@@ -91,3 +96,18 @@ module _ (net : Network) (sound : IsSound net) (s : List Level) (len : length s 
   ends_down k most budget u t sum first down =
       let settled = settles (k + down.0) t (steps_then net s u t k down.0 first down.2) down.3 in
       (settled.0, (settled.2, omega (arith, settled.1, down.1, sum)))
+
+-- A phase that ends by itself leaves the runs beside each other, wherever the run without the fault has come to, if it kept its inputs.
+pub along_ended : (good net : Network) (held most : ℕ) (s t s' t' : List Level) (told new : List Bool) (done : Bool) → IsSound net
+    → IsAlong good net held s t told → EndsPhase net most t done t' → length s' ≡ length s
+    → ((v : ℕ) → is_input good v ≡ true → state_of s' v ≡ state_of s v) → ((v : ℕ) → IsTold s' t' new v) → IsAlong good net held s' t' new
+along_ended good net held most s t s' t' told new done sound along ends len kept tells = record {
+  sound = along.sound;
+  alike = along.alike;
+  good_states = len ∙ along.good_states;
+  states = phase_length net most t done ends.0 t' sound along.states ends.1;
+  is_held = along.is_held;
+  inputs = λ v ne input. kept v (along.alike.inputs v ne ∙ input) ∙ along.inputs v ne input
+      ∙ sym (phase_keeps net v (input_in_range net sound v input) input most t t' done ends.0 ends.1);
+  covers = tells;
+}

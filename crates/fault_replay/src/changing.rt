@@ -9,7 +9,6 @@ use std::alloc::{AllocError, Global};
 use switch_net::{Level, NodeSet};
 
 /// Makes changes.
-#[tactic(auto, using(crate::proofs::ChangedStates::changed_more))]
 pub fn make_changes(changes: &[(u32, Level)], states: &mut [Level])
     requires { All (λ change. change.0 < length states.old) changes.now }
     ensures { states.new ≡ changed changes.now states.old }
@@ -41,7 +40,6 @@ pub fn copy_changes(changes: &[(u32, Level)], marks: &NodeSet, held: u32, states
 }
 
 /// Gives nodes these new states.
-#[tactic(auto, using(crate::proofs::ChangedStates::taken_more))]
 pub fn take_states(nodes: &[u32], next: &[Level], states: &mut [Level])
     requires nodes { All (λ v. v < length states.old) nodes.now }
     requires next { length next.now ≡ length states.old }
@@ -52,6 +50,15 @@ pub fn take_states(nodes: &[u32], next: &[Level], states: &mut [Level])
     }
 }
 
+// Whether a node has another state in the one list than in the other.
+fn differs_at(node: u32, one: &[Level], other: &[Level]) -> bool
+    requires node { node < length one.now }
+    requires other { length other.now ≡ length one.now }
+    ensures { result ≡ false → state_of one.now node ≡ state_of other.now node }
+{
+    one[node as usize] != other[node as usize]
+}
+
 /// Whether some of the nodes have other states in the one list than in the other.
 pub fn differ_at(nodes: &[u32], one: &[Level], other: &[Level]) -> bool
     requires nodes { All (λ v. v < length one.now) nodes.now }
@@ -60,7 +67,7 @@ pub fn differ_at(nodes: &[u32], one: &[Level], other: &[Level]) -> bool
         → state_of one.now (slice_index nodes.now i) ≡ state_of other.now (slice_index nodes.now i) }
 {
     for node in nodes {
-        if one[*node as usize] != other[*node as usize] {
+        if differs_at(*node, one, other) {
             return true;
         }
     }
@@ -76,7 +83,7 @@ pub fn tell_at(node: u32, one: &[Level], other: &[Level], told: &mut NodeSet)
     ensures grown { (v : ℕ) → IsInside told.old.inside v → IsInside told.new.inside v }
     ensures here { IsTold one.now other.now told.new.inside node }
 {
-    if one[node as usize] != other[node as usize] {
+    if differs_at(node, one, other) {
         told.add(node);
     }
 }
@@ -123,9 +130,8 @@ pub fn changes_between(
 {
     let mut changes = Vec::new(alloc);
     for node in nodes {
-        let at = *node as usize;
-        if old[at] != new[at] {
-            changes.push((*node, new[at]))?;
+        if differs_at(*node, old, new) {
+            changes.push((*node, new[*node as usize]))?;
         }
     }
     Ok(changes)

@@ -1,4 +1,4 @@
-use Rattle.std.proofs.Common.{◌≡◌, ◌≤◌, length}
+use Rattle.std.proofs.Common.{◌≡◌, ◌≤◌, ◌-◌, length}
 use Rattle.switch_net.specs.Net.{network_of}
 use Rattle.switch_net.specs.Network.{Network}
 use Rattle.switch_net.specs.Phase.{Steps}
@@ -20,3 +20,6 @@ invariant-steps l = record {
       → IsStep good l.fn.self.good.items l.fn.self.good.items
       → IsAlong good (network_of l.fn.net) l.fn.self.held l.fn.self.good.items l.states l.self.differing.inside;
 }
+
+abbrev pub decreases-steps : goal.decreases-steps
+decreases-steps l = l.most - l.taken
