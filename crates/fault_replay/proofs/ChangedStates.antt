@@ -53,14 +53,14 @@ taken_more next nodes i d s below =
     ∙ ap (λ (changes : List (ℕ × Level)). changed changes s) (map-append Change (take i nodes) (get_or nodes i d ∷ []))
     ∙ changed-append (map Change (take i nodes)) (Change (get_or nodes i d) ∷ []) s
 
--- two states at a node stay alike where both take one change
-pub set_both : (s t : List Level) (u v : ℕ) (x : Level) → length s ≡ length t → state_of s v ≡ state_of t v
-    → state_of (slice_set s u x) v ≡ state_of (slice_set t u x) v
-set_both s t u v x len same = elim (cases_eq v u) [
-  | inr ne ↦ get_or-set_other s u v x X ne ∙ same ∙ sym (get_or-set_other t u v x X ne)
-  | inl e ↦ elim (cases_lt u (length s)) [
-    | inl lt ↦ (let lt' : u < length t = omega (arith, len) in rw e (get_or-set_same s u x X lt ∙ sym (get_or-set_same t u x X lt')))
-    | inr le ↦ (let le' : length t ≤ u = omega (arith, len) in rw (set_past s u x le, set_past t u x le') same)
+-- two lists that are alike at a place stay so where one item is set in both
+pub set_both : {A : Type 0} (xs ys : List A) (u v : ℕ) (x d : A) → length xs ≡ length ys → get_or xs v d ≡ get_or ys v d
+    → get_or (slice_set xs u x) v d ≡ get_or (slice_set ys u x) v d
+set_both {A} xs ys u v x d len same = elim (cases_eq v u) [
+  | inr ne ↦ get_or-set_other xs u v x d ne ∙ same ∙ sym (get_or-set_other ys u v x d ne)
+  | inl e ↦ elim (cases_lt u (length xs)) [
+    | inl lt ↦ (let lt' : u < length ys = omega (arith, len) in rw e (get_or-set_same xs u x d lt ∙ sym (get_or-set_same ys u x d lt')))
+    | inr le ↦ (let le' : length ys ≤ u = omega (arith, len) in rw (set_past xs u x le, set_past ys u x le') same)
   ]
 ]
 
@@ -70,7 +70,7 @@ pub passed_alike : (test : ℕ → Bool) (changes : List (ℕ × Level)) (s t : 
 passed_alike test [] s t v passes len same = same
 passed_alike test (change ∷ changes) s t v passes len same = elim (cases_Bool (test change.0)) [
   | inl on ↦ rw on (passed_alike test changes (slice_set s change.0 change.1) (slice_set t change.0 change.1) v passes
-      (length-set s change.0 change.1 ∙ len ∙ sym (length-set t change.0 change.1)) (set_both t s change.0 v change.1 (sym len) same))
+      (length-set s change.0 change.1 ∙ len ∙ sym (length-set t change.0 change.1)) (set_both t s change.0 v change.1 X (sym len) same))
   | inr off ↦ (
       let ne : v ≢ change.0 = λ e. (let e' = ap test e in absurd (cc)) in
       rw off (passed_alike test changes (slice_set s change.0 change.1) t v passes (length-set s change.0 change.1 ∙ len)

@@ -280,4 +280,32 @@ impl Replay {
             PhaseRecord::Jump(good) => self.run_jump(net, states, good.items(), budget),
         }
     }
+
+    /// Runs a phase of which this is recorded, over the states of a run. Whether it settles.
+    pub fn run_recorded(
+        &mut self,
+        net: &mut Net,
+        states: &mut Vec<Level>,
+        phase: &PhaseRecord,
+        budget: u32,
+    ) -> bool
+        requires replay { IsReplayFor net.old.nodes self.old }
+        requires states { length states.old.items ≡ net.old.nodes }
+        requires phase { FitsRecord net.old.nodes budget phase.now }
+        ensures ends { (good : Network) (t : List LevelOf)
+            → IsAlong good (network_of net.old) self.old.held self.old.good.items states.old.items self.old.differing.inside
+            → IsRecorded good budget self.old.good.items phase.now t
+            → EndsPhase (network_of net.old) budget states.old.items result states.new.items }
+        ensures along { (good : Network) (t : List LevelOf)
+            → IsAlong good (network_of net.old) self.old.held self.old.good.items states.old.items self.old.differing.inside
+            → IsRecorded good budget self.old.good.items phase.now t
+            → IsAlong good (network_of net.new) self.old.held t states.new.items self.new.differing.inside }
+        ensures good { (good : Network) (t : List LevelOf) → IsRecorded good budget self.old.good.items phase.now t → self.new.good.items ≡ t }
+        ensures states { length states.new.items ≡ length states.old.items }
+        ensures held { self.new.held ≡ self.old.held }
+        ensures replay { IsReplayFor net.new.nodes self.new }
+        ensures net { network_of net.new ≡ network_of net.old }
+    {
+        self.run_phase(net, states, phase, budget)
+    }
 }

@@ -26,6 +26,14 @@ pub struct ReplayedRun<'a> {
     pub on: bool,
 }
 
+// The first phase that is recorded, and the later ones.
+fn split_first(phases: &[PhaseRecord]) -> (&PhaseRecord, &[PhaseRecord])
+    requires { 0 < length phases.now }
+    ensures { phases.now ≡ result.0.now ∷ result.1.now }
+{
+    (&phases[0], &phases[1..])
+}
+
 impl<'a> ReplayedRun<'a> {
     /// Begins a run on the network from these states, beside the record of a run without the fault. The stuck node becomes an input.
     pub fn begin(
@@ -103,6 +111,14 @@ impl<'a> ReplayedRun<'a> {
         self.replay.follow(line);
     }
 
+    // Whether it is known what the run without the fault does in the next phase.
+    fn can_replay(&self) -> bool
+        ensures on { result ≡ true → self.now.on ≡ true }
+        ensures some { result ≡ true → 0 < length self.now.phases.now }
+    {
+        self.on && !self.phases.is_empty()
+    }
+
     // Takes a phase.
     fn take_phase(&mut self, alloc: Global, net: &mut Net, line: &VecLine, budget: u32)
         requires ready { IsReady budget net.old self.old }
@@ -119,11 +135,11 @@ impl<'a> ReplayedRun<'a> {
         ensures nodes { net.new.nodes ≡ net.old.nodes }
         ensures switches { net.new.switches ≡ net.old.switches }
     {
-        if !self.on || self.phases.is_empty() {
+        if self.can_replay() {
+            self.replay_phase(net, budget);
+        } else {
             self.on = false;
             self.run.take_line(alloc, net, line, budget);
-        } else {
-            self.replay_phase(net, budget);
         }
     }
 
@@ -143,10 +159,11 @@ impl<'a> ReplayedRun<'a> {
         ensures nodes { net.new.nodes ≡ net.old.nodes }
         ensures switches { net.new.switches ≡ net.old.switches }
     {
-        let phase = &self.phases[0];
-        self.phases = &self.phases[1..];
+        let (phase, later) = split_first(self.phases);
         let states = &mut self.run.progress.states;
-        self.run.settled = self.replay.run_phase(net, states, phase, budget);
+        let settled = self.replay.run_recorded(net, states, phase, budget);
+        self.phases = later;
+        self.run.settled = settled;
         self.run.progress.touched = None;
         self.run.progress.phases += 1;
     }
