@@ -18,7 +18,7 @@ use Rattle.vector_files.specs.declared.files.VecLine.TheVariants.{Set, Free, Siz
 use Rattle.vector_runs.specs.Runs.{with_input, with_size}
 use Rattle.fault_replay.specs.declared.records.PhaseRecord.{PhaseRecord}
 use Rattle.fault_replay.specs.Changes.{changed, taken_from}
-use Rattle.fault_replay.specs.Replays.{Follows, Records, StepsBy, listed}
+use Rattle.fault_replay.specs.Replays.{Follows, IsQuietBut, Records, StepsBy, listed}
 use Rattle.fault_replay.proofs.Beside.{each_inside, is_inside, is_listed}
 use Rattle.fault_replay.proofs.ChangedStates.{changed-length, changed_of, taken_here, taken_other}
 
@@ -55,16 +55,14 @@ module _ (net : Network) (sound : IsSound net) (s : List Level) (moved marks : N
 
 -- behind a step all is quiet that is not near what it changed
 pub quiet_behind : (net : Network) (s : List Level) (changes : List (ℕ × Level)) (moved : NodeSet) → IsSound net → IsStep net s (changed changes s)
-    → All (λ change. IsInside moved.inside change.0) changes → (inside : List Bool) → IsNear net (changed changes s) (listed moved) None inside
-    → IsQuiet net (changed changes s) inside
+    → All (λ change. IsInside moved.inside change.0) changes → IsQuietBut net (changed changes s) (listed moved)
 quiet_behind net s changes moved sound step told inside near =
     quiet_next net s (changed changes s) inside sound step
     (λ v differ. each_inside moved (λ u. IsStorage net u → IsInside inside u) near.listed v (changed_of (IsInside moved.inside) changes s v told differ))
     (λ v differ. each_inside moved (IsGated net inside) near.gated v (changed_of (IsInside moved.inside) changes s v told differ))
 
 -- near all nodes, all nodes are marked
-pub quiet_first : (net : Network) (s : List Level) (all : NodeSet) → ((v : ℕ) → v < net.nodes → IsInside all.inside v) → (inside : List Bool)
-    → IsNear net s (listed all) None inside → IsQuiet net s inside
+pub quiet_first : (net : Network) (s : List Level) (all : NodeSet) → ((v : ℕ) → v < net.nodes → IsInside all.inside v) → IsQuietBut net s (listed all)
 quiet_first net s all every inside near =
     all_quiet net s inside (λ v st. each_inside all (λ u. IsStorage net u → IsInside inside u) near.listed v (every v st.0) st)
 

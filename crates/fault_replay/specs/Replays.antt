@@ -1,5 +1,5 @@
 -- What is recorded of a run without a fault, and runs with one beside it.
-use Rattle.std.specs.Prelude.{◌≡◌, ◌≢◌, ◌≤◌, ◌<◌, ℕ, Bool, true, false, List, [], ◌∷◌, All, length, slice_index, slice_set, take}
+use Rattle.std.specs.Prelude.{◌≡◌, ◌≢◌, ◌≤◌, ◌<◌, ℕ, Bool, true, false, List, [], ◌∷◌, All, None, length, slice_index, slice_set, take}
 use Rattle.switch_net.specs.declared.node_set.NodeSet.{NodeSet}
 use Rattle.switch_net.specs.declared.switches.Level.{Level}
 use Rattle.switch_net.specs.Network.{IsSound, Network}
@@ -7,6 +7,7 @@ use Rattle.switch_net.specs.Path.{is_input, state_of}
 use Rattle.switch_net.specs.Phase.{IsPhase, Steps}
 use Rattle.switch_net.specs.Sets.{IsInside}
 use Rattle.switch_net.specs.Steady.{IsStep}
+use Rattle.steady_state.specs.Marked.{IsNear, IsQuiet}
 use Rattle.vector_files.specs.declared.files.VecLine.{VecLine}
 use Rattle.vector_files.specs.declared.files.VecLine.TheVariants.{Set, Free, Size, Phase, Show}
 use Rattle.vector_runs.specs.Runs.{with_input, with_size}
@@ -76,6 +77,10 @@ pub record IsAlong (good net : Network) (held : ℕ) (s t : List Level) (told : 
 -- the nodes of a set, in their order
 abbrev pub listed : NodeSet → List ℕ
 listed nodes = take nodes.count nodes.order
+
+-- a step changes nothing that is not near these nodes
+abbrev pub IsQuietBut : Network → List Level → List ℕ → Type 0
+IsQuietBut net s nodes = (inside : List Bool) → IsNear net s nodes None inside → IsQuiet net s inside
 
 -- there is room for so many nodes, and the held one is one of them
 pub record IsReplayFor (nodes : ℕ) (replay : Replay) : Type 0 where

@@ -7,7 +7,8 @@ ghost use Rattle.switch_net.specs.Steady.{IsStep};
 ghost use Rattle.vector_files.specs.declared.files.VecLine.{VecLine as VecLineOf};
 ghost use Rattle.vector_runs.specs.Running.{FitsNodes};
 ghost use Rattle.fault_replay.specs.declared.records.PhaseRecord.{PhaseRecord as PhaseRecordOf};
-ghost use Rattle.fault_replay.specs.Replays.{FitsRecord, IsRecorded, Records, StepsBy};
+ghost use Rattle.fault_replay.specs.Changes.{changed};
+ghost use Rattle.fault_replay.specs.Replays.{FitsRecord, IsQuietBut, IsRecorded, Records, StepsBy, listed};
 
 use crate::changing::{changes_between, make_changes};
 use crate::records::PhaseRecord;
@@ -51,6 +52,40 @@ fn all_nodes(alloc: Global, count: u32) -> Result<NodeSet, AllocError>
     Ok(nodes)
 }
 
+// The changes of a step, where all is quiet that is not near these nodes.
+fn find_changes(
+    alloc: Global,
+    net: &mut Net,
+    states: &[Level],
+    next: &mut [Level],
+    moved: &NodeSet,
+) -> Result<Vec<(u32, Level)>, AllocError>
+    requires states { length states.now ≡ net.old.nodes }
+    requires next { length next.old ≡ net.old.nodes }
+    requires moved { length moved.now.inside ≡ net.old.nodes }
+    ensures step { IfOk result (λ changes. IsQuietBut (network_of net.old) states.now (listed moved.now)
+        → IsStep (network_of net.old) states.now (changed changes.items states.now)) }
+    ensures within { IfOk result (λ changes. All (λ change. change.0 < net.old.nodes) changes.items) }
+    ensures net { network_of net.new ≡ network_of net.old }
+{
+    step_near(net, states, next, moved.nodes(), None);
+    let changes = changes_between(alloc, net.work.marks.nodes(), states, next)?;
+    Ok(changes)
+}
+
+// Makes changes, and tells their nodes alone.
+fn take_changes(changes: &[(u32, Level)], states: &mut [Level], moved: &mut NodeSet)
+    requires changes { All (λ change. change.0 < length states.old) changes.now }
+    requires moved { length moved.old.inside ≡ length states.old }
+    ensures states { states.new ≡ changed changes.now states.old }
+    ensures fits { length moved.new.inside ≡ length moved.old.inside }
+    ensures told { All (λ change. IsInside moved.new.inside change.0) changes.now }
+{
+    make_changes(changes, states);
+    moved.clear();
+    add_nodes(changes, moved);
+}
+
 // Takes the steps of a phase, up to so many, as far as there is room for their changes.
 fn record_steps(
     alloc: Global,
@@ -70,16 +105,13 @@ fn record_steps(
     let mut moved = all_nodes(alloc, net.nodes)?;
     let mut steps = Vec::new(alloc);
     'steps: loop {
-        step_near(net, states, &mut next, moved.nodes(), None);
-        let changes = changes_between(alloc, net.work.marks.nodes(), states, &next)?;
+        let changes = find_changes(alloc, net, states, &mut next, &moved)?;
         let rests = changes.is_empty();
         if rests || steps.len() == most as usize || changes.len() > *room {
             return Ok(RecordedSteps { steps, rests });
         }
         *room -= changes.len();
-        make_changes(&changes, states);
-        moved.clear();
-        add_nodes(&changes, &mut moved);
+        take_changes(&changes, states, &mut moved);
         steps.push(List::of(changes))?;
     }
 }
@@ -159,7 +191,7 @@ pub fn record(
     let mut phases = Vec::new(alloc);
     for (_, line) in lines {
         if room == 0 {
-            break;
+            return Ok(phases);
         }
         record_line(alloc, net, states, line, budget, &mut room, &mut phases)?;
     }

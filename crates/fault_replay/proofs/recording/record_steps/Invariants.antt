@@ -1,9 +1,8 @@
-use Rattle.std.proofs.Common.{◌≡◌, ◌≤◌, ◌<◌, ◌-◌, Bool, List, ℕ, length}
-use Rattle.std.specs.Prelude.{All, None}
+use Rattle.std.proofs.Common.{◌≡◌, ◌≤◌, ◌<◌, ◌-◌, List, ℕ, length}
+use Rattle.std.specs.Prelude.{All}
 use Rattle.switch_net.specs.declared.switches.Level.{Level}
 use Rattle.switch_net.specs.Net.{network_of}
-use Rattle.steady_state.specs.Marked.{IsNear, IsQuiet}
-use Rattle.fault_replay.specs.Replays.{StepsBy, listed}
+use Rattle.fault_replay.specs.Replays.{IsQuietBut, StepsBy, listed}
 use Rattle.fault_replay.proofs.recording.record_steps.Given as goal
 
 abbrev pub invariant-steps : goal.invariant-steps
@@ -15,7 +14,7 @@ invariant-steps l = record {
   few : length l.steps.items ≤ l.most;
   steps : StepsBy (network_of l.fn.net) l.fn.states l.steps.items l.states;
   within : All (λ (changes : List (ℕ × Level)). All (λ (change : ℕ × Level). change.0 < l.fn.net.nodes) changes) l.steps.items;
-  quiet : (inside : List Bool) → IsNear (network_of l.net) l.states (listed l.moved) None inside → IsQuiet (network_of l.net) l.states inside;
+  quiet : IsQuietBut (network_of l.fn.net) l.states (listed l.moved);
 }
 
 abbrev pub decreases-steps : goal.decreases-steps
