@@ -1,11 +1,14 @@
 //! The line that detects a fault.
-ghost use Rattle.std.specs.Prelude.{◌≡◌, ◌≢◌, ◌<◌, true, All, Some, IfOk, MatchOption};
+ghost use Rattle.std.specs.Prelude.{◌≡◌, ◌≢◌, ◌<◌, true, All, Some, length, IfOk, MatchOption};
 ghost use Rattle.std.specs.List.Sorted.{IsNonDecreasingBy};
 ghost use Rattle.switch_net.specs.Net.{network_of};
 ghost use Rattle.vector_files.specs.VectorFiles.{IsWithin};
-ghost use Rattle.vector_runs.specs.Running.{FitsNodes, IsUnderWay, watched};
+ghost use Rattle.vector_runs.specs.RailNodes.{AreBelow, AreRails};
+ghost use Rattle.vector_runs.specs.Running.{FitsNodes, watched};
 ghost use Rattle.vector_runs.specs.Runs.{IsFresh};
 ghost use Rattle.vector_runs.specs.Watching.{Watched as WatchedAt};
+ghost use Rattle.fault_replay.specs.Replays.{FitsRecord, Records};
+ghost use Rattle.fault_replay.specs.Runs.{IsBeside, IsReady};
 ghost use Rattle.fault_grade.specs.Comparing.{Finds, HasShown, IsGoodRun};
 ghost use Rattle.fault_grade.specs.Grades.{IsDetectedAt, IsUndetected};
 
@@ -14,10 +17,10 @@ use fault_replay::{PhaseRecord, ReplayedRun, record};
 use std::alloc::{AllocError, Global};
 use switch_net::{Level, NamedNet, Net};
 use vector_files::{VecLine, Vectors};
-use vector_runs::{Rails, Seen, StuckFault, make_net_fresh, rails_of, starts, watch};
+use vector_runs::{Rails, Seen, StuckFault, make_net_fresh, rails_of, start_states, watch};
 
-/// The run of vectors without a fault: what it shows, whether the numbers of their lines rise, power and ground of the network, the states
-/// in which it begins, and what is recorded of the phases.
+/// The run of vectors without a fault: what it shows, whether the numbers of their lines rise, and what the runs with faults share with it:
+/// power and ground, the states in which the network begins, and what is recorded of the phases.
 #[derive(Drop)]
 pub struct GoodRun {
     pub seen: Vec<Seen>,
@@ -41,21 +44,51 @@ fn are_rising(lines: &[(u32, VecLine)]) -> bool
     true
 }
 
-// The record of the run without a fault, or none where there is no memory for it.
-fn record_phases(
+// Records the run without a fault, but leaves the inputs and sizes as the run changed them.
+fn record_from_start(
+    alloc: Global,
+    net: &mut Net,
+    vectors: &Vectors,
+    budget: u32,
+    starts: &[Level],
+) -> Result<Vec<PhaseRecord>, AllocError>
+    requires within { All (λ line. FitsNodes net.old.nodes line.1) vectors.now.lines }
+    requires starts { length starts.now ≡ net.old.nodes }
+    ensures records { IfOk result (λ phases. Records budget (network_of net.old) starts.now vectors.now.lines phases.items) }
+    ensures fits { IfOk result (λ phases. All (FitsRecord net.old.nodes budget) phases.items) }
+    ensures nodes { net.new.nodes ≡ net.old.nodes }
+    ensures switches { net.new.switches ≡ net.old.switches }
+{
+    let mut states = Vec::from_slice(alloc, starts)?;
+    let phases = record(alloc, net, &mut states, vectors.lines.items(), budget)?;
+    Ok(phases)
+}
+
+// Records the run without a fault, or nothing where there is no memory for it. The network is left with the inputs and sizes that it had.
+fn record_run(
     alloc: Global,
     named: &mut NamedNet,
     vectors: &Vectors,
     budget: u32,
     starts: &[Level],
-) -> Vec<PhaseRecord> {
-    let rails = rails_of(named);
-    let phases = match Vec::from_slice(alloc, starts) {
-        Ok(mut states) => record(alloc, &mut named.net, &mut states, vectors.lines.items(), budget).unwrap_or(Vec::new(alloc)),
+    rails: &Rails,
+) -> Vec<PhaseRecord>
+    requires fresh { IsFresh (network_of named.old.net) named.old.names }
+    requires within { All (λ line. FitsNodes named.old.net.nodes line.1) vectors.now.lines }
+    requires starts { length starts.now ≡ named.old.net.nodes }
+    requires rails { AreRails named.old.names rails.now }
+    requires below { AreBelow named.old.net.nodes rails.now }
+    ensures records { Records budget (network_of named.old.net) starts.now vectors.now.lines result.items }
+    ensures fits { All (FitsRecord named.old.net.nodes budget) result.items }
+    ensures network { network_of named.new.net ≡ network_of named.old.net }
+    ensures names { named.new.names ≡ named.old.names }
+{
+    let recorded = record_from_start(alloc, &mut named.net, vectors, budget, starts);
+    make_net_fresh(&mut named.net, rails);
+    match recorded {
+        Ok(phases) => phases,
         Err(_) => Vec::new(alloc),
-    };
-    make_net_fresh(&mut named.net, &rails);
-    phases
+    }
 }
 
 impl GoodRun {
@@ -73,13 +106,15 @@ impl GoodRun {
         ensures names { named.new.names ≡ named.old.names }
     {
         let seen = watch(alloc, named, vectors, budget, None)?;
-        let starts = starts(alloc, named)?;
+        let rails = rails_of(named);
+        let starts = start_states(alloc, named)?;
+        let phases = record_run(alloc, named, vectors, budget, &starts, &rails);
         Ok(GoodRun {
             seen,
             rises: are_rising(vectors.lines.items()),
-            rails: rails_of(named),
-            phases: record_phases(alloc, named, vectors, budget, &starts),
+            rails,
             starts,
+            phases,
         })
     }
 
@@ -101,7 +136,8 @@ fn run_to_detection(
     budget: u32,
     good: &GoodRun,
 ) -> Option<u32>
-    requires under_way { IsUnderWay net.old run.old.run }
+    requires ready { IsReady budget net.old run.old }
+    requires beside { run.old.on ≡ true → IsBeside budget net.old run.old lines.now }
     requires begins { (watched net.old run.old.run).at.phases ≡ 0 }
     requires within { All (λ line. FitsNodes net.old.nodes line.1) lines.now }
     requires shown { (from : WatchedAt) × HasShown budget net.old.nodes from lines.now good.now.seen.items }
@@ -144,7 +180,7 @@ fn detect_from_start(
     ensures switches { named.new.net.switches ≡ named.old.net.switches }
 {
     let net = &mut named.net;
-    let mut run = ReplayedRun::begin(alloc, net, &good.starts, &good.phases, fault)?;
+    let mut run = ReplayedRun::begin(alloc, net, &good.starts, &good.phases, fault, budget)?;
     Ok(run_to_detection(
         alloc,
         &mut run,
