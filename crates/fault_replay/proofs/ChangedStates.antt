@@ -8,7 +8,7 @@ use Rattle.finite_sets.specs.Lists.{In}
 use Rattle.switch_net.specs.declared.switches.Level.{Level}
 use Rattle.switch_net.specs.declared.switches.Level.TheVariants.{X}
 use Rattle.switch_net.specs.Path.{state_of}
-use Rattle.fault_replay.specs.Changes.{changed, is_copied, taken_from}
+use Rattle.fault_replay.specs.Changes.{changed, taken_from}
 
 -- changes, and then others
 pub changed-append : (changes others : List (ℕ × Level)) (s : List Level) → changed (changes ++ others) s ≡ changed others (changed changes s)

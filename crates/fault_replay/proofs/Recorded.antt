@@ -1,5 +1,5 @@
 -- Runs that are recorded.
-use Rattle.std.proofs.Common.{◌≡◌, ◌≢◌, ℕ, ◌+◌, ◌<◌, ◌≤◌, List, [], ◌∷◌, ◌++◌, Bool, true, false, inl, inr, refl, sym, ap, subst, ◌∙◌, length, arith, slice_index, slice_index_or, slice_set}
+use Rattle.std.proofs.Common.{◌≡◌, ℕ, ◌<◌, List, [], ◌∷◌, ◌++◌, true, false, refl, sym, ap, subst, ◌∙◌, length, arith, slice_set}
 use Rattle.std.specs.Prelude.{All, None}
 use Rattle.std.proofs.lemmas.Bool.{false≢true}
 use Rattle.switch_net.specs.declared.node_set.NodeSet.{NodeSet}
@@ -9,14 +9,12 @@ use Rattle.switch_net.specs.Path.{is_input, state_of}
 use Rattle.switch_net.specs.Sets.{IsInside}
 use Rattle.switch_net.specs.Steady.{IsStep}
 use Rattle.switch_net.specs.Vicinity.{IsStorage}
-use Rattle.switch_net.proofs.Ranges.{input_in_range}
 use Rattle.steady_state.specs.Levels.{AreSteady}
 use Rattle.steady_state.specs.Marked.{IsGated, IsNear, IsQuiet}
 use Rattle.steady_state.proofs.Moving.{all_quiet, part_steps, quiet_next}
 use Rattle.vector_files.specs.declared.files.VecLine.{VecLine}
 use Rattle.vector_files.specs.declared.files.VecLine.TheVariants.{Set, Free, Size, Phase, Show}
 use Rattle.vector_runs.specs.Runs.{with_input, with_size}
-use Rattle.fault_replay.specs.declared.records.PhaseRecord.{PhaseRecord}
 use Rattle.fault_replay.specs.Changes.{changed, taken_from}
 use Rattle.fault_replay.specs.Replays.{Follows, IsQuietBut, Records, StepsBy, listed}
 use Rattle.fault_replay.proofs.Beside.{each_inside, is_inside, is_listed}

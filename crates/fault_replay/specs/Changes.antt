@@ -1,5 +1,5 @@
 -- Changes of states.
-use Rattle.std.specs.Prelude.{◌≡◌, ◌≢◌, ◌==◌, ◌&&◌, ℕ, Bool, false, not, List, [], ◌∷◌, filter, map, slice_index_or, slice_set}
+use Rattle.std.specs.Prelude.{◌≢◌, ◌==◌, ◌&&◌, ℕ, Bool, false, not, List, [], ◌∷◌, filter, map, slice_index_or, slice_set}
 use Rattle.switch_net.specs.declared.switches.Level.{Level}
 use Rattle.switch_net.specs.Path.{state_of}
 use Rattle.switch_net.specs.Sets.{IsInside}

@@ -1,4 +1,4 @@
-use Rattle.std.proofs.Common.{◌≡◌, ℕ, ◌<◌, List, ap, arith, length, slice_index, slice_index_or, slice_set, sym, take, ◌∙◌}
+use Rattle.std.proofs.Common.{◌<◌, List, ap, arith, length, slice_index, slice_index_or, slice_set, sym, take, ◌∙◌}
 use Rattle.std.proofs.lemmas.List.{get_or_default}
 use Rattle.switch_net.specs.declared.switches.Level.{Level}
 use Rattle.switch_net.specs.declared.switches.Level.TheVariants.{X, Zero}

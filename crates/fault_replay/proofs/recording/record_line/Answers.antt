@@ -1,4 +1,4 @@
-use Rattle.std.proofs.Common.{ℕ, List, [], ◌∷◌, ◌++◌, append_assoc, ap, refl, slice_set, subst, sym, ◌∙◌}
+use Rattle.std.proofs.Common.{List, [], ◌∷◌, ◌++◌, append_assoc, ap, refl, slice_set, subst, sym, ◌∙◌}
 use Rattle.switch_net.specs.Net.{network_of}
 use Rattle.switch_net.specs.Network.{Network}
 use Rattle.vector_files.specs.declared.files.VecLine.{VecLine}

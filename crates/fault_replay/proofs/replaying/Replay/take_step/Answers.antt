@@ -1,4 +1,4 @@
-use Rattle.std.proofs.Common.{List, subst, sym}
+use Rattle.std.proofs.Common.{subst, sym}
 use Rattle.switch_net.specs.Net.{network_of}
 use Rattle.switch_net.specs.Network.{Network}
 use Rattle.switch_net.proofs.Sound.{sound_of}

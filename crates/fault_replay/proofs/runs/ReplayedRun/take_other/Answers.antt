@@ -6,7 +6,6 @@ use Rattle.switch_net.proofs.Sound.{sound_of}
 use Rattle.vector_runs.specs.declared.stuck_faults.StuckFault.{StuckFault}
 use Rattle.vector_runs.specs.Running.{states_of, watched}
 use Rattle.vector_runs.specs.Watching.{is_left_out}
-use Rattle.fault_replay.specs.declared.records.PhaseRecord.{PhaseRecord}
 use Rattle.fault_replay.specs.Replays.{FitsRecord, IsReplayFor, Records, states_after}
 use Rattle.fault_replay.proofs.Beside.{along_as}
 use Rattle.fault_replay.proofs.Lines.{line_behind}
