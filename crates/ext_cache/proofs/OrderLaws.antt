@@ -10,9 +10,9 @@ use Rattle.cell_tree.specs.Uses.{HasChild}
 use Rattle.cell_library.specs.Additions.{children_in}
 use Rattle.cell_library.specs.Libraries.{LibraryParts, seen}
 use Rattle.cell_library.specs.Views.{LibraryView, view_at}
+use Rattle.cell_library.proofs.ChildLaws.{child_used}
 use Rattle.use_records.specs.LibraryTrees.NamedCells.{IsAtOrBelow as IsSeenAtOrBelow}
 use Rattle.use_records.specs.KeptRecords.KeptRecords.{IsBelow}
-use Rattle.tree_merges.proofs.HierMerge.CleanOrders.{child_used}
 
 -- ---- what stands below
 

@@ -16,6 +16,7 @@ use Rattle.workspace.specs.Extracting.{IsExtracted}
 use Rattle.workspace.specs.States.{State, Workspace}
 use Rattle.extract_commands.specs.CellRuns.{RunsCell, TellsAt}
 use Rattle.extract_commands.specs.CommandVectors.{RunsFetched}
+use Rattle.extract_commands.specs.declared.command_vectors.VectorQuestion.{VectorQuestion}
 
 -- the cell was extracted, and lines behind those of the extraction answer what was run
 pub runs_cell : (run : NetworkRun) (budget number : ℕ) (fetched : List (List ℕ)) (work after : Workspace) (cell : ℕ) (extraction : Extraction)
@@ -30,27 +31,27 @@ runs_cell run budget number fetched work after cell extraction lines all stores 
   is = λ i. record { state = Some (is.1 i); lines = lines_are i; stores = stores_are i; fetched = fetched };
 }
 
--- ---- `vectors`
+-- ---- `vectors` and `grade`
 
 -- the vector file was fetched
-pub runs_fetched : (budget number : ℕ) (file text : List ℕ) (fetch : Result (List ℕ) FetchFault) (work : Workspace) (cell : ℕ) (after : State) (answer : Answer)
+pub runs_fetched : (question : VectorQuestion) (budget number : ℕ) (name file text : List ℕ) (fetch : Result (List ℕ) FetchFault) (work : Workspace) (cell : ℕ) (after : State) (answer : Answer)
     → fetch ≡ Ok text
-    → RunsFetched budget number file (Ok text) work cell
+    → RunsFetched question budget number name file (Ok text) work cell
     (record { state = after; lines = answer.lines.items; stores = answer.stores.items; fetched = file ∷ [] })
-    → AnswersFetching (file ∷ []) (RunsFetched budget number file fetch work cell) after answer
-runs_fetched budget number file text fetch work cell after answer is runs =
+    → AnswersFetching (file ∷ []) (RunsFetched question budget number name file fetch work cell) after answer
+runs_fetched question budget number name file text fetch work cell after answer is runs =
     subst
     (λ (f : Result (List ℕ) FetchFault).
-    RunsFetched budget number file f work cell (record { state = after; lines = answer.lines.items; stores = answer.stores.items; fetched = file ∷ [] }))
+    RunsFetched question budget number name file f work cell (record { state = after; lines = answer.lines.items; stores = answer.stores.items; fetched = file ∷ [] }))
     (sym is) runs
 
 -- there is none
-pub refuses_fetched : (budget number : ℕ) (file : List ℕ) (fault : FetchFault) (fetch : Result (List ℕ) FetchFault) (work : Workspace) (cell : ℕ)
+pub refuses_fetched : (question : VectorQuestion) (budget number : ℕ) (name file : List ℕ) (fault : FetchFault) (fetch : Result (List ℕ) FetchFault) (work : Workspace) (cell : ℕ)
     (answer : Answer)
     → fetch ≡ Err fault → answer.lines.items ≡ refusal_line number (file_refusal file fault) ∷ [] → answer.stores.items ≡ []
-    → AnswersFetching (file ∷ []) (RunsFetched budget number file fetch work cell) (Some work) answer
-refuses_fetched budget number file fault fetch work cell answer is lines stores =
-    answers_refusal (RunsFetched budget number file fetch work cell) number (Some work) (file_refusal file fault) (file ∷ []) answer lines stores
+    → AnswersFetching (file ∷ []) (RunsFetched question budget number name file fetch work cell) (Some work) answer
+refuses_fetched question budget number name file fault fetch work cell answer is lines stores =
+    answers_refusal (RunsFetched question budget number name file fetch work cell) number (Some work) (file_refusal file fault) (file ∷ []) answer lines stores
     (subst
-    (λ (f : Result (List ℕ) FetchFault). RunsFetched budget number file f work cell (refused number (Some work) (file_refusal file fault) (file ∷ [])))
+    (λ (f : Result (List ℕ) FetchFault). RunsFetched question budget number name file f work cell (refused number (Some work) (file_refusal file fault) (file ∷ [])))
     (sym is) refl)

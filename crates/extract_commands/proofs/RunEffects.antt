@@ -12,7 +12,6 @@ use Rattle.line_answers.specs.Refusals.{refusal_line, too_many}
 use Rattle.square_lines.specs.HierMerge.UncleanCells.{IsCleanCell}
 use Rattle.circuit_commands.specs.Refusals.{circuit_limit_word}
 use Rattle.network_runs.specs.declared.network_runs.NetworkRun.{NetworkRun}
-use Rattle.network_runs.specs.declared.network_runs.NetworkRun.TheVariants.{Vectors}
 use Rattle.network_runs.specs.NetworkRuns.{TellsCircuit}
 use Rattle.network_runs.specs.Simulations.{vec_file}
 use Rattle.simulation_uniqueness.specs.Simulations.{CircuitAnswersAreUnique}
@@ -20,7 +19,8 @@ use Rattle.workspace.specs.declared.extractions.Extraction.{Extraction}
 use Rattle.workspace.specs.Extractions.{with_clean}
 use Rattle.workspace.specs.States.{State}
 use Rattle.extract_commands.specs.CellRuns.{RunsCell, RunsExtracted, TellsAt}
-use Rattle.extract_commands.specs.CommandVectors.{RunsFetched}
+use Rattle.extract_commands.specs.CommandVectors.{RunsFetched, run_of}
+use Rattle.extract_commands.specs.declared.command_vectors.VectorQuestion.{VectorQuestion}
 use Rattle.extract_commands.specs.OneCircuits.{CellCircuitsAreUnique, CellCircuitsPassNoLimit, CellLimitsAreUnique}
 use Rattle.extract_commands.specs.OneExtractions.{ExtractedCellsAreNotRefused, ExtractionsAreUnique, UncleanRefusalsAreUnique}
 use Rattle.extract_commands.specs.OneEffects.{VectorsMeansOneEffect}
@@ -67,13 +67,14 @@ module _ (one_circuit : CellCircuitsAreUnique) (one_limit : CellLimitsAreUnique)
         (λ work cell effect p. (p.extraction, p.is_extraction)) (same_runs run budget number fetched)
 
     -- and so has what is fetched for it
-    same_fetched : (budget number : ℕ) (file : List ℕ) (text : Result (List ℕ) FetchFault) → MeansOneOnCells (RunsFetched budget number file text)
-    same_fetched budget number file (Ok text) work cell sound there effect other p q =
-        same_run (Vectors text) budget number (file ∷ []) work cell sound there effect other p q
-    same_fetched budget number file (Err fault) work cell sound there effect other p q = p ∙ sym q
+    same_fetched : (question : VectorQuestion) (budget number : ℕ) (name file : List ℕ) (text : Result (List ℕ) FetchFault)
+        → MeansOneOnCells (RunsFetched question budget number name file text)
+    same_fetched question budget number name file (Ok text) work cell sound there effect other p q =
+        same_run (run_of question name text) budget number (file ∷ []) work cell sound there effect other p q
+    same_fetched question budget number name file (Err fault) work cell sound there effect other p q = p ∙ sym q
 
-    -- so `vectors` has one effect
+    -- so `vectors` and `grade` have one effect
     pub same_vectors : VectorsMeansOneEffect
-    same_vectors budget number state files name file effect other sees =
-        one_on_cell number state name (RunsFetched budget number (vec_file file) (text_in files (vec_file file))) sees
-        (same_fetched budget number (vec_file file) (text_in files (vec_file file))) effect other
+    same_vectors question budget number state files name file effect other sees =
+        one_on_cell number state name (RunsFetched question budget number name (vec_file file) (text_in files (vec_file file))) sees
+        (same_fetched question budget number name (vec_file file) (text_in files (vec_file file))) effect other

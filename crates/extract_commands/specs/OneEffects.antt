@@ -8,6 +8,7 @@ use Rattle.extract_commands.specs.CommandCircuits.{CircuitMeans}
 use Rattle.extract_commands.specs.CommandExtract.{ExtractMeans}
 use Rattle.extract_commands.specs.CommandGenerate.{GenerateMeans}
 use Rattle.extract_commands.specs.CommandVectors.{VectorsMeans}
+use Rattle.extract_commands.specs.declared.command_vectors.VectorQuestion.{VectorQuestion}
 use Rattle.workspace.specs.KeptSessions.{SeesSoundLibrary}
 
 -- `extract` has one effect
@@ -22,11 +23,12 @@ CircuitMeansOneEffect =
     (file : CircuitFile) (number : ℕ) (state : State) (name : List ℕ) (effect other : Effect State) → SeesSoundLibrary state
     → CircuitMeans file number state name effect → CircuitMeans file number state name other → effect ≡ other
 
--- and `vectors`
+-- and `vectors` and `grade`
 abbrev pub VectorsMeansOneEffect : Type 0
 VectorsMeansOneEffect =
-    (budget number : ℕ) (state : State) (files : Files) (name file : List ℕ) (effect other : Effect State) → SeesSoundLibrary state
-    → VectorsMeans budget number state files name file effect → VectorsMeans budget number state files name file other → effect ≡ other
+    (question : VectorQuestion) (budget number : ℕ) (state : State) (files : Files) (name file : List ℕ) (effect other : Effect State)
+    → SeesSoundLibrary state → VectorsMeans question budget number state files name file effect
+    → VectorsMeans question budget number state files name file other → effect ≡ other
 
 -- And `generate`, which extracts a cell that it made. So the library after one of the effects, which has this cell, is to be lawful.
 abbrev pub GenerateMeansOneEffect : Type 0

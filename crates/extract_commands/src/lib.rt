@@ -1,4 +1,4 @@
-//! Commands that extract a cell: `extract`, `flat`, `sim`, `vectors` and `generate`; and the laws that each of them has one effect.
+//! Commands that extract a cell: `extract`, `flat`, `sim`, `vectors`, `grade` and `generate`; and the laws that each of them has one effect.
 //!
 //! # How the proof goes
 //!
@@ -25,7 +25,7 @@ mod laws;
 pub use command_circuits::circuit;
 pub use command_extract::extract;
 pub use command_generate::generate;
-pub use command_vectors::vectors;
+pub use command_vectors::{VectorQuestion, vectors};
 pub use laws::{
     cell_circuits_are_unique, extracting_lines_have_one_effect, extractions_are_unique,
 };

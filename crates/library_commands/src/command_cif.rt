@@ -13,7 +13,7 @@ use std::alloc::Global;
 use workspace::LayoutSession;
 
 /// Writes the cell of this name as a CIF text, the script's line of this number.
-pub fn write(
+pub fn write_cif(
     alloc: Global,
     session: &LayoutSession,
     number: usize,

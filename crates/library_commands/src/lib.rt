@@ -21,7 +21,7 @@ mod command_tech;
 mod laws;
 
 pub use command_checks::check;
-pub use command_cif::write;
+pub use command_cif::write_cif;
 pub use command_edits::edit;
 pub use command_load::load;
 pub use command_looks::look_at;

@@ -13,7 +13,7 @@ use Rattle.cell_library.specs.Views.{CellView, LibraryView, no_cell, view_at}
 use Rattle.cell_library.proofs.LimitLaws.{states_unique}
 use Rattle.cell_library.proofs.SizeLaws.{HaveChildren, one_size}
 use Rattle.cell_library.proofs.ViewLaws.{length-states}
-use Rattle.hier_merge.proofs.CleanOrders.{child_used}
+use Rattle.cell_library.proofs.ChildLaws.{child_used}
 
 -- each state has the uses of the cell at its place
 same_uses : (cells : List CellView) (states : List CellState) (key : ℕ) (state : CellState) → AreStatesOf cells states → slice_get states key ≡ Some state

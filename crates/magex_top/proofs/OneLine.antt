@@ -13,6 +13,7 @@ use Rattle.look_commands.specs.declared.looks.Look.TheVariants as look
 use Rattle.circuit_commands.specs.declared.circuits.CircuitFile.TheVariants as file
 use Rattle.circuit_uniqueness.specs.Ext2simEffects.{Ext2simMeansOneEffect}
 use Rattle.simulation_uniqueness.specs.Simulations.{SimrunMeansOneEffect}
+use Rattle.extract_commands.specs.declared.command_vectors.VectorQuestion.TheVariants as question
 use Rattle.extract_commands.specs.OneEffects.{CircuitMeansOneEffect, ExtractMeansOneEffect, GenerateMeansOneEffect, VectorsMeansOneEffect}
 use Rattle.cif_commands.specs.OneEffects.{CifstatMeansOneEffect}
 use Rattle.library_commands.specs.OneEffects.{CheckMeansOneEffect, EditMeansOneEffect, LoadMeansOneEffect, LookMeansOneEffect, ReturnMeansOneEffect}
@@ -78,7 +79,8 @@ module _ (laws : Laws) (budget number : ℕ) (state : State) (files : Files) (se
   one_command (command.Flat cell) p q = laws.circuit file.Flat number state cell effect other sees p q
   one_command (command.Sim cell) p q = laws.circuit file.Sim number state cell effect other sees p q
   one_command (command.Ext2sim cell) p q = one_free state _ (laws.ext2sim number files cell) effect other p q
-  one_command (command.Vectors cell name) p q = laws.vectors budget number state files cell name effect other sees p q
+  one_command (command.Vectors cell name) p q = laws.vectors question.Replies budget number state files cell name effect other sees p q
+  one_command (command.Grade cell name) p q = laws.vectors question.Faults budget number state files cell name effect other sees p q
   one_command (command.Simrun cell name) p q = one_free state _ (laws.simrun budget number files cell name) effect other p q
   one_command (command.Generate count) p q = laws.generate budget number state count effect other leaves p q
 

@@ -15,11 +15,12 @@ use Rattle.session_model.specs.Scripts.{WholeSession, stores_in}
 use Rattle.session_model.proofs.RerunLaws.{made_good}
 use Rattle.script_lines.specs.declared.commands.Command.{Command}
 use Rattle.script_lines.specs.declared.commands.Command.TheVariants.{Tech, Load, New, Edit, Paint, Erase, Place, Array, Move, Delete, Label, Unlabel}
-use Rattle.script_lines.specs.declared.commands.Command.TheVariants.{Undo, Redo, Save, Squares, Drc, Cif, Cifstat, Nodes, Extract, Flat, Sim, Ext2sim, Vectors, Simrun, Generate}
+use Rattle.script_lines.specs.declared.commands.Command.TheVariants.{Undo, Redo, Save, Squares, Drc, Cif, Cifstat, Nodes, Extract, Flat, Sim, Ext2sim, Vectors, Grade, Simrun, Generate}
 use Rattle.script_lines.specs.declared.faults.LineFault.{LineFault}
 use Rattle.script_lines.specs.Commands.{command_of}
 use Rattle.circuit_commands.proofs.RestLaws.{ext2sim_rests}
 use Rattle.network_commands.proofs.RestLaws.{simrun_rests}
+use Rattle.extract_commands.specs.declared.command_vectors.VectorQuestion.TheVariants as question
 use Rattle.extract_commands.proofs.RestLaws.{vectors_rest}
 use Rattle.cif_commands.proofs.RestLaws.{cifstat_rests}
 use Rattle.library_commands.proofs.OneChecks.{check_rests}
@@ -62,7 +63,9 @@ command_rests budget number state files others (Sim cell) effect means agree = m
 command_rests budget number state files others (Ext2sim cell) effect (stays, means) agree =
     (stays, ext2sim_rests number files others cell (record { state = tt; lines = effect.lines; stores = effect.stores; fetched = effect.fetched }) means agree)
 command_rests budget number state files others (Vectors cell file) effect means agree =
-    vectors_rest budget number state files others cell file effect means agree
+    vectors_rest question.Replies budget number files others state cell file effect means agree
+command_rests budget number state files others (Grade cell file) effect means agree =
+    vectors_rest question.Faults budget number files others state cell file effect means agree
 command_rests budget number state files others (Simrun cell file) effect (stays, means) agree = (
   stays,
   simrun_rests budget number files others cell file (record { state = tt; lines = effect.lines; stores = effect.stores; fetched = effect.fetched })

@@ -4,7 +4,7 @@ use Rattle.outside_io.specs.Files.{Files}
 use Rattle.session_model.specs.Effects.{Effect}
 use Rattle.script_lines.specs.declared.commands.Command.{Command}
 use Rattle.script_lines.specs.declared.commands.Command.TheVariants.{Tech, Load, New, Edit, Paint, Erase, Place, Array, Move, Delete, Label, Unlabel}
-use Rattle.script_lines.specs.declared.commands.Command.TheVariants.{Undo, Redo, Save, Squares, Drc, Cif, Cifstat, Nodes, Extract, Flat, Sim, Ext2sim, Vectors, Simrun, Generate}
+use Rattle.script_lines.specs.declared.commands.Command.TheVariants.{Undo, Redo, Save, Squares, Drc, Cif, Cifstat, Nodes, Extract, Flat, Sim, Ext2sim, Vectors, Grade, Simrun, Generate}
 use Rattle.script_lines.specs.declared.faults.LineFault.{LineFault}
 use Rattle.script_lines.specs.Commands.{command_of}
 use Rattle.line_answers.specs.LineEffects.{LeavesState, accepted, refused}
@@ -18,6 +18,7 @@ use Rattle.extract_commands.specs.CommandCircuits.{CircuitMeans}
 use Rattle.extract_commands.specs.CommandExtract.{ExtractMeans}
 use Rattle.extract_commands.specs.CommandGenerate.{GenerateMeans}
 use Rattle.extract_commands.specs.CommandVectors.{VectorsMeans}
+use Rattle.extract_commands.specs.declared.command_vectors.VectorQuestion.TheVariants as question
 use Rattle.magex_top.specs.declared.session.RunSession.{RunSession}
 use Rattle.cif_commands.specs.CommandCifstat.{CifstatMeans}
 use Rattle.library_commands.specs.CommandChecks.{CheckMeans}
@@ -56,7 +57,8 @@ CommandMeans budget number state files (Extract cell) effect = ExtractMeans numb
 CommandMeans budget number state files (Flat cell) effect = CircuitMeans file.Flat number state cell effect
 CommandMeans budget number state files (Sim cell) effect = CircuitMeans file.Sim number state cell effect
 CommandMeans budget number state files (Ext2sim cell) effect = LeavesState state (Ext2simMeans number files cell) effect
-CommandMeans budget number state files (Vectors cell file) effect = VectorsMeans budget number state files cell file effect
+CommandMeans budget number state files (Vectors cell file) effect = VectorsMeans question.Replies budget number state files cell file effect
+CommandMeans budget number state files (Grade cell file) effect = VectorsMeans question.Faults budget number state files cell file effect
 CommandMeans budget number state files (Simrun cell file) effect = LeavesState state (SimrunMeans budget number files cell file) effect
 CommandMeans budget number state files (Generate count) effect = GenerateMeans budget number state count effect
 

@@ -11,8 +11,10 @@ ghost use Rattle.magex_top.specs.Sessions.{CommandMeans, LineMeans};
 
 use cif_commands::cifstat;
 use circuit_commands::{CircuitFile, ext2sim};
-use extract_commands::{circuit, extract, generate, vectors};
-use library_commands::{LayoutSession, Way, bring_back, check, edit, load, look_at, tech, write};
+use extract_commands::{VectorQuestion, circuit, extract, generate, vectors};
+use library_commands::{
+    LayoutSession, Way, bring_back, check, edit, load, look_at, tech, write_cif,
+};
 use line_answers::{refuse, told, worded};
 use look_commands::Look;
 use network_commands::simrun;
@@ -134,14 +136,21 @@ fn answer<F: Shelf>(
         Command::Save(cell) => look_at(alloc, session, number, cell, Look::Save),
         Command::Squares(cell) => look_at(alloc, session, number, cell, Look::Squares),
         Command::Drc(cell, file) => check(alloc, session, shelf, number, cell, file),
-        Command::Cif(cell) => write(alloc, session, number, cell),
+        Command::Cif(cell) => write_cif(alloc, session, number, cell),
         Command::Cifstat(file) => cifstat(alloc, shelf, number, file),
         Command::Nodes(cell) => look_at(alloc, session, number, cell, Look::Nodes),
         Command::Extract(cell) => extract(alloc, session, number, cell),
         Command::Flat(cell) => circuit(alloc, session, number, cell, CircuitFile::Flat),
         Command::Sim(cell) => circuit(alloc, session, number, cell, CircuitFile::Sim),
         Command::Ext2sim(cell) => ext2sim(alloc, shelf, number, cell),
-        Command::Vectors(cell, file) => vectors(alloc, session, shelf, number, budget, cell, file),
+        Command::Vectors(cell, file) => {
+            let question = VectorQuestion::Replies;
+            vectors(alloc, session, shelf, number, budget, question, cell, file)
+        }
+        Command::Grade(cell, file) => {
+            let question = VectorQuestion::Faults;
+            vectors(alloc, session, shelf, number, budget, question, cell, file)
+        }
         Command::Simrun(cell, file) => simrun(alloc, shelf, number, budget, cell, file),
         Command::Generate(count) => generate(alloc, session, number, budget, *count),
     }

@@ -49,7 +49,7 @@ module _ (elements : List Element) (classes : ℕ) (circuit : Circuit) (are : Ar
   records = records_of (sim_of circuit)
 
   -- the alias lines join the preferred name of a node with each of its names
-  joined : (node : NodeRec) → In node circuit.nodes → (name : List ℕ) → In name (names_of node) → AreOfOneNode records node.name name
+  pub joined : (node : NodeRec) → In node circuit.nodes → (name : List ℕ) → In name (names_of node) → AreOfOneNode records node.name name
   joined node within name (inl same) = Chain-same _ node.name name same
   joined node within name (inr here) =
       Chain-one (inl (In-flat_map aliases_of node (node.name, name) circuit.nodes within

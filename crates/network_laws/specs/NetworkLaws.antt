@@ -1,5 +1,5 @@
 -- What holds of the networks of flat circuits.
-use Rattle.std.specs.Prelude.{ℕ, List, All}
+use Rattle.std.specs.Prelude.{ℕ, List, All, map}
 use Rattle.tech_model.specs.declared.raw.RawTech.{RawTech}
 use Rattle.ext_model.specs.declared.records.CellExt.{CellExt}
 use Rattle.ext_model.specs.declared.circuits.Circuit.{Circuit}
@@ -9,7 +9,9 @@ use Rattle.tree_records.specs.NamedTrees.NamedTrees.{NamedTree}
 use Rattle.tree_records.specs.TreeCircuits.{IsFlatCircuit}
 use Rattle.sim_records.specs.SimRecords.{sim_of}
 use Rattle.switch_net.specs.declared.limits.TheConstants.{MOST_NODES}
-use Rattle.sim_networks.specs.SimNetworks.{HasLetter, HasMoreNodesThan, records_of}
+use Rattle.switch_net.specs.Network.{Network}
+use Rattle.switch_net.specs.SimRecords.{IsNetworkOf}
+use Rattle.sim_networks.specs.SimNetworks.{HasLetter, HasMoreNodesThan, HasNodeForEach, IsNumberedByCaps, records_of}
 
 -- the flat circuit of records has no more nodes than a network may have
 abbrev pub FlatNetworksFit : Type 0
@@ -21,3 +23,10 @@ FlatNetworksFit =
 abbrev pub FlatCircuitsHaveLetters : RawTech → Type 0
 FlatCircuitsHaveLetters tech =
     (tree : NamedTree) (circuit : Circuit) → IsFlatCircuit tech tree circuit → All HasLetter (sim_of circuit).fets
+
+-- the nodes of the network of the flat circuit of records are those of the circuit, in the same order
+abbrev pub FlatNetworksHaveTheNodes : Type 0
+FlatNetworksHaveTheNodes =
+    (exts : List CellExt) (root : List ℕ) (circuit : Circuit) (net : Network) (names : List (List ℕ × ℕ)) → AreRecords exts
+    → IsFlatOf exts root circuit → IsNetworkOf (records_of (sim_of circuit)) net names → IsNumberedByCaps (records_of (sim_of circuit)) names
+    → HasNodeForEach (map (λ node. node.name) circuit.nodes) net names

@@ -1,5 +1,5 @@
-//! The laws that a flat circuit can be simulated: its network has no more nodes than there may be, and each of its transistors has a
-//! letter that makes a switch. The functions here do nothing; their contracts are the laws.
+//! The laws that a flat circuit can be simulated: its network has no more nodes than there may be, each of its transistors has a letter that
+//! makes a switch, and the nodes of the network are those of the circuit. The functions here do nothing; their contracts are the laws.
 //!
 //! # How the proof goes
 //!
@@ -10,10 +10,14 @@
 //! join them: names of different nodes come from different records, and there are no more of these than a tree may have (`FewNodes`,
 //! `LawfulElements`).
 //!
+//! Names that alias lines join are of one flat node, and the preferred name of a node is its least; so no two preferred names are joined, and
+//! each node of the network has one of them. Nodes are numbered by the first places of their names, which are those of the preferred names
+//! (`FlatNumbers`).
+//!
 //! The kind of a transistor of a flat layout is a name that the technology gives, whose first letter its rules bound (`FlatLetters`).
 #![tactic(auto)]
 
-ghost use Rattle.network_laws.specs.NetworkLaws.{FlatCircuitsHaveLetters, FlatNetworksFit};
+ghost use Rattle.network_laws.specs.NetworkLaws.{FlatCircuitsHaveLetters, FlatNetworksFit, FlatNetworksHaveTheNodes};
 
 use tech_model::Tech;
 
@@ -28,3 +32,8 @@ pub fn flat_circuits_have_letters(tech: &Tech)
 {
     let _ = tech.raw();
 }
+
+/// The nodes of the network of the flat circuit of lawful records are those of the circuit, in the same order.
+pub fn flat_networks_have_the_nodes()
+    ensures { FlatNetworksHaveTheNodes }
+{}

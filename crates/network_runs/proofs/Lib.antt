@@ -1,3 +1,4 @@
 pub mod NetworkRunLaws
 pub mod SimulationLaws
 pub mod ShownLines
+pub mod GradingLaws

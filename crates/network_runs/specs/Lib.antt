@@ -1,4 +1,5 @@
 pub mod NetworkRuns
 pub mod Refusals
 pub mod Simulations
+pub mod Grading
 pub mod Headline

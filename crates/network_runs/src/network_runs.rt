@@ -1,20 +1,21 @@
 //! What is run on the network of a circuit.
 ghost use Rattle.std.specs.Prelude.{◌≡◌, ◌≤◌, ◌∷◌, [], All, length, IfOk, IsOkUnless};
 ghost use Rattle.sim_records.specs.SimRecords.{HasLetterAndLengths, sim_of};
-ghost use Rattle.switch_net.specs.declared.limits.TheConstants.{MOST_NODES, MOST_SWITCHES};
+ghost use Rattle.switch_net.specs.declared.limits.TheConstants.{MOST_SWITCHES};
 ghost use Rattle.switch_net.specs.Net.{network_of};
-ghost use Rattle.sim_networks.specs.SimNetworks.{HasLetter, HasMoreNodesThan, records_of};
+ghost use Rattle.sim_networks.specs.SimNetworks.{HasNodeForEach};
 ghost use Rattle.vector_runs.specs.Runs.{IsFresh};
 ghost use Rattle.line_answers.specs.LineEffects.{IsOfInside};
-ghost use Rattle.line_answers.specs.Refusals.{refusal_line, too_many};
+ghost use Rattle.network_runs.specs.Grading.{preferred_names};
 ghost use Rattle.network_runs.specs.NetworkRuns.{CanBeSimulated, TellsCircuit, TellsOn, TellsOutcome, outcome_lines, unsettled_line};
 ghost use Rattle.network_runs.specs.Simulations.{IsNetOf};
 
-use crate::refusals::sim_limit_word;
+use crate::grading::coverage_lines;
+use crate::refusals::{limit_passed, sim_limit_word};
 use crate::simulations::{MadeNet, make_network, vector_line, vector_lines};
 use ext_model::Circuit;
-use line_answers::{refused_line, reply, too_many};
-use names_lists::List;
+use line_answers::reply;
+use names_lists::{List, Name};
 use session_model::{Halt, ReportLine};
 use sim_records::sim_of;
 use sim_text::{SimFault, SimFile, SimLimit};
@@ -28,17 +29,10 @@ use vector_runs::VecReply;
 pub enum NetworkRun {
     /// A vector file of this text.
     Vectors(List<u8>),
+    /// A vector file of this text, with each stuck fault of the circuit of the cell of this name.
+    Grade(Name, List<u8>),
     /// The vectors of a stack of so many rows.
     Stack(u32),
-}
-
-/// The line that refuses what there would be too many of, as the word names it.
-pub fn limit_passed(alloc: Global, number: usize, word: &[u8]) -> Result<Vec<ReportLine>, Halt>
-    ensures told { IfOk result (λ lines. lines.items ≡ refusal_line number (too_many word.now) ∷ []) }
-    ensures inside { IfOk result (λ lines. IsOfInside lines.items) }
-    ensures memory { IsOkUnless result Halt.Memory }
-{
-    Ok(refused_line(alloc, number, too_many(alloc, word)?)?)
 }
 
 /// Runs it on a circuit.
@@ -72,8 +66,7 @@ fn run_sim(
     sim: &SimFile,
 ) -> Result<Vec<ReportLine>, Halt>
     requires records { sim.now ≡ sim_of circuit.now }
-    requires letters { All HasLetter sim.now.fets }
-    requires few_nodes { ¬ (HasMoreNodesThan MOST_NODES (records_of sim.now)) }
+    requires simulated { CanBeSimulated circuit.now }
     requires few_switches { length sim.now.fets ≤ MOST_SWITCHES }
     ensures tells { IfOk result (λ lines. TellsOn run.now budget number circuit.now lines.items) }
     ensures inside { IfOk result (λ lines. IsOfInside lines.items) }
@@ -99,12 +92,16 @@ fn run_network(
 ) -> Result<Vec<ReportLine>, Halt>
     requires net { IsNetOf (sim_of circuit.now) (network_of named.old.net) named.old.names }
     requires fresh { IsFresh (network_of named.old.net) named.old.names }
+    requires nodes { HasNodeForEach (preferred_names circuit.now) (network_of named.old.net) named.old.names }
     ensures tells { IfOk result (λ lines. TellsOn run.now budget number circuit.now lines.items) }
     ensures inside { IfOk result (λ lines. IsOfInside lines.items) }
     ensures memory { IsOkUnless result Halt.Memory }
 {
     match run {
         NetworkRun::Vectors(text) => vector_lines(alloc, number, budget, named, text.items()),
+        NetworkRun::Grade(cell, text) => {
+            coverage_lines(alloc, number, budget, cell, text.items(), circuit, named)
+        }
         NetworkRun::Stack(n) => stack_lines(alloc, budget, *n, circuit, named),
     }
 }

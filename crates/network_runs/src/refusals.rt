@@ -1,10 +1,13 @@
 //! Why vector files and networks are refused.
-ghost use Rattle.std.specs.Prelude.{◌≡◌, ◌++◌, pos, IfOk, OnOk};
+ghost use Rattle.std.specs.Prelude.{◌≡◌, ◌∷◌, ◌++◌, [], pos, IfOk, OnOk, IsOkUnless};
 ghost use Rattle.text_scan.specs.Decimal.{decimal};
+ghost use Rattle.line_answers.specs.LineEffects.{IsOfInside};
+ghost use Rattle.line_answers.specs.Refusals.{refusal_line, too_many};
 ghost use Rattle.network_runs.specs.Refusals.{sim_limit_word, vec_fault_text, vec_refusal};
 
-use line_answers::{Refusal, append_with_name, worded};
+use line_answers::{Refusal, append_with_name, refused_line, too_many, worded};
 use names_lists::Name;
+use session_model::{Halt, ReportLine};
 use sim_text::SimLimit;
 use std::alloc::{AllocError, Global};
 use text_scan::append_decimal;
@@ -18,6 +21,15 @@ pub fn sim_limit_word(limit: SimLimit) -> &'static [u8]
         SimLimit::Nodes => b"Nodes",
         SimLimit::Switches => b"Switches",
     }
+}
+
+/// The line that refuses what there would be too many of, as the word names it.
+pub fn limit_passed(alloc: Global, number: usize, word: &[u8]) -> Result<Vec<ReportLine>, Halt>
+    ensures told { IfOk result (λ lines. lines.items ≡ refusal_line number (too_many word.now) ∷ []) }
+    ensures inside { IfOk result (λ lines. IsOfInside lines.items) }
+    ensures memory { IsOkUnless result Halt.Memory }
+{
+    Ok(refused_line(alloc, number, too_many(alloc, word)?)?)
 }
 
 /// The fault of a vector file.

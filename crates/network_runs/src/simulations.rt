@@ -60,8 +60,8 @@ pub fn vector_lines(
     }
 }
 
-// The line that refuses a vector file.
-fn refused_vectors(alloc: Global, number: usize, at: VecAt) -> Result<Vec<ReportLine>, Halt>
+/// The line that refuses a vector file.
+pub fn refused_vectors(alloc: Global, number: usize, at: VecAt) -> Result<Vec<ReportLine>, Halt>
     ensures told { IfOk result (λ lines. lines.items ≡ refusal_line number (vec_refusal at) ∷ []) }
     ensures fault { IfOk result (λ _. at.fault ≢ VecFault.Memory) }
     ensures inside { IfOk result (λ lines. IsOfInside lines.items) }

@@ -2,3 +2,4 @@ pub mod SameNetworks
 pub mod CountedNodes
 pub mod AlikeNames
 pub mod SameReplies
+pub mod SameGrades

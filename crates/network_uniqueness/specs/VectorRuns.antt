@@ -6,6 +6,8 @@ use Rattle.vector_files.specs.declared.files.Vectors.{Vectors}
 use Rattle.vector_files.specs.VectorFiles.{vectors_in}
 use Rattle.vector_runs.specs.declared.replies.VecReply.{VecReply}
 use Rattle.vector_runs.specs.Runs.{IsRun}
+use Rattle.fault_grade.specs.declared.grading.Graded.{Graded}
+use Rattle.fault_grade.specs.Grades.{AreGrades, faults_of}
 use Rattle.network_uniqueness.specs.Networks.{IsNumbered}
 
 -- a text is one vector file for a network of the records, or has one first fault, however the names are listed
@@ -20,3 +22,16 @@ RepliesAreUnique =
     (records : SimRecords) (net other : Network) (names others : List (List ℕ × ℕ)) (text : List ℕ) (budget : ℕ) (vectors : Vectors)
     (replies more : List VecReply) → IsNumbered records net names → IsNumbered records other others → vectors_in names text ≡ Ok vectors
     → IsRun net names budget vectors replies → IsRun other others budget vectors more → replies ≡ more
+
+-- and its vectors have one list of grades within a budget
+abbrev pub GradesAreUnique : Type 0
+GradesAreUnique =
+    (records : SimRecords) (net other : Network) (names others : List (List ℕ × ℕ)) (budget : ℕ) (vectors : Vectors)
+    (grades more : List Graded) → IsNumbered records net names → IsNumbered records other others
+    → AreGrades net names budget vectors grades → AreGrades other others budget vectors more → grades ≡ more
+
+-- and its nodes have as many faults, however the names are listed
+abbrev pub FaultsAreUnique : Type 0
+FaultsAreUnique =
+    (records : SimRecords) (net other : Network) (names others : List (List ℕ × ℕ)) → IsNumbered records net names
+    → IsNumbered records other others → faults_of names net.nodes ≡ faults_of others other.nodes

@@ -12,14 +12,16 @@
 //!
 //! The order in which names are listed is not fixed by what a network of records is, nor how often a name is listed. What a line of a
 //! vector file says is found by names that have one node each, so it is the same for both lists (`AlikeNames`); and so are the states in
-//! which a network begins (`SameReplies`). The rest is the law of runs.
+//! which a network begins (`SameReplies`), and which nodes are power and ground, so that a line detects a fault for both or for neither
+//! (`SameGrades`). The rest are the laws of runs and of grades.
 //!
 //! Names that are pairwise of different nodes have as many different nodes, and each node has a name (`CountedNodes`).
 #![tactic(auto)]
 
 ghost use Rattle.network_uniqueness.specs.Networks.{NetworksAreUnique, NodesAreCounted};
-ghost use Rattle.network_uniqueness.specs.VectorRuns.{RepliesAreUnique, VectorFilesAreUnique};
+ghost use Rattle.network_uniqueness.specs.VectorRuns.{FaultsAreUnique, GradesAreUnique, RepliesAreUnique, VectorFilesAreUnique};
 
+use fault_grade::grades_are_unique;
 use vector_runs::runs_are_unique;
 
 /// Sim records have one network, whose nodes are numbered in their order. The lists of its names have the same elements.
@@ -42,4 +44,12 @@ pub fn replies_are_unique()
     ensures { RepliesAreUnique }
 {
     runs_are_unique();
+}
+
+/// The network of sim records has one list of faults, and vectors that are read have one list of grades on it.
+pub fn fault_grades_are_unique()
+    ensures faults { FaultsAreUnique }
+    ensures grades { GradesAreUnique }
+{
+    grades_are_unique();
 }

@@ -5,3 +5,4 @@ pub mod CountLaws
 pub mod SwitchLaws
 pub mod InputLaws
 pub mod LetterLaws
+pub mod NumberedNames

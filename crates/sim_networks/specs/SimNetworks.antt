@@ -10,6 +10,7 @@ use Rattle.sim_text.specs.declared.files.SimFile.{SimFile}
 use Rattle.sim_text.specs.Parts.{is_letter}
 use Rattle.switch_net.specs.declared.limits.TheConstants.{MOST_NODES, MOST_SWITCHES}
 use Rattle.switch_net.specs.Names.{HasName}
+use Rattle.switch_net.specs.Network.{Network}
 use Rattle.switch_net.specs.SimRecords.{AreOfOneNode, SimRecords, TransistorLine, names_of, names_of_aliases, names_of_transistors}
 
 abbrev pub transistor_of : SimFet → TransistorLine
@@ -56,3 +57,8 @@ AreInOrderOf order names =
 abbrev pub IsNumberedByCaps : SimRecords → List (List ℕ × ℕ) → Type 0
 IsNumberedByCaps records names =
     AreInOrderOf (records.capacitors ++ names_of_transistors records.transistors ++ names_of_aliases records.aliases) names
+
+-- The nodes of the network stand for these names, in their order: there are as many, and each has the name at its place.
+pub record HasNodeForEach (preferred : List (List ℕ)) (net : Network) (names : List (List ℕ × ℕ)) : Type 0 where
+  pub as_many : net.nodes ≡ length preferred
+  pub named : (v : ℕ) (name : List ℕ) → slice_get preferred v ≡ Some name → HasName names v name

@@ -47,7 +47,7 @@ SimrunMeansOneEffect =
     (budget number : ℕ) (files : Files) (name file : List ℕ) (effect other : FreeEffect) → SimrunMeans budget number files name file effect
     → SimrunMeans budget number files name file other → effect ≡ other
 
--- what answers a run on the network of a circuit, of a text of vectors or of the vectors of a stack, is one list of lines
+-- what answers a run on the network of a circuit, of a text of vectors, of its grades or of the vectors of a stack, is one list of lines
 abbrev pub CircuitAnswersAreUnique : Type 0
 CircuitAnswersAreUnique =
     (run : NetworkRun) (budget number : ℕ) (circuit : Circuit) (lines more : List ReportLine) → TellsCircuit run budget number circuit lines

@@ -7,14 +7,16 @@
 //! be, or neither, rules each of the others out (`SimLimits`). What answers vectors is told of their replies, which are one list by the law
 //! of replies, or of the first fault (`VectorAnswers`). The vectors of a stack set nodes by their names, which are the same for both lists; they
 //! fit the network as if its nodes had no names, so that their run has one end, and with the counts of its states one outcome
-//! (`StackOutcomes`, `CircuitAnswers`). What a file gives is one thing, so the cases of `simrun` are gone through side by
+//! (`StackOutcomes`). A network has one list of faults, and vectors one list of grades (`CircuitAnswers`). What a file gives is one thing, so the cases of `simrun` are gone through side by
 //! side (`SimrunEffects`).
 #![tactic(auto)]
 
 ghost use Rattle.simulation_uniqueness.specs.Simulations.{CircuitAnswersAreUnique, NetworkAnswersAreUnique, NetworksPassNoLimit};
 ghost use Rattle.simulation_uniqueness.specs.Simulations.{PassedLimitsAreUnique, SimNetworksAreUnique, SimrunMeansOneEffect, VectorAnswersAreUnique};
 
-use network_uniqueness::{networks_are_unique, replies_are_unique, vector_files_are_unique};
+use network_uniqueness::{
+    fault_grades_are_unique, networks_are_unique, replies_are_unique, vector_files_are_unique,
+};
 
 /// A sim file has one network, or its network would pass one limit.
 pub fn sim_networks_are_unique()
@@ -45,6 +47,8 @@ pub fn circuit_answers_are_unique()
     ensures { CircuitAnswersAreUnique }
 {
     networks_are_unique();
+    vector_files_are_unique();
+    fault_grades_are_unique();
     network_answers_are_unique();
 }
 

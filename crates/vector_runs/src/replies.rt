@@ -61,7 +61,8 @@ fn shown_text(alloc: Global, name: &Name, level: Level) -> Result<Vec<u8>, Alloc
     Ok(text)
 }
 
-fn level_byte(level: Level) -> u8
+/// The byte of a state: `0`, `1` or `X`.
+pub fn level_byte(level: Level) -> u8
     ensures { result ∷ [] ≡ level_text level }
 {
     match level {

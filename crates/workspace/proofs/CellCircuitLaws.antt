@@ -20,7 +20,7 @@ use Rattle.tree_circuits.specs.Laws.{RecordsStandForTheFlatLayout, TreeRecordsHa
 use Rattle.library_trees.specs.Laws.{AreChainsShort, CleanCellHasCleanTree}
 use Rattle.library_trees.specs.NamedCells.{named_tree_at}
 use Rattle.workspace.proofs.CellNames.{tree_named}
-use Rattle.network_laws.specs.NetworkLaws.{FlatCircuitsHaveLetters, FlatNetworksFit}
+use Rattle.network_laws.specs.NetworkLaws.{FlatCircuitsHaveLetters, FlatNetworksFit, FlatNetworksHaveTheNodes}
 use Rattle.workspace.specs.declared.cell_circuits.Flattened.TheVariants.{Circuit as OneCircuit}
 use Rattle.workspace.specs.CellCircuits.{IsCircuitAt, IsFlattenedAt, PassesAt}
 use Rattle.workspace.proofs.StandingLaws.{few_elements}
@@ -52,15 +52,18 @@ module _ (library : LibraryParts) (lawful : IsLawfulLibrary library) (cell : ℕ
 
   -- sim records can be made of it, and a network of these
   pub flattened_is : RecordsStandForTheFlatLayout → CleanCellHasCleanTree library cell → AreChainsShort library → FlatTransistorsHaveLetterAndLengths
-      → FlatNetworksFit → FlatCircuitsHaveLetters library.tech → (circuit : Circuit) → IsFlatOf exts (view_at (seen library) cell).name circuit
+      → FlatNetworksFit → FlatNetworksHaveTheNodes → FlatCircuitsHaveLetters library.tech → (circuit : Circuit)
+      → IsFlatOf exts (view_at (seen library) cell).name circuit
       → IsFlattenedAt (seen library) cell (OneCircuit circuit)
-  flattened_is stand cleans short lengths fit letters circuit flat =
+  flattened_is stand cleans short lengths fit have letters circuit flat =
       let is = circuit_is stand cleans short circuit flat in (
         is,
         lengths exts (view_at (seen library) cell).name circuit are flat,
         record {
           letters = letters (named_tree_at (seen library) cell) circuit is.is_circuit;
           few_nodes = fit exts (view_at (seen library) cell).name circuit are flat;
+          same_nodes = λ net names is_net.
+              have exts (view_at (seen library) cell).name circuit net names are flat is_net.is_network is_net.in_order;
         },
       )
 

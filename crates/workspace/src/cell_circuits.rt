@@ -17,7 +17,7 @@ use ext_model::{ArrayExt, CellKey, Circuit};
 use flatten::flatten;
 use kept_records::listed_records_are_of_the_tree;
 use library_trees::{chains_are_short, clean_cell_has_clean_tree};
-use network_laws::{flat_circuits_have_letters, flat_networks_fit};
+use network_laws::{flat_circuits_have_letters, flat_networks_fit, flat_networks_have_the_nodes};
 use session_model::Halt;
 use std::alloc::Global;
 use tree_circuits::{records_stand_for_the_flat_layout, tree_records_have_no_other_fault};
@@ -68,6 +68,7 @@ fn flatten_records(
     tree_records_have_no_other_fault();
     flat_transistors_have_letter_and_lengths();
     flat_networks_fit();
+    flat_networks_have_the_nodes();
     flat_circuits_have_letters(library.tech());
     match flatten(alloc, exts, library.name_of(cell)) {
         Ok(circuit) => Ok(Flattened::Circuit(circuit)),

@@ -2,7 +2,7 @@ use Rattle.std.proofs.Common.{◌≡◌, ℕ, List, [], ◌∷◌, Ok, Err, Some
 use Rattle.std.proofs.lemmas.Result.{IfOk-weaker}
 use Rattle.session_model.specs.declared.fetching.Fetched.{Fetched}
 use Rattle.session_model.specs.Fetches.{FetchMeans, text_in}
-use Rattle.network_runs.specs.declared.network_runs.NetworkRun.TheVariants.{Vectors}
+use Rattle.network_runs.specs.declared.network_runs.NetworkRun.{NetworkRun}
 use Rattle.workspace.specs.KeptSessions.{edited_state}
 use Rattle.extract_commands.specs.CellRuns.{RunsExtracted}
 use Rattle.workspace.specs.States.{State}
@@ -19,9 +19,10 @@ returns-in-Text-clause-effect g c files told =
     IfOk-weaker c.run_extracted.result _ _
     (λ answer runs. (
       c.args.file ∷ [],
-      runs_fetched c.args.budget c.args.number c.args.file c.in-Text.text.items (text_in files c.args.file) work c.args.cell.0 after answer there
-          (subst (λ (text : List ℕ). RunsExtracted (Vectors text) c.args.budget c.args.number (c.args.file ∷ []) work c.args.cell.0
-          (record { state = after; lines = answer.lines.items; stores = answer.stores.items; fetched = c.args.file ∷ [] })) c.of.ensures runs),
+      runs_fetched c.args.question c.args.budget c.args.number c.args.name.now c.args.file c.in-Text.text.items (text_in files c.args.file) work c.args.cell.0 after answer there
+          (subst (λ (run : NetworkRun). RunsExtracted run c.args.budget c.args.number (c.args.file ∷ []) work c.args.cell.0
+          (record { state = after; lines = answer.lines.items; stores = answer.stores.items; fetched = c.args.file ∷ [] }))
+          c.in_ok-run-in-Text.ensures runs),
       c.fetch_text.ensures.asked,
     ))
     (c.run_extracted.ensures.effect (c.args.file ∷ []))
@@ -33,7 +34,7 @@ returns-clause-effect g c files told =
     both_ok c.refuse_file.result _ _ _
     (λ answer lines stores. (
       c.args.file ∷ [],
-      refuses_fetched c.args.budget c.args.number c.args.file c.in-Refused.fault (text_in files c.args.file) (edited_state c.args.edited.now) c.args.cell.0 answer
+      refuses_fetched c.args.question c.args.budget c.args.number c.args.name.now c.args.file c.in-Refused.fault (text_in files c.args.file) (edited_state c.args.edited.now) c.args.cell.0 answer
           there lines stores,
       c.fetch_text.ensures.asked,
     ))

@@ -29,7 +29,8 @@ returns-in-Ok-clause-flattened c =
     subst (λ (raw : RawTech). FlatCircuitsHaveLetters raw) c.tech.ensures c.flat_circuits_have_letters.ensures in
     flattened_is library c.lawful.ensures c.args.cell.0 c.requires.cell c.requires.clean exts (plains_are_records c.args.exts.now c.requires.records) c.requires.tree
     c.records_stand_for_the_flat_layout.ensures c.clean_cell_has_clean_tree.ensures c.chains_are_short.ensures
-    c.flat_transistors_have_letter_and_lengths.ensures c.flat_networks_fit.ensures letters c.in-Ok.circuit flat
+    c.flat_transistors_have_letter_and_lengths.ensures c.flat_networks_fit.ensures
+    c.flat_networks_have_the_nodes.ensures letters c.in-Ok.circuit flat
 
 pub returns-in-Err-TooMany-clause-flattened : goal.returns-in-Err-TooMany-clause-flattened
 returns-in-Err-TooMany-clause-flattened c =

@@ -9,7 +9,7 @@ use Rattle.workspace.proofs.CellCommands.{answers_on_cell}
 use Rattle.workspace.specs.KeptSessions.{edited_state, state_of}
 use Rattle.workspace.specs.States.{State}
 use Rattle.library_commands.specs.CommandCif.{WriteMeans, WritesIn}
-use Rattle.library_commands.proofs.command_cif.write.Goals as goal
+use Rattle.library_commands.proofs.command_cif.write_cif.Goals as goal
 
 pub cif-requires : goal.cif-requires
 cif-requires c =

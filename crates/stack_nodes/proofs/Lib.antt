@@ -1,0 +1,13 @@
+mod Arrays
+mod CircuitNodes
+mod FreshPaint
+mod LeastPlaces
+mod NetworkNodes
+mod NodeSums
+mod PlaceSums
+mod StackElements
+mod StackNames
+mod StackSets
+mod StackTrees
+mod TileNodes
+mod TilePaint

@@ -1,0 +1,2 @@
+pub mod StackNodes
+pub mod StackSums
