@@ -2,6 +2,7 @@
 use Rattle.std.proofs.Common.{◌≡◌, ℕ, List, [], ◌∷◌, ◌++◌, ◌+◌, Bool, true, false, refl, sym, ap, subst, ◌∙◌, arith, append_assoc}
 use Rattle.std.specs.Prelude.{Option, Some, None, MatchOption, filter, not}
 use Rattle.std.specs.List.{AllZip, flat_map, range_with_len}
+use Rattle.std.proofs.Math.Path.{fun_ext}
 use Rattle.std.proofs.lemmas.Grind.{flat_map-append}
 use Rattle.std.proofs.lemmas.List.{append-nil}
 use Rattle.std.proofs.lemmas.List.Elements.{filter-append}
@@ -102,6 +103,10 @@ module _ (net : Network) (names : List (List ℕ × ℕ)) (budget : ℕ) (vector
       ap (λ (one : Graded). one ∷ grades) here ∙ ap (λ (more : List Graded). b ∷ more) later
 
 -- ---- the list of faults
+
+-- the faults but those of the nodes that two tests tell alike
+pub same_faults : (p q : ℕ → Bool) (nodes : ℕ) → ((v : ℕ) → p v ≡ q v) → faults_but p nodes ≡ faults_but q nodes
+same_faults p q nodes same = ap (λ (test : ℕ → Bool). faults_but test nodes) (fun_ext same)
 
 -- the faults of one node more
 faults_more : (p : ℕ → Bool) (nodes : ℕ) → faults_but p (nodes + 1) ≡ faults_but p nodes ++ flat_map faults_at (filter (λ v. not (p v)) (nodes ∷ []))

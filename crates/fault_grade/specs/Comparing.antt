@@ -1,16 +1,19 @@
 -- Runs with a fault that are compared with the run without, as they go.
-use Rattle.std.specs.Prelude.{◌≡◌, ◌≤◌, ◌&&◌, ℕ, Bool, true, false, if◌then◌else◌, nat_lt, List, length, zip, Option, Some, None, IfSome, IsSomeAnd}
+use Rattle.std.specs.Prelude.{◌≡◌, ◌≤◌, ◌&&◌, ℕ, Bool, true, false, if◌then◌else◌, nat_lt, List, length, zip, All, Option, Some, None, IfSome, IsSomeAnd}
 use Rattle.std.specs.List.{list_any}
 use Rattle.std.specs.List.Sorted.{IsNonDecreasingBy}
 use Rattle.switch_net.specs.declared.switches.Level.{Level}
 use Rattle.switch_net.specs.Network.{IsSound, Network}
 use Rattle.switch_net.specs.Path.{state_of}
+use Rattle.switch_net.specs.SimRecords.{AreStarts}
 use Rattle.vector_files.specs.declared.files.VecLine.{VecLine}
 use Rattle.vector_files.specs.declared.files.VecLine.TheVariants.{Show}
 use Rattle.vector_files.specs.declared.files.Vectors.{Vectors}
 use Rattle.vector_runs.specs.declared.stuck_faults.StuckFault.{StuckFault}
 use Rattle.vector_runs.specs.declared.watching.Seen.{Seen}
+use Rattle.vector_runs.specs.RailNodes.{AreBelow, AreRails}
 use Rattle.vector_runs.specs.Watching.{AreSeen, LinesShow, Watched}
+use Rattle.fault_replay.specs.Replays.{FitsRecord, Records}
 use Rattle.fault_grade.specs.declared.detecting.GoodRun.{GoodRun}
 use Rattle.fault_grade.specs.Grades.{TellsApart, are_opposed}
 
@@ -51,7 +54,13 @@ pub record Finds (budget : ℕ) (good stuck : Watched) (fault : Option StuckFaul
   pub tells : IfSome found (TellsApart budget good stuck fault lines)
   pub least : (number : ℕ) → TellsApart budget good stuck fault lines number → IsSomeAnd found (λ first. first ≤ number)
 
--- what vectors show without a fault, and whether the numbers of their lines rise
+-- What vectors show without a fault, and whether the numbers of their lines rise; power and ground of the network, and the states in which it
+-- begins; and what is recorded of the lines from there on.
 pub record IsGoodRun (net : Network) (names : List (List ℕ × ℕ)) (budget : ℕ) (vectors : Vectors) (good : GoodRun) : Type 0 where
   pub seen : AreSeen net names budget vectors None good.seen.items
   pub rises : good.rises ≡ true → IsNonDecreasingBy (λ line. line.0) vectors.lines
+  pub rails : AreRails names good.rails
+  pub below : AreBelow net.nodes good.rails
+  pub starts : AreStarts net names good.starts.items
+  pub records : Records budget net good.starts.items vectors.lines good.phases.items
+  pub fits : All (FitsRecord net.nodes budget) good.phases.items

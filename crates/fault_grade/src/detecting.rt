@@ -1,25 +1,33 @@
 //! The line that detects a fault.
-ghost use Rattle.std.specs.Prelude.{◌≡◌, ◌≢◌, ◌<◌, true, All, Some, IfOk, MatchOption};
+ghost use Rattle.std.specs.Prelude.{◌≡◌, ◌≢◌, ◌<◌, true, All, Some, length, IfOk, MatchOption};
 ghost use Rattle.std.specs.List.Sorted.{IsNonDecreasingBy};
 ghost use Rattle.switch_net.specs.Net.{network_of};
 ghost use Rattle.vector_files.specs.VectorFiles.{IsWithin};
-ghost use Rattle.vector_runs.specs.Running.{FitsNodes, IsUnderWay, watched};
+ghost use Rattle.vector_runs.specs.RailNodes.{AreBelow, AreRails};
+ghost use Rattle.vector_runs.specs.Running.{FitsNodes, watched};
 ghost use Rattle.vector_runs.specs.Runs.{IsFresh};
 ghost use Rattle.vector_runs.specs.Watching.{Watched as WatchedAt};
+ghost use Rattle.fault_replay.specs.Replays.{FitsRecord, Records};
+ghost use Rattle.fault_replay.specs.Runs.{IsBeside, IsReady};
 ghost use Rattle.fault_grade.specs.Comparing.{Finds, HasShown, IsGoodRun};
 ghost use Rattle.fault_grade.specs.Grades.{IsDetectedAt, IsUndetected};
 
 use crate::comparing::{asked_count, is_apart, least_of};
+use fault_replay::{PhaseRecord, ReplayedRun, record};
 use std::alloc::{AllocError, Global};
-use switch_net::{NamedNet, Net};
+use switch_net::{Level, NamedNet, Net};
 use vector_files::{VecLine, Vectors};
-use vector_runs::{Seen, StuckFault, WatchedRun, make_fresh, watch};
+use vector_runs::{Rails, Seen, StuckFault, make_net_fresh, rails_of, start_states, watch};
 
-/// The run of vectors without a fault: what it shows, and whether the numbers of their lines rise.
+/// The run of vectors without a fault: what it shows, whether the numbers of their lines rise, and what the runs with faults share with it:
+/// power and ground, the states in which the network begins, and what is recorded of the phases.
 #[derive(Drop)]
 pub struct GoodRun {
     pub seen: Vec<Seen>,
     pub rises: bool,
+    pub rails: Rails,
+    pub starts: Vec<Level>,
+    pub phases: Vec<PhaseRecord>,
 }
 
 // Whether no line has a lower number than one before it.
@@ -34,6 +42,53 @@ fn are_rising(lines: &[(u32, VecLine)]) -> bool
         last = *number;
     }
     true
+}
+
+// Records the run without a fault, but leaves the inputs and sizes as the run changed them.
+fn record_from_start(
+    alloc: Global,
+    net: &mut Net,
+    vectors: &Vectors,
+    budget: u32,
+    starts: &[Level],
+) -> Result<Vec<PhaseRecord>, AllocError>
+    requires within { All (λ line. FitsNodes net.old.nodes line.1) vectors.now.lines }
+    requires starts { length starts.now ≡ net.old.nodes }
+    ensures records { IfOk result (λ phases. Records budget (network_of net.old) starts.now vectors.now.lines phases.items) }
+    ensures fits { IfOk result (λ phases. All (FitsRecord net.old.nodes budget) phases.items) }
+    ensures nodes { net.new.nodes ≡ net.old.nodes }
+    ensures switches { net.new.switches ≡ net.old.switches }
+{
+    let mut states = Vec::from_slice(alloc, starts)?;
+    let phases = record(alloc, net, &mut states, vectors.lines.items(), budget)?;
+    Ok(phases)
+}
+
+// Records the run without a fault, or nothing where there is no memory for it. The network is left with the inputs and sizes that it had.
+fn record_run(
+    alloc: Global,
+    named: &mut NamedNet,
+    vectors: &Vectors,
+    budget: u32,
+    starts: &[Level],
+    rails: &Rails,
+) -> Vec<PhaseRecord>
+    requires fresh { IsFresh (network_of named.old.net) named.old.names }
+    requires within { All (λ line. FitsNodes named.old.net.nodes line.1) vectors.now.lines }
+    requires starts { length starts.now ≡ named.old.net.nodes }
+    requires rails { AreRails named.old.names rails.now }
+    requires below { AreBelow named.old.net.nodes rails.now }
+    ensures records { Records budget (network_of named.old.net) starts.now vectors.now.lines result.items }
+    ensures fits { All (FitsRecord named.old.net.nodes budget) result.items }
+    ensures network { network_of named.new.net ≡ network_of named.old.net }
+    ensures names { named.new.names ≡ named.old.names }
+{
+    let recorded = record_from_start(alloc, &mut named.net, vectors, budget, starts);
+    make_net_fresh(&mut named.net, rails);
+    match recorded {
+        Ok(phases) => phases,
+        Err(_) => Vec::new(alloc),
+    }
 }
 
 impl GoodRun {
@@ -51,9 +106,15 @@ impl GoodRun {
         ensures names { named.new.names ≡ named.old.names }
     {
         let seen = watch(alloc, named, vectors, budget, None)?;
+        let rails = rails_of(named);
+        let starts = start_states(alloc, named)?;
+        let phases = record_run(alloc, named, vectors, budget, &starts, &rails);
         Ok(GoodRun {
             seen,
             rises: are_rising(vectors.lines.items()),
+            rails,
+            starts,
+            phases,
         })
     }
 
@@ -69,19 +130,20 @@ impl GoodRun {
 // Takes lines from the beginning until one detects the fault, where their numbers rise, and else all of them. The least that detects it.
 fn run_to_detection(
     alloc: Global,
-    run: &mut WatchedRun,
+    run: &mut ReplayedRun<'_>,
     net: &mut Net,
     lines: &[(u32, VecLine)],
     budget: u32,
     good: &GoodRun,
 ) -> Option<u32>
-    requires under_way { IsUnderWay net.old run.old }
-    requires begins { (watched net.old run.old).at.phases ≡ 0 }
+    requires ready { IsReady budget net.old run.old }
+    requires beside { run.old.on ≡ true → IsBeside budget net.old run.old lines.now }
+    requires begins { (watched net.old run.old.run).at.phases ≡ 0 }
     requires within { All (λ line. FitsNodes net.old.nodes line.1) lines.now }
     requires shown { (from : WatchedAt) × HasShown budget net.old.nodes from lines.now good.now.seen.items }
     requires rises { good.now.rises ≡ true → IsNonDecreasingBy (λ line. line.0) lines.now }
     ensures finds { (from : WatchedAt) → HasShown budget net.old.nodes from lines.now good.now.seen.items
-        → Finds budget from (watched net.old run.old) run.old.stuck lines.now result }
+        → Finds budget from (watched net.old run.old.run) run.old.run.stuck lines.now result }
     ensures nodes { net.new.nodes ≡ net.old.nodes }
     ensures switches { net.new.switches ≡ net.old.switches }
 {
@@ -89,7 +151,7 @@ fn run_to_detection(
     let mut seen = good.seen.as_slice();
     for (number, line) in lines {
         let (here, later) = seen.split_at(asked_count(line));
-        found = least_of(found, is_apart(run, line, here), *number);
+        found = least_of(found, is_apart(&run.run, line, here), *number);
         if good.decides(found) {
             return found;
         }
@@ -117,11 +179,12 @@ fn detect_from_start(
     ensures nodes { named.new.net.nodes ≡ named.old.net.nodes }
     ensures switches { named.new.net.switches ≡ named.old.net.switches }
 {
-    let mut run = WatchedRun::begin(alloc, named, Some(fault))?;
+    let net = &mut named.net;
+    let mut run = ReplayedRun::begin(alloc, net, &good.starts, &good.phases, fault, budget)?;
     Ok(run_to_detection(
         alloc,
         &mut run,
-        &mut named.net,
+        net,
         vectors.lines.items(),
         budget,
         good,
@@ -147,6 +210,6 @@ pub fn detect(
     ensures names { named.new.names ≡ named.old.names }
 {
     let line = detect_from_start(alloc, named, vectors, budget, good, fault);
-    make_fresh(named);
+    make_net_fresh(&mut named.net, &good.rails);
     line
 }

@@ -1,12 +1,13 @@
 -- Marked nodes.
-use Rattle.std.specs.Prelude.{◌≡◌, ℕ, ◌<◌, ◌≤◌, List, Bool, true, slice_index, slice_index_or, length}
+use Rattle.std.specs.Prelude.{◌≡◌, ℕ, ◌<◌, ◌≤◌, List, Bool, true, Option, IfSome, slice_index, slice_index_or, length}
 use Rattle.finite_sets.specs.Lists.{In}
 use Rattle.switch_net.specs.declared.node_set.NodeSet.{NodeSet}
 use Rattle.switch_net.specs.declared.switches.Level.{Level}
 use Rattle.switch_net.specs.declared.switches.Switch.{Switch}
 use Rattle.switch_net.specs.declared.terminals.Side.{Side}
+use Rattle.switch_net.specs.declared.terminals.Side.TheVariants.{Left, Right}
 use Rattle.switch_net.specs.declared.terminals.Terminal.{Terminal}
-use Rattle.switch_net.specs.declared.terminals.Terminal.TheVariants.{Gate}
+use Rattle.switch_net.specs.declared.terminals.Terminal.TheVariants.{End, Gate}
 use Rattle.switch_net.specs.Network.{Network}
 use Rattle.switch_net.specs.Path.{is_closed_or_unknown, state_of}
 use Rattle.switch_net.specs.Sets.{IsInside}
@@ -59,6 +60,19 @@ IsGated net inside v = AreMarkedAt net inside Gate v
 -- those of all switches are that have the node somewhere
 abbrev pub IsTouched : Network → List Bool → ℕ → Type 0
 IsTouched net inside v = (terminal : Terminal) → AreMarkedAt net inside terminal v
+
+-- those of all switches are that have the node at an end
+abbrev pub AreEndsMarked : Network → List Bool → ℕ → Type 0
+AreEndsMarked net inside v = AreMarkedAt net inside (End Left) v × AreMarkedAt net inside (End Right) v
+
+-- The marked nodes are closed under vicinities, and among them are these nodes, if they store charge, the ends of the switches that they gate,
+-- and the ends of the switches that have the held node at an end, if there is one.
+pub record IsNear (net : Network) (s : List Level) (nodes : List ℕ) (held : Option ℕ) (inside : List Bool) : Type 0 where
+  pub storage : (v : ℕ) → IsInside inside v → IsStorage net v
+  pub listed : (i : ℕ) → i < length nodes → IsStorage net (slice_index nodes i) → IsInside inside (slice_index nodes i)
+  pub gated : (i : ℕ) → i < length nodes → IsGated net inside (slice_index nodes i)
+  pub beside : IfSome held (AreEndsMarked net inside)
+  pub closed : (m v : ℕ) → IsInside inside m → IsInVicinity net s m v → IsInside inside v
 
 -- a storage node in no vicinity of a marked node keeps its state in a step
 abbrev pub IsQuiet : Network → List Level → List Bool → Type 0

@@ -1,11 +1,11 @@
 //! What a step changed, and what may change in the next, or in the first step after inputs were set.
 
-ghost use Rattle.std.specs.Prelude.{◌≡◌, ◌≢◌, ◌<◌, ◌≤◌, ℕ, All, length, slice_index};
+ghost use Rattle.std.specs.Prelude.{◌≡◌, ◌≢◌, ◌<◌, ◌≤◌, ℕ, All, IfSome, length, slice_index};
 ghost use Rattle.switch_net.specs.Path.{state_of};
 ghost use Rattle.switch_net.specs.Vicinity.{IsStorage};
 ghost use Rattle.steady_state.specs.Wired.{network_in, IsSwitchOf};
 ghost use Rattle.switch_net.specs.Sets.{IsInside, IsAmong};
-ghost use Rattle.steady_state.specs.Marked.{AreMarked, AreMarkedAt, EndsInside, IsGated, IsTouched};
+ghost use Rattle.steady_state.specs.Marked.{AreEndsMarked, AreMarked, AreMarkedAt, EndsInside, IsGated, IsTouched};
 
 use crate::adjacent::switches_at;
 use crate::marking::mark;
@@ -116,5 +116,19 @@ pub(crate) fn mark_all_touched(net: &Wiring<'_>, nodes: &[u32], marks: &mut Node
 {
     'nodes: for node in nodes {
         mark_touched(net, *node as usize, marks);
+    }
+}
+
+/// Marks the ends of the switches that have a node at an end, if there is one.
+pub(crate) fn mark_beside(net: &Wiring<'_>, node: Option<u32>, marks: &mut NodeSet)
+    requires node { IfSome node (λ v. v < net.now.nodes) }
+    requires marks { AreMarked (network_in net.now) marks.old }
+    ensures marks { AreMarked (network_in net.now) marks.new }
+    ensures grown { (v : ℕ) → IsInside marks.old.inside v → IsInside marks.new.inside v }
+    ensures beside { IfSome node (AreEndsMarked (network_in net.now) marks.new.inside) }
+{
+    if let Some(node) = node {
+        mark_at(net, Terminal::End(Side::Left), node as usize, marks);
+        mark_at(net, Terminal::End(Side::Right), node as usize, marks);
     }
 }

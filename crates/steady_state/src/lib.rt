@@ -37,4 +37,4 @@ mod spreading;
 mod stepping;
 mod wiring;
 
-pub use settling::{Settled, settle, settle_from, step, step_within};
+pub use settling::{Settled, settle, settle_from, step, step_near, step_within};

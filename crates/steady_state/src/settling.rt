@@ -8,13 +8,15 @@ ghost use Rattle.switch_net.specs.Steady.{IsStep, IsSteadyValue};
 ghost use Rattle.switch_net.specs.Phase.{AreSteadyOrX, HasRounds, IsPhase};
 ghost use Rattle.switch_net.specs.Vicinity.{IsReached};
 ghost use Rattle.steady_state.specs.Rounds.{DoStepsEnd};
-ghost use Rattle.steady_state.specs.Levels.{AreLowStrengths};
-ghost use Rattle.steady_state.specs.Marked.{AreMarked, IsQuiet, IsRestedBut, States};
+ghost use Rattle.steady_state.specs.Levels.{AreLowStrengths, AreSteady, KeepsOthers};
+ghost use Rattle.steady_state.specs.Marked.{AreMarked, IsNear, IsQuiet, IsRestedBut, States};
 ghost use Rattle.steady_state.specs.Wired.{network_in};
 
 use crate::changes::{changes, commit, mark_all_touched, mark_changed};
 use crate::forcing::force_all;
-use crate::stepping::{clear_strengths, mark_afresh, step_all, step_marked, step_seeds};
+use crate::stepping::{
+    clear_strengths, mark_afresh, step_all, step_marked, step_near_nodes, step_seeds,
+};
 use crate::wiring::Wiring;
 use std::alloc::{AllocError, Global};
 use switch_net::{Level, Net, NodeSet, Strengths};
@@ -144,6 +146,43 @@ pub fn step_within(net: &mut Net, old: &[Level], new: &mut [Level], seeds: &[u32
         &wiring,
         old,
         seeds,
+        &mut net.work.marks,
+        &mut net.work.strengths,
+        new,
+    );
+}
+
+/// Marks the vicinities, by the old states, of these nodes, of the ends of the switches that they gate, and of the ends of the switches
+/// that have the held node at an end, if there is one; and gives each marked node its steady value for the old states in the new ones, and
+/// leaves every other new state. It takes one state for each node in both, and no memory.
+pub fn step_near(
+    net: &mut Net,
+    old: &[Level],
+    new: &mut [Level],
+    nodes: &[u32],
+    held: Option<u32>,
+)
+    requires old { length old.now ≡ net.old.nodes }
+    requires new { length new.old ≡ net.old.nodes }
+    requires nodes { All (λ v. v < net.old.nodes) nodes.now }
+    requires held { IfSome held (λ v. v < net.old.nodes) }
+    ensures near { IsNear (network_of net.old) old.now nodes.now held net.new.work.marks.inside }
+    ensures steady { AreSteady (network_of net.old) old.now net.new.work.marks.inside new.new }
+    ensures kept { KeepsOthers net.new.work.marks.inside new.old new.new }
+    ensures net { network_of net.new ≡ network_of net.old }
+{
+    let wiring = Wiring {
+        nodes: net.nodes,
+        switches: net.switches.items(),
+        sizes: net.sizes.items(),
+        inputs: net.inputs.items(),
+        adjacency: &net.work.adjacency,
+    };
+    step_near_nodes(
+        &wiring,
+        old,
+        nodes,
+        held,
         &mut net.work.marks,
         &mut net.work.strengths,
         new,

@@ -1,6 +1,6 @@
 //! One step of a part of a network.
 
-ghost use Rattle.std.specs.Prelude.{◌≡◌, ◌<◌, ℕ, All, length, slice_index};
+ghost use Rattle.std.specs.Prelude.{◌≡◌, ◌<◌, ℕ, All, IfSome, length, slice_index};
 ghost use Rattle.switch_net.specs.Arrays.{AreStrengthsFor};
 ghost use Rattle.switch_net.specs.Path.{state_of};
 ghost use Rattle.switch_net.specs.Steady.{IsStep, IsSteadyValue};
@@ -8,11 +8,12 @@ ghost use Rattle.switch_net.specs.Vicinity.{IsInVicinity, IsReached};
 ghost use Rattle.steady_state.specs.Levels.{AreLow, AreLowStrengths, AreSteady, KeepsOthers};
 ghost use Rattle.steady_state.specs.Levels.{IsLevelOf, IsWritten};
 ghost use Rattle.switch_net.specs.Sets.{IsInside};
-ghost use Rattle.steady_state.specs.Marked.{AreMarked, IsQuiet, States};
+ghost use Rattle.steady_state.specs.Marked.{AreMarked, IsNear, IsQuiet, States};
 ghost use Rattle.steady_state.specs.Parts.{IsPartOf};
 ghost use Rattle.steady_state.specs.Wired.{network_in};
 
 use crate::beginning::find_strongest;
+use crate::changes::{mark_beside, mark_changed};
 use crate::kinds::PathKind;
 use crate::marking::{close, collect, mark_all};
 use crate::part::{Part, Pass};
@@ -232,6 +233,41 @@ pub(crate) fn step_seeds(
     clear_strengths(strengths);
     marks.clear();
     collect(net, state, seeds, marks);
+    let part = Part {
+        state,
+        inside: marks.inside.items(),
+        order: marks.nodes(),
+    };
+    step_part(net, &part, strengths, next);
+}
+
+/// A step of what is near these nodes and the held one, whatever the arrays hold.
+pub(crate) fn step_near_nodes(
+    net: &Wiring<'_>,
+    state: &[Level],
+    nodes: &[u32],
+    held: Option<u32>,
+    marks: &mut NodeSet,
+    strengths: &mut Strengths,
+    next: &mut [Level],
+)
+    requires state { length state.now ≡ net.now.nodes }
+    requires nodes { All (λ v. v < net.now.nodes) nodes.now }
+    requires held { IfSome held (λ v. v < net.now.nodes) }
+    requires marks { length marks.old.inside ≡ net.now.nodes }
+    requires strengths { AreStrengthsFor net.now.nodes strengths.old }
+    requires next { length next.old ≡ net.now.nodes }
+    ensures marks { length marks.new.inside ≡ net.now.nodes }
+    ensures near { IsNear (network_in net.now) state.now nodes.now held marks.new.inside }
+    ensures strengths { AreStrengthsFor net.now.nodes strengths.new }
+    ensures steady { AreSteady (network_in net.now) state.now marks.new.inside next.new }
+    ensures kept { KeepsOthers marks.new.inside next.old next.new }
+{
+    clear_strengths(strengths);
+    marks.clear();
+    mark_changed(net, nodes, marks);
+    mark_beside(net, held, marks);
+    close(net, state, marks);
     let part = Part {
         state,
         inside: marks.inside.items(),

@@ -27,7 +27,8 @@ mod stuck_faults;
 mod watching;
 
 pub use laws::{runs_are_unique, shown_values_are_steady, watches_are_unique};
-pub use rails::{Rails, make_fresh, rails_of};
+pub use progress::Progress;
+pub use rails::{Rails, make_fresh, make_net_fresh, rails_of, start_states};
 pub use replies::{VecReply, level_byte};
 pub use runs::{run_to_end, run_vectors};
 pub use stuck_faults::StuckFault;

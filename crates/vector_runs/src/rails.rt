@@ -39,7 +39,7 @@ fn is_node(rail: Option<u32>, node: u32) -> bool
 }
 
 /// The states in which the network begins: one for power, zero for ground, and X for any other node, as for one that is both.
-pub fn starts(alloc: Global, named: &NamedNet) -> Result<Vec<Level>, AllocError>
+pub fn start_states(alloc: Global, named: &NamedNet) -> Result<Vec<Level>, AllocError>
     ensures { IfOk result (λ states. AreStarts (network_of named.now.net) named.now.names states.items) }
 {
     let rails = rails_of(named);
@@ -56,7 +56,7 @@ pub fn make_fresh(named: &mut NamedNet)
     ensures switches { named.new.net.switches ≡ named.old.net.switches }
 {
     let rails = rails_of(named);
-    set_inputs(&mut named.net, &rails);
+    make_net_fresh(&mut named.net, &rails);
 }
 
 /// Power and ground of a network.
@@ -106,8 +106,8 @@ fn set_state(states: &mut [Level], rail: Option<u32>, level: Level)
     }
 }
 
-// Gives each node size 1, and makes power and ground alone inputs.
-fn set_inputs(net: &mut Net, rails: &Rails)
+/// Gives each node size 1, and makes power and ground alone inputs, which are these.
+pub fn make_net_fresh(net: &mut Net, rails: &Rails)
     requires { AreBelow net.old.nodes rails.now }
     ensures fresh { (names : List (List ℕ × ℕ)) → AreRails names rails.now → IsFresh (network_of net.new) names }
     ensures nodes { net.new.nodes ≡ net.old.nodes }

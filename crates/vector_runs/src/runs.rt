@@ -7,7 +7,7 @@ ghost use Rattle.vector_runs.specs.Runs.{EndsRun, IsFresh, IsRun};
 ghost use Rattle.vector_runs.specs.declared.replies.VecReply.{VecReply as ReplyOf};
 
 use crate::progress::Progress;
-use crate::rails::{make_fresh, starts};
+use crate::rails::{make_fresh, start_states};
 use crate::replies::VecReply;
 use std::alloc::{AllocError, Global};
 use switch_net::{Level, NamedNet};
@@ -79,7 +79,7 @@ fn run_from_start(
     ensures added { AddsReplies replies.old.items replies.new.items }
 {
     let mut progress = Progress {
-        states: starts(alloc, named)?,
+        states: start_states(alloc, named)?,
         phases: 0,
         touched: None,
     };

@@ -7,10 +7,10 @@ ghost use Rattle.switch_net.specs.Path.{state_of};
 ghost use Rattle.vector_files.specs.VectorFiles.{IsChangeable, IsWithin};
 ghost use Rattle.vector_runs.specs.Running.{FitsNodes, HasBegun, IsRested, IsUnderWay, standing, states_of, watched};
 ghost use Rattle.vector_runs.specs.Runs.{IsFresh};
-ghost use Rattle.vector_runs.specs.Watching.{AreSeen, LineIsTaken, LinesShow, counting, held, is_left_out as is_line_left_out, seen_in};
+ghost use Rattle.vector_runs.specs.Watching.{AreSeen, LineIsTaken, LinesShow, begun_with, counting, held, is_left_out as is_line_left_out, seen_in};
 
 use crate::progress::Progress;
-use crate::rails::{make_fresh, starts};
+use crate::rails::{make_fresh, start_states};
 use crate::stuck_faults::{StuckFault, is_left_out};
 use names_lists::Name;
 use std::alloc::{AllocError, Global};
@@ -33,9 +33,9 @@ pub struct Seen {
 /// A run under way, in which a node may be stuck.
 #[derive(Drop)]
 pub struct WatchedRun {
-    progress: Progress,
-    settled: bool,
-    stuck: Option<StuckFault>,
+    pub progress: Progress,
+    pub settled: bool,
+    pub stuck: Option<StuckFault>,
 }
 
 // Makes a node that may be stuck an input in its state.
@@ -66,17 +66,31 @@ impl WatchedRun {
         ensures nodes { named.new.net.nodes ≡ named.old.net.nodes }
         ensures switches { named.new.net.switches ≡ named.old.net.switches }
     {
+        let states = start_states(alloc, named)?;
+        Ok(WatchedRun::begin_in(states, &mut named.net, stuck))
+    }
+
+    /// Begins a run on the network from these states. A stuck node becomes an input.
+    pub fn begin_in(states: Vec<Level>, net: &mut Net, stuck: Option<StuckFault>) -> WatchedRun
+        requires node { IfSome stuck (λ fault. fault.node < net.old.nodes) }
+        requires states { length states.items ≡ net.old.nodes }
+        ensures begun { watched net.new result ≡ begun_with stuck (network_of net.old) states.items }
+        ensures stuck { result.stuck ≡ stuck }
+        ensures under_way { IsUnderWay net.new result }
+        ensures nodes { net.new.nodes ≡ net.old.nodes }
+        ensures switches { net.new.switches ≡ net.old.switches }
+    {
         let mut progress = Progress {
-            states: starts(alloc, named)?,
+            states,
             phases: 0,
             touched: None,
         };
-        hold_stuck(&mut progress, &mut named.net, stuck);
-        Ok(WatchedRun {
+        hold_stuck(&mut progress, net, stuck);
+        WatchedRun {
             progress,
             settled: false,
             stuck,
-        })
+        }
     }
 
     /// Takes a line, but for one that would set the stuck node, free it or give it a size.

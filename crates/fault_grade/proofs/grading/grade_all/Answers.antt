@@ -1,10 +1,12 @@
-use Rattle.std.proofs.Common.{List, subst, sym, ◌∙◌}
+use Rattle.std.proofs.Common.{◌≡◌, List, ap, arith, subst, sym, ◌∙◌}
 use Rattle.std.specs.List.{AllZip}
 use Rattle.switch_net.specs.Net.{network_of}
+use Rattle.switch_net.specs.Network.{Network}
+use Rattle.vector_files.specs.LineForms.{is_rail}
 use Rattle.vector_files.specs.NodeLookup.{is_either_node}
 use Rattle.vector_runs.specs.declared.stuck_faults.StuckFault.{StuckFault}
-use Rattle.fault_grade.specs.Grades.{IsGrade}
-use Rattle.fault_grade.proofs.GradeLaws.{faults_left, graded_more}
+use Rattle.fault_grade.specs.Grades.{IsGrade, faults_but}
+use Rattle.fault_grade.proofs.GradeLaws.{faults_left, graded_more, same_faults}
 use Rattle.fault_grade.proofs.grading.grade_all.Goals as goal
 
 pub loop-node-preserved-then-has : goal.loop-node-preserved-then-has
@@ -30,3 +32,13 @@ loop-node-preserved c =
       network = added.network ∙ before.network;
       names = added.names ∙ before.names;
     }
+
+pub returns-clause-graded : goal.returns-clause-graded
+returns-clause-graded c =
+    let rails = c.rails_of-rails.result in
+    let test = is_either_node rails.power rails.ground in
+    let same_nodes = ap (λ (net : Network). net.nodes) c.of.ensures.network in
+    let all : c.loop-node.node ≡ c.args.named.now.net.nodes = omega (arith, c.loop-node-test.false, c.loop-node.auto.node-end, same_nodes) in
+    let faults = ap (faults_but test) all ∙ sym (same_faults (is_rail c.args.named.now.names) test c.args.named.now.net.nodes c.rails_of-rails.ensures.known) in
+    subst (λ (faults : List StuckFault). AllZip (IsGrade (network_of c.args.named.now.net) c.args.named.now.names c.args.budget c.args.vectors.now) faults
+        c.loop-node.grades.items) faults c.loop-node.invariant.graded

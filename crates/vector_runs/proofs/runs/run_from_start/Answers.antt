@@ -16,6 +16,6 @@ invariant_of-named c =
 pub returns-clause-run : goal.returns-clause-run
 returns-clause-run c =
     let named = c.args.named.now in
-    run_told (network_of named.net) named.names c.args.budget c.args.vectors.now c.in_ok-starts.field-0.items c.items.result.now
-    (standing c.run_lines.new.net c.run_lines.new.self) c.args.replies.now.items c.run_lines.new.replies.items c.in_ok-starts.ensures
+    run_told (network_of named.net) named.names c.args.budget c.args.vectors.now c.in_ok-start_states.field-0.items c.items.result.now
+    (standing c.run_lines.new.net c.run_lines.new.self) c.args.replies.now.items c.run_lines.new.replies.items c.in_ok-start_states.ensures
     c.items.ensures (search rules)

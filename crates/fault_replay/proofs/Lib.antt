@@ -1,0 +1,5 @@
+pub mod ChangedStates
+pub mod Beside
+pub mod PhaseEnds
+pub mod Lines
+pub mod Recorded

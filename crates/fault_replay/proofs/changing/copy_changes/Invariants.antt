@@ -1,0 +1,9 @@
+use Rattle.std.proofs.Common.{◌≡◌, ℕ, take}
+use Rattle.std.specs.Prelude.{filter}
+use Rattle.switch_net.specs.declared.switches.Level.{Level}
+use Rattle.fault_replay.specs.Changes.{changed, is_copied}
+use Rattle.fault_replay.proofs.changing.copy_changes.Given as goal
+
+abbrev pub invariant-loop-node : goal.invariant-loop-node
+invariant-loop-node l =
+    l.states ≡ changed (filter (λ (change : ℕ × Level). is_copied l.marks.inside l.held change.0) (take l.node-index l.changes)) l.initial.states
