@@ -181,14 +181,7 @@ fn detect_from_start(
 {
     let net = &mut named.net;
     let mut run = ReplayedRun::begin(alloc, net, &good.starts, &good.phases, fault, budget)?;
-    Ok(run_to_detection(
-        alloc,
-        &mut run,
-        net,
-        vectors.lines.items(),
-        budget,
-        good,
-    ))
+    Ok(run_to_detection(alloc, &mut run, net, vectors.lines.items(), budget, good))
 }
 
 /// The line that detects a fault, if there is one. The network is left with the inputs and sizes that it had.

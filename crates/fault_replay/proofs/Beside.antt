@@ -233,8 +233,12 @@ module _ (good net : Network) (held : ℕ) (s t : List Level) (differing marks :
   -- a marked node has its next state
   new_marked : AreSteady net t marks.inside new
   new_marked v ins =
-      let below : v < length copy = omega (arith, (near.storage v ins).0, along.states,
-          changed-length (filter (λ change. is_copied marks.inside held change.0) changes) t) in
+      let below : v < length copy = omega (
+        arith,
+        (near.storage v ins).0,
+        along.states,
+        changed-length (filter (λ change. is_copied marks.inside held change.0) changes) t,
+      ) in
       rw (taken_here next (listed marks) copy v (is_listed marks v ins) below) (steady v ins)
 
   new_held : state_of new held ≡ state_of t held

@@ -74,7 +74,7 @@ passed_alike test (change ∷ changes) s t v passes len same = elim (cases_Bool 
   | inr off ↦ (
       let ne : v ≢ change.0 = λ e. (let e' = ap test e in absurd (cc)) in
       rw off (passed_alike test changes (slice_set s change.0 change.1) t v passes (length-set s change.0 change.1 ∙ len)
-        (same ∙ sym (get_or-set_other s change.0 v change.1 X ne))))
+      (same ∙ sym (get_or-set_other s change.0 v change.1 X ne))))
 ]
 
 -- and where none do, it stays as it was

@@ -61,14 +61,18 @@ module _ (net : Network) (sound : IsSound net) (s : List Level) (len : length s 
         let rests_there : IsStep net steps.0 steps.0 = subst (λ (x : List Level). IsStep net x x) (sym e) rests in
         let sooner = settles k steps.0 steps.1 rests_there in
         (sooner.0, omega (arith, sooner.1), subst (SettlesAfter net sooner.0 s) e sooner.2))
-    | inr ne ↦ (suc k, omega arith, record {
+    | inr ne ↦ (
+      suc k,
+      omega arith,
+      record {
         reached = steps;
         rests = rests;
         first = λ m w lt a r. (
             let here = rests_on m k w steps.0 (omega (arith, lt)) a r steps.1 in
             let rests_here : IsStep net steps.0 steps.0 = subst (λ (x : List Level). IsStep net x x) (sym here) r in
             ne (one_step net steps.0 sound steps.0 t (steps_length net sound s len k steps.0 steps.1) rests_here steps.2));
-      })
+      },
+    )
   ]
 
   -- a phase that goes on after steps is one from the first state
@@ -80,15 +84,21 @@ module _ (net : Network) (sound : IsSound net) (s : List Level) (len : length s 
   ends_after k most budget u t false sum first ends =
       let there = ends.1.2 in
       let reached : Steps net budget s there.last =
-      subst (λ (n : ℕ). Steps net n s there.last) sum (steps_then net s u there.last k most first there.reached) in
-      (budget, (refl, ends.1.1, record {
-        last = there.last;
-        reached = reached;
-        none_rests = λ m w lt a r. (
-            let here = rests_on m budget w there.last (omega (arith, lt)) a r reached in
-            there.none_rests most there.last (omega arith) there.reached (subst (λ (x : List Level). IsStep net x x) (sym here) r));
-        forced = there.forced;
-      }))
+      subst (λ (n : ℕ). Steps net n s there.last) sum (steps_then net s u there.last k most first there.reached) in (
+        budget,
+        (
+          refl,
+          ends.1.1,
+          record {
+            last = there.last;
+            reached = reached;
+            none_rests = λ m w lt a r. (
+                let here = rests_on m budget w there.last (omega (arith, lt)) a r reached in
+                there.none_rests most there.last (omega arith) there.reached (subst (λ (x : List Level). IsStep net x x) (sym here) r));
+            forced = there.forced;
+          },
+        ),
+      )
 
   -- where it has settled down, it has settled
   pub ends_down : (k most budget : ℕ) (u t : List Level) → k + most ≡ budget → Steps net k s u → SettlesDown net most u true t

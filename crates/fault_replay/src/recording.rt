@@ -154,7 +154,7 @@ fn record_line(
     ensures recorded { OnOk result ((number : ℕ) (rest : Items (ℕ × VecLineOf)) (later : Items PhaseRecordOf)
         → Records budget (network_of net.new) states.new rest later
         → (all : Items PhaseRecordOf) × (phases.new.items ++ later ≡ phases.old.items ++ all)
-            × Records budget (network_of net.old) states.old ((number, line.now) ∷ rest) all) }
+        × Records budget (network_of net.old) states.old ((number, line.now) ∷ rest) all) }
     ensures fits { OnOk result (All (FitsRecord net.old.nodes budget) phases.new.items) }
     ensures nodes { net.new.nodes ≡ net.old.nodes }
     ensures switches { net.new.switches ≡ net.old.switches }

@@ -212,13 +212,7 @@ impl Replay {
     }
 
     // Runs a phase of which the end is recorded. Whether it settles.
-    fn run_jump(
-        &mut self,
-        net: &mut Net,
-        states: &mut [Level],
-        good: &[Level],
-        budget: u32,
-    ) -> bool
+    fn run_jump(&mut self, net: &mut Net, states: &mut [Level], good: &[Level], budget: u32) -> bool
         requires replay { IsReplayFor net.old.nodes self.old }
         requires states { length states.old ≡ net.old.nodes }
         requires good { length good.now ≡ net.old.nodes }

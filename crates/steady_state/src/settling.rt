@@ -155,13 +155,7 @@ pub fn step_within(net: &mut Net, old: &[Level], new: &mut [Level], seeds: &[u32
 /// Marks the vicinities, by the old states, of these nodes, of the ends of the switches that they gate, and of the ends of the switches
 /// that have the held node at an end, if there is one; and gives each marked node its steady value for the old states in the new ones, and
 /// leaves every other new state. It takes one state for each node in both, and no memory.
-pub fn step_near(
-    net: &mut Net,
-    old: &[Level],
-    new: &mut [Level],
-    nodes: &[u32],
-    held: Option<u32>,
-)
+pub fn step_near(net: &mut Net, old: &[Level], new: &mut [Level], nodes: &[u32], held: Option<u32>)
     requires old { length old.now ≡ net.old.nodes }
     requires new { length new.old ≡ net.old.nodes }
     requires nodes { All (λ v. v < net.old.nodes) nodes.now }

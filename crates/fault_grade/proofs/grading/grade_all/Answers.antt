@@ -41,4 +41,4 @@ returns-clause-graded c =
     let all : c.loop-node.node ≡ c.args.named.now.net.nodes = omega (arith, c.loop-node-test.false, c.loop-node.auto.node-end, same_nodes) in
     let faults = ap (faults_but test) all ∙ sym (same_faults (is_rail c.args.named.now.names) test c.args.named.now.net.nodes c.rails_of-rails.ensures.known) in
     subst (λ (faults : List StuckFault). AllZip (IsGrade (network_of c.args.named.now.net) c.args.named.now.names c.args.budget c.args.vectors.now) faults
-        c.loop-node.grades.items) faults c.loop-node.invariant.graded
+    c.loop-node.grades.items) faults c.loop-node.invariant.graded

@@ -11,7 +11,7 @@ returns-in-Set-clause-recorded c = λ number rest later recorded. (
   later,
   refl,
   subst (λ (line : VecLine). Records c.args.budget (network_of c.args.net.now) c.args.states.now ((number, line) ∷ rest) later) (sym c.in-Set.is)
-  (subst (λ (net : Network). Records c.args.budget net (slice_set c.args.states.now c.in-Set.node c.in-Set.level) rest later) c.set_input.ensures recorded),
+      (subst (λ (net : Network). Records c.args.budget net (slice_set c.args.states.now c.in-Set.node c.in-Set.level) rest later) c.set_input.ensures recorded),
 )
 
 pub returns-in-Free-clause-recorded : goal.returns-in-Free-clause-recorded
@@ -19,7 +19,7 @@ returns-in-Free-clause-recorded c = λ number rest later recorded. (
   later,
   refl,
   subst (λ (line : VecLine). Records c.args.budget (network_of c.args.net.now) c.args.states.now ((number, line) ∷ rest) later) (sym c.in-Free.is)
-  (subst (λ (net : Network). Records c.args.budget net c.args.states.now rest later) c.set_storage.ensures recorded),
+      (subst (λ (net : Network). Records c.args.budget net c.args.states.now rest later) c.set_storage.ensures recorded),
 )
 
 pub returns-in-Size-clause-recorded : goal.returns-in-Size-clause-recorded
@@ -27,7 +27,7 @@ returns-in-Size-clause-recorded c = λ number rest later recorded. (
   later,
   refl,
   subst (λ (line : VecLine). Records c.args.budget (network_of c.args.net.now) c.args.states.now ((number, line) ∷ rest) later) (sym c.in-Size.is)
-  (subst (λ (net : Network). Records c.args.budget net c.args.states.now rest later) c.set_size.ensures recorded),
+      (subst (λ (net : Network). Records c.args.budget net c.args.states.now rest later) c.set_size.ensures recorded),
 )
 
 pub returns-in_ok-push-in-Phase-clause-recorded : goal.returns-in_ok-push-in-Phase-clause-recorded
@@ -41,7 +41,7 @@ returns-in_ok-push-in-Phase-clause-recorded c = λ number rest later recorded.
       phase ∷ later,
       items,
       subst (λ (line : VecLine). Records budget net c.args.states.now ((number, line) ∷ rest) (phase ∷ later)) (sym c.in-Phase.is)
-      (c.record_phase.new.states, made.recorded, there),
+          (c.record_phase.new.states, made.recorded, there),
     )
 
 pub returns-in-Show-clause-recorded : goal.returns-in-Show-clause-recorded

@@ -47,7 +47,7 @@ steps-preserved c =
     let nodes = ap (λ (net : Network). net.nodes) found.net in
     let first = ap (λ (net : Network). net.nodes) before.net in
     let step : IsStep net t (changed changes t) = subst (λ (n : Network). IsStep n t (changed changes t)) before.net
-        (found.step (subst (λ (n : Network). IsQuietBut n t (listed c.steps.moved)) (sym before.net) before.quiet)) in
+    (found.step (subst (λ (n : Network). IsQuietBut n t (listed c.steps.moved)) (sym before.net) before.quiet)) in
     let new = took.states ∙ ap (λ (all : List (ℕ × Level)). changed all t) c.deref.ensures.value in
     let items = c.in_ok-push.ensures.items ∙ ap (λ (one : List (ℕ × Level)). c.steps.steps.items ++ one ∷ []) c.of.ensures in
     let told = subst (All (λ (change : ℕ × Level). IsInside moved.inside change.0)) c.deref.ensures.value took.told in

@@ -45,9 +45,9 @@ steps-preserved c =
     let next = c.look.new.self.next.items in
     let marks = c.look.new.net.work.marks in
     let now : (good : Network) → IsAlong good first held s c.args.states.now c.args.self.now.differing.inside → IsStep good s s
-        → IsAlong good here c.steps.self.held s t c.steps.self.differing.inside =
+    → IsAlong good here c.steps.self.held s t c.steps.self.differing.inside =
     λ good along step. along_at good first here held c.steps.self.held s t c.steps.self.differing.inside (sym before.net) (sym before.held)
-        (before.along good along step) in
+    (before.along good along step) in
     record {
       replay = took.replay;
       states = omega (arith, c.take.auto.states, before.states, ap (λ (net : Network). net.nodes) looked.net);

@@ -20,14 +20,14 @@ loop-changes-preserved c =
     let s = c.loop-changes.self.good.items in
     let t = c.loop-changes.states in
     let split : (good : Network) (last : List Level) → StepsBy good c.args.self.now.good.items c.args.steps.now last
-        → IsStep good s (changed c.items.result.now s)
-        × StepsBy good (changed c.items.result.now s) (drop (c.loop-changes.changes-index + 1) c.args.steps.now) last =
+    → IsStep good s (changed c.items.result.now s)
+    × StepsBy good (changed c.items.result.now s) (drop (c.loop-changes.changes-index + 1) c.args.steps.now) last =
     λ good last by. split_steps good s last c.args.steps.now c.loop-changes.changes-index c.items.result.now c.changes-item.result
-        c.loop-changes-test.true (c.items.ensures ∙ c.changes-item.is) (before.later good last by) in
+    c.loop-changes-test.true (c.items.ensures ∙ c.changes-item.is) (before.later good last by) in
     let there : (good : Network) (last : List Level) → IsAlong good first held c.args.self.now.good.items c.args.states.now c.args.self.now.differing.inside
-        → StepsBy good c.args.self.now.good.items c.args.steps.now last → IsAlong good here c.loop-changes.self.held s t c.loop-changes.self.differing.inside =
+    → StepsBy good c.args.self.now.good.items c.args.steps.now last → IsAlong good here c.loop-changes.self.held s t c.loop-changes.self.differing.inside =
     λ good last along by. along_at good first here held c.loop-changes.self.held s t c.loop-changes.self.differing.inside (sym before.net) (sym before.held)
-        (before.along good last along by) in
+    (before.along good last along by) in
     record {
       replay = took.replay;
       states = omega (arith, c.take_step.auto.states, before.states, ap (λ (net : Network). net.nodes) took.net);
