@@ -29,8 +29,8 @@ pub struct Graded {
 /// at 1, the least line that detects the fault, if there is one. The network is left with the inputs and sizes that it had, after each
 /// answer.
 ///
-/// Beside one run of the vectors, each fault costs a run up to the first line that detects it, where the numbers of the lines rise, and
-/// else a whole run. The memory is that of one run, of what the run without a fault shows, and of the grades.
+/// Beside one run of the vectors, each fault costs what it changes in a run up to the first line that detects it, where the numbers of the
+/// lines rise, and else in a whole run. The memory is that of one run, of what the run without a fault shows and changes, and of the grades.
 ///
 /// # Errors
 ///

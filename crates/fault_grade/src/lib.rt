@@ -1,8 +1,9 @@
 //! Grades the vectors of a network: which of its faults they detect, and at which lines.
 //!
 //! A fault is a node that is stuck at 0 or at 1. The vectors are run once without a fault, and then once with each of them, up to the first
-//! line that detects it where the numbers of the lines rise, and else to the end. A run beside another keeps nothing of what it shows:
-//! that of the run without a fault is enough, with which it is compared as it goes.
+//! line that detects it where the numbers of the lines rise, and else to the end. A run with a fault works out alone what differs from
+//! what the run without changed (`fault_replay`). It keeps nothing of what it shows: that of the run without a fault is enough, with which
+//! it is compared as it goes.
 //!
 //! # How the proof goes
 //!

@@ -11,15 +11,13 @@ ghost use Rattle.fault_replay.specs.Changes.{changed};
 ghost use Rattle.fault_replay.specs.Replays.{FitsRecord, IsQuietBut, IsRecorded, Records, StepsBy, listed};
 
 use crate::changing::{changes_between, make_changes};
+use crate::limits::MOST_CHANGES;
 use crate::records::PhaseRecord;
 use names_lists::List;
 use std::alloc::{AllocError, Global};
 use steady_state::{settle, step_near};
 use switch_net::{Level, Net, NodeSet};
 use vector_files::VecLine;
-
-/// The most entries of a record.
-const MOST_ENTRIES: usize = 1 << 22;
 
 // The steps of a phase that were recorded, and whether the network rests behind them.
 #[derive(Drop)]
@@ -187,7 +185,7 @@ pub fn record(
     ensures nodes { net.new.nodes ≡ net.old.nodes }
     ensures switches { net.new.switches ≡ net.old.switches }
 {
-    let mut room = MOST_ENTRIES;
+    let mut room = MOST_CHANGES;
     let mut phases = Vec::new(alloc);
     for (_, line) in lines {
         if room == 0 {
