@@ -29,8 +29,10 @@ pub struct Graded {
 /// at 1, the least line that detects the fault, if there is one. The network is left with the inputs and sizes that it had, after each
 /// answer.
 ///
-/// Beside one run of the vectors, each fault costs what it changes in a run up to the first line that detects it, where the numbers of the
-/// lines rise, and else in a whole run. The memory is that of one run, of what the run without a fault shows and changes, and of the grades.
+/// Beside two runs of the vectors, each fault costs what the run without it changed, and the vicinities of what differs from it, up to the
+/// first line that detects the fault where the numbers of the lines rise, and else to the end. The memory is that of a few runs, of what
+/// the run without a fault shows and changed, which is recorded up to a limit, and of the grades. Where a record ends, or there is no memory
+/// for it, each fault costs a run.
 ///
 /// # Errors
 ///
