@@ -55,10 +55,10 @@ WORKLOADS = {
 
 
 class Run:
-    """What a run took."""
+    """What a run took, and how much of it the processor was at work."""
 
-    def __init__(self, seconds, megabytes, status):
-        self.seconds, self.megabytes, self.status = seconds, megabytes, status
+    def __init__(self, seconds, megabytes, status, processor=0.0):
+        self.seconds, self.megabytes, self.status, self.processor = seconds, megabytes, status, processor
 
 
 def peak_of(pid):
@@ -70,25 +70,25 @@ def peak_of(pid):
         return 0
 
 
-def timed(command, script, folder):
-    """Runs a command on a script, and waits for it. Its peak is read while it runs: what the system tells of an ended
-    process counts the memory of this one, which started it."""
+def timed(command, script, folder, report=os.devnull):
+    """Runs a command on a script, writes what it reports to a file, and waits for it. Its peak is read while it runs: what the
+    system tells of an ended process counts the memory of this one, which started it."""
     peak = 0
-    with open(script, "rb") as source, open(os.devnull, "wb") as sink:
+    with open(script, "rb") as source, open(report, "wb") as sink:
         began = time.perf_counter()
-        child = subprocess.Popen(command, stdin=source, stdout=sink, stderr=sink, cwd=folder)
+        child = subprocess.Popen(command, stdin=source, stdout=sink, stderr=subprocess.DEVNULL, cwd=folder)
         while True:
             peak = max(peak, peak_of(child.pid))
-            pid, status = os.waitpid(child.pid, os.WNOHANG)
+            pid, status, used = os.wait4(child.pid, os.WNOHANG)
             if pid:
                 break
             if time.perf_counter() - began > SECONDS_AT_MOST:
                 child.kill()
-                _, status = os.waitpid(child.pid, 0)
+                _, status, used = os.wait4(child.pid, 0)
                 break
             time.sleep(0.002)
         child.returncode = os.waitstatus_to_exitcode(status)
-        return Run(time.perf_counter() - began, peak, child.returncode)
+        return Run(time.perf_counter() - began, peak, child.returncode, used.ru_utime + used.ru_stime)
 
 
 def run_program(program, rects, folder):

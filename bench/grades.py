@@ -4,12 +4,11 @@
     bench/grades.py [--seed 1] [--only NAME] [--program PATH]
 
 A cell has a transistor of its own for each switch, whose gate and two ends have labels of their nodes; equal labels make one node.
-For each circuit it prints its nodes, how many faults there are and how many are detected, the seconds of one run of the vectors
-and of the grading of all faults without those of extraction, how many runs the grading is worth, and peak megabytes.
+For each circuit it prints its switches, how many faults there are and how many are detected, the processor seconds of one run of
+the vectors and of the grading of all faults without those of extraction, how many runs the grading is worth, and peak megabytes.
 """
 import argparse
 import random
-import subprocess
 import sys
 import tempfile
 from pathlib import Path
@@ -112,14 +111,12 @@ def vector_text(vectors):
 def run_script(options, folder, lines):
     script = folder / "run.script"
     script.write_text("tech mos\nload c\nextract c\n" + "\n".join(lines) + "\n")
-    return timed([options.program], script, folder)
+    return timed([options.program], script, folder, folder / "report")
 
 
-def coverage(options, folder):
-    """What is told last, and what is refused."""
-    with open(folder / "run.script", "rb") as source:
-        done = subprocess.run([options.program], stdin=source, stdout=subprocess.PIPE, cwd=folder, check=False)
-    lines = done.stdout.decode().rstrip("\n").split("\n")
+def coverage(folder):
+    """What the last run told last, and what it refused."""
+    lines = (folder / "report").read_text().rstrip("\n").split("\n")
     return lines[-1].split(), [line for line in lines if line.startswith("line ")]
 
 
@@ -134,12 +131,12 @@ def row(name, options):
         alone = run_script(options, folder, [])
         good = run_script(options, folder, ["vectors c v"] * RUNS)
         graded = run_script(options, folder, ["grade c v"])
-        told, refused = coverage(options, folder)
+        told, refused = coverage(folder)
     if graded.status != 0 or refused:
         print(f"{name:>10} ended with status {graded.status}: {refused[:1]}")
         return True
-    one = max(good.seconds - alone.seconds, 1e-6) / RUNS
-    whole = max(graded.seconds - alone.seconds, 0.0)
+    one = max(good.processor - alone.processor, 1e-6) / RUNS
+    whole = max(graded.processor - alone.processor, 0.0)
     print(f"{name:>10} {circuit.switches:>9} {told[2]:>7} {told[4]:>9} {one:>9.4f} {whole:>9.2f} {whole / one:>8.0f} {graded.megabytes:>6.0f}", flush=True)
     return False
 
