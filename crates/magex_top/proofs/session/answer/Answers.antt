@@ -46,9 +46,9 @@ returns-in-Vectors-clause-effect g c files told =
 
 pub returns-in-Grade-clause-effect : goal.returns-in-Grade-clause-effect
 returns-in-Grade-clause-effect g c files told =
-    IfOk-weaker c.vectors-2.result _ _
+    IfOk-weaker c.vectors-in-Grade.result _ _
     (λ answer means. subst (λ (command : Command). Answers (CommandMeans c.args.budget c.args.number (state_of c.args.session.now) files command)
-    (state_of c.vectors-2.new.session) answer (g.F.Shelf.fetch_plan c.args.shelf.now) (g.F.Shelf.fetch_plan c.vectors-2.new.shelf)) (sym c.in-Grade.is) means) (c.vectors-2.ensures.effect files told)
+    (state_of c.vectors-in-Grade.new.session) answer (g.F.Shelf.fetch_plan c.args.shelf.now) (g.F.Shelf.fetch_plan c.vectors-in-Grade.new.shelf)) (sym c.in-Grade.is) means) (c.vectors-in-Grade.ensures.effect files told)
 
 pub returns-in-Simrun-clause-effect : goal.returns-in-Simrun-clause-effect
 returns-in-Simrun-clause-effect g c files told =
