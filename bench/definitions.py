@@ -23,6 +23,7 @@ NAME = r"[A-Za-z_][A-Za-z0-9_']*"
 DEFINED = re.compile(rf"\s*(?:unfoldable )?(?:abbrev pub|pub record|pub data|unfoldable pub) ({NAME})")
 IN_MUTUAL = re.compile(rf"  (?:unfoldable )?pub ({NAME})")
 IMPORT = re.compile(r"^\s*(?:ghost |pub )?use Rattle\.(\w+)\.specs\.(\w+(?:\.\w+)*)\.\{([^}]*)\}", re.M)
+MODULE = re.compile(r"^\s*pub use Rattle\.(\w+)\.specs((?:\.\w+)*) as (\w+)", re.M)
 DECLARED = re.compile(rf"^\s*pub(?:\([\w: ]+\))? (?:unsafe )?(?:struct|enum|trait|const|static|type) ({NAME})", re.M)
 HANDED = re.compile(r"^pub use ([^;]+);", re.M)
 OPEN = re.compile(r"^pub mod (\w+);", re.M)
@@ -63,20 +64,25 @@ def imports(text):
 
 
 class Specs:
-    """The files of specs of all crates, with the names that each defines, and those that it brings in."""
+    """The files of specs of all crates, with the names that each defines, and those that it brings in; and the modules that a crate has of others."""
 
     def __init__(self):
-        self.defined, self.brought, self.files_of = {}, {}, defaultdict(set)
+        self.defined, self.brought, self.modules, self.files_of = {}, {}, {}, defaultdict(set)
         for file in sorted(CRATES.glob("*/specs/**/*.antt")):
             place, text = file.relative_to(CRATES).as_posix(), file.read_text()
             self.defined[place], self.brought[place] = set(defined_in(text)), imports(text)
             for name in self.defined[place]:
                 self.files_of[name].add(place)
+            for crate, path, alias in MODULE.findall(text):
+                self.modules[f"{place.split('/')[0]}/specs/{alias}"] = f"{crate}/specs{path.replace('.', '/')}"
 
     def origin(self, place, name):
         """Where the name of a file is defined: there, or where the file has it from. None for what no file of these defines."""
         if name in self.defined.get(place, ()):
             return place, name
+        crate, specs, module, *inner = place.removesuffix(".antt").split("/")
+        if f"{crate}/{specs}/{module}" in self.modules:
+            return self.origin("/".join([self.modules[f"{crate}/{specs}/{module}"], *inner]) + ".antt", name)
         further = self.brought.get(place, {}).get(name)
         return self.origin(*further) if further else None
 
