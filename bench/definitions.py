@@ -1,15 +1,15 @@
 #!/usr/bin/env python3
 """Tells which definitions that public contracts cite have no row in docs/DEFINITIONS.md.
 
-    bench/definitions.py [--handed-on]
+    bench/definitions.py [--inside]
 
 A definition stands in the specs of a crate: an `abbrev`, a `record` or a `data`. It is cited where a `requires` or an `ensures` of a `pub fn` of a crate that
 is no test crate has its name, which a `ghost use` brings in, maybe under another name. A row has it where its first column names it in backticks, and its last
 one leads to its file: with a crate's folder, or by the crate of the file before it there, or by those that the words above the table name.
 
-It prints the definitions without a row, crate by crate: first those that a call of another crate meets, since the crate hands the function or its type on with a
-`pub use` or `pub mod` of `lib.rt`, and then those that are cited only by functions of its private modules. With `--handed-on` the latter don't count. Then it prints the words
-of rows that are defined nowhere, those that are defined in none of the row's files, and files of rows that are not there. Its status is 1 if it printed any.
+It prints the definitions without a row, crate by crate, of those that a call of another crate meets, since the crate hands the function or its type on with a
+`pub use` or `pub mod` of `lib.rt`; with `--inside` also of those that are cited by functions of its private modules alone. Then it prints the words of rows that are
+defined nowhere, those that are defined in none of the row's files, and files of rows that are not there. Its status is 1 if it printed any.
 """
 import re
 import sys
@@ -209,7 +209,7 @@ def print_by_crate(title, places):
 def main(words):
     specs = Specs()
     met, found = cited(specs)
-    if "--handed-on" in words:
+    if "--inside" not in words:
         found = met
     page = list(rows())
     told = {(file, word) for row in page for word in row.words for file in row.files}
@@ -218,8 +218,7 @@ def main(words):
     print_by_crate("no row, inside the crate alone", missing - met)
     for line in wrong:
         print(line)
-    print(f"{len(met)} definitions are met by calls of other crates, {len(met - told)} without a row; {len(found)} are cited, {len(missing)} without a row; "
-          f"{len(wrong)} faults of rows")
+    print(f"{len(found)} definitions are cited, {len(missing)} without a row; {len(wrong)} faults of rows")
     return 1 if missing or wrong else 0
 
 
