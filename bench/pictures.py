@@ -104,6 +104,8 @@ def picture_of(places):
 # ---- what is drawn
 def library_of(path, cell, last=None):
     """The run that has read a cell's file and those below it, or that has done a script's edits up to a line."""
+    if not path.is_file():
+        sys.exit("there is no file %s" % path)
     files = {other.name: other.read_text().splitlines() for other in path.parent.iterdir() if other.suffix in (".tech", ".mag")}
     run = Run(files)
     if path.suffix == ".mag":
