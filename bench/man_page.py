@@ -56,10 +56,9 @@ def table(rows):
     first = ""
     for entry in entries:
         first = entry[0] or first
-        yield from (".TP", inline(first), inline(entry[1]) or "\\&")
-        for name, cell in zip(head[2:], entry[2:]):
-            if cell:
-                yield from (".br", "\\fI%s:\\fR %s" % (escaped(name), inline(cell)))
+        texts = [inline(entry[1])] if entry[1] else []
+        texts += ["\\fI%s:\\fR %s" % (escaped(name), inline(cell)) for name, cell in zip(head[2:], entry[2:]) if cell]
+        yield from (".TP", inline(first), "\n.br\n".join(texts) or "\\&")
 
 
 def list_items(lines):
