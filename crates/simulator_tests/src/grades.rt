@@ -1,7 +1,10 @@
 //! Which faults of small networks vectors detect, and what runs show in which a node is stuck.
 
-ghost use Rattle.std.specs.Prelude.{All};
+ghost use Rattle.std.specs.Prelude.{◌≡◌, All, IfSome, true};
 ghost use Rattle.sim_networks.specs.SimNetworks.{HasLetter};
+ghost use Rattle.switch_net.specs.Net.{network_of as network_in};
+ghost use Rattle.vector_files.specs.VectorFiles.{IsChangeable, IsWithin};
+ghost use Rattle.vector_runs.specs.Runs.{IsFresh};
 
 use fault_grade::{GradeFault, Graded, MOST_FAULTS, grade};
 use sim_networks::{net_of, read_records_have_letters};
@@ -11,8 +14,8 @@ use std::test::Fail;
 use switch_net::Level::{One, X, Zero};
 use switch_net::{Level, NamedNet};
 use text_scan::append_decimal;
-use vector_files::read_vectors;
-use vector_runs::{Seen, StuckFault, make_fresh, rails_of, watch};
+use vector_files::{Vectors, read_vectors};
+use vector_runs::{Seen, StuckFault, rails_of, watch};
 
 /// The budget of the phases.
 const BUDGET: u32 = 20;
@@ -182,17 +185,25 @@ const UNDETECTED: &[(u32, Level, Option<u32>)] = &[
 /// The network of sim records, as it is made, where it has one.
 fn network_of(alloc: Global, sim: &SimFile) -> Option<NamedNet>
     requires { All HasLetter sim.now.fets }
+    ensures { IfSome result (λ named. IsFresh (network_in named.net) named.names) }
 {
     net_of(alloc, sim).ok()
 }
 
 /// The network of a sim text, as it is made, where it has one.
-fn network(alloc: Global, text: &[u8]) -> Option<NamedNet> {
+fn network(alloc: Global, text: &[u8]) -> Option<NamedNet>
+    ensures { IfSome result (λ named. IsFresh (network_in named.net) named.names) }
+{
     read_records_have_letters();
-    match read_sim(alloc, text) {
-        Ok(sim) => network_of(alloc, &sim),
-        Err(_) => None,
-    }
+    let sim = read_sim(alloc, text).ok()?;
+    network_of(alloc, &sim)
+}
+
+/// The vectors of a text, where there are any, on a network.
+fn vectors(alloc: Global, text: &[u8], named: &NamedNet) -> Option<Vectors>
+    ensures { IfSome result (IsWithin named.now) }
+{
+    read_vectors(alloc, text, named).ok()
 }
 
 /// The header of a sim text.
@@ -207,26 +218,23 @@ const SEEN: &[(u32, &[u8], Level, bool)] = &[
     (6, b"in", Zero, true),
 ];
 
-fn is_graded(graded: &Graded, want: (u32, Level, Option<u32>)) -> bool {
-    (graded.node, graded.value, graded.line) == want
+fn are_graded(grades: &[Graded], want: &[(u32, Level, Option<u32>)]) -> bool {
+    if grades.len() != want.len() {
+        return false;
+    }
+    for (graded, (node, value, line)) in grades.iter().zip(want) {
+        if graded.node != *node || graded.value != *value || graded.line != *line {
+            return false;
+        }
+    }
+    true
 }
 
-fn holds(alloc: Global, row: Row) -> Result<bool, GradeFault> {
-    let Some(mut named) = network(alloc, row.circuit) else {
-        return Ok(false);
-    };
-    make_fresh(&mut named);
-    let Ok(vectors) = read_vectors(alloc, row.vectors, &named) else {
-        return Ok(false);
-    };
-    let grades = grade(alloc, &mut named, &vectors, BUDGET)?;
-    Ok(
-        grades.len() == row.grades.len()
-            && grades
-                .iter()
-                .zip(row.grades)
-                .all(|(graded, want)| is_graded(graded, *want)),
-    )
+fn holds(alloc: Global, row: Row) -> Option<bool> {
+    let mut named = network(alloc, row.circuit)?;
+    let vectors = vectors(alloc, row.vectors, &named)?;
+    let grades = grade(alloc, &mut named, &vectors, BUDGET).ok()?;
+    Some(are_graded(&grades, row.grades))
 }
 
 #[test]
@@ -250,16 +258,11 @@ fn text_of_nodes(alloc: Global, count: usize) -> Result<Vec<u8>, AllocError> {
 }
 
 /// Whether a network of so many nodes has too many faults.
-fn is_refused(alloc: Global, count: usize) -> Result<bool, AllocError> {
-    let text = text_of_nodes(alloc, count)?;
-    let Some(mut named) = network(alloc, &text) else {
-        return Ok(false);
-    };
-    make_fresh(&mut named);
-    let Ok(vectors) = read_vectors(alloc, b"phase\n", &named) else {
-        return Ok(false);
-    };
-    Ok(matches!(
+fn is_refused(alloc: Global, count: usize) -> Option<bool> {
+    let text = text_of_nodes(alloc, count).ok()?;
+    let mut named = network(alloc, &text)?;
+    let vectors = vectors(alloc, b"phase\n", &named)?;
+    Some(matches!(
         grade(alloc, &mut named, &vectors, BUDGET),
         Err(GradeFault::TooManyFaults)
     ))
@@ -267,50 +270,55 @@ fn is_refused(alloc: Global, count: usize) -> Result<bool, AllocError> {
 
 #[test]
 fn too_many_faults_are_refused(rt: HostRuntime) -> Result<(), Fail> {
-    assert!(rt; is_refused(rt.alloc(), MOST_FAULTS / 2 + 1)?);
+    let refused = is_refused(rt.alloc(), MOST_FAULTS / 2 + 1).unwrap_or(false);
+    assert!(rt; refused);
     Ok(())
 }
 
-fn is_seen(seen: &Seen, want: (u32, &[u8], Level, bool)) -> bool {
-    seen.line == want.0
-        && seen.name.bytes() == want.1
-        && seen.value == want.2
-        && seen.settled == want.3
+/// Whether a node may be stuck.
+fn may_be_stuck(named: &NamedNet, node: u32) -> bool
+    ensures { result ≡ true → IsChangeable named.now.names named.now.net.nodes node }
+{
+    node < named.net.nodes && !rails_of(named).has(node)
 }
 
-/// Whether vectors on the inverter show this where its node `in` is stuck at 0.
-fn shows(
-    alloc: Global,
-    vectors: &[u8],
-    want: &[(u32, &[u8], Level, bool)],
-) -> Result<bool, AllocError> {
-    let Some(mut named) = network(alloc, INVERTER) else {
-        return Ok(false);
-    };
-    make_fresh(&mut named);
+fn is_seen(seen: &Seen, line: u32, name: &[u8], value: Level, settled: bool) -> bool {
+    seen.line == line && seen.name.bytes() == name && seen.value == value && seen.settled == settled
+}
+
+fn are_seen(seen: &[Seen], want: &[(u32, &[u8], Level, bool)]) -> bool {
+    if seen.len() != want.len() {
+        return false;
+    }
+    for (one, (line, name, value, settled)) in seen.iter().zip(want) {
+        if !is_seen(one, *line, name, *value, *settled) {
+            return false;
+        }
+    }
+    true
+}
+
+/// What vectors on the inverter show where its node `in` is stuck at 0, if they can be run.
+fn seen_of(alloc: Global, text: &[u8]) -> Option<Vec<Seen>> {
+    let mut named = network(alloc, INVERTER)?;
+    let vectors = vectors(alloc, text, &named)?;
+    if !may_be_stuck(&named, 0) {
+        return None;
+    }
     let fault = StuckFault {
         node: 0,
         value: Zero,
     };
-    if fault.node >= named.net.nodes || rails_of(&named).has(fault.node) {
-        return Ok(false);
-    }
-    let Ok(vectors) = read_vectors(alloc, vectors, &named) else {
-        return Ok(false);
-    };
-    let seen = watch(alloc, &mut named, &vectors, BUDGET, Some(fault))?;
-    Ok(
-        seen.len() == want.len()
-            && seen
-                .iter()
-                .zip(want)
-                .all(|(seen, want)| is_seen(seen, *want)),
-    )
+    watch(alloc, &mut named, &vectors, BUDGET, Some(fault)).ok()
 }
 
 #[test]
 fn a_stuck_node_is_an_input_from_the_start(rt: HostRuntime) -> Result<(), Fail> {
-    let vectors = b"set in 1\nshow in out\nphase\nshow out other\nfree in\nshow in\n".as_slice();
-    assert!(rt; shows(rt.alloc(), vectors, SEEN)?);
+    let vectors = b"set in 1\nshow in out\nphase\nshow out other\nfree in\nshow in\n";
+    let seen = match seen_of(rt.alloc(), vectors) {
+        Some(seen) => are_seen(&seen, SEEN),
+        None => false,
+    };
+    assert!(rt; seen);
     Ok(())
 }
