@@ -5,9 +5,9 @@ pub use Rattle.group_meetings.proofs.MeetingLaws as MeetingLaws
 pub use Rattle.group_meetings.proofs.OwnRecordLaws as OwnRecordLaws
 pub use Rattle.group_meetings.proofs.TreeNames as TreeNames
 pub mod LocalQuantities
-pub mod PartSums
+mod PartSums
 pub mod MemberTotals
 pub mod GroupSums
 pub mod PlacesOnce
-pub mod FoundAdjustments
+mod FoundAdjustments
 pub mod AdjustmentLaws

@@ -38,7 +38,8 @@ area_within : (box : Option Rect) (area : Rect) → LiesWithin area (box_with bo
 area_within None area = omega (arith, ints)
 area_within (Some box) area = within_joined_second box area
 
-with_least : (own : Layout) (labels : List Label) (box : Option Rect) (area other : Rect) → OwnBoxIs own labels box → HoldsOwn own labels other → LiesWithin area other
+with_least : (own : Layout) (labels : List Label) (box : Option Rect) (area other : Rect) → OwnBoxIs own labels box → HoldsOwn own labels other
+    → LiesWithin area other
     → LiesWithin (box_with box area) other
 with_least own labels None area other none holds within = within
 with_least own labels (Some box) area other is holds within = joined_within box area other (is.least other holds) within
@@ -97,7 +98,11 @@ labelled_box own labels box label is =
       };
       least = λ area holds.
           with_least own labels box label.area area is
-          (record { material = holds.material; labels_within = λ other other_in. holds.labels_within other (In-append_left other labels (label ∷ []) other_in) })
+          (record {
+            material = holds.material;
+            labels_within = λ other other_in.
+                holds.labels_within other (In-append_left other labels (label ∷ []) other_in);
+          })
           (holds.labels_within label (In-push labels label));
     }
 

@@ -121,7 +121,8 @@ pub upright_labels : (raw : RawTech) (labels : List Label) → All (IsLabel raw)
 upright_labels raw labels are = λ k d below. (let area = (are k d below).area in (and_parts _ _ area).0)
 
 -- what is left after erasing has its box inside the old one
-pub erased_inside : (raw : RawTech) (layer : ℕ) (area : Rect) (old new : List Held) (cell : ℕ) (box after : Option Rect) → IsWellFormed raw → layer < length raw.layers
+pub erased_inside : (raw : RawTech) (layer : ℕ) (area : Rect) (old new : List Held) (cell : ℕ) (box after : Option Rect) → IsWellFormed raw
+    → layer < length raw.layers
     → cell < length old → IsLawfulHeld raw (held_at old cell) → IsSoundPaint (held_at old cell).paint.kinds (layout_of (held_at old cell).paint)
     → IsRepainted old new cell (with_erased raw layer area)
     → OwnBoxIs (layout_of (held_at old cell).paint) (held_at old cell).labels box
@@ -132,7 +133,8 @@ erased_inside raw layer area old new cell box after w layer_below below held sou
     subst (λ (kinds : List TypeRec). KeepsTypes kinds (layout_of (held_at old cell).paint)) held.kinds sound.types in
     fewer_inside (layout_of (held_at old cell).paint) (layout_of erased.paint) (held_at old cell).labels (held_at old cell).labels box after was
     (subst (λ (h : Held). OwnBoxIs (layout_of h.paint) h.labels after) there is)
-    (λ place material. erased_only raw layer area (layout_of (held_at old cell).paint) w layer_below keeps place (λ space. material (erased.layout place ∙ space)))
+    (λ place material. erased_only raw layer area (layout_of (held_at old cell).paint) w layer_below keeps place
+    (λ space. material (erased.layout place ∙ space)))
     (λ label among. among)
 
 -- and so has what is left without labels
@@ -157,7 +159,9 @@ left_upright text old new cell below unlabelled upright =
     (All-from_In P (without_labels held text).labels (λ label among.
     All-In P held.labels label upright (In-filter_source (λ l. not (bytes_eq l.text text)) label held.labels among)))
 
-pub erased_upright : (raw : RawTech) (layer : ℕ) (area : Rect) (old new : List Held) (cell : ℕ) → cell < length old → IsRepainted old new cell (with_erased raw layer area)
+pub erased_upright : (raw : RawTech) (layer : ℕ) (area : Rect) (old new : List Held) (cell : ℕ) → cell < length old
+    → IsRepainted old new cell (with_erased raw layer area)
     → All (λ label. IsTrue (has_sides label.area)) (held_at old cell).labels → All (λ label. IsTrue (has_sides label.area)) (held_at new cell).labels
 erased_upright raw layer area old new cell below erased upright =
-    subst (λ (h : Held). All (λ label. IsTrue (has_sides label.area)) h.labels) (sym (put_there old new cell (record (held_at old cell) { paint = erased.paint }) below erased.is)) upright
+    subst (λ (h : Held). All (λ label. IsTrue (has_sides label.area)) h.labels)
+    (sym (put_there old new cell (record (held_at old cell) { paint = erased.paint }) below erased.is)) upright

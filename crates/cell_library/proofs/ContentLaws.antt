@@ -39,7 +39,8 @@ found_by_key entries name under =
 -- ---- the content at a place
 
 -- what is seen at a place is the content there
-pub held_value : (contents : List Content) (cell : ℕ) (content : Content) → slice_get contents cell ≡ Some content → held_at (map held_of contents) cell ≡ held_of content
+pub held_value : (contents : List Content) (cell : ℕ) (content : Content) → slice_get contents cell ≡ Some content
+    → held_at (map held_of contents) cell ≡ held_of content
 held_value [] cell content is = absurd (cc)
 held_value (first ∷ contents) zero content is = let same : first ≡ content = cc in ap held_of same
 held_value (first ∷ contents) (suc cell) content is = held_value contents cell content is
@@ -71,7 +72,8 @@ names-set (first ∷ contents) zero old new is same =
 names-set (first ∷ contents) (suc cell) old new is same = ap (λ names. first.name ∷ names) (names-set contents cell old new is same)
 
 -- a change that keeps the name keeps contents under their names
-pub still_under_names : (entries : List (Vec ℕ Global × Content)) (cell : ℕ) (old new : Content) → slice_get (values_of entries) cell ≡ Some old → new.name ≡ old.name
+pub still_under_names : (entries : List (Vec ℕ Global × Content)) (cell : ℕ) (old new : Content) → slice_get (values_of entries) cell ≡ Some old
+    → new.name ≡ old.name
     → AreUnderNames entries → AreUnderNames (set_value_at entries cell new)
 still_under_names entries cell old new is same under =
     ap (map (λ (key : Vec ℕ Global). key.items)) (keys-set_value_at entries cell new) ∙ under ∙ sym (names-set (values_of entries) cell old new is same)
@@ -97,7 +99,8 @@ repainted contents entries cell old paint change seen is kinds planes layout =
 -- a content whose labels changed
 pub relabelled : (contents : List Held) (entries : List (Vec ℕ Global × Content)) (cell : ℕ) (old : Content) (labels : Vec Label Global)
     (change : List Label → List Label) → held_in entries ≡ contents → slice_get (values_of entries) cell ≡ Some old → labels.items ≡ change old.labels.items
-    → held_in (set_value_at entries cell (record old { labels = labels })) ≡ set contents cell (record (held_at contents cell) { labels = change (held_at contents cell).labels })
+    → held_in (set_value_at entries cell (record old { labels = labels }))
+    ≡ set contents cell (record (held_at contents cell) { labels = change (held_at contents cell).labels })
 relabelled contents entries cell old labels change seen is after =
     let here : held_at contents cell ≡ held_of old = ap (λ (c : List Held). held_at c cell) (sym seen) ∙ held_value (values_of entries) cell old is in
     held_set entries cell (record old { labels = labels })
@@ -146,7 +149,8 @@ pub content_added : (eq : Vec ℕ Global → Vec ℕ Global → Bool) (entries :
 content_added eq entries key content same under none =
     let keys = keys_of entries in
     let tests : eq key ≡ (λ (other : Vec ℕ Global). bytes_eq content.name other.items) = λ i other. same other i in
-    let absent : position (eq key) keys ≡ None = ap (λ (test : Vec ℕ Global → Bool). position test keys) tests ∙ found_by_key entries content.name under ∙ none in
+    let absent : position (eq key) keys ≡ None = ap (λ (test : Vec ℕ Global → Bool). position test keys) tests ∙ found_by_key entries content.name under
+    ∙ none in
     let past = position_past (eq key) keys absent in
     let most = position_or_len-most (eq key) keys in
     let long = length-map entries (λ (entry : Vec ℕ Global × Content). entry.0) in

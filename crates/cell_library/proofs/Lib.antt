@@ -1,50 +1,50 @@
 -- what crates above name of those below
 pub use Rattle.cell_tree.proofs as CellTree
 pub mod AddedCells
-pub mod ArrivingCells
+mod ArrivingCells
 pub mod ArrivingUses
 pub mod BoxLaws
 pub mod BoxSteps
 pub mod BoxesBelow
 pub mod ChildLaws
 pub mod ContentLaws
-pub mod EditLaws
+mod EditLaws
 pub mod ElementCounts
 pub mod FaultLaws
 pub mod GridSpots
 pub mod GridSteps
-pub mod HeldParts
+mod HeldParts
 pub mod HullsHoldMaterial
-pub mod InnerAreas
-pub mod KeptContents
+mod InnerAreas
+mod KeptContents
 pub mod LawfulViews
 pub mod LayoutTreeLaws
 pub mod LimitLaws
-pub mod MaterialLaws
-pub mod MoveEdits
+mod MaterialLaws
+mod MoveEdits
 pub mod NewCells
 pub mod OwnEdits
 pub mod OwnRestorations
-pub mod OwnTiles
+mod OwnTiles
 pub mod PaintEdits
 pub mod PartLaws
-pub mod PartSets
+mod PartSets
 pub mod PlacedCells
 pub mod PlacedRects
-pub mod PutBackUses
+mod PutBackUses
 pub mod RowSpots
-pub mod SeenAreas
+mod SeenAreas
 pub mod SizeLaws
-pub mod SpotLaws
+mod SpotLaws
 pub mod StandingCounts
 pub mod ToldTiles
 pub mod TreeTypes
 pub mod UndoneEdits
 pub mod UseEdits
 pub mod UseLists
-pub mod UseSearches
-pub mod UseSteps
-pub mod UseSums
-pub mod UseTreeLaws
+mod UseSearches
+mod UseSteps
+mod UseSums
+mod UseTreeLaws
 pub mod ViewLaws
 pub mod VisitLaws

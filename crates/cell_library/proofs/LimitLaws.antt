@@ -28,7 +28,8 @@ states_unique (cell ∷ cells) (s ∷ a) (t ∷ b) one two =
     λ i. record { own = own i; uses = uses i } ∷ rest i
 
 -- a library whose tree is lawful goes past no limit
-pub never_past : (view : LibraryView) (tree : Tree) (dimension : Dimension) → IsLawfulTree tree → AreStatesOf view.cells tree.cells → GoesPast dimension view → ⊥
+pub never_past : (view : LibraryView) (tree : Tree) (dimension : Dimension) → IsLawfulTree tree → AreStatesOf view.cells tree.cells → GoesPast dimension view
+    → ⊥
 never_past view tree dimension lawful are goes =
     let same : goes.states ≡ tree.cells = states_unique view.cells goes.states tree.cells goes.are_states are in
     let right : AreSizes tree.cells goes.sizes = subst (λ (cells : List CellState). AreSizes cells goes.sizes) same goes.are_sizes in

@@ -41,7 +41,8 @@ use Rattle.cell_paint.proofs.AgainLaws.{image_type}
 -- ---- one contact's mark
 
 -- a type without a contact's mark is no space, where it was none
-unmarked_material : (raw : RawTech) (layer plane : ℕ) (old : TypeId) → IsWellFormed raw → HaveOwnSets raw → layer < length raw.layers → 1 < length (images_of raw layer)
+unmarked_material : (raw : RawTech) (layer plane : ℕ) (old : TypeId) → IsWellFormed raw → HaveOwnSets raw → layer < length raw.layers
+    → 1 < length (images_of raw layer)
     → (contact : IsContact raw layer) → IsOnPlane raw plane old.0 → old.0 ≢ 0 → (without_parts raw (2 ^ contact.bit) plane old).0 ≢ 0
 unmarked_material raw layer plane old w own below many contact on is = elim (cases_Bool (is_subset (2 ^ contact.bit) (parts_of raw old.0))) [
   | inr none ↦ rw none is
@@ -76,7 +77,8 @@ kept_each : (raw : RawTech) (plane : ℕ) (P : ℕ → Type 0) (column : List Ty
     → IsOnPlane raw plane old.0 → P old.0 → P (without_parts raw (2 ^ contact.bit) plane old).0)
     → IsColumn raw column → P (type_on column plane) → P (type_on (marks_kept raw column) plane)
 kept_each raw plane P column w each is has =
-    (fold_keeps (λ (c : List TypeId). IsColumn raw c × P (type_on c plane)) (λ (kept : List TypeId) (layer : LayerRec). layer_mark_kept raw layer.images kept) raw.layers column (is, has)
+    (fold_keeps (λ (c : List TypeId). IsColumn raw c × P (type_on c plane)) (λ (kept : List TypeId) (layer : LayerRec). layer_mark_kept raw layer.images kept)
+    raw.layers column (is, has)
     (λ c rec rec_in so_far.
     let index = In-index rec raw.layers rec_in in
     let at : layer_at raw index.0 ≡ rec = index.1.1 no_layer in (
@@ -133,14 +135,16 @@ painted_material : (raw : RawTech) (plane : ℕ) (image old : TypeId) → IsWell
 painted_material raw plane image old w type =
     painted_option raw plane old.0 image.0 (joined raw plane (bit_or (parts_of raw old.0) (parts_of raw image.0))) refl w type
 
-painted_where : (raw : RawTech) (layer plane : ℕ) (old : TypeId) (o : Option TypeId) → image_on raw layer plane ≡ o → IsWellFormed raw → layer < length raw.layers
+painted_where : (raw : RawTech) (layer plane : ℕ) (old : TypeId) (o : Option TypeId) → image_on raw layer plane ≡ o → IsWellFormed raw
+    → layer < length raw.layers
     → old.0 ≢ 0 → (where_image (painted_by raw plane) o old).0 ≢ 0
 painted_where raw layer plane old None is w below some = some
 painted_where raw layer plane old (Some image) is w below some =
     painted_material raw plane image old w (image_type raw layer image w below (find-In (is_on raw plane) (images_of raw layer) image is))
 
 -- painting takes no material away
-pub painted_column-material : (raw : RawTech) (layer plane : ℕ) (column : List TypeId) → IsWellFormed raw → HaveOwnSets raw → layer < length raw.layers → IsColumn raw column
+pub painted_column-material : (raw : RawTech) (layer plane : ℕ) (column : List TypeId) → IsWellFormed raw → HaveOwnSets raw → layer < length raw.layers
+    → IsColumn raw column
     → type_on column plane ≢ 0 → type_on (painted_column raw layer column) plane ≢ 0
 unfolding brushed_column
 painted_column-material raw layer plane column w own below is some =
@@ -158,17 +162,20 @@ changed_within R f p (old ∷ column) each (suc k) below =
     let next : p + 1 + k ≡ p + suc k = omega arith in
     subst (λ (n : ℕ). R n (type_on (on_planes_from (p + 1) f column) k)) next (changed_within R f (p + 1) column each k (omega arith))
 
-filled_where : (raw : RawTech) (layer : ℕ) (image old : TypeId) (o : Option TypeId) → image_on raw layer (plane_of raw image.0) ≡ o → IsWellFormed raw → layer < length raw.layers
+filled_where : (raw : RawTech) (layer : ℕ) (image old : TypeId) (o : Option TypeId) → image_on raw layer (plane_of raw image.0) ≡ o → IsWellFormed raw
+    → layer < length raw.layers
     → In image (images_of raw layer) → (where_image (painted_by raw (plane_of raw image.0)) o old).0 ≢ 0
 filled_where raw layer image old None is w below image_in =
-    absurd (true≢false (sym (eq-eqb (plane_of raw image.0) (plane_of raw image.0) refl) ∙ find-none (is_on raw (plane_of raw image.0)) (images_of raw layer) image is image_in))
+    absurd (true≢false (sym (eq-eqb (plane_of raw image.0) (plane_of raw image.0) refl)
+    ∙ find-none (is_on raw (plane_of raw image.0)) (images_of raw layer) image is image_in))
 filled_where raw layer image old (Some other) is w below image_in =
     painted_material raw (plane_of raw image.0) other old w
     (image_type raw layer other w below (find-In (is_on raw (plane_of raw image.0)) (images_of raw layer) other is))
 
 -- painting leaves material on each plane of the layer
 pub painted_column-fills : (raw : RawTech) (layer : ℕ) (image : TypeId) (column : List TypeId) → IsWellFormed raw → HaveOwnSets raw → layer < length raw.layers
-    → IsColumn raw column → In image (images_of raw layer) → plane_of raw image.0 < length column → type_on (painted_column raw layer column) (plane_of raw image.0) ≢ 0
+    → IsColumn raw column → In image (images_of raw layer) → plane_of raw image.0 < length column
+    → type_on (painted_column raw layer column) (plane_of raw image.0) ≢ 0
 unfolding brushed_column
 painted_column-fills raw layer image column w own below is image_in inside =
     let plane = plane_of raw image.0 in
@@ -181,7 +188,8 @@ painted_column-fills raw layer image column w own below is image_in inside =
 
 -- ---- erasing a layer
 
-erased_space : (raw : RawTech) (plane : ℕ) (image old : TypeId) → IsWellFormed raw → IsTrue (is_type raw image.0) → old.0 ≡ 0 → (erased_by raw plane image old).0 ≡ 0
+erased_space : (raw : RawTech) (plane : ℕ) (image old : TypeId) → IsWellFormed raw → IsTrue (is_type raw image.0) → old.0 ≡ 0
+    → (erased_by raw plane image old).0 ≡ 0
 erased_space raw plane image old w type space = elim (cases_Bool (is_subset (parts_of raw image.0) (parts_of raw old.0))) [
   | inr none ↦ rw none space
   | inl part ↦
@@ -193,7 +201,8 @@ erased_space raw plane image old w type space = elim (cases_Bool (is_subset (par
     and_nothing : (a : ℕ) → bit_and a 0 ≡ 0
     and_nothing a = same_from_bits (bit_and a 0) 0 (λ k. let both = bit_at_and a 0 k in let none = bit_at-zero k in omega arith)
 
-erased_where : (raw : RawTech) (layer plane : ℕ) (old : TypeId) (o : Option TypeId) → image_on raw layer plane ≡ o → IsWellFormed raw → layer < length raw.layers
+erased_where : (raw : RawTech) (layer plane : ℕ) (old : TypeId) (o : Option TypeId) → image_on raw layer plane ≡ o → IsWellFormed raw
+    → layer < length raw.layers
     → old.0 ≡ 0 → (where_image (erased_by raw plane) o old).0 ≡ 0
 erased_where raw layer plane old None is w below space = space
 erased_where raw layer plane old (Some image) is w below space =
@@ -211,9 +220,11 @@ erased_column-space raw layer plane column w below is space =
 
 -- ---- layouts
 
-module _ (raw : RawTech) (layer : ℕ) (area : Rect) (layout : Layout) (w : IsWellFormed raw) (below : layer < length raw.layers) (keeps : KeepsTypes raw.types layout) where
+module _ (raw : RawTech) (layer : ℕ) (area : Rect) (layout : Layout) (w : IsWellFormed raw) (below : layer < length raw.layers)
+    (keeps : KeepsTypes raw.types layout) where
   -- painting takes no material away
-  pub painted_keeps : (place : Place) → HaveOwnSets raw → place.plane < MOST_PLANES → IsMaterial layout place → IsMaterial (with_paint raw layer area layout) place
+  pub painted_keeps : (place : Place) → HaveOwnSets raw → place.plane < MOST_PLANES → IsMaterial layout place
+      → IsMaterial (with_paint raw layer area layout) place
   painted_keeps place own few material = elim (cases_Bool (is_covered area place.square)) [
     | inr outside ↦ λ space. material (sym (changed_outside (painted_column raw layer) (is_covered area) layout place outside) ∙ space)
     | inl inside ↦ λ space.

@@ -44,7 +44,8 @@ use Rattle.cell_library.proofs.UseLists.{has_there, changed_use, use_in, id_same
 -- ---- a use placed otherwise, in a list
 
 -- it keeps its id and its child
-moved_in : (uses : List (List ℕ × UseBody)) (k : ℕ) (placed : Transform) (grid : Option Grid) (entry : List ℕ × UseBody) → In entry (moved_at uses k placed grid)
+moved_in : (uses : List (List ℕ × UseBody)) (k : ℕ) (placed : Transform) (grid : Option Grid) (entry : List ℕ × UseBody)
+    → In entry (moved_at uses k placed grid)
     → (old : List ℕ × UseBody) × (In old uses × (old.0 ≡ entry.0))
 moved_in [] k placed grid entry none = absurd none
 moved_in (first ∷ rest) zero placed grid entry (inl same) = (first, (inl refl, ap (λ (e : List ℕ × UseBody). e.0) same))
@@ -74,7 +75,8 @@ one_passes test id (first ∷ rest) zero used differ is =
     let none = nothing_else rest (λ later. differ.0 (subst (λ (n : List ℕ). In n (map (λ e. e.0) rest)) (sym name) later)) in
     (λ i. (here i && test (ap (λ (e : List ℕ × UseBody). e.1) same i)) || none i) ∙ or_nothing (test used)
   where
-    nothing_else : (others : List (List ℕ × UseBody)) → (In id (map (λ e. e.0) others) → ⊥) → list_any (λ entry. bytes_eq entry.0 id && test entry.1) others ≡ false
+    nothing_else : (others : List (List ℕ × UseBody)) → (In id (map (λ e. e.0) others) → ⊥)
+        → list_any (λ entry. bytes_eq entry.0 id && test entry.1) others ≡ false
     nothing_else [] absent = refl
     nothing_else (other ∷ others) absent = elim (cases_Bool (bytes_eq other.0 id)) [
       | inl there ↦ absurd (absent (inl ((bytes_eq-Decides other.0 id).0 there)))
@@ -87,13 +89,15 @@ one_passes test id (first ∷ rest) zero used differ is =
 one_passes test id (first ∷ rest) (suc k) used differ is =
     let apart : bytes_eq first.0 id ≡ false = elim (cases_Bool (bytes_eq first.0 id)) [
       | inr away ↦ away
-      | inl here ↦ absurd (differ.0 (subst (λ (n : List ℕ). In n (map (λ e. e.0) rest)) (sym ((bytes_eq-Decides first.0 id).0 here)) (use_in rest k (id, used) is)))
+      | inl here ↦ absurd (differ.0 (subst (λ (n : List ℕ). In n (map (λ e. e.0) rest)) (sym ((bytes_eq-Decides first.0 id).0 here))
+          (use_in rest k (id, used) is)))
     ] in
     (λ i. (apart i && test first.1) || one_passes test id rest k used differ.1 is i)
 
 -- ---- a move changes no number of elements
 
-elements_moved : (s : ℕ → Size) (uses : List (List ℕ × UseBody)) (k : ℕ) (id : List ℕ) (used : UseBody) (placed : Transform) → slice_get uses k ≡ Some (id, used)
+elements_moved : (s : ℕ → Size) (uses : List (List ℕ × UseBody)) (k : ℕ) (id : List ℕ) (used : UseBody) (placed : Transform)
+    → slice_get uses k ≡ Some (id, used)
     → elements_below s (moved_at uses k placed used.grid) ≡ elements_below s uses
 elements_moved s [] k id used placed is = absurd (cc)
 elements_moved s (first ∷ rest) zero id used placed is =
@@ -112,7 +116,8 @@ elements_stay_to : (cells : List CellState) (changed k : ℕ) (id : List ℕ) (u
     → (n key : ℕ) → key < length cells → (size_at a key).depth ≤ n → (size_at a key).elements ≡ (size_at b key).elements
 elements_stay_to cells changed k id used placed a b children there is a_right b_right zero key below deep =
     let some = some_depth (size_at a) (cell_at cells key) in
-    let here : (size_at a key).depth ≡ (size_of (size_at a) (cell_at cells key)).depth = ap (λ (s : Size). s.depth) (a_right key (cell_at cells key) (cell_is cells key below)) in
+    let here : (size_at a key).depth ≡ (size_of (size_at a) (cell_at cells key)).depth =
+    ap (λ (s : Size). s.depth) (a_right key (cell_at cells key) (cell_is cells key below)) in
     absurd (omega arith)
 elements_stay_to cells changed k id used placed a b children there is a_right b_right (suc n) key below deep =
     let state : CellState = with_moved (cell_at cells changed) k placed used.grid in
@@ -146,7 +151,8 @@ never_more tree cell k id used placed lawful there is passes =
     let count = passes.count in
     elim (cases_lt key (length tree.cells)) [
       | inl below ↦
-          (let same = elements_stay_to tree.cells cell k id used placed tree.sizes passes.sizes (tree_children tree lawful) there is lawful.sizes.right passes.right
+          (let same = elements_stay_to tree.cells cell k id used placed tree.sizes passes.sizes (tree_children tree lawful) there is lawful.sizes.right
+          passes.right
           (size_at tree.sizes key).depth key below (omega arith) in
           let within = lawful.sizes.within Elements key in
           passes.passes.passes (omega arith))
@@ -155,9 +161,11 @@ never_more tree cell k id used placed lawful there is passes =
 
 module _ (library : LibraryParts) (lawful : IsLawfulLibrary library) (cell : ℕ) (below : cell < length library.contents) (id : List ℕ) where
   -- the children of all uses are cells, where a use is placed otherwise
-  moved_children : (k : ℕ) (placed : Transform) (grid : Option Grid) → HaveChildren (slice_set library.tree.cells cell (with_moved (cell_at library.tree.cells cell) k placed grid))
+  moved_children : (k : ℕ) (placed : Transform) (grid : Option Grid)
+      → HaveChildren (slice_set library.tree.cells cell (with_moved (cell_at library.tree.cells cell) k placed grid))
   moved_children k placed grid =
-      children_of_changed library.tree.cells cell (with_moved (cell_at library.tree.cells cell) k placed grid) (tree_children library.tree lawful.tree) (λ j entry is.
+      children_of_changed library.tree.cells cell (with_moved (cell_at library.tree.cells cell) k placed grid) (tree_children library.tree lawful.tree)
+      (λ j entry is.
       let old = moved_child (cell_at library.tree.cells cell).uses k placed grid j entry is in
       subst (λ (n : ℕ). n < length library.tree.cells) old.1.1 (child_below library lawful cell below j old.0 old.1.0))
 
@@ -170,7 +178,8 @@ module _ (library : LibraryParts) (lawful : IsLawfulLibrary library) (cell : ℕ
 
   has_here : (k : ℕ) (used : UseBody) → HasUseAt (cell_at library.tree.cells cell) id k used → has_id (view_at (seen library) cell).uses id ≡ true
   has_here k used has =
-      ap (λ (uses : List (List ℕ × UseBody)). has_id uses id) (uses_here library lawful cell below) ∙ has_there (cell_at library.tree.cells cell).uses k id used has.is
+      ap (λ (uses : List (List ℕ × UseBody)). has_id uses id) (uses_here library lawful cell below)
+      ∙ has_there (cell_at library.tree.cells cell).uses k id used has.is
 
   no_use : {A B : Type 0} (told : LibFault) → (A → B)
       → FirstOf (edits_of library ≡ MOST_EDITS) (TooMany Edits) (FirstOf (has_id (cell_at library.tree.cells cell).uses id ≡ false) NoUse (λ _. A)) told
@@ -190,10 +199,12 @@ module _ (library : LibraryParts) (lawful : IsLawfulLibrary library) (cell : ℕ
         → moved_at (cell_at library.tree.cells cell).uses k used.placed (Some grid)
         ≡ with_use_changed (λ used. record used { grid = Some grid }) id (cell_at library.tree.cells cell).uses
     grid_is k used has =
-        changed_use (λ used. record used { grid = Some grid }) id (cell_at library.tree.cells cell).uses k used (ids_differ library lawful cell below) has.is refl
+        changed_use (λ used. record used { grid = Some grid }) id (cell_at library.tree.cells cell).uses k used (ids_differ library lawful cell below) has.is
+        refl
 
     grid_states : (k : ℕ) (used : UseBody) → HasUseAt (cell_at library.tree.cells cell) id k used
-        → AreStatesOf (with_grid (seen library) cell id grid).cells (slice_set library.tree.cells cell (with_moved (cell_at library.tree.cells cell) k used.placed (Some grid)))
+        → AreStatesOf (with_grid (seen library) cell id grid).cells
+        (slice_set library.tree.cells cell (with_moved (cell_at library.tree.cells cell) k used.placed (Some grid)))
     grid_states k used has =
         uses_states library lawful cell below (with_moved (cell_at library.tree.cells cell) k used.placed (Some grid))
         (with_use_changed (λ used. record used { grid = Some grid }) id) refl (grid_is k used has)
@@ -205,7 +216,11 @@ module _ (library : LibraryParts) (lawful : IsLawfulLibrary library) (cell : ℕ
     tree_refuses_grid k used has NoMemory refuses told is = absurd refuses
     tree_refuses_grid k used has (Crossing key) refuses told is = absurd refuses
     tree_refuses_grid k used has (Passed Elements) refuses told is =
-        inl (would_go_past _ library.tree cell (with_moved (cell_at library.tree.cells cell) k used.placed (Some grid)) Elements (grid_states k used has) refuses, is)
+        inl (
+          would_go_past _ library.tree cell (with_moved (cell_at library.tree.cells cell) k used.placed (Some grid)) Elements (grid_states k used has)
+              refuses,
+          is,
+        )
     tree_refuses_grid k used has TooManyUses refuses told is = absurd refuses
     tree_refuses_grid k used has (Passed Depth) refuses told is = absurd refuses
     tree_refuses_grid k used has (Passed Hull) refuses told is =
@@ -216,7 +231,8 @@ module _ (library : LibraryParts) (lawful : IsLawfulLibrary library) (cell : ℕ
         )
 
     pub array_fault : (told : LibFault)
-        → EditIsRefused (edits_of library) (FirstOf (has_id (cell_at library.tree.cells cell).uses id ≡ false) NoUse (GridIsRefused library.tree cell id grid)) told
+        → EditIsRefused (edits_of library) (FirstOf (has_id (cell_at library.tree.cells cell).uses id ≡ false) NoUse
+        (GridIsRefused library.tree cell id grid)) told
         → EditIsRefused (edits_of library) (ArrayIsRefused (seen library) cell id grid) told
     array_fault told =
         no_use told (λ refused.
@@ -231,7 +247,8 @@ module _ (library : LibraryParts) (lawful : IsLawfulLibrary library) (cell : ℕ
 
       pub arrayed_lawful : IsLawfulLibrary (record { tech = library.tech; scale = library.scale; contents = library.contents; tree = tree })
       arrayed_lawful =
-          uses_edit_lawful library lawful cell below tree (with_moved (cell_at library.tree.cells cell) done.k done.used.placed (Some grid)) done.edited tree_lawful refl
+          uses_edit_lawful library lawful cell below tree (with_moved (cell_at library.tree.cells cell) done.k done.used.placed (Some grid)) done.edited
+          tree_lawful refl
           (moved_ids done.k done.used.placed (Some grid))
 
       pub arrayed_unrefused : (fault : LibFault) → EditIsRefused (edits_of library) (ArrayIsRefused (seen library) cell id grid) fault → ⊥
@@ -249,7 +266,8 @@ module _ (library : LibraryParts) (lawful : IsLawfulLibrary library) (cell : ℕ
 
   module _ (dx dy : ℤ) where
     move_is : (k : ℕ) (used : UseBody) → HasUseAt (cell_at library.tree.cells cell) id k used
-        → moved_at (cell_at library.tree.cells cell).uses k (moved_use dx dy used).placed used.grid ≡ with_use_changed (moved_use dx dy) id (cell_at library.tree.cells cell).uses
+        → moved_at (cell_at library.tree.cells cell).uses k (moved_use dx dy used).placed used.grid
+        ≡ with_use_changed (moved_use dx dy) id (cell_at library.tree.cells cell).uses
     move_is k used has = changed_use (moved_use dx dy) id (cell_at library.tree.cells cell).uses k used (ids_differ library lawful cell below) has.is refl
 
     move_states : (k : ℕ) (used : UseBody) → HasUseAt (cell_at library.tree.cells cell) id k used
@@ -264,7 +282,8 @@ module _ (library : LibraryParts) (lawful : IsLawfulLibrary library) (cell : ℕ
         → moves_too_far (view_at (seen library) cell).uses id dx dy ≡ not (stands_in_range (moved_use dx dy used))
     too_far_is k used has =
         ap (λ (uses : List (List ℕ × UseBody)). moves_too_far uses id dx dy) (uses_here library lawful cell below)
-        ∙ one_passes (λ u. not (stands_in_range (moved_use dx dy u))) id (cell_at library.tree.cells cell).uses k used (ids_differ library lawful cell below) has.is
+        ∙ one_passes (λ u. not (stands_in_range (moved_use dx dy u))) id (cell_at library.tree.cells cell).uses k used (ids_differ library lawful cell below)
+        has.is
 
     tree_refuses_move : (k : ℕ) (used : UseBody) → HasUseAt (cell_at library.tree.cells cell) id k used → (fault : TreeFault)
         → RefusesMove library.tree cell k (moved_use dx dy used).placed used.grid fault → (told : LibFault) → told ≡ of_tree [] fault
@@ -276,7 +295,11 @@ module _ (library : LibraryParts) (lawful : IsLawfulLibrary library) (cell : ℕ
     tree_refuses_move k used has TooManyUses refuses told is = absurd refuses
     tree_refuses_move k used has (Passed Depth) refuses told is = absurd refuses
     tree_refuses_move k used has (Passed Hull) refuses told is =
-        inl (would_go_past _ library.tree cell (with_moved (cell_at library.tree.cells cell) k (moved_use dx dy used).placed used.grid) Hull (move_states k used has) refuses, is)
+        inl (
+          would_go_past _ library.tree cell (with_moved (cell_at library.tree.cells cell) k (moved_use dx dy used).placed used.grid) Hull
+              (move_states k used has) refuses,
+          is,
+        )
 
     far_true : (b : Bool) → b ≡ false → IsTrue (not b)
     far_true b is = ap not is
@@ -297,7 +320,8 @@ module _ (library : LibraryParts) (lawful : IsLawfulLibrary library) (cell : ℕ
     ]
 
     pub move_fault : (told : LibFault)
-        → EditIsRefused (edits_of library) (FirstOf (has_id (cell_at library.tree.cells cell).uses id ≡ false) NoUse (ShiftIsRefused library.tree cell id dx dy)) told
+        → EditIsRefused (edits_of library) (FirstOf (has_id (cell_at library.tree.cells cell).uses id ≡ false) NoUse
+        (ShiftIsRefused library.tree cell id dx dy)) told
         → EditIsRefused (edits_of library) (MoveIsRefused (seen library) cell id dx dy) told
     move_fault told = no_use told (moved_far told)
 
@@ -309,7 +333,8 @@ module _ (library : LibraryParts) (lawful : IsLawfulLibrary library) (cell : ℕ
 
       pub moved_lawful : IsLawfulLibrary (record { tech = library.tech; scale = library.scale; contents = library.contents; tree = tree })
       moved_lawful =
-          uses_edit_lawful library lawful cell below tree (with_moved (cell_at library.tree.cells cell) done.k (moved_use dx dy done.used).placed done.used.grid) done.edited
+          uses_edit_lawful library lawful cell below tree
+          (with_moved (cell_at library.tree.cells cell) done.k (moved_use dx dy done.used).placed done.used.grid) done.edited
           tree_lawful refl (moved_ids done.k (moved_use dx dy done.used).placed done.used.grid)
 
       pub moved_unrefused : (fault : LibFault) → EditIsRefused (edits_of library) (MoveIsRefused (seen library) cell id dx dy) fault → ⊥

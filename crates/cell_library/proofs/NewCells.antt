@@ -49,7 +49,8 @@ none_passes test (y ∷ ys) x past (inr later) = elim (cases_Bool (test y)) [
 pub name_is_new : (name : List ℕ) (contents : List Held) → position_of name contents ≡ None → In name (map (λ held. held.name) contents) → ⊥
 name_is_new name contents none there =
     true≢false (sym ((bytes_eq-Decides name name).1 refl)
-    ∙ none_passes (bytes_eq name) (map (λ (held : Held). held.name) contents) name (position_past (bytes_eq name) (map (λ (held : Held). held.name) contents) none) there)
+    ∙ none_passes (bytes_eq name) (map (λ (held : Held). held.name) contents) name
+    (position_past (bytes_eq name) (map (λ (held : Held). held.name) contents) none) there)
 
 -- the cell that is found by its name is the one that is seen
 pub named_seen : (library : LibraryParts) (name : List ℕ) → position_of name library.contents ≡ cell_named (seen library) name

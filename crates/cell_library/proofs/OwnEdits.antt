@@ -52,7 +52,8 @@ module _ (library : LibraryParts) (lawful : IsLawfulLibrary library) (cell : ℕ
   erase_fault layer area told =
       or_memory_map (first_of_map (λ few. first_of_map (λ square. first_of_map (λ near none. absurd none))))
 
-  module _ (layer : ℕ) (area : Rect) (contents : List Held) (tree : Tree) (done : IsErasedIn library.tech layer area cell library.contents contents library.tree tree)
+  module _ (layer : ℕ) (area : Rect) (contents : List Held) (tree : Tree)
+      (done : IsErasedIn library.tech layer area cell library.contents contents library.tree tree)
       (tree_lawful : IsLawfulTree tree) where
     erased_held : Held
     erased_held = record (held_at library.contents cell) { paint = done.erased.paint }
@@ -73,7 +74,8 @@ module _ (library : LibraryParts) (lawful : IsLawfulLibrary library) (cell : ℕ
     erased_lawful =
         let held = held_lawful library lawful cell below in
         let many = lawful.so_many in
-        edit_lawful library contents tree cell erased_held (with_own (cell_at library.tree.cells cell) done.box) lawful below done.erased.is done.edited tree_lawful refl
+        edit_lawful library contents tree cell erased_held (with_own (cell_at library.tree.cells cell) done.box) lawful below done.erased.is done.edited
+        tree_lawful refl
         (record {
           name = held.name;
           kinds = done.erased.kinds ∙ held.kinds;
@@ -81,7 +83,8 @@ module _ (library : LibraryParts) (lawful : IsLawfulLibrary library) (cell : ℕ
           labels = held.labels;
         })
         (lawful.ids cell empty_state (omega arith))
-        (subst (λ (h : Held). OwnBoxIs (layout_of h.paint) h.labels done.box) (put_there library.contents contents cell erased_held below done.erased.is) done.own)
+        (subst (λ (h : Held). OwnBoxIs (layout_of h.paint) h.labels done.box) (put_there library.contents contents cell erased_held below done.erased.is)
+        done.own)
 
     pub erased_unrefused : (fault : LibFault) → EditIsRefused (edits_of library) (EraseIsRefused (seen library) cell layer area) fault → ⊥
     erased_unrefused fault =
@@ -112,9 +115,12 @@ module _ (library : LibraryParts) (lawful : IsLawfulLibrary library) (cell : ℕ
         | inr none ↦ absurd none.1
       ]))))
 
-  module _ (label : Label) (contents : List Held) (tree : Tree) (done : IsLabelledIn label cell library.contents contents library.tree tree) (tree_lawful : IsLawfulTree tree)
-      (layer : IfSome label.layer (λ layer. layer.0 < length library.tech.layers)) (position : IsTrue (is_position label.position)) (text : IsTrue (is_label_text label.text)) where
-    pub labelled_seen : cells_seen contents tree ≡ changed_at (cells_seen library.contents library.tree) cell (λ body. record body { labels = body.labels ++ label ∷ [] })
+  module _ (label : Label) (contents : List Held) (tree : Tree) (done : IsLabelledIn label cell library.contents contents library.tree tree)
+      (tree_lawful : IsLawfulTree tree)
+      (layer : IfSome label.layer (λ layer. layer.0 < length library.tech.layers)) (position : IsTrue (is_position label.position))
+      (text : IsTrue (is_label_text label.text)) where
+    pub labelled_seen : cells_seen contents tree
+        ≡ changed_at (cells_seen library.contents library.tree) cell (λ body. record body { labels = body.labels ++ label ∷ [] })
     labelled_seen =
         edit_seen library contents tree cell (with_label (held_at library.contents cell) label) (with_area library.tree cell label.area)
         (λ body. record body { labels = body.labels ++ label ∷ [] }) lawful below done.labelled done.edited refl
@@ -123,7 +129,8 @@ module _ (library : LibraryParts) (lawful : IsLawfulLibrary library) (cell : ℕ
     labelled_lawful =
         let held = held_lawful library lawful cell below in
         let many = lawful.so_many in
-        edit_lawful library contents tree cell (with_label (held_at library.contents cell) label) (with_area library.tree cell label.area) lawful below done.labelled done.edited
+        edit_lawful library contents tree cell (with_label (held_at library.contents cell) label) (with_area library.tree cell label.area) lawful below
+        done.labelled done.edited
         tree_lawful refl
         (record {
           name = held.name;
@@ -156,11 +163,14 @@ module _ (library : LibraryParts) (lawful : IsLawfulLibrary library) (cell : ℕ
       → EditIsRefused (edits_of library) (FirstOf (has_text (held_at library.contents cell).labels text ≡ false) NoLabel NothingElse) told
       → EditIsRefused (edits_of library) (UnlabelIsRefused (seen library) cell text) told
   unlabel_fault text told refused =
-      subst (λ (labels : List Label). EditIsRefused (edits_of library) (FirstOf (has_text labels text ≡ false) NoLabel NothingElse) told) (sym labels_here) refused
+      subst (λ (labels : List Label). EditIsRefused (edits_of library) (FirstOf (has_text labels text ≡ false) NoLabel NothingElse) told) (sym labels_here)
+      refused
 
-  module _ (text : List ℕ) (contents : List Held) (tree : Tree) (done : IsUnlabelledIn text cell library.contents contents library.tree tree) (tree_lawful : IsLawfulTree tree) where
+  module _ (text : List ℕ) (contents : List Held) (tree : Tree) (done : IsUnlabelledIn text cell library.contents contents library.tree tree)
+      (tree_lawful : IsLawfulTree tree) where
     pub unlabelled_seen : cells_seen contents tree
-        ≡ changed_at (cells_seen library.contents library.tree) cell (λ body. record body { labels = filter (λ label. not (bytes_eq label.text text)) body.labels })
+        ≡ changed_at (cells_seen library.contents library.tree) cell
+        (λ body. record body { labels = filter (λ label. not (bytes_eq label.text text)) body.labels })
     unlabelled_seen =
         edit_seen library contents tree cell (without_labels (held_at library.contents cell) text) (with_own (cell_at library.tree.cells cell) done.box)
         (λ body. record body { labels = filter (λ label. not (bytes_eq label.text text)) body.labels }) lawful below done.unlabelled done.edited refl
@@ -170,7 +180,8 @@ module _ (library : LibraryParts) (lawful : IsLawfulLibrary library) (cell : ℕ
         let held = held_lawful library lawful cell below in
         let many = lawful.so_many in
         let test : Label → Bool = λ label. not (bytes_eq label.text text) in
-        edit_lawful library contents tree cell (without_labels (held_at library.contents cell) text) (with_own (cell_at library.tree.cells cell) done.box) lawful below
+        edit_lawful library contents tree cell (without_labels (held_at library.contents cell) text) (with_own (cell_at library.tree.cells cell) done.box)
+        lawful below
         done.unlabelled done.edited tree_lawful refl
         (record {
           name = held.name;

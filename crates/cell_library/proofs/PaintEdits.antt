@@ -82,20 +82,26 @@ material_few paint few place material = elim (cases_lt place.plane (length paint
 ]
 
 -- the box after paint goes round the old one and the area
-pub painted_own_box : (raw : RawTech) (layer : ℕ) (area : Rect) (held : Held) (box : Option Rect) (library : LibraryParts) → IsLawfulLibrary library → raw ≡ library.tech
+pub painted_own_box : (raw : RawTech) (layer : ℕ) (area : Rect) (held : Held) (box : Option Rect) (library : LibraryParts) → IsLawfulLibrary library
+    → raw ≡ library.tech
     → layer < length raw.layers → IsLawfulHeld raw held → IsSoundPaint held.paint.kinds (layout_of held.paint) → OwnBoxIs (layout_of held.paint) held.labels box
     → has_square area ≡ true → IsOwnBox (with_paint raw layer area (layout_of held.paint)) held.labels (box_with box area)
 painted_own_box raw layer area held box library lawful same layer_below held_is sound is square =
     let w = subst IsWellFormed (sym same) lawful.well_formed in
     let rules = subst KeepsRules (sym same) lawful.rules in
-    let keeps : KeepsTypes raw.types (layout_of held.paint) = subst (λ (kinds : List TypeRec). KeepsTypes kinds (layout_of held.paint)) held_is.kinds sound.types in
+    let keeps : KeepsTypes raw.types (layout_of held.paint) =
+    subst (λ (kinds : List TypeRec). KeepsTypes kinds (layout_of held.paint)) held_is.kinds sound.types in
     let image = some_image raw layer w layer_below in
     let limit = w.planes_limit in
     let planes = held_is.planes in
     let few : length held.paint.planes ≤ MOST_PLANES = omega arith in
     filled_box (layout_of held.paint) (with_paint raw layer area (layout_of held.paint)) held.labels box area is (IsProper-has_square area square)
-    (λ place material. painted_keeps raw layer area (layout_of held.paint) w layer_below keeps place rules.own_sets (material_few held.paint few place material) material)
-    (λ s covers. (place_at (plane_of raw image.0.0) s, (painted_fills raw layer area (layout_of held.paint) w layer_below keeps image.0 s rules.own_sets image.1 covers, refl)))
+    (λ place material. painted_keeps raw layer area (layout_of held.paint) w layer_below keeps place rules.own_sets
+    (material_few held.paint few place material) material)
+    (λ s covers. (
+      place_at (plane_of raw image.0.0) s,
+      (painted_fills raw layer area (layout_of held.paint) w layer_below keeps image.0 s rules.own_sets image.1 covers, refl),
+    ))
     (painted_only raw layer area (layout_of held.paint) w layer_below keeps)
 
 module _ (library : LibraryParts) (lawful : IsLawfulLibrary library) (cell : ℕ) (below : cell < length library.contents) (layer : ℕ)
@@ -112,7 +118,8 @@ module _ (library : LibraryParts) (lawful : IsLawfulLibrary library) (cell : ℕ
       first_of_map (λ near refused. elim refused [
         | inl passes ↦ inl (
           would_go_past (painted (seen library) cell layer area) library.tree cell (with_area library.tree cell area) Hull
-              (states_after library lawful cell below (λ body. record body { own = with_paint library.tech layer area body.own }) (with_area library.tree cell area)
+              (states_after library lawful cell below (λ body. record body { own = with_paint library.tech layer area body.own })
+              (with_area library.tree cell area)
               (painted_own_box library.tech layer area (held_at library.contents cell) (cell_at library.tree.cells cell).own library lawful refl layer_below
               (held_lawful library lawful cell below) sound (own_is library lawful cell below) (is_true (has_square area) square)) refl)
               passes.0,
@@ -125,7 +132,8 @@ module _ (library : LibraryParts) (lawful : IsLawfulLibrary library) (cell : ℕ
       is_true true some = refl
       is_true false some = absurd (some refl)
 
-  module _ (contents : List Held) (tree : Tree) (done : IsPaintedIn library.tech layer area cell library.contents contents library.tree tree) (tree_lawful : IsLawfulTree tree) where
+  module _ (contents : List Held) (tree : Tree) (done : IsPaintedIn library.tech layer area cell library.contents contents library.tree tree)
+      (tree_lawful : IsLawfulTree tree) where
     after_held : Held
     after_held = record (held_at library.contents cell) { paint = done.painted.paint }
 
@@ -137,7 +145,8 @@ module _ (library : LibraryParts) (lawful : IsLawfulLibrary library) (cell : ℕ
         ≡ changed_at (cells_seen library.contents library.tree) cell (λ body. record body { own = with_paint library.tech layer area body.own })
     unfolding after_held
     painted_seen =
-        edit_seen library contents tree cell after_held (with_area library.tree cell area) (λ body. record body { own = with_paint library.tech layer area body.own })
+        edit_seen library contents tree cell after_held (with_area library.tree cell area)
+        (λ body. record body { own = with_paint library.tech layer area body.own })
         lawful below done.painted.is done.edited
         (ap (λ (own : Layout). record (cell_view (held_at library.contents cell) (cell_at library.tree.cells cell).uses) { own = own }) after_layout)
 

@@ -64,7 +64,8 @@ id_at (first ∷ rest) id (suc k) differ has = elim (cases_Bool (bytes_eq first.
       ap (λ (b : Bool). cond (not b) (1 + position_or_len (λ entry. bytes_eq entry.0 id) rest) 0) away ∙ omega (arith, later)
 ]
 
-id_nowhere : (uses : List (List ℕ × UseBody)) (id : List ℕ) → ((k : ℕ) → HasIdAt uses k id → ⊥) → position_or_len (λ entry. bytes_eq entry.0 id) uses ≡ length uses
+id_nowhere : (uses : List (List ℕ × UseBody)) (id : List ℕ) → ((k : ℕ) → HasIdAt uses k id → ⊥)
+    → position_or_len (λ entry. bytes_eq entry.0 id) uses ≡ length uses
 id_nowhere [] id none = refl
 id_nowhere (first ∷ rest) id none = elim (cases_Bool (bytes_eq first.0 id)) [
   | inl here ↦ absurd (none 0 (record { entry = first; stands = refl; same = (bytes_eq-Decides first.0 id).0 here }))
@@ -97,7 +98,8 @@ pub found_place : (uses : List (List ℕ × UseBody)) (id : List ℕ) (found : O
 found_place uses id None differ some none =
     found_nowhere (position_or_len (λ entry. bytes_eq entry.0 id) uses) (length uses) (id_nowhere uses id none)
 found_place uses id (Some k) differ has none =
-    found_before (position_or_len (λ entry. bytes_eq entry.0 id) uses) k (length uses) (id_at uses id k differ has) (slice_get_within uses k has.entry has.stands)
+    found_before (position_or_len (λ entry. bytes_eq entry.0 id) uses) k (length uses) (id_at uses id k differ has)
+    (slice_get_within uses k has.entry has.stands)
 
 -- ---- states that a cell may take
 
@@ -146,7 +148,8 @@ new_id_in uses zero entry = inl refl
 new_id_in [] (suc at) entry = inl refl
 new_id_in (first ∷ rest) (suc at) entry = inr (new_id_in rest at entry)
 
-new_id : (uses : List (List ℕ × UseBody)) (at : ℕ) (entry : List ℕ × UseBody) → Distinct (map (λ e. e.0) (insert uses at entry)) → (k : ℕ) → HasIdAt uses k entry.0 → ⊥
+new_id : (uses : List (List ℕ × UseBody)) (at : ℕ) (entry : List ℕ × UseBody) → Distinct (map (λ e. e.0) (insert uses at entry)) → (k : ℕ)
+    → HasIdAt uses k entry.0 → ⊥
 new_id uses zero entry differ k has = differ.0 (subst (λ (n : List ℕ). In n (map (λ e. e.0) uses)) has.same (use_in uses k has.entry has.stands))
 new_id [] (suc at) entry differ k has = absurd (let e : None ≡ Some has.entry = has.stands in cc)
 new_id (first ∷ rest) (suc at) entry differ zero has =
@@ -172,7 +175,8 @@ module _ (tree : Tree) (cell at : ℕ) (id : List ℕ) (used : UseBody) (may : M
   -- it makes no cycle
   pub inserted_free : IsAbove tree.cells cell used.child.0 → ⊥
   inserted_free =
-      may_be_free tree cell (with_inserted (cell_at tree.cells cell) at id used) may below (among_inserted (cell_at tree.cells cell).uses at (id, used)) there.0 (id, used) there.1
+      may_be_free tree cell (with_inserted (cell_at tree.cells cell) at id used) may below (among_inserted (cell_at tree.cells cell).uses at (id, used))
+      there.0 (id, used) there.1
 
   -- the cell has room for it
   pub inserted_few : at ≤ length (cell_at tree.cells cell).uses → length (cell_at tree.cells cell).uses < MOST_USES
@@ -193,7 +197,8 @@ module _ (tree : Tree) (cell at : ℕ) (id : List ℕ) (used : UseBody) (may : M
 
 -- ---- a use with another grid, or none
 
-moved_there : (uses : List (List ℕ × UseBody)) (k : ℕ) (placed : Transform) (grid : Option Grid) (id : List ℕ) (used : UseBody) → slice_get uses k ≡ Some (id, used)
+moved_there : (uses : List (List ℕ × UseBody)) (k : ℕ) (placed : Transform) (grid : Option Grid) (id : List ℕ) (used : UseBody)
+    → slice_get uses k ≡ Some (id, used)
     → slice_get (moved_at uses k placed grid) k ≡ Some (id, record used { placed = placed; grid = grid })
 moved_there [] k placed grid id used is = absurd (cc)
 moved_there (first ∷ rest) zero placed grid id used is =
@@ -201,7 +206,8 @@ moved_there (first ∷ rest) zero placed grid id used is =
     ap (λ (e : List ℕ × UseBody). Some (e.0, record e.1 { placed = placed; grid = grid })) same
 moved_there (first ∷ rest) (suc k) placed grid id used is = moved_there rest k placed grid id used is
 
-module _ (tree : Tree) (cell : ℕ) (id : List ℕ) (grid : Option Grid) (may : MayBeRegridded tree cell id grid) (below : cell < length tree.cells) (k : ℕ) (used : UseBody)
+module _ (tree : Tree) (cell : ℕ) (id : List ℕ) (grid : Option Grid) (may : MayBeRegridded tree cell id grid) (below : cell < length tree.cells) (k : ℕ)
+    (used : UseBody)
     (has : HasUseAt (cell_at tree.cells cell) id k used) where
   -- the grid is lawful
   pub regridded_lawful : (g : Grid) → grid ≡ Some g → IsLawfulGrid g
@@ -254,40 +260,49 @@ module _ (library : LibraryParts) (lawful : IsLawfulLibrary library) (cell : ℕ
 
     module _ (tree : Tree) (done : IsInsertedIn cell at id used library.tree tree) where
       -- what is seen of the library with the use
-      pub inserted_view : seen (record { tech = library.tech; scale = library.scale; contents = library.contents; tree = tree }) ≡ with_use_at (seen library) cell at id used
+      pub inserted_view : seen (record { tech = library.tech; scale = library.scale; contents = library.contents; tree = tree })
+          ≡ with_use_at (seen library) cell at id used
       inserted_view =
           seen_cells library library.contents tree
           (changed_at (cells_seen library.contents library.tree) cell (λ body. record body { uses = insert body.uses at (id, used) }))
-          (uses_edit_seen library lawful cell below tree (with_inserted (cell_at library.tree.cells cell) at id used) (λ uses. insert uses at (id, used)) done.edited refl)
+          (uses_edit_seen library lawful cell below tree (with_inserted (cell_at library.tree.cells cell) at id used) (λ uses. insert uses at (id, used))
+          done.edited refl)
 
-      pub inserted_lawful : IsLawfulTree tree → IsLawfulLibrary (record { tech = library.tech; scale = library.scale; contents = library.contents; tree = tree })
+      pub inserted_lawful : IsLawfulTree tree → IsLawfulLibrary
+          (record { tech = library.tech; scale = library.scale; contents = library.contents; tree = tree })
       inserted_lawful tree_lawful =
           uses_edit_lawful library lawful cell below tree (with_inserted (cell_at library.tree.cells cell) at id used) done.edited tree_lawful refl
           (may_have_ids (with_inserted (cell_at library.tree.cells cell) at id used) (λ uses. insert uses at (id, used)) refl refl view)
 
   module _ (id : List ℕ) (grid : Option Grid) where
     regrid_is : (k : ℕ) (used : UseBody) → HasUseAt (cell_at library.tree.cells cell) id k used
-        → moved_at (cell_at library.tree.cells cell).uses k used.placed grid ≡ with_use_changed (λ used. record used { grid = grid }) id (cell_at library.tree.cells cell).uses
+        → moved_at (cell_at library.tree.cells cell).uses k used.placed grid
+        ≡ with_use_changed (λ used. record used { grid = grid }) id (cell_at library.tree.cells cell).uses
     regrid_is k used has =
         changed_use (λ used. record used { grid = grid }) id (cell_at library.tree.cells cell).uses k used (ids_differ library lawful cell below) has.is refl
 
     -- the use may have the grid
     pub may_regrid : IsLawfulView (regridded (seen library) cell id grid) → MayBeRegridded library.tree cell id grid
     may_regrid view k used has =
-        may_take (with_moved (cell_at library.tree.cells cell) k used.placed grid) (with_use_changed (λ used. record used { grid = grid }) id) refl (regrid_is k used has) view
+        may_take (with_moved (cell_at library.tree.cells cell) k used.placed grid) (with_use_changed (λ used. record used { grid = grid }) id) refl
+        (regrid_is k used has) view
 
     module _ (tree : Tree) (done : IsRegriddedIn cell id grid library.tree tree) where
       -- what is seen of the library then
-      pub regridded_view : seen (record { tech = library.tech; scale = library.scale; contents = library.contents; tree = tree }) ≡ regridded (seen library) cell id grid
+      pub regridded_view : seen (record { tech = library.tech; scale = library.scale; contents = library.contents; tree = tree })
+          ≡ regridded (seen library) cell id grid
       regridded_view =
           seen_cells library library.contents tree
-          (changed_at (cells_seen library.contents library.tree) cell (λ body. record body { uses = with_use_changed (λ used. record used { grid = grid }) id body.uses }))
+          (changed_at (cells_seen library.contents library.tree) cell
+          (λ body. record body { uses = with_use_changed (λ used. record used { grid = grid }) id body.uses }))
           (uses_edit_seen library lawful cell below tree (with_moved (cell_at library.tree.cells cell) done.k done.used.placed grid)
           (with_use_changed (λ used. record used { grid = grid }) id) done.edited (regrid_is done.k done.used done.has))
 
-      pub regridded_library : IsLawfulTree tree → IsLawfulLibrary (record { tech = library.tech; scale = library.scale; contents = library.contents; tree = tree })
+      pub regridded_library : IsLawfulTree tree
+          → IsLawfulLibrary (record { tech = library.tech; scale = library.scale; contents = library.contents; tree = tree })
       regridded_library tree_lawful =
-          uses_edit_lawful library lawful cell below tree (with_moved (cell_at library.tree.cells cell) done.k done.used.placed grid) done.edited tree_lawful refl
+          uses_edit_lawful library lawful cell below tree (with_moved (cell_at library.tree.cells cell) done.k done.used.placed grid) done.edited tree_lawful
+          refl
           (moved_ids library lawful cell below id done.k done.used.placed grid)
 
 -- an edit that was made is not refused for too many

@@ -162,7 +162,8 @@ fits_or_passes tree cell state dimension children keeps passes =
     elim (cases_lt key (length tree.cells)) [
       | inl below ↦
           passes.passes.passes (subst (IsWithin dimension)
-          (one_size (slice_set tree.cells cell state) keeps.sizes passes.sizes children keeps.right passes.right key (omega arith)) (keeps.within dimension key))
+          (one_size (slice_set tree.cells cell state) keeps.sizes passes.sizes children keeps.right passes.right key (omega arith))
+          (keeps.within dimension key))
       | inr past ↦
           let count = passes.count in
           passes.passes.passes (subst (IsWithin dimension) (sym (past_last passes.sizes key (omega arith))) (none_within dimension))

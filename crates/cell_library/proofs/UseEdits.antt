@@ -51,7 +51,8 @@ use Rattle.cell_library.proofs.ViewLaws.{cell_viewed, uses_at}
 -- ---- chains of uses
 
 -- where a state stands, so does the view, with its uses
-pub state_of_view : (cells : List CellView) (states : List CellState) → AreStatesOf cells states → (k : ℕ) (of : CellState) → slice_get (map uses_of cells) k ≡ Some of
+pub state_of_view : (cells : List CellView) (states : List CellState) → AreStatesOf cells states → (k : ℕ) (of : CellState)
+    → slice_get (map uses_of cells) k ≡ Some of
     → (state : CellState) × ((slice_get states k ≡ Some state) × (state.uses ≡ of.uses))
 state_of_view [] [] are k of is = absurd (cc)
 state_of_view [] (s ∷ states) are k of is = absurd are
@@ -70,7 +71,8 @@ view_of_state (c ∷ cells) (s ∷ states) are zero state is =
 view_of_state (c ∷ cells) (s ∷ states) are (suc k) state is = view_of_state cells states are.2 k state is
 
 -- what stands above in the tree is seen to
-pub above_seen : (view : LibraryView) (states : List CellState) → AreStatesOf view.cells states → (lower upper : ℕ) → IsAbove states lower upper → StandsAbove view lower upper
+pub above_seen : (view : LibraryView) (states : List CellState) → AreStatesOf view.cells states → (lower upper : ℕ) → IsAbove states lower upper
+    → StandsAbove view lower upper
 above_seen view states are lower upper above = Chain-weaker (λ a b used.
     let there = view_of_state view.cells states are b used.cell used.is in
     record {
@@ -83,7 +85,8 @@ above_seen view states are lower upper above = Chain-weaker (λ a b used.
     }) above
 
 -- and the other way
-pub seen_above : (view : LibraryView) (states : List CellState) → AreStatesOf view.cells states → (lower upper : ℕ) → StandsAbove view lower upper → IsAbove states lower upper
+pub seen_above : (view : LibraryView) (states : List CellState) → AreStatesOf view.cells states → (lower upper : ℕ) → StandsAbove view lower upper
+    → IsAbove states lower upper
 seen_above view states are lower upper above = Chain-weaker (λ a b used.
     let there = state_of_view view.cells states are b used.cell used.is in
     record {
@@ -111,7 +114,8 @@ module _ (library : LibraryParts) (lawful : IsLawfulLibrary library) (cell : ℕ
   ids_differ = (lawful.tree.each cell (cell_at library.tree.cells cell) (cell_is library.tree.cells cell cell_below)).ids
 
   -- their children are cells
-  pub child_below : (k : ℕ) (entry : List ℕ × UseBody) → slice_get (cell_at library.tree.cells cell).uses k ≡ Some entry → entry.1.child.0 < length library.tree.cells
+  pub child_below : (k : ℕ) (entry : List ℕ × UseBody) → slice_get (cell_at library.tree.cells cell).uses k ≡ Some entry
+      → entry.1.child.0 < length library.tree.cells
   child_below k entry is =
       tree_children library.tree lawful.tree cell (cell_at library.tree.cells cell) (cell_is library.tree.cells cell cell_below) k entry is
 
@@ -123,14 +127,17 @@ module _ (library : LibraryParts) (lawful : IsLawfulLibrary library) (cell : ℕ
       → state.uses ≡ change (cell_at library.tree.cells cell).uses
       → cells_seen library.contents tree ≡ changed_at (cells_seen library.contents library.tree) cell (λ body. record body { uses = change body.uses })
   uses_edit_seen tree state change edited same =
-      edit_seen library library.contents tree cell (held_at library.contents cell) state (λ body. record body { uses = change body.uses }) lawful below same_contents edited
+      edit_seen library library.contents tree cell (held_at library.contents cell) state (λ body. record body { uses = change body.uses }) lawful below
+      same_contents edited
       (ap (cell_view (held_at library.contents cell)) same)
 
   -- and the library is lawful
-  pub uses_edit_lawful : (tree : Tree) (state : CellState) → IsEdited library.tree tree cell state → IsLawfulTree tree → state.own ≡ (cell_at library.tree.cells cell).own
+  pub uses_edit_lawful : (tree : Tree) (state : CellState) → IsEdited library.tree tree cell state → IsLawfulTree tree
+      → state.own ≡ (cell_at library.tree.cells cell).own
       → HasUseIds state → IsLawfulLibrary (record { tech = library.tech; scale = library.scale; contents = library.contents; tree = tree })
   uses_edit_lawful tree state edited tree_lawful own ids =
-      edit_lawful library library.contents tree cell (held_at library.contents cell) state lawful below same_contents edited tree_lawful refl (held_lawful library lawful cell below) ids
+      edit_lawful library library.contents tree cell (held_at library.contents cell) state lawful below same_contents edited tree_lawful refl
+      (held_lawful library lawful cell below) ids
       (subst (OwnBoxIs (layout_of (held_at library.contents cell).paint) (held_at library.contents cell).labels) (sym own) (own_is library lawful cell below))
 
   -- the ids of its uses are of their form
@@ -140,10 +147,12 @@ module _ (library : LibraryParts) (lawful : IsLawfulLibrary library) (cell : ℕ
   -- the states of the cells, after a change of its uses
   pub uses_states : (state : CellState) (change : List (List ℕ × UseBody) → List (List ℕ × UseBody)) → state.own ≡ (cell_at library.tree.cells cell).own
       → state.uses ≡ change (cell_at library.tree.cells cell).uses
-      → AreStatesOf (changed_at (cells_seen library.contents library.tree) cell (λ body. record body { uses = change body.uses })) (slice_set library.tree.cells cell state)
+      → AreStatesOf (changed_at (cells_seen library.contents library.tree) cell (λ body. record body { uses = change body.uses }))
+      (slice_set library.tree.cells cell state)
   uses_states state change own same =
       states_after library lawful cell below (λ body. record body { uses = change body.uses }) state
-      (subst (OwnBoxIs (layout_of (held_at library.contents cell).paint) (held_at library.contents cell).labels) (sym own) (own_is library lawful cell below)) same
+      (subst (OwnBoxIs (layout_of (held_at library.contents cell).paint) (held_at library.contents cell).labels) (sym own) (own_is library lawful cell below))
+      same
 
   -- ---- a use that goes
 
@@ -151,7 +160,8 @@ module _ (library : LibraryParts) (lawful : IsLawfulLibrary library) (cell : ℕ
       → EditIsRefused (edits_of library) (FirstOf (has_id (cell_at library.tree.cells cell).uses id ≡ false) NoUse NothingElse) told
       → EditIsRefused (edits_of library) (DeleteIsRefused (seen library) cell id) told
   delete_fault id told refused =
-      subst (λ (uses : List (List ℕ × UseBody)). EditIsRefused (edits_of library) (FirstOf (has_id uses id ≡ false) NoUse NothingElse) told) (sym uses_here) refused
+      subst (λ (uses : List (List ℕ × UseBody)). EditIsRefused (edits_of library) (FirstOf (has_id uses id ≡ false) NoUse NothingElse) told) (sym uses_here)
+      refused
 
   module _ (id : List ℕ) (tree : Tree) (done : IsDeletedIn cell id library.tree tree) (tree_lawful : IsLawfulTree tree) where
     gone : remove (cell_at library.tree.cells cell).uses done.k ≡ filter (λ entry. not (bytes_eq entry.0 id)) (cell_at library.tree.cells cell).uses
@@ -181,25 +191,31 @@ module _ (library : LibraryParts) (lawful : IsLawfulLibrary library) (cell : ℕ
   module _ (child : ℕ) (id : List ℕ) (six : List ℤ) where
     -- what is seen where six numbers are those of a transform
     pub placed_is : (transform : Transform) → transform_of six ≡ Some transform
-        → placed (seen library) cell child id six ≡ with_cell_changed (seen library) cell (λ body. record body { uses = body.uses ++ (id, single_use child transform) ∷ [] })
+        → placed (seen library) cell child id six
+        ≡ with_cell_changed (seen library) cell (λ body. record body { uses = body.uses ++ (id, single_use child transform) ∷ [] })
     placed_is transform is =
-        ap (λ (o : Option Transform). option_map_or (λ t. with_cell_changed (seen library) cell (λ body. record body { uses = body.uses ++ (id, single_use child t) ∷ [] })) o (seen library)) is
+        ap (λ (o : Option Transform). option_map_or
+        (λ t. with_cell_changed (seen library) cell (λ body. record body { uses = body.uses ++ (id, single_use child t) ∷ [] })) o (seen library)) is
 
     module _ (child_there : child < length library.contents) where
       state_with : Transform → CellState
       state_with transform = with_placed (cell_at library.tree.cells cell) id (single_use child transform)
 
       with_states : (transform : Transform) → transform_of six ≡ Some transform
-          → AreStatesOf (placed (seen library) cell child id six).cells (slice_set library.tree.cells cell (with_placed (cell_at library.tree.cells cell) id (single_use child transform)))
+          → AreStatesOf (placed (seen library) cell child id six).cells
+          (slice_set library.tree.cells cell (with_placed (cell_at library.tree.cells cell) id (single_use child transform)))
       with_states transform is =
-          subst (λ (view : LibraryView). AreStatesOf view.cells (slice_set library.tree.cells cell (with_placed (cell_at library.tree.cells cell) id (single_use child transform))))
+          subst (λ (view : LibraryView). AreStatesOf view.cells
+          (slice_set library.tree.cells cell (with_placed (cell_at library.tree.cells cell) id (single_use child transform))))
           (sym (placed_is transform is))
-          (uses_states (with_placed (cell_at library.tree.cells cell) id (single_use child transform)) (λ uses. uses ++ (id, single_use child transform) ∷ []) refl refl)
+          (uses_states (with_placed (cell_at library.tree.cells cell) id (single_use child transform)) (λ uses. uses ++ (id, single_use child transform) ∷ [])
+          refl refl)
 
       with_children : (transform : Transform)
           → HaveChildren (slice_set library.tree.cells cell (with_placed (cell_at library.tree.cells cell) id (single_use child transform)))
       with_children transform =
-          children_of_changed library.tree.cells cell (with_placed (cell_at library.tree.cells cell) id (single_use child transform)) (tree_children library.tree lawful.tree)
+          children_of_changed library.tree.cells cell (with_placed (cell_at library.tree.cells cell) id (single_use child transform))
+          (tree_children library.tree lawful.tree)
           (λ k entry is.
           let many = lawful.so_many in
           elim (get-push (cell_at library.tree.cells cell).uses (id, single_use child transform) k entry is) [
@@ -235,19 +251,22 @@ module _ (library : LibraryParts) (lawful : IsLawfulLibrary library) (cell : ℕ
           (let long = ap length uses_here in let at = refuses.1 in omega arith) in
           inr (inr (λ above. refuses.0 (seen_above (seen library) library.tree.cells lawful.boxes cell child above), inl (many, told_is)))
       tree_refuses transform is (Passed Depth) refuses told told_is =
-          let few : MOST_USES ≤ length (view_at (seen library) cell).uses → ⊥ = λ many. (let long = ap length uses_here in let at = refuses.few in absurd (omega arith)) in
+          let few : MOST_USES ≤ length (view_at (seen library) cell).uses
+          → ⊥ = λ many. (let long = ap length uses_here in let at = refuses.few in absurd (omega arith)) in
           inr (inr (
             λ above. refuses.free (seen_above (seen library) library.tree.cells lawful.boxes cell child above),
             inr (
               few,
               inl (
-                would_go_past _ library.tree cell (with_placed (cell_at library.tree.cells cell) id (single_use child transform)) Depth (with_states transform is) refuses.passes,
+                would_go_past _ library.tree cell (with_placed (cell_at library.tree.cells cell) id (single_use child transform)) Depth
+                    (with_states transform is) refuses.passes,
                 told_is,
               ),
             ),
           ))
       tree_refuses transform is (Passed Elements) refuses told told_is =
-          let few : MOST_USES ≤ length (view_at (seen library) cell).uses → ⊥ = λ many. (let long = ap length uses_here in let at = refuses.few in absurd (omega arith)) in
+          let few : MOST_USES ≤ length (view_at (seen library) cell).uses
+          → ⊥ = λ many. (let long = ap length uses_here in let at = refuses.few in absurd (omega arith)) in
           let state = with_placed (cell_at library.tree.cells cell) id (single_use child transform) in
           inr (inr (
             λ above. refuses.free (seen_above (seen library) library.tree.cells lawful.boxes cell child above),
@@ -260,7 +279,8 @@ module _ (library : LibraryParts) (lawful : IsLawfulLibrary library) (cell : ℕ
             ),
           ))
       tree_refuses transform is (Passed Hull) refuses told told_is =
-          let few : MOST_USES ≤ length (view_at (seen library) cell).uses → ⊥ = λ many. (let long = ap length uses_here in let at = refuses.few in absurd (omega arith)) in
+          let few : MOST_USES ≤ length (view_at (seen library) cell).uses
+          → ⊥ = λ many. (let long = ap length uses_here in let at = refuses.few in absurd (omega arith)) in
           let state = with_placed (cell_at library.tree.cells cell) id (single_use child transform) in
           inr (inr (
             λ above. refuses.free (seen_above (seen library) library.tree.cells lawful.boxes cell child above),
@@ -338,7 +358,8 @@ module _ (library : LibraryParts) (lawful : IsLawfulLibrary library) (cell : ℕ
       (FirstOf (GoesPast Hull (placed (seen library) cell child id six)) OutOfRange
       NothingElse)))) fault) told) (sym (uses_here library lawful cell below))
       (first_of_or (λ new. first_of_or (λ some. first_of_or (λ near refuses.
-      tree_refuses library lawful cell below child id six child_there refuses.transform refuses.is refuses.fault refuses.refuses told refuses.told_is))) more)) refused
+      tree_refuses library lawful cell below child id six child_there refuses.transform refuses.is refuses.fault refuses.refuses told refuses.told_is)))
+      more)) refused
 
   module _ (tree : Tree) (done : IsPlacedIn cell child id six library.tree tree) (tree_lawful : IsLawfulTree tree) (form : IsTrue (is_use_id id)) where
     pub placed_seen : cells_seen library.contents tree ≡ (placed (seen library) cell child id six).cells
@@ -348,7 +369,8 @@ module _ (library : LibraryParts) (lawful : IsLawfulLibrary library) (cell : ℕ
         ∙ ap (λ (view : LibraryView). view.cells) (sym (placed_is library lawful cell below child id six done.transform done.is))
 
     -- what is seen of the library with the use
-    pub placed_view : seen (record { tech = library.tech; scale = library.scale; contents = library.contents; tree = tree }) ≡ placed (seen library) cell child id six
+    pub placed_view : seen (record { tech = library.tech; scale = library.scale; contents = library.contents; tree = tree })
+        ≡ placed (seen library) cell child id six
     placed_view =
         seen_cells library library.contents tree
         (changed_at (cells_seen library.contents library.tree) cell (λ body. record body { uses = body.uses ++ (id, single_use child done.transform) ∷ [] }))
@@ -358,8 +380,10 @@ module _ (library : LibraryParts) (lawful : IsLawfulLibrary library) (cell : ℕ
 
     pub placed_lawful : IsLawfulLibrary (record { tech = library.tech; scale = library.scale; contents = library.contents; tree = tree })
     placed_lawful =
-        uses_edit_lawful library lawful cell below tree (with_placed (cell_at library.tree.cells cell) id (single_use child done.transform)) done.edited tree_lawful refl
-        (All-push (λ entry. IsTrue (is_use_id entry.0)) (cell_at library.tree.cells cell).uses (id, single_use child done.transform) (ids_here library lawful cell below) form)
+        uses_edit_lawful library lawful cell below tree (with_placed (cell_at library.tree.cells cell) id (single_use child done.transform)) done.edited
+        tree_lawful refl
+        (All-push (λ entry. IsTrue (is_use_id entry.0)) (cell_at library.tree.cells cell).uses (id, single_use child done.transform)
+        (ids_here library lawful cell below) form)
 
     -- nothing refused it
     pub placed_unrefused : (fault : LibFault) → EditIsRefused (edits_of library) (PlaceIsRefused (seen library) cell child id six) fault → ⊥

@@ -49,7 +49,8 @@ none_has uses id none k has =
     true≢false (sym (has_there uses k id has.entry.1 (has.stands ∙ (λ i. Some (has.same i, has.entry.1)))) ∙ none)
 
 -- where no use has the id, none is changed
-unchanged : (change : UseBody → UseBody) (id : List ℕ) (uses : List (List ℕ × UseBody)) → (In id (map (λ e. e.0) uses) → ⊥) → with_use_changed change id uses ≡ uses
+unchanged : (change : UseBody → UseBody) (id : List ℕ) (uses : List (List ℕ × UseBody)) → (In id (map (λ e. e.0) uses) → ⊥)
+    → with_use_changed change id uses ≡ uses
 unchanged change id [] none = refl
 unchanged change id (first ∷ rest) none = elim (cases_Bool (bytes_eq first.0 id)) [
   | inl here ↦ absurd (none (inl ((bytes_eq-Decides first.0 id).0 here)))
@@ -70,12 +71,14 @@ changed_use change id (first ∷ rest) zero used differ is child =
     let name : first.0 ≡ id = ap (λ (e : List ℕ × UseBody). e.0) same in
     let was : first.1 ≡ used = ap (λ (e : List ℕ × UseBody). e.1) same in
     (λ i. (first.0, record { child = (ap (λ (u : UseBody). u.child) was ∙ sym child) i; placed = body.placed; grid = body.grid }) ∷ rest)
-    ∙ (λ i. (first.0, change (sym was i)) ∷ sym (unchanged change id rest (λ later. differ.0 (subst (λ (n : List ℕ). In n (map (λ e. e.0) rest)) (sym name) later))) i)
+    ∙ (λ i. (first.0, change (sym was i)) ∷ sym
+    (unchanged change id rest (λ later. differ.0 (subst (λ (n : List ℕ). In n (map (λ e. e.0) rest)) (sym name) later))) i)
     ∙ ap (λ (b : Bool). (if b then (first.0, change first.1) else first) ∷ with_use_changed change id rest) (sym here)
 changed_use change id (first ∷ rest) (suc k) used differ is child =
     let apart : bytes_eq first.0 id ≡ false = elim (cases_Bool (bytes_eq first.0 id)) [
       | inr away ↦ away
-      | inl here ↦ absurd (differ.0 (subst (λ (n : List ℕ). In n (map (λ e. e.0) rest)) (sym ((bytes_eq-Decides first.0 id).0 here)) (use_in rest k (id, used) is)))
+      | inl here ↦ absurd (differ.0 (subst (λ (n : List ℕ). In n (map (λ e. e.0) rest)) (sym ((bytes_eq-Decides first.0 id).0 here))
+          (use_in rest k (id, used) is)))
     ] in
     ap (λ uses. first ∷ uses) (changed_use change id rest k used differ.1 is child)
     ∙ ap (λ (b : Bool). (if b then (first.0, change first.1) else first) ∷ with_use_changed change id rest) (sym apart)
@@ -100,6 +103,7 @@ removed_use id (first ∷ rest) zero used differ is =
 removed_use id (first ∷ rest) (suc k) used differ is =
     let apart : bytes_eq first.0 id ≡ false = elim (cases_Bool (bytes_eq first.0 id)) [
       | inr away ↦ away
-      | inl here ↦ absurd (differ.0 (subst (λ (n : List ℕ). In n (map (λ e. e.0) rest)) (sym ((bytes_eq-Decides first.0 id).0 here)) (use_in rest k (id, used) is)))
+      | inl here ↦ absurd (differ.0 (subst (λ (n : List ℕ). In n (map (λ e. e.0) rest)) (sym ((bytes_eq-Decides first.0 id).0 here))
+          (use_in rest k (id, used) is)))
     ] in
     rw apart (ap (λ uses. first ∷ uses) (removed_use id rest k used differ.1 is))

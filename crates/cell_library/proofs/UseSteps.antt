@@ -95,7 +95,8 @@ none_found_by six None is none = sym is
 none_found_by six (Some t) is none = absurd (none t (transform_sound six t is))
 
 -- what a search for a transform answers
-pub transform_answer : (six : List ℤ) (o : Option Transform) → IfSome o (λ t. six_of t ≡ six) → IfNone o ((t : Transform) → six_of t ≢ six) → o ≡ transform_of six
+pub transform_answer : (six : List ℤ) (o : Option Transform) → IfSome o (λ t. six_of t ≡ six) → IfNone o ((t : Transform) → six_of t ≢ six)
+    → o ≡ transform_of six
 transform_answer six None some none = none_found_by six (transform_of six) refl none
 transform_answer six (Some t) is none = sym (transform_found six t is)
 

@@ -1,8 +1,8 @@
-pub mod ArrivalLaws
-pub mod KnownLaws
-pub mod NameSetLaws
-pub mod LeftLaws
-pub mod SoFarLaws
-pub mod ReadingLaws
-pub mod WalkLaws
+mod ArrivalLaws
+mod KnownLaws
+mod NameSetLaws
+mod LeftLaws
+mod SoFarLaws
+mod ReadingLaws
+mod WalkLaws
 pub mod FileLaws

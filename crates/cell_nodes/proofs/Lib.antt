@@ -3,10 +3,10 @@ pub use Rattle.flood_nodes.proofs as FloodNodes
 pub use Rattle.layout_model.proofs as LayoutModel
 pub use Rattle.measures.proofs as Measures
 pub use Rattle.names.proofs as Names
-pub mod NumberLaws
+mod NumberLaws
 pub mod CapacitanceLaws
-pub mod GroupLaws
+mod GroupLaws
 pub mod NodePlaces
 pub mod PaintLaws
-pub mod RegionLaws
-pub mod RecordLaws
+mod RegionLaws
+mod RecordLaws

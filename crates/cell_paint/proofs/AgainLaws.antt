@@ -74,7 +74,8 @@ changed_at f column k below =
     let same : 0 + k ≡ k = omega arith in changed_from_at f 0 column k below ∙ ap (λ (n : ℕ). (f n (type_number (type_on column k))).0) same
 
 -- an image of a layer is a type of the technology
-pub image_type : (raw : RawTech) (layer : ℕ) (image : TypeId) → IsWellFormed raw → layer < length raw.layers → In image (images_of raw layer) → IsTrue (is_type raw image.0)
+pub image_type : (raw : RawTech) (layer : ℕ) (image : TypeId) → IsWellFormed raw → layer < length raw.layers → In image (images_of raw layer)
+    → IsTrue (is_type raw image.0)
 image_type raw layer image w below is =
     All-In (λ (t : TypeId). IsTrue (is_type raw t.0)) (images_of raw layer) image (layer_well_formed raw layer w below).images is
 
@@ -86,7 +87,8 @@ everywhere_from : (raw : RawTech) (layer : ℕ) (column : List TypeId) → IsWel
     → ((image : TypeId) → In image (images_of raw layer) → bit_at (parts_of raw (type_on column (plane_of raw image.0))) contact.bit ≡ 1)
     → has_mark_everywhere raw (mark_of raw (images_of raw layer)) (images_of raw layer) column ≡ true
 everywhere_from raw layer column w below many contact each =
-    list_all-from_In (λ image. is_subset (mark_of raw (images_of raw layer)) (parts_of raw (type_on column (plane_of raw image.0)))) (images_of raw layer) (λ image image_in.
+    list_all-from_In (λ image. is_subset (mark_of raw (images_of raw layer)) (parts_of raw (type_on column (plane_of raw image.0)))) (images_of raw layer)
+    (λ image image_in.
     subst (λ (mark : ℕ). is_subset mark (parts_of raw (type_on column (plane_of raw image.0))) ≡ true) (sym (mark_of-contact raw layer w below many contact))
     (mark_part (parts_of raw (type_on column (plane_of raw image.0))) contact.bit (each image image_in)))
 
@@ -105,7 +107,8 @@ whole_everywhere raw layer column w below many contact is whole plane bit =
     ap (λ (t : ℕ). bit_at (parts_of raw t) contact.bit) stands ∙ image_mark raw layer image.0 contact image_in)
 
 -- looking at the mark of a contact changes nothing there
-whole_step : (raw : RawTech) (layer : ℕ) (column : List TypeId) → IsWellFormed raw → layer < length raw.layers → IsColumn raw column → HasWholeContacts raw column
+whole_step : (raw : RawTech) (layer : ℕ) (column : List TypeId) → IsWellFormed raw → layer < length raw.layers → IsColumn raw column
+    → HasWholeContacts raw column
     → layer_mark_kept raw (images_of raw layer) column ≡ column
 whole_step raw layer column w below is whole = elim (cases_Bool (nat_lt 1 (length (images_of raw layer)))) [
   | inr one ↦ rw one refl
@@ -132,7 +135,8 @@ whole_steps raw column w is whole (suc n) below =
     ∙ whole_step raw n column w (omega arith) is whole
 
 -- a column whose contacts stand whole keeps all marks
-pub marks_kept-still : (raw : RawTech) (column : List TypeId) → IsWellFormed raw → IsColumn raw column → HasWholeContacts raw column → marks_kept raw column ≡ column
+pub marks_kept-still : (raw : RawTech) (column : List TypeId) → IsWellFormed raw → IsColumn raw column → HasWholeContacts raw column
+    → marks_kept raw column ≡ column
 marks_kept-still raw column w is whole =
     ap (fold (λ (kept : List TypeId) (layer : LayerRec). layer_mark_kept raw layer.images kept) column) (sym (take-length raw.layers))
     ∙ whole_steps raw column w is whole (length raw.layers) (omega arith)
@@ -149,7 +153,8 @@ painted_option : (raw : RawTech) (plane old image k : ℕ) (o : Option ℕ) → 
     → bit_at (parts_of raw image) k ≡ 1 → bit_at (parts_of raw (unwrap_or o image)) k ≡ 1
 painted_option raw plane old image k None is bit = bit
 painted_option raw plane old image k (Some t) is bit =
-    ap (λ (n : ℕ). bit_at n k) (joined-found raw plane (bit_or (parts_of raw old) (parts_of raw image)) t is).0 ∙ or_bit_right (parts_of raw old) (parts_of raw image) k bit
+    ap (λ (n : ℕ). bit_at n k) (joined-found raw plane (bit_or (parts_of raw old) (parts_of raw image)) t is).0
+    ∙ or_bit_right (parts_of raw old) (parts_of raw image) k bit
 
 xor_of_other : (x y z : ℕ) → x ≡ 1 → y ≡ min x z → z ≡ 0 → (x + y) % 2 ≡ 1
 xor_of_other x y z x_is is z_is = omega arith
@@ -160,7 +165,8 @@ without_other a b k bit clear =
     bit_at_xor a (bit_and a b) k ∙ xor_of_other (bit_at a k) (bit_at (bit_and a b) k) (bit_at b k) bit (bit_at_and a b k) clear
 
 -- taking a contact's mark off leaves each other part
-unmarked_part : (raw : RawTech) (layer plane k : ℕ) (old : TypeId) → IsWellFormed raw → HaveOwnSets raw → layer < length raw.layers → 1 < length (images_of raw layer)
+unmarked_part : (raw : RawTech) (layer plane k : ℕ) (old : TypeId) → IsWellFormed raw → HaveOwnSets raw → layer < length raw.layers
+    → 1 < length (images_of raw layer)
     → (contact : IsContact raw layer) → k ≢ contact.bit → IsOnPlane raw plane old.0 → bit_at (parts_of raw old.0) k ≡ 1
     → bit_at (parts_of raw (without_parts raw (2 ^ contact.bit) plane old).0) k ≡ 1
 unmarked_part raw layer plane k old w own below many contact other on bit = elim (cases_Bool (is_subset (2 ^ contact.bit) (parts_of raw old.0))) [
@@ -180,7 +186,8 @@ unmarked_part raw layer plane k old w own below many contact other on bit = elim
 ]
 
 -- looking at the mark of one contact leaves the parts of the images
-images_step : (raw : RawTech) (layer other : ℕ) (column : List TypeId) → IsWellFormed raw → HaveOwnSets raw → layer < length raw.layers → other < length raw.layers
+images_step : (raw : RawTech) (layer other : ℕ) (column : List TypeId) → IsWellFormed raw → HaveOwnSets raw → layer < length raw.layers
+    → other < length raw.layers
     → IsColumn raw column → HasImages raw layer column → HasImages raw layer (layer_mark_kept raw (images_of raw other) column)
 images_step raw layer other column w own below other_below is has = elim (cases_Bool (nat_lt 1 (length (images_of raw other)))) [
   | inr one ↦ rw one has
@@ -196,19 +203,23 @@ images_step raw layer other column w own below other_below is has = elim (cases_
               absurd (true≢false (sym all ∙ missing))
           | inr apart ↦ rw (more, missing) (λ image image_in k bit.
               let type = image_type raw layer image w below image_in in
-              let differs : k ≢ contact.bit = λ same. apart (sym (mark_layer raw other image.0 contact type (ap (bit_at (parts_of raw image.0)) (sym same) ∙ bit))
+              let differs : k ≢ contact.bit = λ same. apart
+              (sym (mark_layer raw other image.0 contact type (ap (bit_at (parts_of raw image.0)) (sym same) ∙ bit))
               ∙ w.of_one_layer layer image.0 below image_in) in
               subst (λ (mark : ℕ). bit_at (parts_of raw (type_on (on_planes_from 0 (without_parts raw mark) column) (plane_of raw image.0))) k ≡ 1)
               (sym (mark_of-contact raw other w other_below many contact))
-              (changed (λ plane old new. IsOnPlane raw plane old → bit_at (parts_of raw old) k ≡ 1 → bit_at (parts_of raw new) k ≡ 1) (without_parts raw (2 ^ contact.bit)) column
-              (λ plane old on had. unmarked_part raw other plane k old w own other_below many contact differs on had) (λ plane on had. had) (plane_of raw image.0)
+              (changed (λ plane old new. IsOnPlane raw plane old → bit_at (parts_of raw old) k ≡ 1 → bit_at (parts_of raw new) k ≡ 1)
+              (without_parts raw (2 ^ contact.bit)) column
+              (λ plane old on had. unmarked_part raw other plane k old w own other_below many contact differs on had) (λ plane on had. had)
+              (plane_of raw image.0)
               (is (plane_of raw image.0)) (has image image_in k bit)))
         ]
       ]
 ]
 
 images_steps : (raw : RawTech) (layer : ℕ) (column : List TypeId) → IsWellFormed raw → HaveOwnSets raw → layer < length raw.layers → IsColumn raw column
-    → HasImages raw layer column → (n : ℕ) → n ≤ length raw.layers → IsColumn raw (marks_of_first raw column n) × HasImages raw layer (marks_of_first raw column n)
+    → HasImages raw layer column → (n : ℕ) → n ≤ length raw.layers
+    → IsColumn raw (marks_of_first raw column n) × HasImages raw layer (marks_of_first raw column n)
 images_steps raw layer column w own below is has zero so_many = (is, has)
 images_steps raw layer column w own below is has (suc n) so_many =
     let so_far = images_steps raw layer column w own below is has n (omega arith) in
@@ -218,10 +229,12 @@ images_steps raw layer column w own below is has (suc n) so_many =
     )
 
 -- the image of a layer on a plane is the one that it has there
-pub found_image : (raw : RawTech) (layer : ℕ) (image : TypeId) (o : Option TypeId) → IsWellFormed raw → layer < length raw.layers → In image (images_of raw layer)
+pub found_image : (raw : RawTech) (layer : ℕ) (image : TypeId) (o : Option TypeId) → IsWellFormed raw → layer < length raw.layers
+    → In image (images_of raw layer)
     → image_on raw layer (plane_of raw image.0) ≡ o → o ≡ Some image
 found_image raw layer image None w below image_in is =
-    absurd (true≢false (sym (eq-eqb (plane_of raw image.0) (plane_of raw image.0) refl) ∙ find-none (is_on raw (plane_of raw image.0)) (images_of raw layer) image is image_in))
+    absurd (true≢false (sym (eq-eqb (plane_of raw image.0) (plane_of raw image.0) refl)
+    ∙ find-none (is_on raw (plane_of raw image.0)) (images_of raw layer) image is image_in))
 found_image raw layer image (Some other) w below image_in is =
     let plane = plane_of raw image.0 in
     let other_in = find-In (is_on raw plane) (images_of raw layer) other is in
@@ -269,7 +282,8 @@ no_part_of_space raw image set w is has empty =
       | inr bit ↦ let apart : ◌≡◌ {A = ℕ} 1 0 = sym (has k bit) ∙ ap (λ (n : ℕ). bit_at n k) empty ∙ bit_at-zero k in absurd (omega arith)
     ]))
 
-again_on : (raw : RawTech) (layer plane : ℕ) (column : List TypeId) (old : TypeId) (o : Option TypeId) → IsWellFormed raw → HaveOwnSets raw → layer < length raw.layers
+again_on : (raw : RawTech) (layer plane : ℕ) (column : List TypeId) (old : TypeId) (o : Option TypeId) → IsWellFormed raw → HaveOwnSets raw
+    → layer < length raw.layers
     → IsColumn raw column → HasImages raw layer column → old.0 ≡ type_on column plane → image_on raw layer plane ≡ o
     → (where_image (painted_by raw plane) o old).0 ≡ old.0
 again_on raw layer plane column old None w own below is has at found = refl

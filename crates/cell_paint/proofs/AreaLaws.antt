@@ -31,7 +31,8 @@ pub in_some : (areas : List Rect) (square : Square) → IsInUnion areas square �
 in_some areas square there = elim (cases_Bool (is_in_some areas square)) [
   | inl is ↦ is
   | inr none ↦
-      absurd (true≢false (sym (is_covered-Covers there.0 square there.1.1) ∙ list_any-In (λ (area : Rect). is_covered area square) areas there.0 none there.1.0))
+      absurd (true≢false (sym (is_covered-Covers there.0 square there.1.1)
+      ∙ list_any-In (λ (area : Rect). is_covered area square) areas there.0 none there.1.0))
 ]
 
 -- one area alone covers its squares
@@ -65,7 +66,8 @@ fitting_range area fits = elim (cases_Bool (has_square area)) [
 -- all areas are in range where none of them is at fault
 fitting_In : (areas : List Rect) (area : Rect) → first_area_fault areas ≡ None → In area areas → is_in_range area ≡ true
 fitting_In [] area fits none = absurd none
-fitting_In (first ∷ areas) area fits (inl same) = subst (λ (a : Rect). is_in_range a ≡ true) same (fitting_range first (option_or-none (area_fault first) (first_area_fault areas) fits).0)
+fitting_In (first ∷ areas) area fits (inl same) =
+    subst (λ (a : Rect). is_in_range a ≡ true) same (fitting_range first (option_or-none (area_fault first) (first_area_fault areas) fits).0)
 fitting_In (first ∷ areas) area fits (inr later) = fitting_In areas area (option_or-none (area_fault first) (first_area_fault areas) fits).1 later
 
 -- all squares of such areas are in range
@@ -147,7 +149,8 @@ module _ (areas found : List Rect) (fits : first_area_fault areas ≡ None) (str
       let wide : strip.xlo <ℤ strip.xhi = proper.wide in
       let high : strip.ylo <ℤ strip.yhi = proper.high in
       let covered : (x y : ℤ) → Covers strip (record { x = x; y = y }) → Covers paint_range (record { x = x; y = y }) =
-      λ x y covers. fitting_covered areas (record { x = x; y = y }) fits (in_some areas (record { x = x; y = y }) (strip_within (IsInUnion areas) strip is x y covers)) in
+      λ x y covers. fitting_covered areas (record { x = x; y = y }) fits
+      (in_some areas (record { x = x; y = y }) (strip_within (IsInUnion areas) strip is x y covers)) in
       near_corners strip proper
       (covered strip.xlo strip.ylo (record { right_of_xlo = omega (arith, ints); left_of_xhi = wide; above_ylo = omega (arith, ints); below_yhi = high }))
       (covered (strip.xhi -ℤ pos 1) (strip.yhi -ℤ pos 1)
@@ -161,6 +164,7 @@ module _ (areas found : List Rect) (fits : first_area_fault areas ≡ None) (str
       | inr neither ↦ neither ∙ sym none
       | inl is ↦
           let there = some_area found square is in
-          absurd (true≢false (sym (in_some areas square (strip_within (IsInUnion areas) there.0 (strips.each there.0 there.1.0) square.x square.y there.1.1)) ∙ none))
+          absurd (true≢false (sym (in_some areas square (strip_within (IsInUnion areas) there.0 (strips.each there.0 there.1.0) square.x square.y there.1.1))
+          ∙ none))
     ]
   ]

@@ -106,7 +106,8 @@ module _ (change : List TypeId → List TypeId) (layout : Layout) (plane : ℕ)
         let kept : List Piece = filter (is_changed after) pieces in
         let long : length (changed_pieces after pieces) ≡ length kept = length-map kept (changed_piece after) in
         let below : j < length kept = omega (arith, long, within) in
-        let left : get_or (changed_pieces after pieces) i d ≡ changed_piece after (get_or kept i d) = get_or-map (changed_piece after) kept i d d (omega arith) in
+        let left : get_or (changed_pieces after pieces) i d ≡ changed_piece after (get_or kept i d) =
+        get_or-map (changed_piece after) kept i d d (omega arith) in
         let right : get_or (changed_pieces after pieces) j d ≡ changed_piece after (get_or kept j d) = get_or-map (changed_piece after) kept j d d below in
         AllPairs-filter (λ (a b : Piece). AreDisjoint a.area b.area) (is_changed after) pieces are.apart i j d less below square
         (subst (λ (p : Piece). Covers p.area square) left first) (subst (λ (p : Piece). Covers p.area square) right second);
@@ -129,8 +130,12 @@ module _ (change : List TypeId → List TypeId) (layout : Layout) (plane : ℕ)
         let value : old square ≡ piece.0.value = (are.each piece.0 piece.1).even square piece.2 in
         let changes : after (corner_of piece.0.area) ≢ piece.0.value =
         λ same. differs (new_inside square inside ∙ piece_after piece.0 piece.1 square piece.2 ∙ same ∙ sym value) in
-        let passes : is_changed after piece.0 ≡ true = ap not (ne_eqb (after (corner_of piece.0.area)) piece.0.value changes) in
-        (changed_piece after piece.0, In-map (changed_piece after) piece.0 (filter (is_changed after) pieces) (In-filter (is_changed after) piece.0 pieces piece.1 passes), piece.2)
+        let passes : is_changed after piece.0 ≡ true = ap not (ne_eqb (after (corner_of piece.0.area)) piece.0.value changes) in (
+          changed_piece after piece.0,
+          In-map (changed_piece after) piece.0 (filter (is_changed after) pieces)
+              (In-filter (is_changed after) piece.0 pieces piece.1 passes),
+          piece.2,
+        )
   ]
 
   pub found_changes : AreChanges old new (changed_pieces after pieces)

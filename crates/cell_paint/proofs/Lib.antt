@@ -1,9 +1,9 @@
 pub mod AgainLaws
 pub mod AreaLaws
-pub mod ChangeLaws
+mod ChangeLaws
 pub mod ColumnsLaws
 pub mod PaintLaws
-pub mod PaintTiles
+mod PaintTiles
 pub mod PaintTypes
 pub mod PieceLaws
 pub mod PlaneLaws

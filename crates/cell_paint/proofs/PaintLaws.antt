@@ -142,8 +142,10 @@ changed_alike change inside other layout same place =
     ap (λ (b : Bool). if b then type_on (change (column_at layout place.square)) place.plane else layout place) (same place.square)
 
 -- and so are planes that show the changed one
-pub whole_changed : (kinds : List TypeRec) (raw : RawTech) (change : List TypeId → List TypeId) (inside : Square → Bool) (old new : List PlaneValue) → raw.types ≡ kinds
-    → ((square : Square) → IsSound raw (change (column_at (layout_on old) square))) → ((square : Square) → inside square ≡ true → Covers paint_range square) → length new ≡ length old
+pub whole_changed : (kinds : List TypeRec) (raw : RawTech) (change : List TypeId → List TypeId) (inside : Square → Bool) (old new : List PlaneValue)
+    → raw.types ≡ kinds
+    → ((square : Square) → IsSound raw (change (column_at (layout_on old) square))) → ((square : Square) → inside square ≡ true → Covers paint_range square)
+    → length new ≡ length old
     → ((place : Place) → layout_on new place ≡ with_columns_where change inside (layout_on old) place) → AreCellPlanes kinds old → AreCellPlanes kinds new
 whole_changed kinds raw change inside old new is_raw sound within long changed whole =
     whole_sound kinds old new long (record {

@@ -1,6 +1,6 @@
-pub mod JoinedLaws
-pub mod JoinedTransistors
-pub mod RenamedTransistors
-pub mod NodesByNumber
-pub mod OwnFets
-pub mod RecordLists
+mod JoinedLaws
+mod JoinedTransistors
+mod RenamedTransistors
+mod NodesByNumber
+mod OwnFets
+mod RecordLists

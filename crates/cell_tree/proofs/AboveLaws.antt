@@ -52,7 +52,8 @@ module _ (cells : List TreeCell) where
         once = λ p q from before within. absurd (omega (arith, from, before, within));
       }
 
-  pub StandsIn-Adds : {cell : ℕ} {seen seen' : List Bool} {order order' : List ℕ} → Adds cells cell seen seen' order order' → (key : ℕ) → StandsIn order key → StandsIn order' key
+  pub StandsIn-Adds : {cell : ℕ} {seen seen' : List Bool} {order order' : List ℕ} → Adds cells cell seen seen' order order' → (key : ℕ) → StandsIn order key
+      → StandsIn order' key
   StandsIn-Adds adds key stands =
       record { place = stands.place; before = omega (arith, stands.before, adds.longer); is = adds.kept stands.place stands.before ∙ stands.is }
 
@@ -96,7 +97,8 @@ module _ (cells : List TreeCell) where
           | inl early ↦ a.once p q from before early (sym (b.kept p (omega (arith, before, early))) ∙ same ∙ b.kept q early)
           | inr late ↦ elim (split p) [
             | inl first_part ↦
-                differ _ (subst (λ key. slice_index_or one key false ≡ false) (sym same ∙ b.kept p first_part) (b.fresh q late within)) (a.marked p from first_part)
+                differ _ (subst (λ key. slice_index_or one key false ≡ false) (sym same ∙ b.kept p first_part) (b.fresh q late within))
+                (a.marked p from first_part)
             | inr second_part ↦ b.once p q second_part before within same
           ]
         ];
@@ -157,7 +159,8 @@ module _ (cells : List TreeCell) where
       end_is : at (first ++ cell ∷ []) (length first) ≡ cell
       end_is = end_of first cell
 
-      last : (place : ℕ) → place < length (first ++ cell ∷ []) → ((place < length first) × (at (first ++ cell ∷ []) place ≡ at first place)) ⊎ (at (first ++ cell ∷ []) place ≡ cell)
+      last : (place : ℕ) → place < length (first ++ cell ∷ [])
+          → ((place < length first) × (at (first ++ cell ∷ []) place ≡ at first place)) ⊎ (at (first ++ cell ∷ []) place ≡ cell)
       last place before =
           elim (cases_lt place (length first)) [
             | inl early ↦ inl (early, get_or_append_left first (cell ∷ []) 0 place early)
@@ -195,7 +198,8 @@ module _ (cells : List TreeCell) where
   AreFound-next {cell} {count} {user} {seen} {one} {two} {order} {first} {second} found is sorted adds there room =
       record {
         sorted = sorted;
-        adds = Adds-then cell user seen one two order first second (count, within, any_default (users_of cells cell) count user 0 within ∙ at_is) found.adds adds;
+        adds = Adds-then cell user seen one two order first second (count, within, any_default (users_of cells cell) count user 0 within ∙ at_is) found.adds
+            adds;
         there = λ k before. elim (cases_eq k count) [
           | inl same ↦ subst (λ key. StandsIn second key) (sym (ap (at (users_of cells cell)) same ∙ at_is)) there
           | inr differs ↦ StandsIn-Adds adds _ (found.there k (omega (arith, before, differs)))
@@ -210,16 +214,22 @@ module _ (cells : List TreeCell) where
       within = get_within (users_of cells cell) count user is
 
   -- The order with the cell after all its users.
-  pub ComesAfterUsers-cell : (cell : ℕ) (order : List ℕ) → ComesAfterUsers cells order → ((user : ℕ) → IsUserOf cells cell user → StandsIn order user) → ComesAfterUsers cells (order ++ cell ∷ [])
+  pub ComesAfterUsers-cell : (cell : ℕ) (order : List ℕ) → ComesAfterUsers cells order → ((user : ℕ) → IsUserOf cells cell user → StandsIn order user)
+      → ComesAfterUsers cells (order ++ cell ∷ [])
   ComesAfterUsers-cell cell order sorted there place before user uses =
       elim (cases_lt place (length order)) [
-        | inl early ↦ longer place early (sorted place early user (subst (λ key. IsUserOf cells key user) (get_or_append_left order (cell ∷ []) 0 place early) uses))
+        | inl early ↦ longer place early (sorted place early user
+            (subst (λ key. IsUserOf cells key user) (get_or_append_left order (cell ∷ []) 0 place early) uses))
         | inr late ↦ at_end (omega (arith, late, before, length-append order (cell ∷ [])))
       ]
     where
       longer : (end : ℕ) → end < length order → StandsBefore order end user → StandsBefore (order ++ cell ∷ []) end user
       longer end early stands =
-          record { place = stands.place; before = stands.before; is = get_or_append_left order (cell ∷ []) 0 stands.place (omega (arith, stands.before, early)) ∙ stands.is }
+          record {
+            place = stands.place;
+            before = stands.before;
+            is = get_or_append_left order (cell ∷ []) 0 stands.place (omega (arith, stands.before, early)) ∙ stands.is;
+          }
 
       end_is : at (order ++ cell ∷ []) (length order) ≡ cell
       end_is = end_of order cell
@@ -227,7 +237,11 @@ module _ (cells : List TreeCell) where
       at_end : place ≡ length order → StandsBefore (order ++ cell ∷ []) place user
       at_end is =
           let stands : StandsIn order user = there user (subst (λ key. IsUserOf cells key user) (ap (at (order ++ cell ∷ [])) is ∙ end_is) uses) in
-          record { place = stands.place; before = omega (arith, stands.before, is); is = get_or_append_left order (cell ∷ []) 0 stands.place stands.before ∙ stands.is }
+          record {
+            place = stands.place;
+            before = omega (arith, stands.before, is);
+            is = get_or_append_left order (cell ∷ []) 0 stands.place stands.before ∙ stands.is;
+          }
 
   -- Marking a cell.
   pub AllStandBut-mark : (sizes : List Size) (cell : ℕ) (seen : List Bool) (order : List ℕ) → AllStandBut sizes (size_at sizes cell).depth seen order
@@ -241,11 +255,13 @@ module _ (cells : List TreeCell) where
         ]
       ]
 
-  pub AllStandBut-higher : (sizes : List Size) (rank higher : ℕ) (seen : List Bool) (order : List ℕ) → rank ≤ higher → AllStandBut sizes rank seen order → AllStandBut sizes higher seen order
+  pub AllStandBut-higher : (sizes : List Size) (rank higher : ℕ) (seen : List Bool) (order : List ℕ) → rank ≤ higher → AllStandBut sizes rank seen order
+      → AllStandBut sizes higher seen order
   AllStandBut-higher sizes rank higher seen order le stand key is =
       elim (stand key is) [ inl stands ↦ inl stands | inr low ↦ inr (omega (arith, low, le)) ]
 
-  pub found_all : (cell count : ℕ) (seen one : List Bool) (order first : List ℕ) → AreFound cell count seen one order first → length (users_of cells cell) ≤ count
+  pub found_all : (cell count : ℕ) (seen one : List Bool) (order first : List ℕ) → AreFound cell count seen one order first
+      → length (users_of cells cell) ≤ count
       → (user : ℕ) → IsUserOf cells cell user → StandsIn first user
   found_all cell count seen one order first found all user uses =
       subst (λ key. StandsIn first key) uses.2 (at_any uses.0 uses.1 (found.there uses.0 (omega (arith, uses.1, all))))
@@ -253,7 +269,8 @@ module _ (cells : List TreeCell) where
       at_any : (k : ℕ) → k < length (users_of cells cell) → StandsIn first (at (users_of cells cell) k) → StandsIn first (get_or (users_of cells cell) k user)
       at_any k within stands = subst (λ key. StandsIn first key) (any_default (users_of cells cell) k 0 user within) stands
 
-  pub EndsWith-cell : (cell : ℕ) (seen one : List Bool) (order first : List ℕ) → cell < length seen → Adds cells cell (slice_set seen cell true) one order first → EndsWith cell order (first ++ cell ∷ [])
+  pub EndsWith-cell : (cell : ℕ) (seen one : List Bool) (order first : List ℕ) → cell < length seen
+      → Adds cells cell (slice_set seen cell true) one order first → EndsWith cell order (first ++ cell ∷ [])
   EndsWith-cell cell seen one order first within a =
       record {
         more = omega (arith, a.longer, length-append first (cell ∷ []));
@@ -261,7 +278,8 @@ module _ (cells : List TreeCell) where
         alone = λ place from before same.
             let early : place < length first = omega (arith, before, length-append first (cell ∷ [])) in
             differ (slice_index_or (slice_set seen cell true) cell false)
-            (subst (λ key. slice_index_or (slice_set seen cell true) key false ≡ false) (sym (get_or_append_left first (cell ∷ []) 0 place early) ∙ same) (a.fresh place from early))
+            (subst (λ key. slice_index_or (slice_set seen cell true) key false ≡ false) (sym (get_or_append_left first (cell ∷ []) 0 place early) ∙ same)
+            (a.fresh place from early))
             (get_or-set_same seen cell true false within);
       }
     where
@@ -272,10 +290,13 @@ module _ (cells : List TreeCell) where
   pub above_stands : (order : List ℕ) (low up : ℕ) → ComesAfterUsers cells order → StandsIn order low → IsReached cells low up → StandsIn order up
   above_stands order low up sorted stands stay = stands
   above_stands order low up sorted stands (go {b = user} uses rest) =
-      let user_stands : StandsBefore order stands.place user = sorted stands.place stands.before user (subst (λ key. IsUserOf cells key user) (sym stands.is) uses) in
-      above_stands order user up sorted (record { place = user_stands.place; before = omega (arith, user_stands.before, stands.before); is = user_stands.is }) rest
+      let user_stands : StandsBefore order stands.place user =
+      sorted stands.place stands.before user (subst (λ key. IsUserOf cells key user) (sym stands.is) uses) in
+      above_stands order user up sorted (record { place = user_stands.place; before = omega (arith, user_stands.before, stands.before); is = user_stands.is })
+      rest
 
-  pub above_iff : (cell : ℕ) (seen seen' : List Bool) (order order' : List ℕ) → order ≡ [] → Adds cells cell seen seen' order order' → ComesAfterUsers cells order' → StandsIn order' cell
+  pub above_iff : (cell : ℕ) (seen seen' : List Bool) (order order' : List ℕ) → order ≡ [] → Adds cells cell seen seen' order order'
+      → ComesAfterUsers cells order' → StandsIn order' cell
       → (key : ℕ) → StandsIn order' key ↔ IsReached cells cell key
   above_iff cell seen seen' order order' empty adds sorted stands key = (
     (λ is. subst (λ up. IsReached cells cell up) is.is (adds.above is.place (rw empty (omega arith)) is.before)),

@@ -34,8 +34,10 @@ none_within Depth = omega arith
 none_within Elements = omega arith
 none_within Hull = tt
 
-module _ (cells : List TreeCell) (book book' : SizeBook) (whole : IsWhole cells book) (new : TreeCell) (is_empty : state_of new ≡ empty_cell) (alone : new.users.keys ≡ [])
-    (sizes : book'.sizes.items ≡ book.sizes.items ++ own_size None ∷ []) (stamps : book'.stamps.items ≡ book.stamps.items ++ book'.edits ∷ []) (edits : book'.edits ≡ suc book.edits)
+module _ (cells : List TreeCell) (book book' : SizeBook) (whole : IsWhole cells book) (new : TreeCell) (is_empty : state_of new ≡ empty_cell)
+    (alone : new.users.keys ≡ [])
+    (sizes : book'.sizes.items ≡ book.sizes.items ++ own_size None ∷ []) (stamps : book'.stamps.items ≡ book.stamps.items ++ book'.edits ∷ [])
+    (edits : book'.edits ≡ suc book.edits)
     (ready : IsReady book' (length book'.sizes.items)) where
   are : states (cells ++ new ∷ []) ≡ states cells ++ empty_cell ∷ []
   are = map_push state_of cells new ∙ ap (λ c. states cells ++ c ∷ []) is_empty
@@ -53,18 +55,23 @@ module _ (cells : List TreeCell) (book book' : SizeBook) (whole : IsWhole cells 
 
   old_size : (key : ℕ) → key < length (states cells) → size_at book'.sizes.items key ≡ size_at book.sizes.items key
   old_size key within =
-      ap (λ (s : List Size). size_at s key) sizes ∙ get_or_append_left book.sizes.items (own_size None ∷ []) no_size key (omega (arith, within, whole.lawful.sizes.count))
+      ap (λ (s : List Size). size_at s key) sizes
+      ∙ get_or_append_left book.sizes.items (own_size None ∷ []) no_size key (omega (arith, within, whole.lawful.sizes.count))
 
   new_size : size_at book'.sizes.items (length (states cells)) ≡ own_size None
-  new_size = ap (λ (s : List Size). size_at s (length (states cells))) sizes ∙ get_or_at book.sizes.items (own_size None) [] no_size (length (states cells)) whole.lawful.sizes.count
+  new_size = ap (λ (s : List Size). size_at s (length (states cells))) sizes ∙ get_or_at book.sizes.items (own_size None) [] no_size (length (states cells))
+      whole.lawful.sizes.count
 
-  right : (key : ℕ) (cell : CellState) → slice_get (states (cells ++ new ∷ [])) key ≡ Some cell → size_at book'.sizes.items key ≡ size_of (size_at book'.sizes.items) cell
+  right : (key : ℕ) (cell : CellState) → slice_get (states (cells ++ new ∷ [])) key ≡ Some cell
+      → size_at book'.sizes.items key ≡ size_of (size_at book'.sizes.items) cell
   right key cell is =
       elim (slice_get-push_cases (states cells) empty_cell cell key (sym (ap (λ s. slice_get s key) are) ∙ is)) [
         | inl before ↦
             old_size key (slice_get_within (states cells) key cell before) ∙ whole.lawful.sizes.right key cell before
-            ∙ size_of-same (size_at book.sizes.items) (size_at book'.sizes.items) cell (λ k entry stands. sym (old_size entry.1.child.0 (whole.lawful.cells.uses key cell before k entry stands).1))
-        | inr here ↦ ap (size_at book'.sizes.items) here.0 ∙ new_size ∙ sym (empty_size (size_at book'.sizes.items)) ∙ ap (size_of (size_at book'.sizes.items)) here.1
+            ∙ size_of-same (size_at book.sizes.items) (size_at book'.sizes.items) cell
+            (λ k entry stands. sym (old_size entry.1.child.0 (whole.lawful.cells.uses key cell before k entry stands).1))
+        | inr here ↦ ap (size_at book'.sizes.items) here.0 ∙ new_size ∙ sym (empty_size (size_at book'.sizes.items))
+            ∙ ap (size_of (size_at book'.sizes.items)) here.1
       ]
 
   within : (dimension : Dimension) (key : ℕ) → IsWithin dimension (size_at book'.sizes.items key)
@@ -84,10 +91,28 @@ module _ (cells : List TreeCell) (book book' : SizeBook) (whole : IsWhole cells 
   past : (key : ℕ) → stamp_at book'.stamps.items key ≤ book'.edits
   past key =
       elim (cases_lt key (length book.stamps.items)) [
-        | inl before ↦ omega (arith, ap (λ s. stamp_at s key) stamps, get_or_append_left book.stamps.items (book'.edits ∷ []) 0 key before, whole.lawful.past key, edits)
+        | inl before ↦ omega (
+          arith,
+          ap (λ s. stamp_at s key) stamps,
+          get_or_append_left book.stamps.items (book'.edits ∷ []) 0 key before,
+          whole.lawful.past
+              key,
+          edits,
+        )
         | inr after ↦ elim (cases_eq key (length book.stamps.items)) [
-          | inl here ↦ omega (arith, ap (λ s. stamp_at s key) stamps, ap (stamp_at (book.stamps.items ++ book'.edits ∷ [])) here, get_or_at book.stamps.items book'.edits [] 0 (length book.stamps.items) refl)
-          | inr beyond ↦ omega (arith, ap (λ s. stamp_at s key) stamps, get_or_past (book.stamps.items ++ book'.edits ∷ []) key 0 (omega (arith, after, beyond, length-append book.stamps.items (book'.edits ∷ []))))
+          | inl here ↦ omega (
+            arith,
+            ap (λ s. stamp_at s key) stamps,
+            ap (stamp_at (book.stamps.items ++ book'.edits ∷ [])) here,
+            get_or_at book.stamps.items
+                book'.edits [] 0 (length book.stamps.items) refl,
+          )
+          | inr beyond ↦ omega (
+            arith,
+            ap (λ s. stamp_at s key) stamps,
+            get_or_past (book.stamps.items ++ book'.edits ∷ []) key 0
+                (omega (arith, after, beyond, length-append book.stamps.items (book'.edits ∷ []))),
+          )
         ]
       ]
 
@@ -98,12 +123,17 @@ module _ (cells : List TreeCell) (book book' : SizeBook) (whole : IsWhole cells 
   old_user key user uses =
       elim (slice_get-push_cases (states cells) empty_cell uses.cell user (sym (ap (λ s. slice_get s user) are) ∙ uses.is)) [
         | inl before ↦ record { cell = uses.cell; is = before; k = uses.k; entry = uses.entry; stands = uses.stands; child = uses.child }
-        | inr here ↦ absurd (let e : slice_get empty_cell.uses uses.k ≡ Some uses.entry = ap (λ (c : CellState). slice_get c.uses uses.k) here.1 ∙ uses.stands in cc)
+        | inr here ↦ absurd (let e : slice_get empty_cell.uses uses.k ≡ Some uses.entry = ap (λ (c : CellState). slice_get c.uses uses.k) here.1
+            ∙ uses.stands in cc)
       ]
 
   child_before : (key user : ℕ) → Uses (states cells) user key → key < length cells
   child_before key user uses =
-      omega (arith, subst (λ c. c < length (states cells)) uses.child (whole.lawful.cells.uses user uses.cell uses.is uses.k uses.entry uses.stands).1, length-states cells)
+      omega (
+        arith,
+        subst (λ c. c < length (states cells)) uses.child (whole.lawful.cells.uses user uses.cell uses.is uses.k uses.entry uses.stands).1,
+        length-states cells,
+      )
 
   users : KnowUsers (cells ++ new ∷ [])
   users =
@@ -113,15 +143,24 @@ module _ (cells : List TreeCell) (book book' : SizeBook) (whole : IsWhole cells 
         none = λ key user knows. elim (cases_lt key (length cells)) [
           | inl before ↦
               let old = whole.users.none key user (subst (λ ks. Contains ks user) (old_users key before) knows) in
-              record { cell = old.cell; is = ap (λ s. slice_get s user) are ∙ slice_get-append_left (states cells) (empty_cell ∷ []) user old.cell old.is; k = old.k; entry = old.entry; stands = old.stands; child = old.child }
+              record {
+                cell = old.cell;
+                is = ap (λ s. slice_get s user) are ∙ slice_get-append_left (states cells) (empty_cell ∷ []) user old.cell old.is;
+                k = old.k;
+                entry = old.entry;
+                stands = old.stands;
+                child = old.child;
+              }
           | inr after ↦ absurd (elim (cases_eq key (length cells)) [
             | inl here ↦
                 let none = subst (λ ks. Contains ks user)
-                (ap (users_of (cells ++ new ∷ [])) here ∙ ap (λ o. option_map_or (λ (cell : TreeCell). cell.users.keys) o []) (slice_get-push_new cells new) ∙ alone) knows in
+                (ap (users_of (cells ++ new ∷ [])) here ∙ ap (λ o. option_map_or (λ (cell : TreeCell). cell.users.keys) o []) (slice_get-push_new cells new)
+                ∙ alone) knows in
                 omega (arith, none.1)
             | inr beyond ↦
                 let none = subst (λ ks. Contains ks user)
-                (ap (λ o. option_map_or (λ (cell : TreeCell). cell.users.keys) o []) (slice_get_past (cells ++ new ∷ []) key (omega (arith, after, beyond, length-append cells (new ∷ []))))) knows in
+                (ap (λ o. option_map_or (λ (cell : TreeCell). cell.users.keys) o [])
+                (slice_get_past (cells ++ new ∷ []) key (omega (arith, after, beyond, length-append cells (new ∷ []))))) knows in
                 omega (arith, none.1)
           ])
         ];
@@ -147,5 +186,12 @@ module _ (cells : List TreeCell) (book book' : SizeBook) (whole : IsWhole cells 
           past = past;
         };
         users = users;
-        ready = subst (IsReady book') (omega (arith, ap length sizes, length-append book.sizes.items (own_size None ∷ []), whole.lawful.sizes.count, length-states cells, length-append cells (new ∷ []))) ready;
+        ready = subst (IsReady book') (omega (
+          arith,
+          ap length sizes,
+          length-append book.sizes.items (own_size None ∷ []),
+          whole.lawful.sizes.count,
+          length-states cells,
+          length-append cells (new ∷ []),
+        )) ready;
       }

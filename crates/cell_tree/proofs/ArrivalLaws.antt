@@ -20,16 +20,19 @@ use Rattle.cell_tree.proofs.WholeLaws.{cell_is}
 use Rattle.cell_tree.proofs.AddLaws.{none_within}
 
 -- with right sizes a user is deeper
-deeper : (cells : List CellState) (sizes : List Size) → AreSizes cells sizes → (user low : ℕ) → Uses cells user low → (size_at sizes low).depth < (size_at sizes user).depth
+deeper : (cells : List CellState) (sizes : List Size) → AreSizes cells sizes → (user low : ℕ) → Uses cells user low
+    → (size_at sizes low).depth < (size_at sizes user).depth
 deeper cells sizes right user low uses =
     subst (λ child. (size_at sizes child).depth < (size_at sizes user).depth) uses.child
     (subst (λ (s : Size). (size_at sizes uses.entry.1.child.0).depth < s.depth) (sym (right user uses.cell uses.is))
     (child_is_lower (size_at sizes) uses.cell uses.k uses.entry uses.stands))
 
 -- a cell is at most as deep as one that it is at or below
-pub above_as_deep : (cells : List CellState) (sizes : List Size) → AreSizes cells sizes → (low up : ℕ) → IsAbove cells low up → (size_at sizes low).depth ≤ (size_at sizes up).depth
+pub above_as_deep : (cells : List CellState) (sizes : List Size) → AreSizes cells sizes → (low up : ℕ) → IsAbove cells low up
+    → (size_at sizes low).depth ≤ (size_at sizes up).depth
 above_as_deep cells sizes right low up stay = omega arith
-above_as_deep cells sizes right low up (go {b = user} uses rest) = omega (arith, deeper cells sizes right user low uses, above_as_deep cells sizes right user up rest)
+above_as_deep cells sizes right low up (go {b = user} uses rest) =
+    omega (arith, deeper cells sizes right user low uses, above_as_deep cells sizes right user up rest)
 
 -- so no cell stands below itself
 pub right_acyclic : (cells : List CellState) (sizes : List Size) → AreSizes cells sizes → (cell : ℕ) → IsBelowItself cells cell → ⊥
@@ -39,7 +42,8 @@ right_acyclic cells sizes right cell below =
 -- the size of the cell at a place of an order took this value
 abbrev pub SetsAt : Dimension → List CellState → ℕ → List Size → List Size → List ℕ → Type 0
 SetsAt dimension cells place old new order =
-    (cell : CellState) → slice_get cells (get_or order place 0) ≡ Some cell → SetsDimension dimension (get_or order place 0) (size_of (size_at old) cell) old new
+    (cell : CellState) → slice_get cells (get_or order place 0) ≡ Some cell
+    → SetsDimension dimension (get_or order place 0) (size_of (size_at old) cell) old new
 
 module _ (first : ℕ) (order : List ℕ) where
   settled_more : (place more key : ℕ) → place ≤ more → IsSettled first order place key → IsSettled first order more key
@@ -96,18 +100,21 @@ module _ (cells : List CellState) (first : ℕ) (order : List ℕ) (o : IsNewOrd
               (children (λ child uses. child_settled place key child (omega (arith, before)) still uses)))
         ]
       where
-        children : ((child : ℕ) → Uses cells key child → IsSettled first order place child) → AreAlike dimension (size_of (size_at old) cell) (size_of (size_at new) cell)
+        children : ((child : ℕ) → Uses cells key child → IsSettled first order place child)
+            → AreAlike dimension (size_of (size_at old) cell) (size_of (size_at new) cell)
         children are =
             size_of-alike dimension (size_at old) (size_at new) cell (λ k entry found. alike_refl dimension _ _
             (sym (apart entry.1.child.0 (settled_apart place entry.1.child.0 before (are entry.1.child.0
             (record { cell = cell; is = is; k = k; entry = entry; stands = found; child = refl }))))))
 
     -- what is right up to a place is right up to one before it
-    pub right_less : (place more : ℕ) (sizes : List Size) → place ≤ more → AreRightTo dimension cells first order more sizes → AreRightTo dimension cells first order place sizes
+    pub right_less : (place more : ℕ) (sizes : List Size) → place ≤ more → AreRightTo dimension cells first order more sizes
+        → AreRightTo dimension cells first order place sizes
     right_less place more sizes low right key cell is settled = right key cell is (settled_more first order place more key low settled)
 
     -- and in sizes that are alike
-    pub right_alike : (place : ℕ) (a b : List Size) → ((key : ℕ) → AreAlike dimension (size_at b key) (size_at a key)) → AreRightTo dimension cells first order place a
+    pub right_alike : (place : ℕ) (a b : List Size) → ((key : ℕ) → AreAlike dimension (size_at b key) (size_at a key))
+        → AreRightTo dimension cells first order place a
         → AreRightTo dimension cells first order place b
     right_alike place a b same right key cell is settled =
         alike_trans dimension _ (size_at a key) _ (same key)
@@ -122,16 +129,19 @@ module _ (cells : List CellState) (first : ℕ) (order : List ℕ) (o : IsNewOrd
     agree zero a b low same one other key (inr s) = absurd (omega (arith, s.before))
     agree (suc place) a b low same one other key settled =
         let before : (key : ℕ) → IsSettled first order place key → AreAlike dimension (size_at a key) (size_at b key) = λ k is.
-        agree place a b (omega (arith, low)) same (right_less place (suc place) a (omega arith) one) (right_less place (suc place) b (omega arith) other) k is in
+        agree place a b (omega (arith, low)) same (right_less place (suc place) a (omega arith) one) (right_less place (suc place) b (omega arith) other) k
+        is in
         elim (cases_eq key (at order place)) [
           | inr differs ↦ before key (settled_less first order place key differs settled)
           | inl here ↦
-              let is : slice_get cells key ≡ Some (cell_at cells key) = cell_is cells key (subst (λ k. k < length cells) (sym here) (o.within place (omega (arith, low)))) in
+              let is : slice_get cells key ≡ Some (cell_at cells key) =
+              cell_is cells key (subst (λ k. k < length cells) (sym here) (o.within place (omega (arith, low)))) in
               alike_trans dimension _ (size_of (size_at a) (cell_at cells key)) _ (one key (cell_at cells key) is settled)
               (alike_trans dimension _ (size_of (size_at b) (cell_at cells key)) _
               (size_of-alike dimension (size_at a) (size_at b) (cell_at cells key) (λ k entry found.
               before entry.1.child.0 (o.behind place entry.1.child.0 (omega (arith, low))
-              (subst (λ c. Uses cells c entry.1.child.0) here (record { cell = cell_at cells key; is = is; k = k; entry = entry; stands = found; child = refl })))))
+              (subst (λ c. Uses cells c entry.1.child.0) here
+              (record { cell = cell_at cells key; is = is; k = k; entry = entry; stands = found; child = refl })))))
               (alike_sym dimension _ _ (other key (cell_at cells key) is settled)))
         ]
 
@@ -139,10 +149,12 @@ module _ (cells : List CellState) (first : ℕ) (order : List ℕ) (o : IsNewOrd
     pub children_fit : (place : ℕ) (sizes : List Size) → place < length order → AreSettled dimension cells first order place sizes
         → (cell : CellState) → slice_get cells (at order place) ≡ Some cell → AreChildrenWithin dimension (size_at sizes) cell.uses
     children_fit place sizes before settled cell is k entry stands =
-        settled.within entry.1.child.0 (o.behind place entry.1.child.0 before (record { cell = cell; is = is; k = k; entry = entry; stands = stands; child = refl }))
+        settled.within entry.1.child.0 (o.behind place entry.1.child.0 before
+        (record { cell = cell; is = is; k = k; entry = entry; stands = stands; child = refl }))
 
     module _ (place : ℕ) (old new : List Size) (before : place < length order) (long : length old ≡ length cells)
-        (sets : (cell : CellState) → slice_get cells (at order place) ≡ Some cell → SetsDimension dimension (at order place) (size_of (size_at old) cell) old new) where
+        (sets : (cell : CellState) → slice_get cells (at order place) ≡ Some cell
+        → SetsDimension dimension (at order place) (size_of (size_at old) cell) old new) where
       here_is : slice_get cells (at order place) ≡ Some (cell_at cells (at order place))
       here_is = cell_is cells (at order place) (o.within place before)
 
@@ -161,11 +173,13 @@ module _ (cells : List CellState) (first : ℕ) (order : List ℕ) (o : IsNewOrd
             kept = λ key low.
                 set_apart dimension (at order place) _ old new (sets _ here_is) key (settled_apart place key before (inl low)) ∙ kept.kept key low;
             others = λ other differs key.
-                alike_trans other _ (size_at old key) _ (set_other other dimension (at order place) _ old new (sets _ here_is) inside differs key) (kept.others other differs key);
+                alike_trans other _ (size_at old key) _ (set_other other dimension (at order place) _ old new (sets _ here_is) inside differs key)
+                (kept.others other differs key);
           }
 
       -- and keeps within the limit
-      pub set_settled : AreSettled dimension cells first order place old → IsWithin dimension (size_at new (at order place)) → AreSettled dimension cells first order (suc place) new
+      pub set_settled : AreSettled dimension cells first order place old → IsWithin dimension (size_at new (at order place))
+          → AreSettled dimension cells first order (suc place) new
       set_settled settled fits =
           record {
             right = set_right settled.right;
@@ -178,11 +192,13 @@ module _ (cells : List CellState) (first : ℕ) (order : List ℕ) (o : IsNewOrd
           }
 
       -- or doesn't
-      pub set_stops : AreSettled dimension cells first order place old → (IsWithin dimension (size_at new (at order place)) → ⊥) → StopsAt dimension cells first order new
+      pub set_stops : AreSettled dimension cells first order place old → (IsWithin dimension (size_at new (at order place)) → ⊥)
+          → StopsAt dimension cells first order new
       set_stops settled passes = record { place = place; before = before; right = set_right settled.right; passes = passes }
 
     -- what is right of the cells that were there is so where their sizes are kept
-    pub start_again : (a b : List Size) → ((key : ℕ) → key < first → size_at b key ≡ size_at a key) → AreSettled dimension cells first order 0 a → AreSettled dimension cells first order 0 b
+    pub start_again : (a b : List Size) → ((key : ℕ) → key < first → size_at b key ≡ size_at a key) → AreSettled dimension cells first order 0 a
+        → AreSettled dimension cells first order 0 b
     start_again a b same settled =
         record {
           right = λ key cell is s. right_again key cell is (only_old key s);
@@ -193,12 +209,14 @@ module _ (cells : List CellState) (first : ℕ) (order : List ℕ) (o : IsNewOrd
         only_old key (inl old) = old
         only_old key (inr none) = absurd (omega (arith, none.before))
 
-        right_again : (key : ℕ) (cell : CellState) → slice_get cells key ≡ Some cell → key < first → AreAlike dimension (size_at b key) (size_of (size_at b) cell)
+        right_again : (key : ℕ) (cell : CellState) → slice_get cells key ≡ Some cell → key < first
+            → AreAlike dimension (size_at b key) (size_of (size_at b) cell)
         right_again key cell is old =
             alike_trans dimension _ (size_at a key) _ (alike_refl dimension _ _ (same key old))
             (alike_trans dimension _ (size_of (size_at a) cell) _ (settled.right key cell is (inl old))
             (size_of-alike dimension (size_at a) (size_at b) cell (λ k entry found. alike_refl dimension _ _
-            (sym (same entry.1.child.0 (o.old key entry.1.child.0 old (record { cell = cell; is = is; k = k; entry = entry; stands = found; child = refl })))))))
+            (sym (same entry.1.child.0 (o.old key entry.1.child.0 old
+            (record { cell = cell; is = is; k = k; entry = entry; stands = found; child = refl })))))))
 
   -- the sizes that the cells have, worked out up to a place of the order in all dimensions
   exact : List Size → ℕ → List Size
@@ -214,9 +232,11 @@ module _ (cells : List CellState) (first : ℕ) (order : List ℕ) (o : IsNewOrd
   unfolding exact
   exact-old sizes zero key low old = refl
   exact-old sizes (suc place) key low old =
-      get_or-set_other (exact sizes place) (at order place) key _ no_size (settled_apart place key (omega (arith, low)) (inl old)) ∙ exact-old sizes place key (omega (arith, low)) old
+      get_or-set_other (exact sizes place) (at order place) key _ no_size (settled_apart place key (omega (arith, low)) (inl old))
+      ∙ exact-old sizes place key (omega (arith, low)) old
 
-  exact-right : (dimension : Dimension) (sizes : List Size) (place : ℕ) → length sizes ≡ length cells → place ≤ length order → AreRightTo dimension cells first order 0 sizes
+  exact-right : (dimension : Dimension) (sizes : List Size) (place : ℕ) → length sizes ≡ length cells → place ≤ length order
+      → AreRightTo dimension cells first order 0 sizes
       → AreRightTo dimension cells first order place (exact sizes place)
   unfolding exact
   exact-right dimension sizes zero long low right = right
@@ -236,7 +256,8 @@ module _ (cells : List CellState) (first : ℕ) (order : List ℕ) (o : IsNewOrd
   right_all sizes right key cell is = alike_all _ _ (λ dimension. right dimension key cell is (all_settled key (slice_get_within cells key cell is)))
 
   -- and within the limits, where the settled ones are
-  pub within_all : (dimension : Dimension) (sizes : List Size) → length sizes ≡ length cells → AreSettled dimension cells first order (length order) sizes → (key : ℕ) → IsWithin dimension (size_at sizes key)
+  pub within_all : (dimension : Dimension) (sizes : List Size) → length sizes ≡ length cells → AreSettled dimension cells first order (length order) sizes
+      → (key : ℕ) → IsWithin dimension (size_at sizes key)
   within_all dimension sizes long settled key =
       elim (cases_lt key (length cells)) [
         | inl inside ↦ settled.within key (all_settled key inside)
@@ -259,8 +280,10 @@ module _ (cells : List CellState) (first : ℕ) (order : List ℕ) (o : IsNewOrd
     unfolding truth
     truth_long = length-exact sizes (length order) ∙ long
 
-    truth_agrees : (dimension : Dimension) (place : ℕ) (next : List Size) → place ≤ length order → ((key : ℕ) → key < first → size_at next key ≡ size_at sizes key)
-        → AreRightTo dimension cells first order place next → (key : ℕ) → IsSettled first order place key → AreAlike dimension (size_at next key) (size_at truth key)
+    truth_agrees : (dimension : Dimension) (place : ℕ) (next : List Size) → place ≤ length order
+        → ((key : ℕ) → key < first → size_at next key ≡ size_at sizes key)
+        → AreRightTo dimension cells first order place next → (key : ℕ) → IsSettled first order place key
+        → AreAlike dimension (size_at next key) (size_at truth key)
     truth_agrees dimension place next low kept worked key settled =
         agree dimension place next truth low (λ k old. alike_refl dimension _ _ (kept k old ∙ sym (truth_old k old))) worked
         (right_less dimension place (length order) truth low (truth_right dimension)) key settled
@@ -271,18 +294,23 @@ module _ (cells : List CellState) (first : ℕ) (order : List ℕ) (o : IsNewOrd
     truth_within dimension next kept settled key =
         within_all dimension truth truth_long (record {
           right = truth_right dimension;
-          within = λ k is. alike_within dimension (size_at next k) (size_at truth k) (truth_agrees dimension (length order) next (omega arith) kept settled.right k is) (settled.within k is);
+          within = λ k is. alike_within dimension (size_at next k) (size_at truth k)
+              (truth_agrees dimension (length order) next (omega arith) kept settled.right k is) (settled.within k is);
         }) key
 
-    truth_passes : (dimension : Dimension) (next : List Size) → ((key : ℕ) → key < first → size_at next key ≡ size_at sizes key) → (stops : StopsAt dimension cells first order next)
+    truth_passes : (dimension : Dimension) (next : List Size) → ((key : ℕ) → key < first → size_at next key ≡ size_at sizes key)
+        → (stops : StopsAt dimension cells first order next)
         → IsWithin dimension (size_at truth (at order stops.place)) → ⊥
     truth_passes dimension next kept stops within =
         stops.passes (alike_within dimension (size_at truth (at order stops.place)) (size_at next (at order stops.place))
-        (alike_sym dimension _ _ (truth_agrees dimension (suc stops.place) next (omega (arith, stops.before)) kept stops.right (at order stops.place) (settled_here first order stops.place))) within)
+        (alike_sym dimension _ _ (truth_agrees dimension (suc stops.place) next (omega (arith, stops.before)) kept stops.right (at order stops.place)
+        (settled_here first order stops.place))) within)
 
     -- A limit that is passed as sizes are worked out is passed by the sizes that the cells have.
-    pub passes_all : (dimension : Dimension) (next : List Size) → ((key : ℕ) → key < first → size_at next key ≡ size_at sizes key) → StopsAt dimension cells first order next
-        → ((other : Dimension) → ComesBefore other dimension → (done : List Size) × (((key : ℕ) → key < first → size_at done key ≡ size_at sizes key) × AreSettled other cells first order (length order) done))
+    pub passes_all : (dimension : Dimension) (next : List Size) → ((key : ℕ) → key < first → size_at next key ≡ size_at sizes key)
+        → StopsAt dimension cells first order next
+        → ((other : Dimension) → ComesBefore other dimension
+        → (done : List Size) × (((key : ℕ) → key < first → size_at done key ≡ size_at sizes key) × AreSettled other cells first order (length order) done))
         → PassesWithAll dimension cells
     passes_all dimension next kept stops earlier =
         record {
@@ -307,31 +335,37 @@ module _ (cells : List CellState) (first : ℕ) (order : List ℕ) (o : IsNewOrd
       pub passes_one : StopsAt Depth cells first order deep → PassesWithAll Depth cells
       passes_one stops = passes_all Depth deep k.kept stops none
         where
-          none : (other : Dimension) → ComesBefore other Depth → (done : List Size) × (((key : ℕ) → key < first → size_at done key ≡ size_at sizes key) × AreSettled other cells first order (length order) done)
+          none : (other : Dimension) → ComesBefore other Depth
+              → (done : List Size) × (((key : ℕ) → key < first → size_at done key ≡ size_at sizes key) × AreSettled other cells first order (length order) done)
           none Depth comes = absurd comes
           none Elements comes = absurd comes
           none Hull comes = absurd comes
 
       -- the second is
-      pub passes_two : AreSettled Depth cells first order (length order) deep → AreKept Elements first deep many → StopsAt Elements cells first order many → PassesWithAll Elements cells
+      pub passes_two : AreSettled Depth cells first order (length order) deep → AreKept Elements first deep many → StopsAt Elements cells first order many
+          → PassesWithAll Elements cells
       passes_two done l stops = passes_all Elements many (kept_two l) stops one
         where
-          one : (other : Dimension) → ComesBefore other Elements → (done : List Size) × (((key : ℕ) → key < first → size_at done key ≡ size_at sizes key) × AreSettled other cells first order (length order) done)
+          one : (other : Dimension) → ComesBefore other Elements
+              → (done : List Size) × (((key : ℕ) → key < first → size_at done key ≡ size_at sizes key) × AreSettled other cells first order (length order) done)
           one Depth comes = (deep, (k.kept, done))
           one Elements comes = absurd comes
           one Hull comes = absurd comes
 
       -- the third is
-      pub passes_three : AreSettled Depth cells first order (length order) deep → AreKept Elements first deep many → AreSettled Elements cells first order (length order) many
+      pub passes_three : AreSettled Depth cells first order (length order) deep → AreKept Elements first deep many
+          → AreSettled Elements cells first order (length order) many
           → AreKept Hull first many wide → StopsAt Hull cells first order wide → PassesWithAll Hull cells
       passes_three done l more m stops = passes_all Hull wide (kept_three l m) stops two
         where
-          two : (other : Dimension) → ComesBefore other Hull → (done : List Size) × (((key : ℕ) → key < first → size_at done key ≡ size_at sizes key) × AreSettled other cells first order (length order) done)
+          two : (other : Dimension) → ComesBefore other Hull
+              → (done : List Size) × (((key : ℕ) → key < first → size_at done key ≡ size_at sizes key) × AreSettled other cells first order (length order) done)
           two Depth comes = (deep, (k.kept, done))
           two Elements comes = (many, (kept_two l, more))
           two Hull comes = absurd comes
 
-      module _ (done : AreSettled Depth cells first order (length order) deep) (l : AreKept Elements first deep many) (more : AreSettled Elements cells first order (length order) many)
+      module _ (done : AreSettled Depth cells first order (length order) deep) (l : AreKept Elements first deep many)
+          (more : AreSettled Elements cells first order (length order) many)
           (m : AreKept Hull first many wide) (whole : AreSettled Hull cells first order (length order) wide) where
         depths : (key : ℕ) → AreAlike Depth (size_at wide key) (size_at deep key)
         depths key = m.others Depth (λ e. absurd (cc)) key ∙ l.others Depth (λ e. absurd (cc)) key

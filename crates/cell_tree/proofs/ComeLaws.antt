@@ -41,7 +41,8 @@ module _ (cells : List TreeCell) (book : SizeBook) (whole : IsWhole cells book) 
   count : length all ≡ length (states cells) + length more
   count = ap length are ∙ length-append (states cells) more
 
-  each : (P : CellState → Type 0) → ((key : ℕ) (cell : CellState) → slice_get (states cells) key ≡ Some cell → P cell) → ((cell : CellState) → MayCome (length (states cells ++ more)) cell → P cell)
+  each : (P : CellState → Type 0) → ((key : ℕ) (cell : CellState) → slice_get (states cells) key ≡ Some cell → P cell)
+      → ((cell : CellState) → MayCome (length (states cells ++ more)) cell → P cell)
       → (key : ℕ) (cell : CellState) → slice_get all key ≡ Some cell → P cell
   each P old new key cell is =
       elim (slice_get-append_cases (states cells) more key cell (ap (λ (s : List CellState). slice_get s key) (sym are) ∙ is)) [
@@ -63,19 +64,34 @@ module _ (cells : List TreeCell) (book : SizeBook) (whole : IsWhole cells book) 
   front key low = ap (λ (s : List CellState). slice_get s key) are ∙ slice_get-append_front (states cells) more key low
 
   old_uses : (user key : ℕ) → user < length (states cells) → Uses all user key → Uses (states cells) user key
-  old_uses user key low uses = record { cell = uses.cell; is = sym (front user low) ∙ uses.is; k = uses.k; entry = uses.entry; stands = uses.stands; child = uses.child }
+  old_uses user key low uses = record {
+    cell = uses.cell;
+    is = sym (front user low) ∙ uses.is;
+    k = uses.k;
+    entry = uses.entry;
+    stands = uses.stands;
+    child = uses.child;
+  }
 
   -- cells that were there use none but such
   pub old_children : (first : ℕ) → first ≡ length cells → (key child : ℕ) → key < first → Uses all key child → child < first
   old_children first is key child low uses =
       let old = old_uses key child (omega (arith, low, is, length-states cells)) uses in
-      omega (arith, is, length-states cells, subst (λ c. c < length (states cells)) old.child (whole.lawful.cells.uses key old.cell old.is old.k old.entry old.stands).1)
+      omega (
+        arith,
+        is,
+        length-states cells,
+        subst (λ c. c < length (states cells)) old.child
+            (whole.lawful.cells.uses key old.cell old.is old.k old.entry old.stands).1,
+      )
 
-  old_above : (first : ℕ) → first ≡ length cells → (low up : ℕ) → IsAbove all low up → up < first → (low < first) × ((size_at book.sizes.items low).depth ≤ (size_at book.sizes.items up).depth)
+  old_above : (first : ℕ) → first ≡ length cells → (low up : ℕ) → IsAbove all low up → up < first
+      → (low < first) × ((size_at book.sizes.items low).depth ≤ (size_at book.sizes.items up).depth)
   old_above first is low up stay within = (within, omega arith)
   old_above first is low up (go {b = user} uses rest) within =
       let above = old_above first is user up rest within in
-      let deeper = user_is_deeper (states cells) book.sizes.items whole.lawful.cells whole.lawful.sizes user low (old_uses user low (omega (arith, above.0, is, length-states cells)) uses) in
+      let deeper = user_is_deeper (states cells) book.sizes.items whole.lawful.cells whole.lawful.sizes user low
+      (old_uses user low (omega (arith, above.0, is, length-states cells)) uses) in
       (old_children first is user low above.0 uses, omega (arith, above.1, deeper))
 
   -- and none of them stands below itself
@@ -83,17 +99,20 @@ module _ (cells : List TreeCell) (book : SizeBook) (whole : IsWhole cells book) 
   old_acyclic first is key low below =
       let child = old_children first is key below.child low below.used in
       let above = old_above first is key below.child below.above child in
-      let deeper = user_is_deeper (states cells) book.sizes.items whole.lawful.cells whole.lawful.sizes key below.child (old_uses key below.child (omega (arith, low, is, length-states cells)) below.used) in
+      let deeper = user_is_deeper (states cells) book.sizes.items whole.lawful.cells whole.lawful.sizes key below.child
+      (old_uses key below.child (omega (arith, low, is, length-states cells)) below.used) in
       omega (arith, above.1, deeper)
 
   -- so their sizes may be worked out
-  pub may_be_sized : (first : ℕ) (order : List ℕ) (sizes : List Size) → first ≡ length cells → IsNewOrder all first order → sizes ≡ book.sizes.items → MayBeSized all first order sizes
+  pub may_be_sized : (first : ℕ) (order : List ℕ) (sizes : List Size) → first ≡ length cells → IsNewOrder all first order → sizes ≡ book.sizes.items
+      → MayBeSized all first order sizes
   may_be_sized first order sizes is sorted same =
       record {
         lawful = all_lawful;
         sorted = sorted;
         count = omega (arith, ap length same, whole.lawful.sizes.count, length-states cells, is);
-        old = λ dimension. subst (AreSettled dimension all first order 0) (sym same) (record { right = right dimension; within = λ key settled. whole.lawful.sizes.within dimension key });
+        old = λ dimension. subst (AreSettled dimension all first order 0) (sym same)
+            (record { right = right dimension; within = λ key settled. whole.lawful.sizes.within dimension key });
       }
     where
       only_old : (key : ℕ) → IsSettled first order 0 key → key < first
@@ -105,7 +124,8 @@ module _ (cells : List TreeCell) (book : SizeBook) (whole : IsWhole cells book) 
       right dimension key cell here settled =
           alike_refl dimension _ _ (whole.lawful.sizes.right key cell (sym (front key (omega (arith, only_old key settled, is, length-states cells))) ∙ here))
 
-  module _ (new : List TreeCell) (book' : SizeBook) (users : KnowUsers new) (first total : ℕ) (is : first ≡ length cells) (long : total ≡ length new) (new_states : states new ≡ all)
+  module _ (new : List TreeCell) (book' : SizeBook) (users : KnowUsers new) (first total : ℕ) (is : first ≡ length cells) (long : total ≡ length new)
+      (new_states : states new ≡ all)
       (mid : SizeBook) (same : SaysTheSame book mid) (extended : IsExtended all first total mid book') where
     total_is : length (states new) ≡ total
     total_is = length-states new ∙ sym long
@@ -119,11 +139,25 @@ module _ (cells : List TreeCell) (book : SizeBook) (whole : IsWhole cells book) 
     past : (key : ℕ) → stamp_at book'.stamps.items key ≤ book'.edits
     past key =
         elim (cases_lt key (length book.stamps.items)) [
-          | inl before ↦ omega (arith, ap (λ s. stamp_at s key) stamps_are, get_or_append_left book.stamps.items (replicate (total - first) book'.edits) 0 key before, whole.lawful.past key, edits_are)
+          | inl before ↦ omega (
+            arith,
+            ap (λ s. stamp_at s key) stamps_are,
+            get_or_append_left book.stamps.items (replicate (total - first) book'.edits) 0 key
+                before,
+            whole.lawful.past key,
+            edits_are,
+          )
           | inr after ↦
-              let here = get_or-append_right book.stamps.items (replicate (total - first) book'.edits) (length book.stamps.items) key 0 refl (omega (arith, after)) in
+              let here = get_or-append_right book.stamps.items (replicate (total - first) book'.edits) (length book.stamps.items) key 0 refl
+              (omega (arith, after)) in
               elim (cases_lt (key - length book.stamps.items) (total - first)) [
-                | inl comes ↦ omega (arith, ap (λ s. stamp_at s key) stamps_are, here, get_or-replicate (total - first) (key - length book.stamps.items) book'.edits 0 comes)
+                | inl comes ↦ omega (
+                  arith,
+                  ap (λ s. stamp_at s key) stamps_are,
+                  here,
+                  get_or-replicate (total - first) (key - length book.stamps.items)
+                      book'.edits 0 comes,
+                )
                 | inr beyond ↦
                     omega (
                       arith,
@@ -141,7 +175,8 @@ module _ (cells : List TreeCell) (book : SizeBook) (whole : IsWhole cells book) 
         record {
           lawful = record {
             cells = subst AreLawfulCells (sym new_states) all_lawful;
-            each = λ key cell here. each IsLawfulCell whole.lawful.each (λ c comes. comes.lawful) key cell (ap (λ (s : List CellState). slice_get s key) (sym new_states) ∙ here);
+            each = λ key cell here. each IsLawfulCell whole.lawful.each (λ c comes. comes.lawful) key cell
+                (ap (λ (s : List CellState). slice_get s key) (sym new_states) ∙ here);
             sizes = record {
               count = extended.ready.sizes ∙ sym total_is;
               right = subst (λ s. AreSizes s book'.sizes.items) (sym new_states) extended.right;
@@ -162,10 +197,12 @@ module _ (cells : List TreeCell) (book : SizeBook) (whole : IsWhole cells book) 
           sizes = λ key low. extended.kept key (omega (arith, low, is, length-states cells)) ∙ ap (λ (s : List Size). size_at s key) same.sizes;
           edits = edits_are;
           stamps = stamps_are ∙ ap (λ (s : List ℕ). book.stamps.items ++ s)
-              (ap (λ n. replicate n book'.edits) (let e : total - first ≡ length more = omega (arith, is, length-states cells, total_is, ap length new_states, count) in e) ∙ sym (all_same more book'.edits));
+              (ap (λ n. replicate n book'.edits) (let e : total - first ≡ length more =
+              omega (arith, is, length-states cells, total_is, ap length new_states, count) in e) ∙ sym (all_same more book'.edits));
         }
 
-module _ (cells new : List TreeCell) (book book' : SizeBook) (whole : IsWhole cells book) (behind : AreBehind cells new) (same : SaysTheSame book book') (ready : IsReady book' (length cells))
+module _ (cells new : List TreeCell) (book book' : SizeBook) (whole : IsWhole cells book) (behind : AreBehind cells new) (same : SaysTheSame book book')
+    (ready : IsReady book' (length cells))
     (first : ℕ) (is : first ≡ length cells) where
   left : states (take first new) ≡ states cells
   left =
@@ -184,7 +221,8 @@ module _ (cells new : List TreeCell) (book book' : SizeBook) (whole : IsWhole ce
   new_uses user key uses =
       record {
         cell = uses.cell;
-        is = ap (λ (s : List CellState). slice_get s user) behind.is ∙ slice_get-append_front (states cells) behind.more user (slice_get_within (states cells) user uses.cell uses.is) ∙ uses.is;
+        is = ap (λ (s : List CellState). slice_get s user) behind.is
+            ∙ slice_get-append_front (states cells) behind.more user (slice_get_within (states cells) user uses.cell uses.is) ∙ uses.is;
         k = uses.k;
         entry = uses.entry;
         stands = uses.stands;
@@ -195,7 +233,8 @@ module _ (cells new : List TreeCell) (book book' : SizeBook) (whole : IsWhole ce
   old_of_new user key low uses =
       record {
         cell = uses.cell;
-        is = sym (ap (λ (s : List CellState). slice_get s user) behind.is ∙ slice_get-append_front (states cells) behind.more user (omega (arith, low, is, length-states cells))) ∙ uses.is;
+        is = sym (ap (λ (s : List CellState). slice_get s user) behind.is
+            ∙ slice_get-append_front (states cells) behind.more user (omega (arith, low, is, length-states cells))) ∙ uses.is;
         k = uses.k;
         entry = uses.entry;
         stands = uses.stands;
@@ -208,15 +247,23 @@ module _ (cells new : List TreeCell) (book book' : SizeBook) (whole : IsWhole ce
         known = λ key user uses'.
             let uses : Uses (states cells) user key = subst (λ s. Uses s user key) left uses' in
             let low : user < first = omega (arith, slice_get_within (states cells) user uses.cell uses.is, length-states cells, is) in
-            let inside : key < first = omega (arith, is, length-states cells, subst (λ c. c < length (states cells)) uses.child (whole.lawful.cells.uses user uses.cell uses.is uses.k uses.entry uses.stands).1) in
+            let inside : key < first = omega (
+              arith,
+              is,
+              length-states cells,
+              subst (λ c. c < length (states cells)) uses.child
+                  (whole.lawful.cells.uses user uses.cell uses.is uses.k uses.entry uses.stands).1,
+            ) in
             subst (λ ks. Contains ks user) (sym (users_left key inside)) (behind.users.known key user (omega (arith, low, is)) (new_uses user key uses));
         none = λ key user has. elim (cases_lt key first) [
           | inl inside ↦
               let has' : IsUserOf new key user = subst (λ ks. Contains ks user) (users_left key inside) has in
-              subst (λ s. Uses s user key) (sym left) (old_of_new user key (omega (arith, behind.users.before key user has', is)) (behind.users.uses key user has'))
+              subst (λ s. Uses s user key) (sym left) (old_of_new user key (omega (arith, behind.users.before key user has', is))
+              (behind.users.uses key user has'))
           | inr past ↦ absurd (
               let none = subst (λ ks. Contains ks user)
-              (ap (λ o. option_map_or (λ (cell : TreeCell). cell.users.keys) o []) (slice_get_past (take first new) key (omega (arith, past, left_long, is)))) has in
+              (ap (λ o. option_map_or (λ (cell : TreeCell). cell.users.keys) o []) (slice_get_past (take first new) key (omega (arith, past, left_long, is))))
+              has in
               omega (arith, none.1))
         ];
       }

@@ -18,7 +18,8 @@ record FindsUse (P : ℕ → Type 0) (uses : List (List ℕ × UseBody)) : Type 
   holds : P entry.1.child.0
 
 find_use : (P : ℕ → Type 0) (uses : List (List ℕ × UseBody))
-    → ((k : ℕ) (entry : List ℕ × UseBody) → slice_get uses k ≡ Some entry → P entry.1.child.0 ⊎ (P entry.1.child.0 → ⊥)) → FindsUse P uses ⊎ (FindsUse P uses → ⊥)
+    → ((k : ℕ) (entry : List ℕ × UseBody) → slice_get uses k ≡ Some entry → P entry.1.child.0 ⊎ (P entry.1.child.0 → ⊥))
+    → FindsUse P uses ⊎ (FindsUse P uses → ⊥)
 find_use P [] tell = inr (λ f. absurd (let e = f.stands in cc))
 find_use P (first ∷ rest) tell =
     elim (tell 0 first refl) [
@@ -29,7 +30,8 @@ find_use P (first ∷ rest) tell =
       ]
     ]
   where
-    neither : (P first.1.child.0 → ⊥) → (FindsUse P rest → ⊥) → (k : ℕ) (entry : List ℕ × UseBody) → slice_get (first ∷ rest) k ≡ Some entry → P entry.1.child.0 → ⊥
+    neither : (P first.1.child.0 → ⊥) → (FindsUse P rest → ⊥) → (k : ℕ) (entry : List ℕ × UseBody) → slice_get (first ∷ rest) k ≡ Some entry
+        → P entry.1.child.0 → ⊥
     neither not_here none zero entry is holds = not_here (subst (λ (e : List ℕ × UseBody). P e.1.child.0) (sym (same_Some first entry is)) holds)
     neither not_here none (suc k) entry is holds = none (record { k = k; entry = entry; stands = is; holds = holds })
 
@@ -68,7 +70,8 @@ module _ (cells : List CellState) (sizes : List Size) (lawful : AreLawfulCells c
                 user_is_deeper cells sizes lawful sound key entry.1.child.0
                     (record { cell = cell; is = is; k = k; entry = entry; stands = stands; child = refl }),
               )))) [
-                | inl f ↦ inl (user_above cells low f.entry.1.child.0 key f.holds (record { cell = cell; is = is; k = f.k; entry = f.entry; stands = f.stands; child = refl }))
+                | inl f ↦ inl (user_above cells low f.entry.1.child.0 key f.holds
+                    (record { cell = cell; is = is; k = f.k; entry = f.entry; stands = f.stands; child = refl }))
                 | inr none ↦ inr (λ above. elim (last_step cells low key above) [
                   | inl same ↦ differs same
                   | inr last ↦

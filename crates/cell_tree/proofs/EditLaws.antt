@@ -104,9 +104,11 @@ module _ (cells : List CellState) (sizes : List Size) (lawful : AreLawfulCells c
     value-apart : (n key : ℕ) → key ≢ changed → (IsAbove cells changed key → ⊥) → value (suc n) key ≡ size_at sizes key
     unfolding value
     value-apart n key differs apart =
-        choose-right (cases_eq key changed) size _ differs ∙ choose-right (is_above key) (pick (slice_get cells key) (size_at sizes key) (size_of (value n))) (size_at sizes key) apart
+        choose-right (cases_eq key changed) size _ differs ∙ choose-right (is_above key) (pick (slice_get cells key) (size_at sizes key) (size_of (value n)))
+        (size_at sizes key) apart
 
-    value-above : (n key : ℕ) (cell : CellState) → key ≢ changed → IsAbove cells changed key → slice_get cells key ≡ Some cell → value (suc n) key ≡ size_of (value n) cell
+    value-above : (n key : ℕ) (cell : CellState) → key ≢ changed → IsAbove cells changed key → slice_get cells key ≡ Some cell
+        → value (suc n) key ≡ size_of (value n) cell
     unfolding value
     value-above n key cell differs up is =
         choose-right (cases_eq key changed) size _ differs
@@ -150,7 +152,12 @@ module _ (cells : List CellState) (sizes : List Size) (lawful : AreLawfulCells c
             | inr apart ↦ value-apart (suc m) key differs apart ∙ sym (value-apart zero key differs apart)
             | inl up ↦ elim (some_or_none key) [
               | inr missing ↦ value-none (suc m) key differs missing ∙ sym (value-none zero key differs missing)
-              | inl found ↦ absurd (omega (arith, less, subst (λ (s : Size). 0 < s.depth) (sym (sound.right key found.0 found.1)) (depth-some (size_at sizes) found.0)))
+              | inl found ↦ absurd (omega (
+                arith,
+                less,
+                subst (λ (s : Size). 0 < s.depth) (sym (sound.right key found.0 found.1))
+                    (depth-some (size_at sizes) found.0),
+              ))
             ]
           ]
         ]
@@ -214,7 +221,9 @@ module _ (cells : List CellState) (sizes : List Size) (lawful : AreLawfulCells c
               | inr apart ↦
                   would_be-apart within key apart ∙ sound.right key cell is
                   ∙ size_of-same (size_at sizes) (size_at would_be) cell (λ k entry stands.
-                  sym (would_be-apart within entry.1.child.0 (λ up. apart (user_above cells changed entry.1.child.0 key up (record { cell = cell; is = is; k = k; entry = entry; stands = stands; child = refl })))))
+                  sym (would_be-apart within entry.1.child.0
+                  (λ up. apart (user_above cells changed entry.1.child.0 key up
+                  (record { cell = cell; is = is; k = k; entry = entry; stands = stands; child = refl })))))
               | inl up ↦
                   would_be-at key inside ∙ value-above 64 key cell differs up is
                   ∙ size_of-same (value 64) (size_at would_be) cell (λ k entry stands.
@@ -231,7 +240,8 @@ module _ (cells : List CellState) (sizes : List Size) (lawful : AreLawfulCells c
   tried_is_right changed state tried within free is_tried key cell is =
       elim (cases_eq key changed) [
         | inl same ↦
-            let new : cell ≡ state = same_Some cell state (sym is ∙ ap (slice_get (slice_set cells changed state)) same ∙ slice_get-set_same cells changed state within) in
+            let new : cell ≡ state = same_Some cell state
+            (sym is ∙ ap (slice_get (slice_set cells changed state)) same ∙ slice_get-set_same cells changed state within) in
             ap (size_at tried) same ∙ is_tried.given
             ∙ size_of-same (size_at sizes) (size_at tried) state (λ k entry stands. sym (is_tried.others entry.1.child.0 (free k entry stands)))
             ∙ ap (size_of (size_at tried)) (sym new)
@@ -256,7 +266,8 @@ module _ (cells : List CellState) (sizes : List Size) (lawful : AreLawfulCells c
           | inr missing ↦ subst (λ (s : Size). IsUpright s.hull) (sym missing) tt
           | inl found ↦
               let below : IsSmaller Hull (size_of (size_at sizes) found.0) (size_of (size_at sizes) found.0) =
-              size_of-smaller (size_at sizes) (size_at sizes) Hull found.0 found.0 (inside_refl found.0.own) (own key found.0 found.1) (among_all found.0.uses) (λ k entry stands.
+              size_of-smaller (size_at sizes) (size_at sizes) Hull found.0 found.0 (inside_refl found.0.own) (own key found.0 found.1)
+              (among_all found.0.uses) (λ k entry stands.
               let deeper : (size_at sizes entry.1.child.0).depth < (size_at sizes key).depth =
               user_is_deeper key entry.1.child.0 (record { cell = found.0; is = found.1; k = k; entry = entry; stands = stands; child = refl }) in
               (inside_refl (size_at sizes entry.1.child.0).hull, upright bound entry.1.child.0 (omega (arith, deeper, low)))) in
@@ -289,7 +300,8 @@ module _ (cells : List CellState) (sizes : List Size) (lawful : AreLawfulCells c
             | inl found ↦
                 subst (λ s. IsSmaller dimension s (size_at sizes key)) (sym (is_tried.right key found.0 found.1 differs))
                 (subst (IsSmaller dimension (size_of (size_at tried) found.0)) (sym (sound.right key found.0 found.1))
-                (size_of-smaller (size_at tried) (size_at sizes) dimension found.0 found.0 (inside_refl found.0.own) (own key found.0 found.1) (among_all found.0.uses) (λ k entry stands.
+                (size_of-smaller (size_at tried) (size_at sizes) dimension found.0 found.0 (inside_refl found.0.own) (own key found.0 found.1)
+                (among_all found.0.uses) (λ k entry stands.
                 let deeper : (size_at sizes entry.1.child.0).depth < (size_at sizes key).depth =
                 user_is_deeper key entry.1.child.0 (record { cell = found.0; is = found.1; k = k; entry = entry; stands = stands; child = refl }) in
                 shrinks dimension changed size tried base is_tried bound entry.1.child.0 (omega (arith, deeper, low)))))

@@ -53,7 +53,8 @@ module _ (cells : List TreeCell) where
         most = λ key. lawful.measured.within Depth key;
       }
 
-  module _ (cell : ℕ) (seen seen' : List Bool) (order order' : List ℕ) (users : KnowUsers cells) (inside : cell < length cells) (empty : order ≡ []) (adds : Adds cells cell seen seen' order order')
+  module _ (cell : ℕ) (seen seen' : List Bool) (order order' : List ℕ) (users : KnowUsers cells) (inside : cell < length cells) (empty : order ≡ [])
+      (adds : Adds cells cell seen seen' order order')
       (sorted : ComesAfterUsers cells order') (there : StandsIn order' cell) where
     from_start : (place : ℕ) → length order ≤ place
     from_start place = omega (arith, ap length empty)
@@ -74,7 +75,8 @@ module _ (cells : List TreeCell) where
         }
       where
         within : (place : ℕ) → place < length order' → at order' place < length cells
-        within place before = above_within cell (at order' place) inside (reached_above users cell (at order' place) (adds.above place (from_start place) before))
+        within place before = above_within cell (at order' place) inside
+            (reached_above users cell (at order' place) (adds.above place (from_start place) before))
 
     -- Whatever is seen stands in the order, and whatever stands there is seen.
     pub found_marks : ((key : ℕ) → slice_index_or seen key false ≡ false) → (key : ℕ) → IsSeen seen' key → StandsIn order' key

@@ -21,7 +21,8 @@ abbrev pub children : List (List ℕ × UseBody) → List ℕ
 children uses = map (λ entry. entry.1.child.0) uses
 
 -- the children of a cell
-pub used_by-cell : (cells : List CellState) (key : ℕ) (cell : CellState) → slice_get cells key ≡ Some cell → used_by (children_of cells) key ≡ children cell.uses
+pub used_by-cell : (cells : List CellState) (key : ℕ) (cell : CellState) → slice_get cells key ≡ Some cell
+    → used_by (children_of cells) key ≡ children cell.uses
 used_by-cell [] key cell is = absurd (cc)
 used_by-cell (first ∷ rest) zero cell is = ap (λ (c : CellState). children c.uses) (same_Some first cell is)
 used_by-cell (first ∷ rest) (suc key) cell is = used_by-cell rest key cell is
@@ -52,7 +53,8 @@ graph_uses cells parent child uses =
 
 pub uses_graph : (cells : List CellState) (parent child : ℕ) → Uses cells parent child → UsesCell (children_of cells) parent child
 uses_graph cells parent child uses =
-    subst (In child) (sym (used_by-cell cells parent uses.cell uses.is)) (subst (λ c. In c (children uses.cell.uses)) uses.child (stands_child uses.cell.uses uses.k uses.entry uses.stands))
+    subst (In child) (sym (used_by-cell cells parent uses.cell uses.is))
+    (subst (λ c. In c (children uses.cell.uses)) uses.child (stands_child uses.cell.uses uses.k uses.entry uses.stands))
 
 -- there are as many of them
 pub length-children_of : (cells : List CellState) → length (children_of cells) ≡ length cells
@@ -65,12 +67,15 @@ lawful_children cells lawful parent child uses =
     omega (arith, length-children_of cells, subst (λ c. c < length cells) u.child (lawful.uses parent u.cell u.is u.k u.entry u.stands).1)
 
 -- and of a lawful tree none is its own descendant
-pub lawful_acyclic : (cells : List CellState) (sizes : List Size) (root : ℕ) → AreLawfulCells cells → AreLawfulSizes cells sizes → IsAcyclicBelow (children_of cells) root
+pub lawful_acyclic : (cells : List CellState) (sizes : List Size) (root : ℕ) → AreLawfulCells cells → AreLawfulSizes cells sizes
+    → IsAcyclicBelow (children_of cells) root
 lawful_acyclic cells sizes root lawful sound =
-    acyclic_by_rank (children_of cells) (λ key. (size_at sizes key).depth) root (λ parent child uses. user_is_deeper cells sizes lawful sound parent child (graph_uses cells parent child uses))
+    acyclic_by_rank (children_of cells) (λ key. (size_at sizes key).depth) root
+    (λ parent child uses. user_is_deeper cells sizes lawful sound parent child (graph_uses cells parent child uses))
 
 -- the children of a cell that is read
-pub used_by-read : (cells : List TreeCell) (key : ℕ) (d : TreeCell) → key < length cells → used_by (children_of (states cells)) key ≡ map (λ entry. entry.1.child.0) (get_or cells key d).uses.entries
+pub used_by-read : (cells : List TreeCell) (key : ℕ) (d : TreeCell) → key < length cells
+    → used_by (children_of (states cells)) key ≡ map (λ entry. entry.1.child.0) (get_or cells key d).uses.entries
 used_by-read cells key d within = used_by-cell (states cells) key (state_of (get_or cells key d)) (state_read cells key d within)
 
 -- the child of a use whose body is read
@@ -81,6 +86,7 @@ child-read (first ∷ rest) zero used is = ap (λ (u : UseBody). u.child.0) (sym
 child-read (first ∷ rest) (suc k) used is = child-read rest k used is
 
 -- and how many children it has
-pub cell_count-graph : (cells : List TreeCell) (key : ℕ) (d : TreeCell) → key < length cells → length (get_or cells key d).uses.entries ≡ length (used_by (children_of (states cells)) key)
+pub cell_count-graph : (cells : List TreeCell) (key : ℕ) (d : TreeCell) → key < length cells
+    → length (get_or cells key d).uses.entries ≡ length (used_by (children_of (states cells)) key)
 cell_count-graph cells key d within =
     sym (ap length (used_by-read cells key d within) ∙ length-map (get_or cells key d).uses.entries (λ (entry : List ℕ × UseBody). entry.1.child.0))

@@ -28,7 +28,12 @@ use Rattle.cell_tree.specs.Uses.{displacements}
 use Rattle.cell_tree.specs.Hulls.{displaced, element_hulls, round_both, round_all, way_of, spread_area, IsInside}
 
 within_refl : (a : Rect) → LiesWithin a a
-within_refl a = record { right_of_xlo = omega (arith, ints); above_ylo = omega (arith, ints); left_of_xhi = omega (arith, ints); below_yhi = omega (arith, ints) }
+within_refl a = record {
+  right_of_xlo = omega (arith, ints);
+  above_ylo = omega (arith, ints);
+  left_of_xhi = omega (arith, ints);
+  below_yhi = omega (arith, ints);
+}
 
 -- what lies inside a box lies inside each box round it
 pub inside_trans : (a b c : Option Rect) → IsInside a b → IsInside b c → IsInside a c
@@ -122,7 +127,8 @@ inside_maps f g [] each = tt
 inside_maps f g (x ∷ xs) each =
     inside_each (Some (f x)) (round_all (map f xs)) (Some (g x)) (round_all (map g xs)) (each x) (inside_maps f g xs each)
 
-image-by_orient : (o : Orient) (dx dy : ℤ) (a b : Rect) → LiesWithin a b → LiesWithin (rect_image (transform_of o dx dy) a) (rect_image (transform_of o dx dy) b)
+image-by_orient : (o : Orient) (dx dy : ℤ) (a b : Rect) → LiesWithin a b
+    → LiesWithin (rect_image (transform_of o dx dy) a) (rect_image (transform_of o dx dy) b)
 unfolding rect_image
 image-by_orient R0 dx dy a b p =
     record {
@@ -147,9 +153,19 @@ corners-by_orient : (o : Orient) (dx dy : ℤ) (low high all : Rect) → low.xlo
     → LiesWithin (rect_image (transform_of o dx dy) all) (joined_rect (rect_image (transform_of o dx dy) low) (rect_image (transform_of o dx dy) high))
 unfolding rect_image
 corners-by_orient R0 dx dy low high all e f g h =
-    record { right_of_xlo = omega (arith, ints, clamps); above_ylo = omega (arith, ints, clamps); left_of_xhi = omega (arith, ints, clamps); below_yhi = omega (arith, ints, clamps) }
+    record {
+      right_of_xlo = omega (arith, ints, clamps);
+      above_ylo = omega (arith, ints, clamps);
+      left_of_xhi = omega (arith, ints, clamps);
+      below_yhi = omega (arith, ints, clamps);
+    }
 corners-by_orient _ dx dy low high all e f g h =
-    record { right_of_xlo = omega (arith, ints, clamps); above_ylo = omega (arith, ints, clamps); left_of_xhi = omega (arith, ints, clamps); below_yhi = omega (arith, ints, clamps) }
+    record {
+      right_of_xlo = omega (arith, ints, clamps);
+      above_ylo = omega (arith, ints, clamps);
+      left_of_xhi = omega (arith, ints, clamps);
+      below_yhi = omega (arith, ints, clamps);
+    }
 
 -- the image of a rectangle lies inside the box round the images of two that share its low and its high edges
 pub corners_round : (t : Transform) (low high all : Rect) → low.xlo ≡ all.xlo → low.ylo ≡ all.ylo → high.xhi ≡ all.xhi → high.yhi ≡ all.yhi
@@ -220,7 +236,8 @@ natural (negsuc k) n b = absurd (omega (arith, ints, b.0))
 step_of : (grid : Grid) (step : ℤ × ℤ) → In step (displacements (Some grid)) → IsStep grid step
 step_of grid step stands =
     let element = In-map_source (λ (e : ℤ × ℤ × ℤ × ℤ). (e.2, e.3)) step (elements_of grid) stands in
-    let place = In-map_source (element_of grid) element.0 (pairs_of (integer_range (pos 0) (pos (rows grid))) (integer_range (pos 0) (pos (columns grid)))) element.1.0 in
+    let place = In-map_source (element_of grid) element.0 (pairs_of (integer_range (pos 0) (pos (rows grid))) (integer_range (pos 0) (pos (columns grid))))
+    element.1.0 in
     let within = (Lists-rectangle (pos 0) (pos (rows grid)) (pos 0) (pos (columns grid))).2 place.0 place.1.0 in
     let m = natural place.0.0 (rows grid) within.0 in
     let n = natural place.0.1 (columns grid) within.1 in
@@ -243,15 +260,26 @@ step_within grid area step is =
   where
     spread_within : (area : Rect) (w v x y : ℤ) → int_min w (pos 0) ≤ℤ x → x ≤ℤ int_max w (pos 0) → int_min v (pos 0) ≤ℤ y → y ≤ℤ int_max v (pos 0)
         → LiesWithin (record { xlo = area.xlo +ℤ x; ylo = area.ylo +ℤ y; xhi = area.xhi +ℤ x; yhi = area.yhi +ℤ y })
-        (record { xlo = area.xlo +ℤ int_min w (pos 0); ylo = area.ylo +ℤ int_min v (pos 0); xhi = area.xhi +ℤ int_max w (pos 0); yhi = area.yhi +ℤ int_max v (pos 0) })
+        (record {
+          xlo = area.xlo +ℤ int_min w (pos 0);
+          ylo = area.ylo +ℤ int_min v (pos 0);
+          xhi = area.xhi +ℤ int_max w (pos 0);
+          yhi = area.yhi +ℤ int_max v (pos 0);
+        })
     spread_within area w v x y a b c d =
-        record { right_of_xlo = omega (arith, ints, a); above_ylo = omega (arith, ints, c); left_of_xhi = omega (arith, ints, b); below_yhi = omega (arith, ints, d) }
+        record {
+          right_of_xlo = omega (arith, ints, a);
+          above_ylo = omega (arith, ints, c);
+          left_of_xhi = omega (arith, ints, b);
+          below_yhi = omega (arith, ints, d);
+        }
 
 -- The smallest rectangle round the hulls of all elements is the image of the rectangle round the child in all of them.
 pub round_all-grid : (used : UseBody) (grid : Grid) (hull : Rect) → used.grid ≡ Some grid
     → round_all (element_hulls used (Some hull)) ≡ Some (rect_image used.placed (spread_area grid hull))
 round_all-grid used grid hull is =
-    subst (λ g. round_all (map (λ step. rect_image used.placed (displaced hull step)) (displacements g)) ≡ Some (rect_image used.placed (spread_area grid hull)))
+    subst (λ g. round_all (map (λ step. rect_image used.placed (displaced hull step)) (displacements g))
+    ≡ Some (rect_image used.placed (spread_area grid hull)))
     (sym is) (inside_antisym _ _ inner outer)
   where
     moved : ℤ × ℤ → Rect
@@ -263,13 +291,15 @@ round_all-grid used grid hull is =
     whole : Rect
     whole = rect_image used.placed (spread_area grid hull)
 
-    inner : IsInside (round_all (map (λ step. rect_image used.placed (displaced hull step)) (displacements (Some grid)))) (Some (rect_image used.placed (spread_area grid hull)))
+    inner : IsInside (round_all (map (λ step. rect_image used.placed (displaced hull step)) (displacements (Some grid))))
+        (Some (rect_image used.placed (spread_area grid hull)))
     inner = all_inside _ (Some (rect_image used.placed (spread_area grid hull))) (λ x stands.
         let step = In-map_source (λ (s : ℤ × ℤ). rect_image used.placed (displaced hull s)) x (displacements (Some grid)) stands in
         subst (λ y. LiesWithin y (rect_image used.placed (spread_area grid hull))) step.1.1
         (image_within used.placed (displaced hull step.0) (spread_area grid hull) (step_within grid hull step.0 (step_of grid step.0 step.1.0))))
 
-    outer : IsInside (Some (rect_image used.placed (spread_area grid hull))) (round_all (map (λ step. rect_image used.placed (displaced hull step)) (displacements (Some grid))))
+    outer : IsInside (Some (rect_image used.placed (spread_area grid hull)))
+        (round_all (map (λ step. rect_image used.placed (displaced hull step)) (displacements (Some grid))))
     outer =
         let x0 = lowest (unsigned_abs (grid.xhi -ℤ grid.xlo)) grid.xsep in
         let x1 = highest (unsigned_abs (grid.xhi -ℤ grid.xlo)) grid.xsep in
@@ -277,8 +307,10 @@ round_all-grid used grid hull is =
         let y1 = highest (unsigned_abs (grid.yhi -ℤ grid.ylo)) grid.ysep in
         let low : ℤ × ℤ = (pos x0.index *ℤ grid.xsep, pos y0.index *ℤ grid.ysep) in
         let high : ℤ × ℤ = (pos x1.index *ℤ grid.xsep, pos y1.index *ℤ grid.ysep) in
-        let at_low = In-map (λ (s : ℤ × ℤ). rect_image used.placed (displaced hull s)) low (displacements (Some grid)) (In-displacements grid y0.index x0.index (omega (arith, y0.below)) (omega (arith, x0.below))) in
-        let at_high = In-map (λ (s : ℤ × ℤ). rect_image used.placed (displaced hull s)) high (displacements (Some grid)) (In-displacements grid y1.index x1.index (omega (arith, y1.below)) (omega (arith, x1.below))) in
+        let at_low = In-map (λ (s : ℤ × ℤ). rect_image used.placed (displaced hull s)) low (displacements (Some grid))
+        (In-displacements grid y0.index x0.index (omega (arith, y0.below)) (omega (arith, x0.below))) in
+        let at_high = In-map (λ (s : ℤ × ℤ). rect_image used.placed (displaced hull s)) high (displacements (Some grid))
+        (In-displacements grid y1.index x1.index (omega (arith, y1.below)) (omega (arith, x1.below))) in
         inside_trans (Some (rect_image used.placed (spread_area grid hull)))
         (Some (joined_rect (rect_image used.placed (displaced hull low)) (rect_image used.placed (displaced hull high)))) _
         (corners_round used.placed (displaced hull low) (displaced hull high) (spread_area grid hull)

@@ -1,27 +1,27 @@
 pub mod HullLaws
 pub mod SizeLaws
 pub mod ShrinkLaws
-pub mod TableLaws
+mod TableLaws
 pub mod SpreadLaws
-pub mod AboveLaws
-pub mod TrialLaws
-pub mod EditLaws
-pub mod TryLaws
-pub mod FindLaws
-pub mod StepLaws
-pub mod WholeTrialLaws
-pub mod MarkLaws
-pub mod DecideLaws
+mod AboveLaws
+mod TrialLaws
+mod EditLaws
+mod TryLaws
+mod FindLaws
+mod StepLaws
+mod WholeTrialLaws
+mod MarkLaws
+mod DecideLaws
 pub mod WholeLaws
-pub mod CellLaws
-pub mod UserLaws
-pub mod TreeLaws
+mod CellLaws
+mod UserLaws
+mod TreeLaws
 pub mod StateLaws
-pub mod AddLaws
+mod AddLaws
 pub mod GraphLaws
 pub mod ArrivalLaws
-pub mod OrderLaws
-pub mod TellLaws
-pub mod BookLaws
-pub mod PushLaws
-pub mod ComeLaws
+mod OrderLaws
+mod TellLaws
+mod BookLaws
+mod PushLaws
+mod ComeLaws

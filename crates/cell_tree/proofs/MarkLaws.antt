@@ -19,5 +19,6 @@ pub from_end : (order : List ℕ) (start key : ℕ) → length order ≤ start �
 from_end order start key past s = omega (arith, s.from, s.before, past)
 
 -- where nothing is ahead the lists agree
-pub copy_end : (order : List ℕ) (to from : List Size) (k : ℕ) → length order ≤ k → length to ≡ length from → ((key : ℕ) → (StandsFrom order k key → ⊥) → size_at to key ≡ size_at from key) → to ≡ from
+pub copy_end : (order : List ℕ) (to from : List Size) (k : ℕ) → length order ≤ k → length to ≡ length from
+    → ((key : ℕ) → (StandsFrom order k key → ⊥) → size_at to key ≡ size_at from key) → to ≡ from
 copy_end order to from k past long same = ext_get_or no_size to from long (λ key within. same key (from_end order k key past))

@@ -54,7 +54,8 @@ module _ (cells : List CellState) (first : ℕ) (old : (key child : ℕ) → key
   down (go {a = a} {b = b} uses rest) = Chain-push (down rest) (uses_graph cells b a uses)
 
   -- The least new cell that is its own descendant is the first of all that stand below themselves.
-  pub first_below : ((key : ℕ) → key < first → IsBelowItself cells key → ⊥) → (cell : ℕ) → IsLeast ◌≤◌ (IsOwnDescendant (children_of cells) first) cell → IsFirstBelowItself cells cell
+  pub first_below : ((key : ℕ) → key < first → IsBelowItself cells key → ⊥) → (cell : ℕ) → IsLeast ◌≤◌ (IsOwnDescendant (children_of cells) first) cell
+      → IsFirstBelowItself cells cell
   first_below acyclic cell least =
       record {
         below = record { child = least.0.0; used = graph_uses cells cell least.0.0 least.0.1.0.2; above = up least.0.1.1 };

@@ -38,7 +38,8 @@ behind_none cells users =
       users = record {
         known = λ key user low uses. users.known key user uses;
         uses = λ key user has. users.none key user has;
-        before = λ key user has. let uses = users.none key user has in omega (arith, slice_get_within (states cells) user uses.cell uses.is, length-states cells);
+        before = λ key user has. let uses = users.none key user has in
+            omega (arith, slice_get_within (states cells) user uses.cell uses.is, length-states cells);
       };
     }
 
@@ -57,11 +58,13 @@ module _ (old now : List TreeCell) (kept : TreeCell) (cell : CellState) (behind 
   old_user : (key user : ℕ) → IsUserOf (now ++ kept ∷ []) key user → IsUserOf now key user
   old_user key user has =
       elim (cases_lt key (length now)) [
-        | inl before ↦ subst (λ ks. Contains ks user) (ap (λ o. option_map_or (λ (c : TreeCell). c.users.keys) o []) (slice_get-append_front now (kept ∷ []) key before)) has
+        | inl before ↦ subst (λ ks. Contains ks user)
+            (ap (λ o. option_map_or (λ (c : TreeCell). c.users.keys) o []) (slice_get-append_front now (kept ∷ []) key before)) has
         | inr after ↦ absurd (elim (cases_eq key (length now)) [
           | inl here ↦
               let none = subst (λ ks. Contains ks user)
-              (ap (users_of (now ++ kept ∷ [])) here ∙ ap (λ o. option_map_or (λ (c : TreeCell). c.users.keys) o []) (slice_get-push_new now kept) ∙ is.unused) has in
+              (ap (users_of (now ++ kept ∷ [])) here ∙ ap (λ o. option_map_or (λ (c : TreeCell). c.users.keys) o []) (slice_get-push_new now kept)
+              ∙ is.unused) has in
               omega (arith, none.1)
           | inr beyond ↦ no_users (now ++ kept ∷ []) key user (omega (arith, after, beyond, length-append now (kept ∷ []))) has
         ])
@@ -70,7 +73,8 @@ module _ (old now : List TreeCell) (kept : TreeCell) (cell : CellState) (behind 
   new_user : (key user : ℕ) → IsUserOf now key user → IsUserOf (now ++ kept ∷ []) key user
   new_user key user has =
       elim (cases_lt key (length now)) [
-        | inl before ↦ subst (λ ks. Contains ks user) (sym (ap (λ o. option_map_or (λ (c : TreeCell). c.users.keys) o []) (slice_get-append_front now (kept ∷ []) key before))) has
+        | inl before ↦ subst (λ ks. Contains ks user)
+            (sym (ap (λ o. option_map_or (λ (c : TreeCell). c.users.keys) o []) (slice_get-append_front now (kept ∷ []) key before))) has
         | inr after ↦ absurd (no_users now key user (omega (arith, after)) has)
       ]
 

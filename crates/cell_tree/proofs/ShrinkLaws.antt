@@ -56,7 +56,8 @@ upright_both (Some a) None p q = p
 upright_both (Some a) (Some b) p q = (omega (arith, ints, clamps, p.0, q.0), omega (arith, ints, clamps, p.1, q.1))
 
 upright_image : (o : Orient) (dx dy : ℤ) (area : Rect) → area.xlo ≤ℤ area.xhi → area.ylo ≤ℤ area.yhi
-    → ((rect_image (transform_of o dx dy) area).xlo ≤ℤ (rect_image (transform_of o dx dy) area).xhi) × ((rect_image (transform_of o dx dy) area).ylo ≤ℤ (rect_image (transform_of o dx dy) area).yhi)
+    → ((rect_image (transform_of o dx dy) area).xlo ≤ℤ (rect_image (transform_of o dx dy) area).xhi)
+    × ((rect_image (transform_of o dx dy) area).ylo ≤ℤ (rect_image (transform_of o dx dy) area).yhi)
 unfolding rect_image
 upright_image R0 dx dy area p q = (omega (arith, ints), omega (arith, ints))
 upright_image _ dx dy area p q = (omega (arith, ints), omega (arith, ints))
@@ -112,26 +113,30 @@ among_removed (entry ∷ rest) zero = skip entry (among_all rest)
 among_removed (entry ∷ rest) (suc k) = both entry (among_removed rest k)
 
 module _ (f g : ℕ → Size) where
-  depth-smaller : {xs ys : List (List ℕ × UseBody)} → AreAmong xs ys → ((k : ℕ) (entry : List ℕ × UseBody) → slice_get ys k ≡ Some entry → IsSmaller Depth (f entry.1.child.0) (g entry.1.child.0))
+  depth-smaller : {xs ys : List (List ℕ × UseBody)} → AreAmong xs ys
+      → ((k : ℕ) (entry : List ℕ × UseBody) → slice_get ys k ≡ Some entry → IsSmaller Depth (f entry.1.child.0) (g entry.1.child.0))
       → depth_below f xs ≤ depth_below g ys
   depth-smaller none low = omega arith
   depth-smaller (both e rest) low = omega (arith, low 0 e refl, depth-smaller rest (λ k entry is. low (suc k) entry is))
   depth-smaller (skip e rest) low = omega (arith, depth-smaller rest (λ k entry is. low (suc k) entry is))
 
-  elements-smaller : {xs ys : List (List ℕ × UseBody)} → AreAmong xs ys → ((k : ℕ) (entry : List ℕ × UseBody) → slice_get ys k ≡ Some entry → IsSmaller Elements (f entry.1.child.0) (g entry.1.child.0))
+  elements-smaller : {xs ys : List (List ℕ × UseBody)} → AreAmong xs ys
+      → ((k : ℕ) (entry : List ℕ × UseBody) → slice_get ys k ≡ Some entry → IsSmaller Elements (f entry.1.child.0) (g entry.1.child.0))
       → elements_below f xs ≤ elements_below g ys
   elements-smaller none low = omega arith
   elements-smaller (both e rest) low =
       omega (arith, mul-le-mul_left (length (displacements e.1.grid)) (low 0 e refl), elements-smaller rest (λ k entry is. low (suc k) entry is))
   elements-smaller (skip e rest) low = omega (arith, elements-smaller rest (λ k entry is. low (suc k) entry is))
 
-  hulls_below-smaller : {xs ys : List (List ℕ × UseBody)} → AreAmong xs ys → ((k : ℕ) (entry : List ℕ × UseBody) → slice_get ys k ≡ Some entry → IsSmaller Hull (f entry.1.child.0) (g entry.1.child.0))
+  hulls_below-smaller : {xs ys : List (List ℕ × UseBody)} → AreAmong xs ys
+      → ((k : ℕ) (entry : List ℕ × UseBody) → slice_get ys k ≡ Some entry → IsSmaller Hull (f entry.1.child.0) (g entry.1.child.0))
       → IsInside (round_all (hulls_below f xs)) (round_all (hulls_below g ys)) × IsUpright (round_all (hulls_below f xs))
   hulls_below-smaller none low = (tt, tt)
   hulls_below-smaller (both {xs} {ys} e rest) low =
       let below = hulls_below-smaller rest (λ k entry is. low (suc k) entry is) in (
         subst (λ a. IsInside a (round_all (hulls_below g (e ∷ ys)))) (sym (round_all-append (element_hulls e.1 (f e.1.child.0).hull) (hulls_below f xs)))
-            (subst (IsInside (round_both (round_all (element_hulls e.1 (f e.1.child.0).hull)) (round_all (hulls_below f xs)))) (sym (round_all-append (element_hulls e.1 (g e.1.child.0).hull) (hulls_below g ys)))
+            (subst (IsInside (round_both (round_all (element_hulls e.1 (f e.1.child.0).hull)) (round_all (hulls_below f xs))))
+            (sym (round_all-append (element_hulls e.1 (g e.1.child.0).hull) (hulls_below g ys)))
             (inside_each _ _ _ _ (hulls-smaller e.1 (f e.1.child.0).hull (g e.1.child.0).hull (low 0 e refl).0) below.0)),
         subst IsUpright (sym (round_all-append (element_hulls e.1 (f e.1.child.0).hull) (hulls_below f xs)))
             (upright_both _ _ (upright_use e.1 (f e.1.child.0).hull (low 0 e refl).1) below.1),
@@ -139,7 +144,8 @@ module _ (f g : ℕ → Size) where
   hulls_below-smaller (skip {xs} {ys} e rest) low =
       let below = hulls_below-smaller rest (λ k entry is. low (suc k) entry is) in (
         subst (IsInside (round_all (hulls_below f xs))) (sym (round_all-append (element_hulls e.1 (g e.1.child.0).hull) (hulls_below g ys)))
-            (inside_trans _ (round_all (hulls_below g ys)) _ below.0 (inside_right (round_all (element_hulls e.1 (g e.1.child.0).hull)) (round_all (hulls_below g ys)))),
+            (inside_trans _ (round_all (hulls_below g ys)) _ below.0
+            (inside_right (round_all (element_hulls e.1 (g e.1.child.0).hull)) (round_all (hulls_below g ys)))),
         below.1,
       )
 
@@ -150,14 +156,17 @@ module _ (f g : ℕ → Size) where
 
   -- A cell shrinks in a dimension where its own box, its uses and all children do.
   pub size_of-smaller : (dimension : Dimension) (a b : CellState) → IsInside a.own b.own → IsUpright a.own → AreAmong a.uses b.uses
-      → ((k : ℕ) (entry : List ℕ × UseBody) → slice_get b.uses k ≡ Some entry → IsSmaller dimension (f entry.1.child.0) (g entry.1.child.0)) → IsSmaller dimension (size_of f a) (size_of g b)
+      → ((k : ℕ) (entry : List ℕ × UseBody) → slice_get b.uses k ≡ Some entry → IsSmaller dimension (f entry.1.child.0) (g entry.1.child.0))
+      → IsSmaller dimension (size_of f a) (size_of g b)
   unfolding size_of
   size_of-smaller Depth a b own up uses low = omega (arith, depth-smaller uses low)
   size_of-smaller Elements a b own up uses low = omega (arith, elements-smaller uses low)
   size_of-smaller Hull a b own up uses low =
       let below = hulls_below-smaller uses low in (
-        subst (λ hull. IsInside hull (round_all (option_to_list b.own ++ hulls_below g b.uses))) (sym (round_all-append (option_to_list a.own) (hulls_below f a.uses)))
-            (subst (IsInside (round_both (round_all (option_to_list a.own)) (round_all (hulls_below f a.uses)))) (sym (round_all-append (option_to_list b.own) (hulls_below g b.uses)))
+        subst (λ hull. IsInside hull (round_all (option_to_list b.own ++ hulls_below g b.uses)))
+            (sym (round_all-append (option_to_list a.own) (hulls_below f a.uses)))
+            (subst (IsInside (round_both (round_all (option_to_list a.own)) (round_all (hulls_below f a.uses))))
+            (sym (round_all-append (option_to_list b.own) (hulls_below g b.uses)))
             (inside_each _ _ _ _ (own-smaller a.own b.own own) below.0)),
         subst IsUpright (sym (round_all-append (option_to_list a.own) (hulls_below f a.uses)))
             (upright_both _ _ (upright_own a.own up) below.1),

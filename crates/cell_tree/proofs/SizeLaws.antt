@@ -48,7 +48,8 @@ alike_within Elements a b same within = subst (λ n. n ≤ MOST_ELEMENTS_BELOW) 
 alike_within Hull a b same within = subst IsHullInRange same within
 
 depth_below-alike : (f g : ℕ → Size) (uses : List (List ℕ × UseBody))
-    → ((k : ℕ) (entry : List ℕ × UseBody) → slice_get uses k ≡ Some entry → (f entry.1.child.0).depth ≡ (g entry.1.child.0).depth) → depth_below f uses ≡ depth_below g uses
+    → ((k : ℕ) (entry : List ℕ × UseBody) → slice_get uses k ≡ Some entry → (f entry.1.child.0).depth ≡ (g entry.1.child.0).depth)
+    → depth_below f uses ≡ depth_below g uses
 depth_below-alike f g [] same = refl
 depth_below-alike f g (entry ∷ rest) same =
     ap (λ n. max n (depth_below f rest)) (same 0 entry refl)
@@ -56,14 +57,16 @@ depth_below-alike f g (entry ∷ rest) same =
 
 -- uses whose cells have as many elements have as many
 pub elements_below-alike : (f g : ℕ → Size) (uses : List (List ℕ × UseBody))
-    → ((k : ℕ) (entry : List ℕ × UseBody) → slice_get uses k ≡ Some entry → (f entry.1.child.0).elements ≡ (g entry.1.child.0).elements) → elements_below f uses ≡ elements_below g uses
+    → ((k : ℕ) (entry : List ℕ × UseBody) → slice_get uses k ≡ Some entry → (f entry.1.child.0).elements ≡ (g entry.1.child.0).elements)
+    → elements_below f uses ≡ elements_below g uses
 elements_below-alike f g [] same = refl
 elements_below-alike f g (entry ∷ rest) same =
     ap (λ n. length (displacements entry.1.grid) * n + elements_below f rest) (same 0 entry refl)
     ∙ ap (λ n. length (displacements entry.1.grid) * (g entry.1.child.0).elements + n) (elements_below-alike f g rest (λ k other is. same (suc k) other is))
 
 hulls_below-alike : (f g : ℕ → Size) (uses : List (List ℕ × UseBody))
-    → ((k : ℕ) (entry : List ℕ × UseBody) → slice_get uses k ≡ Some entry → (f entry.1.child.0).hull ≡ (g entry.1.child.0).hull) → hulls_below f uses ≡ hulls_below g uses
+    → ((k : ℕ) (entry : List ℕ × UseBody) → slice_get uses k ≡ Some entry → (f entry.1.child.0).hull ≡ (g entry.1.child.0).hull)
+    → hulls_below f uses ≡ hulls_below g uses
 hulls_below-alike f g [] same = refl
 hulls_below-alike f g (entry ∷ rest) same =
     ap (λ hull. element_hulls entry.1 hull ++ hulls_below f rest) (same 0 entry refl)
@@ -84,7 +87,8 @@ pub size_of-same : (f g : ℕ → Size) (cell : CellState)
 size_of-same f g cell same =
     alike_all _ _ (λ dimension. size_of-alike dimension f g cell (λ k entry is. alike_refl dimension _ _ (same k entry is)))
 
-child_below : (f : ℕ → Size) (uses : List (List ℕ × UseBody)) (k : ℕ) (entry : List ℕ × UseBody) → slice_get uses k ≡ Some entry → (f entry.1.child.0).depth ≤ depth_below f uses
+child_below : (f : ℕ → Size) (uses : List (List ℕ × UseBody)) (k : ℕ) (entry : List ℕ × UseBody) → slice_get uses k ≡ Some entry
+    → (f entry.1.child.0).depth ≤ depth_below f uses
 child_below f [] k entry is = absurd (cc)
 child_below f (first ∷ rest) zero entry is =
     let same : first ≡ entry = same_Some first entry is in
@@ -93,15 +97,18 @@ child_below f (first ∷ rest) (suc k) entry is =
     let low : (f entry.1.child.0).depth ≤ depth_below f rest = child_below f rest k entry is in omega arith
 
 -- a child is less deep
-pub child_is_lower : (f : ℕ → Size) (cell : CellState) (k : ℕ) (entry : List ℕ × UseBody) → slice_get cell.uses k ≡ Some entry → (f entry.1.child.0).depth < (size_of f cell).depth
+pub child_is_lower : (f : ℕ → Size) (cell : CellState) (k : ℕ) (entry : List ℕ × UseBody) → slice_get cell.uses k ≡ Some entry
+    → (f entry.1.child.0).depth < (size_of f cell).depth
 unfolding size_of
 child_is_lower f cell k entry is = omega (arith, child_below f cell.uses k entry is)
 
-grown-append : (dimension : Dimension) (f : ℕ → Size) (size : Size) (xs ys : List (List ℕ × UseBody)) → grown dimension f size (xs ++ ys) ≡ grown dimension f (grown dimension f size xs) ys
+grown-append : (dimension : Dimension) (f : ℕ → Size) (size : Size) (xs ys : List (List ℕ × UseBody))
+    → grown dimension f size (xs ++ ys) ≡ grown dimension f (grown dimension f size xs) ys
 grown-append dimension f size [] ys = refl
 grown-append dimension f size (x ∷ xs) ys = grown-append dimension f (added dimension size x.1 (f x.1.child.0)) xs ys
 
-grown-depth : (f : ℕ → Size) (size : Size) (uses : List (List ℕ × UseBody)) → 1 ≤ size.depth → (grown Depth f size uses).depth ≡ max size.depth (suc (depth_below f uses))
+grown-depth : (f : ℕ → Size) (size : Size) (uses : List (List ℕ × UseBody)) → 1 ≤ size.depth
+    → (grown Depth f size uses).depth ≡ max size.depth (suc (depth_below f uses))
 unfolding added
 grown-depth f size [] some = omega arith
 grown-depth f size (entry ∷ rest) some =
@@ -113,7 +120,8 @@ grown-elements f size [] = omega arith
 grown-elements f size (entry ∷ rest) =
     grown-elements f (record size { elements = size.elements + length (displacements entry.1.grid) * (f entry.1.child.0).elements }) rest ∙ omega arith
 
-grown-hull : (f : ℕ → Size) (size : Size) (uses : List (List ℕ × UseBody)) → (grown Hull f size uses).hull ≡ round_both size.hull (round_all (hulls_below f uses))
+grown-hull : (f : ℕ → Size) (size : Size) (uses : List (List ℕ × UseBody))
+    → (grown Hull f size uses).hull ≡ round_both size.hull (round_all (hulls_below f uses))
 unfolding added
 grown-hull f size [] = sym (round_both_none size.hull)
 grown-hull f size (entry ∷ rest) =
@@ -126,7 +134,8 @@ round_own None = refl
 round_own (Some box) = refl
 
 -- A size that grew use by use from the cell's own is that of the cell.
-pub grown-alike : (dimension : Dimension) (f : ℕ → Size) (cell : CellState) → AreAlike dimension (grown dimension f (own_size cell.own) cell.uses) (size_of f cell)
+pub grown-alike : (dimension : Dimension) (f : ℕ → Size) (cell : CellState)
+    → AreAlike dimension (grown dimension f (own_size cell.own) cell.uses) (size_of f cell)
 unfolding size_of
 grown-alike Depth f cell = grown-depth f (own_size cell.own) cell.uses (omega arith) ∙ omega arith
 grown-alike Elements f cell = grown-elements f (own_size cell.own) cell.uses ∙ omega arith
@@ -135,7 +144,8 @@ grown-alike Hull f cell =
     ∙ sym (round_all-append (option_to_list cell.own) (hulls_below f cell.uses))
 
 -- the values of a size with one more use, in the dimension that was worked out
-pub added-alike : (dimension : Dimension) (a b : Size) (used : UseBody) (child : Size) → AreAlike dimension a b → AreAlike dimension (added dimension a used child) (added dimension b used child)
+pub added-alike : (dimension : Dimension) (a b : Size) (used : UseBody) (child : Size) → AreAlike dimension a b
+    → AreAlike dimension (added dimension a used child) (added dimension b used child)
 unfolding added
 added-alike Depth a b used child same = ap (λ n. max n (suc child.depth)) same
 added-alike Elements a b used child same = ap (λ n. n + length (displacements used.grid) * child.elements) same
@@ -175,7 +185,8 @@ inserted-alike dimension f cell at id used =
     (alike_refl dimension _ _ (grown-insert dimension f (own_size cell.own) cell.uses at (id, used)))
     (added-alike dimension _ _ used (f used.child.0) (grown-alike dimension f cell)))
 
-with_use-alike : (dimension : Dimension) (size : Size) (used : UseBody) (child : Size) → AreAlike dimension (added dimension size used child) (with_use size used child)
+with_use-alike : (dimension : Dimension) (size : Size) (used : UseBody) (child : Size)
+    → AreAlike dimension (added dimension size used child) (with_use size used child)
 unfolding added
 with_use-alike Depth size used child = refl
 with_use-alike Elements size used child = refl
@@ -185,7 +196,8 @@ with_use-alike Hull size used child = refl
 pub size_of-inserted : (f : ℕ → Size) (cell : CellState) (at : ℕ) (id : List ℕ) (used : UseBody)
     → size_of f (record { own = cell.own; uses = insert cell.uses at (id, used) }) ≡ with_use (size_of f cell) used (f used.child.0)
 size_of-inserted f cell at id used =
-    alike_all _ _ (λ dimension. alike_trans dimension _ _ _ (inserted-alike dimension f cell at id used) (with_use-alike dimension (size_of f cell) used (f used.child.0)))
+    alike_all _ _ (λ dimension. alike_trans dimension _ _ _ (inserted-alike dimension f cell at id used)
+    (with_use-alike dimension (size_of f cell) used (f used.child.0)))
 
 -- what a size is with one more use, part by part
 pub added-depth : (size : Size) (used : UseBody) (child : Size) (d : ℕ) → d ≡ max size.depth (child.depth + 1)
@@ -225,8 +237,10 @@ slice_get-drop [] (suc n) k = refl
 slice_get-drop (x ∷ xs) (suc n) k = slice_get-drop xs n k ∙ ap (slice_get (x ∷ xs)) (let e : suc (n + k) ≡ suc n + k = omega arith in e)
 
 -- a size that grew by the uses from a place on, and by one more
-pub grown-next : (dimension : Dimension) (f : ℕ → Size) (size : Size) (uses : List (List ℕ × UseBody)) (from k : ℕ) (entry : List ℕ × UseBody) → from ≤ k → slice_get uses k ≡ Some entry
-    → grown dimension f size (take (k + 1 - from) (drop from uses)) ≡ added dimension (grown dimension f size (take (k - from) (drop from uses))) entry.1 (f entry.1.child.0)
+pub grown-next : (dimension : Dimension) (f : ℕ → Size) (size : Size) (uses : List (List ℕ × UseBody)) (from k : ℕ) (entry : List ℕ × UseBody) → from ≤ k
+    → slice_get uses k ≡ Some entry
+    → grown dimension f size (take (k + 1 - from) (drop from uses)) ≡ added dimension (grown dimension f size (take (k - from) (drop from uses))) entry.1
+    (f entry.1.child.0)
 grown-next dimension f size uses from k entry low is =
     let place : from + (k - from) ≡ k = omega arith in
     let at : slice_get (drop from uses) (k - from) ≡ Some entry = slice_get-drop uses from (k - from) ∙ ap (slice_get uses) place ∙ is in
@@ -235,21 +249,26 @@ grown-next dimension f size uses from k entry low is =
     ∙ grown-append dimension f size (take (k - from) (drop from uses)) (entry ∷ [])
 
 -- and by all of them
-pub grown-all : (dimension : Dimension) (f : ℕ → Size) (size : Size) (uses : List (List ℕ × UseBody)) (n : ℕ) → n ≡ length uses → grown dimension f size (take (n - 0) uses) ≡ grown dimension f size uses
+pub grown-all : (dimension : Dimension) (f : ℕ → Size) (size : Size) (uses : List (List ℕ × UseBody)) (n : ℕ) → n ≡ length uses
+    → grown dimension f size (take (n - 0) uses) ≡ grown dimension f size uses
 grown-all dimension f size uses n is = ap (grown dimension f size) (take_all (n - 0) uses (omega (arith, is)))
 
 grown-set : (dimension : Dimension) (f : ℕ → Size) (size : Size) (uses : List (List ℕ × UseBody)) (k : ℕ) (used : UseBody) → k < length uses
-    → grown dimension f size (with_use_at uses k used) ≡ grown dimension f (added dimension (grown dimension f size (take k uses)) used (f used.child.0)) (drop (suc k) uses)
+    → grown dimension f size (with_use_at uses k used) ≡ grown dimension f (added dimension (grown dimension f size (take k uses)) used (f used.child.0))
+    (drop (suc k) uses)
 grown-set dimension f size [] k used within = absurd (omega (arith, within))
 grown-set dimension f size (entry ∷ rest) zero used within = refl
-grown-set dimension f size (entry ∷ rest) (suc k) used within = grown-set dimension f (added dimension size entry.1 (f entry.1.child.0)) rest k used (omega (arith, within))
+grown-set dimension f size (entry ∷ rest) (suc k) used within =
+    grown-set dimension f (added dimension size entry.1 (f entry.1.child.0)) rest k used (omega (arith, within))
 
 -- a size that grew by uses of which one is another, or is left out
-pub refolded_with : (dimension : Dimension) (f : ℕ → Size) (size before there whole : Size) (uses : List (List ℕ × UseBody)) (k n : ℕ) (used : UseBody) → k < length uses → n ≡ length uses
+pub refolded_with : (dimension : Dimension) (f : ℕ → Size) (size before there whole : Size) (uses : List (List ℕ × UseBody)) (k n : ℕ) (used : UseBody)
+    → k < length uses → n ≡ length uses
     → before ≡ grown dimension f size (take (k - 0) uses) → there ≡ added dimension before used (f used.child.0)
     → whole ≡ grown dimension f there (take (n - (k + 1)) (drop (k + 1) uses)) → whole ≡ grown dimension f size (with_use_at uses k used)
 refolded_with dimension f size before there whole uses k n used within count a b c =
-    c ∙ ap (λ s. grown dimension f s (take (n - (k + 1)) (drop (k + 1) uses))) (b ∙ ap (λ s. added dimension s used (f used.child.0)) (a ∙ ap (λ m. grown dimension f size (take m uses)) (let e : k - 0 ≡ k = omega arith in e)))
+    c ∙ ap (λ s. grown dimension f s (take (n - (k + 1)) (drop (k + 1) uses)))
+    (b ∙ ap (λ s. added dimension s used (f used.child.0)) (a ∙ ap (λ m. grown dimension f size (take m uses)) (let e : k - 0 ≡ k = omega arith in e)))
     ∙ rest_of dimension f _ uses k n count ∙ sym (grown-set dimension f size uses k used within)
   where
     rest_of : (dimension : Dimension) (f : ℕ → Size) (s : Size) (uses : List (List ℕ × UseBody)) (k n : ℕ) → n ≡ length uses
@@ -262,13 +281,16 @@ pub refolded_without : (dimension : Dimension) (f : ℕ → Size) (size before w
     → before ≡ grown dimension f size (take (k - 0) uses)
     → whole ≡ grown dimension f before (take (n - (k + 1)) (drop (k + 1) uses)) → whole ≡ grown dimension f size (take k uses ++ drop (suc k) uses)
 refolded_without dimension f size before whole uses k n count a c =
-    c ∙ ap (λ s. grown dimension f s (take (n - (k + 1)) (drop (k + 1) uses))) (a ∙ ap (λ m. grown dimension f size (take m uses)) (let e : k - 0 ≡ k = omega arith in e))
+    c ∙ ap (λ s. grown dimension f s (take (n - (k + 1)) (drop (k + 1) uses)))
+    (a ∙ ap (λ m. grown dimension f size (take m uses)) (let e : k - 0 ≡ k = omega arith in e))
     ∙ ap (grown dimension f (grown dimension f size (take k uses))) (take_all (n - (k + 1)) (drop (k + 1) uses) (omega (arith, length-drop (k + 1) uses, count))
     ∙ ap (λ m. drop m uses) (let e : k + 1 ≡ suc k = omega arith in e))
     ∙ sym (grown-append dimension f size (take k uses) (drop (suc k) uses))
 
 -- the size of a cell from what it is in each dimension
-pub size_from : (f : ℕ → Size) (cell : CellState) (deep many wide : Size) → deep ≡ grown Depth f (own_size cell.own) cell.uses → many ≡ grown Elements f (own_size cell.own) cell.uses
+pub size_from : (f : ℕ → Size) (cell : CellState) (deep many wide : Size) → deep ≡ grown Depth f (own_size cell.own) cell.uses
+    → many ≡ grown Elements f (own_size cell.own) cell.uses
     → wide ≡ grown Hull f (own_size cell.own) cell.uses → record { hull = wide.hull; elements = many.elements; depth = deep.depth } ≡ size_of f cell
 size_from f cell deep many wide a b c =
-    size_is _ _ (ap (λ (s : Size). s.hull) c ∙ grown-alike Hull f cell) (ap (λ (s : Size). s.elements) b ∙ grown-alike Elements f cell) (ap (λ (s : Size). s.depth) a ∙ grown-alike Depth f cell)
+    size_is _ _ (ap (λ (s : Size). s.hull) c ∙ grown-alike Hull f cell) (ap (λ (s : Size). s.elements) b ∙ grown-alike Elements f cell)
+    (ap (λ (s : Size). s.depth) a ∙ grown-alike Depth f cell)

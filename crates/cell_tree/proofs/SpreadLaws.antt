@@ -47,7 +47,8 @@ pub way_fits : (r : ℕ) (from to step : ℤ) → r ≡ unsigned_abs (kept from 
     → FitsSigned w64 step → IsShift step → WayFits r from to step
 way_fits r from to step is few fits_from fits_to fits_step shift =
     let same : r ≡ unsigned_abs (to -ℤ from) =
-    is ∙ ap (λ z. unsigned_abs (z -ℤ kept to)) (to_z-of_z w64 from fits_from) ∙ ap (λ z. unsigned_abs (from -ℤ z)) (to_z-of_z w64 to fits_to) ∙ abs_swap from to in
+    is ∙ ap (λ z. unsigned_abs (z -ℤ kept to)) (to_z-of_z w64 from fits_from) ∙ ap (λ z. unsigned_abs (from -ℤ z)) (to_z-of_z w64 to fits_to)
+    ∙ abs_swap from to in
     let small : r ≤ MOST_ELEMENTS = omega (arith, same, few) in
     let product : (to_z w64 r *ℤ kept step) ≡ (pos r *ℤ step) =
     ap (λ z. z *ℤ kept step) (to_z_pos w64 r (omega (arith, small))) ∙ ap (λ z. pos r *ℤ z) (to_z-of_z w64 step fits_step) in
@@ -137,7 +138,8 @@ spread_reaches grid area across up xlo ylo xhi yhi spans a b =
     }
 
 -- the range of paint holds a rectangle where it holds its sides
-pub spans_iff : (area : Rect) (b : Bool) → IsPaintable (kept area.xlo) × IsPaintable (kept area.xhi) → (IsTrue b ↔ (IsPaintable (kept area.ylo) × IsPaintable (kept area.yhi)))
+pub spans_iff : (area : Rect) (b : Bool) → IsPaintable (kept area.xlo) × IsPaintable (kept area.xhi)
+    → (IsTrue b ↔ (IsPaintable (kept area.ylo) × IsPaintable (kept area.yhi)))
     → FitsSigned w64 area.xlo → FitsSigned w64 area.xhi → FitsSigned w64 area.ylo → FitsSigned w64 area.yhi → IsTrue b ↔ SpansInRange area
 spans_iff area b across up a c d e = (
   (λ t. record {

@@ -58,7 +58,8 @@ In-id [] id stands = absurd stands
 In-id (x ∷ xs) id (inl same) = (0, record { entry = x; stands = refl; same = same })
 In-id (x ∷ xs) id (inr later) = let r = In-id xs id later in (suc r.0, record { entry = r.1.entry; stands = r.1.stands; same = r.1.same })
 
-In-inserted_id : (xs : List Entry) (at : ℕ) (y : Entry) (id : List ℕ) → In id (map (λ entry. entry.0) (insert xs at y)) → In id (map (λ entry. entry.0) xs) ⊎ (y.0 ≡ id)
+In-inserted_id : (xs : List Entry) (at : ℕ) (y : Entry) (id : List ℕ) → In id (map (λ entry. entry.0) (insert xs at y))
+    → In id (map (λ entry. entry.0) xs) ⊎ (y.0 ≡ id)
 In-inserted_id xs zero y id (inl same) = inr same
 In-inserted_id xs zero y id (inr later) = inl later
 In-inserted_id [] (suc at) y id (inl same) = inr same
@@ -66,7 +67,8 @@ In-inserted_id [] (suc at) y id (inr later) = absurd later
 In-inserted_id (x ∷ xs) (suc at) y id (inl same) = inl (inl same)
 In-inserted_id (x ∷ xs) (suc at) y id (inr later) = elim (In-inserted_id xs at y id later) [ inl stands ↦ inl (inr stands) | inr same ↦ inr same ]
 
-distinct_inserted : (xs : List Entry) (at : ℕ) (y : Entry) → Distinct (map (λ entry. entry.0) xs) → (In y.0 (map (λ entry. entry.0) xs) → ⊥) → Distinct (map (λ entry. entry.0) (insert xs at y))
+distinct_inserted : (xs : List Entry) (at : ℕ) (y : Entry) → Distinct (map (λ entry. entry.0) xs) → (In y.0 (map (λ entry. entry.0) xs) → ⊥)
+    → Distinct (map (λ entry. entry.0) (insert xs at y))
 distinct_inserted xs zero y apart new = (new, apart)
 distinct_inserted [] (suc at) y apart new = ((λ never. never), tt)
 distinct_inserted (x ∷ xs) (suc at) y apart new = (
@@ -84,7 +86,8 @@ length-with_use_at [] k used = refl
 length-with_use_at (x ∷ xs) zero used = refl
 length-with_use_at (x ∷ xs) (suc k) used = ap suc (length-with_use_at xs k used)
 
-get_set : (xs : List Entry) (k : ℕ) (used : UseBody) (j : ℕ) (e : Entry) → slice_get (with_use_at xs k used) j ≡ Some e → (slice_get xs j ≡ Some e) ⊎ ((used ≡ e.1) × (j ≡ k))
+get_set : (xs : List Entry) (k : ℕ) (used : UseBody) (j : ℕ) (e : Entry) → slice_get (with_use_at xs k used) j ≡ Some e
+    → (slice_get xs j ≡ Some e) ⊎ ((used ≡ e.1) × (j ≡ k))
 get_set [] k used j e is = absurd (cc)
 get_set (x ∷ xs) zero used zero e is = inr (ap (λ (f : Entry). f.1) (same_Some _ _ is), refl)
 get_set (x ∷ xs) zero used (suc j) e is = inl is
@@ -101,23 +104,37 @@ child_set (x ∷ xs) zero used id body is same key =
     ((λ has. forth here has.k has.entry has.stands has.same), (λ has. back here has.k has.entry has.stands has.same))
   where
     forth : x.1.child.0 ≡ body.child.0 → (j : ℕ) (e : Entry) → slice_get ((x.0, used) ∷ xs) j ≡ Some e → e.1.child.0 ≡ key → HasChild (x ∷ xs) key
-    forth here zero e stands child = record { k = 0; entry = x; stands = refl; same = here ∙ sym same ∙ ap (λ (f : Entry). f.1.child.0) (same_Some _ _ stands) ∙ child }
+    forth here zero e stands child = record {
+      k = 0;
+      entry = x;
+      stands = refl;
+      same = here ∙ sym same ∙ ap (λ (f : Entry). f.1.child.0) (same_Some _ _ stands) ∙ child;
+    }
     forth here (suc j) e stands child = record { k = suc j; entry = e; stands = stands; same = child }
 
     back : x.1.child.0 ≡ body.child.0 → (j : ℕ) (e : Entry) → slice_get (x ∷ xs) j ≡ Some e → e.1.child.0 ≡ key → HasChild ((x.0, used) ∷ xs) key
-    back here zero e stands child = record { k = 0; entry = (x.0, used); stands = refl; same = same ∙ sym here ∙ ap (λ (f : Entry). f.1.child.0) (same_Some _ _ stands) ∙ child }
+    back here zero e stands child = record {
+      k = 0;
+      entry = (x.0, used);
+      stands = refl;
+      same = same ∙ sym here ∙ ap (λ (f : Entry). f.1.child.0) (same_Some _ _ stands) ∙ child;
+    }
     back here (suc j) e stands child = record { k = suc j; entry = e; stands = stands; same = child }
 child_set (x ∷ xs) (suc k) used id body is same key =
     let r = child_set xs k used id body is same key in
     ((λ has. forth r has.k has.entry has.stands has.same), (λ has. back r has.k has.entry has.stands has.same))
   where
-    forth : (HasChild (with_use_at xs k used) key ↔ HasChild xs key) → (j : ℕ) (e : Entry) → slice_get (x ∷ with_use_at xs k used) j ≡ Some e → e.1.child.0 ≡ key → HasChild (x ∷ xs) key
+    forth : (HasChild (with_use_at xs k used) key ↔ HasChild xs key) → (j : ℕ) (e : Entry) → slice_get (x ∷ with_use_at xs k used) j ≡ Some e
+        → e.1.child.0 ≡ key → HasChild (x ∷ xs) key
     forth r zero e stands child = record { k = 0; entry = e; stands = stands; same = child }
-    forth r (suc j) e stands child = let h = r.0 (record { k = j; entry = e; stands = stands; same = child }) in record { k = suc h.k; entry = h.entry; stands = h.stands; same = h.same }
+    forth r (suc j) e stands child = let h = r.0 (record { k = j; entry = e; stands = stands; same = child }) in
+        record { k = suc h.k; entry = h.entry; stands = h.stands; same = h.same }
 
-    back : (HasChild (with_use_at xs k used) key ↔ HasChild xs key) → (j : ℕ) (e : Entry) → slice_get (x ∷ xs) j ≡ Some e → e.1.child.0 ≡ key → HasChild (x ∷ with_use_at xs k used) key
+    back : (HasChild (with_use_at xs k used) key ↔ HasChild xs key) → (j : ℕ) (e : Entry) → slice_get (x ∷ xs) j ≡ Some e → e.1.child.0 ≡ key
+        → HasChild (x ∷ with_use_at xs k used) key
     back r zero e stands child = record { k = 0; entry = e; stands = stands; same = child }
-    back r (suc j) e stands child = let h = r.1 (record { k = j; entry = e; stands = stands; same = child }) in record { k = suc h.k; entry = h.entry; stands = h.stands; same = h.same }
+    back r (suc j) e stands child = let h = r.1 (record { k = j; entry = e; stands = stands; same = child }) in
+        record { k = suc h.k; entry = h.entry; stands = h.stands; same = h.same }
 
 -- another body that keeps the child moves the use
 pub moved-set : (xs : List Entry) (k : ℕ) (used : UseBody) (id : List ℕ) (body : UseBody) → slice_get xs k ≡ Some (id, body) → used.child ≡ body.child
@@ -152,18 +169,23 @@ among_distinct (both x rest) apart = ((λ stands. apart.0 (among_id rest x.0 sta
 among_distinct (skip x rest) apart = among_distinct rest apart.1
 
 -- the children but one of uses of which one of it is taken away
-pub child_removed : (xs : List Entry) (k : ℕ) (id : List ℕ) (body : UseBody) → slice_get xs k ≡ Some (id, body) → (key : ℕ) → key ≢ body.child.0 → HasChild (take k xs ++ drop (suc k) xs) key ↔ HasChild xs key
+pub child_removed : (xs : List Entry) (k : ℕ) (id : List ℕ) (body : UseBody) → slice_get xs k ≡ Some (id, body) → (key : ℕ) → key ≢ body.child.0
+    → HasChild (take k xs ++ drop (suc k) xs) key ↔ HasChild xs key
 child_removed xs k id body is key differs = (
   (λ has. let r = among_get (among_removed xs k) has.k has.entry has.stands in record { k = r.0; entry = has.entry; stands = r.1; same = has.same }),
   (λ has. back xs k is has.k has.entry has.stands has.same),
 )
   where
-    back : (xs : List Entry) (k : ℕ) → slice_get xs k ≡ Some (id, body) → (j : ℕ) (e : Entry) → slice_get xs j ≡ Some e → e.1.child.0 ≡ key → HasChild (take k xs ++ drop (suc k) xs) key
+    back : (xs : List Entry) (k : ℕ) → slice_get xs k ≡ Some (id, body) → (j : ℕ) (e : Entry) → slice_get xs j ≡ Some e → e.1.child.0 ≡ key
+        → HasChild (take k xs ++ drop (suc k) xs) key
     back [] k is j e stands child = absurd (cc)
-    back (x ∷ xs) zero is zero e stands child = absurd (differs (sym child ∙ sym (ap (λ (f : Entry). f.1.child.0) (same_Some x e stands)) ∙ ap (λ (f : Entry). f.1.child.0) (same_Some x (id, body) is)))
+    back (x ∷ xs) zero is zero e stands child =
+        absurd (differs (sym child ∙ sym (ap (λ (f : Entry). f.1.child.0) (same_Some x e stands))
+        ∙ ap (λ (f : Entry). f.1.child.0) (same_Some x (id, body) is)))
     back (x ∷ xs) zero is (suc j) e stands child = record { k = j; entry = e; stands = stands; same = child }
     back (x ∷ xs) (suc k) is zero e stands child = record { k = 0; entry = e; stands = stands; same = child }
-    back (x ∷ xs) (suc k) is (suc j) e stands child = let r = back xs k is j e stands child in record { k = suc r.k; entry = r.entry; stands = r.stands; same = r.same }
+    back (x ∷ xs) (suc k) is (suc j) e stands child = let r = back xs k is j e stands child in
+        record { k = suc r.k; entry = r.entry; stands = r.stands; same = r.same }
 
 -- and but the child of a use that came
 pub child_inserted : (xs : List Entry) (at : ℕ) (y : Entry) (key : ℕ) → key ≢ y.1.child.0 → HasChild (insert xs at y) key ↔ HasChild xs key
@@ -195,7 +217,8 @@ module _ (cells : List TreeCell) (book : SizeBook) (whole : IsWhole cells book) 
   old_below = whole.lawful.cells.uses changed _ was
 
   -- one more use of a child that doesn't stand above
-  pub inserted_lawful : (at : ℕ) (id : List ℕ) (used : UseBody) → at ≤ length (cell_at (states cells) changed).uses → IsLawfulUse used → used.child.0 < length cells
+  pub inserted_lawful : (at : ℕ) (id : List ℕ) (used : UseBody) → at ≤ length (cell_at (states cells) changed).uses → IsLawfulUse used
+      → used.child.0 < length cells
       → (IsAbove (states cells) changed used.child.0 → ⊥)
       → length (cell_at (states cells) changed).uses < MOST_USES → ((k : ℕ) → HasIdAt (cell_at (states cells) changed).uses k id → ⊥)
       → IsLawfulState (states cells) changed (with_inserted (cell_at (states cells) changed) at id used)
@@ -218,19 +241,25 @@ module _ (cells : List TreeCell) (book : SizeBook) (whole : IsWhole cells book) 
       }
 
   -- a use placed otherwise
-  pub moved_lawful : (k : ℕ) (used : UseBody) (id : List ℕ) (body : UseBody) → slice_get (cell_at (states cells) changed).uses k ≡ Some (id, body) → used.child.0 ≡ body.child.0 → IsLawfulUse used
+  pub moved_lawful : (k : ℕ) (used : UseBody) (id : List ℕ) (body : UseBody) → slice_get (cell_at (states cells) changed).uses k ≡ Some (id, body)
+      → used.child.0 ≡ body.child.0 → IsLawfulUse used
       → IsLawfulState (states cells) changed (with_use_set (cell_at (states cells) changed) k used)
   moved_lawful k used id body is same lawful =
       record {
         few = omega (arith, whole.lawful.cells.few changed _ was, length-with_use_at (cell_at (states cells) changed).uses k used);
         uses = λ j entry stands. elim (get_set (cell_at (states cells) changed).uses k used j entry stands) [
           | inl old ↦ old_below j entry old
-          | inr new ↦ subst (λ (u : UseBody). IsLawfulUse u × (u.child.0 < length (states cells))) new.0 (lawful, subst (λ n. n < length (states cells)) (sym same) (old_below k (id, body) is).1)
+          | inr new ↦ subst (λ (u : UseBody). IsLawfulUse u × (u.child.0 < length (states cells))) new.0
+              (lawful, subst (λ n. n < length (states cells)) (sym same) (old_below k (id, body) is).1)
         ];
-        cell = record { ids = subst Distinct (sym (ids-set (cell_at (states cells) changed).uses k used)) (whole.lawful.each changed _ was).ids; own = (whole.lawful.each changed _ was).own };
+        cell = record {
+          ids = subst Distinct (sym (ids-set (cell_at (states cells) changed).uses k used)) (whole.lawful.each changed _ was).ids;
+          own = (whole.lawful.each changed _ was).own;
+        };
         free = λ j entry stands. elim (get_set (cell_at (states cells) changed).uses k used j entry stands) [
           | inl old ↦ old_free j entry old
-          | inr new ↦ subst (λ (u : UseBody). IsAbove (states cells) changed u.child.0 → ⊥) new.0 (subst (λ n. IsAbove (states cells) changed n → ⊥) (sym same) (old_free k (id, body) is))
+          | inr new ↦ subst (λ (u : UseBody). IsAbove (states cells) changed u.child.0 → ⊥) new.0
+              (subst (λ n. IsAbove (states cells) changed n → ⊥) (sym same) (old_free k (id, body) is))
         ];
       }
 
@@ -245,7 +274,8 @@ module _ (cells : List TreeCell) (book : SizeBook) (whole : IsWhole cells book) 
         free = λ j entry stands. let r = among_get among j entry stands in old_free r.0 entry r.1;
       }
 
-depth_set : (f : ℕ → Size) (xs : List Entry) (k : ℕ) (used : UseBody) (id : List ℕ) (body : UseBody) → slice_get xs k ≡ Some (id, body) → used.child.0 ≡ body.child.0
+depth_set : (f : ℕ → Size) (xs : List Entry) (k : ℕ) (used : UseBody) (id : List ℕ) (body : UseBody) → slice_get xs k ≡ Some (id, body)
+    → used.child.0 ≡ body.child.0
     → depth_below f (with_use_at xs k used) ≡ depth_below f xs
 depth_set f [] k used id body is same = absurd (cc)
 depth_set f (x ∷ xs) zero used id body is same =
@@ -253,15 +283,18 @@ depth_set f (x ∷ xs) zero used id body is same =
 depth_set f (x ∷ xs) (suc k) used id body is same = ap (max (f x.1.child.0).depth) (depth_set f xs k used id body is same)
 
 -- a use placed otherwise leaves the depth
-pub moved_depth : (f : ℕ → Size) (cell : CellState) (k : ℕ) (used : UseBody) (id : List ℕ) (body : UseBody) → slice_get cell.uses k ≡ Some (id, body) → used.child.0 ≡ body.child.0
+pub moved_depth : (f : ℕ → Size) (cell : CellState) (k : ℕ) (used : UseBody) (id : List ℕ) (body : UseBody) → slice_get cell.uses k ≡ Some (id, body)
+    → used.child.0 ≡ body.child.0
     → (size_of f (with_use_set cell k used)).depth ≡ (size_of f cell).depth
 unfolding size_of
 moved_depth f cell k used id body is same = ap suc (depth_set f cell.uses k used id body is same)
 
 -- what a use placed otherwise passes first
-pub moved_refused : (cells : List TreeCell) (book : SizeBook) (whole : IsWhole cells book) (changed : ℕ) (inside : changed < length cells) (k : ℕ) (used : UseBody) (id : List ℕ) (body : UseBody)
+pub moved_refused : (cells : List TreeCell) (book : SizeBook) (whole : IsWhole cells book) (changed : ℕ) (inside : changed < length cells) (k : ℕ)
+    (used : UseBody) (id : List ℕ) (body : UseBody)
     → slice_get (cell_at (states cells) changed).uses k ≡ Some (id, body) → used.child ≡ body.child → IsLawfulUse used → (dimension : Dimension)
-    → ((tried : List Size) → IsTried (states cells) book.sizes.items tried changed (size_of (size_at book.sizes.items) (with_use_set (cell_at (states cells) changed) k used)) → PassesFirst dimension (states cells) changed tried)
+    → ((tried : List Size) → IsTried (states cells) book.sizes.items tried changed
+    (size_of (size_at book.sizes.items) (with_use_set (cell_at (states cells) changed) k used)) → PassesFirst dimension (states cells) changed tried)
     → RefusesMove (tree_of cells book) changed k used.placed used.grid (Passed dimension)
 moved_refused cells book whole changed inside k used id body is same lawful Depth passes =
     never_passes cells book whole changed inside Depth _
@@ -271,21 +304,28 @@ moved_refused cells book whole changed inside k used id body is same lawful Dept
       ap (λ (s : Size). s.depth) (whole.lawful.sizes.right changed _ (was cells book whole changed inside)),
     )) passes
 moved_refused cells book whole changed inside k used id body is same lawful Elements passes =
-    subst (WouldPass Elements (tree_of cells book) changed) (ap (with_uses (cell_at (states cells) changed)) (moved-set (cell_at (states cells) changed).uses k used id body is same))
-    (would_pass cells book changed _ whole inside (moved_lawful cells book whole changed inside k used id body is (ap (λ (c : CellKey). c.0) same) lawful) Elements passes)
+    subst (WouldPass Elements (tree_of cells book) changed)
+    (ap (with_uses (cell_at (states cells) changed)) (moved-set (cell_at (states cells) changed).uses k used id body is same))
+    (would_pass cells book changed _ whole inside (moved_lawful cells book whole changed inside k used id body is (ap (λ (c : CellKey). c.0) same) lawful)
+    Elements passes)
 moved_refused cells book whole changed inside k used id body is same lawful Hull passes =
-    subst (WouldPass Hull (tree_of cells book) changed) (ap (with_uses (cell_at (states cells) changed)) (moved-set (cell_at (states cells) changed).uses k used id body is same))
-    (would_pass cells book changed _ whole inside (moved_lawful cells book whole changed inside k used id body is (ap (λ (c : CellKey). c.0) same) lawful) Hull passes)
+    subst (WouldPass Hull (tree_of cells book) changed)
+    (ap (with_uses (cell_at (states cells) changed)) (moved-set (cell_at (states cells) changed).uses k used id body is same))
+    (would_pass cells book changed _ whole inside (moved_lawful cells book whole changed inside k used id body is (ap (λ (c : CellKey). c.0) same) lawful)
+    Hull passes)
 
 -- the size of a cell with one more use
-pub inserted_size : (cells : List TreeCell) (book : SizeBook) (whole : IsWhole cells book) (changed : ℕ) (inside : changed < length cells) (at : ℕ) (id : List ℕ) (used : UseBody)
-    → with_use (size_at book.sizes.items changed) used (size_at book.sizes.items used.child.0) ≡ size_of (size_at book.sizes.items) (with_inserted (cell_at (states cells) changed) at id used)
+pub inserted_size : (cells : List TreeCell) (book : SizeBook) (whole : IsWhole cells book) (changed : ℕ) (inside : changed < length cells) (at : ℕ)
+    (id : List ℕ) (used : UseBody)
+    → with_use (size_at book.sizes.items changed) used (size_at book.sizes.items used.child.0)
+    ≡ size_of (size_at book.sizes.items) (with_inserted (cell_at (states cells) changed) at id used)
 inserted_size cells book whole changed inside at id used =
     ap (λ (s : Size). with_use s used (size_at book.sizes.items used.child.0)) (whole.lawful.sizes.right changed _ (was cells book whole changed inside))
     ∙ sym (size_of-inserted (size_at book.sizes.items) (cell_at (states cells) changed) at id used)
 
 -- A tree of cells of the same states and users is whole, with a book that says the same.
-pub whole_same : (cells cells' : List TreeCell) (book book' : SizeBook) → IsWhole cells book → states cells' ≡ states cells → AreUsersKept cells cells' → SaysTheSame book book' → IsReady book' (length cells) → IsWhole cells' book'
+pub whole_same : (cells cells' : List TreeCell) (book book' : SizeBook) → IsWhole cells book → states cells' ≡ states cells → AreUsersKept cells cells'
+    → SaysTheSame book book' → IsReady book' (length cells) → IsWhole cells' book'
 whole_same cells cells' book book' whole are kept same ready =
     record {
       lawful = subst IsLawfulTree trees whole.lawful;
@@ -298,11 +338,13 @@ whole_same cells cells' book book' whole are kept same ready =
   where
     trees : tree_of cells book ≡ tree_of cells' book'
     trees =
-        let whole : record { cells = states cells; sizes = book.sizes.items; stamps = book.stamps.items; edits = book.edits } ≡ tree_of cells' book' = rw (← are, ← same.sizes, ← same.stamps, ← same.edits) refl in whole
+        let whole : record { cells = states cells; sizes = book.sizes.items; stamps = book.stamps.items; edits = book.edits } ≡ tree_of cells' book' =
+        rw (← are, ← same.sizes, ← same.stamps, ← same.edits) refl in whole
 
 -- the use that is read of a cell
 pub stands_at : (cells : List TreeCell) (key : ℕ) (d : TreeCell) (k : ℕ) (used : UseBody) → key < length cells → d ≡ get_or cells key d
-    → option_map (λ (entry : Entry). entry.1) (slice_get d.uses.entries k) ≡ Some used → (id : List ℕ) × (slice_get (cell_at (states cells) key).uses k ≡ Some (id, used))
+    → option_map (λ (entry : Entry). entry.1) (slice_get d.uses.entries k) ≡ Some used
+    → (id : List ℕ) × (slice_get (cell_at (states cells) key).uses k ≡ Some (id, used))
 stands_at cells key d k used within is at =
     let r = body_at d.uses.entries k used at in
     (r.0, subst (λ (c : CellState). slice_get c.uses k ≡ Some (r.0, used)) (sym (cell_at-states cells key d within ∙ ap state_of (sym is))) r.1)

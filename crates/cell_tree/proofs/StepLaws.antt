@@ -56,7 +56,8 @@ module _ (dimension : Dimension) (cells : List CellState) (changed : ℕ) (order
         is_order.once again.place (k - 1) (omega (arith, again.before, s.before)) before again.is)
 
     module _ (new : List Size) (long : length next ≡ length cells)
-        (sets : (cell : CellState) → slice_get cells (at order (k - 1)) ≡ Some cell → SetsDimension dimension (at order (k - 1)) (size_of (size_at next) cell) next new) where
+        (sets : (cell : CellState) → slice_get cells (at order (k - 1)) ≡ Some cell
+        → SetsDimension dimension (at order (k - 1)) (size_of (size_at next) cell) next new) where
       empty : CellState
       empty = record { own = None; uses = [] }
 
@@ -80,9 +81,11 @@ module _ (dimension : Dimension) (cells : List CellState) (changed : ℕ) (order
                 (subst (λ end. AreSettledBut dimension cells changed order end next) (let e : k ≡ k - 1 + 1 = omega (arith, some) in e) fit.set.settled);
             kept = set_apart dimension (at order (k - 1)) _ next new (sets _ here_is) changed not_changed ∙ fit.set.kept;
             others = λ key apart.
-                set_apart dimension (at order (k - 1)) _ next new (sets _ here_is) key (λ same. apart (record { place = k - 1; before = before; is = sym same })) ∙ fit.set.others key apart;
+                set_apart dimension (at order (k - 1)) _ next new (sets _ here_is) key
+                (λ same. apart (record { place = k - 1; before = before; is = sym same })) ∙ fit.set.others key apart;
             alike = λ other differs key.
-                alike_trans other _ (size_at next key) _ (set_other other dimension (at order (k - 1)) _ next new (sets _ here_is) inside differs key) (fit.set.alike other differs key);
+                alike_trans other _ (size_at next key) _ (set_other other dimension (at order (k - 1)) _ next new (sets _ here_is) inside differs key)
+                (fit.set.alike other differs key);
           }
 
       -- and fits, where it keeps within the limit

@@ -31,7 +31,8 @@ some_or_none None is none = absurd (cc)
 some_or_none (Some x) is none = absurd (cc)
 
 -- what is not found has no place
-pub lookup_none : (id : List ℕ) (es : List (Vec ℕ Global × UseBody)) → lookup (λ key. pointwise eqb id key.items) es ≡ None → (k : ℕ) → HasIdAt (map (λ entry. (entry.0.items, entry.1)) es) k id → ⊥
+pub lookup_none : (id : List ℕ) (es : List (Vec ℕ Global × UseBody)) → lookup (λ key. pointwise eqb id key.items) es ≡ None → (k : ℕ)
+    → HasIdAt (map (λ entry. (entry.0.items, entry.1)) es) k id → ⊥
 lookup_none id [] none k has = none-some has.entry has.stands
 lookup_none id (e ∷ es) none zero has = elim (cases_Bool (pointwise eqb id e.0.items)) [
   | inl passes ↦ none-some e.1 (sym (rw passes at none))
@@ -45,14 +46,16 @@ lookup_none id (e ∷ es) none (suc k) has = elim (cases_Bool (pointwise eqb id 
 ]
 
 -- where no use has the id, a look-up finds none
-pub lookup_absent : (id : List ℕ) (es : List (Vec ℕ Global × UseBody)) → ((k : ℕ) → HasIdAt (map (λ entry. (entry.0.items, entry.1)) es) k id → ⊥) → lookup (λ key. pointwise eqb id key.items) es ≡ None
+pub lookup_absent : (id : List ℕ) (es : List (Vec ℕ Global × UseBody)) → ((k : ℕ) → HasIdAt (map (λ entry. (entry.0.items, entry.1)) es) k id → ⊥)
+    → lookup (λ key. pointwise eqb id key.items) es ≡ None
 lookup_absent id [] absent = refl
 lookup_absent id (e ∷ es) absent = elim (cases_Bool (pointwise eqb id e.0.items)) [
   | inl passes ↦ absurd (absent 0 (record { entry = (e.0.items, e.1); stands = refl; same = sym ((bytes_decides id e.0.items).0 passes) }))
   | inr fails ↦ rw fails (lookup_absent id es (λ k has. absent (suc k) (record { entry = has.entry; stands = has.stands; same = has.same })))
 ]
 
-lookup_key_passes : (id : List ℕ) (es : List (Vec ℕ Global × UseBody)) (key : Vec ℕ Global) → lookup_key (λ key. pointwise eqb id key.items) es ≡ Some key → pointwise eqb id key.items ≡ true
+lookup_key_passes : (id : List ℕ) (es : List (Vec ℕ Global × UseBody)) (key : Vec ℕ Global) → lookup_key (λ key. pointwise eqb id key.items) es ≡ Some key
+    → pointwise eqb id key.items ≡ true
 lookup_key_passes id [] key found = absurd (none-some key found)
 lookup_key_passes id (e ∷ es) key found = elim (cases_Bool (pointwise eqb id e.0.items)) [
   | inl passes ↦ let same : e.0 ≡ key = same_Some _ _ (rw passes at found) in ap (λ (k : Vec ℕ Global). pointwise eqb id k.items) (sym same) ∙ passes
@@ -61,7 +64,8 @@ lookup_key_passes id (e ∷ es) key found = elim (cases_Bool (pointwise eqb id e
 
 -- what is found stands in its place under its id
 pub lookup_found : (id : List ℕ) (es : List (Vec ℕ Global × UseBody)) (k : ℕ) (key : Vec ℕ Global) (used : UseBody)
-    → lookup_key (λ key. pointwise eqb id key.items) es ≡ Some key → slice_get es k ≡ Some (key, used) → HasIdAt (map (λ entry. (entry.0.items, entry.1)) es) k id
+    → lookup_key (λ key. pointwise eqb id key.items) es ≡ Some key → slice_get es k ≡ Some (key, used)
+    → HasIdAt (map (λ entry. (entry.0.items, entry.1)) es) k id
 lookup_found id es k key used found stands =
     record {
       entry = (key.items, used);
@@ -71,8 +75,10 @@ lookup_found id es k key used found stands =
 
 -- a new key that came to a place
 pub map-inserted : (es after : List (Vec ℕ Global × UseBody)) (id : Vec ℕ Global) (used : UseBody) (k : ℕ)
-    → after ≡ move_index (insert_entry (λ one key. pointwise eqb one.items key.items) es id used) (position_or_len (λ key. pointwise eqb id.items key.items) (keys_of es)) k
-    → ((j : ℕ) → HasIdAt (map (λ entry. (entry.0.items, entry.1)) es) j id.items → ⊥) → k ≤ length {A = List ℕ × UseBody} (map (λ entry. (entry.0.items, entry.1)) es)
+    → after ≡ move_index (insert_entry (λ one key. pointwise eqb one.items key.items) es id used)
+    (position_or_len (λ key. pointwise eqb id.items key.items) (keys_of es)) k
+    → ((j : ℕ) → HasIdAt (map (λ entry. (entry.0.items, entry.1)) es) j id.items → ⊥)
+    → k ≤ length {A = List ℕ × UseBody} (map (λ entry. (entry.0.items, entry.1)) es)
     → map {B = List ℕ × UseBody} (λ entry. (entry.0.items, entry.1)) after ≡ insert (map (λ entry. (entry.0.items, entry.1)) es) k (id.items, used)
 map-inserted es after id used k is new place =
     let is_id : Vec ℕ Global → Bool = λ key. pointwise eqb id.items key.items in

@@ -34,10 +34,12 @@ pub record AreForgottenTo (old new : List TreeCell) (first end : ℕ) : Type 0 w
 
 -- the use that was looked at is one of the cell
 child_used : (cells : List CellState) (cell k child : ℕ) → cell < length cells → ChildIs cells cell k child → Uses cells cell child
-child_used cells cell k child within is = record { cell = cell_at cells cell; is = cell_is cells cell within; k = k; entry = is.entry; stands = is.stands; child = is.is }
+child_used cells cell k child within is =
+    record { cell = cell_at cells cell; is = cell_is cells cell within; k = k; entry = is.entry; stands = is.stands; child = is.is }
 
 -- and its child is one of the cells
-pub child_within : (cells : List TreeCell) (all : List CellState) (cell k child : ℕ) → AreLawfulCells all → states cells ≡ all → cell < length cells → ChildIs (states cells) cell k child → child < length cells
+pub child_within : (cells : List TreeCell) (all : List CellState) (cell k child : ℕ) → AreLawfulCells all → states cells ≡ all → cell < length cells
+    → ChildIs (states cells) cell k child → child < length cells
 child_within cells all cell k child lawful same within is =
     let inside : cell < length (states cells) = omega (arith, within, length-states cells) in
     let lawful' : AreLawfulCells (states cells) = subst AreLawfulCells (sym same) lawful in
@@ -45,15 +47,18 @@ child_within cells all cell k child lawful same within is =
     subst (λ c. c < length cells) is.is (omega (arith, low, length-states cells))
 
 -- the uses that a cell has
-own_use : (cells : List CellState) (cell key : ℕ) → Uses cells cell key → (k : ℕ) × (entry : List ℕ × UseBody) × (slice_get (cell_at cells cell).uses k ≡ Some entry) × (entry.1.child.0 ≡ key)
+own_use : (cells : List CellState) (cell key : ℕ) → Uses cells cell key
+    → (k : ℕ) × (entry : List ℕ × UseBody) × (slice_get (cell_at cells cell).uses k ≡ Some entry) × (entry.1.child.0 ≡ key)
 own_use cells cell key uses =
-    let same : uses.cell ≡ cell_at cells cell = same_Some uses.cell (cell_at cells cell) (sym uses.is ∙ cell_is cells cell (slice_get_within cells cell uses.cell uses.is)) in
+    let same : uses.cell ≡ cell_at cells cell =
+    same_Some uses.cell (cell_at cells cell) (sym uses.is ∙ cell_is cells cell (slice_get_within cells cell uses.cell uses.is)) in
     (uses.k, uses.entry, ap (λ (c : CellState). slice_get c.uses uses.k) (sym same) ∙ uses.stands, uses.child)
 
 place_within : (uses : List (List ℕ × UseBody)) (k : ℕ) (entry : List ℕ × UseBody) → slice_get uses k ≡ Some entry → k < length uses
 place_within uses k entry is = slice_get_within uses k entry is
 
-module _ (first now mid new : List TreeCell) (cell k child : ℕ) (within : cell < length first) (told : AreTold first now cell k) (is : ChildIs (states now) cell k child)
+module _ (first now mid new : List TreeCell) (cell k child : ℕ) (within : cell < length first) (told : AreTold first now cell k)
+    (is : ChildIs (states now) cell k child)
     (mid_states : states mid ≡ states now) (mid_users : AreUsersKept now mid) (new_states : states new ≡ states mid)
     (others : (key : ℕ) → key ≢ child → users_of new key ≡ users_of mid key) (users : users_of new child ≡ insert_key nat_eq (users_of mid child) cell) where
   was : ChildIs (states first) cell k child
@@ -67,7 +72,9 @@ module _ (first now mid new : List TreeCell) (cell k child : ℕ) (within : cell
       elim (cases_eq key child) [
         | inl here ↦
             subst (λ c. IsUserOf new c user) (sym here)
-            (subst (λ ks. Contains ks user) (sym users) (insert_more (users_of mid child) cell user (subst (λ ks. Contains ks user) (sym (mid_users child)) (subst (λ c. IsUserOf now c user) here has))))
+            (subst (λ ks. Contains ks user) (sym users)
+            (insert_more (users_of mid child) cell user
+            (subst (λ ks. Contains ks user) (sym (mid_users child)) (subst (λ c. IsUserOf now c user) here has))))
         | inr apart ↦ subst (λ ks. Contains ks user) (sym (others key apart ∙ mid_users key)) has
       ]
 
@@ -96,7 +103,8 @@ module _ (first now mid new : List TreeCell) (cell k child : ℕ) (within : cell
         told = λ j entry low stands. elim (cases_eq j k) [
           | inr early ↦ more entry.1.child.0 cell (told.told j entry (omega (arith, low, early)) stands)
           | inl here ↦
-              let same : was.entry ≡ entry = same_Some was.entry entry (sym was.stands ∙ sym (ap (slice_get (cell_at (states first) cell).uses) here) ∙ stands) in
+              let same : was.entry ≡ entry = same_Some was.entry entry
+              (sym was.stands ∙ sym (ap (slice_get (cell_at (states first) cell).uses) here) ∙ stands) in
               let at_child : child ≡ entry.1.child.0 = sym was.is ∙ ap (λ (e : List ℕ × UseBody). e.1.child.0) same in
               subst (λ c. IsUserOf new c cell) at_child
               (subst (λ ks. Contains ks cell) (sym users) (Contains-insert_key nat_eq eqb-true (users_of mid child) cell))
@@ -141,7 +149,8 @@ module _ (first now : List TreeCell) (cell k : ℕ) (told : AreTold first now ce
       }
 
 -- and stays where the users are kept
-pub part_kept : (cells new : List TreeCell) (first : ℕ) → states new ≡ states cells → AreUsersKept cells new → KnowUsersFrom cells first → KnowUsersFrom new first
+pub part_kept : (cells new : List TreeCell) (first : ℕ) → states new ≡ states cells → AreUsersKept cells new → KnowUsersFrom cells first
+    → KnowUsersFrom new first
 part_kept cells new first same kept part =
     record {
       known = λ key user low uses. subst (λ ks. Contains ks user) (sym (kept key)) (part.known key user low (subst (λ cs. Uses cs user key) same uses));
@@ -168,7 +177,8 @@ module _ (first now new : List TreeCell) (cell k child : ℕ) (gone : AreForgott
       ]
 
   not_there : IsUserOf new child cell → ⊥
-  not_there has = both_ways _ (tells cell ∙ ap (λ b. if b then false else knows (users_of now child) cell) (eq-eqb cell cell refl)) (contains_knows (users_of new child) cell has)
+  not_there has = both_ways _ (tells cell ∙ ap (λ b. if b then false else knows (users_of now child) cell) (eq-eqb cell cell refl))
+      (contains_knows (users_of new child) cell has)
 
   less : (key : ℕ) → IsUserOf new key cell → IsUserOf now key cell
   less key has =
@@ -189,7 +199,8 @@ module _ (first now new : List TreeCell) (cell k child : ℕ) (gone : AreForgott
           | inr early ↦ gone.gone j entry (omega (arith, low, early)) stands (less entry.1.child.0 has)
           | inl here ↦
               let was : ChildIs (states first) cell k child = subst (λ cs. ChildIs cs cell k child) gone.same is in
-              let same : was.entry ≡ entry = same_Some was.entry entry (sym was.stands ∙ sym (ap (slice_get (cell_at (states first) cell).uses) here) ∙ stands) in
+              let same : was.entry ≡ entry = same_Some was.entry entry
+              (sym was.stands ∙ sym (ap (slice_get (cell_at (states first) cell).uses) here) ∙ stands) in
               let at_child : entry.1.child.0 ≡ child = sym (sym was.is ∙ ap (λ (e : List ℕ × UseBody). e.1.child.0) same) in
               not_there (subst (λ c. IsUserOf new c cell) at_child has)
         ];
@@ -202,12 +213,14 @@ forgotten_more cells now new first cell high users gone one =
     record {
       same = one.same ∙ gone.same;
       known = λ key user low.
-          let a = one.others key user (λ same. omega (arith, same, low, high)) in let b = gone.known key user low in ((λ has. b.0 (a.0 has)), (λ has. a.1 (b.1 has)));
+          let a = one.others key user (λ same. omega (arith, same, low, high)) in let b = gone.known key user low in
+          ((λ has. b.0 (a.0 has)), (λ has. a.1 (b.1 has)));
       gone = λ key user late low has. elim (cases_eq user cell) [
         | inr differs ↦ gone.gone key user late (omega (arith, low, differs)) ((one.others key user differs).0 has)
         | inl is_own ↦
             let has' : IsUserOf new key cell = subst (λ u. IsUserOf new key u) is_own has in
-            let uses : Uses (states now) cell key = subst (λ cs. Uses cs cell key) (sym gone.same) (users.uses key cell (gone.only key cell (one.only key has'))) in
+            let uses : Uses (states now) cell key = subst (λ cs. Uses cs cell key) (sym gone.same)
+            (users.uses key cell (gone.only key cell (one.only key has'))) in
             let own = own_use (states now) cell key uses in
             one.gone own.0 own.1 (place_within (cell_at (states now) cell).uses own.0 own.1 own.2) own.2 (subst (λ c. IsUserOf new c cell) (sym own.3) has')
       ];
@@ -218,7 +231,8 @@ forgotten_more cells now new first cell high users gone one =
     }
 
 -- At the end only the users before the first are known.
-pub forgotten_all : (cells new : List TreeCell) (first end : ℕ) → length cells ≤ end → KnowUsersFrom cells first → AreForgottenTo cells new first end → KnowUsersTo new first
+pub forgotten_all : (cells new : List TreeCell) (first end : ℕ) → length cells ≤ end → KnowUsersFrom cells first → AreForgottenTo cells new first end
+    → KnowUsersTo new first
 forgotten_all cells new first end long users gone =
     record {
       known = λ key user low uses. (gone.known key user low).1 (users.known key user low (subst (λ cs. Uses cs user key) gone.same uses));
@@ -227,6 +241,7 @@ forgotten_all cells new first end long users gone =
         | inl low ↦ low
         | inr late ↦
             let uses = users.uses key user (gone.only key user has) in
-            absurd (gone.gone key user (omega (arith, late)) (omega (arith, slice_get_within (states cells) user uses.cell uses.is, length-states cells, long)) has)
+            absurd (gone.gone key user (omega (arith, late))
+            (omega (arith, slice_get_within (states cells) user uses.cell uses.is, length-states cells, long)) has)
       ];
     }

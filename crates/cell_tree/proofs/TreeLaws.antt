@@ -78,27 +78,41 @@ module _ (cells : List TreeCell) (book : SizeBook) (whole : IsWhole cells book) 
       let there = tried_exists (states cells) book.sizes.items whole.lawful.cells whole.lawful.sizes changed size
       (above_or_not (states cells) book.sizes.items whole.lawful.cells whole.lawful.sizes changed) in_states in
       let first = passes there.0 there.2 in
-      first.passes (smaller_keeps (states cells) book.sizes.items whole.lawful.cells whole.lawful.sizes uprights dimension changed size there.0 base there.2 first.key)
+      first.passes (smaller_keeps (states cells) book.sizes.items whole.lawful.cells whole.lawful.sizes uprights dimension changed size there.0 base there.2
+      first.key)
 
   -- what another own box passes first is the range
   pub own_refused : (own : Option Rect) → IsLawfulOwn own → (dimension : Dimension)
-      → ((tried : List Size) → IsTried (states cells) book.sizes.items tried changed (size_of (size_at book.sizes.items) (with_own (cell_at (states cells) changed) own)) → PassesFirst dimension (states cells) changed tried)
+      → ((tried : List Size) → IsTried (states cells) book.sizes.items tried changed
+      (size_of (size_at book.sizes.items) (with_own (cell_at (states cells) changed) own)) → PassesFirst dimension (states cells) changed tried)
       → RefusesBox (tree_of cells book) changed own (Passed dimension)
   own_refused own lawful Hull passes = would_pass cells book changed _ whole inside (own_lawful own lawful) Hull passes
   own_refused own lawful Depth passes =
-      never_passes Depth _ (omega (arith, own_depth (size_at book.sizes.items) (cell_at (states cells) changed) own, ap (λ (s : Size). s.depth) (whole.lawful.sizes.right changed _ was))) passes
+      never_passes Depth _ (omega (
+        arith,
+        own_depth (size_at book.sizes.items) (cell_at (states cells) changed) own,
+        ap (λ (s : Size). s.depth)
+            (whole.lawful.sizes.right changed _ was),
+      )) passes
   own_refused own lawful Elements passes =
-      never_passes Elements _ (omega (arith, own_elements (size_at book.sizes.items) (cell_at (states cells) changed) own, ap (λ (s : Size). s.elements) (whole.lawful.sizes.right changed _ was))) passes
+      never_passes Elements _ (omega (
+        arith,
+        own_elements (size_at book.sizes.items) (cell_at (states cells) changed) own,
+        ap (λ (s : Size). s.elements)
+            (whole.lawful.sizes.right changed _ was),
+      )) passes
 
   -- A cell that shrinks passes no limit.
   pub shrunk_passes : (state : CellState) (dimension : Dimension) → IsInside state.own (cell_at (states cells) changed).own → IsUpright state.own
       → AreAmong state.uses (cell_at (states cells) changed).uses
-      → ((tried : List Size) → IsTried (states cells) book.sizes.items tried changed (size_of (size_at book.sizes.items) state) → PassesFirst dimension (states cells) changed tried) → ⊥
+      → ((tried : List Size) → IsTried (states cells) book.sizes.items tried changed (size_of (size_at book.sizes.items) state)
+      → PassesFirst dimension (states cells) changed tried) → ⊥
   shrunk_passes state dimension within up among passes =
       let there = tried_exists (states cells) book.sizes.items whole.lawful.cells whole.lawful.sizes changed (size_of (size_at book.sizes.items) state)
       (above_or_not (states cells) book.sizes.items whole.lawful.cells whole.lawful.sizes changed) in_states in
       let first = passes there.0 there.2 in
-      first.passes (shrunk_within (states cells) book.sizes.items whole.lawful.cells whole.lawful.sizes uprights changed state _ there.0 was within up among there.2 dimension first.key)
+      first.passes (shrunk_within (states cells) book.sizes.items whole.lawful.cells whole.lawful.sizes uprights changed state _ there.0 was within up among
+      there.2 dimension first.key)
 
 -- What an edit of one cell was made of: the cells and sizes that each step was shown are those of the tree.
 pub record IsRun (cells c1 c2 c3 : List TreeCell) (book : SizeBook) (sizes : List Size) : Type 0 where
@@ -115,22 +129,28 @@ module _ (cells c1 c2 c3 after : List TreeCell) (book book' : SizeBook) (sizes :
       is ∙ ap (λ (s : List Size). size_of (size_at s) (f (cell_at (states c1) changed))) run.second
       ∙ ap (λ (cs : List TreeCell). size_of (size_at book.sizes.items) (f (cell_at (states cs) changed))) run.first
 
-  pub run_booked : IsBooked c2 book book' changed size → IsBooked cells book book' changed (size_of (size_at book.sizes.items) (f (cell_at (states cells) changed)))
+  pub run_booked : IsBooked c2 book book' changed size
+      → IsBooked cells book book' changed (size_of (size_at book.sizes.items) (f (cell_at (states cells) changed)))
   run_booked booked =
       subst (IsBooked cells book book' changed) run_size (subst (λ (cs : List TreeCell). IsBooked cs book book' changed size) run.third booked)
 
-  pub run_refused : (dimension : Dimension) → ((tried : List Size) → IsTried (states c2) book.sizes.items tried changed size → PassesFirst dimension (states c2) changed tried)
-      → (tried : List Size) → IsTried (states cells) book.sizes.items tried changed (size_of (size_at book.sizes.items) (f (cell_at (states cells) changed))) → PassesFirst dimension (states cells) changed tried
+  pub run_refused : (dimension : Dimension)
+      → ((tried : List Size) → IsTried (states c2) book.sizes.items tried changed size → PassesFirst dimension (states c2) changed tried)
+      → (tried : List Size) → IsTried (states cells) book.sizes.items tried changed (size_of (size_at book.sizes.items) (f (cell_at (states cells) changed)))
+      → PassesFirst dimension (states cells) changed tried
   run_refused dimension refused tried is_tried =
       subst (λ (cs : List TreeCell). PassesFirst dimension (states cs) changed tried) run.third
       (refused tried (subst (λ (cs : List TreeCell). IsTried (states cs) book.sizes.items tried changed size) (sym run.third)
       (subst (IsTried (states cells) book.sizes.items tried changed) (sym run_size) is_tried)))
 
-  pub run_fits : FitsIn (states c2) book.sizes.items changed size → FitsIn (states cells) book.sizes.items changed (size_of (size_at book.sizes.items) (f (cell_at (states cells) changed)))
+  pub run_fits : FitsIn (states c2) book.sizes.items changed size
+      → FitsIn (states cells) book.sizes.items changed (size_of (size_at book.sizes.items) (f (cell_at (states cells) changed)))
   run_fits fits =
-      subst (FitsIn (states cells) book.sizes.items changed) run_size (subst (λ (cs : List TreeCell). FitsIn (states cs) book.sizes.items changed size) run.third fits)
+      subst (FitsIn (states cells) book.sizes.items changed) run_size
+      (subst (λ (cs : List TreeCell). FitsIn (states cs) book.sizes.items changed size) run.third fits)
 
-  pub run_states : states after ≡ slice_set (states c3) changed (f (cell_at (states c3) changed)) → states after ≡ slice_set (states cells) changed (f (cell_at (states cells) changed))
+  pub run_states : states after ≡ slice_set (states c3) changed (f (cell_at (states c3) changed))
+      → states after ≡ slice_set (states cells) changed (f (cell_at (states cells) changed))
   run_states are = are ∙ ap (λ (cs : List TreeCell). slice_set (states cs) changed (f (cell_at (states cs) changed))) run.fourth
 
   -- it is the edit
@@ -141,26 +161,37 @@ module _ (cells c1 c2 c3 after : List TreeCell) (book book' : SizeBook) (sizes :
       record { cells = run_states are; edits = b.edits; stamps = b.stamps; others = b.sizes.others }
 
   -- An edit that keeps the children of the cell leaves the tree whole.
-  pub run_kept : IsWhole cells book → changed < length cells → IsLawfulState (states cells) changed (f (cell_at (states cells) changed)) → IsBooked c2 book book' changed size
+  pub run_kept : IsWhole cells book → changed < length cells → IsLawfulState (states cells) changed (f (cell_at (states cells) changed))
+      → IsBooked c2 book book' changed size
       → ((dimension : Dimension) (key : ℕ) → IsWithin dimension (size_at book'.sizes.items key)) → IsReady book' (length c2)
       → states after ≡ slice_set (states c3) changed (f (cell_at (states c3) changed)) → AreUsersKept c3 after
       → ((key : ℕ) → HasChild (f (cell_at (states cells) changed)).uses key ↔ HasChild (cell_at (states cells) changed).uses key) → IsWhole after book'
   run_kept whole inside lawful booked within ready are kept same =
       whole_again cells after book book' changed (f (cell_at (states cells) changed)) whole inside
-      (kept_users cells after changed (f (cell_at (states cells) changed)) whole.users inside (run_states are) (λ key. kept key ∙ ap (λ (cs : List TreeCell). users_of cs key) run.fourth) same)
+      (kept_users cells after changed (f (cell_at (states cells) changed)) whole.users inside (run_states are)
+      (λ key. kept key ∙ ap (λ (cs : List TreeCell). users_of cs key) run.fourth) same)
       lawful (run_booked booked) within (subst (λ (cs : List TreeCell). IsReady book' (length cs)) run.third ready)
 
   -- So does one by which one child comes or goes.
-  pub run_changed : (child : ℕ) → IsWhole cells book → changed < length cells → IsLawfulState (states cells) changed (f (cell_at (states cells) changed)) → IsBooked c2 book book' changed size
+  pub run_changed : (child : ℕ) → IsWhole cells book → changed < length cells → IsLawfulState (states cells) changed (f (cell_at (states cells) changed))
+      → IsBooked c2 book book' changed size
       → ((dimension : Dimension) (key : ℕ) → IsWithin dimension (size_at book'.sizes.items key)) → IsReady book' (length c2)
       → states after ≡ slice_set (states c3) changed (f (cell_at (states c3) changed)) → AreUsersBut c3 after changed child
-      → ((key : ℕ) → key ≢ child → HasChild (f (cell_at (states cells) changed)).uses key ↔ HasChild (cell_at (states cells) changed).uses key) → IsWhole after book'
+      → ((key : ℕ) → key ≢ child → HasChild (f (cell_at (states cells) changed)).uses key ↔ HasChild (cell_at (states cells) changed).uses key)
+      → IsWhole after book'
   run_changed child whole inside lawful booked within ready are but same =
       whole_again cells after book book' changed (f (cell_at (states cells) changed)) whole inside
       (changed_users cells after changed (f (cell_at (states cells) changed)) whole.users inside (run_states are) child
       (subst (λ (cs : List TreeCell). AreUsersBut cs after changed child) run.fourth but)
-      (same_Some _ _ (sym (slice_get-set_same (states cells) changed (f (cell_at (states cells) changed)) in_cells) ∙ sym (ap (λ s. slice_get s changed) (run_states are))
-      ∙ cell_is (states after) changed (omega (arith, in_cells, ap length (run_states are), length-set (states cells) changed (f (cell_at (states cells) changed))))))
+      (same_Some _ _ (sym (slice_get-set_same (states cells) changed (f (cell_at (states cells) changed)) in_cells)
+      ∙ sym (ap (λ s. slice_get s changed) (run_states are))
+      ∙ cell_is (states after) changed (omega (
+        arith,
+        in_cells,
+        ap length (run_states are),
+        length-set (states cells) changed
+            (f (cell_at (states cells) changed)),
+      ))))
       same)
       lawful (run_booked booked) within (subst (λ (cs : List TreeCell). IsReady book' (length cs)) run.third ready)
     where

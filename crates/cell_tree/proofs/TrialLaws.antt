@@ -45,23 +45,28 @@ alike_other Hull Elements old from differs = refl
 alike_other Hull Hull old from differs = absurd (differs refl)
 
 -- where a dimension was set, sizes change in that alone
-pub set_other : (other dimension : Dimension) (key : ℕ) (size : Size) (old new : List Size) → SetsDimension dimension key size old new → key < length old → other ≢ dimension
+pub set_other : (other dimension : Dimension) (key : ℕ) (size : Size) (old new : List Size) → SetsDimension dimension key size old new → key < length old
+    → other ≢ dimension
     → (k : ℕ) → AreAlike other (size_at new k) (size_at old k)
 set_other other dimension key size old new sets within differs k =
     elim (cases_eq k key) [
       | inl same ↦
           alike_trans other _ (with_dimension dimension (size_at old key) sets.0) _
-          (alike_refl other _ _ (ap (λ (list : List Size). size_at list k) sets.2 ∙ ap (size_at (slice_set old key (with_dimension dimension (size_at old key) sets.0))) same ∙ get_or-set_same old key _ no_size within))
-          (alike_trans other _ (size_at old key) _ (alike_other other dimension (size_at old key) sets.0 differs) (alike_refl other _ _ (ap (size_at old) (sym same))))
+          (alike_refl other _ _ (ap (λ (list : List Size). size_at list k) sets.2
+          ∙ ap (size_at (slice_set old key (with_dimension dimension (size_at old key) sets.0))) same ∙ get_or-set_same old key _ no_size within))
+          (alike_trans other _ (size_at old key) _ (alike_other other dimension (size_at old key) sets.0 differs)
+          (alike_refl other _ _ (ap (size_at old) (sym same))))
       | inr apart ↦ alike_refl other _ _ (ap (λ (list : List Size). size_at list k) sets.2 ∙ get_or-set_other old key k _ no_size apart)
     ]
 
 -- and only at that position
-pub set_apart : (dimension : Dimension) (key : ℕ) (size : Size) (old new : List Size) → SetsDimension dimension key size old new → (k : ℕ) → k ≢ key → size_at new k ≡ size_at old k
+pub set_apart : (dimension : Dimension) (key : ℕ) (size : Size) (old new : List Size) → SetsDimension dimension key size old new → (k : ℕ) → k ≢ key
+    → size_at new k ≡ size_at old k
 set_apart dimension key size old new sets k apart = ap (λ (list : List Size). size_at list k) sets.2 ∙ get_or-set_other old key k _ no_size apart
 
 -- and takes the value there
-pub set_value : (dimension : Dimension) (key : ℕ) (size : Size) (old new : List Size) → SetsDimension dimension key size old new → key < length old → AreAlike dimension (size_at new key) size
+pub set_value : (dimension : Dimension) (key : ℕ) (size : Size) (old new : List Size) → SetsDimension dimension key size old new → key < length old
+    → AreAlike dimension (size_at new key) size
 set_value dimension key size old new sets within =
     alike_trans dimension _ (with_dimension dimension (size_at old key) sets.0) _
     (alike_refl dimension _ _ (ap (λ (list : List Size). size_at list key) sets.2 ∙ get_or-set_same old key _ no_size within))
@@ -111,12 +116,15 @@ module _ (cells : List CellState) (changed : ℕ) (order : List ℕ)
   module _ (dimension : Dimension) (sizes tried : List Size) (size : Size) (is_tried : IsTried cells sizes tried changed size)
       (above : (key : ℕ) → StandsIn order key ↔ IsAbove cells changed key) (within : (place : ℕ) → place < length order → at order place < length cells)
       (next : List Size) (place : ℕ) (low : place ≤ length order) (settled : AreSettledBut dimension cells changed order place next)
-      (given : AreAlike dimension (size_at next changed) size) (others : (key : ℕ) → (StandsIn order key → ⊥) → AreAlike dimension (size_at next key) (size_at sizes key)) where
-    alike_below : (bound key : ℕ) → (size_at tried key).depth < bound → (StandsBefore order place key → ⊥) → AreAlike dimension (size_at next key) (size_at tried key)
+      (given : AreAlike dimension (size_at next changed) size)
+      (others : (key : ℕ) → (StandsIn order key → ⊥) → AreAlike dimension (size_at next key) (size_at sizes key)) where
+    alike_below : (bound key : ℕ) → (size_at tried key).depth < bound → (StandsBefore order place key → ⊥)
+        → AreAlike dimension (size_at next key) (size_at tried key)
     alike_below zero key deep never = absurd (omega (arith, deep))
     alike_below (suc bound) key deep never =
         elim (cases_eq key changed) [
-          | inl same ↦ subst (λ k. AreAlike dimension (size_at next k) (size_at tried k)) (sym same) (alike_trans dimension _ size _ given (alike_refl dimension _ _ (sym is_tried.given)))
+          | inl same ↦ subst (λ k. AreAlike dimension (size_at next k) (size_at tried k)) (sym same)
+              (alike_trans dimension _ size _ given (alike_refl dimension _ _ (sym is_tried.given)))
           | inr differs ↦ elim (stands_or_not order (length order) key) [
             | inr absent ↦
                 alike_trans dimension _ (size_at sizes key) _ (others key absent)
@@ -131,7 +139,8 @@ module _ (cells : List CellState) (changed : ℕ) (order : List ℕ)
                 (size_of-alike dimension (size_at next) (size_at tried) cell (λ k entry found.
                 alike_below bound entry.1.child.0
                 (omega (arith, deep, ap (λ (s : Size). s.depth) right, child_is_lower (size_at tried) cell k entry found))
-                (λ s. never (user_before place key entry.1.child.0 low (record { cell = cell; is = is; k = k; entry = entry; stands = found; child = refl }) s))))
+                (λ s. never (user_before place key entry.1.child.0 low (record { cell = cell; is = is; k = k; entry = entry; stands = found; child = refl })
+                s))))
                 (alike_refl dimension _ _ (sym right)))
           ]
         ]

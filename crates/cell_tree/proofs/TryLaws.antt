@@ -25,7 +25,8 @@ pub record Begins (dimension : Dimension) (changed : ℕ) (order : List ℕ) (si
   pub others : (key : ℕ) → (StandsIn order key → ⊥) → AreAlike dimension (size_at next key) (size_at sizes key)
 
 -- what is settled in one list is settled in another that is alike in the dimension
-pub settled-alike : (dimension : Dimension) (cells : List CellState) (changed : ℕ) (order : List ℕ) (end : ℕ) (a b : List Size) → AreSettledBut dimension cells changed order end a
+pub settled-alike : (dimension : Dimension) (cells : List CellState) (changed : ℕ) (order : List ℕ) (end : ℕ) (a b : List Size)
+    → AreSettledBut dimension cells changed order end a
     → ((key : ℕ) → AreAlike dimension (size_at b key) (size_at a key)) → AreSettledBut dimension cells changed order end b
 settled-alike dimension cells changed order end a b settled same key cell is differs never =
     alike_trans dimension _ (size_at a key) _ (same key)
@@ -53,7 +54,8 @@ module _ (cells : List CellState) (changed : ℕ) (order : List ℕ) (is_order :
     pub done_within : IsDone dimension cells changed order next → (key : ℕ) → IsWithin dimension (size_at tried key)
     done_within done key =
         alike_within dimension (size_at next key) (size_at tried key)
-        (alike_tried cells changed order is_order.sorted dimension sizes tried size is_tried is_order.above is_order.within next 0 (omega arith) done.settled begins.given begins.others key (nothing_before key))
+        (alike_tried cells changed order is_order.sorted dimension sizes tried size is_tried is_order.above is_order.within next 0 (omega arith) done.settled
+        begins.given begins.others key (nothing_before key))
         (done.within key)
 
     -- Where it stopped, a cell above would pass the limit.
@@ -61,12 +63,14 @@ module _ (cells : List CellState) (changed : ℕ) (order : List ℕ) (is_order :
     stopped_passes stops within =
         stops.passes (alike_within dimension (size_at tried (at order stops.place)) (size_at next (at order stops.place))
         (alike_sym dimension _ _
-        (alike_tried cells changed order is_order.sorted dimension sizes tried size is_tried is_order.above is_order.within next stops.place (omega (arith, stops.before)) stops.settled begins.given begins.others
+        (alike_tried cells changed order is_order.sorted dimension sizes tried size is_tried is_order.above is_order.within next stops.place
+        (omega (arith, stops.before)) stops.settled begins.given begins.others
         (at order stops.place) (λ s. is_order.once s.place stops.place s.before stops.before s.is)))
         within)
 
     -- So the limit is the first that is passed, where those before it are kept.
-    pub stops_first : StopsIn dimension cells changed order next → ((other : Dimension) → ComesBefore other dimension → (key : ℕ) → IsWithin other (size_at tried key)) → PassesFirst dimension cells changed tried
+    pub stops_first : StopsIn dimension cells changed order next
+        → ((other : Dimension) → ComesBefore other dimension → (key : ℕ) → IsWithin other (size_at tried key)) → PassesFirst dimension cells changed tried
     stops_first stops kept =
         record {
           key = at order stops.place;
@@ -76,7 +80,8 @@ module _ (cells : List CellState) (changed : ℕ) (order : List ℕ) (is_order :
         }
 
   -- Sizes that are worked out in all dimensions are those that the cells would have.
-  pub done_tried : (sizes next : List Size) (size : Size) → ((key : ℕ) → (StandsIn order key → ⊥) → size_at next key ≡ size_at sizes key) → size_at next changed ≡ size
+  pub done_tried : (sizes next : List Size) (size : Size) → ((key : ℕ) → (StandsIn order key → ⊥) → size_at next key ≡ size_at sizes key)
+      → size_at next changed ≡ size
       → ((dimension : Dimension) → AreSettledBut dimension cells changed order 0 next) → IsTried cells sizes next changed size
   done_tried sizes next size others given settled =
       record {

@@ -52,7 +52,11 @@ pub added_users : (old mid new : List TreeCell) (cell child : ℕ) → AreUsersK
     → users_of new child ≡ insert_key nat_eq (users_of mid child) cell → HasChild (cell_at (states new) cell).uses child → AreUsersBut old new cell child
 added_users old mid new cell child kept others more uses =
     record {
-      others = λ key user differs. (subst (λ ks. Contains ks user) (others key differs ∙ kept key), subst (λ ks. Contains ks user) (sym (others key differs ∙ kept key)));
+      others = λ key user differs. (
+        subst (λ ks. Contains ks user) (others key differs ∙ kept key),
+        subst (λ ks. Contains ks user)
+            (sym (others key differs ∙ kept key)),
+      );
       rest = λ user differs. (
         (λ has. subst (λ ks. Contains ks user) (kept child) (insert_rest (users_of mid child) cell user differs (subst (λ ks. Contains ks user) more has))),
         (λ has. subst (λ ks. Contains ks user) (sym more) (insert_more (users_of mid child) cell user (subst (λ ks. Contains ks user) (sym (kept child)) has))),
@@ -66,15 +70,22 @@ pub removed_users : (old mid new : List TreeCell) (cell child : ℕ) → AreUser
     → (HasChild (cell_at (states new) cell).uses child → ⊥) → AreUsersBut old new cell child
 removed_users old mid new cell child kept others tells none =
     record {
-      others = λ key user differs. (subst (λ ks. Contains ks user) (others key differs ∙ kept key), subst (λ ks. Contains ks user) (sym (others key differs ∙ kept key)));
+      others = λ key user differs. (
+        subst (λ ks. Contains ks user) (others key differs ∙ kept key),
+        subst (λ ks. Contains ks user)
+            (sym (others key differs ∙ kept key)),
+      );
       rest = λ user differs.
           let same : knows (users_of new child) user ≡ knows (users_of mid child) user =
           tells user ∙ ap (λ b. if b then false else knows (users_of mid child) user) (ne_eqb cell user (λ e. differs (sym e))) in (
-            (λ has. subst (λ ks. Contains ks user) (kept child) (knows_contains (users_of mid child) user (sym same ∙ contains_knows (users_of new child) user has))),
-            (λ has. knows_contains (users_of new child) user (same ∙ contains_knows (users_of mid child) user (subst (λ ks. Contains ks user) (sym (kept child)) has))),
+            (λ has. subst (λ ks. Contains ks user) (kept child)
+                (knows_contains (users_of mid child) user (sym same ∙ contains_knows (users_of new child) user has))),
+            (λ has. knows_contains (users_of new child) user
+                (same ∙ contains_knows (users_of mid child) user (subst (λ ks. Contains ks user) (sym (kept child)) has))),
           );
       own = (
-        (λ has. absurd (both_ways _ (tells cell ∙ ap (λ b. if b then false else knows (users_of mid child) cell) (eq-eqb cell cell refl)) (contains_knows (users_of new child) cell has))),
+        (λ has. absurd (both_ways _ (tells cell ∙ ap (λ b. if b then false else knows (users_of mid child) cell) (eq-eqb cell cell refl))
+            (contains_knows (users_of new child) cell has))),
         (λ has. absurd (none has)),
       );
     }

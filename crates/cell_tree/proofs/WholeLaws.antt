@@ -44,7 +44,8 @@ module _ (cells : List CellState) (changed : ℕ) (state : CellState) (inside : 
       → (key : ℕ) (cell : CellState) → slice_get (slice_set cells changed state) key ≡ Some cell → P cell
   each_cell P new old key cell is =
       elim (cases_eq key changed) [
-        | inl same ↦ subst P (same_Some state cell (sym (slice_get-set_same cells changed state inside) ∙ ap (slice_get (slice_set cells changed state)) (sym same) ∙ is)) new
+        | inl same ↦ subst P (same_Some state cell
+            (sym (slice_get-set_same cells changed state inside) ∙ ap (slice_get (slice_set cells changed state)) (sym same) ∙ is)) new
         | inr differs ↦ old key cell (sym (slice_get-set_other cells changed key state differs) ∙ is)
       ]
 
@@ -55,7 +56,8 @@ pub record IsChange (cells cells' : List TreeCell) (changed : ℕ) (state : Cell
 
 module _ (cells cells' : List TreeCell) (book book' : SizeBook) (changed : ℕ) (state : CellState) (whole : IsWhole cells book) (inside : changed < length cells)
     (change : IsChange cells cells' changed state) (lawful : IsLawfulState (states cells) changed state)
-    (booked : IsBooked cells book book' changed (size_of (size_at book.sizes.items) state)) (within : (dimension : Dimension) (key : ℕ) → IsWithin dimension (size_at book'.sizes.items key))
+    (booked : IsBooked cells book book' changed (size_of (size_at book.sizes.items) state))
+    (within : (dimension : Dimension) (key : ℕ) → IsWithin dimension (size_at book'.sizes.items key))
     (ready : IsReady book' (length cells)) where
   in_states : changed < length (states cells)
   in_states = omega (arith, inside, length-states cells)
@@ -89,15 +91,19 @@ module _ (cells cells' : List TreeCell) (book book' : SizeBook) (changed : ℕ) 
       record {
         lawful = record {
           cells = record {
-            few = λ key cell is. each_cell (states cells) changed state in_states (λ c. length c.uses ≤ MOST_USES) lawful.few whole.lawful.cells.few key cell (sym (ap (λ s. slice_get s key) change.states) ∙ is);
+            few = λ key cell is. each_cell (states cells) changed state in_states (λ c. length c.uses ≤ MOST_USES) lawful.few whole.lawful.cells.few key cell
+                (sym (ap (λ s. slice_get s key) change.states) ∙ is);
             uses = λ key cell is. subst (λ n. AreUsesBelow n cell.uses) (sym as_many)
-                (each_cell (states cells) changed state in_states (λ c. AreUsesBelow (length (states cells)) c.uses) lawful.uses whole.lawful.cells.uses key cell (sym (ap (λ s. slice_get s key) change.states) ∙ is));
+                (each_cell (states cells) changed state in_states (λ c. AreUsesBelow (length (states cells)) c.uses) lawful.uses whole.lawful.cells.uses key
+                cell (sym (ap (λ s. slice_get s key) change.states) ∙ is));
           };
-          each = λ key cell is. each_cell (states cells) changed state in_states IsLawfulCell lawful.cell whole.lawful.each key cell (sym (ap (λ s. slice_get s key) change.states) ∙ is);
+          each = λ key cell is. each_cell (states cells) changed state in_states IsLawfulCell lawful.cell whole.lawful.each key cell
+              (sym (ap (λ s. slice_get s key) change.states) ∙ is);
           sizes = record {
             count = ready.sizes ∙ sym many ∙ sym (length-states cells');
             right = subst (λ s. AreSizes s book'.sizes.items) (sym change.states)
-                (tried_is_right (states cells) book.sizes.items whole.lawful.cells whole.lawful.sizes changed state book'.sizes.items in_states lawful.free booked.sizes);
+                (tried_is_right (states cells) book.sizes.items whole.lawful.cells whole.lawful.sizes changed state book'.sizes.items in_states lawful.free
+                booked.sizes);
             within = within;
           };
           stamps = ready.stamps ∙ sym many ∙ sym (length-states cells');
@@ -110,18 +116,21 @@ module _ (cells cells' : List TreeCell) (book book' : SizeBook) (changed : ℕ) 
 module _ (cells : List TreeCell) (book : SizeBook) (changed : ℕ) (state : CellState) (whole : IsWhole cells book) (inside : changed < length cells)
     (lawful : IsLawfulState (states cells) changed state) where
   -- what fits would keep within the limits
-  pub would_keep : FitsIn (states cells) book.sizes.items changed (size_of (size_at book.sizes.items) state) → WouldKeepWithin (tree_of cells book) changed state
+  pub would_keep : FitsIn (states cells) book.sizes.items changed (size_of (size_at book.sizes.items) state)
+      → WouldKeepWithin (tree_of cells book) changed state
   would_keep fits =
       record {
         sizes = fits.tried;
         count = fits.count;
-        right = tried_is_right (states cells) book.sizes.items whole.lawful.cells whole.lawful.sizes changed state fits.tried (omega (arith, inside, length-states cells)) lawful.free fits.is_tried;
+        right = tried_is_right (states cells) book.sizes.items whole.lawful.cells whole.lawful.sizes changed state fits.tried
+            (omega (arith, inside, length-states cells)) lawful.free fits.is_tried;
         within = fits.within;
       }
 
   -- what would pass a limit, in the sizes that the cells would have
   pub would_pass : (dimension : Dimension)
-      → ((tried : List Size) → IsTried (states cells) book.sizes.items tried changed (size_of (size_at book.sizes.items) state) → PassesFirst dimension (states cells) changed tried)
+      → ((tried : List Size) → IsTried (states cells) book.sizes.items tried changed (size_of (size_at book.sizes.items) state)
+      → PassesFirst dimension (states cells) changed tried)
       → WouldPass dimension (tree_of cells book) changed state
   would_pass dimension passes =
       let in_states : changed < length (states cells) = omega (arith, inside, length-states cells) in
@@ -164,7 +173,8 @@ module _ (cells cells' : List TreeCell) (changed : ℕ) (state : CellState) (use
 
   own_uses : (key : ℕ) → Uses (states cells') changed key → HasChild state.uses key
   own_uses key uses =
-      let same : state ≡ uses.cell = same_Some state uses.cell (sym (slice_get-set_same (states cells) changed state in_cells) ∙ sym (ap (λ s. slice_get s changed) are) ∙ uses.is) in
+      let same : state ≡ uses.cell = same_Some state uses.cell
+      (sym (slice_get-set_same (states cells) changed state in_cells) ∙ sym (ap (λ s. slice_get s changed) are) ∙ uses.is) in
       record { k = uses.k; entry = uses.entry; stands = ap (λ (c : CellState). slice_get c.uses uses.k) same ∙ uses.stands; same = uses.child }
 
   own_uses_back : (key : ℕ) → HasChild state.uses key → Uses (states cells') changed key
@@ -185,22 +195,32 @@ module _ (cells cells' : List TreeCell) (changed : ℕ) (state : CellState) (use
 
   old_uses_back : (key : ℕ) → HasChild (cell_at (states cells) changed).uses key → Uses (states cells) changed key
   old_uses_back key has =
-      record { cell = cell_at (states cells) changed; is = cell_is (states cells) changed in_cells; k = has.k; entry = has.entry; stands = has.stands; child = has.same }
+      record {
+        cell = cell_at (states cells) changed;
+        is = cell_is (states cells) changed in_cells;
+        k = has.k;
+        entry = has.entry;
+        stands = has.stands;
+        child = has.same;
+      }
 
   -- where the children stay the same and users are kept
-  pub kept_users : AreUsersKept cells cells' → ((key : ℕ) → HasChild state.uses key ↔ HasChild (cell_at (states cells) changed).uses key) → IsChange cells cells' changed state
+  pub kept_users : AreUsersKept cells cells' → ((key : ℕ) → HasChild state.uses key ↔ HasChild (cell_at (states cells) changed).uses key)
+      → IsChange cells cells' changed state
   kept_users kept same =
       record {
         states = are;
         users = record {
           known = λ key user uses. subst (λ list. Contains list user) (sym (kept key)) (users.known key user (elim (cases_eq user changed) [
-            | inl here ↦ subst (λ u. Uses (states cells) u key) (sym here) (old_uses_back key ((same key).0 (own_uses key (subst (λ u. Uses (states cells') u key) here uses))))
+            | inl here ↦ subst (λ u. Uses (states cells) u key) (sym here)
+                (old_uses_back key ((same key).0 (own_uses key (subst (λ u. Uses (states cells') u key) here uses))))
             | inr differs ↦ other_uses user key differs uses
           ]));
           none = λ key user knows.
               let uses = users.none key user (subst (λ list. Contains list user) (kept key) knows) in
               elim (cases_eq user changed) [
-                | inl here ↦ subst (λ u. Uses (states cells') u key) (sym here) (own_uses_back key ((same key).1 (old_uses key (subst (λ u. Uses (states cells) u key) here uses))))
+                | inl here ↦ subst (λ u. Uses (states cells') u key) (sym here)
+                    (own_uses_back key ((same key).1 (old_uses key (subst (λ u. Uses (states cells) u key) here uses))))
                 | inr differs ↦ other_uses_back user key differs uses
               ];
         };
@@ -216,9 +236,11 @@ module _ (cells cells' : List TreeCell) (changed : ℕ) (state : CellState) (use
           known = λ key user uses. elim (cases_eq user changed) [
             | inl here ↦ subst (λ u. IsUserOf cells' key u) (sym here) (elim (cases_eq key child) [
               | inl at_child ↦ subst (λ k. IsUserOf cells' k changed) (sym at_child)
-                  (but.own.1 (subst (λ (c : CellState). HasChild c.uses child) new (subst (HasChild state.uses) at_child (own_uses key (subst (λ u. Uses (states cells') u key) here uses)))))
+                  (but.own.1 (subst (λ (c : CellState). HasChild c.uses child) new
+                  (subst (HasChild state.uses) at_child (own_uses key (subst (λ u. Uses (states cells') u key) here uses)))))
               | inr apart ↦
-                  (but.others key changed apart).1 (users.known key changed (old_uses_back key ((same key apart).0 (own_uses key (subst (λ u. Uses (states cells') u key) here uses)))))
+                  (but.others key changed apart).1 (users.known key changed
+                  (old_uses_back key ((same key apart).0 (own_uses key (subst (λ u. Uses (states cells') u key) here uses)))))
             ])
             | inr differs ↦ elim (cases_eq key child) [
               | inl at_child ↦ subst (λ k. IsUserOf cells' k user) (sym at_child)
@@ -229,9 +251,11 @@ module _ (cells cells' : List TreeCell) (changed : ℕ) (state : CellState) (use
           none = λ key user knows. elim (cases_eq user changed) [
             | inl here ↦ subst (λ u. Uses (states cells') u key) (sym here) (elim (cases_eq key child) [
               | inl at_child ↦ subst (Uses (states cells') changed) (sym at_child)
-                  (own_uses_back child (subst (λ (c : CellState). HasChild c.uses child) (sym new) (but.own.0 (subst (λ k. IsUserOf cells' k changed) at_child (subst (IsUserOf cells' key) here knows)))))
+                  (own_uses_back child (subst (λ (c : CellState). HasChild c.uses child) (sym new)
+                  (but.own.0 (subst (λ k. IsUserOf cells' k changed) at_child (subst (IsUserOf cells' key) here knows)))))
               | inr apart ↦
-                  own_uses_back key ((same key apart).1 (old_uses key (users.none key changed ((but.others key changed apart).0 (subst (IsUserOf cells' key) here knows)))))
+                  own_uses_back key ((same key apart).1 (old_uses key
+                  (users.none key changed ((but.others key changed apart).0 (subst (IsUserOf cells' key) here knows)))))
             ])
             | inr differs ↦ elim (cases_eq key child) [
               | inl at_child ↦ subst (Uses (states cells') user) (sym at_child)

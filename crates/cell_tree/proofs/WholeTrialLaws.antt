@@ -21,7 +21,8 @@ none_before_depth Depth earlier = earlier
 none_before_depth Elements earlier = earlier
 none_before_depth Hull earlier = earlier
 
-module _ (cells : List CellState) (changed : ℕ) (order : List ℕ) (is_order : IsOrder cells changed order) (sizes : List Size) (size : Size) (inside : changed < length sizes)
+module _ (cells : List CellState) (changed : ℕ) (order : List ℕ) (is_order : IsOrder cells changed order) (sizes : List Size) (size : Size)
+    (inside : changed < length sizes)
     (right : AreSizes cells sizes) (within : (dimension : Dimension) (key : ℕ) → IsWithin dimension (size_at sizes key)) where
   -- the cell has the size that is tried, and what doesn't stand above it is as before
   pub record IsFrom (next : List Size) : Type 0 where
@@ -44,12 +45,15 @@ module _ (cells : List CellState) (changed : ℕ) (order : List ℕ) (is_order :
       record { given = alike_refl dimension _ _ from.given; others = λ key apart. alike_refl dimension _ _ (from.others key apart) }
 
   -- what a trial in a dimension asks for, where the dimension is as it was at the start
-  pub ready_settled : (dimension : Dimension) (next : List Size) → ((key : ℕ) → AreAlike dimension (size_at next key) (size_at (slice_set sizes changed size) key))
+  pub ready_settled : (dimension : Dimension) (next : List Size)
+      → ((key : ℕ) → AreAlike dimension (size_at next key) (size_at (slice_set sizes changed size) key))
       → AreSettledBut dimension cells changed order (length order - 1) next
   ready_settled dimension next same =
-      settled-alike dimension cells changed order (length order - 1) (slice_set sizes changed size) next (settled-start cells changed order is_order dimension sizes size right) same
+      settled-alike dimension cells changed order (length order - 1) (slice_set sizes changed size) next
+      (settled-start cells changed order is_order dimension sizes size right) same
 
-  pub ready_within : (dimension : Dimension) (next : List Size) → ((key : ℕ) → AreAlike dimension (size_at next key) (size_at (slice_set sizes changed size) key))
+  pub ready_within : (dimension : Dimension) (next : List Size)
+      → ((key : ℕ) → AreAlike dimension (size_at next key) (size_at (slice_set sizes changed size) key))
       → (key : ℕ) → key ≢ changed → IsWithin dimension (size_at next key)
   ready_within dimension next same key differs =
       alike_within dimension (size_at sizes key) (size_at next key)
@@ -75,12 +79,15 @@ module _ (cells : List CellState) (changed : ℕ) (order : List ℕ) (is_order :
       pub two_alike : (key : ℕ) → AreAlike Hull (size_at two key) (size_at (slice_set sizes changed size) key)
       two_alike key = second.alike Hull (λ e. absurd (cc)) key ∙ first.alike Hull (λ e. absurd (cc)) key
 
-      before_elements : (tried : List Size) → IsTried cells sizes tried changed size → (other : Dimension) → ComesBefore other Elements → (key : ℕ) → IsWithin other (size_at tried key)
-      before_elements tried is_tried Depth earlier key = done_within cells changed order is_order Depth sizes tried size is_tried one (begins Depth one from_one) done key
+      before_elements : (tried : List Size) → IsTried cells sizes tried changed size → (other : Dimension) → ComesBefore other Elements → (key : ℕ)
+          → IsWithin other (size_at tried key)
+      before_elements tried is_tried Depth earlier key =
+          done_within cells changed order is_order Depth sizes tried size is_tried one (begins Depth one from_one) done key
       before_elements tried is_tried Elements earlier key = absurd earlier
       before_elements tried is_tried Hull earlier key = absurd earlier
 
-      pub stops_two : StopsIn Elements cells changed order two → (tried : List Size) → IsTried cells sizes tried changed size → PassesFirst Elements cells changed tried
+      pub stops_two : StopsIn Elements cells changed order two → (tried : List Size) → IsTried cells sizes tried changed size
+          → PassesFirst Elements cells changed tried
       stops_two stops tried is_tried =
           stops_first cells changed order is_order Elements sizes tried size is_tried two (begins Elements two from_two) stops (before_elements tried is_tried)
 
@@ -88,12 +95,16 @@ module _ (cells : List CellState) (changed : ℕ) (order : List ℕ) (is_order :
         from_three : IsFrom three
         from_three = from_pass Hull two three from_two third
 
-        before_hull : (tried : List Size) → IsTried cells sizes tried changed size → (other : Dimension) → ComesBefore other Hull → (key : ℕ) → IsWithin other (size_at tried key)
-        before_hull tried is_tried Depth earlier key = done_within cells changed order is_order Depth sizes tried size is_tried one (begins Depth one from_one) done key
-        before_hull tried is_tried Elements earlier key = done_within cells changed order is_order Elements sizes tried size is_tried two (begins Elements two from_two) also key
+        before_hull : (tried : List Size) → IsTried cells sizes tried changed size → (other : Dimension) → ComesBefore other Hull → (key : ℕ)
+            → IsWithin other (size_at tried key)
+        before_hull tried is_tried Depth earlier key =
+            done_within cells changed order is_order Depth sizes tried size is_tried one (begins Depth one from_one) done key
+        before_hull tried is_tried Elements earlier key =
+            done_within cells changed order is_order Elements sizes tried size is_tried two (begins Elements two from_two) also key
         before_hull tried is_tried Hull earlier key = absurd earlier
 
-        pub stops_three : StopsIn Hull cells changed order three → (tried : List Size) → IsTried cells sizes tried changed size → PassesFirst Hull cells changed tried
+        pub stops_three : StopsIn Hull cells changed order three → (tried : List Size) → IsTried cells sizes tried changed size
+            → PassesFirst Hull cells changed tried
         stops_three stops tried is_tried =
             stops_first cells changed order is_order Hull sizes tried size is_tried three (begins Hull three from_three) stops (before_hull tried is_tried)
 
@@ -116,5 +127,6 @@ module _ (cells : List CellState) (changed : ℕ) (order : List ℕ) (is_order :
           -- and within all limits
           pub all_within : (dimension : Dimension) (key : ℕ) → IsWithin dimension (size_at three key)
           all_within Depth key = alike_within Depth (size_at one key) (size_at three key) (sym (three_one key)) (done.within key)
-          all_within Elements key = alike_within Elements (size_at two key) (size_at three key) (sym (third.alike Elements (λ e. absurd (cc)) key)) (also.within key)
+          all_within Elements key = alike_within Elements (size_at two key) (size_at three key) (sym (third.alike Elements (λ e. absurd (cc)) key))
+              (also.within key)
           all_within Hull key = last.within key

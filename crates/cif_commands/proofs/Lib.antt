@@ -1,8 +1,8 @@
-pub mod StripTotals
-pub mod NearStrips
-pub mod LayerLaws
-pub mod CifLaws
-pub mod CifstatLaws
-pub mod OneCif
-pub mod OneCifstat
+mod StripTotals
+mod NearStrips
+mod LayerLaws
+mod CifLaws
+mod CifstatLaws
+mod OneCif
+mod OneCifstat
 pub mod RestLaws

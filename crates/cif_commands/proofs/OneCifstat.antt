@@ -51,7 +51,8 @@ one_list_of_areas : (cif : CifParts) (name : List ℕ) (lines more : List Report
     → p.areas ≡ q.areas
 one_list_of_areas cif name lines more p q = same_lists p.areas q.areas (p.one_each ∙ sym q.one_each) (λ place d below.
     let S : Square → Type 0 = IsMeant cif place in
-    Total-unique S (λ square. pos 1) _ _ (p.each place _ (there p.areas place d below)) (q.each place _ (there q.areas place d (omega (arith, below, p.one_each, q.one_each)))))
+    Total-unique S (λ square. pos 1) _ _ (p.each place _ (there p.areas place d below))
+    (q.each place _ (there q.areas place d (omega (arith, below, p.one_each, q.one_each)))))
   where
     there : (areas : List ℤ) (place : ℕ) (d : ℤ) → place < length areas → slice_get areas place ≡ Some (get_or areas place d)
     there areas place d below = slice_get-get_or areas place d below

@@ -65,7 +65,8 @@ call_cases items more placements symbol called is = elim (In-append_cases (Call 
 ]
 
 -- first some items, and then more
-pub drawn-more : (items more : List CifItem) (placements : List Transform) (boxes boxes' boxes'' : List (List Rect)) (waiting waiting' waiting'' : List (List Transform))
+pub drawn-more : (items more : List CifItem) (placements : List Transform) (boxes boxes' boxes'' : List (List Rect))
+    (waiting waiting' waiting'' : List (List Transform))
     → IsDrawn items placements boxes boxes' waiting waiting' → IsDrawn more placements boxes' boxes'' waiting' waiting''
     → IsDrawn (items ++ more) placements boxes boxes'' waiting waiting''
 drawn-more items more placements boxes boxes' boxes'' waiting waiting' waiting'' first second =
@@ -154,8 +155,11 @@ call_of_call : (symbol : ℕ) (moves : List CifMove) (placements : List Transfor
     → IsCallOf (Call symbol moves ∷ []) placements place called → (symbol ≡ place) × In called (map (composed (moved moves)) placements)
 call_of_call symbol moves placements place called is =
     let same = moves_of_call symbol place moves is.moves (one_item (Call symbol moves) (Call place is.moves) is.is_item) in
-    let image : composed (moved moves) is.placement ≡ called = ap (λ steps. composed (moved steps) is.placement) same.1 ∙ sym is.is_composed in
-    (same.0, subst (λ (t : Transform). In t (map (composed (moved moves)) placements)) image (In-map (composed (moved moves)) is.placement placements is.is_placement))
+    let image : composed (moved moves) is.placement ≡ called = ap (λ steps. composed (moved steps) is.placement) same.1 ∙ sym is.is_composed in (
+      same.0,
+      subst (λ (t : Transform). In t (map (composed (moved moves)) placements)) image
+          (In-map (composed (moved moves)) is.placement placements is.is_placement),
+    )
 
 call_is_call : (symbol : ℕ) (moves : List CifMove) (placements : List Transform) (place : ℕ) (called : Transform)
     → (symbol ≡ place) × In called (map (composed (moved moves)) placements) → IsCallOf (Call symbol moves ∷ []) placements place called
@@ -189,7 +193,8 @@ drawn-call symbol moves placements boxes waiting waiting' below is near =
     }
 
 -- the same of an item that is a box, or a call
-pub drawn_as_area : (item : CifItem) (layer : ℕ) (area : Rect) (placements : List Transform) (boxes boxes' : List (List Rect)) (waiting waiting' : List (List Transform))
+pub drawn_as_area : (item : CifItem) (layer : ℕ) (area : Rect) (placements : List Transform) (boxes boxes' : List (List Rect))
+    (waiting waiting' : List (List Transform))
     → item ≡ Area layer area → IsLawfulItem (length boxes) (length waiting) item
     → boxes' ≡ slice_set boxes layer (list_at boxes layer ++ map (λ placement. rect_image placement area) placements) → waiting' ≡ waiting
     → All (λ placement. LiesInRange (rect_image placement area)) placements → IsDrawn (item ∷ []) placements boxes boxes' waiting waiting'

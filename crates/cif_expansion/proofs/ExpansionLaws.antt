@@ -57,7 +57,8 @@ pub record Waits (symbols : List CifSymbol) (waiting : List (List Transform)) (l
   pub draws : Draws symbols (items_of symbols place) placement layer box
 
 -- a box in an instance is that of an item, or stands under a call
-cases_of : (symbols : List CifSymbol) (items : List CifItem) (placements : List Transform) (placement : Transform) (layer : ℕ) (box inner : Rect) (calls : List ℕ)
+cases_of : (symbols : List CifSymbol) (items : List CifItem) (placements : List Transform) (placement : Transform) (layer : ℕ) (box inner : Rect)
+    (calls : List ℕ)
     → In placement placements → StandsUnder symbols layer calls items inner → box ≡ rect_image placement inner
     → IsBoxOf items placements layer box ⊎ DrawsCalled symbols items placements layer box
 cases_of symbols items placements placement layer box inner [] there stands image =
@@ -81,7 +82,8 @@ cases_of symbols items placements placement layer box inner (place ∷ calls) th
       };
     })
 
-draws_cases : (symbols : List CifSymbol) (items : List CifItem) (placements : List Transform) (layer : ℕ) (box : Rect) → DrawsIn symbols items placements layer box
+draws_cases : (symbols : List CifSymbol) (items : List CifItem) (placements : List Transform) (layer : ℕ) (box : Rect)
+    → DrawsIn symbols items placements layer box
     → IsBoxOf items placements layer box ⊎ DrawsCalled symbols items placements layer box
 draws_cases symbols items placements layer box is =
     cases_of symbols items placements is.placement layer box is.draws.inner is.draws.calls is.is_placement is.draws.stands is.draws.is_image
@@ -113,7 +115,8 @@ called_draws symbols items placements layer box is =
       };
     }
 
-module _ (symbols : List CifSymbol) (items : List CifItem) (placements : List Transform) (boxes boxes' : List (List Rect)) (waiting waiting' : List (List Transform))
+module _ (symbols : List CifSymbol) (items : List CifItem) (placements : List Transform) (boxes boxes' : List (List Rect))
+    (waiting waiting' : List (List Transform))
     (drawn : IsDrawn items placements boxes boxes' waiting waiting') (layer : ℕ) (box : Rect) where
   -- what the items lead to is drawn, or waits
   drawn_or_waits : DrawsIn symbols items placements layer box → In box (list_at boxes' layer) ⊎ Waits symbols waiting' layer box
@@ -187,13 +190,16 @@ near_called cif items placements place called lawful known moves_near near call 
     let found = slice_get-below cif.symbols place (known place call.moves call.is_item) in
     let falls = depth-falls cif items place call.moves found.0 lawful call.is_item found.1 in
     let outer = near call.placement call.is_placement in
-    let both = composed-within (moved call.moves) call.placement call_reach (outer.calls * call_reach) (moves_near place call.moves call.is_item) outer.within in
-    let own : depth_of cif.symbols (items_of cif.symbols place) ≡ depth_of cif.symbols found.0.items = ap (λ one. depth_of cif.symbols (items_at one)) found.1 in
+    let both = composed-within (moved call.moves) call.placement call_reach (outer.calls * call_reach) (moves_near place call.moves call.is_item)
+    outer.within in
+    let own : depth_of cif.symbols (items_of cif.symbols place) ≡ depth_of cif.symbols found.0.items =
+    ap (λ one. depth_of cif.symbols (items_at one)) found.1 in
     record {
       calls = outer.calls + 1;
       few = omega (arith, falls, outer.few, own);
       within = subst (MovesWithin ((outer.calls + 1) * call_reach)) (sym call.is_composed)
-          (within_weaker (call_reach + outer.calls * call_reach) ((outer.calls + 1) * call_reach) (composed (moved call.moves) call.placement) (omega arith) both);
+          (within_weaker (call_reach + outer.calls * call_reach) ((outer.calls + 1) * call_reach) (composed (moved call.moves) call.placement) (omega arith)
+          both);
     }
 
 -- Some symbols are drawn, in all their instances, and the instances of the others that these and the top level call wait.
@@ -232,7 +238,8 @@ nothing_there : {X : Type 0} (lists : List (List X)) (place : ℕ) (x : X) → (
 nothing_there {X} lists place x empty there = let none : In x [] = subst (In x) (empty place) there in absurd none
 
 -- the top level stands near
-pub top_near : (cif : CifParts) → (size_of cif).depth ≤ LONGEST_CHAIN → (placement : Transform) → In placement (identity ∷ []) → IsNear cif.symbols cif.top placement
+pub top_near : (cif : CifParts) → (size_of cif).depth ≤ LONGEST_CHAIN → (placement : Transform) → In placement (identity ∷ [])
+    → IsNear cif.symbols cif.top placement
 top_near cif few placement there =
     let here : identity ≡ placement = elim there [ inl same ↦ same | inr none ↦ absurd none ] in
     subst (IsNear cif.symbols cif.top) here
@@ -343,7 +350,8 @@ half_more cif boxes boxes' rest waiting' own lawful items_lawful half drawn less
       in_range = λ layer box there. drawn_in_range cif.symbols items own boxes boxes' rest waiting' drawn layer box (half.in_range layer box) there;
       near = λ place placement there. elim (drawn.calls_are.only place placement there) [
         | inl before ↦ half.near place placement (before_last rest own place placement before)
-        | inr call ↦ near_called cif items own place placement lawful (calls_known (length cif.layers) (length rest) items cif.symbols less items_lawful) drawn.near
+        | inr call ↦ near_called cif items own place placement lawful (calls_known (length cif.layers) (length rest) items cif.symbols less items_lawful)
+            drawn.near
             (λ outer here. half.near (length rest) outer (at_last rest own outer here)) call
       ];
     }
@@ -396,7 +404,8 @@ half_begun cif items here boxes boxes' waiting waiting' top is lawful few long s
     (subst (λ (t : Transform). IsDrawn cif.top (t ∷ []) boxes boxes' waiting waiting') is
     (subst (λ some. IsDrawn some (here ∷ []) boxes boxes' waiting waiting') top drawn))
 
-pub begun_outside : (cif : CifParts) (items : List CifItem) (here : Transform) → items ≡ cif.top → here ≡ identity → LeavesRange items (here ∷ []) → StandsOutside cif
+pub begun_outside : (cif : CifParts) (items : List CifItem) (here : Transform) → items ≡ cif.top → here ≡ identity → LeavesRange items (here ∷ [])
+    → StandsOutside cif
 begun_outside cif items here top is outside =
     top_outside cif (subst (λ (t : Transform). LeavesRange cif.top (t ∷ [])) is (subst (λ some. LeavesRange some (here ∷ [])) top outside))
 
@@ -430,7 +439,8 @@ items_last : (cif : CifParts) (boxes : List (List Rect)) (rest : List (List Tran
 items_last cif boxes rest items placements last = ap items_at last.is_symbol ∙ sym last.are_items
 
 -- its items are lawful
-pub lawful_last : (cif : CifParts) (boxes : List (List Rect)) (rest : List (List Transform)) (items : List CifItem) (placements : List Transform) → IsLawfulCif cif
+pub lawful_last : (cif : CifParts) (boxes : List (List Rect)) (rest : List (List Transform)) (items : List CifItem) (placements : List Transform)
+    → IsLawfulCif cif
     → IsLast cif boxes rest items placements → All (IsLawfulItem (length boxes) (length rest)) items
 lawful_last cif boxes rest items placements lawful last =
     subst (λ n. All (IsLawfulItem n (length rest)) items) (sym last.half.one_each)
@@ -458,6 +468,7 @@ drawn_last cif boxes boxes' rest waiting' items placements lawful last drawn =
     (subst (λ some. IsDrawn some placements boxes boxes' rest waiting') (sym same) drawn) (omega (arith, last.less))
 
 -- none waits any more
-pub all_drawn_at : (cif : CifParts) (boxes : List (List Rect)) (waiting : List (List Transform)) → length waiting ≡ 0 → IsHalfDrawn cif boxes waiting → AreBoxesOf cif boxes
+pub all_drawn_at : (cif : CifParts) (boxes : List (List Rect)) (waiting : List (List Transform)) → length waiting ≡ 0 → IsHalfDrawn cif boxes waiting
+    → AreBoxesOf cif boxes
 all_drawn_at cif boxes [] none half = all_drawn cif boxes half
 all_drawn_at cif boxes (first ∷ rest) none half = absurd (omega (arith, none))

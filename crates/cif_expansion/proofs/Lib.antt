@@ -1,8 +1,8 @@
-pub mod ReachLaws
-pub mod ViewLaws
-pub mod StepLaws
-pub mod EmptyLaws
-pub mod AddedLaws
-pub mod DrawnLaws
-pub mod ExpansionLaws
-pub mod StripLaws
+mod ReachLaws
+mod ViewLaws
+mod StepLaws
+mod EmptyLaws
+mod AddedLaws
+mod DrawnLaws
+mod ExpansionLaws
+mod StripLaws

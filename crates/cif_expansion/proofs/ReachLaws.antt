@@ -34,4 +34,7 @@ composed-within inner outer m n p q = record {
 
 -- the identity does not move
 pub identity-within : MovesWithin 0 identity
-identity-within = record { dx = record { low = omega (arith, ints); high = omega (arith, ints) }; dy = record { low = omega (arith, ints); high = omega (arith, ints) } }
+identity-within = record {
+  dx = record { low = omega (arith, ints); high = omega (arith, ints) };
+  dy = record { low = omega (arith, ints); high = omega (arith, ints) };
+}

@@ -27,7 +27,8 @@ pub record AreMadeUpTo (names : List (List ℕ)) (boxes now : List (List Rect)) 
   pub strips_are : (made : ℕ) (layer : LayerStrips) → slice_get layers made ≡ Some layer → IsStrips (IsInUnion (list_at boxes made)) layer.strips
 
 -- one more
-pub made_more : (names : List (List ℕ)) (boxes now : List (List Rect)) (place : ℕ) (layers layers' : List LayerStrips) (name : List ℕ) (own left taken : List Rect)
+pub made_more : (names : List (List ℕ)) (boxes now : List (List Rect)) (place : ℕ) (layers layers' : List LayerStrips) (name : List ℕ)
+    (own left taken : List Rect)
     (layer : LayerStrips) → place < length names → name ≡ get_or names place name → own ≡ get_or now place own → taken ≡ own → layer.name ≡ name
     → IsStrips (IsInUnion taken) layer.strips → layers' ≡ layers ++ layer ∷ [] → AreMadeUpTo names boxes now place layers
     → AreMadeUpTo names boxes (slice_set now place left) (place + 1) layers'
@@ -66,9 +67,11 @@ means_union : (cif : CifParts) (boxes : List (List Rect)) (layer : ℕ) (square 
 means_union cif boxes layer square are (calls, (box, (stands, covers))) = (box, (are.every layer box (calls, stands), covers))
 
 -- so the strips are those of the text
-pub expanded : (cif : CifParts) (boxes : List (List Rect)) (names : List (List ℕ)) (layers : List LayerStrips) → IsWithinLimits (size_of cif) → AreBoxesOf cif boxes
+pub expanded : (cif : CifParts) (boxes : List (List Rect)) (names : List (List ℕ)) (layers : List LayerStrips) → IsWithinLimits (size_of cif)
+    → AreBoxesOf cif boxes
     → names ≡ cif.layers → map name_of layers ≡ names
-    → ((place : ℕ) (layer : LayerStrips) → slice_get layers place ≡ Some layer → IsStrips (IsInUnion (list_at boxes place)) layer.strips) → IsExpanded cif layers
+    → ((place : ℕ) (layer : LayerStrips) → slice_get layers place ≡ Some layer → IsStrips (IsInUnion (list_at boxes place)) layer.strips)
+    → IsExpanded cif layers
 expanded cif boxes names layers within are all named strips = record {
   within = within;
   in_range = are.in_range;

@@ -1,9 +1,9 @@
-pub mod CommentLaws
-pub mod FormLaws
-pub mod NumberLaws
-pub mod CuttingLaws
-pub mod TextLaws
-pub mod WordLaws
+mod CommentLaws
+mod FormLaws
+mod NumberLaws
+mod CuttingLaws
+mod TextLaws
+mod WordLaws
 pub mod WrittenTexts
-pub mod WrittenWords
+mod WrittenWords
 pub mod WrittenLaws

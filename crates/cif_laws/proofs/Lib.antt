@@ -6,4 +6,4 @@ mod UseCalls
 mod SymbolPlaces
 mod SymbolMeanings
 mod CellMeanings
-pub mod LibraryMeanings
+mod LibraryMeanings

@@ -77,7 +77,8 @@ size_at-symbol cif place symbol lawful is =
     let long : length before ≡ place = length-sizes_of (take place cif.symbols) ∙ length-take-le place cif.symbols (omega arith) in
     let all = lawful.symbols place symbol is in
     let each : (item : CifItem) → In item symbol.items → IsLawfulItem (length cif.layers) (length before) item =
-    λ item there. subst (λ n. IsLawfulItem (length cif.layers) n item) (sym long) (All-In (IsLawfulItem (length cif.layers) place) symbol.items item all there) in
+    λ item there. subst (λ n. IsLawfulItem (length cif.layers) n item) (sym long)
+    (All-In (IsLawfulItem (length cif.layers) place) symbol.items item all there) in
     let same : size_of_items (sizes_of cif.symbols) symbol.items ≡ size_of_items before symbol.items =
     ap (λ sizes. size_of_items sizes symbol.items) cut.1
     ∙ size_beside-earlier (length cif.layers) before (size_of_symbol before symbol ∷ cut.0) no_size symbol.items each in
@@ -105,7 +106,8 @@ abbrev pub depth_of : List CifSymbol → List CifItem → ℕ
 depth_of symbols items = (size_of_items (sizes_of symbols) items).depth
 
 -- a called symbol's items have a shorter one
-pub depth-falls : (cif : CifParts) (items : List CifItem) (place : ℕ) (moves : List CifMove) (symbol : CifSymbol) → IsLawfulCif cif → In (Call place moves) items
+pub depth-falls : (cif : CifParts) (items : List CifItem) (place : ℕ) (moves : List CifMove) (symbol : CifSymbol) → IsLawfulCif cif
+    → In (Call place moves) items
     → slice_get cif.symbols place ≡ Some symbol → depth_of cif.symbols symbol.items + 1 ≤ depth_of cif.symbols items
 depth-falls cif items place moves symbol lawful there is =
     let called = depth-of_item (sizes_of cif.symbols) no_size items (Call place moves) there in

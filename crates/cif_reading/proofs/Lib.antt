@@ -1,4 +1,4 @@
-pub mod NumberLaws
+mod NumberLaws
 pub mod PlaceLaws
 pub mod LawfulDrafts
 pub mod RefusedTexts

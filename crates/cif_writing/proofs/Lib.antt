@@ -1,9 +1,9 @@
-pub mod CommandLaws
-pub mod ElementLaws
-pub mod LineLaws
-pub mod OneText
+mod CommandLaws
+mod ElementLaws
+mod LineLaws
+mod OneText
 pub mod OrderLaws
 pub mod PartLaws
-pub mod StripLaws
+mod StripLaws
 pub mod SymbolLaws
-pub mod WritingLaws
+mod WritingLaws

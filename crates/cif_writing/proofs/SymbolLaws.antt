@@ -102,7 +102,8 @@ module _ (view : LibraryView) (order : List ℕ) (number cell : ℕ) where
     lines = head_lines ++ (parts.lines ++ (calls.lines ++ finish_command ∷ []));
     are = record { parts = parts.lines; are_parts = parts.are; calls = calls.lines; are_calls = calls.are; is = refl };
     is = lines_behind head_lines (parts.lines ++ (calls.lines ++ finish_command ∷ [])) old a new head
-        (lines_behind parts.lines (calls.lines ++ finish_command ∷ []) a b new parts.is (lines_behind calls.lines (finish_command ∷ []) b c new calls.is finish));
+        (lines_behind parts.lines (calls.lines ++ finish_command ∷ []) a b new parts.is
+        (lines_behind calls.lines (finish_command ∷ []) b c new calls.is finish));
   }
 
   -- where its parts make the text too long, the symbol does

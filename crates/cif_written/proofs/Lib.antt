@@ -1,14 +1,14 @@
-pub mod LayerPlaces
-pub mod HalfNumbers
-pub mod KeptSymbols
-pub mod LibraryNumbers
-pub mod LibraryOrders
-pub mod NumberedSymbols
-pub mod ReadCalls
-pub mod ReadCommands
-pub mod ReadLines
-pub mod ReadOrders
-pub mod ReadParts
-pub mod ReadRuns
-pub mod ReadSymbols
-pub mod WrittenCells
+mod LayerPlaces
+mod HalfNumbers
+mod KeptSymbols
+mod LibraryNumbers
+mod LibraryOrders
+mod NumberedSymbols
+mod ReadCalls
+mod ReadCommands
+mod ReadLines
+mod ReadOrders
+mod ReadParts
+mod ReadRuns
+mod ReadSymbols
+mod WrittenCells

@@ -1,3 +1,3 @@
 pub mod CircuitInside
-pub mod TreeCommands
+mod TreeCommands
 pub mod RestLaws

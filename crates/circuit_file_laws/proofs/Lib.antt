@@ -1,3 +1,3 @@
-pub mod LineGains
-pub mod SpelledFiles
-pub mod RefusedFiles
+mod LineGains
+mod SpelledFiles
+mod RefusedFiles

@@ -99,7 +99,8 @@ flat_fet nodes element fet flat lawful is = record {
     each : (side : TermRec) → In side flat.terminals → unsigned_abs side.length < LENGTHS_EDGE
     each side within =
         let sum = some_up_to (λ part. bytes_eq side.node (side_name nodes element part)) fet.terminals in
-        let small = up_to_abs _ side.length (subst (λ z. IsUpTo (sum_by (λ one. unsigned_abs one.length) fet.terminals) z) (sym (is.lengths side within)) sum) in
+        let small = up_to_abs _ side.length (subst (λ z. IsUpTo (sum_by (λ one. unsigned_abs one.length) fet.terminals) z) (sym (is.lengths side within))
+        sum) in
         let all = lawful.lengths in
         omega (arith, small, all)
 

@@ -1,6 +1,6 @@
-pub mod ReachedElements
-pub mod ReachedFaults
-pub mod FlatCircuits
-pub mod CircuitTrees
-pub mod WrittenCircuits
-pub mod Ext2simEffects
+mod ReachedElements
+mod ReachedFaults
+mod FlatCircuits
+mod CircuitTrees
+mod WrittenCircuits
+mod Ext2simEffects

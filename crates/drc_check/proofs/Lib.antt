@@ -1,13 +1,13 @@
-pub mod AreaLaws
-pub mod BandLaws
-pub mod CellPieceLaws
-pub mod FoundLists
-pub mod ListedLaws
-pub mod MarkLaws
-pub mod PieceLaws
-pub mod PlanePieces
-pub mod SquareLaws
-pub mod StackPieces
-pub mod TileUnions
-pub mod ViolationLaws
-pub mod VisitPieces
+mod AreaLaws
+mod BandLaws
+mod CellPieceLaws
+mod FoundLists
+mod ListedLaws
+mod MarkLaws
+mod PieceLaws
+mod PlanePieces
+mod SquareLaws
+mod StackPieces
+mod TileUnions
+mod ViolationLaws
+mod VisitPieces

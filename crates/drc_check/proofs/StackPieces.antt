@@ -103,7 +103,8 @@ record IsTileAt (raw : RawTech) (plane : ℕ) (tiles : List PartTile) (k : ℕ) 
 
 module _ (raw : RawTech) (plane : ℕ) (tiles : List PartTile) where
   -- the set of the tile at a place
-  set_there : (k : ℕ) (tile : PartTile) → slice_get (tiles_of_plane plane tiles) k ≡ Some tile → part_set_at (sets_on raw plane tiles) k ≡ parts_of raw tile.kind.0
+  set_there : (k : ℕ) (tile : PartTile) → slice_get (tiles_of_plane plane tiles) k ≡ Some tile
+      → part_set_at (sets_on raw plane tiles) k ≡ parts_of raw tile.kind.0
   set_there k tile is =
       ap (λ (set : PartSet). set.0) (get_or_from_slice_get (sets_on raw plane tiles) k (set_in raw tile) (record { 0 = 0 })
       (slice_get-map (set_in raw) (tiles_of_plane plane tiles) k ∙ ap (option_map (set_in raw)) is))
@@ -230,7 +231,8 @@ module _ (raw : RawTech) (plane : ℕ) (tiles : List PartTile) where
           let flat = ap (joined raw plane) (union_is stack (are.each stack found.1.0) place.square found.1.1) ∙ at in
           record {
             piece = record { plane = plane; kind = kind; area = stack.area };
-            among = filter_map_kept (stack_piece raw marks plane (sets_on raw plane tiles)) stacks stack (record { plane = plane; kind = kind; area = stack.area })
+            among = filter_map_kept (stack_piece raw marks plane (sets_on raw plane tiles)) stacks stack
+                (record { plane = plane; kind = kind; area = stack.area })
                 found.1.0
                 (marked_piece_made marks plane stack.area (joined raw plane (member_union (sets_on raw plane tiles) stack.members.items)) kind flat wanted.1);
             plane = sym wanted.0;

@@ -1,3 +1,3 @@
-pub mod DrcLaws
-pub mod OneDrc
+mod DrcLaws
+mod OneDrc
 pub mod RestLaws

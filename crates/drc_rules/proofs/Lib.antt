@@ -1,2 +1,2 @@
-pub mod FileLaws
-pub mod LawfulLines
+mod FileLaws
+mod LawfulLines

@@ -1,7 +1,7 @@
-pub mod AnswerLaws
+mod AnswerLaws
 pub mod CellLaws
-pub mod CurrentLaws
+mod CurrentLaws
 pub mod KeptCells
-pub mod NumberLaws
-pub mod OwnLaws
-pub mod UseLaws
+mod NumberLaws
+mod OwnLaws
+mod UseLaws

@@ -1,7 +1,7 @@
 pub mod IdLaws
-pub mod PartLaws
-pub mod SquareLaws
-pub mod BlockLaws
-pub mod ForestLaws
+mod PartLaws
+mod SquareLaws
+mod BlockLaws
+mod ForestLaws
 pub mod HoldLaws
-pub mod RowLaws
+mod RowLaws

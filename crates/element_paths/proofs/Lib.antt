@@ -1,4 +1,4 @@
-pub mod ElementLaws
-pub mod UseLaws
-pub mod StartLaws
-pub mod DescentLaws
+mod ElementLaws
+mod UseLaws
+mod StartLaws
+mod DescentLaws

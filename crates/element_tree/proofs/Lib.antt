@@ -1,13 +1,13 @@
-pub mod NameOrders
+mod NameOrders
 pub mod Transforms
-pub mod Chains
-pub mod Ranks
-pub mod Growth
-pub mod Measures
+mod Chains
+mod Ranks
+mod Growth
+mod Measures
 pub mod Counting
-pub mod Steps
-pub mod RankSums
+mod Steps
+mod RankSums
 pub mod Rows
-pub mod Forests
-pub mod Along
-pub mod TreeLaws
+mod Forests
+mod Along
+mod TreeLaws

@@ -1,14 +1,14 @@
-pub mod AboveLaws
-pub mod AgreementLaws
+mod AboveLaws
+mod AgreementLaws
 pub mod ArrivalLaws
-pub mod CleanLaws
+mod CleanLaws
 pub mod EditLaws
-pub mod LoopLaws
-pub mod MadeLaws
+mod LoopLaws
+mod MadeLaws
 pub mod MakingLaws
 pub mod OrderLaws
 pub mod RecordLaws
-pub mod SerialLaws
-pub mod UncleanLaws
-pub mod UndoingLaws
-pub mod WorkLaws
+mod SerialLaws
+mod UncleanLaws
+mod UndoingLaws
+mod WorkLaws

@@ -3,7 +3,7 @@ pub use Rattle.geo_core.proofs as GeoCore
 pub mod NameKinds
 pub mod NameOrders
 pub mod PathOrders
-pub mod EntryLaws
+mod EntryLaws
 pub mod PathNames
 pub mod PartOrders
 pub mod RecordNameLaws

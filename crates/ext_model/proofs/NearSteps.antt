@@ -111,7 +111,12 @@ element_placement six grid is lawful element here =
     let small = bounded_by_orient t.orient t.dx t.dy element.2 element.3 is.dx is.dy step.0 step.1 in
     let to = moved t.orient t.dx t.dy element.2 element.3 in
     subst (λ (s : List ℤ). IsPlacement ELEMENT_EDGE (displaced s element.2 element.3)) is.numbers
-    (record { transform = moved t.orient t.dx t.dy element.2 element.3; numbers = refl; dx = below to.dx small.left small.right; dy = below to.dy small.down small.up })
+    (record {
+      transform = moved t.orient t.dx t.dy element.2 element.3;
+      numbers = refl;
+      dx = below to.dx small.left small.right;
+      dy = below to.dy small.down small.up;
+    })
 
 -- and those of one without a grid
 pub use_placement : (six : List ℤ) → IsPlacement SHIFT_EDGE six → IsPlacement ELEMENT_EDGE six

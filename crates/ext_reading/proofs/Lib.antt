@@ -1,24 +1,24 @@
-pub mod LineSteps
+mod LineSteps
 pub mod NameLaws
-pub mod PathLaws
+mod PathLaws
 pub mod Outcomes
-pub mod UseNames
-pub mod ElementIds
-pub mod LawfulLines
-pub mod LawfulDrafts
-pub mod RowPaths
-pub mod SoundRecords
-pub mod SoundNodes
-pub mod SoundDrafts
-pub mod OutlineLaws
-pub mod LawfulTexts
-pub mod WrittenWords
-pub mod WrittenNames
-pub mod WrittenLines
-pub mod WrittenBack
-pub mod WrittenPaths
-pub mod WrittenSteps
-pub mod WrittenParts
-pub mod WrittenOutlines
-pub mod WrittenRecords
-pub mod WrittenHeaders
+mod UseNames
+mod ElementIds
+mod LawfulLines
+mod LawfulDrafts
+mod RowPaths
+mod SoundRecords
+mod SoundNodes
+mod SoundDrafts
+mod OutlineLaws
+mod LawfulTexts
+mod WrittenWords
+mod WrittenNames
+mod WrittenLines
+mod WrittenBack
+mod WrittenPaths
+mod WrittenSteps
+mod WrittenParts
+mod WrittenOutlines
+mod WrittenRecords
+mod WrittenHeaders

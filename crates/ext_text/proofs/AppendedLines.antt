@@ -225,7 +225,8 @@ ext_written ext out a b c d e ho ha hb hc hd he =
     then out a e _ _ ha (then a b e _ _ hb (then b c e _ _ hc (then c d e _ _ hd he))) ∙ ap (λ v. out ++ v) (sym parts) ∙ ap (λ v. v ++ ext_text ext) ho
 
 flat-parts : (circuit : Circuit) → flat_text circuit
-    ≡ lines_text (header_words (codes "1") circuit.tech circuit.classes) ++ (lines_text (flat_map node_lines circuit.nodes) ++ lines_text (map fet_words circuit.fets))
+    ≡ lines_text (header_words (codes "1") circuit.tech circuit.classes)
+    ++ (lines_text (flat_map node_lines circuit.nodes) ++ lines_text (map fet_words circuit.fets))
 flat-parts circuit =
     let nodes = flat_map node_lines circuit.nodes in
     let fets = map fet_words circuit.fets in
@@ -282,7 +283,8 @@ some_nodes_too_long nodes k fault out text =
     part_too_long fault out text (flat_map node_lines (take k nodes)) (flat_map node_lines (drop k nodes)) (flat_map node_lines nodes)
     (flat_map-split node_lines nodes k)
 
-pub nodes_too_long : (circuit : Circuit) (fault : ExtFault) (out a text : List ℕ) → a ≡ out ++ lines_text (header_words (codes "1") circuit.tech circuit.classes)
+pub nodes_too_long : (circuit : Circuit) (fault : ExtFault) (out a text : List ℕ)
+    → a ≡ out ++ lines_text (header_words (codes "1") circuit.tech circuit.classes)
     → text ≡ a ++ lines_text (flat_map node_lines circuit.nodes) → IsTooLong fault text → IsTooLong fault (out ++ flat_text circuit)
 nodes_too_long circuit fault out a text ha ht long =
     too_long-more fault text (lines_text (map fet_words circuit.fets)) (out ++ flat_text circuit)

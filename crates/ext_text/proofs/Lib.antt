@@ -1,2 +1,2 @@
-pub mod AppendedLines
-pub mod PathCuts
+mod AppendedLines
+mod PathCuts

@@ -34,7 +34,8 @@ runs_cell run budget number fetched work after cell extraction lines all stores 
 -- ---- `vectors` and `grade`
 
 -- the vector file was fetched
-pub runs_fetched : (question : VectorQuestion) (budget number : ℕ) (name file text : List ℕ) (fetch : Result (List ℕ) FetchFault) (work : Workspace) (cell : ℕ) (after : State) (answer : Answer)
+pub runs_fetched : (question : VectorQuestion) (budget number : ℕ) (name file text : List ℕ) (fetch : Result (List ℕ) FetchFault) (work : Workspace)
+    (cell : ℕ) (after : State) (answer : Answer)
     → fetch ≡ Ok text
     → RunsFetched question budget number name file (Ok text) work cell
     (record { state = after; lines = answer.lines.items; stores = answer.stores.items; fetched = file ∷ [] })
@@ -42,16 +43,19 @@ pub runs_fetched : (question : VectorQuestion) (budget number : ℕ) (name file 
 runs_fetched question budget number name file text fetch work cell after answer is runs =
     subst
     (λ (f : Result (List ℕ) FetchFault).
-    RunsFetched question budget number name file f work cell (record { state = after; lines = answer.lines.items; stores = answer.stores.items; fetched = file ∷ [] }))
+    RunsFetched question budget number name file f work cell
+    (record { state = after; lines = answer.lines.items; stores = answer.stores.items; fetched = file ∷ [] }))
     (sym is) runs
 
 -- there is none
-pub refuses_fetched : (question : VectorQuestion) (budget number : ℕ) (name file : List ℕ) (fault : FetchFault) (fetch : Result (List ℕ) FetchFault) (work : Workspace) (cell : ℕ)
+pub refuses_fetched : (question : VectorQuestion) (budget number : ℕ) (name file : List ℕ) (fault : FetchFault) (fetch : Result (List ℕ) FetchFault)
+    (work : Workspace) (cell : ℕ)
     (answer : Answer)
     → fetch ≡ Err fault → answer.lines.items ≡ refusal_line number (file_refusal file fault) ∷ [] → answer.stores.items ≡ []
     → AnswersFetching (file ∷ []) (RunsFetched question budget number name file fetch work cell) (Some work) answer
 refuses_fetched question budget number name file fault fetch work cell answer is lines stores =
     answers_refusal (RunsFetched question budget number name file fetch work cell) number (Some work) (file_refusal file fault) (file ∷ []) answer lines stores
     (subst
-    (λ (f : Result (List ℕ) FetchFault). RunsFetched question budget number name file f work cell (refused number (Some work) (file_refusal file fault) (file ∷ [])))
+    (λ (f : Result (List ℕ) FetchFault). RunsFetched question budget number name file f work cell
+    (refused number (Some work) (file_refusal file fault) (file ∷ [])))
     (sym is) refl)

@@ -1,14 +1,14 @@
-pub mod CellRunLaws
-pub mod CircuitLaws
-pub mod ExtractionCommands
-pub mod GenerateLaws
+mod CellRunLaws
+mod CircuitLaws
+mod ExtractionCommands
+mod GenerateLaws
 pub mod RestLaws
-pub mod SoundLibraries
-pub mod OneExtraction
-pub mod ReachedRecords
-pub mod OneCircuit
-pub mod OnCells
-pub mod CircuitEffects
-pub mod RunEffects
-pub mod StackEffects
-pub mod StackVersions
+mod SoundLibraries
+mod OneExtraction
+mod ReachedRecords
+mod OneCircuit
+mod OnCells
+mod CircuitEffects
+mod RunEffects
+mod StackEffects
+mod StackVersions

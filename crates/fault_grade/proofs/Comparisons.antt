@@ -42,7 +42,8 @@ module _ (states : List Level) (good : Watched) (number : ℕ) where
       (named : List ℕ × ℕ) × In named asked × (good.settled ≡ true) × IsOpposed named
   one_tells [] is = absurd (false≢true is)
   one_tells (named ∷ asked) is = elim (cases_Bool (is_shown_apart states named (shown_as named))) [
-    | inl here ↦ (let both = both_pass good.settled (are_opposed (state_of good.at.states named.1) (state_of states named.1)) here in (named, inl refl, both.0, both.1))
+    | inl here ↦ (let both = both_pass good.settled (are_opposed (state_of good.at.states named.1) (state_of states named.1)) here in
+        (named, inl refl, both.0, both.1))
     | inr other ↦ (let later = one_tells asked (rw other at is) in (later.0, inr later.1, later.2, later.3))
   ]
 
@@ -301,7 +302,8 @@ module _ (budget : ℕ) (good stuck : Watched) (fault : Option StuckFault) (line
           let many = they_tell told.stuck_now.at.states told.good_now number told.asked told.named told.asks told.good_settled told.opposed in
           let apart : shows (number, Show told.asked) told.good_now told.stuck_now ≡ true = rw (told.stuck_settled, many) refl in
           let moved : shows line compared.good_now now ≡ true =
-          ap (λ (one : ℕ × VecLine). shows one compared.good_now now) same ∙ ap (λ (s : Watched). shows (number, Show told.asked) compared.good_now s) (sym stuck_is)
+          ap (λ (one : ℕ × VecLine). shows one compared.good_now now) same ∙ ap (λ (s : Watched). shows (number, Show told.asked) compared.good_now s)
+          (sym stuck_is)
           ∙ ap (λ (g : Watched). shows (number, Show told.asked) g told.stuck_now) (sym good_is) ∙ apart in
           (ap (λ (one : ℕ × VecLine). one.0) same, moved)
 
@@ -314,7 +316,8 @@ module _ (budget : ℕ) (good stuck : Watched) (fault : Option StuckFault) (line
           (λ number told place. (let is = here_told number told place in (is.0, same ∙ is.1))) compared.finds
 
       -- one more line is compared
-      pub one_compared : (new : Watched) (here later : List Seen) (apart : Bool) → here ≡ take (asked_count line.1) rest → later ≡ drop (asked_count line.1) rest
+      pub one_compared : (new : Watched) (here later : List Seen) (apart : Bool) → here ≡ take (asked_count line.1) rest
+          → later ≡ drop (asked_count line.1) rest
           → apart ≡ is_apart now.settled now.at.states line.1 here
           → (is_left_out fault line.1 ≡ true → new ≡ now) → (is_left_out fault line.1 ≡ false → LineIsTaken budget now line.1 new)
           → AreCompared (k + 1) later new (least_of found apart line.0)
@@ -336,5 +339,6 @@ module _ (budget : ℕ) (good stuck : Watched) (fault : Option StuckFault) (line
       }
 
 -- where a run has shown something, it stood on a sound network
-pub sound_shown : (budget nodes : ℕ) (from : Watched) (lines : List (ℕ × VecLine)) (seen : List Seen) → HasShown budget nodes from lines seen → IsSoundAt nodes from.at
+pub sound_shown : (budget nodes : ℕ) (from : Watched) (lines : List (ℕ × VecLine)) (seen : List Seen) → HasShown budget nodes from lines seen
+    → IsSoundAt nodes from.at
 sound_shown budget nodes from lines seen shown = record { sound = shown.sound; same_nodes = shown.same_nodes; one_state = shown.one_state }

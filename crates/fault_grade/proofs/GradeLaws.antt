@@ -141,10 +141,12 @@ two_more R faults grades v low high before first second =
 -- the grades up to a node, and those of the node
 pub graded_more : (net here : Network) (names listed : List (List ℕ × ℕ)) (budget : ℕ) (vectors : Vectors) (p : ℕ → Bool) (nodes : ℕ) (old new : List Graded)
     → here ≡ net → listed ≡ names → p nodes ≡ false → AllZip (IsGrade net names budget vectors) (faults_but p nodes) old
-    → ((faults : List StuckFault) → AllZip (IsGrade here listed budget vectors) faults old → AllZip (IsGrade here listed budget vectors) (faults ++ faults_at nodes) new)
+    → ((faults : List StuckFault) → AllZip (IsGrade here listed budget vectors) faults old
+    → AllZip (IsGrade here listed budget vectors) (faults ++ faults_at nodes) new)
     → AllZip (IsGrade net names budget vectors) (faults_but p (nodes + 1)) new
 graded_more net here names listed budget vectors p nodes old new same same_names can before more =
     let Adds : Network → List (List ℕ × ℕ) → Type 0 =
     λ n l. (faults : List StuckFault) → AllZip (IsGrade n l budget vectors) faults old → AllZip (IsGrade n l budget vectors) (faults ++ faults_at nodes) new in
     let step = subst (λ (n : Network). Adds n names) same (subst (Adds here) same_names more) in
-    subst (λ (faults : List StuckFault). AllZip (IsGrade net names budget vectors) faults new) (sym (faults_kept p nodes can)) (step (faults_but p nodes) before)
+    subst (λ (faults : List StuckFault). AllZip (IsGrade net names budget vectors) faults new) (sym (faults_kept p nodes can))
+    (step (faults_but p nodes) before)

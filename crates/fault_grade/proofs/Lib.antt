@@ -1,2 +1,2 @@
-pub mod Comparisons
-pub mod GradeLaws
+mod Comparisons
+mod GradeLaws

@@ -242,7 +242,8 @@ module _ (good net : Network) (held : ℕ) (s t : List Level) (differing marks :
       rw (taken_here next (listed marks) copy v (is_listed marks v ins) below) (steady v ins)
 
   new_held : state_of new held ≡ state_of t held
-  new_held = taken_other next (listed marks) copy held (not_listed held (input_outside good net held s t differing marks.inside sound along near held along.is_held))
+  new_held = taken_other next (listed marks) copy held
+      (not_listed held (input_outside good net held s t differing marks.inside sound along near held along.is_held))
       ∙ stopped_same (is_copied marks.inside held) changes t held (held_stays marks.inside held)
 
   new_copied : (v : ℕ) → v ≢ held → slice_index_or marks.inside v false ≡ false → state_of t v ≡ state_of s v

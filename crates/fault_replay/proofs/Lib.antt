@@ -1,5 +1,5 @@
-pub mod ChangedStates
-pub mod Beside
-pub mod PhaseEnds
-pub mod Lines
+mod ChangedStates
+mod Beside
+mod PhaseEnds
+mod Lines
 pub mod Recorded

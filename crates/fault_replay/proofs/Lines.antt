@@ -182,7 +182,8 @@ module _ (budget : ℕ) (good : Network) (old new : Standing) (held number : ℕ
       → is_of held line ≡ true → new ≡ old → Records budget good s ((number, line) ∷ rest) phases
       → StandsBehind budget new.net held (states_after line s) new.states more rest phases
   left_behind line other within here out same records =
-      subst (λ (at : Standing). StandsBehind budget at.net held (states_after line s) at.states more rest phases) (sym same) (by line other within here out records)
+      subst (λ (at : Standing). StandsBehind budget at.net held (states_after line s) at.states more rest phases) (sym same)
+      (by line other within here out records)
     where
       by : (line : VecLine) → line ≢ Phase → FitsNodes old.net.nodes line → ((x : Level) → line ≡ Set held x → IsInside more held)
           → is_of held line ≡ true → Records budget good s ((number, line) ∷ rest) phases
@@ -199,12 +200,17 @@ module _ (budget : ℕ) (good : Network) (old new : Standing) (held number : ℕ
           record { good = with_input good v false; along = rw e (free_held good old.net held s old.states told more sound along grown); records = records }
       by (Size v k) other within here out records =
           let e : v ≡ held = eqb-true v held out in
-          record { good = with_size good v k; along = rw e (size_held good old.net held s old.states told more sound along grown k within.1); records = records }
+          record {
+            good = with_size good v k;
+            along = rw e (size_held good old.net held s old.states told more sound along grown k within.1);
+            records = records;
+          }
       by Phase other within here out records = absurd (other refl)
       by (Show asked) other within here out records = absurd (false≢true out)
 
   -- any other line
-  taken_behind : (line : VecLine) (told_of : List VecReply) → line ≢ Phase → FitsNodes old.net.nodes line → is_of held line ≡ false → LineRuns budget old line new told_of
+  taken_behind : (line : VecLine) (told_of : List VecReply) → line ≢ Phase → FitsNodes old.net.nodes line → is_of held line ≡ false
+      → LineRuns budget old line new told_of
       → Records budget good s ((number, line) ∷ rest) phases → StandsBehind budget new.net held (states_after line s) new.states more rest phases
   taken_behind (Set v x) told_of other within counts runs records =
       subst (λ (at : Standing). StandsBehind budget at.net held (slice_set s v x) at.states more rest phases) (sym runs.0) (record {

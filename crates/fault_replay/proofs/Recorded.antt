@@ -36,11 +36,6 @@ steps_by_keep net v below input s t [] by = ap (λ (x : List Level). state_of x 
 steps_by_keep net v below input s t (changes ∷ steps) by =
     steps_by_keep net v below input (changed changes s) t steps by.1 ∙ (by.0.each v below).input input
 
--- and there are as many states as before
-pub steps_by-length : (net : Network) (s t : List Level) (steps : List (List (ℕ × Level))) → StepsBy net s steps t → length t ≡ length s
-steps_by-length net s t [] by = ap length by
-steps_by-length net s t (changes ∷ steps) by = steps_by-length net (changed changes s) t steps by.1 ∙ by.0.same_length
-
 module _ (net : Network) (sound : IsSound net) (s : List Level) (moved marks : NodeSet) (next : List Level) (len : length s ≡ net.nodes)
     (near : IsNear net s (listed moved) None marks.inside) where
   -- where all else is quiet, the marked nodes that take their steady values make a step

@@ -1,9 +1,9 @@
-pub mod AlikeTiles
-pub mod ChannelLaws
-pub mod ContactLaws
-pub mod FetLaws
-pub mod LengthLaws
-pub mod LowestLaws
-pub mod MapLaws
+mod AlikeTiles
+mod ChannelLaws
+mod ContactLaws
+mod FetLaws
+mod LengthLaws
+mod LowestLaws
+mod MapLaws
 pub mod RoleLaws
-pub mod SizeLaws
+mod SizeLaws

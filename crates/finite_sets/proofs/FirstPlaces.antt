@@ -65,7 +65,8 @@ pub position_at : {X : Type 0} (test : X → Bool) (i : ℕ) (xs : List X) (j : 
 position_at test i [] j d inside here before = absurd (omega arith)
 position_at test i (x ∷ xs) zero d inside here before = rw here (ap (λ (n : ℕ). Some n) (omega arith))
 position_at test i (x ∷ xs) (suc j) d inside here before =
-    rw (before 0 (omega arith)) (position_at test (i + 1) xs j d (omega arith) here (λ k below. before (suc k) (omega arith)) ∙ ap (λ (n : ℕ). Some n) (omega arith))
+    rw (before 0 (omega arith)) (position_at test (i + 1) xs j d (omega arith) here (λ k below. before (suc k) (omega arith))
+    ∙ ap (λ (n : ℕ). Some n) (omega arith))
 
 -- a place that is found passes
 pub position_found : {X : Type 0} (test : X → Bool) (i : ℕ) (xs : List X) (k : ℕ) (d : X) → position_from test i xs ≡ Some k

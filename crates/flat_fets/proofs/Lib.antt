@@ -1,4 +1,4 @@
-pub mod OrderLaws
-pub mod JoinLaws
-pub mod TerminalLaws
-pub mod FetLaws
+mod OrderLaws
+mod JoinLaws
+mod TerminalLaws
+mod FetLaws

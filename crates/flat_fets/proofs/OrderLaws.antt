@@ -11,4 +11,5 @@ use Rattle.flat_fets.specs.Sides.{AreByNode}
 -- sides that a sort by nodes has put in order
 pub sorted_by_node : (sides : List Side) → IsSortedByKey (λ side. side.node) nat_cmp sides → AreByNode sides
 sorted_by_node sides sorted i j d less inside =
-    ge_from_not_lt (get_or sides j d).node (get_or sides i d).node (IsSortedByKey-pairs (λ side. side.node) nat_cmp nat_cmp_total sides sorted i j d less inside)
+    ge_from_not_lt (get_or sides j d).node (get_or sides i d).node
+    (IsSortedByKey-pairs (λ side. side.node) nat_cmp nat_cmp_total sides sorted i j d less inside)

@@ -1,2 +1,2 @@
-pub mod ScanLaws
-pub mod PlacedLaws
+mod ScanLaws
+mod PlacedLaws

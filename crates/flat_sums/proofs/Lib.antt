@@ -2,8 +2,8 @@
 pub use Rattle.node_labels.proofs.FlatLimits as FlatLimits
 pub use Rattle.name_classes.proofs as NameClasses
 pub use Rattle.node_labels.proofs as NodeLabels
-pub mod AmountLaws
-pub mod BoundLaws
-pub mod AddingLaws
-pub mod EndLaws
-pub mod TotalLaws
+mod AmountLaws
+mod BoundLaws
+mod AddingLaws
+mod EndLaws
+mod TotalLaws

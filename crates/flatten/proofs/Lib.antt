@@ -1,3 +1,3 @@
-pub mod FlatNodeLaws
-pub mod FaultLaws
-pub mod ArrayLaws
+mod FlatNodeLaws
+mod FaultLaws
+mod ArrayLaws

@@ -3,7 +3,7 @@ pub mod ShareLaws
 pub mod TileEdges
 pub mod EdgeTotals
 pub mod GatherLaws
-pub mod RunLaws
+mod RunLaws
 pub mod OpenEdges
 pub mod LayoutRegions
 pub mod StackLaws

@@ -39,7 +39,8 @@ shared_by-not_negative : (a b : RegionTile) → pos 0 ≤ℤ shared_by a b
 shared_by-not_negative a b = cond_not_negative (eqb a.plane b.plane) (shared_length a.area b.area) (shared_length-not_negative a.area b.area)
 
 shared_by-comm : (a b : RegionTile) → shared_by a b ≡ shared_by b a
-shared_by-comm a b = ap (λ (t : Bool). cond t (shared_length a.area b.area) (pos 0)) (eqb-comm a.plane b.plane) ∙ ap (λ (v : ℤ). cond (eqb b.plane a.plane) v (pos 0)) (shared_length-comm a.area b.area)
+shared_by-comm a b = ap (λ (t : Bool). cond t (shared_length a.area b.area) (pos 0)) (eqb-comm a.plane b.plane)
+    ∙ ap (λ (v : ℤ). cond (eqb b.plane a.plane) v (pos 0)) (shared_length-comm a.area b.area)
 
 -- the places of a list
 pub Lists-indices_of : (tiles : List RegionTile) → Lists (λ k. k < length tiles) (indices_of tiles)

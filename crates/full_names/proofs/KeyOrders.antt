@@ -138,7 +138,8 @@ module _ (exts : List CellExt) (elements : List Element) (tree : ElementTree) (l
 
     lengths : nat_cmp (flat.bytes + length text) (flat_next.bytes + length text_next) ≡ nat_cmp (path_length ids + length text)
         (path_length ids_next + length text_next)
-    lengths = nat_cmp-same (flat.bytes + length text) (flat_next.bytes + length text_next) (path_length ids + length text) (path_length ids_next + length text_next)
+    lengths = nat_cmp-same (flat.bytes + length text) (flat_next.bytes + length text_next) (path_length ids + length text)
+        (path_length ids_next + length text_next)
         (ap (λ n. n + length text) stands.bytes) (ap (λ n. n + length text_next) stands_next.bytes)
 
     -- in one element names are in the order of their places

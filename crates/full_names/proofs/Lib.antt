@@ -1,24 +1,24 @@
-pub mod Lookups
-pub mod OwnNameLaws
-pub mod SearchLaws
-pub mod ReachedLaws
-pub mod PlaceLaws
-pub mod RecordReads
-pub mod OrderLaws
-pub mod ByteLaws
-pub mod KeyLaws
-pub mod GlobalLaws
+mod Lookups
+mod OwnNameLaws
+mod SearchLaws
+mod ReachedLaws
+mod PlaceLaws
+mod RecordReads
+mod OrderLaws
+mod ByteLaws
+mod KeyLaws
+mod GlobalLaws
 pub mod ListOrders
-pub mod TreeLaws
-pub mod PathLaws
+mod TreeLaws
+mod PathLaws
 pub mod NameForms
-pub mod TreeNames
-pub mod TextOrders
-pub mod KeyOrders
-pub mod GlobalOriginLaws
-pub mod NumberLaws
-pub mod NameBytes
-pub mod NamesMade
-pub mod QueryLaws
-pub mod OriginLaws
-pub mod LocalReads
+mod TreeNames
+mod TextOrders
+mod KeyOrders
+mod GlobalOriginLaws
+mod NumberLaws
+mod NameBytes
+mod NamesMade
+mod QueryLaws
+mod OriginLaws
+mod LocalReads

@@ -127,7 +127,8 @@ module _ (names : FullNames) (are : AreNames names) where
 
     no_node_before : (j : ℕ) (other : NodeRec) → j < k → slice_get element.ext.nodes j ≡ Some other → gives_name element full other ≡ true → ⊥
     no_node_before j other less at_j gives =
-        let source = In-map_source (name_in element) full (names_of other) (In-from_list_any bytes_eq bytes_eq-Decides full (map (name_in element) (names_of other)) gives) in
+        let source = In-map_source (name_in element) full (names_of other)
+        (In-from_list_any bytes_eq bytes_eq-Decides full (map (name_in element) (names_of other)) gives) in
         let named_other = In-flat_map names_of other source.0 element.ext.nodes (In-slice_get element.ext.nodes j other at_j) source.1.0 in
         let same = same_text number number element element at at source.0 text named_other named source.1.1 in
         let one : j ≡ k = one_part names_of element.ext.nodes j k other node text (lawful number element at).node_names_differ at_j stands
@@ -144,7 +145,8 @@ module _ (names : FullNames) (are : AreNames names) where
           (λ j other less at_j here. first j other less at_j (In-from_list_any bytes_eq bytes_eq-Decides full (full_names other) here));
       node_stands = stands;
       first_node = find_first (gives_name element full) element.ext.nodes k node stands
-          (list_any-of_In bytes_eq bytes_eq-Decides full (map (name_in element) (names_of node)) (In-map (name_in element) text (names_of node) given)) no_node_before;
+          (list_any-of_In bytes_eq bytes_eq-Decides full (map (name_in element) (names_of node)) (In-map (name_in element) text (names_of node) given))
+          no_node_before;
     }
 
   -- where a global name comes from

@@ -86,5 +86,6 @@ pub six_of-none : (six : List ℤ)
 six_of-none six none t is =
     let m = matrix t.orient in
     let same : orient_of m.a m.b m.d m.e ≡ None =
-    ap (λ (v : List ℤ). orient_of (slice_index_or v 0 (pos 0)) (slice_index_or v 1 (pos 0)) (slice_index_or v 3 (pos 0)) (slice_index_or v 4 (pos 0))) is ∙ none in
+    ap (λ (v : List ℤ). orient_of (slice_index_or v 0 (pos 0)) (slice_index_or v 1 (pos 0)) (slice_index_or v 3 (pos 0)) (slice_index_or v 4 (pos 0))) is
+    ∙ none in
     none-some t.orient (sym same ∙ orient_of-matrix t.orient)

@@ -1,8 +1,8 @@
-pub mod BarOrderLaws
+mod BarOrderLaws
 pub mod CoverageLaws
-pub mod JoinLaws
+mod JoinLaws
 pub mod RowEventLaws
 pub mod RowLaws
-pub mod StripLaws
+mod StripLaws
 pub mod StripListLaws
 pub mod SweepLaws

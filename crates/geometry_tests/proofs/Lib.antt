@@ -1,2 +1,2 @@
-pub mod PieceRects
-pub mod Rows
+mod PieceRects
+mod Rows

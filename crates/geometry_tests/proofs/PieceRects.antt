@@ -10,7 +10,8 @@ All-from_rects P pieces all = λ k d below.
     let long = length-map pieces (λ (p : Piece). p.area) in
     subst P (get_or-map (λ (p : Piece). p.area) pieces k d d.area below) (all k d.area (omega arith))
 
-pub AllPairs-from_rects : (R : Rect → Rect → Type 0) (pieces : List Piece) → AllPairs R (map (λ piece. piece.area) pieces) → AllPairs (λ a b. R a.area b.area) pieces
+pub AllPairs-from_rects : (R : Rect → Rect → Type 0) (pieces : List Piece) → AllPairs R (map (λ piece. piece.area) pieces)
+    → AllPairs (λ a b. R a.area b.area) pieces
 AllPairs-from_rects R pieces all = λ i j d less below.
     let long = length-map pieces (λ (p : Piece). p.area) in
     let a = get_or-map (λ (p : Piece). p.area) pieces i d d.area (omega arith) in

@@ -11,6 +11,6 @@ pub mod PartMembers
 pub mod MemberMaterial
 pub mod MemberSteps
 pub mod RegionLaws
-pub mod MeetingMembers
+mod MeetingMembers
 pub mod GroupRegions
-pub mod RecordedMembers
+mod RecordedMembers

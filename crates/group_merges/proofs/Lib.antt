@@ -1,9 +1,9 @@
 -- what crates above name of those below
 pub use Rattle.full_names.proofs as FullNames
 pub use Rattle.meeting_sums.proofs.LowerMeetingLaws as MeetingLaws
-pub mod MemberLaws
-pub mod LinkLaws
-pub mod WalkLaws
-pub mod SumLaws
-pub mod GroupLaws
-pub mod MarkLaws
+mod MemberLaws
+mod LinkLaws
+mod WalkLaws
+mod SumLaws
+mod GroupLaws
+mod MarkLaws

@@ -1,19 +1,19 @@
 pub mod CleanOrders
-pub mod CoveringTileLaws
-pub mod FoundPieces
-pub mod JoinedPieces
-pub mod MeetingBoxes
+mod CoveringTileLaws
+mod FoundPieces
+mod JoinedPieces
+mod MeetingBoxes
 pub mod MeetingOffences
-pub mod MeetingPieceLaws
-pub mod MeetingSquares
-pub mod NearAreas
-pub mod NumberedParts
-pub mod PartBoxLaws
-pub mod PartTypes
-pub mod PlanePieceLaws
-pub mod PlaneStrips
-pub mod PlaneTiles
-pub mod SeamLaws
-pub mod SortedTiles
-pub mod VisitLaws
-pub mod WorkLaws
+mod MeetingPieceLaws
+mod MeetingSquares
+mod NearAreas
+mod NumberedParts
+mod PartBoxLaws
+mod PartTypes
+mod PlanePieceLaws
+mod PlaneStrips
+mod PlaneTiles
+mod SeamLaws
+mod SortedTiles
+mod VisitLaws
+mod WorkLaws

@@ -4,5 +4,5 @@ pub use Rattle.offences.proofs.LayoutTrees as LayoutTrees
 pub mod KindLaws
 pub mod PartSearch
 pub mod CleanLaws
-pub mod MeetingLaws
+mod MeetingLaws
 pub mod RoleLaws

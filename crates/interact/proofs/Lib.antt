@@ -1,6 +1,6 @@
-pub mod CountLaws
-pub mod CoveringCounts
-pub mod EdgeLaws
-pub mod EdgeSums
-pub mod Sharings
-pub mod SweepLaws
+mod CountLaws
+mod CoveringCounts
+mod EdgeLaws
+mod EdgeSums
+mod Sharings
+mod SweepLaws

@@ -5,5 +5,5 @@ pub use Rattle.library_trees.proofs.Measures as Measures
 pub use Rattle.library_trees.proofs.NameClasses as NameClasses
 pub use Rattle.library_trees.proofs.OwnRecordLaws as OwnRecordLaws
 pub use Rattle.library_trees.proofs.TreeNames as TreeNames
-pub mod NamedRecords
-pub mod RecordedTrees
+mod NamedRecords
+mod RecordedTrees

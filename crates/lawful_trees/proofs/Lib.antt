@@ -1,12 +1,12 @@
-pub mod ElementForms
-pub mod ElementPlaces
-pub mod LibraryElements
-pub mod LibraryUses
-pub mod OwnParts
-pub mod NearPlaces
-pub mod TreePaths
-pub mod SmallWeights
-pub mod FewPlaces
-pub mod MemberSums
-pub mod LawfulMerges
-pub mod LawfulTrees
+mod ElementForms
+mod ElementPlaces
+mod LibraryElements
+mod LibraryUses
+mod OwnParts
+mod NearPlaces
+mod TreePaths
+mod SmallWeights
+mod FewPlaces
+mod MemberSums
+mod LawfulMerges
+mod LawfulTrees

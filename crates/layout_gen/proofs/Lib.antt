@@ -1,5 +1,5 @@
-pub mod Additions
-pub mod MadeCells
-pub mod Refusals
+mod Additions
+mod MadeCells
+mod Refusals
 pub mod Sizes
-pub mod Trees
+mod Trees

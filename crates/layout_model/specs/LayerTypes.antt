@@ -23,7 +23,8 @@ seen_in area kinds place = if is_covered area place.square then or_space (kinds 
 
 -- Each type that stands somewhere is the technology's, and of its plane.
 abbrev pub AreTypesOf : RawTech → Kinds → Type 0
-AreTypesOf raw kinds = (plane : ℕ) (square : Square) (kind : ℕ) → kinds plane square ≡ Some kind → kind ≢ 0 → IsTrue (is_type raw kind) × (plane_of raw kind ≡ plane)
+AreTypesOf raw kinds = (plane : ℕ) (square : Square) (kind : ℕ) → kinds plane square ≡ Some kind → kind ≢ 0
+    → IsTrue (is_type raw kind) × (plane_of raw kind ≡ plane)
 
 -- Each type of the layout is the technology's, and of its plane.
 abbrev pub HasTypesOf : RawTech → Layout → Type 0

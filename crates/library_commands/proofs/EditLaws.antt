@@ -58,5 +58,6 @@ edit_refused number old new before now records log later command fault answer sa
     let work = workspace_of old before records log in
     let means : EditMeans number (Some work) command (refused number (Some work) (edit_refusal fault) []) =
     inr (record { fault = fault; is_refused = is; is = refl }) in
-    subst (λ (w : Workspace). AnswersAlone (EditMeans number (Some work) command) (Some w) answer) (sym (edit_same old new before now records log later same kept logged))
+    subst (λ (w : Workspace). AnswersAlone (EditMeans number (Some work) command) (Some w) answer)
+    (sym (edit_same old new before now records log later same kept logged))
     (answers_refusal (EditMeans number (Some work) command) number (Some work) (edit_refusal fault) [] answer lines stores means)

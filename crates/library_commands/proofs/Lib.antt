@@ -1,15 +1,15 @@
 -- laws of the sessions that are kept
 pub use Rattle.workspace.proofs.SessionLaws
-pub mod ChangedCells
-pub mod EditLaws
-pub mod LoadLaws
-pub mod MarkLaws
-pub mod TechLaws
+mod ChangedCells
+mod EditLaws
+mod LoadLaws
+mod MarkLaws
+mod TechLaws
 pub mod RestLaws
 pub mod OneChecks
-pub mod OneCif
-pub mod OneEffects
-pub mod OneLook
-pub mod OneMarks
-pub mod ReturnLaws
-pub mod VersionLaws
+mod OneCif
+mod OneEffects
+mod OneLook
+mod OneMarks
+mod ReturnLaws
+mod VersionLaws

@@ -20,7 +20,8 @@ use Rattle.line_answers.proofs.AnswerLaws.{answers_refusal, answers_with}
 use Rattle.workspace.proofs.WorkspaceLaws.{same_workspace, workspace_of}
 
 -- the load is refused, and nothing changed
-pub load_refused : (number : ℕ) (old new : LibraryParts) (current : Option CellKey) (records : Records) (log : Inverses) (files : Files) (cell : List ℕ) (fault : LoadFault)
+pub load_refused : (number : ℕ) (old new : LibraryParts) (current : Option CellKey) (records : Records) (log : Inverses) (files : Files) (cell : List ℕ)
+    (fault : LoadFault)
     (fetched : List (List ℕ)) (answer : Answer) → IsSame old new
     → LoadIsRefused files (seen old) (edits_of old) cell fetched fault
     → answer.lines.items ≡ refusal_line number (load_refusal fault) ∷ [] → answer.stores.items ≡ []
@@ -29,12 +30,14 @@ load_refused number old new current records log files cell fault fetched answer 
     let work = workspace_of old current records log in
     let means : LoadMeans number (Some work) files cell (refused number (Some work) (load_refusal fault) fetched) =
     inr (record { fault = fault; fetched = fetched; is_refused = is_refused; is = refl }) in
-    subst (λ (w : Workspace). AnswersFetching fetched (LoadMeans number (Some work) files cell) (Some w) answer) (sym (same_workspace old new current records log same))
+    subst (λ (w : Workspace). AnswersFetching fetched (LoadMeans number (Some work) files cell) (Some w) answer)
+    (sym (same_workspace old new current records log same))
     (answers_refusal (LoadMeans number (Some work) files cell) number (Some work) (load_refusal fault) fetched answer lines stores means)
 
 -- the cells came
 pub load_done : (number : ℕ) (old new : LibraryParts) (current : Option CellKey) (records : Records) (log later : Inverses) (first : ℕ) (files : Files)
-    (cell : List ℕ) (count : ℕ) (fetched : List (List ℕ)) (answer : Answer) → later ≡ no_inverses → ((key : ℕ) → is_dirty new records key ≡ is_dirty old records key)
+    (cell : List ℕ) (count : ℕ) (fetched : List (List ℕ)) (answer : Answer) → later ≡ no_inverses
+    → ((key : ℕ) → is_dirty new records key ≡ is_dirty old records key)
     → IsLoaded files (seen old) (seen new) (edits_of old) cell count fetched → edits_of new ≡ suc (edits_of old) → first ≡ length old.contents
     → answer.lines.items ≡ reply (loaded_text cell count) ∷ [] → answer.stores.items ≡ []
     → AnswersFetching fetched (LoadMeans number (Some (workspace_of old current records log)) files cell)

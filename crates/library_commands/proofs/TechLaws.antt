@@ -60,7 +60,8 @@ tech_read number session after files name file text answer none file_is there is
     meant_at_first number session files name effect none meant
 
 -- what is edited at first
-pub begun : (raw : RawTech) (library : LibraryParts) (records : Records) (log : Inverses) → library ≡ record { tech = raw; scale = None; contents = []; tree = empty_tree }
+pub begun : (raw : RawTech) (library : LibraryParts) (records : Records) (log : Inverses)
+    → library ≡ record { tech = raw; scale = None; contents = []; tree = empty_tree }
     → records ≡ no_records → log ≡ no_inverses → workspace_of library None records log ≡ begun_with raw
 begun raw library records log is none unlogged =
     (λ i. workspace_of (is i) None (none i) (unlogged i))

@@ -6,9 +6,9 @@ pub use Rattle.tree_names.proofs.OwnRecordLaws as OwnRecordLaws
 pub use Rattle.tree_names.proofs as TreeNames
 pub mod LayoutLaws
 pub mod WholeTrees
-pub mod ElementNameLaws
-pub mod TreeNameLaws
-pub mod TreeDepths
+mod ElementNameLaws
+mod TreeNameLaws
+mod TreeDepths
 pub mod AgreeingViews
 pub mod EditedTrees
 pub mod StampedTrees

@@ -1,9 +1,9 @@
 pub mod OneFault
 pub mod LibraryFaults
 pub mod CommandFaults
-pub mod CommandOutcomes
-pub mod OneHull
+mod CommandOutcomes
+mod OneHull
 pub mod OneText
-pub mod OneUncleanCell
+mod OneUncleanCell
 pub mod CleanBelow
 pub mod LawfulUses

@@ -1,2 +1,2 @@
-pub mod OneLibrary
+mod OneLibrary
 pub mod OneLoad

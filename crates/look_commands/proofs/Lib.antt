@@ -1,2 +1,2 @@
-pub mod NodesLaws
-pub mod SquaresLaws
+mod NodesLaws
+mod SquaresLaws

@@ -84,7 +84,8 @@ nothing_yet-lawful raw = record {
 }
 
 -- the section and the use that is being read are nothing to what was read
-kept : (raw : RawTech) (draft : Draft) (section : Section) (pending : CellUse) → HasLawful raw draft → HasLawful raw (record draft { section = section; pending = pending })
+kept : (raw : RawTech) (draft : Draft) (section : Section) (pending : CellUse) → HasLawful raw draft
+    → HasLawful raw (record draft { section = section; pending = pending })
 kept raw draft section pending has = record {
   drawn = has.drawn;
   uses = has.uses;
@@ -100,11 +101,13 @@ then_good : {A : Type 0} (P : Draft → Type 0) (Q : A → Type 0) (found : Resu
 then_good P Q (Ok a) next holds more = more a holds
 then_good P Q (Err fault) next holds more = tt
 
-then_any : {A : Type 0} (P : Draft → Type 0) (found : Result A MagFault) (next : A → Result Draft MagFault) → ((a : A) → IfOk (next a) P) → IfOk (and_then found next) P
+then_any : {A : Type 0} (P : Draft → Type 0) (found : Result A MagFault) (next : A → Result Draft MagFault) → ((a : A) → IfOk (next a) P)
+    → IfOk (and_then found next) P
 then_any P (Ok a) next more = more a
 then_any P (Err fault) next more = tt
 
-unless_good : (P : Draft → Type 0) (test : Bool) (fault : MagFault) (found : Result Draft MagFault) → (test ≡ false → IfOk found P) → IfOk (cond test (Err fault) found) P
+unless_good : (P : Draft → Type 0) (test : Bool) (fault : MagFault) (found : Result Draft MagFault) → (test ≡ false → IfOk found P)
+    → IfOk (cond test (Err fault) found) P
 unless_good P true fault found good = tt
 unless_good P false fault found good = good refl
 
@@ -114,7 +117,8 @@ opens-lawful raw draft Tech has good = tt
 opens-lawful raw draft (Timestamp time) has good = tt
 opens-lawful raw draft (Scale scale) has good = tt
 opens-lawful raw draft (Group group) has good =
-    then_good (IsLawfulDraft raw) (IsGoodGroup raw) group (λ group. Ok (record draft { section = Inside group })) good (λ group is. record { has = kept raw draft (Inside group) draft.pending has; place = is })
+    then_good (IsLawfulDraft raw) (IsGoodGroup raw) group (λ group. Ok (record draft { section = Inside group })) good
+    (λ group is. record { has = kept raw draft (Inside group) draft.pending has; place = is })
 opens-lawful raw draft End has good = record { has = kept raw draft Ended draft.pending has; place = tt }
 opens-lawful raw draft (Area area) has good = tt
 opens-lawful raw draft (Label label) has good = tt
@@ -125,10 +129,12 @@ opens-lawful raw draft (Array grid) has good = tt
 opens-lawful raw draft (Transform six) has good = tt
 opens-lawful raw draft Box has good = tt
 
-header-lawful : (raw : RawTech) (seen : Seen) (draft : Draft) (said : MagLine) → HasLawful raw draft → IsGoodLine raw said → IfOk (takes_in_header seen draft said) (IsLawfulDraft raw)
+header-lawful : (raw : RawTech) (seen : Seen) (draft : Draft) (said : MagLine) → HasLawful raw draft → IsGoodLine raw said
+    → IfOk (takes_in_header seen draft said) (IsLawfulDraft raw)
 header-lawful raw seen draft Nothing has good = tt
 header-lawful raw seen draft Tech has good =
-    unless_good (IsLawfulDraft raw) seen.tech BadLine _ (λ new. record { has = kept raw draft (Header (record seen { tech = true })) draft.pending has; place = tt })
+    unless_good (IsLawfulDraft raw) seen.tech BadLine _
+    (λ new. record { has = kept raw draft (Header (record seen { tech = true })) draft.pending has; place = tt })
 header-lawful raw seen draft (Timestamp time) has good =
     unless_good (IsLawfulDraft raw) seen.timestamp BadLine _ (λ new.
     then_any (IsLawfulDraft raw) time _ (λ t. record { has = kept raw draft (Header (record seen { timestamp = true })) draft.pending has; place = tt }))
@@ -161,7 +167,8 @@ area-lawful raw layer draft area lawful there below good =
         numerator = has.numerator;
         denominator = has.denominator;
       };
-      place = subst (λ (section : Section). IsInPlace raw section (record draft { drawn = draft.drawn ++ (record { layer = layer; area = a }) ∷ [] })) (sym there) below;
+      place = subst (λ (section : Section). IsInPlace raw section (record draft { drawn = draft.drawn ++ (record { layer = layer; area = a }) ∷ [] }))
+          (sym there) below;
     })
 
 label-lawful : (raw : RawTech) (draft : Draft) (label : Result OneLabel MagFault)
@@ -181,7 +188,8 @@ label-lawful raw draft label lawful there good =
     })
 
 group-lawful : (raw : RawTech) (group : OneGroup) (draft : Draft) (said : MagLine)
-    → IsLawfulDraft raw draft → draft.section ≡ Inside group → IsGoodGroup raw group → IsGoodLine raw said → IfOk (takes_in_group group draft said) (IsLawfulDraft raw)
+    → IsLawfulDraft raw draft → draft.section ≡ Inside group → IsGoodGroup raw group → IsGoodLine raw said
+    → IfOk (takes_in_group group draft said) (IsLawfulDraft raw)
 group-lawful raw (Paint layer) draft (Area area) lawful there below good = area-lawful raw layer draft area lawful there below good
 group-lawful raw (Paint layer) draft (Label label) lawful there below good = tt
 group-lawful raw (Paint layer) draft Nothing lawful there below good = tt
@@ -208,7 +216,8 @@ group-lawful raw Labels draft (Transform six) lawful there below good = tt
 group-lawful raw Labels draft Box lawful there below good = tt
 group-lawful raw ReadOver draft said lawful there below good = opens-lawful raw draft said lawful.has good
 
-six-lawful : (raw : RawTech) (draft : Draft) (six : Result (List ℤ) MagFault) → HasLawful raw draft → IsPending draft → IfOk six (λ six. IsTrue (is_placing six))
+six-lawful : (raw : RawTech) (draft : Draft) (six : Result (List ℤ) MagFault) → HasLawful raw draft → IsPending draft
+    → IfOk six (λ six. IsTrue (is_placing six))
     → IfOk (and_then six (λ six. Ok (with_six draft six))) (IsLawfulDraft raw)
 six-lawful raw draft six has pending good =
     then_good (IsLawfulDraft raw) (λ six. IsTrue (is_placing six)) six _ good (λ s is.
@@ -219,7 +228,8 @@ six-lawful raw draft six has pending good =
         drawn = has.drawn;
         uses = All-push IsUse draft.uses placed has.uses (record { cell = pending.cell; id = pending.id; six = is; grid = pending.grid });
         ids_differ = subst (λ (ids : List (List ℕ)). Distinct ids) (sym ids)
-            (Distinct-push (ids_of draft.uses) draft.pending.id has.ids_differ (absent-from_list_any bytes_eq bytes_eq-Decides draft.pending.id (ids_of draft.uses) pending.new));
+            (Distinct-push (ids_of draft.uses) draft.pending.id has.ids_differ
+            (absent-from_list_any bytes_eq bytes_eq-Decides draft.pending.id (ids_of draft.uses) pending.new));
         labels = has.labels;
         numerator = has.numerator;
         denominator = has.denominator;
@@ -227,7 +237,8 @@ six-lawful raw draft six has pending good =
       place = tt;
     })
 
-time-lawful : (raw : RawTech) (draft : Draft) (time : Result ℤ MagFault) → HasLawful raw draft → IsPending draft → IfOk (and_then time (λ _. Ok (with_time draft))) (IsLawfulDraft raw)
+time-lawful : (raw : RawTech) (draft : Draft) (time : Result ℤ MagFault) → HasLawful raw draft → IsPending draft
+    → IfOk (and_then time (λ _. Ok (with_time draft))) (IsLawfulDraft raw)
 time-lawful raw draft time has pending =
     then_any (IsLawfulDraft raw) time _ (λ t. record {
       has = kept raw draft (InUse Dated) draft.pending has;
@@ -300,7 +311,8 @@ said-lawful : (raw : RawTech) (section : Section) (draft : Draft) (said : MagLin
     → IfOk (takes_said section draft said) (IsLawfulDraft raw)
 said-lawful raw Start draft said lawful there good = opens-lawful raw draft said lawful.has good
 said-lawful raw (Header seen) draft said lawful there good = header-lawful raw seen draft said lawful.has good
-said-lawful raw (Inside group) draft said lawful there good = group-lawful raw group draft said lawful there (in_place raw draft (Inside group) there lawful) good
+said-lawful raw (Inside group) draft said lawful there good =
+    group-lawful raw group draft said lawful there (in_place raw draft (Inside group) there lawful) good
 said-lawful raw (InUse part) draft said lawful there good = use-lawful raw part draft said lawful.has (in_place raw draft (InUse part) there lawful) good
 said-lawful raw Between draft said lawful there good = opens-lawful raw draft said lawful.has good
 said-lawful raw Ended draft said lawful there good = opens-lawful raw draft said lawful.has good
@@ -337,7 +349,8 @@ read_over-lawful : (raw : RawTech) (draft : Draft) (line : List ℕ) (test : Boo
 read_over-lawful raw draft line true lawful = taken-lawful raw draft line lawful
 read_over-lawful raw draft line false lawful = lawful
 
-line-lawful : (raw : RawTech) (section : Section) (draft : Draft) (line : List ℕ) → IsLawfulDraft raw draft → IfOk (line_in raw section draft line) (IsLawfulDraft raw)
+line-lawful : (raw : RawTech) (section : Section) (draft : Draft) (line : List ℕ) → IsLawfulDraft raw draft
+    → IfOk (line_in raw section draft line) (IsLawfulDraft raw)
 line-lawful raw Start draft line lawful = begins-lawful raw draft line lawful
 line-lawful raw (Header seen) draft line lawful = taken-lawful raw draft line lawful
 line-lawful raw (Inside (Paint layer)) draft line lawful = taken-lawful raw draft line lawful
@@ -347,7 +360,8 @@ line-lawful raw (InUse part) draft line lawful = taken-lawful raw draft line law
 line-lawful raw Between draft line lawful = taken-lawful raw draft line lawful
 line-lawful raw Ended draft line lawful = lawful
 
-step-lawful : (raw : RawTech) (number : ℕ) (draft : Draft) (line : List ℕ) (next : Draft) → IsLawfulDraft raw draft → step raw number draft line ≡ Ok next → IsLawfulDraft raw next
+step-lawful : (raw : RawTech) (number : ℕ) (draft : Draft) (line : List ℕ) (next : Draft) → IsLawfulDraft raw draft → step raw number draft line ≡ Ok next
+    → IsLawfulDraft raw next
 step-lawful raw number draft line next lawful is =
     let all = line-lawful raw draft.section draft line lawful in
     subst (λ (found : Result Draft MagFault). IfOk found (IsLawfulDraft raw)) is all
@@ -383,6 +397,7 @@ body-lawful raw draft body has all kinds planes = record {
 }
 
 -- what is read from nothing is what the text says
-pub mag_in-read : (raw : RawTech) (text : List ℕ) (start last : Draft) → start ≡ nothing_yet → text_state (step raw) finish start (lines_of text) ≡ Ok last → mag_in raw text ≡ Ok last
+pub mag_in-read : (raw : RawTech) (text : List ℕ) (start last : Draft) → start ≡ nothing_yet → text_state (step raw) finish start (lines_of text) ≡ Ok last
+    → mag_in raw text ≡ Ok last
 unfolding mag_in
 mag_in-read raw text start last is read = ap (λ (s : Draft). text_state (step raw) finish s (lines_of text)) (sym is) ∙ read

@@ -88,13 +88,16 @@ both true b first second = second
 both false b first second = first
 
 coordinate-good : (read : Result ℤ NumFault) → IfOk (coordinate_in read) (λ z. is_coordinate z ≡ true)
-coordinate-good read = then_any (λ z. is_coordinate z ≡ true) (number_in read) (λ z. if_in (is_coordinate z) z) (λ z. if_good (λ z. is_coordinate z ≡ true) (is_coordinate z) z Range (λ e. e))
+coordinate-good read = then_any (λ z. is_coordinate z ≡ true) (number_in read) (λ z. if_in (is_coordinate z) z)
+    (λ z. if_good (λ z. is_coordinate z ≡ true) (is_coordinate z) z Range (λ e. e))
 
 displacement-good : (read : Result ℤ NumFault) → IfOk (displacement_in read) (λ z. is_displacement z ≡ true)
-displacement-good read = then_any (λ z. is_displacement z ≡ true) (number_in read) (λ z. if_in (is_displacement z) z) (λ z. if_good (λ z. is_displacement z ≡ true) (is_displacement z) z Range (λ e. e))
+displacement-good read = then_any (λ z. is_displacement z ≡ true) (number_in read) (λ z. if_in (is_displacement z) z)
+    (λ z. if_good (λ z. is_displacement z ≡ true) (is_displacement z) z Range (λ e. e))
 
 index-good : (read : Result ℤ NumFault) → IfOk (index_in read) (λ z. is_index z ≡ true)
-index-good read = then_any (λ z. is_index z ≡ true) (number_in read) (λ z. if_in (is_index z) z) (λ z. if_good (λ z. is_index z ≡ true) (is_index z) z Range (λ e. e))
+index-good read = then_any (λ z. is_index z ≡ true) (number_in read) (λ z. if_in (is_index z) z)
+    (λ z. if_good (λ z. is_index z ≡ true) (is_index z) z Range (λ e. e))
 
 if_scale_number-good : (z : ℤ) → IfOk (if_scale_number z) (λ n. is_scale_number n ≡ true)
 if_scale_number-good (pos n) = if_good (λ n. is_scale_number n ≡ true) (is_scale_number n) n Range (λ e. e)
@@ -105,7 +108,8 @@ scale_number-good read = then_any (λ n. is_scale_number n ≡ true) (number_in 
 
 scale-good : (n d : Result ℤ NumFault) → IfOk (scale_in n d) IsGoodScale
 scale-good n d =
-    then_good (λ n. is_scale_number n ≡ true) IsGoodScale (scale_number_in n) (λ n. and_then (scale_number_in d) (λ d. Ok (n, d))) (scale_number-good n) (λ n first.
+    then_good (λ n. is_scale_number n ≡ true) IsGoodScale (scale_number_in n) (λ n. and_then (scale_number_in d) (λ d. Ok (n, d))) (scale_number-good n)
+    (λ n first.
     then_good (λ d. is_scale_number d ≡ true) IsGoodScale (scale_number_in d) (λ d. Ok (n, d)) (scale_number-good d) (λ d second. (first, second)))
 
 rect-good : (words : Four) → IfOk (rect_in words) (λ area. is_in_range area ≡ true)
@@ -124,14 +128,16 @@ painted-good words = then_good (λ area. is_in_range area ≡ true) IsPainted (r
     (λ area range. if_good IsPainted (has_square area) area EmptyRect (λ square. (square, range)))
 
 -- numbers of the form of a grid's are a grid's
-pub grid-is : (xlo xhi xsep ylo yhi ysep : ℤ) → is_index xlo ≡ true → is_index xhi ≡ true → is_displacement xsep ≡ true → is_index ylo ≡ true → is_index yhi ≡ true
+pub grid-is : (xlo xhi xsep ylo yhi ysep : ℤ) → is_index xlo ≡ true → is_index xhi ≡ true → is_displacement xsep ≡ true → is_index ylo ≡ true
+    → is_index yhi ≡ true
     → is_displacement ysep ≡ true → are_few_elements xlo xhi ylo yhi ≡ true
     → is_grid (record { xlo = xlo; xhi = xhi; xsep = xsep; ylo = ylo; yhi = yhi; ysep = ysep }) ≡ true
 unfolding are_elements
 grid-is xlo xhi xsep ylo yhi ysep h1 h2 h3 h4 h5 h6 few =
     both (are_elements xlo xhi ylo yhi) (are_displacements xsep ysep)
     (both (are_indices xlo xhi ylo yhi) (are_few_elements xlo xhi ylo yhi)
-    (both (is_index xlo && is_index xhi && is_index ylo) (is_index yhi) (both (is_index xlo && is_index xhi) (is_index ylo) (both (is_index xlo) (is_index xhi) h1 h2) h4) h5) few)
+    (both (is_index xlo && is_index xhi && is_index ylo) (is_index yhi)
+    (both (is_index xlo && is_index xhi) (is_index ylo) (both (is_index xlo) (is_index xhi) h1 h2) h4) h5) few)
     (both (is_displacement xsep) (is_displacement ysep) h3 h6)
 
 grid-good : (words : Six) → IfOk (grid_in words) (λ grid. IsTrue (is_grid grid))
@@ -160,7 +166,8 @@ six-good words =
     if_good P (is_orientation a b d e) (a ∷ b ∷ c ∷ d ∷ e ∷ f ∷ []) NoOrientation
     (λ is. both (are_displacements c f) (is_orientation a b d e) (both (is_displacement c) (is_displacement f) hc hf) is)))))))
 
-found_layer : (raw : RawTech) (found : Option ℕ) (word : List ℕ) → layer_named raw word ≡ found → IfOk (ok_or (option_map layer_number found) NoLayer) (λ layer. layer.0 < length raw.layers)
+found_layer : (raw : RawTech) (found : Option ℕ) (word : List ℕ) → layer_named raw word ≡ found
+    → IfOk (ok_or (option_map layer_number found) NoLayer) (λ layer. layer.0 < length raw.layers)
 found_layer raw None word is = tt
 found_layer raw (Some layer) word is = let below = position_from-below (has_name word) 0 raw.layers layer is in omega arith
 
@@ -182,7 +189,8 @@ place-good raw layer edges =
     then_good (λ l. IfSome l (λ l. l.0 < length raw.layers)) (IsGoodPlace raw) (label_layer_in raw layer) _ (label_layer-good raw layer) (λ l below.
     then_good (λ area. is_in_range area ≡ true) (IsGoodPlace raw) (rect_in edges) _ (rect-good edges) (λ area range.
     then_good (λ touched. IsTrue (is_label_area touched)) (IsGoodPlace raw) (if_touched area) _
-    (if_good (λ touched. IsTrue (is_label_area touched)) (has_sides area) area EmptyRect (λ sides. both (has_sides area) (is_in_range area) sides range)) (λ touched is. (below, is))))
+    (if_good (λ touched. IsTrue (is_label_area touched)) (has_sides area) area EmptyRect (λ sides. both (has_sides area) (is_in_range area) sides range))
+    (λ touched is. (below, is))))
 
 label-good : (raw : RawTech) (layer : List ℕ) (edges : Four) (position : ℕ) (text : List ℕ) → IsTrue (is_position position) → IsTrue (is_label_text text)
     → IfOk (label_at (label_place raw layer (rect_in edges)) position text) (IsLabel raw)
@@ -213,13 +221,15 @@ label_line_of-good raw layer edges (Some position) text is =
     form-good raw (are_four_decimal edges && is_label_text text) (Label (label_at (label_place raw layer (rect_in edges)) position text))
     (λ form. let parts = and_parts (are_four_decimal edges) (is_label_text text) form in label-good raw layer edges position text is parts.1)
 
-label_behind-good : (raw : RawTech) (layer xbot ybot : List ℕ) (words : List (List ℕ)) (text : List ℕ) → IfOk (label_behind raw layer xbot ybot words text) (IsGoodLine raw)
+label_behind-good : (raw : RawTech) (layer xbot ybot : List ℕ) (words : List (List ℕ)) (text : List ℕ)
+    → IfOk (label_behind raw layer xbot ybot words text) (IsGoodLine raw)
 unfolding label_behind
 label_behind-good raw layer xbot ybot [] text = tt
 label_behind-good raw layer xbot ybot (a ∷ []) text = tt
 label_behind-good raw layer xbot ybot (a ∷ b ∷ []) text = tt
 label_behind-good raw layer xbot ybot (xtop ∷ ytop ∷ position ∷ words) text =
-    label_line_of-good raw layer (number_of xbot, number_of ybot, number_of xtop, number_of ytop) (position_in (number_of position)) text (position-good (number_of position))
+    label_line_of-good raw layer (number_of xbot, number_of ybot, number_of xtop, number_of ytop) (position_in (number_of position)) text
+    (position-good (number_of position))
 
 label_line-good : (raw : RawTech) (words : List (List ℕ)) (text : List ℕ) → IfOk (label_line raw words text) (IsGoodLine raw)
 label_line-good raw [] text = tt
@@ -264,7 +274,8 @@ group_line-good raw (a ∷ b ∷ c ∷ words) = tt
 use_line-good : (raw : RawTech) (words : List (List ℕ)) → IfOk (use_line words) (IsGoodLine raw)
 use_line-good raw [] = tt
 use_line-good raw (a ∷ []) = tt
-use_line-good raw (cell ∷ id ∷ words) = form-good raw (is_plain_name cell && is_use_id id) (Use cell id) (λ form. and_parts (is_plain_name cell) (is_use_id id) form)
+use_line-good raw (cell ∷ id ∷ words) = form-good raw (is_plain_name cell && is_use_id id) (Use cell id)
+    (λ form. and_parts (is_plain_name cell) (is_use_id id) form)
 
 other_line-good : (raw : RawTech) (key : List ℕ) → IfOk (other_line key) (IsGoodLine raw)
 other_line-good raw key = either_good (IsGoodLine raw) (is_left_out key) _ _ tt tt

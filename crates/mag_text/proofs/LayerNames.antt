@@ -25,7 +25,8 @@ use Rattle.mag_text.specs.WrittenTexts.{layer_word}
 position_is : {X : Type 0} (test : X → Bool) (n : ℕ) (xs : List X) (k : ℕ) (d : X) → k < length xs → ((j : ℕ) → j < k → test (get_or xs j d) ≡ false)
     → test (get_or xs k d) ≡ true → position_from test n xs ≡ Some (n + k)
 position_is test n [] k d inside before there = absurd (omega arith)
-position_is test n (x ∷ xs) zero d inside before there = ap (λ (b : Bool). cond b (Some n) (position_from test (n + 1) xs)) there ∙ ap (λ (i : ℕ). Some i) (omega arith)
+position_is test n (x ∷ xs) zero d inside before there = ap (λ (b : Bool). cond b (Some n) (position_from test (n + 1) xs)) there
+    ∙ ap (λ (i : ℕ). Some i) (omega arith)
 position_is test n (x ∷ xs) (suc k) d inside before there =
     ap (λ (b : Bool). cond b (Some n) (position_from test (n + 1) xs)) (before 0 (omega arith))
     ∙ position_is test (n + 1) xs k d (omega arith) (λ j below. before (suc j) (omega arith)) there
@@ -39,7 +40,8 @@ layer_is : (raw : RawTech) → IsWellFormed raw → (layer : ℕ) → layer < le
 layer_is raw formed layer below = formed.layers layer no_layer below
 
 -- the first name of a layer names it
-pub layer_named-first : (raw : RawTech) → IsWellFormed raw → (layer : ℕ) → layer < length raw.layers → layer_named raw (first_name (layer_at raw layer)) ≡ Some layer
+pub layer_named-first : (raw : RawTech) → IsWellFormed raw → (layer : ℕ) → layer < length raw.layers
+    → layer_named raw (first_name (layer_at raw layer)) ≡ Some layer
 layer_named-first raw formed layer below =
     let word = first_name (layer_at raw layer) in
     let there : In word (layer_at raw layer).names = in_first (layer_at raw layer).names (layer_is raw formed layer below).named in
@@ -49,7 +51,8 @@ layer_named-first raw formed layer below =
     (list_any-of_In bytes_eq bytes_eq-Decides word (layer_at raw layer).names there)
     ∙ ap (λ (k : ℕ). Some k) (omega arith)
 
-pub layer_in-first : (raw : RawTech) → IsWellFormed raw → (layer : ℕ) → layer < length raw.layers → layer_in raw (first_name (layer_at raw layer)) ≡ Ok (layer_number layer)
+pub layer_in-first : (raw : RawTech) → IsWellFormed raw → (layer : ℕ) → layer < length raw.layers
+    → layer_in raw (first_name (layer_at raw layer)) ≡ Ok (layer_number layer)
 layer_in-first raw formed layer below = ap (λ found. ok_or (option_map layer_number found) NoLayer) (layer_named-first raw formed layer below)
 
 first_form : (raw : RawTech) → IsWellFormed raw → (layer : ℕ) → layer < length raw.layers → is_layer_name (first_name (layer_at raw layer)) ≡ true
@@ -88,7 +91,8 @@ first_name-free raw formed layer below =
     (bytes_eq word (codes "error_p")) (bytes_eq word (codes "error_s")) (bytes_eq word (codes "error_ps")) (bytes_eq word (codes "properties")) none in
     record { space = parts.0; end = parts.1; labels = parts.2; read_over = parts.3 }
 
-pub group_named-first : (raw : RawTech) → IsWellFormed raw → (layer : ℕ) → layer < length raw.layers → group_named raw (first_name (layer_at raw layer)) ≡ Ok (Paint (layer_number layer))
+pub group_named-first : (raw : RawTech) → IsWellFormed raw → (layer : ℕ) → layer < length raw.layers
+    → group_named raw (first_name (layer_at raw layer)) ≡ Ok (Paint (layer_number layer))
 group_named-first raw formed layer below =
     let word = first_name (layer_at raw layer) in
     let free = first_name-free raw formed layer below in

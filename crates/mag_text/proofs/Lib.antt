@@ -1,16 +1,16 @@
-pub mod DrawingSteps
+mod DrawingSteps
 pub mod UseIdLaws
-pub mod LawfulLines
-pub mod LawfulDrafts
-pub mod RefusedTexts
-pub mod WrittenTextLaws
-pub mod ReadLines
-pub mod LayerNames
-pub mod ReadLabels
-pub mod ReadBack
-pub mod ReadText
-pub mod StripLaws
-pub mod CellTextLaws
-pub mod CellFits
-pub mod PaintAgain
-pub mod CellsAgain
+mod LawfulLines
+mod LawfulDrafts
+mod RefusedTexts
+mod WrittenTextLaws
+mod ReadLines
+mod LayerNames
+mod ReadLabels
+mod ReadBack
+mod ReadText
+mod StripLaws
+mod CellTextLaws
+mod CellFits
+mod PaintAgain
+mod CellsAgain

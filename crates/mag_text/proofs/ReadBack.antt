@@ -67,7 +67,8 @@ reads-append : (raw : RawTech) (a b c : Draft) (first second : List (List ℕ)) 
 reads-append raw a b c first second here there = λ number.
     first_fault_or-append (step raw) number a first second b (here number) ∙ there (number + length first)
 
-reads-line : (raw : RawTech) (a b c : Draft) (line : List ℕ) (lines : List (List ℕ)) → line_in raw a.section a line ≡ Ok b → Reads raw b lines c → Reads raw a (line ∷ lines) c
+reads-line : (raw : RawTech) (a b c : Draft) (line : List ℕ) (lines : List (List ℕ)) → line_in raw a.section a line ≡ Ok b → Reads raw b lines c
+    → Reads raw a (line ∷ lines) c
 reads-line raw a b c line lines is more = λ number.
     ap (λ found. unless_faulty number found (λ next. first_fault_or (step raw) (number + 1) next lines)) is ∙ more (number + 1)
 
@@ -128,7 +129,8 @@ opener_opens section draft (Array grid) open_is is = absurd is
 opener_opens section draft (Transform six) open_is is = absurd is
 opener_opens section draft Box open_is is = absurd is
 
-opened : (raw : RawTech) (draft next : Draft) (line : List ℕ) (said : MagLine) → IsOpen draft.section → says raw line ≡ Ok said → IsOpener said → opens draft said ≡ Ok next
+opened : (raw : RawTech) (draft next : Draft) (line : List ℕ) (said : MagLine) → IsOpen draft.section → says raw line ≡ Ok said → IsOpener said
+    → opens draft said ≡ Ok next
     → line_in raw draft.section draft line ≡ Ok next
 opened raw draft next line said open_is is opener opens_is =
     open_taken raw draft.section draft line open_is refl
@@ -146,7 +148,8 @@ by_group : (raw : RawTech) (rest : List ℕ) → line_by_key raw (codes "<<") re
 unfolding line_by_key
 by_group raw rest = refl
 
-says-bracket : (raw : RawTech) (name : List ℕ) → IsWord name → says raw (group_line name) ≡ Ok (cond (bytes_eq name (codes "end")) End (Group (group_named raw name)))
+says-bracket : (raw : RawTech) (name : List ℕ) → IsWord name
+    → says raw (group_line name) ≡ Ok (cond (bytes_eq name (codes "end")) End (Group (group_named raw name)))
 says-bracket raw name word =
     let words : List (List ℕ) = name ∷ codes ">>" ∷ [] in
     let all : AllByRecursion IsWord (codes "<<" ∷ words) = (IsWord-test (codes "<<") refl, (word, (IsWord-test (codes ">>") refl, tt))) in
@@ -237,12 +240,14 @@ says-hull raw (Some hull) is = says-box raw hull is
 abbrev reading : Section → CellUse → List Drawn → List CellUse → List OneLabel → ℕ × ℕ → Draft
 reading section pending drawn uses labels scale = record { section = section; pending = pending; drawn = drawn; uses = uses; labels = labels; scale = scale }
 
-rects-read : (raw : RawTech) (layer : LayerId) (pending : CellUse) (drawn : List Drawn) (uses : List CellUse) (labels : List OneLabel) (scale : ℕ × ℕ) (areas : List Rect)
+rects-read : (raw : RawTech) (layer : LayerId) (pending : CellUse) (drawn : List Drawn) (uses : List CellUse) (labels : List OneLabel) (scale : ℕ × ℕ)
+    (areas : List Rect)
     → AllByRecursion IsPaintable areas
     → Reads raw (reading (Inside (Paint layer)) pending drawn uses labels scale) (map area_line areas)
     (reading (Inside (Paint layer)) pending (drawn ++ map (drawn_of layer) areas) uses labels scale)
 rects-read raw layer pending drawn uses labels scale [] all =
-    subst (λ (list : List Drawn). Reads raw (reading (Inside (Paint layer)) pending drawn uses labels scale) [] (reading (Inside (Paint layer)) pending list uses labels scale))
+    subst (λ (list : List Drawn). Reads raw (reading (Inside (Paint layer)) pending drawn uses labels scale) []
+    (reading (Inside (Paint layer)) pending list uses labels scale))
     (sym (append-nil drawn)) (reads-none raw (reading (Inside (Paint layer)) pending drawn uses labels scale))
 rects-read raw layer pending drawn uses labels scale (area ∷ areas) all =
     let before = reading (Inside (Paint layer)) pending drawn uses labels scale in
@@ -254,12 +259,14 @@ rects-read raw layer pending drawn uses labels scale (area ∷ areas) all =
     (ap (λ found. and_then found (takes_in (Inside (Paint layer)) before)) (says-area raw area all.0.0 all.0.1)) more)
 
 -- what lines lead to, in some section in which something may begin
-record Leads (raw : RawTech) (before : Draft) (lines : List (List ℕ)) (drawn : List Drawn) (uses : List CellUse) (labels : List OneLabel) (scale : ℕ × ℕ) : Type 0 where
+record Leads (raw : RawTech) (before : Draft) (lines : List (List ℕ)) (drawn : List Drawn) (uses : List CellUse) (labels : List OneLabel) (scale : ℕ × ℕ) :
+    Type 0 where
   section : Section
   is_open : IsOpen section
   reads : Reads raw before lines (reading section no_use drawn uses labels scale)
 
-group-read : (raw : RawTech) → IsWellFormed raw → (section : Section) → IsOpen section → (drawn : List Drawn) (uses : List CellUse) (labels : List OneLabel) (scale : ℕ × ℕ)
+group-read : (raw : RawTech) → IsWellFormed raw → (section : Section) → IsOpen section
+    → (drawn : List Drawn) (uses : List CellUse) (labels : List OneLabel) (scale : ℕ × ℕ)
     (layer : ℕ) → layer < length raw.layers → (areas : List Rect) → AllByRecursion IsPaintable areas
     → Leads raw (reading section no_use drawn uses labels scale) (group_lines (first_name (layer_at raw layer)) areas)
     (drawn ++ map (drawn_of (layer_number layer)) areas) uses labels scale
@@ -283,7 +290,8 @@ group-read raw formed section open_is drawn uses labels scale layer below (area 
           (rects-read raw id no_use drawn uses labels scale (area ∷ areas) all);
     }
 
-strips-read : (raw : RawTech) → IsWellFormed raw → (section : Section) → IsOpen section → (drawn : List Drawn) (uses : List CellUse) (labels : List OneLabel) (scale : ℕ × ℕ)
+strips-read : (raw : RawTech) → IsWellFormed raw → (section : Section) → IsOpen section
+    → (drawn : List Drawn) (uses : List CellUse) (labels : List OneLabel) (scale : ℕ × ℕ)
     (strips : List LayerStrips) → AllByRecursion (AreWritable raw) strips
     → Leads raw (reading section no_use drawn uses labels scale) (flat_map (layer_lines raw) strips) (drawn ++ flat_map drawn_strips strips) uses labels scale
 strips-read raw formed section open_is drawn uses labels scale [] all = record {
@@ -304,21 +312,25 @@ strips-read raw formed section open_is drawn uses labels scale (group ∷ strips
       reads =
           subst (λ (list : List Drawn). Reads raw before (flat_map (layer_lines raw) (group ∷ strips)) (reading more.section no_use list uses labels scale))
           (append_assoc drawn (drawn_strips group) (flat_map drawn_strips strips))
-          (reads-append raw before (reading first.section no_use drawn' uses labels scale) _ (layer_lines raw group) (flat_map (layer_lines raw) strips) first.reads more.reads);
+          (reads-append raw before (reading first.section no_use drawn' uses labels scale) _ (layer_lines raw group) (flat_map (layer_lines raw) strips)
+          first.reads more.reads);
     }
 
 time-taken : (raw : RawTech) (part : Section) (pending : CellUse) (drawn : List Drawn) (uses : List CellUse) (labels : List OneLabel) (scale : ℕ × ℕ)
     → (part ≡ InUse Named) ⊎ (part ≡ InUse Arrayed)
     → line_in raw part (reading part pending drawn uses labels scale) no_time_line ≡ Ok (reading (InUse Dated) pending drawn uses labels scale)
 time-taken raw part pending drawn uses labels scale (inl named) =
-    subst (λ (s : Section). line_in raw s (reading s pending drawn uses labels scale) no_time_line ≡ Ok (reading (InUse Dated) pending drawn uses labels scale)) (sym named)
+    subst (λ (s : Section). line_in raw s (reading s pending drawn uses labels scale) no_time_line
+    ≡ Ok (reading (InUse Dated) pending drawn uses labels scale)) (sym named)
     (ap (λ found. and_then found (takes_in (InUse Named) (reading (InUse Named) pending drawn uses labels scale))) (says-time raw))
 time-taken raw part pending drawn uses labels scale (inr arrayed) =
-    subst (λ (s : Section). line_in raw s (reading s pending drawn uses labels scale) no_time_line ≡ Ok (reading (InUse Dated) pending drawn uses labels scale)) (sym arrayed)
+    subst (λ (s : Section). line_in raw s (reading s pending drawn uses labels scale) no_time_line
+    ≡ Ok (reading (InUse Dated) pending drawn uses labels scale)) (sym arrayed)
     (ap (λ found. and_then found (takes_in (InUse Arrayed) (reading (InUse Arrayed) pending drawn uses labels scale))) (says-time raw))
 
 -- the lines of a use behind its name and its grid
-use_rest : (raw : RawTech) (part : Section) (pending : CellUse) (drawn : List Drawn) (uses : List CellUse) (labels : List OneLabel) (scale : ℕ × ℕ) (six : List ℤ) (hull : Option Rect)
+use_rest : (raw : RawTech) (part : Section) (pending : CellUse) (drawn : List Drawn) (uses : List CellUse) (labels : List OneLabel) (scale : ℕ × ℕ)
+    (six : List ℤ) (hull : Option Rect)
     → (part ≡ InUse Named) ⊎ (part ≡ InUse Arrayed) → is_placing six ≡ true → says raw (box_line hull) ≡ Ok Box
     → Reads raw (reading part pending drawn uses labels scale) (no_time_line ∷ transform_line six ∷ box_line hull ∷ [])
     (reading Between no_use drawn (uses ++ (record pending { six = six }) ∷ []) labels scale)
@@ -337,7 +349,8 @@ by_grid : (raw : RawTech) (placed : WrittenUse) (drawn : List Drawn) (uses : Lis
     (array_lines grid ++ no_time_line ∷ transform_line placed.six ∷ box_line placed.hull ∷ [])
     (reading Between no_use drawn (uses ++ (record { cell = placed.cell.now; id = placed.id.now; six = placed.six; grid = grid }) ∷ []) labels scale)
 by_grid raw placed drawn uses labels scale None grid_is is =
-    use_rest raw (InUse Named) (use_named placed.cell.now placed.id.now) drawn uses labels scale placed.six placed.hull (inl refl) is.six (says-hull raw placed.hull is.hull)
+    use_rest raw (InUse Named) (use_named placed.cell.now placed.id.now) drawn uses labels scale placed.six placed.hull (inl refl) is.six
+    (says-hull raw placed.hull is.hull)
 by_grid raw placed drawn uses labels scale (Some grid) grid_is is =
     let named = reading (InUse Named) (use_named placed.cell.now placed.id.now) drawn uses labels scale in
     let pending : CellUse = record (use_named placed.cell.now placed.id.now) { grid = Some grid } in
@@ -346,7 +359,8 @@ by_grid raw placed drawn uses labels scale (Some grid) grid_is is =
     (ap (λ found. and_then found (takes_in (InUse Named) named)) (says-grid raw grid grid_is))
     (use_rest raw (InUse Arrayed) pending drawn uses labels scale placed.six placed.hull (inr refl) is.six (says-hull raw placed.hull is.hull))
 
-use-read : (raw : RawTech) (section : Section) → IsOpen section → (drawn : List Drawn) (uses : List CellUse) (labels : List OneLabel) (scale : ℕ × ℕ) (placed : WrittenUse)
+use-read : (raw : RawTech) (section : Section) → IsOpen section
+    → (drawn : List Drawn) (uses : List CellUse) (labels : List OneLabel) (scale : ℕ × ℕ) (placed : WrittenUse)
     → IsWritableUse placed → has_id placed.id.now uses ≡ false
     → Reads raw (reading section no_use drawn uses labels scale) (use_lines placed) (reading Between no_use drawn (uses ++ use_of placed ∷ []) labels scale)
 use-read raw section open_is drawn uses labels scale placed is new =
@@ -354,11 +368,13 @@ use-read raw section open_is drawn uses labels scale placed is new =
     let named = reading (InUse Named) (use_named placed.cell.now placed.id.now) drawn uses labels scale in
     let rest = array_lines placed.grid ++ no_time_line ∷ transform_line placed.six ∷ box_line placed.hull ∷ [] in
     reads-line raw before named _ (use_line placed.cell.now placed.id.now) rest
-    (opened raw before named (use_line placed.cell.now placed.id.now) (Use placed.cell.now placed.id.now) open_is (says-use raw placed.cell.now placed.id.now is.cell is.id) tt
+    (opened raw before named (use_line placed.cell.now placed.id.now) (Use placed.cell.now placed.id.now) open_is
+    (says-use raw placed.cell.now placed.id.now is.cell is.id) tt
     (ap (λ (b : Bool). cond b (Err UseTwice) (Ok named)) new))
     (by_grid raw placed drawn uses labels scale placed.grid is.grid is)
 
-uses-read : (raw : RawTech) (section : Section) → IsOpen section → (drawn : List Drawn) (uses : List CellUse) (labels : List OneLabel) (scale : ℕ × ℕ) (more : List WrittenUse)
+uses-read : (raw : RawTech) (section : Section) → IsOpen section
+    → (drawn : List Drawn) (uses : List CellUse) (labels : List OneLabel) (scale : ℕ × ℕ) (more : List WrittenUse)
     → AllByRecursion IsWritableUse more → AreNew uses more
     → Leads raw (reading section no_use drawn uses labels scale) (flat_map use_lines more) drawn (uses ++ map use_of more) labels scale
 uses-read raw section open_is drawn uses labels scale [] all new = record {
@@ -382,10 +398,13 @@ uses-read raw section open_is drawn uses labels scale (placed ∷ others) all ne
           (reads-append raw before (reading Between no_use drawn uses' labels scale) _ (use_lines placed) (flat_map use_lines others) first more.reads);
     }
 
-each_label-read : (raw : RawTech) → IsWellFormed raw → (drawn : List Drawn) (uses : List CellUse) (labels : List OneLabel) (scale : ℕ × ℕ) (more : List OneLabel) → AllByRecursion (IsLabel raw) more
-    → Reads raw (reading (Inside Labels) no_use drawn uses labels scale) (map (label_line raw) more) (reading (Inside Labels) no_use drawn uses (labels ++ more) scale)
+each_label-read : (raw : RawTech) → IsWellFormed raw
+    → (drawn : List Drawn) (uses : List CellUse) (labels : List OneLabel) (scale : ℕ × ℕ) (more : List OneLabel) → AllByRecursion (IsLabel raw) more
+    → Reads raw (reading (Inside Labels) no_use drawn uses labels scale) (map (label_line raw) more)
+    (reading (Inside Labels) no_use drawn uses (labels ++ more) scale)
 each_label-read raw formed drawn uses labels scale [] all =
-    subst (λ (list : List OneLabel). Reads raw (reading (Inside Labels) no_use drawn uses labels scale) [] (reading (Inside Labels) no_use drawn uses list scale))
+    subst (λ (list : List OneLabel). Reads raw (reading (Inside Labels) no_use drawn uses labels scale) []
+    (reading (Inside Labels) no_use drawn uses list scale))
     (sym (append-nil labels)) (reads-none raw (reading (Inside Labels) no_use drawn uses labels scale))
 each_label-read raw formed drawn uses labels scale (label ∷ others) all =
     let before = reading (Inside Labels) no_use drawn uses labels scale in
@@ -396,9 +415,11 @@ each_label-read raw formed drawn uses labels scale (label ∷ others) all =
     (ap (λ found. and_then found (takes_in (Inside Labels) before)) (says-written_label raw formed label all.0))
     (each_label-read raw formed drawn uses labels' scale others all.1))
 
-labels-read : (raw : RawTech) → IsWellFormed raw → (section : Section) → IsOpen section → (drawn : List Drawn) (uses : List CellUse) (scale : ℕ × ℕ) (labels : List OneLabel) → AllByRecursion (IsLabel raw) labels
+labels-read : (raw : RawTech) → IsWellFormed raw → (section : Section) → IsOpen section
+    → (drawn : List Drawn) (uses : List CellUse) (scale : ℕ × ℕ) (labels : List OneLabel) → AllByRecursion (IsLabel raw) labels
     → Leads raw (reading section no_use drawn uses [] scale) (labels_lines raw labels) drawn uses labels scale
-labels-read raw formed section open_is drawn uses scale [] all = record { section = section; is_open = open_is; reads = reads-none raw (reading section no_use drawn uses [] scale) }
+labels-read raw formed section open_is drawn uses scale [] all =
+    record { section = section; is_open = open_is; reads = reads-none raw (reading section no_use drawn uses [] scale) }
 labels-read raw formed section open_is drawn uses scale (label ∷ labels) all =
     let before = reading section no_use drawn uses [] scale in
     let within = reading (Inside Labels) no_use drawn uses [] scale in
@@ -415,7 +436,8 @@ abbrev seen_of : Bool → Seen
 seen_of scale = record { tech = true; timestamp = true; scale = scale }
 
 scale-read : (raw : RawTech) (scale : ℕ × ℕ) (one : Bool) → (scale.0 == 1 && scale.1 == 1) ≡ one → IsGoodScale scale
-    → Leads raw (reading (Header (record { tech = true; timestamp = false; scale = false })) no_use [] [] [] (1, 1)) (cond one [] (scale_line scale ∷ []) ++ no_time_line ∷ []) [] [] [] scale
+    → Leads raw (reading (Header (record { tech = true; timestamp = false; scale = false })) no_use [] [] [] (1, 1))
+    (cond one [] (scale_line scale ∷ []) ++ no_time_line ∷ []) [] [] [] scale
 scale-read raw scale true is good =
     let parts = and_parts (scale.0 == 1) (scale.1 == 1) is in
     let first : scale.0 ≡ 1 = (Decides-eqb scale.0 1).0 parts.0 in
@@ -428,7 +450,8 @@ scale-read raw scale true is good =
       is_open = tt;
       reads =
           subst (λ (s : ℕ × ℕ). Reads raw before (no_time_line ∷ []) (reading (Header (seen_of false)) no_use [] [] [] s)) same
-          (reads-line raw before after after no_time_line [] (ap (λ found. and_then found (takes_in before.section before)) (says-time raw)) (reads-none raw after));
+          (reads-line raw before after after no_time_line [] (ap (λ found. and_then found (takes_in before.section before)) (says-time raw))
+          (reads-none raw after));
     }
 scale-read raw scale false is good =
     let before = reading (Header (record { tech = true; timestamp = false; scale = false })) no_use [] [] [] (1, 1) in
@@ -438,8 +461,10 @@ scale-read raw scale false is good =
       section = Header (seen_of true);
       is_open = tt;
       reads =
-          reads-line raw before scaled after (scale_line scale) (no_time_line ∷ []) (ap (λ found. and_then found (takes_in before.section before)) (says-scale raw scale good))
-          (reads-line raw scaled after after no_time_line [] (ap (λ found. and_then found (takes_in scaled.section scaled)) (says-time raw)) (reads-none raw after));
+          reads-line raw before scaled after (scale_line scale) (no_time_line ∷ [])
+          (ap (λ found. and_then found (takes_in before.section before)) (says-scale raw scale good))
+          (reads-line raw scaled after after no_time_line [] (ap (λ found. and_then found (takes_in scaled.section scaled)) (says-time raw))
+          (reads-none raw after));
     }
 
 header-read : (raw : RawTech) → IsWellFormed raw → (scale : ℕ × ℕ) → IsGoodScale scale → Leads raw nothing_yet (header_lines raw.name scale) [] [] [] scale
@@ -453,13 +478,15 @@ header-read raw formed scale good =
       section = rest.section;
       is_open = rest.is_open;
       reads =
-          reads-line raw nothing_yet begun _ (codes "magic") (tech_line raw.name ∷ behind) (ap (λ (words : List (List ℕ)). cond (is_magic words) (Ok begun) (Err Magic)) magic)
+          reads-line raw nothing_yet begun _ (codes "magic") (tech_line raw.name ∷ behind)
+          (ap (λ (words : List (List ℕ)). cond (is_magic words) (Ok begun) (Err Magic)) magic)
           (reads-line raw begun named _ (tech_line raw.name) behind
           (ap (λ found. and_then found (takes_in (Header none_seen) begun)) (says-tech raw raw.name (IsWord-plain_name raw.name formed.name))) rest.reads);
     }
 
 -- the lines of a cell that can be written are read as what they were written from
-pub cell_lines-read : (raw : RawTech) (scale : ℕ × ℕ) (strips : List LayerStrips) (uses : List WrittenUse) (labels : List OneLabel) → IsWritable raw scale strips uses labels
+pub cell_lines-read : (raw : RawTech) (scale : ℕ × ℕ) (strips : List LayerStrips) (uses : List WrittenUse) (labels : List OneLabel)
+    → IsWritable raw scale strips uses labels
     → (number : ℕ) → first_fault_or (step raw) number nothing_yet (cell_lines raw scale strips uses labels) ≡ Ok (draft_of scale strips uses labels)
 cell_lines-read raw scale strips uses labels is =
     let formed = is.well_formed in
@@ -470,7 +497,8 @@ cell_lines-read raw scale strips uses labels is =
     let d = labels-read raw formed c.section c.is_open drawn (map use_of uses) scale labels is.labels_fit in
     let last = reading d.section no_use drawn (map use_of uses) labels scale in
     let whole = draft_of scale strips uses labels in
-    let e : Reads raw last (end_line ∷ []) whole = reads-line raw last whole whole end_line [] (opened raw last whole end_line End d.is_open (says-end raw) tt refl) (reads-none raw whole) in
+    let e : Reads raw last (end_line ∷ []) whole =
+    reads-line raw last whole whole end_line [] (opened raw last whole end_line End d.is_open (says-end raw) tt refl) (reads-none raw whole) in
     let de = reads-append raw (reading c.section no_use drawn (map use_of uses) [] scale) last whole (labels_lines raw labels) (end_line ∷ []) d.reads e in
     let ce = reads-append raw (reading b.section no_use drawn [] [] scale) _ whole (flat_map use_lines uses) _ c.reads de in
     let be = reads-append raw (reading a.section no_use [] [] [] scale) _ whole (flat_map (layer_lines raw) strips) _ b.reads ce in

@@ -96,7 +96,8 @@ after_word-tail word words text is =
     let rest = tail_rest words text in
     ap (λ (t : List ℕ). after_word (word ++ t)) rest.1 ∙ after_word-at word rest.0 is ∙ sym rest.1
 
-words_of-tail : (word : List ℕ) (words : List (List ℕ)) (text : List ℕ) → IsWord word → words_of (word ++ tail_of words text) ≡ word ∷ words_of (tail_of words text)
+words_of-tail : (word : List ℕ) (words : List (List ℕ)) (text : List ℕ) → IsWord word
+    → words_of (word ++ tail_of words text) ≡ word ∷ words_of (tail_of words text)
 words_of-tail word words text is =
     let rest = tail_rest words text in
     ap (λ (t : List ℕ). words_of (word ++ t)) rest.1 ∙ words_of-at word 32 rest.0 is.some (no_blanks word is) refl
@@ -110,7 +111,8 @@ after_words-tail (word ∷ words) text all =
 words-tail : (words : List (List ℕ)) (text : List ℕ) → AllByRecursion IsWord words → words_of (tail_of words text) ≡ words ++ words_of (32 ∷ text)
 words-tail [] text all = refl
 words-tail (word ∷ words) text all =
-    words_of-blank 32 (word ++ tail_of words text) refl ∙ words_of-tail word words text all.0 ∙ ap (λ (ws : List (List ℕ)). word ∷ ws) (words-tail words text all.1)
+    words_of-blank 32 (word ++ tail_of words text) refl ∙ words_of-tail word words text all.0
+    ∙ ap (λ (ws : List (List ℕ)). word ∷ ws) (words-tail words text all.1)
 
 untrue : (b : Bool) → not b ≡ true → b ≡ false
 untrue true is = absurd (let no : ⊥ = cc in no)
@@ -123,7 +125,8 @@ position_fits position is = record { sfits = grind (arith, nat_tests, ints) }
 text-kept : (text : List ℕ) → is_label_text text ≡ true → without_outer_blanks (32 ∷ text) ≡ text
 unfolding without_outer_blanks
 text-kept text is =
-    let a = and_parts (nat_le 1 (length text) && nat_le (length text) LONGEST_LABEL && list_all is_text_byte text && not (begins_with_blank text)) (not (ends_with_blank text)) is in
+    let a = and_parts (nat_le 1 (length text) && nat_le (length text) LONGEST_LABEL && list_all is_text_byte text && not (begins_with_blank text))
+    (not (ends_with_blank text)) is in
     let b = and_parts (nat_le 1 (length text) && nat_le (length text) LONGEST_LABEL && list_all is_text_byte text) (not (begins_with_blank text)) a.0 in
     ap without_last_blanks (without_first_blanks-none text (untrue (begins_with_blank text) b.1))
     ∙ ap reverse (without_first_blanks-none (reverse text) (untrue (ends_with_blank text) a.1)) ∙ reverse-reverse text
@@ -132,16 +135,21 @@ position-read : (position : ℕ) → is_position position ≡ true → position_
 position-read position is =
     ap position_in (number_of-decimal (pos position) (position_fits position is)) ∙ ap (λ (b : Bool). cond b (Some position) None) is
 
-label_of-read : (raw : RawTech) (label : OneLabel) (word : List ℕ) → label_layer_in raw word ≡ Ok label.layer → is_label_area label.area ≡ true → is_label_text label.text ≡ true
-    → label_line_of raw word (Ok label.area.xlo, Ok label.area.ylo, Ok label.area.xhi, Ok label.area.yhi) (Some label.position) label.text ≡ Ok (Label (Ok label))
+label_of-read : (raw : RawTech) (label : OneLabel) (word : List ℕ) → label_layer_in raw word ≡ Ok label.layer → is_label_area label.area ≡ true
+    → is_label_text label.text ≡ true
+    → label_line_of raw word (Ok label.area.xlo, Ok label.area.ylo, Ok label.area.xhi, Ok label.area.yhi) (Some label.position) label.text
+    ≡ Ok (Label (Ok label))
 unfolding label_line_of
 label_of-read raw label word layer_is area_is text_is =
     let sides = and_parts (has_sides label.area) (is_in_range label.area) area_is in
     let edges : Four = (Ok label.area.xlo, Ok label.area.ylo, Ok label.area.xhi, Ok label.area.yhi) in
     ap (λ (b : Bool). if_form b (Label (label_at (label_place raw word (rect_in edges)) label.position label.text))) text_is
-    ∙ ap (λ found. Ok (Label (label_at (and_then found (λ layer. and_then (rect_in edges) (λ area. and_then (if_touched area) (λ area. Ok (layer, area))))) label.position label.text))) layer_is
-    ∙ ap (λ found. Ok (Label (label_at (and_then found (λ area. and_then (if_touched area) (λ area. Ok (label.layer, area)))) label.position label.text))) (rect-read label.area sides.1)
-    ∙ ap (λ (b : Bool). Ok (Label (label_at (and_then (cond b (Ok label.area) (Err EmptyRect)) (λ area. Ok (label.layer, area))) label.position label.text))) sides.0
+    ∙ ap (λ found. Ok (Label (label_at (and_then found (λ layer. and_then (rect_in edges) (λ area. and_then (if_touched area) (λ area. Ok (layer, area)))))
+    label.position label.text))) layer_is
+    ∙ ap (λ found. Ok (Label (label_at (and_then found (λ area. and_then (if_touched area) (λ area. Ok (label.layer, area)))) label.position label.text)))
+    (rect-read label.area sides.1)
+    ∙ ap (λ (b : Bool). Ok (Label (label_at (and_then (cond b (Ok label.area) (Err EmptyRect)) (λ area. Ok (label.layer, area))) label.position label.text)))
+    sides.0
 
 numbers-read : (raw : RawTech) (label : OneLabel) (word : List ℕ) (more : List (List ℕ)) → is_in_range label.area ≡ true → is_position label.position ≡ true
     → label_line raw (word ∷ (map decimal (label_numbers label.area label.position) ++ more)) label.text
@@ -164,7 +172,8 @@ unfolding line_by_key
 by_rlabel raw rest = refl
 
 -- a label that is written says itself, where the word of its layer names that layer
-pub says-label : (raw : RawTech) (label : OneLabel) → IsLabel raw label → IsWord (layer_word raw label.layer) → label_layer_in raw (layer_word raw label.layer) ≡ Ok label.layer
+pub says-label : (raw : RawTech) (label : OneLabel) → IsLabel raw label → IsWord (layer_word raw label.layer)
+    → label_layer_in raw (layer_word raw label.layer) ≡ Ok label.layer
     → says raw (written_label raw label) ≡ Ok (Label (Ok label))
 says-label raw label is word_is layer_is =
     let key = codes "rlabel" in
@@ -191,6 +200,7 @@ layer_word-is raw formed None is = IsWord-test (codes "space") refl
 layer_word-is raw formed (Some layer) is = IsWord-plain_name (first_name (layer_at raw layer.0)) (first_name-plain raw formed layer.0 is)
 
 -- a label that is written says itself
-pub says-written_label : (raw : RawTech) → IsWellFormed raw → (label : OneLabel) → IsLabel raw label → says raw (written_label raw label) ≡ Ok (Label (Ok label))
+pub says-written_label : (raw : RawTech) → IsWellFormed raw → (label : OneLabel) → IsLabel raw label
+    → says raw (written_label raw label) ≡ Ok (Label (Ok label))
 says-written_label raw formed label is =
     says-label raw label is (layer_word-is raw formed label.layer is.layer) (label_layer-word raw formed label.layer is.layer)

@@ -90,8 +90,12 @@ pub says-numbers : (raw : RawTech) (key : List ℕ) (numbers : List ℤ) → IsW
     → (rest : List ℕ) × (words_of rest ≡ map decimal numbers) × (says raw (numbers_line key numbers) ≡ line_by_key raw key rest)
 says-numbers raw key numbers word plain =
     let all : AllByRecursion IsWord (key ∷ map decimal numbers) = (word, words-decimals numbers) in
-    let line = numbers_line key numbers in
-    (after_word line, words-after line key (map decimal numbers) (words_of-line_of (key ∷ map decimal numbers) all), says-words raw key (map decimal numbers) all plain)
+    let line = numbers_line key numbers in (
+      after_word line,
+      words-after line key (map decimal numbers) (words_of-line_of (key ∷ map decimal numbers) all),
+      says-words raw key (map decimal numbers)
+          all plain,
+    )
 
 four-read : (a b c d : ℤ) → FitsSigned w64 a → FitsSigned w64 b → FitsSigned w64 c → FitsSigned w64 d
     → four_numbers (map decimal (a ∷ b ∷ c ∷ d ∷ [])) ≡ Ok (Ok a, Ok b, Ok c, Ok d)
@@ -142,7 +146,8 @@ unfolding line_by_key
 by_rect raw rest = refl
 
 -- a rectangle that is written says itself
-pub says-area : (raw : RawTech) (area : Rect) → is_in_range area ≡ true → has_square area ≡ true → says raw (numbers_line (codes "rect") (edges_of area)) ≡ Ok (Area (Ok area))
+pub says-area : (raw : RawTech) (area : Rect) → is_in_range area ≡ true → has_square area ≡ true
+    → says raw (numbers_line (codes "rect") (edges_of area)) ≡ Ok (Area (Ok area))
 says-area raw area range square =
     let line = says-numbers raw (codes "rect") (edges_of area) (IsWord-test (codes "rect") refl) refl in
     line.2 ∙ by_rect raw line.0 ∙ area_line-read (words_of line.0) area line.1 range square
@@ -171,7 +176,14 @@ grid-read grid is =
     let f = and_parts (is_index grid.xlo) (is_index grid.xhi) e.0 in (
       six-read grid.xlo grid.xhi grid.xsep grid.ylo grid.yhi grid.ysep (index_fits grid.xlo f.0) (index_fits grid.xhi f.1) (displacement_fits grid.xsep b.0)
           (index_fits grid.ylo e.1) (index_fits grid.yhi d.1) (displacement_fits grid.ysep b.1),
-      rw (index-read grid.xlo f.0, index-read grid.xhi f.1, displacement-read grid.xsep b.0, index-read grid.ylo e.1, index-read grid.yhi d.1, displacement-read grid.ysep b.1)
+      rw (
+        index-read grid.xlo f.0,
+        index-read grid.xhi f.1,
+        displacement-read grid.xsep b.0,
+        index-read grid.ylo e.1,
+        index-read grid.yhi d.1,
+        displacement-read grid.ysep b.1,
+      )
           (ap (λ (b : Bool). cond b (Ok grid) (Err Range)) c.1),
     )
 
@@ -206,8 +218,13 @@ factor_fits a b d e is =
     let eb : m.b ≡ b = cc in
     let ed : m.d ≡ d = cc in
     let ee : m.e ≡ e = cc in
-    let fits = matrix_fits one.0.orient in
-    (subst (λ (z : ℤ). FitsSigned w64 z) ea fits.0, subst (λ (z : ℤ). FitsSigned w64 z) eb fits.1, subst (λ (z : ℤ). FitsSigned w64 z) ed fits.2, subst (λ (z : ℤ). FitsSigned w64 z) ee fits.3)
+    let fits = matrix_fits one.0.orient in (
+      subst (λ (z : ℤ). FitsSigned w64 z) ea fits.0,
+      subst (λ (z : ℤ). FitsSigned w64 z) eb fits.1,
+      subst (λ (z : ℤ). FitsSigned w64 z) ed fits.2,
+      subst
+          (λ (z : ℤ). FitsSigned w64 z) ee fits.3,
+    )
 
 by_transform : (raw : RawTech) (rest : List ℕ) → line_by_key raw (codes "transform") rest ≡ transform_line (words_of rest)
 unfolding line_by_key
@@ -247,7 +264,8 @@ says-transform raw six is =
     line.2 ∙ by_transform raw line.0 ∙ ap transform_line line.1 ∙ placing-read six is
 
 -- bytes that are printing and no blanks make a word
-graphic_word : (test : ℕ → Bool) → ((byte : ℕ) → test byte ≡ true → is_separator byte ≡ false) → (word : List ℕ) → 0 < length word → list_all test word ≡ true → IsWord word
+graphic_word : (test : ℕ → Bool) → ((byte : ℕ) → test byte ≡ true → is_separator byte ≡ false) → (word : List ℕ) → 0 < length word → list_all test word ≡ true
+    → IsWord word
 graphic_word test plain word some all =
     let tells = Decides-by_and test (λ b. test b ≡ true) (list_all test) (λ b. (λ e. e, λ e. e)) refl (λ _ _. refl) word in
     record { some = some; plain = λ k d inside. plain (get_or word k d) (tells.0 all k d inside) }
@@ -260,7 +278,8 @@ printing byte is = grind (arith, nat_tests)
 
 id_separates : (byte : ℕ) → is_use_id_byte byte ≡ true → is_separator byte ≡ false
 id_separates byte is =
-    let a = and_parts (nat_le 33 byte && nat_le byte 126 && not (byte == 47) && not (byte == 91) && not (byte == 93) && not (byte == 44)) (not (byte == 34)) is in
+    let a = and_parts (nat_le 33 byte && nat_le byte 126 && not (byte == 47) && not (byte == 91) && not (byte == 93) && not (byte == 44)) (not (byte == 34))
+    is in
     let b = and_parts (nat_le 33 byte && nat_le byte 126 && not (byte == 47) && not (byte == 91) && not (byte == 93)) (not (byte == 44)) a.0 in
     let c = and_parts (nat_le 33 byte && nat_le byte 126 && not (byte == 47) && not (byte == 91)) (not (byte == 93)) b.0 in
     let d = and_parts (nat_le 33 byte && nat_le byte 126 && not (byte == 47)) (not (byte == 91)) c.0 in
@@ -285,7 +304,8 @@ unfolding line_by_key
 by_use raw rest = refl
 
 -- the name of a use that is written says itself
-pub says-use : (raw : RawTech) (cell id : List ℕ) → is_plain_name cell ≡ true → is_use_id id ≡ true → says raw (line_of (codes "use" ∷ cell ∷ id ∷ [])) ≡ Ok (Use cell id)
+pub says-use : (raw : RawTech) (cell id : List ℕ) → is_plain_name cell ≡ true → is_use_id id ≡ true
+    → says raw (line_of (codes "use" ∷ cell ∷ id ∷ [])) ≡ Ok (Use cell id)
 says-use raw cell id cell_is id_is =
     let words : List (List ℕ) = cell ∷ id ∷ [] in
     let all : AllByRecursion IsWord (codes "use" ∷ words) = (IsWord-test (codes "use") refl, (IsWord-plain_name cell cell_is, (IsWord-use_id id id_is, tt))) in

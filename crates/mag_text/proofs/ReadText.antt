@@ -44,7 +44,8 @@ all_lines : {X : Type 0} (P : X → Type 0) (lines : X → List (List ℕ)) → 
 all_lines P lines each [] all = tt
 all_lines P lines each (x ∷ xs) all = AllByRecursion-append IsLine (lines x) (flat_map lines xs) (each x all.0) (all_lines P lines each xs all.1)
 
-all_one : {X : Type 0} (P : X → Type 0) (line : X → List ℕ) → ((x : X) → P x → IsLine (line x)) → (xs : List X) → AllByRecursion P xs → AllByRecursion IsLine (map line xs)
+all_one : {X : Type 0} (P : X → Type 0) (line : X → List ℕ) → ((x : X) → P x → IsLine (line x)) → (xs : List X) → AllByRecursion P xs
+    → AllByRecursion IsLine (map line xs)
 all_one P line each [] all = tt
 all_one P line each (x ∷ xs) all = (each x all.0, all_one P line each xs all.1)
 
@@ -59,14 +60,16 @@ text_inner byte is = (grind (arith, nat_tests), grind (arith, nat_tests))
 
 inner_text : (text : List ℕ) → is_label_text text ≡ true → All IsInner text
 inner_text text is =
-    let a = and_parts (nat_le 1 (length text) && nat_le (length text) LONGEST_LABEL && list_all is_text_byte text && not (begins_with_blank text)) (not (ends_with_blank text)) is in
+    let a = and_parts (nat_le 1 (length text) && nat_le (length text) LONGEST_LABEL && list_all is_text_byte text && not (begins_with_blank text))
+    (not (ends_with_blank text)) is in
     let b = and_parts (nat_le 1 (length text) && nat_le (length text) LONGEST_LABEL && list_all is_text_byte text) (not (begins_with_blank text)) a.0 in
     let c = and_parts (nat_le 1 (length text) && nat_le (length text) LONGEST_LABEL) (list_all is_text_byte text) b.0 in
     let tells = Decides-by_and is_text_byte (λ b. is_text_byte b ≡ true) (list_all is_text_byte) (λ b. (λ e. e, λ e. e)) refl (λ _ _. refl) text in
     λ k d inside. text_inner (get_or text k d) (tells.0 c.1 k d inside)
 
 -- words, and a text behind them
-inner_line : (first : List ℕ) (words : List (List ℕ)) (text : List ℕ) → IsWord first → AllByRecursion IsWord words → All IsInner text → All IsInner (line_of (first ∷ (words ++ text ∷ [])))
+inner_line : (first : List ℕ) (words : List (List ℕ)) (text : List ℕ) → IsWord first → AllByRecursion IsWord words → All IsInner text
+    → All IsInner (line_of (first ∷ (words ++ text ∷ [])))
 inner_line first [] text is all inner = All-append IsInner first (32 ∷ text) (inner_word first is) (All-cons IsInner 32 text (refl, refl) inner)
 inner_line first (word ∷ words) text is all inner =
     All-append IsInner first (32 ∷ line_of (word ∷ (words ++ text ∷ []))) (inner_word first is)
@@ -80,7 +83,8 @@ label-line raw formed label is =
     let word = layer_word raw label.layer in
     let words : List (List ℕ) = word ∷ map decimal (label_numbers label.area label.position) in
     IsLine-plain (label_line raw label)
-    (inner_line (codes "rlabel") words label.text (IsWord-test (codes "rlabel") refl) (layer_word-is raw formed label.layer is.layer, words-decimals (label_numbers label.area label.position))
+    (inner_line (codes "rlabel") words label.text (IsWord-test (codes "rlabel") refl)
+    (layer_word-is raw formed label.layer is.layer, words-decimals (label_numbers label.area label.position))
     (inner_text label.text is.text))
 
 time-line : IsLine no_time_line
@@ -99,11 +103,16 @@ group-lines name is (area ∷ areas) = (bracket-line name is, area-lines (area �
 
 layer-lines : (raw : RawTech) → IsWellFormed raw → (strips : LayerStrips) → AreWritable raw strips → AllByRecursion IsLine (layer_lines raw strips)
 layer-lines raw formed strips is =
-    let name = first_name (layer_at raw strips.layer) in group-lines name (IsWord-plain_name name (first_name-plain raw formed strips.layer is.layer)) strips.areas
+    let name = first_name (layer_at raw strips.layer) in
+    group-lines name (IsWord-plain_name name (first_name-plain raw formed strips.layer is.layer)) strips.areas
 
 grid-lines : (grid : Option Grid) → AllByRecursion IsLine (array_lines grid)
 grid-lines None = tt
-grid-lines (Some grid) = (numbers-line (codes "array") (grid.xlo ∷ grid.xhi ∷ grid.xsep ∷ grid.ylo ∷ grid.yhi ∷ grid.ysep ∷ []) (IsWord-test (codes "array") refl), tt)
+grid-lines (Some grid) = (
+  numbers-line (codes "array") (grid.xlo ∷ grid.xhi ∷ grid.xsep ∷ grid.ylo ∷ grid.yhi ∷ grid.ysep ∷ [])
+      (IsWord-test (codes "array") refl),
+  tt,
+)
 
 hull-line : (hull : Option Rect) → IsLine (box_line hull)
 hull-line None =
@@ -120,9 +129,11 @@ use-lines placed is =
           (time-line, (numbers-line (codes "transform") placed.six (IsWord-test (codes "transform") refl), (hull-line placed.hull, tt))),
     )
 
-labels-lines : (raw : RawTech) → IsWellFormed raw → (labels : List OneLabel) → AllByRecursion (IsLabel raw) labels → AllByRecursion IsLine (labels_lines raw labels)
+labels-lines : (raw : RawTech) → IsWellFormed raw → (labels : List OneLabel) → AllByRecursion (IsLabel raw) labels
+    → AllByRecursion IsLine (labels_lines raw labels)
 labels-lines raw formed [] all = tt
-labels-lines raw formed (label ∷ labels) all = (bracket-line (codes "labels") (IsWord-test (codes "labels") refl), all_one (IsLabel raw) (label_line raw) (label-line raw formed) (label ∷ labels) all)
+labels-lines raw formed (label ∷ labels) all =
+    (bracket-line (codes "labels") (IsWord-test (codes "labels") refl), all_one (IsLabel raw) (label_line raw) (label-line raw formed) (label ∷ labels) all)
 
 scale-lines : (scale : ℕ × ℕ) (one : Bool) → AllByRecursion IsLine (if one then [] else numbers_line (codes "magscale") (pos scale.0 ∷ pos scale.1 ∷ []) ∷ [])
 scale-lines scale true = tt
@@ -137,18 +148,21 @@ header-lines raw formed scale = (
   ),
 )
 
-cell-lines : (raw : RawTech) (scale : ℕ × ℕ) (strips : List LayerStrips) (uses : List WrittenUse) (labels : List OneLabel) → IsWritable raw scale strips uses labels
+cell-lines : (raw : RawTech) (scale : ℕ × ℕ) (strips : List LayerStrips) (uses : List WrittenUse) (labels : List OneLabel)
+    → IsWritable raw scale strips uses labels
     → AllByRecursion IsLine (cell_lines raw scale strips uses labels)
 cell-lines raw scale strips uses labels is =
     let formed = is.well_formed in
     let last : AllByRecursion IsLine (end_line ∷ []) = (bracket-line (codes "end") (IsWord-test (codes "end") refl), tt) in
     AllByRecursion-append IsLine (header_lines raw.name scale) _ (header-lines raw formed scale)
-    (AllByRecursion-append IsLine (flat_map (layer_lines raw) strips) _ (all_lines (AreWritable raw) (layer_lines raw) (layer-lines raw formed) strips is.strips_fit)
+    (AllByRecursion-append IsLine (flat_map (layer_lines raw) strips) _
+    (all_lines (AreWritable raw) (layer_lines raw) (layer-lines raw formed) strips is.strips_fit)
     (AllByRecursion-append IsLine (flat_map use_lines uses) _ (all_lines IsWritableUse use_lines use-lines uses is.uses_fit)
     (AllByRecursion-append IsLine (labels_lines raw labels) (end_line ∷ []) (labels-lines raw formed labels is.labels_fit) last)))
 
 -- a cell that can be written is read from its text as what it was written from
-pub mag_in-mag_text : (raw : RawTech) (scale : ℕ × ℕ) (strips : List LayerStrips) (uses : List WrittenUse) (labels : List OneLabel) → IsWritable raw scale strips uses labels
+pub mag_in-mag_text : (raw : RawTech) (scale : ℕ × ℕ) (strips : List LayerStrips) (uses : List WrittenUse) (labels : List OneLabel)
+    → IsWritable raw scale strips uses labels
     → mag_in raw (mag_text raw scale strips uses labels) ≡ Ok (draft_of scale strips uses labels)
 unfolding mag_in mag_text
 mag_in-mag_text raw scale strips uses labels is =

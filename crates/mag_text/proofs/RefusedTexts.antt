@@ -16,7 +16,8 @@ unended raw lines at draft (Err fault) fine is e =
     let same : fault_at (last_number lines) fault ≡ at = cc in
     record { draft = draft; fine = fine; unended = is ∙ ap (λ (a : At MagFault). Err a.fault) same; numbered = sym (ap (λ (a : At MagFault). a.line) same) }
 
-refused : (raw : RawTech) (lines : List (List ℕ)) (at : At MagFault) (found : Result Draft (At MagFault)) → first_fault_or (step raw) 1 nothing_yet lines ≡ found
+refused : (raw : RawTech) (lines : List (List ℕ)) (at : At MagFault) (found : Result Draft (At MagFault))
+    → first_fault_or (step raw) 1 nothing_yet lines ≡ found
     → finished finish (last_number lines) found ≡ Err at → IsRefusedText raw lines at
 refused raw lines at (Err other) is e = let same : Err other ≡ Err at = e in inl (first_fault_or-first (step raw) 1 nothing_yet lines at (is ∙ same))
 refused raw lines at (Ok draft) is e = inr (unended raw lines at draft (finish draft) is refl e)

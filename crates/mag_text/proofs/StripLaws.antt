@@ -55,7 +55,8 @@ range_test xlo ylo xhi yhi wide high left low right top =
     let d : is_coordinate yhi ≡ true = grind (arith, ints) in
     rw (a, b, c, d) refl
 
-strip-fits : (layout : Layout) (plane value : ℕ) (area : Rect) → IsPaintInRange layout → value ≢ 0 → IsStrip (HasValue (kinds_on layout plane) value) area → IsPaintable area
+strip-fits : (layout : Layout) (plane value : ℕ) (area : Rect) → IsPaintInRange layout → value ≢ 0 → IsStrip (HasValue (kinds_on layout plane) value) area
+    → IsPaintable area
 strip-fits layout plane value area range some is =
     let lowest = is.runs area.ylo (omega (arith, ints)) is.high in
     let y = area.yhi -ℤ pos 1 in

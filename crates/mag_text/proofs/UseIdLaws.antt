@@ -30,7 +30,8 @@ or_same false true implies = refl
 or_same false false implies = refl
 
 -- a use at the end has its id beside those of the others
-pub has_id-push : (id : List ℕ) (uses : List CellUse) (placed : CellUse) → has_id id (uses ++ placed ∷ []) ≡ (has_id id uses || (bytes_eq id placed.id || false))
+pub has_id-push : (id : List ℕ) (uses : List CellUse) (placed : CellUse)
+    → has_id id (uses ++ placed ∷ []) ≡ (has_id id uses || (bytes_eq id placed.id || false))
 has_id-push id uses placed =
     ap (list_any (bytes_eq id)) (map-append (λ (u : CellUse). u.id) uses (placed ∷ [])) ∙ list_any-append (bytes_eq id) (ids_of uses) (placed.id ∷ [])
 

@@ -33,17 +33,20 @@ numbers_appended key numbers out a b c ha hb hc = rw (hc, hb, ha, numbers_behind
 -- the text of lines of which each record has some
 pub text_of-each : {X : Type 0} (lines : X → List (List ℕ)) (records : List X) → text_of (flat_map lines records) ≡ text_of_each lines records
 text_of-each lines [] = refl
-text_of-each lines (x ∷ records) = text_of-append (lines x) (flat_map lines records) ∙ ap (λ (rest : List ℕ). text_of (lines x) ++ rest) (text_of-each lines records)
+text_of-each lines (x ∷ records) = text_of-append (lines x) (flat_map lines records)
+    ∙ ap (λ (rest : List ℕ). text_of (lines x) ++ rest) (text_of-each lines records)
 
 -- and of which each has one
 pub text_of-map : {X : Type 0} (line : X → List ℕ) (records : List X) → text_of (map line records) ≡ text_of_each (λ x. line x ∷ []) records
 text_of-map line [] = refl
-text_of-map line (x ∷ records) = ap (λ (rest : List ℕ). line x ++ 10 ∷ rest) (text_of-map line records) ∙ sym (append_assoc (line x) (10 ∷ []) (text_of_each (λ x. line x ∷ []) records))
+text_of-map line (x ∷ records) = ap (λ (rest : List ℕ). line x ++ 10 ∷ rest) (text_of-map line records)
+    ∙ sym (append_assoc (line x) (10 ∷ []) (text_of_each (λ x. line x ∷ []) records))
 
 pub group_appended : (name : List ℕ) (areas : List Rect) (area : Rect) (out a b : List ℕ) → a ≡ out ++ text_of (group_line name ∷ [])
     → b ≡ a ++ text_of_each (λ area. area_line area ∷ []) (area ∷ areas) → b ≡ out ++ text_of (group_lines name (area ∷ areas))
 group_appended name areas area out a b ha hb =
-    lines_behind (group_line name ∷ []) (map area_line (area ∷ areas)) out a b ha (hb ∙ ap (λ (text : List ℕ). a ++ text) (sym (text_of-map area_line (area ∷ areas))))
+    lines_behind (group_line name ∷ []) (map area_line (area ∷ areas)) out a b ha
+    (hb ∙ ap (λ (text : List ℕ). a ++ text) (sym (text_of-map area_line (area ∷ areas))))
 
 -- a layer whose image stands somewhere has a group
 pub layer_appended : (raw : RawTech) (strips : LayerStrips) (name : List ℕ) (areas : List Rect) (out a b : List ℕ)
@@ -70,7 +73,8 @@ use_appended placed cell out a b c d e cell_is ha hb hc hd he =
     lines_behind (use_line placed.cell.now placed.id.now ∷ array_lines placed.grid) (no_time_line ∷ transform ∷ edges ∷ []) out b e ab ce
 
 -- a word, then numbers, then another word
-numbers_between : (word text : List ℕ) (numbers : List ℤ) → join_with_byte 32 (word ∷ (map decimal numbers ++ text ∷ [])) ≡ word ++ (numbers_behind_blanks numbers ++ 32 ∷ text)
+numbers_between : (word text : List ℕ) (numbers : List ℤ)
+    → join_with_byte 32 (word ∷ (map decimal numbers ++ text ∷ [])) ≡ word ++ (numbers_behind_blanks numbers ++ 32 ∷ text)
 numbers_between word text [] = refl
 numbers_between word text (z ∷ numbers) =
     ap (λ (rest : List ℕ). word ++ 32 ∷ rest) (numbers_between (decimal z) text numbers)
@@ -120,7 +124,8 @@ cell_appended raw scale strips uses labels out a b c d e ha hb hc hd he =
     let de = lines_behind (labels_lines raw labels) (end_line ∷ []) c d e hd he in
     let ce = lines_behind (flat_map use_lines uses) (labels_lines raw labels ++ end_line ∷ []) b c e used de in
     let be = lines_behind (flat_map (layer_lines raw) strips) (flat_map use_lines uses ++ (labels_lines raw labels ++ end_line ∷ [])) a b e paint ce in
-    lines_behind (header_lines raw.name scale) (flat_map (layer_lines raw) strips ++ (flat_map use_lines uses ++ (labels_lines raw labels ++ end_line ∷ []))) out a e ha be
+    lines_behind (header_lines raw.name scale) (flat_map (layer_lines raw) strips ++ (flat_map use_lines uses ++ (labels_lines raw labels ++ end_line ∷ [])))
+    out a e ha be
 
 -- the strips of one more layer
 pub strips_more : (raw : RawTech) (layout : Layout) (strips after : List LayerStrips) (more : LayerStrips) (index : ℕ) → length strips ≡ index
@@ -140,5 +145,6 @@ strips_more raw layout strips after more index long is more_is are = λ layer ot
           (are layer other (omega arith))
     ]
 
-pub strips_counted : (strips after : List LayerStrips) (more : LayerStrips) (index : ℕ) → length strips ≡ index → after ≡ strips ++ more ∷ [] → length after ≡ index + 1
+pub strips_counted : (strips after : List LayerStrips) (more : LayerStrips) (index : ℕ) → length strips ≡ index → after ≡ strips ++ more ∷ []
+    → length after ≡ index + 1
 strips_counted strips after more index long is = ap length is ∙ length-append strips (more ∷ []) ∙ omega arith

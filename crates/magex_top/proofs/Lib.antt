@@ -1,3 +1,3 @@
-pub mod OneLine
-pub mod RestLaws
-pub mod RunLaws
+mod OneLine
+mod RestLaws
+mod RunLaws

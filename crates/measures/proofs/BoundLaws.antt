@@ -111,7 +111,8 @@ total_bounds Within w most n places lists bounds total =
     let high = Total-scale Within (pos most) (λ (p : Place). pos 1) (pos (length places)) count in
     let low = Total-scale Within (pos 0) (λ (p : Place). pos 1) (pos (length places)) count in
     let above = Total-le Within (λ (p : Place). pos 0 *ℤ pos 1) w (pos 0 *ℤ pos (length places)) n (λ p h. omega (arith, ints, (bounds p).0)) low total in
-    let below = Total-le Within w (λ (p : Place). pos most *ℤ pos 1) n (pos most *ℤ pos (length places)) (λ p h. omega (arith, ints, (bounds p).1)) total high in
+    let below = Total-le Within w (λ (p : Place). pos most *ℤ pos 1) n (pos most *ℤ pos (length places)) (λ p h. omega (arith, ints, (bounds p).1)) total
+    high in
     (omega (arith, ints, above), below)
 
 small_measure : (class : Class) (layout : Layout) (Within : Place → Type 0) (measure : ℤ × ℤ) → ((place : Place) → Within place → IsNearPlace place)

@@ -1,4 +1,4 @@
-pub mod RectSizes
+mod RectSizes
 pub mod AmountLaws
 pub mod MeasureLaws
 pub mod BoundLaws

@@ -3,8 +3,8 @@ pub use Rattle.tree_records.proofs.CellNodes as CellNodes
 pub use Rattle.hierarchy_model.proofs as HierarchyModel
 pub use Rattle.tree_records.proofs.NamedTrees as NamedTrees
 pub mod LinkLaws
-pub mod ListSums
-pub mod ExcessLaws
+mod ListSums
+mod ExcessLaws
 pub mod RestrictionLaws
 pub mod QuantityLaws
 pub mod PartLinks

@@ -59,7 +59,8 @@ excess_combined raw first second rest j k parts place =
         (λ part. rest (part_layout raw part) place) parts
         ∙ ap (λ (n : ℤ). n +ℤ sum_on (λ part. rest (part_layout raw part) place) parts)
         (sum_on-add (λ part. first (part_layout raw part) place *ℤ j) (λ part. second (part_layout raw part) place *ℤ k) parts
-        ∙ (λ i. sum_on-scale_right (λ part. first (part_layout raw part) place) j parts i +ℤ sum_on-scale_right (λ part. second (part_layout raw part) place) k parts i))
+        ∙ (λ i. sum_on-scale_right (λ part. first (part_layout raw part) place) j parts i +ℤ sum_on-scale_right (λ part. second (part_layout raw part) place)
+        k parts i))
 
 module _ (raw : RawTech) (parts : List SetLayout) (Within : Place → Type 0) (places : List Place) (lists : Lists Within places) where
   -- capacitance beyond the parts is that of the measures beyond them

@@ -1,2 +1,2 @@
-pub mod StandingTypes
-pub mod WholeTiles
+mod StandingTypes
+mod WholeTiles

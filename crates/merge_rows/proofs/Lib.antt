@@ -1,5 +1,5 @@
 pub mod AddedRows
-pub mod Tests
-pub mod IndexedPaths
-pub mod PushedRows
+mod Tests
+mod IndexedPaths
+mod PushedRows
 pub mod UniqueRows

@@ -4,13 +4,13 @@ pub use Rattle.full_names.proofs as FullNames
 pub mod ListLaws
 pub mod TreeLaws
 pub mod PathLaws
-pub mod TableLaws
-pub mod SplitLaws
-pub mod BranchLaws
-pub mod LinkLaws
-pub mod FaultLaws
-pub mod RecordLaws
-pub mod SeenLaws
-pub mod JoinLaws
-pub mod EndLaws
+mod TableLaws
+mod SplitLaws
+mod BranchLaws
+mod LinkLaws
+mod FaultLaws
+mod RecordLaws
+mod SeenLaws
+mod JoinLaws
+mod EndLaws
 pub mod ClassLaws

@@ -68,7 +68,8 @@ image_type raw layer plane image well has = elim (cases_lt layer (length raw.lay
 ]
 
 -- a place that a label suits has material
-pub suits_material : (raw : RawTech) (layout : Layout) (label : Label) (place : Place) → IsWellFormed raw → Suits raw layout label place → IsMaterial layout place
+pub suits_material : (raw : RawTech) (layout : Layout) (label : Label) (place : Place) → IsWellFormed raw → Suits raw layout label place
+    → IsMaterial layout place
 suits_material raw layout label place well suits space =
     let bounds = type_bounds raw (layout place) (within_type raw suits.image.0 (layout place)
     (image_type raw suits.layer.0 place.plane suits.image well suits.has_image) suits.within) in
@@ -124,14 +125,16 @@ module _ (raw : RawTech) (well : IsWellFormed raw) (layout : Layout) (tiles : Li
         let kind : layout place ≡ tile.kind.0 = are.kinds there.0 place there.1 in
         let image : image_on raw suits.layer.0 tile.plane ≡ Some suits.image = sym (ap (image_on raw suits.layer.0) there.1.plane) ∙ suits.has_image in
         let within : is_within raw suits.image.0 tile.kind.0 ≡ true = sym (ap (is_within raw suits.image.0) kind) ∙ suits.within in
-        let suited : suits_kind raw label.layer tile.plane tile.kind.0 ≡ true = ap (λ (l : Option LayerId). suits_kind raw l tile.plane tile.kind.0) suits.has_layer
+        let suited : suits_kind raw label.layer tile.plane tile.kind.0 ≡ true =
+        ap (λ (l : Option LayerId). suits_kind raw l tile.plane tile.kind.0) suits.has_layer
         ∙ ap (image_within raw tile.kind.0) image ∙ within in
         let common = covers_both (touched label.area) tile.area place.square suits.touches there.1.covers in
         record {
           tile = tile;
           among = tile_among there.0 tile there.1.there;
           taken = and_from (suits_kind raw label.layer tile.plane tile.kind.0) (has_square (common_rect (touched label.area) tile.area)) suited
-              (has_square-IsProper (common_rect (touched label.area) tile.area) (covers_is_proper (common_rect (touched label.area) tile.area) place.square common));
+              (has_square-IsProper (common_rect (touched label.area) tile.area)
+              (covers_is_proper (common_rect (touched label.area) tile.area) place.square common));
           plane = there.1.plane;
           covers = common;
         }

@@ -59,7 +59,8 @@ AreFirstTiles-iff classes P Q firsts there back are = record {
 }
 
 -- of the same tiles in another order
-pub firsts_moved : (classes : List ℕ) (tiles sorted firsts : List RegionTile) → IsPermutation tiles sorted → AreFirstTiles classes (λ tile. In tile sorted) firsts
+pub firsts_moved : (classes : List ℕ) (tiles sorted firsts : List RegionTile) → IsPermutation tiles sorted
+    → AreFirstTiles classes (λ tile. In tile sorted) firsts
     → AreFirstTiles classes (λ tile. In tile tiles) firsts
 firsts_moved classes tiles sorted firsts moved are = AreFirstTiles-iff classes (λ tile. In tile sorted) (λ tile. In tile tiles) firsts
     (λ tile i. In-permutation tile sorted tiles (IsPermutation-sym tiles sorted moved) i) (λ tile i. In-permutation tile tiles sorted moved i) are

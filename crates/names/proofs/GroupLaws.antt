@@ -19,7 +19,8 @@ group_none keys group members none = subst (IsGroup keys 0 group) (sym none) (re
 })
 
 -- one more number of another group
-group_same : (keys : ℕ → Option ℕ) (n group : ℕ) (members : List ℕ) → (keys n ≡ Some group → ⊥) → IsGroup keys n group members → IsGroup keys (n + 1) group members
+group_same : (keys : ℕ → Option ℕ) (n group : ℕ) (members : List ℕ) → (keys n ≡ Some group → ⊥) → IsGroup keys n group members
+    → IsGroup keys (n + 1) group members
 group_same keys n group members other is = record {
   sound = λ k among. let h = is.sound k among in let below = h.0 in (omega arith, h.1);
   whole = λ k below key. elim (cases_eq k n) [
@@ -76,7 +77,8 @@ group_by keys others n group members same is = record {
 }
 
 -- empty groups are those of no numbers, whatever the keys
-pub groups_from_empty : (keys : List (Option ℕ)) (count : ℕ) (groups : List (Vec ℕ Global)) → AreGroups [] count groups → AreGroupsBy (key_at keys) 0 count groups
+pub groups_from_empty : (keys : List (Option ℕ)) (count : ℕ) (groups : List (Vec ℕ Global)) → AreGroups [] count groups
+    → AreGroupsBy (key_at keys) 0 count groups
 groups_from_empty keys count groups are = record {
   one_each = are.one_each;
   each = λ group d below. group_by (key_at []) (key_at keys) 0 group (get_or groups group d).items (λ k less. absurd (omega arith)) (are.each group d below);

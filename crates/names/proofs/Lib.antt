@@ -1,15 +1,15 @@
 pub mod PlaceOrders
-pub mod TakingLaws
-pub mod BlockLaws
-pub mod CountingLaws
-pub mod TextMaps
-pub mod FirstTileLaws
-pub mod GroupLaws
-pub mod NamingLaws
-pub mod TextLists
-pub mod NodeLists
+mod TakingLaws
+mod BlockLaws
+mod CountingLaws
+mod TextMaps
+mod FirstTileLaws
+mod GroupLaws
+mod NamingLaws
+mod TextLists
+mod NodeLists
 pub mod AttachLaws
-pub mod JoinedRegions
-pub mod AttachmentLists
-pub mod NamedNodeLaws
+mod JoinedRegions
+mod AttachmentLists
+mod NamedNodeLaws
 pub mod TypedTiles

@@ -42,7 +42,8 @@ use Rattle.names.proofs.TextLists.{texts_by}
 distinct_in_order : (names : List (List ℕ)) → AllPairs (λ a b. name_cmp a b ≡ Less) names → Distinct names
 distinct_in_order names in_order = Distinct-from_places names (λ i j d less below same.
     let before = in_order i j d less below in
-    let tied : name_cmp (get_or names i d) (get_or names j d) ≡ Equal = ap (name_cmp (get_or names i d)) (sym same) ∙ tied_itself name_cmp_total (get_or names i d) in
+    let tied : name_cmp (get_or names i d) (get_or names j d) ≡ Equal = ap (name_cmp (get_or names i d)) (sym same)
+    ∙ tied_itself name_cmp_total (get_or names i d) in
     let apart : Less ≡ Equal = sym before ∙ tied in
     absurd (cc))
 
@@ -143,13 +144,15 @@ module _ (raw : RawTech) (well : IsWellFormed raw) (layout : Layout) (labels : L
           IsNoLater-trans (corner_place tile) (corner_place there.tile) place (first.least there.tile there.among (sym same)) there.no_later
 
       -- the regions of the class are those of the node
-      regions_there : (region : ℕ) (place : Place) → IsInRegion tiles region place → In region regions → AreOneNamedNode raw layout labels (corner_place tile) place
+      regions_there : (region : ℕ) (place : Place) → IsInRegion tiles region place → In region regions
+          → AreOneNamedNode raw layout labels (corner_place tile) place
       regions_there region place inside among =
           let key = (are_regions.sound region among).1 in
           (law tile.region region (corner_place tile) place (corner_inside tile first.among) inside).0
           (sym (same_Some (slice_index classes region) (class_of classes tile) key))
 
-      regions_back : (region : ℕ) (place : Place) → IsInRegion tiles region place → AreOneNamedNode raw layout labels (corner_place tile) place → In region regions
+      regions_back : (region : ℕ) (place : Place) → IsInRegion tiles region place → AreOneNamedNode raw layout labels (corner_place tile) place
+          → In region regions
       regions_back region place inside chain =
           let below = region_below raw well layout labels tiles count are found attached named pairs counted region place inside in
           let same : slice_index classes tile.region ≡ slice_index classes region =

@@ -40,7 +40,8 @@ module _ (labels : List Label) (indices : List ℕ) (texts sorted names : List (
   pub names_kept : AreNamesAt labels indices names
   names_kept = record {
     sound = λ name among.
-        let in_sorted = In-from_Contains name sorted (Contains-from_dedup test sorted name (Contains-from_In name (dedup test sorted) (subst (In name) kept among))) in
+        let in_sorted = In-from_Contains name sorted
+        (Contains-from_dedup test sorted name (Contains-from_In name (dedup test sorted) (subst (In name) kept among))) in
         let in_texts = In-permutation name sorted texts (IsPermutation-sym texts sorted moved) in_sorted in
         let source = In-map_source (text_at labels) name indices (subst (In name) are in_texts) in
         (source.0, source.1.0, source.1.1);
@@ -48,7 +49,8 @@ module _ (labels : List Label) (indices : List ℕ) (texts sorted names : List (
         let name = text_at labels index in
         let in_texts = subst (In name) (sym are) (In-map (text_at labels) index indices among) in
         let in_sorted = In-permutation name texts sorted moved in_texts in
-        subst (In name) (sym kept) (In-from_Contains name (dedup test sorted) (Contains-dedup equivalence same sorted name (Contains-from_In name sorted in_sorted)));
+        subst (In name) (sym kept) (In-from_Contains name (dedup test sorted)
+        (Contains-dedup equivalence same sorted name (Contains-from_In name sorted in_sorted)));
     in_order = λ i j d less below.
         let strict = subst (IsStrictlySortedBy name_cmp) (sym kept) (IsStrictlySortedBy-dedup name_cmp_total {E = test}
         (ties_by test same (λ x. equivalence.refl x)) sorted in_order) in

@@ -20,7 +20,8 @@ IsLeftBelow named n index = (index < n) × (key_at named index ≡ None)
 
 module _ (labels : List Label) where
   -- the same indices by another fact
-  pub texts_by : (P Q : ℕ → Type 0) (texts : List (List ℕ)) → ((k : ℕ) → P k → Q k) → ((k : ℕ) → Q k → P k) → AreTextsOf labels P texts → AreTextsOf labels Q texts
+  pub texts_by : (P Q : ℕ → Type 0) (texts : List (List ℕ)) → ((k : ℕ) → P k → Q k) → ((k : ℕ) → Q k → P k) → AreTextsOf labels P texts
+      → AreTextsOf labels Q texts
   texts_by P Q texts there back are = record {
     indices = are.indices;
     listed = Lists-iff P Q are.indices there back are.listed;
@@ -38,7 +39,8 @@ module _ (labels : List Label) where
   }
 
   -- one more label, which names something
-  pub texts_same : (named : List (Option ℕ)) (n region : ℕ) (texts : List (List ℕ)) → key_at named n ≡ Some region → AreTextsOf labels (IsLeftBelow named n) texts
+  pub texts_same : (named : List (Option ℕ)) (n region : ℕ) (texts : List (List ℕ)) → key_at named n ≡ Some region
+      → AreTextsOf labels (IsLeftBelow named n) texts
       → AreTextsOf labels (IsLeftBelow named (n + 1)) texts
   texts_same named n region texts names are = texts_by (IsLeftBelow named n) (IsLeftBelow named (n + 1)) texts
       (λ k left. let less = left.0 in (omega arith, left.1))

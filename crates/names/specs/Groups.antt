@@ -79,13 +79,15 @@ pub record IsNodeOf (raw : RawTech) (labels : List Label) (classes : List ℕ) (
   pub node_is : IsNodeOn raw labels tile regions indices node
 
 -- There is a node for each first tile.
-pub record AreNodesOf (raw : RawTech) (labels : List Label) (classes : List ℕ) (named : List (Option ℕ)) (firsts : List RegionTile) (nodes : List NamedNode) : Type 0 where
+pub record AreNodesOf (raw : RawTech) (labels : List Label) (classes : List ℕ) (named : List (Option ℕ)) (firsts : List RegionTile) (nodes : List NamedNode) :
+    Type 0 where
   pub one_each : length nodes ≡ length firsts
   pub each : (k : ℕ) (tile : RegionTile) (node : NamedNode) → k < length firsts
       → IsNodeOf raw labels classes named (slice_index_or firsts k tile) (slice_index_or nodes k node)
 
 -- There is a node for each first tile, with the regions and the labels of its class.
-pub record AreNodesOn (raw : RawTech) (labels : List Label) (firsts : List RegionTile) (classes : List ℕ) (regions indices : List (Vec ℕ Global)) (nodes : List NamedNode)
+pub record AreNodesOn (raw : RawTech) (labels : List Label) (firsts : List RegionTile) (classes : List ℕ) (regions indices : List (Vec ℕ Global))
+    (nodes : List NamedNode)
     : Type 0 where
   pub one_each : length nodes ≡ length firsts
   pub each : (k : ℕ) (tile : RegionTile) (node : NamedNode) (d e : Vec ℕ Global) → k < length firsts

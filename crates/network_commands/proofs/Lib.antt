@@ -1,2 +1,2 @@
-pub mod SimulationCommands
+mod SimulationCommands
 pub mod RestLaws

@@ -4,4 +4,4 @@ mod FlatNames
 mod FewNodes
 mod FittingNetworks
 mod FlatLetters
-pub mod FlatNumbers
+mod FlatNumbers

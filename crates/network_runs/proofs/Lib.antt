@@ -1,4 +1,4 @@
-pub mod NetworkRunLaws
-pub mod SimulationLaws
-pub mod ShownLines
-pub mod GradingLaws
+mod NetworkRunLaws
+mod SimulationLaws
+mod ShownLines
+mod GradingLaws

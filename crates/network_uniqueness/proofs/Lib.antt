@@ -1,5 +1,5 @@
 pub mod SameNetworks
-pub mod CountedNodes
+mod CountedNodes
 pub mod AlikeNames
 pub mod SameReplies
-pub mod SameGrades
+mod SameGrades

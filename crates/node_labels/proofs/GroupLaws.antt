@@ -109,8 +109,11 @@ module _ (elements : List Element) (list : List (List ℕ)) (labels : List ℕ) 
       let marked = least.1.0 in
       let within : least.0 < length list = omega (arith, long, marked.0) in
       let name = get_or list least.0 [] in
-      let at : slice_get list least.0 ≡ Some name = slice_get-get_or list least.0 [] within in
-      (name, in_group list labels k name are.long (In-slice_get list least.0 name at) (sym (label_read list labels least.0 name ordered are.long at) ∙ marked.1))
+      let at : slice_get list least.0 ≡ Some name = slice_get-get_or list least.0 [] within in (
+        name,
+        in_group list labels k name are.long (In-slice_get list least.0 name at)
+            (sym (label_read list labels least.0 name ordered are.long at) ∙ marked.1),
+      )
 
   -- a name of a lesser label stands before all of a greater one
   pub before_group : (k other : ℕ) → k < other → other < count → (later : List ℕ) → In later (group_of list labels other)

@@ -59,7 +59,8 @@ module _ (elements : List Element) (list : List (List ℕ)) (labels : List ℕ) 
       both_ways (has_name node name) (eqb (label_of list labels name) number)
       (λ h. eq-eqb (label_of list labels name) number
       (from_group list labels number name ordered (subst P names (In-from_list_any bytes_eq bytes_eq-Decides name (names_of node) h))).1)
-      (λ e. list_any-of_In bytes_eq bytes_eq-Decides name (names_of node) (subst P (sym names) (in_group list labels number name are.long here (eqb-true (label_of list labels name) number e))))
+      (λ e. list_any-of_In bytes_eq bytes_eq-Decides name (names_of node)
+      (subst P (sym names) (in_group list labels number name are.long here (eqb-true (label_of list labels name) number e))))
 
 module _ (elements : List Element) (list : List (List ℕ)) (labels : List ℕ) (count : ℕ) (nodes : List NodeRec) (ordered : AreInNameOrder list)
     (are : AreLabels elements list labels count) (named : AreNamed list labels count nodes) where

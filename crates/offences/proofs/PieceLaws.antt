@@ -125,7 +125,8 @@ module _ (raw : RawTech) (formed : IsWellFormed raw) (parts : List SetLayout) (p
       (subst (λ (area : Rect). Covers area square) (sym source.1.1) inside.1.1) spoiled)
 
   -- and each square of a spoiled piece is one of theirs
-  spoiled_whole : (typed_stack : TypedStack) → In typed_stack typed_stacks → is_spoiled raw typed_stack ≡ true → (square : Square) → Covers typed_stack.area square
+  spoiled_whole : (typed_stack : TypedStack) → In typed_stack typed_stacks → is_spoiled raw typed_stack ≡ true → (square : Square)
+      → Covers typed_stack.area square
       → IsInUnion (spoiled_areas raw typed_stacks) square
   spoiled_whole typed_stack h spoiled square covers = (
     typed_stack.area,
@@ -255,7 +256,8 @@ module _ (raw : RawTech) (formed : IsWellFormed raw) (parts : List SetLayout) (p
   }
 
 -- a fact of the areas of pieces
-pub all_areas : (P : Rect → Type 0) (typed_stacks : List TypedStack) → All (λ typed_stack. P typed_stack.area) typed_stacks → All P (typed_stack_areas typed_stacks)
+pub all_areas : (P : Rect → Type 0) (typed_stacks : List TypedStack) → All (λ typed_stack. P typed_stack.area) typed_stacks
+    → All P (typed_stack_areas typed_stacks)
 all_areas P typed_stacks all = All-from_In P (typed_stack_areas typed_stacks) (λ area h.
     let source = In-map_source (λ (s : TypedStack). s.area) area typed_stacks h in
     subst P source.1.1 (All-In (λ (s : TypedStack). P s.area) typed_stacks source.0 all source.1.0))

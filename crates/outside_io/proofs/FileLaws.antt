@@ -38,7 +38,8 @@ bytes_of-from_entries entries name = finmap.get-from_entries nat_list_cmp_total 
 
 -- entries that are updated at a name make the files with a file put under it
 pub from_entries-updated : (old new : List (List ℕ × List ℕ)) (name bytes : List ℕ)
-    → ((q : List ℕ) → lookup (is_at (slice_cmp nat_cmp q)) new ≡ cond (is_at (slice_cmp nat_cmp name) q) (Some bytes) (lookup (is_at (slice_cmp nat_cmp q)) old))
+    → ((q : List ℕ) → lookup (is_at (slice_cmp nat_cmp q)) new
+    ≡ cond (is_at (slice_cmp nat_cmp name) q) (Some bytes) (lookup (is_at (slice_cmp nat_cmp q)) old))
     → ◌≡◌ {A = Files} (finmap.from_entries new) (with_file (finmap.from_entries old) name bytes)
 from_entries-updated old new name bytes updated = same_files _ _ (λ q.
     bytes_of-from_entries new q ∙ updated q

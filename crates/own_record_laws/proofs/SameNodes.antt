@@ -86,7 +86,8 @@ module _ (ext : CellExt) (lawful : IsLawful ext) (merges : ext.merges ≡ [])
       (subst (λ (names : List (List ℕ)). In (name_in (root_of ext) n.name) names) same
       (In-from_list_any bytes_eq bytes_eq-Decides (name_in (root_of ext) n.name) (names_of flat) passes))) in
       let distinct = distinct_owners names_of (λ (n : NodeRec). n.name) ext.nodes (λ n. inl refl) lawful.node_names_differ in
-      let nodes = sum_on-only test of_node part ext.nodes distinct listed (list_any-of_In bytes_eq bytes_eq-Decides (name_in (root_of ext) part.name) (names_of flat) own) only in
+      let nodes = sum_on-only test of_node part ext.nodes distinct listed
+      (list_any-of_In bytes_eq bytes_eq-Decides (name_in (root_of ext) part.name) (names_of flat) own) only in
       let none : sum_on (λ (merge : MergeRec). cond (has_name flat (name_in (root_of ext) merge.first)) (of_merge merge) (pos 0)) ext.merges ≡ pos 0 =
       ap (sum_on (λ (merge : MergeRec). cond (has_name flat (name_in (root_of ext) merge.first)) (of_merge merge) (pos 0))) merges in
       omega (arith, ints, nodes, none)

@@ -1,4 +1,4 @@
-pub mod Ancestors
-pub mod Numbering
-pub mod Division
-pub mod Uniqueness
+mod Ancestors
+mod Numbering
+mod Division
+mod Uniqueness

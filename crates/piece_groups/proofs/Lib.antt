@@ -1,9 +1,9 @@
-pub mod ListedThings
-pub mod OwnPlaces
-pub mod RecordedTotals
-pub mod PiecePlaces
-pub mod MarkedMembers
-pub mod GroupAdjustments
-pub mod MarkedAdjustments
-pub mod UnlistedMembers
-pub mod RecordedGroups
+mod ListedThings
+mod OwnPlaces
+mod RecordedTotals
+mod PiecePlaces
+mod MarkedMembers
+mod GroupAdjustments
+mod MarkedAdjustments
+mod UnlistedMembers
+mod RecordedGroups

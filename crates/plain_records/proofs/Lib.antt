@@ -1,13 +1,13 @@
-pub mod CutLaws
-pub mod StepLaws
+mod CutLaws
+mod StepLaws
 pub mod UseLaws
 pub mod ThinLaws
-pub mod WalkLaws
-pub mod GraphLaws
-pub mod SizeLaws
-pub mod FoundLaws
-pub mod ExpansionLaws
+mod WalkLaws
+mod GraphLaws
+mod SizeLaws
+mod FoundLaws
+mod ExpansionLaws
 pub mod PlaceLaws
 pub mod ReachLaws
-pub mod RowLaws
+mod RowLaws
 pub mod PlainLaws

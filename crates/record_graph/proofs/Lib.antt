@@ -1,3 +1,3 @@
 pub mod Cells
-pub mod Walks
-pub mod Orders
+mod Walks
+mod Orders

@@ -162,7 +162,8 @@ either false false found before = refl
 
 -- with one merge more of a row noted
 pub early_next : (member : List ℕ) (row : MergeRow) (count : ℕ) (found before : Option ℕ)
-    → cond (bytes_eq member (raised row.second count)) found (cond (has_early member row count) found before) ≡ cond (has_early member row (count + 1)) found before
+    → cond (bytes_eq member (raised row.second count)) found (cond (has_early member row count) found before)
+    ≡ cond (has_early member row (count + 1)) found before
 early_next member row count found before =
     either (has_early member row count) (bytes_eq member (raised row.second count)) found before
     ∙ ap (λ (test : Bool). cond test found before) (sym (early_more member row count))

@@ -1,14 +1,14 @@
-pub mod Intervals
-pub mod Apart
-pub mod Sweep
-pub mod Sorting
+mod Intervals
+mod Apart
+mod Sweep
+mod Sorting
 pub mod Shared
-pub mod Touches
-pub mod Counting
+mod Touches
+mod Counting
 pub mod Leading
-pub mod Opening
+mod Opening
 pub mod BothWays
-pub mod EventOrder
-pub mod RowLaws
-pub mod CommonSweep
+mod EventOrder
+mod RowLaws
+mod CommonSweep
 pub mod Abutting

@@ -34,7 +34,8 @@ apart_more rects indices index apart none =
 
 -- of indices whose rectangles lie apart no more than one covers a square
 one_covers : (rects : List Rect) (indices : List ℕ) (a b : ℕ) (square : Square)
-    → Pairwise (λ i j. AreDisjoint (rect_at rects i) (rect_at rects j)) indices → In a indices → In b indices → Covers (rect_at rects a) square → Covers (rect_at rects b) square → a ≡ b
+    → Pairwise (λ i j. AreDisjoint (rect_at rects i) (rect_at rects j)) indices → In a indices → In b indices → Covers (rect_at rects a) square
+    → Covers (rect_at rects b) square → a ≡ b
 one_covers rects [] a b square pairs i j c d = absurd i
 one_covers rects (index ∷ rest) a b square pairs (inl e) (inl f) c d = sym e ∙ f
 one_covers rects (index ∷ rest) a b square pairs (inl e) (inr j) c d =

@@ -1,9 +1,9 @@
-pub mod Apart
-pub mod Begin
-pub mod Halves
-pub mod Held
+mod Apart
+mod Begin
+mod Halves
+mod Held
 pub mod Lists
-pub mod Parts
-pub mod Splitting
-pub mod Turns
-pub mod Weights
+mod Parts
+mod Splitting
+mod Turns
+mod Weights

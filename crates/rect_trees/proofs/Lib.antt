@@ -1,4 +1,4 @@
-pub mod PlaceLaws
-pub mod HullLaws
-pub mod MeetingLaws
-pub mod RootLaws
+mod PlaceLaws
+mod HullLaws
+mod MeetingLaws
+mod RootLaws

@@ -1,11 +1,11 @@
-pub mod BandLaws
-pub mod BoxLaws
-pub mod ChangeLaws
-pub mod CommitLaws
-pub mod HeightLaws
-pub mod PieceLaws
-pub mod PlaneLaws
-pub mod RowLaws
-pub mod RunLaws
-pub mod SettingLaws
-pub mod TileLaws
+mod BandLaws
+mod BoxLaws
+mod ChangeLaws
+mod CommitLaws
+mod HeightLaws
+mod PieceLaws
+mod PlaneLaws
+mod RowLaws
+mod RunLaws
+mod SettingLaws
+mod TileLaws

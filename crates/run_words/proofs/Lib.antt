@@ -1,3 +1,3 @@
-pub mod BudgetLaws
-pub mod ParseLaws
-pub mod WalkLaws
+mod BudgetLaws
+mod ParseLaws
+mod WalkLaws

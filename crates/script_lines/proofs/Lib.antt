@@ -1,6 +1,6 @@
-pub mod FormLaws
-pub mod FrontLaws
-pub mod LabelLaws
-pub mod NumberForms
-pub mod ReadLaws
-pub mod SixLaws
+mod FormLaws
+mod FrontLaws
+mod LabelLaws
+mod NumberForms
+mod ReadLaws
+mod SixLaws

@@ -35,7 +35,8 @@ more_count : (is : LineKind → Bool) (answers : List (List ReportLine)) (lines 
     → RoseBy (count_by (λ xs. list_any is (line_kinds xs)) (answers ++ lines ∷ [])) first last
 more_count is answers lines first middle last up on before rose =
     subst (λ (n : ℕ). RoseBy n first last) (sym (sum_by-append (λ (xs : List ReportLine). cond (list_any is (line_kinds xs)) 1 0) answers (lines ∷ [])))
-    (rose_by_both (count_by (λ xs. list_any is (line_kinds xs)) answers) (count_by (λ xs. list_any is (line_kinds xs)) (lines ∷ [])) first middle last up on before
+    (rose_by_both (count_by (λ xs. list_any is (line_kinds xs)) answers) (count_by (λ xs. list_any is (line_kinds xs)) (lines ∷ [])) first middle last up on
+    before
     (one_counts is lines middle last on rose))
 
 -- no answer is counted yet
@@ -49,5 +50,6 @@ pub one_more_counted : {F : Type 0} (shelf : ShelfWords F) (first middle last : 
     → AreCounted shelf first middle answers → ComeFrom shelf middle last (line_kinds lines) → AreCounted shelf first last (answers ++ lines ∷ [])
 one_more_counted shelf first middle last answers lines up on up_long on_long before came = record {
   absent = more_count is_for_absent answers lines (shelf.absences first) (shelf.absences middle) (shelf.absences last) up on before.absent came.absent;
-  too_long = more_count is_for_too_long answers lines (shelf.overlengths first) (shelf.overlengths middle) (shelf.overlengths last) up_long on_long before.too_long came.too_long;
+  too_long = more_count is_for_too_long answers lines (shelf.overlengths first) (shelf.overlengths middle) (shelf.overlengths last) up_long on_long
+      before.too_long came.too_long;
 }

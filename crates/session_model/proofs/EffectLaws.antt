@@ -94,7 +94,16 @@ lines_and_one {State} Means number state files [] line done next means one =
 lines_and_one {State} Means number state files (first ∷ past) line done next (effect, rest, are, means, more) one =
     let same : number + suc (length past) ≡ number + 1 + length past = omega arith in
     let here = subst (λ (n : ℕ). Means n (state_after state done) (with_stores files (stores_in (acts_of done))) line next) same one in
-    let at : List (Effect State) → Type 0 = λ es. Means (number + 1 + length past) (state_after state es) (with_stores files (stores_in (acts_of es))) line next in
-    let there : Means (number + 1 + length past) (state_after effect.state rest) (with_stores files (effect.stores ++ stores_in (acts_of rest))) line next = subst at are here in
-    let stored = subst (λ (f : Files). Means (number + 1 + length past) (state_after effect.state rest) f line next) (with_stores-append files effect.stores (stores_in (acts_of rest))) there in
-    (effect, rest ++ next ∷ [], ap (λ (es : List (Effect State)). es ++ next ∷ []) are, means, lines_and_one Means (number + 1) effect.state (with_stores files effect.stores) past line rest next more stored)
+    let at : List (Effect State) → Type 0 = λ es. Means (number + 1 + length past) (state_after state es) (with_stores files (stores_in (acts_of es))) line
+    next in
+    let there : Means (number + 1 + length past) (state_after effect.state rest) (with_stores files (effect.stores ++ stores_in (acts_of rest))) line next =
+    subst at are here in
+    let stored = subst (λ (f : Files). Means (number + 1 + length past) (state_after effect.state rest) f line next)
+    (with_stores-append files effect.stores (stores_in (acts_of rest))) there in (
+      effect,
+      rest ++ next ∷ [],
+      ap (λ (es : List (Effect State)). es ++ next ∷ []) are,
+      means,
+      lines_and_one Means (number + 1) effect.state
+          (with_stores files effect.stores) past line rest next more stored,
+    )

@@ -1,4 +1,4 @@
-pub mod CauseLaws
+mod CauseLaws
 pub mod CountedLaws
 pub mod EffectLaws
 pub mod FetchLaws
@@ -7,4 +7,4 @@ pub mod ProgressLaws
 pub mod RerunLaws
 pub mod SessionLaws
 pub mod StopLaws
-pub mod StoreLaws
+mod StoreLaws

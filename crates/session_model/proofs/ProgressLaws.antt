@@ -54,7 +54,8 @@ under_way_start Means quiet first files before plan lines told_files written tol
 -- after one more line
 pub under_way_next : {State : Type 0} (Means : ℕ → State → Files → List ℕ → Effect State → Type 0) (quiet : Bool)
     (first : State) (files : Files) (before : List ℕ) (plan now_plan next_plan : Option CallPlan) (lines : List (List ℕ))
-    (state after : State) (told_files files_after : Option Files) (written later : ToldBytes) (number : ℕ) (told more : Bool) (line : List ℕ) (left : List (List ℕ))
+    (state after : State) (told_files files_after : Option Files) (written later : ToldBytes) (number : ℕ) (told more : Bool) (line : List ℕ)
+    (left : List (List ℕ))
     → (way : UnderWay Means quiet first files before plan now_plan lines state told_files written number told (line ∷ left))
     → (effect : Effect State) → Means (number + 1) state (with_stores files (stores_in (acts_of way.done))) line effect → effect.state ≡ after
     → later ≡ Some ((before ++ report_of quiet (lines_in (acts_of way.done))) ++ report_of quiet effect.lines)
@@ -62,7 +63,8 @@ pub under_way_next : {State : Type 0} (Means : ℕ → State → Files → List 
     → more ≡ is_told effect.lines → next_plan ≡ after_fetches now_plan effect.fetched
     → (after_way : UnderWay Means quiet first files before plan next_plan lines after files_after later (number + 1) (told || more) left)
     × (after_way.done ≡ way.done ++ effect ∷ [])
-under_way_next {State} Means quiet first files before plan now_plan next_plan lines state after told_files files_after written later number told more line left way effect means ends is stored also fetched =
+under_way_next {State} Means quiet first files before plan now_plan next_plan lines state after told_files files_after written later number told more line
+    left way effect means ends is stored also fetched =
     let done = way.done in
     let so_far = lines_in (acts_of done) in
     let here = subst (λ (s : State). Means (number + 1) s (with_stores files (stores_in (acts_of done))) line effect) (sym way.state_is) means in
@@ -153,11 +155,15 @@ pub progress_in_line : {State : Type 0} (Means : ℕ → State → Files → Lis
     → (front : List ℕ) (after : Files)
     → BeginsNext Means quiet Fails (number + 1) state (with_stores files (stores_in (acts_of way.done))) (line ∷ []) front after
     → later ≡ Some ((before ++ report_of quiet (lines_in (acts_of way.done))) ++ front) → files_after ≡ Some after
-    → (reported : List ℕ) × (at : Files) × Progress Means quiet Fails first files lines reported at × (later ≡ Some (before ++ reported)) × (files_after ≡ Some at)
-progress_in_line {State} Means quiet Fails first files before plan now_plan lines state told_files files_after written later number told line left way front after next is stored =
+    → (reported : List ℕ) × (at : Files) × Progress Means quiet Fails first files lines reported at × (later ≡ Some (before ++ reported))
+    × (files_after ≡ Some at)
+progress_in_line {State} Means quiet Fails first files before plan now_plan lines state told_files files_after written later number told line left way front
+    after next is stored =
     let number_is : number + 1 ≡ 1 + length way.past = omega (arith, way.count) in
-    let here = subst (λ (s : State). BeginsNext Means quiet Fails (number + 1) s (with_stores files (stores_in (acts_of way.done))) (line ∷ []) front after) (sym way.state_is) next in
-    let numbered = subst (λ (n : ℕ). BeginsNext Means quiet Fails n (state_after first way.done) (with_stores files (stores_in (acts_of way.done))) (line ∷ []) front after) number_is here in (
+    let here = subst (λ (s : State). BeginsNext Means quiet Fails (number + 1) s (with_stores files (stores_in (acts_of way.done))) (line ∷ []) front after)
+    (sym way.state_is) next in
+    let numbered = subst (λ (n : ℕ). BeginsNext Means quiet Fails n (state_after first way.done) (with_stores files (stores_in (acts_of way.done)))
+    (line ∷ []) front after) number_is here in (
       report_of quiet (lines_in (acts_of way.done)) ++ front,
       after,
       record {
@@ -179,7 +185,8 @@ pub progress_at_end : {State : Type 0} (Means : ℕ → State → Files → List
     (first : State) (files : Files) (before : List ℕ) (plan now_plan : Option CallPlan) (lines : List (List ℕ))
     (state : State) (told_files : Option Files) (written : ToldBytes) (number : ℕ) (told : Bool)
     → UnderWay Means quiet first files before plan now_plan lines state told_files written number told []
-    → (reported : List ℕ) × (at : Files) × Progress Means quiet Fails first files lines reported at × (written ≡ Some (before ++ reported)) × (told_files ≡ Some at)
+    → (reported : List ℕ) × (at : Files) × Progress Means quiet Fails first files lines reported at × (written ≡ Some (before ++ reported))
+    × (told_files ≡ Some at)
 progress_at_end Means quiet Fails first files before plan now_plan lines state told_files written number told way = (
   report_of quiet (lines_in (acts_of way.done)),
   with_stores files (stores_in (acts_of way.done)),

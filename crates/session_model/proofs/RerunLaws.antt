@@ -114,5 +114,8 @@ same_fold {State} Means rests names number state files others (line ∷ lines) e
 pub made_good : {State : Type 0} (Means : ℕ → State → Files → List ℕ → Effect State → Type 0) → RestsOnFetched Means → IsMadeGood Means
 made_good {State} Means rests first files after lines acts (effects, have, are) none some =
     let agree = agree_after_some (Unit {0}) files (stores_in acts) after some in
-    let free = subst (λ (all : List Act). (name : List ℕ) → Contains (fetched_in all) name → Contains (names_stored (stores_in acts)) name → ⊥) are none in
-    ((effects, same_fold Means rests (names_stored (stores_in acts)) 1 first files after lines effects have free agree, are), same_after files after (stores_in acts) agree)
+    let free = subst (λ (all : List Act). (name : List ℕ) → Contains (fetched_in all) name → Contains (names_stored (stores_in acts)) name → ⊥) are none in (
+      (effects, same_fold Means rests (names_stored (stores_in acts)) 1 first files after lines effects have free agree, are),
+      same_after files after
+          (stores_in acts) agree,
+    )

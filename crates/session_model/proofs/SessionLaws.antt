@@ -24,19 +24,24 @@ module _ {State : Type 0} (Seen Means : ℕ → State → Files → List ℕ →
   same_beginning number state files [] left done whole none means =
       let same : number ≡ number + 0 = omega arith in
       let here = subst (λ (n : ℕ). LinesMean Means n state files left whole) same means in
-      let at : List (Effect State) → Type 0 = λ es. LinesMean Means (number + 0) (state_after state es) (with_stores files (stores_in (acts_of es))) left whole in
+      let at : List (Effect State) → Type 0 = λ es. LinesMean Means (number + 0) (state_after state es) (with_stores files (stores_in (acts_of es))) left
+      whole in
       (whole, ap (λ (es : List (Effect State)). es ++ whole) (sym none), subst at (sym none) here)
   same_beginning number state files (line ∷ past) left done whole (effect, more, are, seen, others) (first, rest, all, means, behind) =
       let is : first ≡ effect = sym (one number state files line effect first seen means) in
       let at : Effect State → Type 0 = λ e. LinesMean Means (number + 1) e.state (with_stores files e.stores) (past ++ left) rest in
-      let (left_of, splits, remain) = same_beginning (number + 1) effect.state (with_stores files effect.stores) past left more rest others (subst at is behind) in
+      let (left_of, splits, remain) = same_beginning (number + 1) effect.state (with_stores files effect.stores) past left more rest others
+      (subst at is behind) in
       let numbered : number + 1 + length past ≡ number + suc (length past) = omega arith in
       let stored = subst (λ (f : Files). LinesMean Means (number + 1 + length past) (state_after effect.state more) f left left_of)
       (sym (with_stores-append files effect.stores (stores_in (acts_of more)))) remain in
-      let counted = subst (λ (n : ℕ). LinesMean Means n (state_after effect.state more) (with_stores files (effect.stores ++ stores_in (acts_of more))) left left_of) numbered stored in
-      let to : List (Effect State) → Type 0 = λ es. LinesMean Means (number + suc (length past)) (state_after state es) (with_stores files (stores_in (acts_of es))) left left_of in (
+      let counted = subst (λ (n : ℕ). LinesMean Means n (state_after effect.state more) (with_stores files (effect.stores ++ stores_in (acts_of more))) left
+      left_of) numbered stored in
+      let to : List (Effect State) → Type 0 = λ es.
+      LinesMean Means (number + suc (length past)) (state_after state es) (with_stores files (stores_in (acts_of es))) left left_of in (
         left_of,
-        all ∙ ap (λ (e : Effect State). e ∷ rest) is ∙ ap (λ (es : List (Effect State)). effect ∷ es) splits ∙ ap (λ (es : List (Effect State)). es ++ left_of) (sym are),
+        all ∙ ap (λ (e : Effect State). e ∷ rest) is ∙ ap (λ (es : List (Effect State)). effect ∷ es) splits
+            ∙ ap (λ (es : List (Effect State)). es ++ left_of) (sym are),
         subst to (sym are) counted,
       )
 
@@ -65,7 +70,8 @@ module _ {State : Type 0} (Seen Means : ℕ → State → Files → List ℕ →
         left = acts_of rest;
         split = are ∙ ap acts_of splits ∙ map-append _ way.done rest;
         front = way.front;
-        next = same_next quiet Fails (1 + length way.past) (state_after first way.done) (with_stores files (stores_in (acts_of way.done))) way.left rest way.front after others way.next;
+        next = same_next quiet Fails (1 + length way.past) (state_after first way.done) (with_stores files (stores_in (acts_of way.done))) way.left rest
+            way.front after others way.next;
         reported = way.reported;
       }
 

@@ -1,8 +1,8 @@
-pub mod GatherLaws
-pub mod NumberLaws
+mod GatherLaws
+mod NumberLaws
 pub mod NodeLaws
 pub mod CountLaws
-pub mod SwitchLaws
-pub mod InputLaws
-pub mod LetterLaws
+mod SwitchLaws
+mod InputLaws
+mod LetterLaws
 pub mod NumberedNames

@@ -1,3 +1,3 @@
-pub mod Additions
+mod Additions
 mod WrittenNumbers
 mod WrittenRecords

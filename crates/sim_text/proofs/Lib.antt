@@ -1,5 +1,5 @@
 pub mod WrittenLines
 pub mod WrittenBack
-pub mod AppendedText
+mod AppendedText
 pub mod SpelledTexts
-pub mod RefusedTexts
+mod RefusedTexts

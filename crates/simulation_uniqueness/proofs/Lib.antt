@@ -1,5 +1,5 @@
-pub mod SimLimits
-pub mod VectorAnswers
-pub mod StackOutcomes
-pub mod CircuitAnswers
-pub mod SimrunEffects
+mod SimLimits
+mod VectorAnswers
+mod StackOutcomes
+mod CircuitAnswers
+mod SimrunEffects

@@ -1,5 +1,5 @@
-pub mod BoundLaws
-pub mod BoxLaws
-pub mod CombinedLaws
-pub mod DilationLaws
+mod BoundLaws
+mod BoxLaws
+mod CombinedLaws
+mod DilationLaws
 pub mod ErosionLaws

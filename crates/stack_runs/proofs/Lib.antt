@@ -1,3 +1,3 @@
-pub mod Growing
-pub mod NamedAlike
-pub mod OnePhase
+mod Growing
+mod NamedAlike
+mod OnePhase

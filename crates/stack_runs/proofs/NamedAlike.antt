@@ -48,8 +48,10 @@ module _ (nodes : ℕ) where
   pub vectors_fit : (names : List (List ℕ × ℕ)) → NameNodesBelow nodes names → (n : ℕ)
       → All (λ line. FitsNodes nodes line.1) (stack_vectors names n).lines
   vectors_fit names below n =
-      let rows = below_fit (λ j. set_named names One (row_name j)) (λ j. set_fits One (node_named names (row_name j)) (named_below nodes names (row_name j) below)) n in
-      let columns = below_fit (λ i. set_named names Zero (column_name i)) (λ i. set_fits Zero (node_named names (column_name i)) (named_below nodes names (column_name i) below)) n in
+      let rows = below_fit (λ j. set_named names One (row_name j))
+      (λ j. set_fits One (node_named names (row_name j)) (named_below nodes names (row_name j) below)) n in
+      let columns = below_fit (λ i. set_named names Zero (column_name i))
+      (λ i. set_fits Zero (node_named names (column_name i)) (named_below nodes names (column_name i) below)) n in
       let last = All-cons Fits (0, Phase) [] tt (All-nil Fits) in
       All-append Fits (row_lines names n ++ column_lines names n) ((0, Phase) ∷ [])
       (All-append Fits (row_lines names n) (column_lines names n) rows columns) last

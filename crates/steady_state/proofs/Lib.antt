@@ -1,8 +1,8 @@
-pub mod UnderWay
-pub mod Within
-pub mod Passes
-pub mod Collecting
+mod UnderWay
+mod Within
+mod Passes
+mod Collecting
 pub mod Moving
-pub mod Wires
+mod Wires
 pub mod Resting
-pub mod Rounds
+mod Rounds

@@ -113,7 +113,8 @@ forced_is_x net (suc n) a s t v r e = elim (level_cases (state_of t v) X) [
 -- a value that can't be other than steady is steady
 pub steady_stable : (net : Network) (s : List Level) (v : ℕ) (x : Level) → ((IsSteadyValue net s v x → ⊥) → ⊥) → IsSteadyValue net s v x
 steady_stable net s v One twice = λ root path u. elim (level_cases (state_of s root) One) [ inl e ↦ e | inr ne ↦ absurd (twice (λ all. ne (all root path u))) ]
-steady_stable net s v Zero twice = λ root path u. elim (level_cases (state_of s root) Zero) [ inl e ↦ e | inr ne ↦ absurd (twice (λ all. ne (all root path u))) ]
+steady_stable net s v Zero twice = λ root path u.
+    elim (level_cases (state_of s root) Zero) [ inl e ↦ e | inr ne ↦ absurd (twice (λ all. ne (all root path u))) ]
 steady_stable net s v X twice = (λ all. twice (λ st. st.0 all), λ all. twice (λ st. st.1 all))
 
 -- where rounds have ended, each storage node has its steady value or is X

@@ -1,15 +1,15 @@
-pub mod AtomSteps
-pub mod ContactLines
-pub mod ContactSteps
-pub mod FinishedDrafts
-pub mod Growths
-pub mod IndexLaws
-pub mod Keeps
+mod AtomSteps
+mod ContactLines
+mod ContactSteps
+mod FinishedDrafts
+mod Growths
+mod IndexLaws
+mod Keeps
 pub mod LookupLaws
 pub mod Refusals
-pub mod RuleLines
+mod RuleLines
 pub mod SoundDrafts
 pub mod SoundLines
-pub mod Steps
-pub mod UnionSteps
+mod Steps
+mod UnionSteps
 pub mod WordLaws

@@ -1,7 +1,7 @@
-pub mod HeadingLaws
-pub mod ReadTexts
-pub mod SectionTexts
-pub mod SoundReading
-pub mod TextRests
-pub mod WholeLaws
-pub mod WholeTexts
+mod HeadingLaws
+mod ReadTexts
+mod SectionTexts
+mod SoundReading
+mod TextRests
+mod WholeLaws
+mod WholeTexts

@@ -37,14 +37,16 @@ changed R f column each space plane =
 
 -- ---- types of their planes
 
-joined_option : (raw : RawTech) (plane set other : ℕ) (o : Option ℕ) → joined raw plane set ≡ o → IsOnPlane raw plane other → IsOnPlane raw plane (unwrap_or o other)
+joined_option : (raw : RawTech) (plane set other : ℕ) (o : Option ℕ) → joined raw plane set ≡ o → IsOnPlane raw plane other
+    → IsOnPlane raw plane (unwrap_or o other)
 joined_option raw plane set other None is on = on
 joined_option raw plane set other (Some t) is on = (joined-found raw plane set t is).1
 
 joined_on_plane : (raw : RawTech) (plane set other : ℕ) → IsOnPlane raw plane other → IsOnPlane raw plane (unwrap_or (joined raw plane set) other)
 joined_on_plane raw plane set other on = joined_option raw plane set other (joined raw plane set) refl on
 
-image_on_plane : (raw : RawTech) (layer plane : ℕ) (image : TypeId) → IsWellFormed raw → layer < length raw.layers → image_on raw layer plane ≡ Some image → IsOnPlane raw plane image.0
+image_on_plane : (raw : RawTech) (layer plane : ℕ) (image : TypeId) → IsWellFormed raw → layer < length raw.layers → image_on raw layer plane ≡ Some image
+    → IsOnPlane raw plane image.0
 image_on_plane raw layer plane image w below is =
     let image_in = find-In (is_on raw plane) (images_of raw layer) image is in
     inr (
@@ -58,7 +60,8 @@ without_on_plane raw set plane old on = elim (cases_Bool (is_subset set (parts_o
   | inr none ↦ rw none on
 ]
 
-brushed_on_plane : (raw : RawTech) (brush : Brush) (layer plane : ℕ) (image old : TypeId) → IsWellFormed raw → layer < length raw.layers → image_on raw layer plane ≡ Some image
+brushed_on_plane : (raw : RawTech) (brush : Brush) (layer plane : ℕ) (image old : TypeId) → IsWellFormed raw → layer < length raw.layers
+    → image_on raw layer plane ≡ Some image
     → IsOnPlane raw plane old.0 → IsOnPlane raw plane (brushed_by raw brush plane image old).0
 brushed_on_plane raw Paint layer plane image old w below found on =
     joined_on_plane raw plane (bit_or (parts_of raw old.0) (parts_of raw image.0)) image.0 (image_on_plane raw layer plane image w below found)

@@ -28,7 +28,8 @@ joined_empty raw plane set empty =
 record_at : (raw : RawTech) (k : ℕ) → get_or raw.types k no_type ≡ type_at raw (k + 1)
 record_at raw k = ap (λ (n : ℕ). slice_index_or raw.types n no_type) (omega arith)
 
-found_place : (raw : RawTech) (plane set t : ℕ) (place : Option ℕ) → position_from (is_kind plane set) 0 raw.types ≡ place → option_map (λ n. n + 1) place ≡ Some t
+found_place : (raw : RawTech) (plane set t : ℕ) (place : Option ℕ) → position_from (is_kind plane set) 0 raw.types ≡ place
+    → option_map (λ n. n + 1) place ≡ Some t
     → (parts_of raw t ≡ set) × ((t ≡ 0) ⊎ (IsTrue (is_type raw t) × (plane_of raw t ≡ plane)))
 found_place raw plane set t None is next = cc
 found_place raw plane set t (Some k) is next =
@@ -43,7 +44,8 @@ found_place raw plane set t (Some k) is next =
     (has, inr (type, stands))
 
 -- a record with the plane and set of a type, before it, would be a second type with them
-kind_before : (raw : RawTech) (t k : ℕ) → HaveOwnSets raw → IsTrue (is_type raw t) → k < t - 1 → is_kind (plane_of raw t) (parts_of raw t) (get_or raw.types k no_type) ≡ true → ⊥
+kind_before : (raw : RawTech) (t k : ℕ) → HaveOwnSets raw → IsTrue (is_type raw t) → k < t - 1
+    → is_kind (plane_of raw t) (parts_of raw t) (get_or raw.types k no_type) ≡ true → ⊥
 kind_before raw t k own is before same =
     let bounds = type_bounds raw t is in
     let low : 1 ≤ t = bounds.0 in
@@ -57,7 +59,8 @@ kind_before raw t k own is before same =
     omega arith
 
 -- a type is the first of its plane with its set
-pub joined-type : (raw : RawTech) (t : ℕ) → HaveOwnSets raw → IsTrue (is_type raw t) → parts_of raw t ≢ 0 → joined raw (plane_of raw t) (parts_of raw t) ≡ Some t
+pub joined-type : (raw : RawTech) (t : ℕ) → HaveOwnSets raw → IsTrue (is_type raw t) → parts_of raw t ≢ 0
+    → joined raw (plane_of raw t) (parts_of raw t) ≡ Some t
 joined-type raw t own is full =
     let bounds = type_bounds raw t is in
     let low : 1 ≤ t = bounds.0 in
@@ -72,7 +75,8 @@ joined-type raw t own is full =
     ∙ ap (λ (n : ℕ). Some n) (omega arith)
 
 -- the type with a set has it, and stands on the plane or is space
-pub joined-found : (raw : RawTech) (plane set t : ℕ) → joined raw plane set ≡ Some t → (parts_of raw t ≡ set) × ((t ≡ 0) ⊎ (IsTrue (is_type raw t) × (plane_of raw t ≡ plane)))
+pub joined-found : (raw : RawTech) (plane set t : ℕ) → joined raw plane set ≡ Some t
+    → (parts_of raw t ≡ set) × ((t ≡ 0) ⊎ (IsTrue (is_type raw t) × (plane_of raw t ≡ plane)))
 joined-found raw plane set t is = elim (cases_eq set 0) [
   | inl empty ↦
       let found : Some 0 ≡ Some t = sym (joined_empty raw plane set empty) ∙ is in

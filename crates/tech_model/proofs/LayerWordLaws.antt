@@ -59,7 +59,8 @@ pub layer_in-insert_entry : {K : Type 0} (words : K → List ℕ) (entries : Lis
     ≡ (if bytes_eq word (words key) then Some layer else layer_in (layer_entries words entries) word)
 layer_in-insert_entry words [] key layer word = refl
 layer_in-insert_entry words (e ∷ es) key layer word =
-    insert_step words e es (insert_entry (λ x y. slice_cmp nat_cmp (words x) (words y)) es key layer) key layer word _ refl (layer_in-insert_entry words es key layer word)
+    insert_step words e es (insert_entry (λ x y. slice_cmp nat_cmp (words x) (words y)) es key layer) key layer word _ refl
+    (layer_in-insert_entry words es key layer word)
 
 -- the layer of the first name that was there, or this layer where the word is among the names
 abbrev pub layer_or : Option ℕ → Bool → ℕ → Option ℕ
@@ -92,7 +93,8 @@ name_added before old new names i layer name word inside is_name so_far fresh pu
     let more = list_any_more (bytes_eq word) names i name inside in
     let same : bytes_eq word name ≡ true → layer_in old word ≡ None = λ yes. ap (layer_in old) ((bytes_eq-Decides word name).0 yes) ∙ fresh in
     put ∙ layer_or-added (layer_in before word) (layer_in old word) (list_any (bytes_eq word) (take i names)) (bytes_eq word name) layer so_far same
-    ∙ ap (λ (named : Bool). layer_or (layer_in before word) named layer) (ap (λ (n : List ℕ). list_any (bytes_eq word) (take i names) || bytes_eq word n) is_name ∙ sym more)
+    ∙ ap (λ (named : Bool). layer_or (layer_in before word) named layer)
+    (ap (λ (n : List ℕ). list_any (bytes_eq word) (take i names) || bytes_eq word n) is_name ∙ sym more)
 
 -- the next name of a layer, which was there already
 pub name_kept : (before old : List (List ℕ × ℕ)) (names : List (List ℕ)) (i layer : ℕ) (name word : List ℕ) → i < length names → name ≡ get_or names i name
@@ -101,9 +103,11 @@ pub name_kept : (before old : List (List ℕ × ℕ)) (names : List (List ℕ)) 
     → layer_in old word ≡ layer_or (layer_in before word) (list_any (bytes_eq word) (take (i + 1) names)) layer
 name_kept before old names i layer name word inside is_name so_far there =
     let more = list_any_more (bytes_eq word) names i name inside in
-    let same : bytes_eq word name ≡ true → is_none (layer_in old word) ≡ false = λ yes. ap (λ (n : List ℕ). is_none (layer_in old n)) ((bytes_eq-Decides word name).0 yes) ∙ there in
+    let same : bytes_eq word name ≡ true → is_none (layer_in old word) ≡ false = λ yes.
+    ap (λ (n : List ℕ). is_none (layer_in old n)) ((bytes_eq-Decides word name).0 yes) ∙ there in
     layer_or-kept (layer_in before word) (layer_in old word) (list_any (bytes_eq word) (take i names)) (bytes_eq word name) layer so_far same
-    ∙ ap (λ (named : Bool). layer_or (layer_in before word) named layer) (ap (λ (n : List ℕ). list_any (bytes_eq word) (take i names) || bytes_eq word n) is_name ∙ sym more)
+    ∙ ap (λ (named : Bool). layer_or (layer_in before word) named layer)
+    (ap (λ (n : List ℕ). list_any (bytes_eq word) (take i names) || bytes_eq word n) is_name ∙ sym more)
 
 -- one more layer
 pub position_from-push : {X : Type 0} (test : X → Bool) (i : ℕ) (xs : List X) (x : X)

@@ -1,9 +1,9 @@
 -- what crates above name of those below
 pub use Rattle.geo_core.proofs as GeoCore
-pub mod LayerWordLaws
-pub mod PairTableLaws
+mod LayerWordLaws
+mod PairTableLaws
 pub mod WellFormedLaws
-pub mod PairSearch
+mod PairSearch
 pub mod TypeLaws
 pub mod RuleLaws
 pub mod SetLaws

@@ -109,7 +109,8 @@ unmarked_bit raw layer other plane old contact second apart on = elim (cases_Boo
           | inl space ↦ ap (λ (n : ℕ). bit_at (parts_of raw n) second.bit) space ∙ bit_at-zero second.bit ∙ sym clear
           | inr left ↦ elim (bit_cases (without (parts_of raw old.0) (2 ^ contact.bit)) second.bit) [
             | inl gone ↦ ap (λ (set : ℕ). bit_at set second.bit) left ∙ gone ∙ sym clear
-            | inr stays ↦ ap (λ (set : ℕ). bit_at set second.bit) left ∙ stays ∙ sym (without_bit_source (parts_of raw old.0) (2 ^ contact.bit) second.bit stays)
+            | inr stays ↦ ap (λ (set : ℕ). bit_at set second.bit) left ∙ stays
+                ∙ sym (without_bit_source (parts_of raw old.0) (2 ^ contact.bit) second.bit stays)
           ]
         ]
       ]
@@ -162,7 +163,8 @@ Agree raw layer contact a b =
     → bit_of raw contact.bit (type_on a (plane_of raw t)) ≡ bit_of raw contact.bit (type_on b (plane_of raw t))
 
 -- a mark that stands on the same of its planes is kept in both columns, or in neither
-kept_both : (raw : RawTech) (images a b : List TypeId) → length a ≡ length b → has_mark_everywhere raw (mark_of raw images) images a ≡ has_mark_everywhere raw (mark_of raw images) images b
+kept_both : (raw : RawTech) (images a b : List TypeId) → length a ≡ length b
+    → has_mark_everywhere raw (mark_of raw images) images a ≡ has_mark_everywhere raw (mark_of raw images) images b
     → (plane : ℕ) → type_on a plane ≡ type_on b plane → type_on (layer_mark_kept raw images a) plane ≡ type_on (layer_mark_kept raw images b) plane
 kept_both raw images a b long everywhere plane same = elim (cases_Bool (nat_lt 1 (length images))) [
   | inr one ↦ rw one same
@@ -172,9 +174,11 @@ kept_both raw images a b long everywhere plane same = elim (cases_Bool (nat_lt 1
   ]
 ]
 
-everywhere_both : (raw : RawTech) (layer : ℕ) (a b : List TypeId) → IsWellFormed raw → layer < length raw.layers → 1 < length (images_of raw layer) → (contact : IsContact raw layer)
+everywhere_both : (raw : RawTech) (layer : ℕ) (a b : List TypeId) → IsWellFormed raw → layer < length raw.layers → 1 < length (images_of raw layer)
+    → (contact : IsContact raw layer)
     → Agree raw layer contact a b
-    → has_mark_everywhere raw (mark_of raw (images_of raw layer)) (images_of raw layer) a ≡ has_mark_everywhere raw (mark_of raw (images_of raw layer)) (images_of raw layer) b
+    → has_mark_everywhere raw (mark_of raw (images_of raw layer)) (images_of raw layer) a
+    ≡ has_mark_everywhere raw (mark_of raw (images_of raw layer)) (images_of raw layer) b
 everywhere_both raw layer a b w below many contact agree =
     list_all-same
     (λ image. is_subset (mark_of raw (images_of raw layer)) (parts_of raw (type_on a (plane_of raw image.0))))
@@ -186,7 +190,8 @@ everywhere_both raw layer a b w below many contact agree =
     (agree image.0 is (w.of_one_layer layer image.0 below image_in))))
 
 -- one step leaves one type on the plane in both columns
-kept_same : (raw : RawTech) (layer : ℕ) (a b : List TypeId) → IsWellFormed raw → layer < length raw.layers → length a ≡ length b → (plane : ℕ) → type_on a plane ≡ type_on b plane
+kept_same : (raw : RawTech) (layer : ℕ) (a b : List TypeId) → IsWellFormed raw → layer < length raw.layers → length a ≡ length b → (plane : ℕ)
+    → type_on a plane ≡ type_on b plane
     → ((contact : IsContact raw layer) → bit_of raw contact.bit (type_on a plane) ≡ 1 → Agree raw layer contact a b)
     → type_on (layer_mark_kept raw (images_of raw layer) a) plane ≡ type_on (layer_mark_kept raw (images_of raw layer) b) plane
 kept_same raw layer a b w below long plane same agree = elim (cases_Bool (nat_lt 1 (length (images_of raw layer)))) [
@@ -210,7 +215,8 @@ pub marks_step : (raw : RawTech) (column : List TypeId) (n : ℕ) → suc n ≤ 
     → marks_of_first raw column (suc n) ≡ layer_mark_kept raw (images_of raw n) (marks_of_first raw column n)
 marks_step raw column n below =
     let next : suc n ≡ n + 1 = omega arith in
-    ap (marks_of_first raw column) next ∙ fold_more (λ (kept : List TypeId) (layer : LayerRec). layer_mark_kept raw layer.images kept) column raw.layers n no_layer (omega arith)
+    ap (marks_of_first raw column) next ∙ fold_more (λ (kept : List TypeId) (layer : LayerRec). layer_mark_kept raw layer.images kept) column raw.layers n
+    no_layer (omega arith)
 
 -- contacts that were not looked at have their bits where they were
 marks_bits : (raw : RawTech) (column : List TypeId) → IsWellFormed raw → IsColumn raw column → (n : ℕ) → n ≤ length raw.layers
@@ -229,7 +235,8 @@ marks_bits raw column w is (suc n) below =
           ∙ kept_bit raw n layer before w (omega arith) apart so_far.0 contact plane ∙ so_far.1 layer (omega arith) contact plane,
     )
 
-marks_local : (raw : RawTech) (a b : List TypeId) → IsWellFormed raw → IsColumn raw a → IsColumn raw b → length a ≡ length b → (plane : ℕ) → type_on a plane ≡ type_on b plane
+marks_local : (raw : RawTech) (a b : List TypeId) → IsWellFormed raw → IsColumn raw a → IsColumn raw b → length a ≡ length b → (plane : ℕ)
+    → type_on a plane ≡ type_on b plane
     → ((layer : ℕ) → layer < length raw.layers → (contact : IsContact raw layer) → bit_of raw contact.bit (type_on a plane) ≡ 1 → Agree raw layer contact a b)
     → (n : ℕ) → n ≤ length raw.layers → type_on (marks_of_first raw a n) plane ≡ type_on (marks_of_first raw b n) plane
 marks_local raw a b w a_is b_is long plane same agree zero below = same
@@ -247,7 +254,8 @@ marks_local raw a b w a_is b_is long plane same agree (suc n) below =
     ∙ ap (λ (c : List TypeId). type_on c plane) (sym (marks_step raw b n below))
 
 -- two columns with one type on the plane, whose contacts with a bit there have the bit on the same planes, have one type there after all marks were looked at
-marks_kept-local : (raw : RawTech) (a b : List TypeId) → IsWellFormed raw → IsColumn raw a → IsColumn raw b → length a ≡ length b → (plane : ℕ) → type_on a plane ≡ type_on b plane
+marks_kept-local : (raw : RawTech) (a b : List TypeId) → IsWellFormed raw → IsColumn raw a → IsColumn raw b → length a ≡ length b → (plane : ℕ)
+    → type_on a plane ≡ type_on b plane
     → ((layer : ℕ) → layer < length raw.layers → (contact : IsContact raw layer) → bit_of raw contact.bit (type_on a plane) ≡ 1 → Agree raw layer contact a b)
     → type_on (marks_kept raw a) plane ≡ type_on (marks_kept raw b) plane
 marks_kept-local raw a b w a_is b_is long plane same agree =
@@ -260,7 +268,8 @@ marks_kept-local raw a b w a_is b_is long plane same agree =
 -- ---- paint and erasing
 
 -- where a contact's bit was on the plane before, the contact stood whole in both columns
-agree_from_old : (raw : RawTech) (contact_layer : ℕ) (contact : IsContact raw contact_layer) (f : ℕ → TypeId → TypeId) (a b : List TypeId) → IsWellFormed raw → length a ≡ length b
+agree_from_old : (raw : RawTech) (contact_layer : ℕ) (contact : IsContact raw contact_layer) (f : ℕ → TypeId → TypeId) (a b : List TypeId) → IsWellFormed raw
+    → length a ≡ length b
     → IsColumn raw a → HasWholeContacts raw a → HasWholeContacts raw b → (plane : ℕ) → type_on a plane ≡ type_on b plane
     → bit_of raw contact.bit (type_on a plane) ≡ 1 → Agree raw contact_layer contact (on_planes_from 0 f a) (on_planes_from 0 f b)
 agree_from_old raw contact_layer contact f a b w long a_is a_whole b_whole plane same set t t_is t_layer =
@@ -276,24 +285,28 @@ erased_bit_option raw plane set k None is bit = let apart : ◌≡◌ {A = ℕ} 
 erased_bit_option raw plane set k (Some t) is bit = sym (ap (λ (n : ℕ). bit_at n k) (joined-found raw plane set t is).0) ∙ bit
 
 -- erasing brings no bit
-erased_bit : (raw : RawTech) (plane k : ℕ) (image : Option TypeId) (old : TypeId) → bit_of raw k (where_image (erased_by raw plane) image old).0 ≡ 1 → bit_of raw k old.0 ≡ 1
+erased_bit : (raw : RawTech) (plane k : ℕ) (image : Option TypeId) (old : TypeId) → bit_of raw k (where_image (erased_by raw plane) image old).0 ≡ 1
+    → bit_of raw k old.0 ≡ 1
 erased_bit raw plane k None old bit = bit
 erased_bit raw plane k (Some image) old bit = elim (cases_Bool (is_subset (parts_of raw image.0) (parts_of raw old.0))) [
   | inr none ↦ rw none at bit
   | inl part ↦
       let left : bit_of raw k (unwrap_or (joined raw plane (without (parts_of raw old.0) (parts_of raw image.0))) 0) ≡ 1 = rw part at bit in
       without_bit_source (parts_of raw old.0) (parts_of raw image.0) k
-      (erased_bit_option raw plane (without (parts_of raw old.0) (parts_of raw image.0)) k (joined raw plane (without (parts_of raw old.0) (parts_of raw image.0))) refl left)
+      (erased_bit_option raw plane (without (parts_of raw old.0) (parts_of raw image.0)) k
+      (joined raw plane (without (parts_of raw old.0) (parts_of raw image.0))) refl left)
 ]
 
 painted_bit_option : (raw : RawTech) (plane old image k : ℕ) (o : Option ℕ) → joined raw plane (bit_or (parts_of raw old) (parts_of raw image)) ≡ o
     → bit_of raw k (unwrap_or o image) ≡ 1 → (bit_of raw k old ≡ 1) ⊎ (bit_of raw k image ≡ 1)
 painted_bit_option raw plane old image k None is bit = inr bit
 painted_bit_option raw plane old image k (Some t) is bit =
-    or_bit_cases (parts_of raw old) (parts_of raw image) k (sym (ap (λ (n : ℕ). bit_at n k) (joined-found raw plane (bit_or (parts_of raw old) (parts_of raw image)) t is).0) ∙ bit)
+    or_bit_cases (parts_of raw old) (parts_of raw image) k
+    (sym (ap (λ (n : ℕ). bit_at n k) (joined-found raw plane (bit_or (parts_of raw old) (parts_of raw image)) t is).0) ∙ bit)
 
 -- paint of another layer brings no bit of a contact
-painted_bit : (raw : RawTech) (layer other plane : ℕ) (contact : IsContact raw other) (o : Option TypeId) (old : TypeId) → IsWellFormed raw → layer < length raw.layers → layer ≢ other
+painted_bit : (raw : RawTech) (layer other plane : ℕ) (contact : IsContact raw other) (o : Option TypeId) (old : TypeId) → IsWellFormed raw
+    → layer < length raw.layers → layer ≢ other
     → image_on raw layer plane ≡ o → bit_of raw contact.bit (where_image (painted_by raw plane) o old).0 ≡ 1 → bit_of raw contact.bit old.0 ≡ 1
 painted_bit raw layer other plane contact None old w below apart is bit = bit
 painted_bit raw layer other plane contact (Some image) old w below apart is bit =
@@ -309,10 +322,12 @@ painted_has_option : (raw : RawTech) (plane old image k : ℕ) (o : Option ℕ) 
     → bit_of raw k image ≡ 1 → bit_of raw k (unwrap_or o image) ≡ 1
 painted_has_option raw plane old image k None is bit = bit
 painted_has_option raw plane old image k (Some t) is bit =
-    ap (λ (n : ℕ). bit_at n k) (joined-found raw plane (bit_or (parts_of raw old) (parts_of raw image)) t is).0 ∙ or_bit_right (parts_of raw old) (parts_of raw image) k bit
+    ap (λ (n : ℕ). bit_at n k) (joined-found raw plane (bit_or (parts_of raw old) (parts_of raw image)) t is).0
+    ∙ or_bit_right (parts_of raw old) (parts_of raw image) k bit
 
 -- paint of a contact brings its bit to each of its planes
-painted_has : (raw : RawTech) (layer plane t : ℕ) (contact : IsContact raw layer) (o : Option TypeId) (old : TypeId) → In (record { 0 = t }) (images_of raw layer) → plane_of raw t ≡ plane
+painted_has : (raw : RawTech) (layer plane t : ℕ) (contact : IsContact raw layer) (o : Option TypeId) (old : TypeId)
+    → In (record { 0 = t }) (images_of raw layer) → plane_of raw t ≡ plane
     → image_on raw layer plane ≡ o → bit_of raw contact.bit (where_image (painted_by raw plane) o old).0 ≡ 1
 painted_has raw layer plane t contact None old t_in at is =
     absurd (true≢false (sym (eq-eqb (plane_of raw t) plane at) ∙ find-none (is_on raw plane) (images_of raw layer) (record { 0 = t }) is t_in))
@@ -324,19 +339,23 @@ agree_painted : (raw : RawTech) (layer : ℕ) (contact : IsContact raw layer) (a
     → Agree raw layer contact (on_planes_from 0 (brushed_on raw Paint layer) a) (on_planes_from 0 (brushed_on raw Paint layer) b)
 agree_painted raw layer contact a b w long t t_is t_layer =
     let t_in : In (record { 0 = t }) (images_of raw layer) = subst (λ (l : ℕ). In (record { 0 = t }) (images_of raw l)) t_layer (w.is_image t t_is) in
-    changed_both (λ plane x y new_x new_y. plane_of raw t ≡ plane → bit_of raw contact.bit new_x ≡ bit_of raw contact.bit new_y) (brushed_on raw Paint layer) a b long
-    (λ plane x y at. painted_has raw layer plane t contact (image_on raw layer plane) x t_in at refl ∙ sym (painted_has raw layer plane t contact (image_on raw layer plane) y t_in at refl))
+    changed_both (λ plane x y new_x new_y. plane_of raw t ≡ plane → bit_of raw contact.bit new_x ≡ bit_of raw contact.bit new_y) (brushed_on raw Paint layer)
+    a b long
+    (λ plane x y at. painted_has raw layer plane t contact (image_on raw layer plane) x t_in at refl
+    ∙ sym (painted_has raw layer plane t contact (image_on raw layer plane) y t_in at refl))
     (λ plane at. refl) (plane_of raw t) refl
 
 -- where a contact's bit is on the plane after the brush, it is on the same planes of both columns
-agree_brushed : (raw : RawTech) (brush : Brush) (layer other plane : ℕ) (contact : IsContact raw other) (a b : List TypeId) → IsWellFormed raw → layer < length raw.layers
+agree_brushed : (raw : RawTech) (brush : Brush) (layer other plane : ℕ) (contact : IsContact raw other) (a b : List TypeId) → IsWellFormed raw
+    → layer < length raw.layers
     → length a ≡ length b → IsColumn raw a → HasWholeContacts raw a → HasWholeContacts raw b → type_on a plane ≡ type_on b plane
     → bit_of raw contact.bit (type_on (on_planes_from 0 (brushed_on raw brush layer) a) plane) ≡ 1
     → Agree raw other contact (on_planes_from 0 (brushed_on raw brush layer) a) (on_planes_from 0 (brushed_on raw brush layer) b)
 agree_brushed raw Paint layer other plane contact a b w below long a_is a_whole b_whole same set =
     let f : ℕ → TypeId → TypeId = brushed_on raw Paint layer in
     elim (cases_eq layer other) [
-      | inl one ↦ subst (λ (l : ℕ). (c : IsContact raw l) → Agree raw l c (on_planes_from 0 f a) (on_planes_from 0 f b)) one (λ c. agree_painted raw layer c a b w long) contact
+      | inl one ↦ subst (λ (l : ℕ). (c : IsContact raw l) → Agree raw l c (on_planes_from 0 f a) (on_planes_from 0 f b)) one
+          (λ c. agree_painted raw layer c a b w long) contact
       | inr apart ↦
           agree_from_old raw other contact f a b w long a_is a_whole b_whole plane same
           (changed (λ plane old new. bit_of raw contact.bit new ≡ 1 → bit_of raw contact.bit old ≡ 1) f a
@@ -348,12 +367,14 @@ agree_brushed raw Erase layer other plane contact a b w below long a_is a_whole 
     (λ plane old bit. erased_bit raw plane contact.bit (image_on raw layer plane) old bit) (λ plane bit. bit) plane set)
 
 -- what a brush leaves on a plane depends on that plane alone
-pub brushed_column-local : (raw : RawTech) (brush : Brush) (layer plane : ℕ) (a b : List TypeId) → IsWellFormed raw → layer < length raw.layers → length a ≡ length b
+pub brushed_column-local : (raw : RawTech) (brush : Brush) (layer plane : ℕ) (a b : List TypeId) → IsWellFormed raw → layer < length raw.layers
+    → length a ≡ length b
     → IsColumn raw a → IsColumn raw b → HasWholeContacts raw a → HasWholeContacts raw b → type_on a plane ≡ type_on b plane
     → type_on (brushed_column raw brush layer a) plane ≡ type_on (brushed_column raw brush layer b) plane
 unfolding brushed_column
 brushed_column-local raw brush layer plane a b w below long a_is b_is a_whole b_whole same =
     let f : ℕ → TypeId → TypeId = brushed_on raw brush layer in
-    marks_kept-local raw (on_planes_from 0 f a) (on_planes_from 0 f b) w (brushed_is_column raw brush layer a w below a_is) (brushed_is_column raw brush layer b w below b_is)
+    marks_kept-local raw (on_planes_from 0 f a) (on_planes_from 0 f b) w (brushed_is_column raw brush layer a w below a_is)
+    (brushed_is_column raw brush layer b w below b_is)
     (on_planes-length 0 f a ∙ long ∙ sym (on_planes-length 0 f b)) plane (changed_same f a b long plane same)
     (λ other other_below contact set. agree_brushed raw brush layer other plane contact a b w below long a_is a_whole b_whole same set)

@@ -34,7 +34,8 @@ unfolding common
 fold_has_bit raw [] a k start each = start
 fold_has_bit raw (image ∷ images) a k start each =
     fold_has_bit raw images (bit_and a (parts_of raw image.0)) k
-    (bit_at_and a (parts_of raw image.0) k ∙ min_ones (bit_at a k) (bit_at (parts_of raw image.0) k) start (each image (inl refl))) (λ other later. each other (inr later))
+    (bit_at_and a (parts_of raw image.0) k ∙ min_ones (bit_at a k) (bit_at (parts_of raw image.0) k) start (each image (inl refl)))
+    (λ other later. each other (inr later))
 
 fold_stays_clear : (raw : RawTech) (images : List TypeId) (a k : ℕ) → bit_at a k ≡ 0 → bit_at (fold (common raw) a images) k ≡ 0
 unfolding common
@@ -43,24 +44,29 @@ fold_stays_clear raw (image ∷ images) a k start =
     fold_stays_clear raw images (bit_and a (parts_of raw image.0)) k
     (bit_at_and a (parts_of raw image.0) k ∙ min_left_zero (bit_at a k) (bit_at (parts_of raw image.0) k) start)
 
-fold_clears : (raw : RawTech) (images : List TypeId) (a k : ℕ) (image : TypeId) → In image images → bit_at (parts_of raw image.0) k ≡ 0 → bit_at (fold (common raw) a images) k ≡ 0
+fold_clears : (raw : RawTech) (images : List TypeId) (a k : ℕ) (image : TypeId) → In image images → bit_at (parts_of raw image.0) k ≡ 0
+    → bit_at (fold (common raw) a images) k ≡ 0
 unfolding common
 fold_clears raw [] a k image none clear = absurd none
 fold_clears raw (x ∷ xs) a k image (inl same) clear =
     fold_stays_clear raw xs (bit_and a (parts_of raw x.0)) k
-    (bit_at_and a (parts_of raw x.0) k ∙ min_right_zero (bit_at a k) (bit_at (parts_of raw x.0) k) (ap (λ (t : TypeId). bit_at (parts_of raw t.0) k) same ∙ clear))
+    (bit_at_and a (parts_of raw x.0) k ∙ min_right_zero (bit_at a k) (bit_at (parts_of raw x.0) k)
+    (ap (λ (t : TypeId). bit_at (parts_of raw t.0) k) same ∙ clear))
 fold_clears raw (x ∷ xs) a k image (inr later) clear = fold_clears raw xs (bit_and a (parts_of raw x.0)) k image later clear
 
 -- a bit of an image other than the mark's is that of an atom of its plane
-atom_plane : (raw : RawTech) (bit image k : ℕ) → IsWellFormed raw → IsMarked raw bit image → k ≢ bit → bit_at (parts_of raw image) k ≡ 1 → plane_of raw (k + 1) ≡ plane_of raw image
+atom_plane : (raw : RawTech) (bit image k : ℕ) → IsWellFormed raw → IsMarked raw bit image → k ≢ bit → bit_at (parts_of raw image) k ≡ 1
+    → plane_of raw (k + 1) ≡ plane_of raw image
 atom_plane raw bit image k w marked other set =
     elim (or_bit_cases (parts_of raw marked.residue) (2 ^ bit) k (sym (ap (λ (x : ℕ). bit_at x k) marked.set) ∙ set)) [
-      | inl here ↦ (set_bits raw marked.residue k w (w.sets.simple marked.residue marked.residue_type marked.residue_simple) marked.residue_type here).1 ∙ marked.residue_plane
+      | inl here ↦ (set_bits raw marked.residue k w (w.sets.simple marked.residue marked.residue_type marked.residue_simple) marked.residue_type here).1
+          ∙ marked.residue_plane
       | inr there ↦ let apart : ◌≡◌ {A = ℕ} 1 0 = sym there ∙ bit_at-pow_other bit k other in absurd (omega arith)
     ]
 
 -- one of the first two images lacks the bit
-lacking : (raw : RawTech) (layer k : ℕ) → IsWellFormed raw → layer < length raw.layers → 1 < length (images_of raw layer) → (contact : IsContact raw layer) → k ≢ contact.bit
+lacking : (raw : RawTech) (layer k : ℕ) → IsWellFormed raw → layer < length raw.layers → 1 < length (images_of raw layer) → (contact : IsContact raw layer)
+    → k ≢ contact.bit
     → (image : TypeId) × (In image (images_of raw layer) × (bit_at (parts_of raw image.0) k ≡ 0))
 lacking raw layer k w below many contact other =
     let images : List TypeId = images_of raw layer in
@@ -82,13 +88,15 @@ lacking raw layer k w below many contact other =
     ]
 
 -- the mark of a contact is its bit alone
-pub mark_of-contact : (raw : RawTech) (layer : ℕ) → IsWellFormed raw → layer < length raw.layers → 1 < length (images_of raw layer) → (contact : IsContact raw layer)
+pub mark_of-contact : (raw : RawTech) (layer : ℕ) → IsWellFormed raw → layer < length raw.layers → 1 < length (images_of raw layer)
+    → (contact : IsContact raw layer)
     → mark_of raw (images_of raw layer) ≡ 2 ^ contact.bit
 unfolding common
 mark_of-contact raw layer w below many contact = same_from_bits (mark_of raw (images_of raw layer)) (2 ^ contact.bit) (λ k.
     elim (cases_eq k contact.bit) [
       | inl same ↦ ap (bit_at (mark_of raw (images_of raw layer))) same
-          ∙ fold_has_bit raw (images_of raw layer) all_parts contact.bit (bit_at_ones PART_BITS contact.bit contact.below_limit) (λ image is. image_mark raw layer image.0 contact is)
+          ∙ fold_has_bit raw (images_of raw layer) all_parts contact.bit (bit_at_ones PART_BITS contact.bit contact.below_limit)
+          (λ image is. image_mark raw layer image.0 contact is)
           ∙ sym (ap (bit_at (2 ^ contact.bit)) same ∙ bit_at-pow_same contact.bit)
       | inr other ↦
           let found = lacking raw layer k w below many contact other in

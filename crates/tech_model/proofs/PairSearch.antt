@@ -51,14 +51,16 @@ each_here {Z} {X} {Y} p key others zs z rest y split some =
     ∙ ap (λ (o : Option (X × Y)). option_or o (find p (flat_map pairs rest))) (find-map (λ y. (key z, y)) p (others z) ∙ ap (option_map (λ y. (key z, y))) some)
 
 -- a filter after a thing that passes, and after one that does not
-pub filter_here : {X : Type 0} (p : X → Bool) (front zs : List X) (x : X) (xs : List X) → zs ≡ x ∷ xs → p x ≡ true → front ++ filter p zs ≡ (front ++ x ∷ []) ++ filter p xs
+pub filter_here : {X : Type 0} (p : X → Bool) (front zs : List X) (x : X) (xs : List X) → zs ≡ x ∷ xs → p x ≡ true
+    → front ++ filter p zs ≡ (front ++ x ∷ []) ++ filter p xs
 filter_here p front zs x xs split passes =
     ap (λ l. front ++ filter p l) split
     ∙ ap (λ (b : Bool). front ++ cond b (x ∷ filter p xs) (filter p xs)) passes
     ∙ sym (append_assoc front (x ∷ []) (filter p xs))
 
 -- a thing that fails adds nothing
-pub filter_rest : {X : Type 0} (p : X → Bool) (front zs : List X) (x : X) (xs : List X) → zs ≡ x ∷ xs → p x ≡ false → front ++ filter p zs ≡ front ++ filter p xs
+pub filter_rest : {X : Type 0} (p : X → Bool) (front zs : List X) (x : X) (xs : List X) → zs ≡ x ∷ xs → p x ≡ false
+    → front ++ filter p zs ≡ front ++ filter p xs
 filter_rest p front zs x xs split fails =
     ap (λ l. front ++ filter p l) split
     ∙ ap (λ (b : Bool). front ++ cond b (x ∷ filter p xs) (filter p xs)) fails

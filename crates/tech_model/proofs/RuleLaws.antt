@@ -33,8 +33,11 @@ types_of-type raw t is = let bounds = range_bounds 1 (length raw.types) t is in 
 
 -- what is found among pairs of types are types
 pub pair_types : (raw : RawTech) (pair : ℕ × ℕ) → In pair (pairs_of (types_of raw) (types_of raw)) → IsTrue (is_type raw pair.0) × IsTrue (is_type raw pair.1)
-pair_types raw pair is =
-    (types_of-type raw pair.0 (In-pairs_of_first pair (types_of raw) (types_of raw) is), types_of-type raw pair.1 (In-pairs_of_second pair (types_of raw) (types_of raw) is))
+pair_types raw pair is = (
+  types_of-type raw pair.0 (In-pairs_of_first pair (types_of raw) (types_of raw) is),
+  types_of-type raw pair.1
+      (In-pairs_of_second pair (types_of raw) (types_of raw) is),
+)
 
 -- both of a widening are types
 pub widening_types : (raw : RawTech) (pair : ℕ × ℕ) → In pair (widenings raw) → IsTrue (is_type raw pair.0) × IsTrue (is_type raw pair.1)
@@ -44,8 +47,11 @@ widening_types raw pair is = pair_types raw pair (In-filter_source (are_within r
 pub break_types : (raw : RawTech) (all : List (ℕ × ℕ)) (two : (ℕ × ℕ) × (ℕ × ℕ)) → all ≡ widenings raw → find (breaks_law raw) (pairs_of all all) ≡ Some two
     → (IsTrue (is_type raw two.0.0) × IsTrue (is_type raw two.0.1)) × (IsTrue (is_type raw two.1.0) × IsTrue (is_type raw two.1.1))
 break_types raw all two same found =
-    let is = find-In (breaks_law raw) (pairs_of all all) two found in
-    (widening_types raw two.0 (subst (In two.0) same (In-pairs_of_first two all all is)), widening_types raw two.1 (subst (In two.1) same (In-pairs_of_second two all all is)))
+    let is = find-In (breaks_law raw) (pairs_of all all) two found in (
+      widening_types raw two.0 (subst (In two.0) same (In-pairs_of_first two all all is)),
+      widening_types raw two.1
+          (subst (In two.1) same (In-pairs_of_second two all all is)),
+    )
 
 -- the types of a transistor and its terminal
 pub terminal_types : (raw : RawTech) (pair : TypeId × TypeId) → IsWellFormed raw → In pair (fet_terminals raw)
@@ -89,7 +95,8 @@ fets_apart_hold raw none = λ i fet' i_below j t' j_below.
 fets_named_hold : (raw : RawTech) → fet_name_fault raw ≡ None → FetsAreNamed raw
 fets_named_hold raw none = λ i fet' below.
     let fet = get_or raw.fets i fet' in
-    not-false (is_fet_name fet.name) (find-none (λ (fet : FetRule). not (is_fet_name fet.name)) raw.fets fet (option_map-none _ _ none) (In-get_or raw.fets i fet' below))
+    not-false (is_fet_name fet.name) (find-none (λ (fet : FetRule). not (is_fet_name fet.name)) raw.fets fet (option_map-none _ _ none)
+    (In-get_or raw.fets i fet' below))
 
 In-widenings : (raw : RawTech) (s t : ℕ) → IsTrue (is_type raw s) → IsTrue (is_within raw s t) → In (s, t) (widenings raw)
 In-widenings raw s t s_is within =
@@ -101,7 +108,8 @@ monotone_holds raw none s t wide_s wide_t s_within t_within joined =
     let types = connects_types raw s t joined in
     let two : (ℕ × ℕ) × (ℕ × ℕ) = ((s, wide_s), (t, wide_t)) in
     let absent = find-none (breaks_law raw) (pairs_of (widenings raw) (widenings raw)) two (option_map-none _ _ none)
-    (In-pairs_of (s, wide_s) (t, wide_t) (widenings raw) (widenings raw) (In-widenings raw s wide_s types.0 s_within) (In-widenings raw t wide_t types.1 t_within)) in
+    (In-pairs_of (s, wide_s) (t, wide_t) (widenings raw) (widenings raw) (In-widenings raw s wide_s types.0 s_within)
+    (In-widenings raw t wide_t types.1 t_within)) in
     elim (cases_Bool (connects raw wide_s wide_t)) [
       | inl holds ↦ holds
       | inr fails ↦ absurd (true≢false (sym (and_from (connects raw s t) (not (connects raw wide_s wide_t)) joined (ap not fails)) ∙ absent))
@@ -123,16 +131,17 @@ rules_hold raw none =
 -- ---- where the rules are kept
 
 no_same_set : (raw : RawTech) → HaveOwnSets raw → same_set_fault raw ≡ None
-no_same_set raw own = ap (option_map _) (none_found (have_one_set raw) (pairs_of (types_of raw) (types_of raw)) (λ pair is. elim (cases_Bool (have_one_set raw pair)) [
-  | inr fails ↦ fails
-  | inl holds ↦
-      let types = pair_types raw pair is in
-      let front = and_parts (nat_lt pair.0 pair.1 && plane_of raw pair.0 == plane_of raw pair.1) (parts_of raw pair.0 == parts_of raw pair.1) holds in
-      let parts = and_parts (nat_lt pair.0 pair.1) (plane_of raw pair.0 == plane_of raw pair.1) front.0 in
-      let below : pair.0 < pair.1 = ltb-true pair.0 pair.1 parts.0 in
-      let same : pair.0 ≡ pair.1 = own pair.0 pair.1 types.0 types.1 (eqb-true _ _ parts.1) (eqb-true _ _ front.1) in
-      absurd (omega arith)
-]))
+no_same_set raw own = ap (option_map _) (none_found (have_one_set raw) (pairs_of (types_of raw) (types_of raw))
+    (λ pair is. elim (cases_Bool (have_one_set raw pair)) [
+      | inr fails ↦ fails
+      | inl holds ↦
+          let types = pair_types raw pair is in
+          let front = and_parts (nat_lt pair.0 pair.1 && plane_of raw pair.0 == plane_of raw pair.1) (parts_of raw pair.0 == parts_of raw pair.1) holds in
+          let parts = and_parts (nat_lt pair.0 pair.1) (plane_of raw pair.0 == plane_of raw pair.1) front.0 in
+          let below : pair.0 < pair.1 = ltb-true pair.0 pair.1 parts.0 in
+          let same : pair.0 ≡ pair.1 = own pair.0 pair.1 types.0 types.1 (eqb-true _ _ parts.1) (eqb-true _ _ front.1) in
+          absurd (omega arith)
+    ]))
 
 no_terminal : (raw : RawTech) → FetsAreApart raw → fet_terminal_fault raw ≡ None
 no_terminal raw apart = ap (option_map _) (none_found (is_bad_terminal raw) (fet_terminals raw) (λ pair is.
@@ -161,7 +170,8 @@ no_break raw law = ap (option_map _) (none_found (breaks_law raw) (pairs_of (wid
 -- where the rules hold no fault is found
 pub no_rule_broken : (raw : RawTech) → KeepsRules raw → rule_fault raw ≡ None
 no_rule_broken raw rules =
-    ap (λ (fault : Option TechFault). option_or fault (option_or (fet_terminal_fault raw) (option_or (fet_name_fault raw) (monotone_fault raw)))) (no_same_set raw rules.own_sets)
+    ap (λ (fault : Option TechFault). option_or fault (option_or (fet_terminal_fault raw) (option_or (fet_name_fault raw) (monotone_fault raw))))
+    (no_same_set raw rules.own_sets)
     ∙ ap (λ (fault : Option TechFault). option_or fault (option_or (fet_name_fault raw) (monotone_fault raw))) (no_terminal raw rules.fets_apart)
     ∙ ap (λ (fault : Option TechFault). option_or fault (monotone_fault raw)) (no_name raw rules.fets_named)
     ∙ no_break raw rules.monotone

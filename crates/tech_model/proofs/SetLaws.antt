@@ -100,7 +100,8 @@ mark_part n k bit = subset_from (2 ^ k) n (and_comm (2 ^ k) n ∙ and_pow n k �
 -- a mark that is a part of a set is a bit of it
 pub mark_part_bit : (n k : ℕ) → is_subset (2 ^ k) n ≡ true → bit_at n k ≡ 1
 mark_part_bit n k is = elim (bit_cases n k) [
-  | inl clear ↦ absurd (bit_not_empty (2 ^ k) k (bit_at-pow_same k) (sym (subset_is (2 ^ k) n is) ∙ and_comm (2 ^ k) n ∙ and_pow n k ∙ ap (λ (x : ℕ). x * 2 ^ k) clear ∙ omega arith))
+  | inl clear ↦ absurd (bit_not_empty (2 ^ k) k (bit_at-pow_same k)
+      (sym (subset_is (2 ^ k) n is) ∙ and_comm (2 ^ k) n ∙ and_pow n k ∙ ap (λ (x : ℕ). x * 2 ^ k) clear ∙ omega arith))
   | inr set ↦ set
 ]
 
@@ -137,17 +138,20 @@ type_cases raw t w is =
     elim (cases_eq (length (images_of raw (layer_of raw t))) 1) [ inl one ↦ inl one | inr other ↦ inr (omega arith) ]
 
 -- a type whose layer has several images is of a contact
-pub contact_of : (raw : RawTech) (t : ℕ) → IsWellFormed raw → IsTrue (is_type raw t) → 1 < length (images_of raw (layer_of raw t)) → IsContact raw (layer_of raw t)
+pub contact_of : (raw : RawTech) (t : ℕ) → IsWellFormed raw → IsTrue (is_type raw t) → 1 < length (images_of raw (layer_of raw t))
+    → IsContact raw (layer_of raw t)
 contact_of raw t w is many = w.sets.contacts (layer_of raw t) (w.type_layers t is) many
 
 -- an image of a contact has the mark
-pub image_mark : (raw : RawTech) (layer t : ℕ) (contact : IsContact raw layer) → In (record { 0 = t }) (images_of raw layer) → bit_at (parts_of raw t) contact.bit ≡ 1
+pub image_mark : (raw : RawTech) (layer t : ℕ) (contact : IsContact raw layer) → In (record { 0 = t }) (images_of raw layer)
+    → bit_at (parts_of raw t) contact.bit ≡ 1
 image_mark raw layer t contact is =
     let marked = All-In (λ (image : TypeId). IsMarked raw contact.bit image.0) (images_of raw layer) (record { 0 = t }) contact.images is in
     ap (λ (x : ℕ). bit_at x contact.bit) marked.set ∙ or_bit_right (parts_of raw marked.residue) (2 ^ contact.bit) contact.bit (bit_at-pow_same contact.bit)
 
 -- and no other type has it
-pub mark_layer : (raw : RawTech) (layer t : ℕ) (contact : IsContact raw layer) → IsTrue (is_type raw t) → bit_at (parts_of raw t) contact.bit ≡ 1 → layer_of raw t ≡ layer
+pub mark_layer : (raw : RawTech) (layer t : ℕ) (contact : IsContact raw layer) → IsTrue (is_type raw t) → bit_at (parts_of raw t) contact.bit ≡ 1
+    → layer_of raw t ≡ layer
 mark_layer raw layer t contact is bit = elim (cases_eq (layer_of raw t) layer) [
   | inl same ↦ same
   | inr other ↦

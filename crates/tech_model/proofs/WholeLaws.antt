@@ -38,7 +38,8 @@ one_of_one (x ∷ []) a b one (inl a_is) (inr none) = absurd none
 one_of_one (x ∷ []) a b one (inr none) b_in = absurd none
 one_of_one (x ∷ y ∷ xs) a b one a_in b_in = absurd (omega arith)
 
-one_type : (raw : RawTech) (layer s t : ℕ) → IsWellFormed raw → IsTrue (is_type raw s) → IsTrue (is_type raw t) → layer_of raw s ≡ layer → layer_of raw t ≡ layer
+one_type : (raw : RawTech) (layer s t : ℕ) → IsWellFormed raw → IsTrue (is_type raw s) → IsTrue (is_type raw t) → layer_of raw s ≡ layer
+    → layer_of raw t ≡ layer
     → length (images_of raw layer) ≡ 1 → s ≡ t
 one_type raw layer s t w s_is t_is s_layer t_layer one =
     let s_in : In (record { 0 = s }) (images_of raw layer) = subst (λ (l : ℕ). In (record { 0 = s }) (images_of raw l)) s_layer (w.is_image s s_is) in
@@ -65,7 +66,8 @@ left_option raw plane set (Some t) is = inr (joined-found raw plane set t is).0
 -- a type without the mark is space, or has the set without the mark
 pub left_set : (raw : RawTech) (mark plane : ℕ) (old : TypeId) → is_subset mark (parts_of raw old.0) ≡ true
     → ((without_parts raw mark plane old).0 ≡ 0) ⊎ (parts_of raw (without_parts raw mark plane old).0 ≡ without (parts_of raw old.0) mark)
-left_set raw mark plane old part = rw part (left_option raw plane (without (parts_of raw old.0) mark) (joined raw plane (without (parts_of raw old.0) mark)) refl)
+left_set raw mark plane old part = rw part
+    (left_option raw plane (without (parts_of raw old.0) mark) (joined raw plane (without (parts_of raw old.0) mark)) refl)
 
 -- it has the mark no more
 unmarked_clear : (raw : RawTech) (bit plane : ℕ) (old : TypeId) → bit_at (parts_of raw (without_parts raw (2 ^ bit) plane old).0) bit ≡ 0
@@ -81,7 +83,8 @@ unmarked_clear raw bit plane old = elim (cases_Bool (is_subset (2 ^ bit) (parts_
 ]
 
 -- a type without the mark stays
-pub unmarked_keeps : (raw : RawTech) (bit plane t : ℕ) (old : TypeId) → bit_at (parts_of raw t) bit ≢ 1 → old.0 ≡ t → (without_parts raw (2 ^ bit) plane old).0 ≡ t
+pub unmarked_keeps : (raw : RawTech) (bit plane t : ℕ) (old : TypeId) → bit_at (parts_of raw t) bit ≢ 1 → old.0 ≡ t
+    → (without_parts raw (2 ^ bit) plane old).0 ≡ t
 unmarked_keeps raw bit plane t old clear same = elim (cases_Bool (is_subset (2 ^ bit) (parts_of raw old.0))) [
   | inl part ↦ absurd (clear (ap (λ (n : ℕ). bit_at (parts_of raw n) bit) (sym same) ∙ mark_part_bit (parts_of raw old.0) bit part))
   | inr none ↦ rw none same
@@ -97,9 +100,11 @@ unmarked_back raw layer other plane s old contact second apart on marked is = el
       let type = bit_type raw plane old.0 contact.bit on bit in
       elim (left_set raw (2 ^ contact.bit) plane old part) [
         | inl space ↦
-            let empty : ◌≡◌ {A = ℕ} 1 0 = sym marked ∙ ap (λ (n : ℕ). bit_at (parts_of raw n) second.bit) (sym is ∙ space) ∙ bit_at-zero second.bit in absurd (omega arith)
+            let empty : ◌≡◌ {A = ℕ} 1 0 = sym marked ∙ ap (λ (n : ℕ). bit_at (parts_of raw n) second.bit) (sym is ∙ space) ∙ bit_at-zero second.bit in
+            absurd (omega arith)
         | inr left ↦
-            let had = without_bit_source (parts_of raw old.0) (2 ^ contact.bit) second.bit (sym (ap (λ (set : ℕ). bit_at set second.bit) (ap (parts_of raw) (sym is) ∙ left)) ∙ marked) in
+            let had = without_bit_source (parts_of raw old.0) (2 ^ contact.bit) second.bit
+            (sym (ap (λ (set : ℕ). bit_at set second.bit) (ap (parts_of raw) (sym is) ∙ left)) ∙ marked) in
             absurd (apart (sym (mark_layer raw layer old.0 contact type.0 bit) ∙ mark_layer raw other old.0 second type.0 had))
       ]
 ]
@@ -125,10 +130,12 @@ whole_kept raw layer other column w below other_below apart is whole s t s_is t_
             let clear : bit_at (parts_of raw t) contact.bit ≢ 1 = λ bit. apart (sym (mark_layer raw layer t contact t_is bit) ∙ t_layer) in
             let before : type_on column (plane_of raw s) ≡ s =
             changed (λ plane old new. IsOnPlane raw plane old → (new ≡ s → old ≡ s)) (without_parts raw (2 ^ contact.bit)) column
-            (λ plane old on now. unmarked_back raw layer other plane s old contact second apart on marked now) (λ plane on same. same) (plane_of raw s) (is (plane_of raw s))
+            (λ plane old on now. unmarked_back raw layer other plane s old contact second apart on marked now) (λ plane on same. same) (plane_of raw s)
+            (is (plane_of raw s))
             (subst (λ (c : List TypeId). type_on c (plane_of raw s) ≡ s) new stands) in
             let after = changed (λ plane old new. old ≡ t → new ≡ t) (without_parts raw (2 ^ contact.bit)) column
-            (λ plane old same. unmarked_keeps raw contact.bit plane t old clear same) (λ plane same. same) (plane_of raw t) (whole s t s_is t_is s_layer t_layer before) in
+            (λ plane old same. unmarked_keeps raw contact.bit plane t old clear same) (λ plane same. same) (plane_of raw t)
+            (whole s t s_is t_is s_layer t_layer before) in
             subst (λ (c : List TypeId). type_on c (plane_of raw t) ≡ t) (sym new) after
       ]
     ]
@@ -147,7 +154,8 @@ whole_here raw layer column w below is s t s_is t_is s_layer t_layer stands = el
         | inl (same, inl few) ↦ absurd (omega arith)
         | inl (same, inr everywhere) ↦
             let here = type_on column (plane_of raw t) in
-            let part = list_all-In (λ (image : TypeId). is_subset (mark_of raw (images_of raw layer)) (parts_of raw (type_on column (plane_of raw image.0)))) (images_of raw layer) (record { 0 = t }) everywhere t_in in
+            let part = list_all-In (λ (image : TypeId). is_subset (mark_of raw (images_of raw layer)) (parts_of raw (type_on column (plane_of raw image.0))))
+            (images_of raw layer) (record { 0 = t }) everywhere t_in in
             let bit = mark_part_bit (parts_of raw here) contact.bit (subst (λ (m : ℕ). is_subset m (parts_of raw here) ≡ true) mark part) in
             let type = bit_type raw (plane_of raw t) here contact.bit (is (plane_of raw t)) bit in
             subst (λ (c : List TypeId). type_on c (plane_of raw t) ≡ t) (sym same)
@@ -186,7 +194,8 @@ marks_from raw column w is (suc n) below =
     )
 
 -- after each contact was looked at all contacts stand whole
-pub marks_kept-whole : (raw : RawTech) (column : List TypeId) → IsWellFormed raw → IsColumn raw column → IsColumn raw (marks_kept raw column) × HasWholeContacts raw (marks_kept raw column)
+pub marks_kept-whole : (raw : RawTech) (column : List TypeId) → IsWellFormed raw → IsColumn raw column
+    → IsColumn raw (marks_kept raw column) × HasWholeContacts raw (marks_kept raw column)
 unfolding keep
 marks_kept-whole raw column w is =
     let all = marks_from raw column w is (length raw.layers) (omega arith) in
@@ -197,7 +206,8 @@ marks_kept-whole raw column w is =
     )
 
 -- a brush leaves a column in which all contacts stand whole
-pub brushed_column-whole : (raw : RawTech) (brush : Brush) (layer : ℕ) (column : List TypeId) → IsWellFormed raw → layer < length raw.layers → IsColumn raw column
+pub brushed_column-whole : (raw : RawTech) (brush : Brush) (layer : ℕ) (column : List TypeId) → IsWellFormed raw → layer < length raw.layers
+    → IsColumn raw column
     → IsColumn raw (brushed_column raw brush layer column) × HasWholeContacts raw (brushed_column raw brush layer column)
 unfolding brushed_column
 brushed_column-whole raw brush layer column w below is = marks_kept-whole raw _ w (brushed_is_column raw brush layer column w below is)

@@ -58,14 +58,17 @@ within_space raw t is = elim (within_cases raw t 0 is) [
 -- a transistor's type connects to itself, and to no terminal of its own
 pub fet_no_terminal : (raw : RawTech) → IsWellFormed raw → KeepsRules raw → (fet : FetRule) (t : TypeId) → In fet raw.fets → In t fet.terminals → t ≢ fet.kind
 fet_no_terminal raw w rules fet t fet_in t_in same =
-    let apart = All-In (λ (t : TypeId). connects raw fet.kind.0 t.0 ≡ false) fet.terminals t (All-In (λ (fet : FetRule). All (λ (t : TypeId). connects raw fet.kind.0 t.0 ≡ false) fet.terminals) raw.fets fet rules.fets_apart fet_in) t_in in
+    let apart = All-In (λ (t : TypeId). connects raw fet.kind.0 t.0 ≡ false) fet.terminals t
+    (All-In (λ (fet : FetRule). All (λ (t : TypeId). connects raw fet.kind.0 t.0 ≡ false) fet.terminals) raw.fets fet rules.fets_apart fet_in) t_in in
     let is = (All-In (IsFet raw) raw.fets fet w.fets fet_in).kind in
     true≢false (sym (connects_self raw fet.kind.0 is) ∙ ap (λ (k : TypeId). connects raw fet.kind.0 k.0) (sym same) ∙ apart)
 
 -- a layer has one image on a plane
-pub one_image : (raw : RawTech) (s t : ℕ) → IsWellFormed raw → IsTrue (is_type raw s) → IsTrue (is_type raw t) → layer_of raw s ≡ layer_of raw t → plane_of raw s ≡ plane_of raw t → s ≡ t
+pub one_image : (raw : RawTech) (s t : ℕ) → IsWellFormed raw → IsTrue (is_type raw s) → IsTrue (is_type raw t) → layer_of raw s ≡ layer_of raw t
+    → plane_of raw s ≡ plane_of raw t → s ≡ t
 one_image raw s t w s_is t_is layers planes =
     let layer = layer_of raw t in
     let distinct = (layer_well_formed raw layer w (w.type_layers t t_is)).planes in
     let s_in : In (record { 0 = s }) (images_of raw layer) = subst (λ (l : ℕ). In (record { 0 = s }) (images_of raw l)) layers (w.is_image s s_is) in
-    ap (λ (image : TypeId). image.0) (one_from_Distinct (λ (image : TypeId). plane_of raw image.0) (images_of raw layer) (record { 0 = s }) (record { 0 = t }) distinct s_in (w.is_image t t_is) planes)
+    ap (λ (image : TypeId). image.0) (one_from_Distinct (λ (image : TypeId). plane_of raw image.0) (images_of raw layer) (record { 0 = s }) (record { 0 = t })
+    distinct s_in (w.is_image t t_is) planes)

@@ -17,7 +17,8 @@ passed number (Err fault) next last e = absurd (let no : ⊥ = cc in no)
 
 -- lines without fault, and more lines behind them
 pub first_fault_or-append : {S F : Type 0} (step : ℕ → S → List ℕ → Result S F) (number : ℕ) (start : S) (before after : List (List ℕ)) (state : S)
-    → first_fault_or step number start before ≡ Ok state → first_fault_or step number start (before ++ after) ≡ first_fault_or step (number + length before) state after
+    → first_fault_or step number start before ≡ Ok state
+    → first_fault_or step number start (before ++ after) ≡ first_fault_or step (number + length before) state after
 first_fault_or-append step number start [] after state e =
     let same : start ≡ state = cc in
     let nil : List (List ℕ) = [] in
@@ -82,9 +83,11 @@ first_is step number start line lines fault at faulty is =
 
 first_at : {S F : Type 0} (step : ℕ → S → List ℕ → Result S F) (number : ℕ) (start : S) (line : List ℕ) (lines : List (List ℕ)) (at : At F) (found : Result S F)
     → ((next : S) → first_fault_or step (number + 1) next lines ≡ Err at → IsFirstFault step (number + 1) next lines at)
-    → step number start line ≡ found → unless_faulty number found (λ next. first_fault_or step (number + 1) next lines) ≡ Err at → IsFirstFault step number start (line ∷ lines) at
+    → step number start line ≡ found → unless_faulty number found (λ next. first_fault_or step (number + 1) next lines) ≡ Err at
+    → IsFirstFault step number start (line ∷ lines) at
 first_at step number start line lines at (Ok next) rest is e = behind step number start line lines next at is (rest next e)
-first_at step number start line lines at (Err fault) rest is e = first_is step number start line lines fault at is (let same : fault_at number fault ≡ at = cc in same)
+first_at step number start line lines at (Err fault) rest is e =
+    first_is step number start line lines fault at is (let same : fault_at number fault ≡ at = cc in same)
 
 -- a text is refused at its first faulty line alone
 pub first_fault_or-first : {S F : Type 0} (step : ℕ → S → List ℕ → Result S F) (number : ℕ) (start : S) (lines : List (List ℕ)) (at : At F)

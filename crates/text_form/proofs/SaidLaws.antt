@@ -32,7 +32,8 @@ read_said says add number start (line ∷ lines) (x ∷ said) are =
     ap (λ found. unless_faulty number found (λ next. first_fault_or (saying says add) (number + 1) next lines)) is
     ∙ read_said says add (number + 1) (add start x) lines said are.1
 
-told : {S X F : Type 0} (add : S → X → S) (start : S) (found : Result X F) (next : S) → and_then found (λ x. Ok (add start x)) ≡ Ok next → (x : X) × (found ≡ Ok x) × (add start x ≡ next)
+told : {S X F : Type 0} (add : S → X → S) (start : S) (found : Result X F) (next : S) → and_then found (λ x. Ok (add start x)) ≡ Ok next
+    → (x : X) × (found ≡ Ok x) × (add start x ≡ next)
 told add start (Ok x) next e = (x, refl, (let is : add start x ≡ next = cc in is))
 told add start (Err fault) next e = absurd (let no : ⊥ = cc in no)
 

@@ -56,7 +56,8 @@ natural_text-step n big =
 -- the text is the one that std prints
 natural_text-std : (n : ℕ) → n < 10 ^ 64 → natural_text n ≡ unsigned_decimal n
 natural_text-std n small =
-    decimal_by_steps_wide (λ m text. natural_text m ≡ text) natural_text-digit (λ m text big front. natural_text-step m big ∙ ap (λ f. f ++ (48 + m % 10) ∷ []) front) n small
+    decimal_by_steps_wide (λ m text. natural_text m ≡ text) natural_text-digit
+    (λ m text big front. natural_text-step m big ∙ ap (λ f. f ++ (48 + m % 10) ∷ []) front) n small
 
 pub decimal-std : (z : ℤ) → mag z < 2 ^ 127 → decimal z ≡ signed_decimal z
 unfolding decimal
@@ -84,7 +85,8 @@ digits_value-glyphs n (digit ∷ digits) small =
 pub all_ascii_digits-natural_text : (n : ℕ) → all_ascii_digits (natural_text n) ≡ true
 all_ascii_digits-natural_text zero = ap all_ascii_digits natural_text-zero
 all_ascii_digits-natural_text (suc n) =
-    ap all_ascii_digits (natural_text-some (suc n) (omega arith)) ∙ all_ascii_digits-glyphs (digits_of 10 (suc n)) (all_below_base_digits_of 10 (suc n) (omega arith))
+    ap all_ascii_digits (natural_text-some (suc n) (omega arith))
+    ∙ all_ascii_digits-glyphs (digits_of 10 (suc n)) (all_below_base_digits_of 10 (suc n) (omega arith))
 
 digits_value-natural_text : (n : ℕ) → digits_value 10 (natural_text n) ≡ n
 digits_value-natural_text zero = ap (digits_value 10) natural_text-zero
@@ -96,7 +98,13 @@ pub length-natural_text : (n : ℕ) → 0 < length (natural_text n)
 length-natural_text zero = omega (arith, ap length natural_text-zero)
 length-natural_text (suc n) =
     let digits = digits_of_step 10 (suc n) (omega arith) (omega arith) in
-    omega (arith, ap length (natural_text-some (suc n) (omega arith)), length-map (digits_of 10 (suc n)) (λ digit. 48 + digit), ap length digits, length-append (digits_of 10 (suc n / 10)) (suc n % 10 ∷ []))
+    omega (
+      arith,
+      ap length (natural_text-some (suc n) (omega arith)),
+      length-map (digits_of 10 (suc n)) (λ digit. 48 + digit),
+      ap length digits,
+      length-append (digits_of 10 (suc n / 10)) (suc n % 10 ∷ []),
+    )
 
 natural_of-natural_text : (n : ℕ) → natural_of (natural_text n) ≡ Ok n
 natural_of-natural_text n =

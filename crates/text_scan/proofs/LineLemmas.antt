@@ -26,7 +26,8 @@ unfolding lines_of
 lines_of-nil = refl
 
 -- the first line of a text, and the lines of what follows its line feed
-pub lines_of-first : (text : List ℕ) → 0 < length text → lines_of text ≡ strip_carriage_return (before_first is_line_feed text) ∷ lines_of (after_first is_line_feed text)
+pub lines_of-first : (text : List ℕ) → 0 < length text
+    → lines_of text ≡ strip_carriage_return (before_first is_line_feed text) ∷ lines_of (after_first is_line_feed text)
 unfolding lines_of
 lines_of-first text some =
     elim (cases_lt (position_or_len is_line_feed text) (length text)) [
@@ -44,13 +45,15 @@ lines_of-first text some =
     ]
 
 -- a line feed after bytes that are none ends the first line
-pub lines_of-at : (front rest : List ℕ) → All (λ byte. is_line_feed byte ≡ false) front → lines_of (front ++ 10 ∷ rest) ≡ strip_carriage_return front ∷ lines_of rest
+pub lines_of-at : (front rest : List ℕ) → All (λ byte. is_line_feed byte ≡ false) front
+    → lines_of (front ++ 10 ∷ rest) ≡ strip_carriage_return front ∷ lines_of rest
 unfolding lines_of
 lines_of-at front rest none =
     ap (λ parts. map strip_carriage_return (without_empty_last parts)) (slice_split_at is_line_feed front 10 rest none refl)
     ∙ ap (map strip_carriage_return) (without_empty_last-cons front _ (some_part rest))
 
-length-without_empty_last-onto_first : (byte : ℕ) (parts : List (List ℕ)) → length (without_empty_last (onto_first byte parts)) ≤ length (without_empty_last parts) + 1
+length-without_empty_last-onto_first : (byte : ℕ) (parts : List (List ℕ))
+    → length (without_empty_last (onto_first byte parts)) ≤ length (without_empty_last parts) + 1
 length-without_empty_last-onto_first byte [] = omega arith
 length-without_empty_last-onto_first byte (part ∷ []) = omega (arith, ap length (without_empty_last-one (byte ∷ part) (omega arith)))
 length-without_empty_last-onto_first byte (part ∷ next ∷ parts) = omega arith
@@ -60,9 +63,20 @@ length-parts [] = omega arith
 length-parts (byte ∷ text) =
     elim (cases_Bool (is_line_feed byte)) [
       | inl ends ↦
-          omega (arith, length-parts text, ap (λ parts. length (without_empty_last parts)) (slice_split-cons_yes is_line_feed byte text ends), ap length (without_empty_last-cons [] _ (some_part text)))
+          omega (
+            arith,
+            length-parts text,
+            ap (λ parts. length (without_empty_last parts)) (slice_split-cons_yes is_line_feed byte text ends),
+            ap length
+                (without_empty_last-cons [] _ (some_part text)),
+          )
       | inr goes_on ↦
-          omega (arith, length-parts text, ap (λ parts. length (without_empty_last parts)) (slice_split-cons_no is_line_feed byte text goes_on), length-without_empty_last-onto_first byte (slice_split is_line_feed text))
+          omega (
+            arith,
+            length-parts text,
+            ap (λ parts. length (without_empty_last parts)) (slice_split-cons_no is_line_feed byte text goes_on),
+            length-without_empty_last-onto_first byte (slice_split is_line_feed text),
+          )
     ]
 
 -- a text has no more lines than bytes

@@ -18,11 +18,18 @@ use Rattle.text_scan.specs.Numbers.{natural_of, without_minus, with_sign, signed
 pub digit_is : (byte : ℕ) → is_ascii_digit byte ≡ true → (48 ≤ byte) × (byte < 58) × (digit_value byte ≡ byte - 48)
 digit_is byte digit = grind (arith, nat_tests)
 
-pub all_ascii_digits_more : (digits : List ℕ) (i : ℕ) → i < length digits → all_ascii_digits (take i digits) ≡ true → is_ascii_digit (get_or digits i 0) ≡ true → all_ascii_digits (take (i + 1) digits) ≡ true
+pub all_ascii_digits_more : (digits : List ℕ) (i : ℕ) → i < length digits → all_ascii_digits (take i digits) ≡ true
+    → is_ascii_digit (get_or digits i 0) ≡ true → all_ascii_digits (take (i + 1) digits) ≡ true
 all_ascii_digits_more digits i inside before digit =
-    let tells = λ (bytes : List ℕ). Decides-by_and is_ascii_digit (λ b. is_ascii_digit b ≡ true) all_ascii_digits (λ b. (λ e. e, λ e. e)) refl (λ _ _. refl) bytes in
+    let tells = λ (bytes : List ℕ). Decides-by_and is_ascii_digit (λ b. is_ascii_digit b ≡ true) all_ascii_digits (λ b. (λ e. e, λ e. e)) refl (λ _ _. refl)
+    bytes in
     let so_far = (tells (take i digits)).0 before in
-    (tells (take (i + 1) digits)).1 (λ k d h. elim (cases_lt k i) [ inl below ↦ let x = so_far k d (grind (arith, common_steps)) in grind (arith, common_steps) | inr here ↦ grind (arith, common_steps) ])
+    (tells (take (i + 1) digits)).1 (λ k d h.
+    elim (cases_lt k i) [
+      | inl below ↦ let x = so_far k d (grind (arith, common_steps)) in grind (arith, common_steps)
+      | inr here ↦
+          grind (arith, common_steps)
+    ])
 
 pub all_ascii_digits_fails : (digits : List ℕ) (i : ℕ) → i < length digits → is_ascii_digit (get_or digits i 0) ≡ false → all_ascii_digits digits ≡ false
 all_ascii_digits_fails digits i inside fault =
@@ -30,7 +37,8 @@ all_ascii_digits_fails digits i inside fault =
     false_from_ne_true (all_ascii_digits digits) (λ all. true≢false (sym (tells.0 all i 0 inside) ∙ fault))
 
 -- one more digit, where the number is held at a top
-pub capped_more : (digits : List ℕ) (i value top : ℕ) → i < length digits → is_ascii_digit (get_or digits i 0) ≡ true → value ≡ min (digits_value 10 (take i digits)) top →
+pub capped_more : (digits : List ℕ) (i value top : ℕ) → i < length digits → is_ascii_digit (get_or digits i 0) ≡ true
+    → value ≡ min (digits_value 10 (take i digits)) top →
     min (min (value * 10) top + (get_or digits i 0 - 48)) top ≡ min (digits_value 10 (take (i + 1) digits)) top
 capped_more digits i value top inside digit so_far =
     let byte = get_or digits i 0 in
@@ -99,7 +107,8 @@ within-capped negative n =
 abbrev pub capped : Result ℕ NumFault → Result ℕ NumFault
 capped r = result_map_both (λ n. min n (2 ^ 128 - 1)) (λ fault. fault) r
 
-in_range-capped_ok : (negative : Bool) (r : Result ℕ NumFault) (n : ℕ) → capped r ≡ Ok n → in_range (2 ^ 127) (signed negative r) ≡ within (2 ^ 127) (with_sign negative n)
+in_range-capped_ok : (negative : Bool) (r : Result ℕ NumFault) (n : ℕ) → capped r ≡ Ok n
+    → in_range (2 ^ 127) (signed negative r) ≡ within (2 ^ 127) (with_sign negative n)
 in_range-capped_ok negative (Ok m) n e =
     let same : min m (2 ^ 128 - 1) ≡ n = cc in
     sym (within-capped negative m) ∙ ap (λ k. within (2 ^ 127) (with_sign negative k)) same
@@ -109,7 +118,8 @@ in_range-capped_err : (negative : Bool) (r : Result ℕ NumFault) (fault : NumFa
 in_range-capped_err negative (Ok m) fault e = absurd (cc)
 in_range-capped_err negative (Err other) fault e = cc
 
-pub wide_of-ok : (word : List ℕ) (n : ℕ) → capped (natural_of (without_minus word)) ≡ Ok n → wide_of word ≡ within (2 ^ 127) (with_sign (starts_with_minus word) n)
+pub wide_of-ok : (word : List ℕ) (n : ℕ) → capped (natural_of (without_minus word)) ≡ Ok n
+    → wide_of word ≡ within (2 ^ 127) (with_sign (starts_with_minus word) n)
 unfolding wide_of
 wide_of-ok word n e = in_range-capped_ok (starts_with_minus word) (natural_of (without_minus word)) n e
 

@@ -25,7 +25,8 @@ unfolding words_of
 words_of-blank byte line blank = ap (filter is_word) (slice_split-cons_yes is_blank byte line blank)
 
 -- a word at the start of a line, and a blank behind it
-pub words_of-at : (word : List ℕ) (byte : ℕ) (rest : List ℕ) → 0 < length word → All (λ b. is_blank b ≡ false) word → is_blank byte ≡ true → words_of (word ++ byte ∷ rest) ≡ word ∷ words_of rest
+pub words_of-at : (word : List ℕ) (byte : ℕ) (rest : List ℕ) → 0 < length word → All (λ b. is_blank b ≡ false) word → is_blank byte ≡ true
+    → words_of (word ++ byte ∷ rest) ≡ word ∷ words_of rest
 unfolding words_of
 words_of-at word byte rest some none blank =
     ap (filter is_word) (slice_split_at is_blank word byte rest none blank) ∙ filter-word word (slice_split is_blank rest) some
@@ -42,7 +43,8 @@ none_before_first line = λ k d inside.
     grind (arith, common_steps)
 
 -- a line that starts with a word
-pub words_of-first : (line : List ℕ) → 0 < position_or_len is_blank line → words_of line ≡ before_first is_blank line ∷ words_of (drop (position_or_len is_blank line) line)
+pub words_of-first : (line : List ℕ) → 0 < position_or_len is_blank line
+    → words_of line ≡ before_first is_blank line ∷ words_of (drop (position_or_len is_blank line) line)
 words_of-first line some =
     let end = position_or_len is_blank line in
     let word = before_first is_blank line in
@@ -58,7 +60,8 @@ words_of-first line some =
       | inr past ↦
           let whole = take_all end line past in
           let none = drop_of_length-le line {i = end} past in
-          (words_of-one line (grind (arith, common_steps, prefix_len-le-length {X = ℕ})) (subst (All (λ b. is_blank b ≡ false)) whole (none_before_first line)) ∙ ap (λ more. line ∷ more) (sym words_of-nil))
+          (words_of-one line (grind (arith, common_steps, prefix_len-le-length {X = ℕ}))
+          (subst (All (λ b. is_blank b ≡ false)) whole (none_before_first line)) ∙ ap (λ more. line ∷ more) (sym words_of-nil))
           ∙ (ap (λ w. w ∷ words_of []) (sym whole) ∙ ap (λ more. word ∷ words_of more) (sym none))
     ]
 
@@ -90,11 +93,13 @@ first_in_word line some =
     let start = position_or_len is_in_word line in
     let inside : start < length line = omega (arith, length-drop start line) in
     let begins = not-true (is_blank (get_or line start 0)) (passes_at_first is_in_word line 0 inside) in
-    let starts = ap (position_or_len is_blank) (drop_more line start 0 inside) ∙ ap (λ test. cond (not test) (1 + position_or_len is_blank (drop (start + 1) line)) 0) begins in
+    let starts = ap (position_or_len is_blank) (drop_more line start 0 inside)
+    ∙ ap (λ test. cond (not test) (1 + position_or_len is_blank (drop (start + 1) line)) 0) begins in
     omega arith
 
 -- the first word of a line, and the words behind it
-pub words_of-split : (line : List ℕ) → 0 < length (from_first_word line) → let from = from_first_word line in words_of line ≡ before_first is_blank from ∷ words_of (drop (position_or_len is_blank from) from)
+pub words_of-split : (line : List ℕ) → 0 < length (from_first_word line)
+    → let from = from_first_word line in words_of line ≡ before_first is_blank from ∷ words_of (drop (position_or_len is_blank from) from)
 words_of-split line some =
     words_of-from_first_word line ∙ words_of-first (from_first_word line) (first_in_word line some)
 
@@ -114,5 +119,10 @@ length-words_of [] = omega arith
 length-words_of (byte ∷ line) =
     elim (cases_Bool (is_blank byte)) [
       | inl blank ↦ omega (arith, length-words_of line, ap (λ pieces. length (filter is_word pieces)) (slice_split-cons_yes is_blank byte line blank))
-      | inr stands ↦ omega (arith, length-words_of line, ap (λ pieces. length (filter is_word pieces)) (slice_split-cons_no is_blank byte line stands), length-filter-onto_first byte (slice_split is_blank line))
+      | inr stands ↦ omega (
+        arith,
+        length-words_of line,
+        ap (λ pieces. length (filter is_word pieces)) (slice_split-cons_no is_blank byte line stands),
+        length-filter-onto_first byte (slice_split is_blank line),
+      )
     ]

@@ -32,7 +32,8 @@ words_of-line_of (word ∷ next ∷ words) all =
 pub lines_of-text_of : (lines : List (List ℕ)) → AllByRecursion IsLine lines → lines_of (text_of lines) ≡ lines
 lines_of-text_of [] all = lines_of-nil
 lines_of-text_of (line ∷ lines) all =
-    lines_of-at line (text_of lines) all.0.whole ∙ (ap (λ first. first ∷ lines_of (text_of lines)) all.0.kept ∙ ap (λ rest. line ∷ rest) (lines_of-text_of lines all.1))
+    lines_of-at line (text_of lines) all.0.whole
+    ∙ (ap (λ first. first ∷ lines_of (text_of lines)) all.0.kept ∙ ap (λ rest. line ∷ rest) (lines_of-text_of lines all.1))
 
 -- the texts of some lines and of more lines, one behind the other
 pub text_of-append : (lines more : List (List ℕ)) → text_of (lines ++ more) ≡ text_of lines ++ text_of more
@@ -54,7 +55,8 @@ plain_line : (words : List (List ℕ)) → AllByRecursion IsWord words → All I
 plain_line [] all = λ k d inside. absurd (omega arith)
 plain_line (word ∷ []) all = plain_word word all.0
 plain_line (word ∷ next ∷ words) all =
-    All-append IsPlain word (32 ∷ line_of (next ∷ words)) (plain_word word all.0) (All-cons IsPlain 32 (line_of (next ∷ words)) (refl, refl) (plain_line (next ∷ words) all.1))
+    All-append IsPlain word (32 ∷ line_of (next ∷ words)) (plain_word word all.0)
+    (All-cons IsPlain 32 (line_of (next ∷ words)) (refl, refl) (plain_line (next ∷ words) all.1))
 
 -- bytes that end no line are a line
 pub IsLine-plain : (line : List ℕ) → All IsPlain line → IsLine line
@@ -85,14 +87,16 @@ unfolding decimal
 IsWord-decimal (pos n) = record { some = length-natural_text n; plain = plain_digits (natural_text n) (all_ascii_digits-natural_text n) }
 IsWord-decimal (negsuc n) = record {
   some = omega arith;
-  plain = All-cons (λ byte. is_separator byte ≡ false) 45 (natural_text (suc n)) refl (plain_digits (natural_text (suc n)) (all_ascii_digits-natural_text (suc n)));
+  plain = All-cons (λ byte. is_separator byte ≡ false) 45 (natural_text (suc n)) refl
+      (plain_digits (natural_text (suc n)) (all_ascii_digits-natural_text (suc n)));
 }
 
 -- a word that is written out passes the test by `refl`
 pub IsWord-test : (word : List ℕ) → (not (eqb (length word) 0) && list_all (λ byte. not (is_separator byte)) word) ≡ true → IsWord word
 IsWord-test word passes =
     let parts = and_parts (not (eqb (length word) 0)) (list_all (λ byte. not (is_separator byte)) word) passes in
-    let tells = Decides-by_and (λ b. not (is_separator b)) (λ b. is_separator b ≡ false) (list_all (λ byte. not (is_separator byte))) (λ b. (λ e. not-true (is_separator b) e, λ e. ap not e)) refl (λ _ _. refl) word in
+    let tells = Decides-by_and (λ b. not (is_separator b)) (λ b. is_separator b ≡ false) (list_all (λ byte. not (is_separator byte)))
+    (λ b. (λ e. not-true (is_separator b) e, λ e. ap not e)) refl (λ _ _. refl) word in
     record { some = grind (arith, nat_tests, parts.0); plain = tells.0 parts.1 }
 
 -- the words of two lists, one behind the other

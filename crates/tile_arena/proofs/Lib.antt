@@ -1,8 +1,8 @@
-pub mod ListLaws
+mod ListLaws
 pub mod LiveLaws
-pub mod SlotLaws
-pub mod PlaceShares
-pub mod PlaceSteps
-pub mod RoomSizes
-pub mod BegunLaws
-pub mod BlockLaws
+mod SlotLaws
+mod PlaceShares
+mod PlaceSteps
+mod RoomSizes
+mod BegunLaws
+mod BlockLaws

@@ -1,12 +1,12 @@
-pub mod ListPlaces
-pub mod NewNames
-pub mod StandingCells
-pub mod TileCorners
-pub mod NodesFound
-pub mod OpenedLaws
-pub mod ChildCells
-pub mod Climbs
-pub mod GroupPaths
-pub mod KnownLaws
-pub mod FoundTiles
-pub mod FinderLaws
+mod ListPlaces
+mod NewNames
+mod StandingCells
+mod TileCorners
+mod NodesFound
+mod OpenedLaws
+mod ChildCells
+mod Climbs
+mod GroupPaths
+mod KnownLaws
+mod FoundTiles
+mod FinderLaws

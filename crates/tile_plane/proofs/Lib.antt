@@ -1,32 +1,32 @@
-pub mod TileLaws
-pub mod WalkLaws
-pub mod SideLaws
-pub mod MendLaws
-pub mod MendedLaws
-pub mod BesideLaws
-pub mod HandLaws
-pub mod ValueLaws
-pub mod KeepLaws
-pub mod RowCuts
-pub mod QueueLaws
-pub mod FollowerLaws
-pub mod MaterialLaws
-pub mod PartLaws
-pub mod WholeLaws
-pub mod FirstLaws
+mod TileLaws
+mod WalkLaws
+mod SideLaws
+mod MendLaws
+mod MendedLaws
+mod BesideLaws
+mod HandLaws
+mod ValueLaws
+mod KeepLaws
+mod RowCuts
+mod QueueLaws
+mod FollowerLaws
+mod MaterialLaws
+mod PartLaws
+mod WholeLaws
+mod FirstLaws
 pub mod ContentsLaws
-pub mod SetLaws
-pub mod SheetLaws
-pub mod StripLaws
-pub mod LaidLaws
-pub mod KeptLaws
-pub mod BandLaws
-pub mod AgainLaws
-pub mod FillLaws
-pub mod PieceLaws
-pub mod TopLaws
-pub mod Transposed
-pub mod ColumnCuts
-pub mod GivenLaws
-pub mod SplitLaws
-pub mod JoinLaws
+mod SetLaws
+mod SheetLaws
+mod StripLaws
+mod LaidLaws
+mod KeptLaws
+mod BandLaws
+mod AgainLaws
+mod FillLaws
+mod PieceLaws
+mod TopLaws
+mod Transposed
+mod ColumnCuts
+mod GivenLaws
+mod SplitLaws
+mod JoinLaws

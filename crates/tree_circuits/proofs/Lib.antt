@@ -1,6 +1,6 @@
-pub mod TreeCircuits
-pub mod WalkFaults
-pub mod MergePaths
-pub mod RecordCounts
-pub mod MergeCounts
-pub mod NoOtherFaults
+mod TreeCircuits
+mod WalkFaults
+mod MergePaths
+mod RecordCounts
+mod MergeCounts
+mod NoOtherFaults

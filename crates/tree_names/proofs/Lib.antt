@@ -17,15 +17,15 @@ pub mod CleanTrees
 pub mod GroupNames
 pub mod Representatives
 pub mod RecordedNodes
-pub mod GroupMerges
+mod GroupMerges
 pub mod ToGroups
 pub mod JoinedPaths
-pub mod Standings
+mod Standings
 pub mod ElementLinks
-pub mod OnePath
-pub mod GlobalPaths
+mod OnePath
+mod GlobalPaths
 pub mod NodeNames
 pub mod FlatNames
 pub mod CircuitNodes
-pub mod FullOrders
+mod FullOrders
 pub mod NodePoints

@@ -145,7 +145,8 @@ module _ (raw : RawTech) (formed : IsWellFormed raw) (exts : List CellExt) (tree
             let to = AreOneForOne-there (IsElementFor raw exts) (named_standings tree) elements are earlier other there in
             let fails = fails_before_first test elements earlier to.0 before in
             let here = get_or_from_slice_get elements earlier to.0 to.0 to.1 in
-            absent-from_list_any bytes_eq bytes_eq-Decides node.name (full_names to.0) (ap test (sym here) ∙ fails) (has_full_name other to.0 to.2 node.name least' has);
+            absent-from_list_any bytes_eq bytes_eq-Decides node.name (full_names to.0) (ap test (sym here) ∙ fails)
+            (has_full_name other to.0 to.2 node.name least' has);
         point = place.point ∙ ap (placed element.uses) corner ∙ from.2.moves least.square;
         kind = place.kind ∙ is.kind;
       }

@@ -94,7 +94,8 @@ module _ (raw : RawTech) (quantity : RecordedQuantity) (quantities : IsRecordedQ
             let classes = (rules_of raw).classes in
             let w : MergeRec → ℤ = λ merge. cond (passes merge.first) (quantity.of_merge merge) (pos 0) in
             sum_on-append w (group_merges classes group) (flat_map (group_merges classes) groups)
-            ∙ ap (λ z. z +ℤ sum_on w (flat_map (group_merges classes) groups)) (merges_of_group raw quantity quantities passes tree group (sound group (inl refl)))
+            ∙ ap (λ z. z +ℤ sum_on w (flat_map (group_merges classes) groups))
+            (merges_of_group raw quantity quantities passes tree group (sound group (inl refl)))
             ∙ ap (λ z. cond (passes (group_name group)) (amount_of quantity group.adjustment) (pos 0) +ℤ z) (rest.adds passes)
             ∙ ap (λ (name : List ℕ). cond (passes name) (amount_of quantity group.adjustment) (pos 0) +ℤ adds_passing passes rest.list) (sym first.name)
             ∙ ap (λ z. cond (passes first.shared.name) z (pos 0) +ℤ adds_passing passes rest.list) (sym first.adds);

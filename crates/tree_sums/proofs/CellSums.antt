@@ -41,7 +41,8 @@ wholes_names : (groups : List Shared) → names_in (wholes_of groups) ≡ shared
 wholes_names [] = refl
 wholes_names (shared ∷ groups) = ap (λ (names : List (List ℕ)). shared.name ∷ names) (wholes_names groups)
 
-module _ (raw : RawTech) (well : IsWellFormed raw) (rules : KeepsRules raw) (quantity : RecordedQuantity) (quantities : IsRecordedQuantity raw quantity) (exts : List CellExt)
+module _ (raw : RawTech) (well : IsWellFormed raw) (rules : KeepsRules raw) (quantity : RecordedQuantity) (quantities : IsRecordedQuantity raw quantity)
+    (exts : List CellExt)
     (own : OwnBody) (elements : NamedElements) (is : IsCleanTree raw (named_tree own elements))
     (has : HasTreeRecord raw exts (named_tree own elements)) (below : ClosedBelow raw quantity exts elements) where
   abbrev tree : NamedTree
@@ -89,7 +90,8 @@ module _ (raw : RawTech) (well : IsWellFormed raw) (rules : KeepsRules raw) (qua
   known : (place : Place) (member : List ℕ) → IsMemberAt raw tree place member → In member (names_in members)
   known place member (inl node) =
       subst (In member) (sym (map-append name_of nodes below.members))
-      (In-append_left member (names_in nodes) (names_in below.members) (own_known raw own quantity has.ext.nodes well is.typed.0 has.is.nodes place member node))
+      (In-append_left member (names_in nodes) (names_in below.members)
+      (own_known raw own quantity has.ext.nodes well is.typed.0 has.is.nodes place member node))
   known place member (inr group) =
       subst (In member) (sym (map-append name_of nodes below.members))
       (In-append_right member (names_in nodes) (names_in below.members) (below.known place member group))

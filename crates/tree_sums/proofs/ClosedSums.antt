@@ -22,7 +22,8 @@ use Rattle.tree_sums.proofs.CellSums.{cell_closes}
 use Rattle.tree_sums.proofs.RecordedQuantities.{IsRecordedQuantity, cap_is_recorded, area_is_recorded, perimeter_is_recorded}
 use Rattle.tree_sums.proofs.NamedSums.{sum_passing-same}
 
-module _ (raw : RawTech) (well : IsWellFormed raw) (rules : KeepsRules raw) (quantity : RecordedQuantity) (quantities : IsRecordedQuantity raw quantity) (exts : List CellExt) where
+module _ (raw : RawTech) (well : IsWellFormed raw) (rules : KeepsRules raw) (quantity : RecordedQuantity) (quantities : IsRecordedQuantity raw quantity)
+    (exts : List CellExt) where
   mutual
     -- the sums of a cell close
     tree_closes : (tree : NamedTree) → IsCleanTree raw tree → HasTreeRecords raw exts tree → Closed raw quantity exts tree
@@ -46,7 +47,8 @@ module _ (raw : RawTech) (well : IsWellFormed raw) (rules : KeepsRules raw) (qua
       record { groups = closed.groups; are = closed.are; closes = closed.closes }
 
 -- what holds of each quantity of records holds of capacitances, areas and perimeters
-pub of_each : (raw : RawTech) (Fact : RecordedQuantity → Type 0) → ((quantity : RecordedQuantity) → IsRecordedQuantity raw quantity → Fact quantity) → HoldsOfEach raw Fact
+pub of_each : (raw : RawTech) (Fact : RecordedQuantity → Type 0) → ((quantity : RecordedQuantity) → IsRecordedQuantity raw quantity → Fact quantity)
+    → HoldsOfEach raw Fact
 of_each raw Fact each = record {
   cap = each (recorded_cap raw) (cap_is_recorded raw);
   areas = λ position class there. each (recorded_area position class) (area_is_recorded raw position class there);

@@ -127,7 +127,8 @@ module _ (raw : RawTech) (well : IsWellFormed raw) (rules : KeepsRules raw) (ext
       passing_is_flat other of =
           let found = group_has_path raw tree other of.group.0 of.named in
           let joined = one_flat_node raw well rules tree is.typed is.clean other found.other found.together in
-          Chain-append (of_names found.other of.group.0 found.has (In-from_list_any bytes_eq bytes_eq-Decides (full_name [] of.group.0) (names_of node) of.passing))
+          Chain-append (of_names found.other of.group.0 found.has
+          (In-from_list_any bytes_eq bytes_eq-Decides (full_name [] of.group.0) (names_of node) of.passing))
           (flat_node_back raw tree joined)
 
       -- and the group of a place of the flat node passes

@@ -68,7 +68,8 @@ pub first_is_name : (raw : RawTech) (tree : NamedTree) (group : MemberGroup) (is
 first_is_name raw tree group is = ap (λ (members : List (List ℕ)). group_name (record { members = members; adjustment = group.adjustment })) is.members_are
 
 -- each group has them
-pub shares_of : (raw : RawTech) (quantity : RecordedQuantity) → IsRecordedQuantity raw quantity → (tree : NamedTree) (group : MemberGroup) → IsMemberGroup raw tree group
+pub shares_of : (raw : RawTech) (quantity : RecordedQuantity) → IsRecordedQuantity raw quantity → (tree : NamedTree) (group : MemberGroup)
+    → IsMemberGroup raw tree group
     → SharesOf raw quantity tree group
 shares_of raw quantity quantities tree group is =
     let adjusts = quantities.adjusts tree group is in
@@ -129,7 +130,8 @@ module _ (raw : RawTech) (quantity : RecordedQuantity) (quantities : IsRecordedQ
 
   -- the merges that tell of a group have what it adds
   pub merges_of_group : (tree : NamedTree) (group : MemberGroup) → IsMemberGroup raw tree group
-      → merges_passing quantity passes (group_merges (rules_of raw).classes group) ≡ cond (passes (group_name group)) (amount_of quantity group.adjustment) (pos 0)
+      → merges_passing quantity passes (group_merges (rules_of raw).classes group)
+      ≡ cond (passes (group_name group)) (amount_of quantity group.adjustment) (pos 0)
   merges_of_group tree group is =
       let P : List (List ℕ) → Type 0 = λ members.
       merges_passing quantity passes (group_merges (rules_of raw).classes (record { members = members; adjustment = group.adjustment }))

@@ -39,7 +39,8 @@ same_answer : (names : List (List ℕ)) (one other : List ℕ) → (In one names
 same_answer names one other there back = elim (cases_Bool (is_among names one)) [
   | inl passed ↦ passed ∙ sym (list_any-of_In bytes_eq bytes_eq-Decides other names (there (In-from_list_any bytes_eq bytes_eq-Decides one names passed)))
   | inr failed ↦ elim (cases_Bool (is_among names other)) [
-    | inl other_passed ↦ absurd (absent-from_list_any bytes_eq bytes_eq-Decides one names failed (back (In-from_list_any bytes_eq bytes_eq-Decides other names other_passed)))
+    | inl other_passed ↦ absurd (absent-from_list_any bytes_eq bytes_eq-Decides one names failed
+        (back (In-from_list_any bytes_eq bytes_eq-Decides other names other_passed)))
     | inr also ↦ failed ∙ sym also
   ]
 ]
@@ -68,22 +69,23 @@ module _ (raw : RawTech) (well : IsWellFormed raw) (rules : KeepsRules raw) (ext
     )
 
   module _ (tree : NamedTree) (is : IsCleanTree raw tree) (has : HasTreeRecords raw exts tree) (elements : List Element)
-      (are : AreOneForOne (IsElementFor raw exts) (named_standings tree) elements) (classes : ℕ) (node : NodeRec) (flat : IsFlatNode elements classes node) where
-    -- the names of a flat node say the same of joined paths
-    names_keep : (first second : List ℕ) → ArePathsJoined exts tree first second → is_named node first ≡ is_named node second
-    names_keep first second joined =
-        let link = joined_link raw exts tree elements are first second joined in
-        let share = joined_share raw well rules exts tree is has first second joined in
-        same_answer (names_of node) (full_name [] first) (full_name [] second)
-        (λ here. (flat.names (full_name [] second)).1 (
-          path_full raw well rules tree is exts has elements are share.other second share.other_has,
-          Chain-push ((flat.names (full_name [] first)).0 here).1 (inl link),
-        ))
-        (λ here. (flat.names (full_name [] first)).1 (
-          path_full raw well rules tree is exts has elements are share.place first share.has,
-          Chain-push ((flat.names (full_name [] second)).0 here).1 (inr link),
-        ))
+      (are : AreOneForOne (IsElementFor raw exts) (named_standings tree) elements) (classes : ℕ) (node : NodeRec) (flat : IsFlatNode elements classes node)
+    where
+      -- the names of a flat node say the same of joined paths
+      names_keep : (first second : List ℕ) → ArePathsJoined exts tree first second → is_named node first ≡ is_named node second
+      names_keep first second joined =
+          let link = joined_link raw exts tree elements are first second joined in
+          let share = joined_share raw well rules exts tree is has first second joined in
+          same_answer (names_of node) (full_name [] first) (full_name [] second)
+          (λ here. (flat.names (full_name [] second)).1 (
+            path_full raw well rules tree is exts has elements are share.other second share.other_has,
+            Chain-push ((flat.names (full_name [] first)).0 here).1 (inl link),
+          ))
+          (λ here. (flat.names (full_name [] first)).1 (
+            path_full raw well rules tree is exts has elements are share.place first share.has,
+            Chain-push ((flat.names (full_name [] second)).0 here).1 (inr link),
+          ))
 
-    -- and so of members and groups
-    pub names_of_groups : IsOfGroups raw tree (is_named node)
-    names_of_groups = joined_of_groups tree is has (is_named node) names_keep
+      -- and so of members and groups
+      pub names_of_groups : IsOfGroups raw tree (is_named node)
+      names_of_groups = joined_of_groups tree is has (is_named node) names_keep

@@ -3,18 +3,18 @@ pub use Rattle.tree_names.proofs.FullNames as FullNames
 pub use Rattle.tree_names.proofs.NameClasses as NameClasses
 pub use Rattle.tree_names.proofs.OwnRecordLaws as OwnRecordLaws
 pub use Rattle.tree_names.proofs as TreeNames
-pub mod NamedSums
-pub mod RecordedQuantities
+mod NamedSums
+mod RecordedQuantities
 pub mod MaterialPlaces
-pub mod Shares
-pub mod OwnMembers
+mod Shares
+mod OwnMembers
 pub mod GroupShares
-pub mod AllGroups
+mod AllGroups
 pub mod BelowSums
-pub mod CellSums
-pub mod ClosedSums
-pub mod ElementSums
-pub mod GroupTests
-pub mod FlatTotals
-pub mod FlatMeasures
-pub mod FlatNodes
+mod CellSums
+mod ClosedSums
+mod ElementSums
+mod GroupTests
+mod FlatTotals
+mod FlatMeasures
+mod FlatNodes

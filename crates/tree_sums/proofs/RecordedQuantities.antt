@@ -64,7 +64,8 @@ class_adjustments raw [] tree name members measures position class are there = c
 class_adjustments raw (first ∷ classes) tree name members [] position class are there = absurd are
 class_adjustments raw (first ∷ classes) tree name members (measure ∷ measures) zero class are there =
     let same : first ≡ class = cc in
-    let P : Class → Type 0 = λ c. IsAdjustment raw (area_weight c) tree name members measure.0 × IsAdjustment raw (perimeter_weight c) tree name members measure.1 in
+    let P : Class → Type 0 = λ c. IsAdjustment raw (area_weight c) tree name members measure.0
+    × IsAdjustment raw (perimeter_weight c) tree name members measure.1 in
     subst P same (are.0, are.1)
 class_adjustments raw (first ∷ classes) tree name members (measure ∷ measures) (suc position) class are there =
     class_adjustments raw classes tree name members measures position class are.2 there

@@ -1,12 +1,12 @@
-pub mod BodyLaws
+mod BodyLaws
 pub mod CameLaws
-pub mod CellLaws
-pub mod ChangeLaws
-pub mod DesignerLaws
-pub mod EditLaws
-pub mod LawfulLaws
+mod CellLaws
+mod ChangeLaws
+mod DesignerLaws
+mod EditLaws
+mod LawfulLaws
 pub mod LeadLaws
-pub mod MakeLaws
-pub mod MoreCells
-pub mod OtherCommands
-pub mod UseMoves
+mod MakeLaws
+mod MoreCells
+mod OtherCommands
+mod UseMoves

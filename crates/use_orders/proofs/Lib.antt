@@ -1,14 +1,14 @@
 pub mod Listed
 pub mod Visiting
-pub mod UnderWay
-pub mod Advancing
-pub mod Working
-pub mod Stepping
-pub mod Starting
+mod UnderWay
+mod Advancing
+mod Working
+mod Stepping
+mod Starting
 pub mod Acyclic
-pub mod Thorough
-pub mod Rings
-pub mod NewOrders
-pub mod Users
-pub mod Lesser
-pub mod Closed
+mod Thorough
+mod Rings
+mod NewOrders
+mod Users
+mod Lesser
+mod Closed

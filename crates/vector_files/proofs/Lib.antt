@@ -1,5 +1,5 @@
-pub mod Places
+mod Places
 pub mod Rails
 pub mod Alike
 pub mod FittingLines
-pub mod RefusedFiles
+mod RefusedFiles

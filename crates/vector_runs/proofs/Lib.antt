@@ -1,8 +1,8 @@
 pub mod LineOutcomes
 pub mod Starts
 pub mod SplitRuns
-pub mod NameSearch
+mod NameSearch
 pub mod RailStates
-pub mod RunningLines
-pub mod RestingRuns
+mod RunningLines
+mod RestingRuns
 pub mod WatchedRuns

@@ -15,7 +15,7 @@ use Rattle.vector_runs.specs.declared.stuck_faults.StuckFault.{StuckFault}
 use Rattle.vector_runs.specs.declared.watching.Seen.{Seen}
 use Rattle.vector_runs.specs.Running.{FitsNodes}
 use Rattle.vector_runs.specs.Runs.{RunsPhase, Standing, phase_reply, shown_in}
-use Rattle.vector_runs.specs.Watching.{AreSeen, LineIsTaken, LinesShow, Watched, begun_with, counting, held, is_left_out, is_of, seen_in, settled_after}
+use Rattle.vector_runs.specs.Watching.{AreSeen, LineIsTaken, LinesShow, Watched, begun_with, counting, is_left_out, is_of, seen_in, settled_after}
 use Rattle.vector_runs.proofs.LineOutcomes.{IsSoundAt, input_sound, line_sound, same_line}
 use Rattle.vector_runs.proofs.Starts.{same_starts}
 
@@ -41,7 +41,8 @@ show_taken budget old line asked is = subst (λ (line : VecLine). LineIsTaken bu
 })
 
 -- the lines that count, of two lists
-pub counting-append : (stuck : Option StuckFault) (lines others : List (ℕ × VecLine)) → counting stuck (lines ++ others) ≡ counting stuck lines ++ counting stuck others
+pub counting-append : (stuck : Option StuckFault) (lines others : List (ℕ × VecLine))
+    → counting stuck (lines ++ others) ≡ counting stuck lines ++ counting stuck others
 counting-append None lines others = refl
 counting-append (Some fault) lines others = filter-append (λ (line : ℕ × VecLine). not (is_of fault.node line.1)) lines others
 
@@ -130,11 +131,6 @@ fit_within names nodes (Show asked) within = within
 pub fits_within : (names : List (List ℕ × ℕ)) (nodes : ℕ) (lines : List (ℕ × VecLine)) → All (λ line. IsLineWithin names nodes line.1) lines →
     All (λ line. FitsNodes nodes line.1) lines
 fits_within names nodes lines within = λ k d lt. fit_within names nodes (get_or lines k d).1 (within k d lt)
-
--- a stuck node leaves a network its nodes
-pub held_nodes : (stuck : Option StuckFault) (at : Standing) → (held stuck at).net.nodes ≡ at.net.nodes
-held_nodes None at = refl
-held_nodes (Some fault) at = refl
 
 -- a line that is taken leaves the network sound
 pub taken_sound : (nodes budget : ℕ) (old new : Watched) (line : VecLine) → FitsNodes nodes line → IsSoundAt nodes old.at →

@@ -2,14 +2,14 @@
 pub use Rattle.ext_cache.proofs.ArrivalLaws
 pub use Rattle.ext_cache.proofs.EditLaws
 pub use Rattle.ext_cache.proofs.RecordLaws
-pub mod CellCircuitLaws
+mod CellCircuitLaws
 pub mod CellCommands
-pub mod CellNames
+mod CellNames
 pub mod ExtractionInside
 pub mod ExtractionLaws
-pub mod KeptLaws
+mod KeptLaws
 pub mod SessionLaws
-pub mod StandingLaws
+mod StandingLaws
 pub mod VersionLaws
 pub mod WorkspaceLaws
-pub mod ReadableRecords
+mod ReadableRecords

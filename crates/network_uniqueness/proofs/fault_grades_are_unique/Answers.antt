@@ -19,4 +19,5 @@ returns-clause-grades c = λ records net other names others budget vectors grade
     let one = one_node_each records net names p.is_network in
     let also = one_node_each records other others q.is_network in
     let same = same_network records net other names others p q in
-    grades_alike c.grades_are_unique.ensures net other names others same alike (like_named names others one also alike).rails budget vectors grades more are there
+    grades_alike c.grades_are_unique.ensures net other names others same alike (like_named names others one also alike).rails budget vectors grades more are
+    there

@@ -12,5 +12,6 @@ invariant-loop-piece l = record {
   known : AreKnown (kinds_on (layout_on l.planes) l.plane)
       (kind_after (brushed_column l.stroke.tech.now l.stroke.brush l.stroke.layer.0) (layout_on l.planes) l.plane) l.known;
   found : l.found.items
-      ≡ changed_pieces (kind_after (brushed_column l.stroke.tech.now l.stroke.brush l.stroke.layer.0) (layout_on l.planes) l.plane) (take l.piece-index l.pieces);
+      ≡ changed_pieces (kind_after (brushed_column l.stroke.tech.now l.stroke.brush l.stroke.layer.0) (layout_on l.planes) l.plane)
+      (take l.piece-index l.pieces);
 }

@@ -38,5 +38,6 @@ returns-clause-changes c =
     squares_change_alike stroke.brush raw stroke.layer.0 c.raw.ensures.well_formed c.requires.layer layout c.requires.whole.sound.types plane few in
     let found : c.in_ok-found.found.items ≡ changed_pieces (kind_after change layout plane) pieces =
     c.in_ok-found.ensures ∙ ap (changed_pieces (kind_after change layout plane)) c.as_slice.ensures.value in
-    subst (λ (list : List Piece). AreChanges (kinds_on layout plane) (kinds_on (with_columns_where change (is_in_some c.args.areas.now) layout) plane) list) (sym found)
+    subst (λ (list : List Piece). AreChanges (kinds_on layout plane) (kinds_on (with_columns_where change (is_in_some c.args.areas.now) layout) plane) list)
+    (sym found)
     (found_changes change layout plane alike c.args.areas.now pieces are)

@@ -28,6 +28,7 @@ returns-clause-known c =
     let inside : c.from-index.result < length c.args.known.now = search rules in
     known_more (kinds_on layout plane) (kind_after change layout plane) c.args.known.now c.from-index.result c.kind_after-value.result inside
     (λ square at.
-    squares_change_alike brush raw layer c.raw.ensures.well_formed c.requires.layer layout c.requires.whole.sound.types plane c.requires.plane square c.corner.result
+    squares_change_alike brush raw layer c.raw.ensures.well_formed c.requires.layer layout c.requires.whole.sound.types plane c.requires.plane square
+    c.corner.result
     (at ∙ c.from-index.ensures ∙ sym corner)
     ∙ sym value) c.requires.known

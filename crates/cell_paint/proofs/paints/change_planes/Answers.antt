@@ -19,7 +19,8 @@ reserve_all-requires-clause-settable c =
     let stroke = c.args.stroke.now in
     let old = layout_on c.args.planes.now in
     subst (λ (changes : List (Vec Piece Global)). AreSettable changes) (sym c.as_slice-2.ensures.value)
-    (all_settable old (with_columns_where (brushed_column stroke.tech.now stroke.brush stroke.layer.0) (is_in_some c.as_slice.result.now) old) c.in_ok-changes.changes.items
+    (all_settable old (with_columns_where (brushed_column stroke.tech.now stroke.brush stroke.layer.0) (is_in_some c.as_slice.result.now) old)
+    c.in_ok-changes.changes.items
     c.in_ok-changes.ensures.changes)
 
 pub returns-in_err-reserve_all-clause-whole : goal.returns-in_err-reserve_all-clause-whole
@@ -31,7 +32,8 @@ commit_all-requires-clause-settable c =
     let stroke = c.args.stroke.now in
     let old = layout_on c.args.planes.now in
     subst (λ (changes : List (Vec Piece Global)). AreSettable changes) (sym c.as_slice-3.ensures.value)
-    (all_settable old (with_columns_where (brushed_column stroke.tech.now stroke.brush stroke.layer.0) (is_in_some c.as_slice.result.now) old) c.in_ok-changes.changes.items
+    (all_settable old (with_columns_where (brushed_column stroke.tech.now stroke.brush stroke.layer.0) (is_in_some c.as_slice.result.now) old)
+    c.in_ok-changes.changes.items
     c.in_ok-changes.ensures.changes)
 
 -- the strips cover what the areas cover
@@ -48,9 +50,11 @@ returns-clause-changed c =
     let within : (square : Square) → is_in_some c.as_slice.result.now square ≡ true → Covers paint_range square =
     λ square is. fitting_covered c.args.areas.now square c.requires.fits (sym (cover square) ∙ is) in
     let done = stroke_done stroke.brush stroke.tech.now stroke.layer.0 (is_in_some c.as_slice.result.now) c.args.planes.now c.reserve_all.new.planes
-    c.commit_all.new.planes changes.items c.raw.ensures.well_formed c.requires.layer c.requires.whole within (sym changes.ok.0 ∙ c.in_ok-changes.ensures.one_each)
+    c.commit_all.new.planes changes.items c.raw.ensures.well_formed c.requires.layer c.requires.whole within
+    (sym changes.ok.0 ∙ c.in_ok-changes.ensures.one_each)
     c.in_ok-changes.ensures.changes (search rules) c.reserve_all.ensures.same
-    (subst (λ (set : List (Vec Piece Global)). AreAllSet c.reserve_all.new.planes c.commit_all.new.planes set) c.as_slice-3.ensures.value c.commit_all.ensures) in
+    (subst (λ (set : List (Vec Piece Global)). AreAllSet c.reserve_all.new.planes c.commit_all.new.planes set) c.as_slice-3.ensures.value
+    c.commit_all.ensures) in
     λ place. done.0 place ∙ changed_alike change (is_in_some c.as_slice.result.now) (is_in_some c.args.areas.now) (layout_on c.args.planes.now) cover place
 
 pub returns-clause-whole : goal.returns-clause-whole
@@ -61,6 +65,8 @@ returns-clause-whole c =
     let within : (square : Square) → is_in_some c.as_slice.result.now square ≡ true → Covers paint_range square =
     λ square is. fitting_covered c.args.areas.now square c.requires.fits (sym (cover square) ∙ is) in
     (stroke_done stroke.brush stroke.tech.now stroke.layer.0 (is_in_some c.as_slice.result.now) c.args.planes.now c.reserve_all.new.planes
-    c.commit_all.new.planes changes.items c.raw.ensures.well_formed c.requires.layer c.requires.whole within (sym changes.ok.0 ∙ c.in_ok-changes.ensures.one_each)
+    c.commit_all.new.planes changes.items c.raw.ensures.well_formed c.requires.layer c.requires.whole within
+    (sym changes.ok.0 ∙ c.in_ok-changes.ensures.one_each)
     c.in_ok-changes.ensures.changes (search rules) c.reserve_all.ensures.same
-    (subst (λ (set : List (Vec Piece Global)). AreAllSet c.reserve_all.new.planes c.commit_all.new.planes set) c.as_slice-3.ensures.value c.commit_all.ensures)).1
+    (subst (λ (set : List (Vec Piece Global)). AreAllSet c.reserve_all.new.planes c.commit_all.new.planes set) c.as_slice-3.ensures.value
+    c.commit_all.ensures)).1

@@ -8,7 +8,8 @@ pub loop-init : goal.loop-init
 loop-init c =
     let none : c.in_ok-planes.planes.items ≡ [] = c.in_ok-planes.ensures.items in record {
       long = ap length none;
-      empty = λ place. space_past c.in_ok-planes.planes.items place.plane place.square (let long : length c.in_ok-planes.planes.items ≡ 0 = ap length none in omega arith);
+      empty = λ place. space_past c.in_ok-planes.planes.items place.plane place.square
+          (let long : length c.in_ok-planes.planes.items ≡ 0 = ap length none in omega arith);
     }
 
 pub loop-preserved : goal.loop-preserved

@@ -27,13 +27,16 @@ pub loop-cell-preserved : goal.loop-cell-preserved
 loop-cell-preserved c =
     let ids : All IsLawfulCell (new_states (c.in-Some.cell ∷ c.next.new.self.rest.items)) =
     subst (λ (rest : List NewCell). All IsLawfulCell (new_states rest)) c.in-Some.ensures.steps.0 c.loop-cell.invariant.ids in
-    let come : states c.loop-cell.cells.items ++ new_state c.in-Some.cell ∷ new_states c.next.new.self.rest.items ≡ states c.args.cells.now.items ++ new_states c.args.new.items =
+    let come : states c.loop-cell.cells.items ++ new_state c.in-Some.cell ∷ new_states c.next.new.self.rest.items ≡ states c.args.cells.now.items
+    ++ new_states c.args.new.items =
     ap (λ (rest : List NewCell). states c.loop-cell.cells.items ++ new_states rest) (sym c.in-Some.ensures.steps.0) ∙ c.loop-cell.invariant.come in
     record {
       behind = subst (AreBehind c.args.cells.now.items) (sym c.in_ok-push.ensures.pushed)
-          (behind_next c.args.cells.now.items c.loop-cell.cells.items c.in_ok-kept.kept (new_state c.in-Some.cell) c.loop-cell.invariant.behind c.in_ok-kept.ensures);
+          (behind_next c.args.cells.now.items c.loop-cell.cells.items c.in_ok-kept.kept (new_state c.in-Some.cell) c.loop-cell.invariant.behind
+          c.in_ok-kept.ensures);
       come = ap (λ (cells : List TreeCell). states cells ++ new_states c.next.new.self.rest.items) c.in_ok-push.ensures.pushed
-          ∙ come_next c.args.cells.now.items c.loop-cell.cells.items c.in_ok-kept.kept (new_state c.in-Some.cell) c.loop-cell.invariant.behind c.in_ok-kept.ensures
+          ∙ come_next c.args.cells.now.items c.loop-cell.cells.items c.in_ok-kept.kept (new_state c.in-Some.cell) c.loop-cell.invariant.behind
+          c.in_ok-kept.ensures
           (new_states c.next.new.self.rest.items) _ come;
       ids = λ k d low. ids (suc k) d (omega (arith, low));
     }

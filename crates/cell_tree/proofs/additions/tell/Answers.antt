@@ -24,8 +24,10 @@ push_user-requires-clause-within c =
 
 pub loop-k-preserved : goal.loop-k-preserved
 loop-k-preserved c =
-    told_next c.args.cells.now c.loop-k.cells c.reserve_user.new.cells c.push_user.new.cells c.args.cell c.loop-k.k c.child_at-child.result c.requires.within c.loop-k.invariant
-    c.child_at-child.ensures c.reserve_user.ensures.states c.reserve_user.ensures.users c.push_user.ensures.states c.push_user.ensures.others c.push_user.ensures.users
+    told_next c.args.cells.now c.loop-k.cells c.reserve_user.new.cells c.push_user.new.cells c.args.cell c.loop-k.k c.child_at-child.result c.requires.within
+    c.loop-k.invariant
+    c.child_at-child.ensures c.reserve_user.ensures.states c.reserve_user.ensures.users c.push_user.ensures.states c.push_user.ensures.others
+    c.push_user.ensures.users
 
 pub returns-clause-told : goal.returns-clause-told
 returns-clause-told c =

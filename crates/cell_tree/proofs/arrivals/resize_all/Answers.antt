@@ -10,7 +10,8 @@ resize_new-requires-clause-old c = c.requires.old Depth
 
 pub returns-then-not-resize_new-clause-refused : goal.returns-then-not-resize_new-clause-refused
 returns-then-not-resize_new-clause-refused c =
-    passes_one (states c.args.cells.now) c.args.new.now.first c.args.new.now.order.items c.requires.order c.args.sizes.now (c.requires.long ∙ sym (length-states c.args.cells.now))
+    passes_one (states c.args.cells.now) c.args.new.now.first c.args.new.now.order.items c.requires.order c.args.sizes.now
+    (c.requires.long ∙ sym (length-states c.args.cells.now))
     (λ dimension. (c.requires.old dimension).right) c.resize_new.new.sizes c.resize_new.new.sizes c.resize_new.new.sizes c.resize_new.ensures.kept
     (c.resize_new.ensures.stopped c.if-not-resize_new.true)
 
@@ -21,7 +22,8 @@ resize_new-requires-2-clause-old c =
 
 pub returns-then-not-resize_new-2-clause-refused : goal.returns-then-not-resize_new-2-clause-refused
 returns-then-not-resize_new-2-clause-refused c =
-    passes_two (states c.args.cells.now) c.args.new.now.first c.args.new.now.order.items c.requires.order c.args.sizes.now (c.requires.long ∙ sym (length-states c.args.cells.now))
+    passes_two (states c.args.cells.now) c.args.new.now.first c.args.new.now.order.items c.requires.order c.args.sizes.now
+    (c.requires.long ∙ sym (length-states c.args.cells.now))
     (λ dimension. (c.requires.old dimension).right) c.resize_new.new.sizes c.resize_new-2.new.sizes c.resize_new-2.new.sizes c.resize_new.ensures.kept
     (c.resize_new.ensures.done c.if-not-resize_new.false) c.resize_new-2.ensures.kept (c.resize_new-2.ensures.stopped c.if-not-resize_new-2.true)
 
@@ -32,21 +34,24 @@ resize_new-requires-3-clause-old c =
 
 pub returns-then-not-resize_new-3-clause-refused : goal.returns-then-not-resize_new-3-clause-refused
 returns-then-not-resize_new-3-clause-refused c =
-    passes_three (states c.args.cells.now) c.args.new.now.first c.args.new.now.order.items c.requires.order c.args.sizes.now (c.requires.long ∙ sym (length-states c.args.cells.now))
+    passes_three (states c.args.cells.now) c.args.new.now.first c.args.new.now.order.items c.requires.order c.args.sizes.now
+    (c.requires.long ∙ sym (length-states c.args.cells.now))
     (λ dimension. (c.requires.old dimension).right) c.resize_new.new.sizes c.resize_new-2.new.sizes c.resize_new-3.new.sizes c.resize_new.ensures.kept
     (c.resize_new.ensures.done c.if-not-resize_new.false) c.resize_new-2.ensures.kept (c.resize_new-2.ensures.done c.if-not-resize_new-2.false)
     c.resize_new-3.ensures.kept (c.resize_new-3.ensures.stopped c.if-not-resize_new-3.true)
 
 pub returns-clause-right : goal.returns-clause-right
 returns-clause-right c =
-    sized_right (states c.args.cells.now) c.args.new.now.first c.args.new.now.order.items c.requires.order c.args.sizes.now (c.requires.long ∙ sym (length-states c.args.cells.now))
+    sized_right (states c.args.cells.now) c.args.new.now.first c.args.new.now.order.items c.requires.order c.args.sizes.now
+    (c.requires.long ∙ sym (length-states c.args.cells.now))
     (λ dimension. (c.requires.old dimension).right) c.resize_new.new.sizes c.resize_new-2.new.sizes c.resize_new-3.new.sizes c.resize_new.ensures.kept
     (c.resize_new.ensures.done c.if-not-resize_new.false) c.resize_new-2.ensures.kept (c.resize_new-2.ensures.done c.if-not-resize_new-2.false)
     c.resize_new-3.ensures.kept (c.resize_new-3.ensures.done c.if-not-resize_new-3.false)
 
 pub returns-clause-within : goal.returns-clause-within
 returns-clause-within c =
-    sized_within (states c.args.cells.now) c.args.new.now.first c.args.new.now.order.items c.requires.order c.args.sizes.now (c.requires.long ∙ sym (length-states c.args.cells.now))
+    sized_within (states c.args.cells.now) c.args.new.now.first c.args.new.now.order.items c.requires.order c.args.sizes.now
+    (c.requires.long ∙ sym (length-states c.args.cells.now))
     (λ dimension. (c.requires.old dimension).right) c.resize_new.new.sizes c.resize_new-2.new.sizes c.resize_new-3.new.sizes c.resize_new.ensures.kept
     (c.resize_new.ensures.done c.if-not-resize_new.false) c.resize_new-2.ensures.kept (c.resize_new-2.ensures.done c.if-not-resize_new-2.false)
     c.resize_new-3.ensures.kept (c.resize_new-3.ensures.done c.if-not-resize_new-3.false)

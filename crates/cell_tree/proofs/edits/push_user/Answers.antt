@@ -14,6 +14,9 @@ returns-clause-others c = write_others c.args.cells.now c.args.child c.index-cel
 
 pub returns-clause-users : goal.returns-clause-users
 returns-clause-users c =
-    let room = c.insert.ensures.succeeds (subst (λ n. 0 < n) (read_here c.args.cells.now c.args.child c.index-cells-child.result c.requires.within (λ cell. spare cell.users) 0) c.requires.room) in
-    write_here c.args.cells.now c.args.child c.index-cells-child.result c.requires.within (λ cell. cell.users.keys) [] _ ∙ on_ok c.insert.result _ room c.insert.ensures.keys
-    ∙ sym (ap (λ keys. insert_key nat_eq keys c.args.cell) (read_here c.args.cells.now c.args.child c.index-cells-child.result c.requires.within (λ cell. cell.users.keys) []))
+    let room = c.insert.ensures.succeeds (subst (λ n. 0 < n)
+    (read_here c.args.cells.now c.args.child c.index-cells-child.result c.requires.within (λ cell. spare cell.users) 0) c.requires.room) in
+    write_here c.args.cells.now c.args.child c.index-cells-child.result c.requires.within (λ cell. cell.users.keys) [] _
+    ∙ on_ok c.insert.result _ room c.insert.ensures.keys
+    ∙ sym (ap (λ keys. insert_key nat_eq keys c.args.cell)
+    (read_here c.args.cells.now c.args.child c.index-cells-child.result c.requires.within (λ cell. cell.users.keys) []))

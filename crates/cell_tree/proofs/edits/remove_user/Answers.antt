@@ -12,5 +12,7 @@ returns-clause-others c = write_others c.args.cells.now c.args.child c.index-cel
 
 pub returns-clause-users : goal.returns-clause-users
 returns-clause-users c user =
-    ap (λ keys. knows keys user) (write_here c.args.cells.now c.args.child c.index-cells-child.result c.requires (λ cell. cell.users.keys) [] _) ∙ c.swap_remove.ensures.updates.0 user
-    ∙ sym (ap (λ keys. if nat_eq c.args.cell user then false else knows keys user) (read_here c.args.cells.now c.args.child c.index-cells-child.result c.requires (λ cell. cell.users.keys) []))
+    ap (λ keys. knows keys user) (write_here c.args.cells.now c.args.child c.index-cells-child.result c.requires (λ cell. cell.users.keys) [] _)
+    ∙ c.swap_remove.ensures.updates.0 user
+    ∙ sym (ap (λ keys. if nat_eq c.args.cell user then false else knows keys user)
+    (read_here c.args.cells.now c.args.child c.index-cells-child.result c.requires (λ cell. cell.users.keys) []))

@@ -7,7 +7,9 @@ use Rattle.cell_tree.proofs.edits.reserve_user.Goals as goal
 
 pub returns-clause-room : goal.returns-clause-room
 returns-clause-room c =
-    on_ok_weaker c.reserve.result (λ some. subst (λ n. 0 < n) (sym (write_here c.args.cells.now c.args.child c.index-cells-child.result c.requires (λ cell. spare cell.users) 0 _)) (omega (arith, some))) c.reserve.ensures.ok
+    on_ok_weaker c.reserve.result (λ some. subst (λ n. 0 < n)
+    (sym (write_here c.args.cells.now c.args.child c.index-cells-child.result c.requires (λ cell. spare cell.users) 0 _)) (omega (arith, some)))
+    c.reserve.ensures.ok
 
 pub returns-clause-uses_room : goal.returns-clause-uses_room
 returns-clause-uses_room c = write_kept c.args.cells.now c.args.child c.index-cells-child.result c.requires (λ cell. cell.uses.spare) 0 _ refl

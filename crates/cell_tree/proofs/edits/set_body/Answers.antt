@@ -6,7 +6,8 @@ use Rattle.cell_tree.proofs.CellLaws.{cell_at-states, write_states, write_kept}
 use Rattle.cell_tree.proofs.edits.set_body.Goals as goal
 
 pub set-requires : goal.set-requires
-set-requires c = subst (λ (cell : CellState). c.args.k < length cell.uses) (cell_at-states c.args.cells.now c.args.cell c.index-cells-cell.result c.requires.within) c.requires.use_within
+set-requires c = subst (λ (cell : CellState). c.args.k < length cell.uses)
+    (cell_at-states c.args.cells.now c.args.cell c.index-cells-cell.result c.requires.within) c.requires.use_within
 
 pub returns-clause-states : goal.returns-clause-states
 returns-clause-states c =

@@ -9,14 +9,17 @@ use Rattle.cell_tree.proofs.resizes.size_with_use.Goals as goal
 
 pub size_with-requires-clause-at : goal.size_with-requires-clause-at
 size_with-requires-clause-at c =
-    subst (λ (cell : CellState). c.args.k < length cell.uses) (cell_at-states c.args.cells.now c.args.cell c.index-cells-cell-2.result c.requires.within) c.requires.use_within
+    subst (λ (cell : CellState). c.args.k < length cell.uses) (cell_at-states c.args.cells.now c.args.cell c.index-cells-cell-2.result c.requires.within)
+    c.requires.use_within
 
 pub size_with-requires-clause-most : goal.size_with-requires-clause-most
-size_with-requires-clause-most c = c.requires.lawful.uses.few c.args.cell _ (state_read c.args.cells.now c.args.cell c.index-cells-cell-2.result c.requires.within)
+size_with-requires-clause-most c = c.requires.lawful.uses.few c.args.cell _
+    (state_read c.args.cells.now c.args.cell c.index-cells-cell-2.result c.requires.within)
 
 pub size_with-requires-clause-lawful : goal.size_with-requires-clause-lawful
 size_with-requires-clause-lawful c k entry stands =
-    let both = c.requires.lawful.uses.uses c.args.cell _ (state_read c.args.cells.now c.args.cell c.index-cells-cell-2.result c.requires.within) k entry stands in
+    let both = c.requires.lawful.uses.uses c.args.cell _ (state_read c.args.cells.now c.args.cell c.index-cells-cell-2.result c.requires.within) k entry
+    stands in
     (both.0, omega (arith, both.1, c.requires.lawful.measured.count))
 
 pub size_with-requires-clause-body : goal.size_with-requires-clause-body
@@ -29,7 +32,12 @@ size_with-requires-clause-within c = c.requires.lawful.measured.within
 pub returns : goal.returns
 returns c =
     c.size_with.ensures
-    ∙ ap (λ (cell : TreeCell). size_of (size_at c.args.sizes.now) (record { own = cell.own; uses = with_or_without (get_or c.args.cells.now c.args.cell c.index-cells-cell-2.result).uses.entries c.args.k c.args.used.now }))
+    ∙ ap (λ (cell : TreeCell). size_of (size_at c.args.sizes.now)
+    (record {
+      own = cell.own;
+      uses = with_or_without (get_or c.args.cells.now c.args.cell c.index-cells-cell-2.result).uses.entries c.args.k
+          c.args.used.now;
+    }))
     (get_or_default c.args.cells.now c.args.cell c.index-cells-cell.result c.index-cells-cell-2.result c.requires.within)
     ∙ ap (λ (cell : CellState). size_of (size_at c.args.sizes.now) (with_uses cell (with_or_without cell.uses c.args.k c.args.used.now)))
     (sym (cell_at-states c.args.cells.now c.args.cell c.index-cells-cell-2.result c.requires.within))

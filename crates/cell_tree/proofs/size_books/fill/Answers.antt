@@ -18,4 +18,5 @@ loop-preserved g c =
 pub returns-clause-filled : goal.returns-clause-filled
 returns-clause-filled g c =
     c.loop.invariant.filled ∙ ap (λ n. c.args.list.now.items ++ replicate n c.args.value)
-    (let e : length c.loop.list.items - length c.args.list.now.items ≡ c.args.count - length c.args.list.now.items = omega (arith, c.loop.invariant.count, c.loop.invariant.low) in e)
+    (let e : length c.loop.list.items - length c.args.list.now.items ≡ c.args.count - length c.args.list.now.items =
+    omega (arith, c.loop.invariant.count, c.loop.invariant.low) in e)

@@ -25,8 +25,10 @@ loop-k-preserved c =
     let at = body_at c.args.uses.now.entries c.loop-k.k c.body-used.result.now c.body-used.ensures in
     record {
       grows = c.add_use-grown.ensures.added
-          ∙ ap (λ (s : Size). added c.args.dimension s c.body-used.result.now (size_at c.args.sizes.now c.body-used.result.now.child.0)) c.loop-k.invariant.grows
-          ∙ sym (grown-next c.args.dimension (size_at c.args.sizes.now) c.args.size.now c.args.uses.now.entries c.args.from c.loop-k.k (at.0, c.body-used.result.now) c.loop-k.auto.k at.1);
+          ∙ ap (λ (s : Size). added c.args.dimension s c.body-used.result.now (size_at c.args.sizes.now c.body-used.result.now.child.0))
+          c.loop-k.invariant.grows
+          ∙ sym (grown-next c.args.dimension (size_at c.args.sizes.now) c.args.size.now c.args.uses.now.entries c.args.from c.loop-k.k
+          (at.0, c.body-used.result.now) c.loop-k.auto.k at.1);
       few = omega (arith, c.add_use-grown.ensures.few, c.loop-k.invariant.few);
       flat = c.add_use-grown.ensures.flat;
     }

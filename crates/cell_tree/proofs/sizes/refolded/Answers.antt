@@ -17,11 +17,15 @@ add_use-there-requires-clause-lawful c = (c.requires.body c.in-Some.body c.in-So
 pub returns : goal.returns
 returns c = elim c.match-used.branch [
   | in-Some w ↦
-      subst (λ used. c.add_uses.result ≡ grown c.args.dimension (size_at c.args.sizes.now) c.args.size.now (with_or_without c.args.uses.now.entries c.args.at used)) (sym w.in-Some.is)
-      (refolded_with c.args.dimension (size_at c.args.sizes.now) c.args.size.now c.add_uses-before.result c.match-used.there c.add_uses.result c.args.uses.now.entries c.args.at c.len.result w.in-Some.body
+      subst (λ used. c.add_uses.result ≡ grown c.args.dimension (size_at c.args.sizes.now) c.args.size.now
+      (with_or_without c.args.uses.now.entries c.args.at used)) (sym w.in-Some.is)
+      (refolded_with c.args.dimension (size_at c.args.sizes.now) c.args.size.now c.add_uses-before.result c.match-used.there c.add_uses.result
+      c.args.uses.now.entries c.args.at c.len.result w.in-Some.body
       c.requires.at c.len.ensures c.add_uses-before.ensures.grown (w.there-is ∙ w.add_use-there.ensures.added) c.add_uses.ensures.grown)
   | in-None w ↦
-      subst (λ used. c.add_uses.result ≡ grown c.args.dimension (size_at c.args.sizes.now) c.args.size.now (with_or_without c.args.uses.now.entries c.args.at used)) (sym w.in-None.is)
-      (refolded_without c.args.dimension (size_at c.args.sizes.now) c.args.size.now c.match-used.there c.add_uses.result c.args.uses.now.entries c.args.at c.len.result c.len.ensures
+      subst (λ used. c.add_uses.result ≡ grown c.args.dimension (size_at c.args.sizes.now) c.args.size.now
+      (with_or_without c.args.uses.now.entries c.args.at used)) (sym w.in-None.is)
+      (refolded_without c.args.dimension (size_at c.args.sizes.now) c.args.size.now c.match-used.there c.add_uses.result c.args.uses.now.entries c.args.at
+      c.len.result c.len.ensures
       (w.there-is ∙ c.add_uses-before.ensures.grown) c.add_uses.ensures.grown)
 ]

@@ -18,6 +18,9 @@ pub returns : goal.returns
 returns c =
     size_from (size_at c.args.sizes.now) (record { own = c.args.own; uses = with_or_without c.args.uses.now.entries c.args.at c.args.used.now })
     c.refolded-deep.result c.refolded-many.result c.refolded-wide.result
-    (c.refolded-deep.ensures ∙ ap (λ (s : Size). grown Depth (size_at c.args.sizes.now) s (with_or_without c.args.uses.now.entries c.args.at c.args.used.now)) c.own_size-own.ensures)
-    (c.refolded-many.ensures ∙ ap (λ (s : Size). grown Elements (size_at c.args.sizes.now) s (with_or_without c.args.uses.now.entries c.args.at c.args.used.now)) c.own_size-own.ensures)
-    (c.refolded-wide.ensures ∙ ap (λ (s : Size). grown Hull (size_at c.args.sizes.now) s (with_or_without c.args.uses.now.entries c.args.at c.args.used.now)) c.own_size-own.ensures)
+    (c.refolded-deep.ensures ∙ ap (λ (s : Size). grown Depth (size_at c.args.sizes.now) s (with_or_without c.args.uses.now.entries c.args.at c.args.used.now))
+    c.own_size-own.ensures)
+    (c.refolded-many.ensures ∙ ap (λ (s : Size).
+    grown Elements (size_at c.args.sizes.now) s (with_or_without c.args.uses.now.entries c.args.at c.args.used.now)) c.own_size-own.ensures)
+    (c.refolded-wide.ensures ∙ ap (λ (s : Size). grown Hull (size_at c.args.sizes.now) s (with_or_without c.args.uses.now.entries c.args.at c.args.used.now))
+    c.own_size-own.ensures)

@@ -21,7 +21,8 @@ pub returns-clause-set : goal.returns-clause-set
 returns-clause-set c body is =
     let cell : TreeCell = get_or c.args.cells.now c.args.key c.index-cells-key.result in
     let same : record { own = cell.own; uses = (get_or c.args.cells.now c.args.key c.index-cells-key-2.result).uses.entries } ≡ body =
-    ap (λ (t : TreeCell). record { own = cell.own; uses = t.uses.entries }) (get_or_default c.args.cells.now c.args.key c.index-cells-key-2.result c.index-cells-key.result c.requires.within)
+    ap (λ (t : TreeCell). record { own = cell.own; uses = t.uses.entries })
+    (get_or_default c.args.cells.now c.args.key c.index-cells-key-2.result c.index-cells-key.result c.requires.within)
     ∙ same_Some _ _ (sym (state_read c.args.cells.now c.args.key c.index-cells-key.result c.requires.within) ∙ is) in (
       c.measured-size.result,
       subst (λ b. AreAlike c.args.dimension c.measured-size.result (size_of (size_at c.args.next.now) b)) same c.measured-size.ensures,

@@ -71,4 +71,5 @@ pub returns-clause-symbols : goal.returns-clause-symbols
 returns-clause-symbols c = λ other is.
     let order = map (λ (key : CellKey). key.0) c.in_ok-order.order.items in
     c.len.ensures ∙ c.in_ok-order.order.ok.0 ∙ sym (length-map c.in_ok-order.order.items (λ (key : CellKey). key.0))
-    ∙ ap (λ (o : List ℕ). length o) (c.library_order_law.ensures.unique (children_in (seen c.args.library.now)) c.args.cell.0 order other c.in_ok-order.ensures is)
+    ∙ ap (λ (o : List ℕ). length o) (c.library_order_law.ensures.unique (children_in (seen c.args.library.now)) c.args.cell.0 order other
+    c.in_ok-order.ensures is)

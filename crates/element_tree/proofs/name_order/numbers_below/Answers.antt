@@ -3,4 +3,5 @@ use Rattle.finite_sets.proofs.Searches.{range_one_more}
 use Rattle.element_tree.proofs.name_order.numbers_below.Goals as goal
 
 pub loop-number-preserved : goal.loop-number-preserved
-loop-number-preserved c = c.in_ok-push.ensures.items ∙ ap (λ z. z ++ c.loop-number.number ∷ []) c.loop-number.invariant ∙ sym (range_one_more c.loop-number.number)
+loop-number-preserved c = c.in_ok-push.ensures.items ∙ ap (λ z. z ++ c.loop-number.number ∷ []) c.loop-number.invariant
+    ∙ sym (range_one_more c.loop-number.number)

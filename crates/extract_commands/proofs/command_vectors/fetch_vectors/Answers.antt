@@ -19,7 +19,8 @@ returns-in-Text-clause-effect g c files told =
     IfOk-weaker c.run_extracted.result _ _
     (λ answer runs. (
       c.args.file ∷ [],
-      runs_fetched c.args.question c.args.budget c.args.number c.args.name.now c.args.file c.in-Text.text.items (text_in files c.args.file) work c.args.cell.0 after answer there
+      runs_fetched c.args.question c.args.budget c.args.number c.args.name.now c.args.file c.in-Text.text.items (text_in files c.args.file) work c.args.cell.0
+          after answer there
           (subst (λ (run : NetworkRun). RunsExtracted run c.args.budget c.args.number (c.args.file ∷ []) work c.args.cell.0
           (record { state = after; lines = answer.lines.items; stores = answer.stores.items; fetched = c.args.file ∷ [] }))
           c.in_ok-run-in-Text.ensures runs),
@@ -34,7 +35,8 @@ returns-clause-effect g c files told =
     both_ok c.refuse_file.result _ _ _
     (λ answer lines stores. (
       c.args.file ∷ [],
-      refuses_fetched c.args.question c.args.budget c.args.number c.args.name.now c.args.file c.in-Refused.fault (text_in files c.args.file) (edited_state c.args.edited.now) c.args.cell.0 answer
+      refuses_fetched c.args.question c.args.budget c.args.number c.args.name.now c.args.file c.in-Refused.fault (text_in files c.args.file)
+          (edited_state c.args.edited.now) c.args.cell.0 answer
           there lines stores,
       c.fetch_text.ensures.asked,
     ))

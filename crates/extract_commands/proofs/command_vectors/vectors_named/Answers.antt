@@ -23,7 +23,8 @@ returns-in_ok-file-in-Some-clause-effect g c files told =
     let file : c.in_ok-file-in-Some.file ≡ vec_file c.args.file.now = search rules in
     let work = edited_state c.args.edited.now in
     let after : State = Some (edited_state c.fetch_vectors.new.edited) in
-    let Means : List ℕ → Workspace → ℕ → Effect State → Type 0 = λ file. RunsFetched c.args.question c.args.budget c.args.number c.args.name.now file (text_in files file) in
+    let Means : List ℕ → Workspace → ℕ → Effect State
+    → Type 0 = λ file. RunsFetched c.args.question c.args.budget c.args.number c.args.name.now file (text_in files file) in
     IfOk-weaker c.fetch_vectors.result _ _
     (λ answer (fetched, means, asked). (
       fetched,

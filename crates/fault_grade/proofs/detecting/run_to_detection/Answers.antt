@@ -60,11 +60,13 @@ loop-number-preserved c =
           let more =
           one_compared c.args.budget from first stuck lines c.args.net.now.nodes c.requires.within
           (sound_shown c.args.budget c.args.net.now.nodes from lines c.args.good.now.seen.items shown)
-          (record { sound = sound_of c.args.net.now; same_nodes = refl; one_state = c.requires.ready.under_way.states }) c.loop-number.number-index line (omega arith)
+          (record { sound = sound_of c.args.net.now; same_nodes = refl; one_state = c.requires.ready.under_way.states }) c.loop-number.number-index line
+          (omega arith)
           c.loop-number-item.is c.loop-number.seen.now (watched c.loop-number.net c.loop-number.run.run) c.loop-number.found (before.compared from shown) new
           c.split_at.result.0.now c.split_at.result.1.now c.is_apart.result here later c.is_apart.ensures (λ out. takes.left_out (same ∙ out))
           (λ counts. takes.taken line.0 rest beside (same ∙ counts)) in
-          subst (AreCompared c.args.budget from first stuck lines (c.loop-number.number-index + 1) c.split_at.result.1.now new) (sym c.least_of-found.ensures) more;
+          subst (AreCompared c.args.budget from first stuck lines (c.loop-number.number-index + 1) c.split_at.result.1.now new) (sym c.least_of-found.ensures)
+          more;
       stuck = takes.stuck ∙ before.stuck;
       ready = takes.ready;
       beside = takes.beside line.0 rest beside;
@@ -75,5 +77,6 @@ loop-number-preserved c =
 
 pub returns-clause-finds : goal.returns-clause-finds
 returns-clause-finds c = λ from shown.
-    found_last c.args.budget from (watched c.args.net.now c.args.run.now.run) c.args.run.now.run.stuck c.args.lines.now c.loop-number.number-index c.loop-number.found
+    found_last c.args.budget from (watched c.args.net.now c.args.run.now.run) c.args.run.now.run.stuck c.args.lines.now c.loop-number.number-index
+    c.loop-number.found
     (omega arith) (c.loop-number.invariant.compared from shown).finds

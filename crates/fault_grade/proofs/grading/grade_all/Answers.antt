@@ -14,7 +14,8 @@ loop-node-preserved-then-has c =
     let rails = c.rails_of-rails.result in
     let before = c.loop-node.invariant in
     record {
-      graded = subst (λ (faults : List StuckFault). AllZip (IsGrade (network_of c.args.named.now.net) c.args.named.now.names c.args.budget c.args.vectors.now) faults
+      graded = subst (λ (faults : List StuckFault). AllZip (IsGrade (network_of c.args.named.now.net) c.args.named.now.names c.args.budget c.args.vectors.now)
+          faults
           c.loop-node.grades.items) (sym (faults_left (is_either_node rails.power rails.ground) c.loop-node.node (sym c.if-has.ensures))) before.graded;
       network = before.network;
       names = before.names;

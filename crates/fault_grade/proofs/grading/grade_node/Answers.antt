@@ -17,9 +17,11 @@ returns-clause-graded c = λ faults before.
     let zero : StuckFault = record { node = c.args.node; value = Zero } in
     let one : StuckFault = record { node = c.args.node; value = One } in
     let low : IsGrade net names c.args.budget c.args.vectors.now zero c.in_ok-grade_fault.field-0 = rw c.faults_at.ensures at first.graded in
-    let high : IsGrade (network_of c.grade_fault.new.named.net) c.grade_fault.new.named.names c.args.budget c.args.vectors.now one c.in_ok-grade_fault-2.field-0 =
+    let high : IsGrade (network_of c.grade_fault.new.named.net) c.grade_fault.new.named.names c.args.budget c.args.vectors.now one
+    c.in_ok-grade_fault-2.field-0 =
     rw c.faults_at.ensures at c.in_ok-grade_fault-2.ensures.graded in
-    let there = subst (λ (n : Network). IsGrade n c.grade_fault.new.named.names c.args.budget c.args.vectors.now one c.in_ok-grade_fault-2.field-0) first.network high in
+    let there = subst (λ (n : Network). IsGrade n c.grade_fault.new.named.names c.args.budget c.args.vectors.now one c.in_ok-grade_fault-2.field-0)
+    first.network high in
     let here = subst (λ (l : List (List ℕ × ℕ)). IsGrade net l c.args.budget c.args.vectors.now one c.in_ok-grade_fault-2.field-0) first.names there in
     let both = two_more (IsGrade net names c.args.budget c.args.vectors.now) faults c.args.grades.now.items c.args.node c.in_ok-grade_fault.field-0
     c.in_ok-grade_fault-2.field-0 before low here in

@@ -26,6 +26,7 @@ returns-clause-step c = λ quiet.
     let next = c.step_near.new.new in
     let marks = c.step_near.new.net.work.marks in
     let near = subst (λ (nodes : List ℕ). IsNear net s nodes None marks.inside) c.nodes.ensures c.step_near.ensures.near in
-    let step = near_step net (sound_of c.args.net.now) s c.args.moved.now marks next c.requires.states near (quiet marks.inside near) c.step_near.ensures.steady in
+    let step = near_step net (sound_of c.args.net.now) s c.args.moved.now marks next c.requires.states near (quiet marks.inside near)
+    c.step_near.ensures.steady in
     let same = c.in_ok-changes.ensures.same ∙ ap (λ (nodes : List ℕ). changed (taken_from next nodes) s) c.nodes-2.ensures in
     subst (IsStep net s) (sym same) step

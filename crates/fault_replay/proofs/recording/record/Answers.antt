@@ -22,7 +22,8 @@ loop-line-preserved c =
       fits = subst (λ (n : ℕ). All (FitsRecord n c.args.budget) c.record_line.new.phases.items) before.nodes made.fits;
       records = λ later rest.
           let more = made.recorded item.0 (drop (i + 1) lines) later rest in
-          let here = subst (λ (left : List (ℕ × VecLine)). Records c.args.budget (network_of c.loop-line.net) c.loop-line.states left more.0) (sym split) more.2 in
+          let here = subst (λ (left : List (ℕ × VecLine)). Records c.args.budget (network_of c.loop-line.net) c.loop-line.states left more.0) (sym split)
+          more.2 in
           subst (Records c.args.budget (network_of c.args.net.now) c.args.states.now lines) (sym more.1) (before.records more.0 here);
     }
 

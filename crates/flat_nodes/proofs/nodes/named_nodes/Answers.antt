@@ -39,7 +39,8 @@ loop-number-preserved c =
                 (let P : List NodeRec → Type 0 = ArePlaced names in
                 subst P (sym is)
                 (placed_set names nodes label new c.loop-number.invariant.placed
-                (placed_alias (elements_in names) node c.in_ok-name.name new alias (c.loop-number.invariant.placed node (In-slice_get nodes label node here)))));
+                (placed_alias (elements_in names) node c.in_ok-name.name new alias
+                (c.loop-number.invariant.placed node (In-slice_get nodes label node here)))));
           })
       | else-label-len+in_ok-placed_node+in_ok-push w ↦
           (let past : length nodes ≤ label = (let more = w.if-label-len.false in let many = c.len.ensures in let stored = c.loop-number.nodes.ok.0 in

@@ -51,7 +51,8 @@ returns-in_ok-lines-in-Cells-clause-effect g c files told =
     let lines : answer.lines.items ≡ reply (loaded_text c.args.cell.now c.in-Cells.count) ∷ [] = search rules in (
       fetched,
       load_done c.args.number old new c.args.edited.now.current c.args.edited.now.cache c.args.edited.now.log c.forget.new.self c.cell_count-first.result
-          files c.args.cell.now c.in-Cells.count fetched answer c.forget.ensures (dirty_cells old new c.args.edited.now.cache came.0 c.lawful.ensures came.1 c.requires.edited.agrees)
+          files c.args.cell.now c.in-Cells.count fetched answer c.forget.ensures
+          (dirty_cells old new c.args.edited.now.cache came.0 c.lawful.ensures came.1 c.requires.edited.agrees)
           is_loaded next c.cell_count-first.ensures lines c.told.ensures.stores,
       asked,
     )
@@ -80,7 +81,8 @@ returns-in-Refused-clause-effect g c files told =
     both_ok c.refuse_load.result _ _ _
     (λ answer lines stores. (
       fetched,
-      load_refused c.args.number old new c.args.edited.now.current c.args.edited.now.cache c.args.edited.now.log files c.args.cell.now c.in-Refused.fault fetched answer same
+      load_refused c.args.number old new c.args.edited.now.current c.args.edited.now.cache c.args.edited.now.log files c.args.cell.now c.in-Refused.fault
+          fetched answer same
           is_refused lines stores,
       asked,
     ))

@@ -14,13 +14,15 @@ returns-in-Undo-clause-brought c =
     let old = c.args.edited.now in
     subst (λ (way : Way). OnOk c.undo.result (IsBrought way (edited_state old) (workspace_of c.undo.new.library old.current old.cache c.undo.new.self)))
     (sym c.in-Undo.is)
-    (way_brought Undo old.library c.undo.new.library old.current old.cache old.log c.undo.new.self c.lawful.ensures c.requires.edited.agrees c.requires.edited.log c.undo.result
+    (way_brought Undo old.library c.undo.new.library old.current old.cache old.log c.undo.new.self c.lawful.ensures c.requires.edited.agrees
+    c.requires.edited.log c.undo.result
     c.undo.ensures.returned c.undo.ensures.few)
 
 pub returns-in-Undo-clause-kept : goal.returns-in-Undo-clause-kept
 returns-in-Undo-clause-kept c =
     let old = c.args.edited.now in
-    let (current, agrees, log) = way_kept Undo old.library c.undo.new.library old.current old.cache old.log c.undo.new.self c.lawful.ensures c.requires.edited.agrees
+    let (current, agrees, log) = way_kept Undo old.library c.undo.new.library old.current old.cache old.log c.undo.new.self c.lawful.ensures
+    c.requires.edited.agrees
     c.requires.edited.log c.undo.result c.undo.ensures.returned c.undo.ensures.same c.undo.ensures.log c.requires.edited.current in
     record { current = current; agrees = agrees; log = log }
 
@@ -35,13 +37,15 @@ returns-in-Redo-clause-brought c =
     let old = c.args.edited.now in
     subst (λ (way : Way). OnOk c.redo.result (IsBrought way (edited_state old) (workspace_of c.redo.new.library old.current old.cache c.redo.new.self)))
     (sym c.in-Redo.is)
-    (way_brought Redo old.library c.redo.new.library old.current old.cache old.log c.redo.new.self c.lawful.ensures c.requires.edited.agrees c.requires.edited.log c.redo.result
+    (way_brought Redo old.library c.redo.new.library old.current old.cache old.log c.redo.new.self c.lawful.ensures c.requires.edited.agrees
+    c.requires.edited.log c.redo.result
     c.redo.ensures.returned c.redo.ensures.few)
 
 pub returns-in-Redo-clause-kept : goal.returns-in-Redo-clause-kept
 returns-in-Redo-clause-kept c =
     let old = c.args.edited.now in
-    let (current, agrees, log) = way_kept Redo old.library c.redo.new.library old.current old.cache old.log c.redo.new.self c.lawful.ensures c.requires.edited.agrees
+    let (current, agrees, log) = way_kept Redo old.library c.redo.new.library old.current old.cache old.log c.redo.new.self c.lawful.ensures
+    c.requires.edited.agrees
     c.requires.edited.log c.redo.result c.redo.ensures.returned c.redo.ensures.same c.redo.ensures.log c.requires.edited.current in
     record { current = current; agrees = agrees; log = log }
 

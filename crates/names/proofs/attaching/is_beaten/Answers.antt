@@ -22,7 +22,8 @@ returns-in-Some c = λ test.
     let corner = c.corner.ensures ∙ ap corner_of common in
     let found = c.in-Some.found in
     let plane = c.args.block.now.plane in
-    let later : stands_earlier (record { plane = plane; square = corner_of (common_rect (touched c.args.label.now.area) c.args.block.now.area); region = 0 }) found ≡ false =
+    let later : stands_earlier (record { plane = plane; square = corner_of (common_rect (touched c.args.label.now.area) c.args.block.now.area); region = 0 })
+    found ≡ false =
     sym (ap (λ (s : Square). stands_earlier (record { plane = plane; square = s; region = 0 }) found) corner) ∙ sym c.stands_earlier.ensures
     ∙ not-true c.stands_earlier.result test in
     rw c.in-Some.is (beaten_later c.args.tech.now c.args.label.now c.args.block.now found 0 c.if-not-block.false later)

@@ -76,7 +76,8 @@ returns-clause-nodes c = λ layout are.
     let long : length classes ≡ count = omega (arith, len, ok) in
     let on : AreCountedOn raw tiles labels c.in_ok-counted.counted =
     subst (λ (v : List RegionTile). AreCountedOn raw v labels c.in_ok-counted.counted) c.items-tiles.ensures c.in_ok-counted.ensures in
-    let divides : Divides classes (IsPair pairs) = subst (λ (v : List (ℕ × ℕ)). Divides classes (IsPair v)) c.as_slice.ensures.value c.in_ok-labelling.ensures.divides in
+    let divides : Divides classes (IsPair pairs) =
+    subst (λ (v : List (ℕ × ℕ)). Divides classes (IsPair v)) c.as_slice.ensures.value c.in_ok-labelling.ensures.divides in
     let firsts_are : AreFirstTiles classes (λ tile. In tile tiles) firsts = subst (λ (v : List ℕ). AreFirstTiles v (λ tile. In tile tiles) firsts)
     c.as_slice-2.ensures.value
     (subst (λ (v : List RegionTile). AreFirstTiles c.as_slice-2.result.now (λ tile. In tile v) firsts) c.items-tiles.ensures c.in_ok-firsts.ensures) in

@@ -19,7 +19,8 @@ loop-index-preserved c =
     let n = c.loop-index.index in
     let texts = c.loop-index.texts.items in
     let label = c.index-labels-index.result in
-    let text : label.text ≡ text_at labels n = ap (λ (v : Label). v.text) (get_or_read labels n label c.loop-index-test.true c.index-labels-index.is no_label) in
+    let text : label.text ≡ text_at labels n =
+    ap (λ (v : Label). v.text) (get_or_read labels n label c.loop-index-test.true c.index-labels-index.is no_label) in
     elim c.if-is_none.branch [
       | then-is_none+in_ok-copy+in_ok-push w ↦
           let none = none_from_test (key_at named n) (c.is_none.ensures ∙ not_from_true c.is_none.result w.if-is_none.true) in
@@ -37,4 +38,5 @@ returns c =
     let past = c.loop-index-test.false in
     let here = c.loop-index.auto.index-end in
     texts_by c.args.labels.now (IsLeftBelow named n) _ c.loop-index.texts.items
-    (λ k left. let less = left.0 in (omega (arith, less, here), left.1)) (λ k left. let less = left.0 in (omega (arith, less, past), left.1)) c.loop-index.invariant
+    (λ k left. let less = left.0 in (omega (arith, less, here), left.1)) (λ k left. let less = left.0 in (omega (arith, less, past), left.1))
+    c.loop-index.invariant

@@ -22,7 +22,8 @@ loop-contact-preserved c =
     let within = c.requires.within i no_contact less in
     let first = c.index-typed_stacks-contact.result in
     let second = c.index-typed_stacks-contact-in-loop-contact.result in
-    let is_first : first ≡ typed_stack_at typed_stacks contact.first = get_or_read typed_stacks contact.first first within.0 c.index-typed_stacks-contact.is no_typed_stack in
+    let is_first : first ≡ typed_stack_at typed_stacks contact.first =
+    get_or_read typed_stacks contact.first first within.0 c.index-typed_stacks-contact.is no_typed_stack in
     let is_second : second ≡ typed_stack_at typed_stacks contact.second =
     get_or_read typed_stacks contact.second second within.1 c.index-typed_stacks-contact-in-loop-contact.is no_typed_stack in
     let before = changed_pieces raw typed_stacks (take i contacts) in

@@ -35,7 +35,17 @@ returns-in_err-carry_out-clause-stopped g c before files told files_told =
       subst (λ (n : ℕ). Rose n (g.F.Shelf.store_faults c.carry_out.new.shelf)) c.answer_line.ensures.causes.no_store rose,
     ))
     files answer.lines.items answer.stores.items stopped.0 stopped.1 stopped.2 in
-    on_err-given c.from_residual-in_err-carry_out.result (stopped.0, stopped.1, inr (effect, ((c.args.session.now, c.requires, refl), (c.answer_line.new.self, c.answer_line.ensures.sound, refl), means.1), part), stopped.3, stopped.4)
+    on_err-given c.from_residual-in_err-carry_out.result (
+      stopped.0,
+      stopped.1,
+      inr (
+        effect,
+        ((c.args.session.now, c.requires, refl), (c.answer_line.new.self, c.answer_line.ensures.sound, refl), means.1),
+        part,
+      ),
+      stopped.3,
+      stopped.4,
+    )
 
 pub returns-clause-effect : goal.returns-clause-effect
 returns-clause-effect g c before files told files_told =
@@ -50,5 +60,14 @@ returns-clause-effect g c before files told files_told =
       absent = λ some. subst (λ (n : ℕ). Rose (g.F.Shelf.absences c.args.shelf.now) n) (sym c.carry_out.ensures.no_absence) (refusals.absent some);
       too_long = λ some. subst (λ (n : ℕ). Rose (g.F.Shelf.overlengths c.args.shelf.now) n) (sym c.carry_out.ensures.no_overlength) (refusals.too_long some);
     } in
-    let asked : g.F.Shelf.fetch_plan c.carry_out.new.shelf ≡ after_fetches (g.F.Shelf.fetch_plan c.args.shelf.now) means.0 = c.carry_out.ensures.no_fetch_call ∙ means.2 in
-    (effect, ((c.args.session.now, c.requires, refl), (c.answer_line.new.self, c.answer_line.ensures.sound, refl), means.1), refl, done.0, done.1, tells, asked, came)
+    let asked : g.F.Shelf.fetch_plan c.carry_out.new.shelf ≡ after_fetches (g.F.Shelf.fetch_plan c.args.shelf.now) means.0 = c.carry_out.ensures.no_fetch_call
+    ∙ means.2 in (
+      effect,
+      ((c.args.session.now, c.requires, refl), (c.answer_line.new.self, c.answer_line.ensures.sound, refl), means.1),
+      refl,
+      done.0,
+      done.1,
+      tells,
+      asked,
+      came,
+    )

@@ -30,7 +30,8 @@ loop-line-init g c =
       more_absences = omega arith;
       more_overlengths = omega arith;
       way = λ before files told files_told.
-          let way = under_way_start (MeansInSound g.S.Session.state g.S.Session.is_sound g.S.Session.means) c.args.quiet first files before (g.F.Shelf.fetch_plan c.args.shelf.now) (lines_of c.args.text.now) (g.F.Shelf.files c.args.shelf.now)
+          let way = under_way_start (MeansInSound g.S.Session.state g.S.Session.is_sound g.S.Session.means) c.args.quiet first files before
+          (g.F.Shelf.fetch_plan c.args.shelf.now) (lines_of c.args.text.now) (g.F.Shelf.files c.args.shelf.now)
           (g.K.Sink.written c.args.report.now) told files_told in
           let none = subst (λ (done : List (Effect g.S.Session.State)). AreCounted g.F.Shelf c.args.shelf.now c.args.shelf.now (answers_in (acts_of done)))
           (sym way.1) (none_counted g.F.Shelf c.args.shelf.now) in
@@ -42,15 +43,21 @@ returns-in_err-tells-clause-progress g c before files told files_told =
     let first = g.S.Session.state c.args.session.now in
     let here = rw c.in-Some.ensures.steps at (c.loop-line.invariant.way before files told files_told) in
     let way = here.0 in
-    let stopped = c.in_err-tells.ensures.stopped (before ++ report_of c.args.quiet (lines_in (acts_of way.done))) (with_stores files (stores_in (acts_of way.done))) way.reported
+    let stopped = c.in_err-tells.ensures.stopped (before ++ report_of c.args.quiet (lines_in (acts_of way.done)))
+    (with_stores files (stores_in (acts_of way.done))) way.reported
     way.files_are in
     let Fails = StoreFailed {T = Bool} g.F.Shelf c.loop-line.shelf c.run_line.new.shelf (Err c.in_err-tells.field-0.0) in
     let Failed = StoreFailed g.F.Shelf c.args.shelf.now c.run_line.new.shelf c.from_residual.result in
     let next = BeginsNext-weaker (MeansInSound g.S.Session.state g.S.Session.is_sound g.S.Session.means) c.args.quiet Fails Failed
-    (λ (is, rose). (passed_on_as Bool Bool c.from_residual.result c.in_err-tells.field-0.0 WriteFault c.from_residual.ensures.1 is, subst (λ (n : ℕ). Rose n (g.F.Shelf.store_faults c.run_line.new.shelf)) c.loop-line.invariant.same_store rose))
+    (λ (is, rose). (
+      passed_on_as Bool Bool c.from_residual.result c.in_err-tells.field-0.0 WriteFault c.from_residual.ensures.1 is,
+      subst
+          (λ (n : ℕ). Rose n (g.F.Shelf.store_faults c.run_line.new.shelf)) c.loop-line.invariant.same_store rose,
+    ))
     (c.loop-line.number + 1) (g.S.Session.state c.loop-line.session) (with_stores files (stores_in (acts_of way.done))) (c.in-Some.line.now ∷ [])
     stopped.0 stopped.1 stopped.2 in
-    progress_in_line (MeansInSound g.S.Session.state g.S.Session.is_sound g.S.Session.means) c.args.quiet Failed first files before (g.F.Shelf.fetch_plan c.args.shelf.now)
+    progress_in_line (MeansInSound g.S.Session.state g.S.Session.is_sound g.S.Session.means) c.args.quiet Failed first files before
+    (g.F.Shelf.fetch_plan c.args.shelf.now)
     (g.F.Shelf.fetch_plan c.loop-line.shelf) (lines_of c.args.text.now) (g.S.Session.state c.loop-line.session)
     (g.F.Shelf.files c.loop-line.shelf) (g.F.Shelf.files c.run_line.new.shelf) (g.K.Sink.written c.loop-line.report)
     (g.K.Sink.written c.run_line.new.report) c.loop-line.number c.loop-line.told c.in-Some.line.now c.next.new.self way stopped.0 stopped.1 next
@@ -69,9 +76,12 @@ loop-line-preserved g c = record {
       let first = g.S.Session.state c.args.session.now in
       let here = rw c.in-Some.ensures.steps at (c.loop-line.invariant.way before files told files_told) in
       let way = here.0 in
-      let done = c.in_ok-tells.ensures.effect (before ++ report_of c.args.quiet (lines_in (acts_of way.done))) (with_stores files (stores_in (acts_of way.done))) way.reported
+      let done = c.in_ok-tells.ensures.effect (before ++ report_of c.args.quiet (lines_in (acts_of way.done)))
+      (with_stores files (stores_in (acts_of way.done))) way.reported
       way.files_are in
-      let next = under_way_next (MeansInSound g.S.Session.state g.S.Session.is_sound g.S.Session.means) c.args.quiet first files before (g.F.Shelf.fetch_plan c.args.shelf.now) (g.F.Shelf.fetch_plan c.loop-line.shelf) (g.F.Shelf.fetch_plan c.run_line.new.shelf) (lines_of c.args.text.now) (g.S.Session.state c.loop-line.session)
+      let next = under_way_next (MeansInSound g.S.Session.state g.S.Session.is_sound g.S.Session.means) c.args.quiet first files before
+      (g.F.Shelf.fetch_plan c.args.shelf.now) (g.F.Shelf.fetch_plan c.loop-line.shelf) (g.F.Shelf.fetch_plan c.run_line.new.shelf)
+      (lines_of c.args.text.now) (g.S.Session.state c.loop-line.session)
       (g.S.Session.state c.run_line.new.session) (g.F.Shelf.files c.loop-line.shelf) (g.F.Shelf.files c.run_line.new.shelf)
       (g.K.Sink.written c.loop-line.report) (g.K.Sink.written c.run_line.new.report) c.loop-line.number c.loop-line.told c.in_ok-tells.tells
       c.in-Some.line.now c.next.new.self way done.0 done.1 done.2 done.3 done.4 done.5 done.6 in
@@ -85,8 +95,10 @@ loop-line-preserved g c = record {
 pub returns-clause-effect : goal.returns-clause-effect
 returns-clause-effect g c before files told files_told =
     let here = rw c.in-None.ensures.steps.0 at (c.loop-line.invariant.way before files told files_told) in
-    let (effects, means, reported, stored, tells, asked, came) = done_at_end (MeansInSound g.S.Session.state g.S.Session.is_sound g.S.Session.means) c.args.quiet
-    (g.S.Session.state c.args.session.now) files before (g.F.Shelf.fetch_plan c.args.shelf.now) (g.F.Shelf.fetch_plan c.loop-line.shelf) (lines_of c.args.text.now)
+    let (effects, means, reported, stored, tells, asked, came) =
+    done_at_end (MeansInSound g.S.Session.state g.S.Session.is_sound g.S.Session.means) c.args.quiet
+    (g.S.Session.state c.args.session.now) files before (g.F.Shelf.fetch_plan c.args.shelf.now) (g.F.Shelf.fetch_plan c.loop-line.shelf)
+    (lines_of c.args.text.now)
     (g.S.Session.state c.loop-line.session) (g.F.Shelf.files c.loop-line.shelf) (g.K.Sink.written c.loop-line.report) c.loop-line.number c.loop-line.told
     (λ (acts : List Act). AreCounted g.F.Shelf c.args.shelf.now c.loop-line.shelf (answers_in acts)) here.0 here.1 in
     (acts_of effects, (effects, means, refl), reported, stored, tells, asked, came)
@@ -95,7 +107,8 @@ pub returns-clause-progress : goal.returns-clause-progress
 returns-clause-progress g c before files told files_told =
     let here = rw c.in-None.ensures.steps.0 at (c.loop-line.invariant.way before files told files_told) in
     let Fails = StoreFailed {T = Bool} g.F.Shelf c.args.shelf.now c.loop-line.shelf (Ok c.loop-line.told) in
-    progress_at_end (MeansInSound g.S.Session.state g.S.Session.is_sound g.S.Session.means) c.args.quiet Fails (g.S.Session.state c.args.session.now) files before (g.F.Shelf.fetch_plan c.args.shelf.now) (g.F.Shelf.fetch_plan c.loop-line.shelf) (lines_of c.args.text.now)
+    progress_at_end (MeansInSound g.S.Session.state g.S.Session.is_sound g.S.Session.means) c.args.quiet Fails (g.S.Session.state c.args.session.now) files
+    before (g.F.Shelf.fetch_plan c.args.shelf.now) (g.F.Shelf.fetch_plan c.loop-line.shelf) (lines_of c.args.text.now)
     (g.S.Session.state c.loop-line.session) (g.F.Shelf.files c.loop-line.shelf) (g.K.Sink.written c.loop-line.report) c.loop-line.number
     c.loop-line.told here.0
 

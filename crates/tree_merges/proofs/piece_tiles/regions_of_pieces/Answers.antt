@@ -36,7 +36,8 @@ regions_of_tiles-requires-clause-by_plane c =
 pub returns : goal.returns
 returns c =
     let are : c.as_slice.result.now ≡ tiles_of c.args.stacks.now = c.as_slice.ensures.value ∙ c.in_ok-tiles.ensures in
-    let same = subst (λ (tiles : List RegionTile). (labels : List ℕ) × AreRenumbered tiles labels c.in_ok-regions.regions.tiles) are c.in_ok-regions.ensures.same in
+    let same = subst (λ (tiles : List RegionTile). (labels : List ℕ) × AreRenumbered tiles labels c.in_ok-regions.regions.tiles) are
+    c.in_ok-regions.ensures.same in
     record {
       labels = same.0;
       same = same.1;

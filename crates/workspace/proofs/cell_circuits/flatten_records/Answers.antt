@@ -27,7 +27,8 @@ returns-in-Ok-clause-flattened c =
     subst (λ (name : List ℕ). IsFlatOf exts name c.in-Ok.circuit) c.name_of.ensures c.in-Ok.ensures.meaning in
     let letters : FlatCircuitsHaveLetters library.tech =
     subst (λ (raw : RawTech). FlatCircuitsHaveLetters raw) c.tech.ensures c.flat_circuits_have_letters.ensures in
-    flattened_is library c.lawful.ensures c.args.cell.0 c.requires.cell c.requires.clean exts (plains_are_records c.args.exts.now c.requires.records) c.requires.tree
+    flattened_is library c.lawful.ensures c.args.cell.0 c.requires.cell c.requires.clean exts (plains_are_records c.args.exts.now c.requires.records)
+    c.requires.tree
     c.records_stand_for_the_flat_layout.ensures c.clean_cell_has_clean_tree.ensures c.chains_are_short.ensures
     c.flat_transistors_have_letter_and_lengths.ensures c.flat_networks_fit.ensures
     c.flat_networks_have_the_nodes.ensures letters c.in-Ok.circuit flat
@@ -38,7 +39,8 @@ returns-in-Err-TooMany-clause-flattened c =
     let exts = plains c.args.exts.now in
     let told : IsFlatFaultOf exts c.name_of.result.now (FlatTooMany c.in-Err-TooMany.limit) = search rules in
     let fault = subst (λ (name : List ℕ). IsFlatFaultOf exts name (FlatTooMany c.in-Err-TooMany.limit)) c.name_of.ensures told in
-    passes_limit library c.lawful.ensures c.args.cell.0 c.requires.cell c.requires.clean exts (plains_are_records c.args.exts.now c.requires.records) c.requires.tree c.in-Err-TooMany.limit fault
+    passes_limit library c.lawful.ensures c.args.cell.0 c.requires.cell c.requires.clean exts (plains_are_records c.args.exts.now c.requires.records)
+    c.requires.tree c.in-Err-TooMany.limit fault
 
 pub unreachable-requires : goal.unreachable-requires
 unreachable-requires c =
@@ -46,7 +48,8 @@ unreachable-requires c =
     let exts = plains c.args.exts.now in
     let told : IsFlatFaultOf exts c.name_of.result.now c.in-Err.field-0 = search rules in
     let fault = subst (λ (name : List ℕ). IsFlatFaultOf exts name c.in-Err.field-0) c.name_of.ensures told in
-    let why = no_other_fault library c.lawful.ensures c.args.cell.0 c.requires.cell c.requires.clean exts (plains_are_records c.args.exts.now c.requires.records) c.requires.tree
+    let why = no_other_fault library c.lawful.ensures c.args.cell.0 c.requires.cell c.requires.clean exts
+    (plains_are_records c.args.exts.now c.requires.records) c.requires.tree
     c.tree_records_have_no_other_fault.ensures c.clean_cell_has_clean_tree.ensures c.chains_are_short.ensures c.in-Err.field-0 fault in
     let is_limit : c.in-Err.field-0 ≡ FlatTooMany why.0 = why.1 in
     search (rules, is_limit)

@@ -37,7 +37,8 @@ returns-in_ok-extraction-in-Ok-clause-extracted c =
     let stores : map (λ store. Some store) extraction.stores ≡ map (kept_store (seen library) after) told =
     rw (c.as_slice.ensures.value, c.reader-library.ensures) at c.in_ok-extraction-in-Ok.ensures.stores in
     let count : extraction.count ≡ length told = rw c.as_slice.ensures.value at c.in_ok-extraction-in-Ok.ensures.count in
-    extraction_told library records c.args.cell.0 after told extracts c.args.edited.now.current c.args.edited.now.log c.args.number extraction agrees lines stores count
+    extraction_told library records c.args.cell.0 after told extracts c.args.edited.now.current c.args.edited.now.log c.args.number extraction agrees lines
+    stores count
 
 pub unclean_lines-requires-clause-cell : goal.unclean_lines-requires-clause-cell
 unclean_lines-requires-clause-cell c =

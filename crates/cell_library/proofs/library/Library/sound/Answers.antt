@@ -11,7 +11,12 @@ use Rattle.cell_library.proofs.library.Library.sound.Goals as goal
 
 pub returns : goal.returns
 returns c =
-    let inside : LibraryParts = record { tech = c.self.inside.tech; scale = c.self.inside.scale; contents = c.self.inside.contents; tree = c.self.inside.tree } in
+    let inside : LibraryParts = record {
+      tech = c.self.inside.tech;
+      scale = c.self.inside.scale;
+      contents = c.self.inside.contents;
+      tree = c.self.inside.tree;
+    } in
     let below : c.args.cell.0 < length inside.contents = subst (λ (l : LibraryParts). c.args.cell.0 < length l.contents) (sym c.self.view_is) c.requires in
     let here = cell_viewed inside.contents (uses_in inside.tree.cells) c.args.cell.0 below in
     let kinds = (c.self.invariant.each c.args.cell.0 no_held below).kinds in

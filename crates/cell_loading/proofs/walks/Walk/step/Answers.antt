@@ -29,4 +29,5 @@ returns-in-None-clause-goes_on g c files read told are =
     (none_taken view cells left after _ c.in-None.is c.in_ok-name.ensures.taken) are)
 
 pub returns-in-None-clause-asked : goal.returns-in-None-clause-asked
-returns-in-None-clause-asked g c first asked = asked ∙ ap (λ (cells : List (List ℕ × CellBody)). after_fetches first (files_read cells)) (sym c.advance.ensures.cells)
+returns-in-None-clause-asked g c first asked =
+    asked ∙ ap (λ (cells : List (List ℕ × CellBody)). after_fetches first (files_read cells)) (sym c.advance.ensures.cells)

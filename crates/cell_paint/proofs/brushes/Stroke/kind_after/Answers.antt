@@ -14,4 +14,5 @@ returns-clause-few c =
     let column = c.args.column in
     let w = c.raw.ensures.well_formed in
     subst (λ (after : List TypeId). type_on after c.args.plane ≤ MOST_TYPES) (sym c.brush_column.ensures)
-    (column_small raw (brushed_column raw brush layer column) c.args.plane w (brushed_column-whole raw brush layer column w c.requires.layer c.requires.types).0)
+    (column_small raw (brushed_column raw brush layer column) c.args.plane w
+    (brushed_column-whole raw brush layer column w c.requires.layer c.requires.types).0)

@@ -10,7 +10,8 @@ use Rattle.cell_tree.proofs.size_books.SizeBook.extend.Goals as goal
 
 pub resize_all-sized-requires-clause-old : goal.resize_all-sized-requires-clause-old
 resize_all-sized-requires-clause-old c dimension =
-    start_again (states c.args.cells.now) c.args.new.now.first c.args.new.now.order.items c.requires.sized.sorted dimension c.args.self.now.sizes.items c.as_mut_slice.result.now
+    start_again (states c.args.cells.now) c.args.new.now.first c.args.new.now.order.items c.requires.sized.sorted dimension c.args.self.now.sizes.items
+    c.as_mut_slice.result.now
     (filled_old c.args.self.now.sizes.items c.args.self.now.next.items c.fill.new.list.items c.as_mut_slice.result.now _ c.args.new.now.first _
     c.as_mut_slice.ensures.value c.fill.ensures.filled c.requires.ready.next c.requires.sized.count)
     (c.requires.sized.old dimension)
@@ -20,7 +21,8 @@ returns-in-Err-clause-ready c =
     on_err_from c.resize_all-sized.result _ (record {
       sizes = c.requires.ready.sizes;
       next = c.truncate.ensures.items
-          ∙ ap (λ (sizes : List Size). take c.args.new.now.first sizes) (with_items_is c.fill.new.list c.resize_all-sized.new.sizes (c.resize_all-sized.auto.sizes ∙ c.as_mut_slice.ensures.len))
+          ∙ ap (λ (sizes : List Size). take c.args.new.now.first sizes)
+          (with_items_is c.fill.new.list c.resize_all-sized.new.sizes (c.resize_all-sized.auto.sizes ∙ c.as_mut_slice.ensures.len))
           ∙ taken_back c.args.self.now.sizes.items c.resize_all-sized.new.sizes c.args.new.now.first c.requires.sized.count
           (omega (
             arith,

@@ -37,7 +37,8 @@ returns-clause-ends c = λ good last along by rest.
     let down = subst (λ (net : Network). SettlesDown net most c.take_steps.new.states c.settle_down.result c.settle_down.new.states) took.net
     (c.settle_down.ensures.settles good mid still) in
     let steps = subst (λ (done : Bool). SettlesDown first most c.take_steps.new.states done c.settle_down.new.states) c.if-settle_down.false down in
-    let all = steps_then first c.args.states.now c.take_steps.new.states c.settle_down.new.states (length c.args.steps.now) most (took.steps good last along by) steps in
+    let all = steps_then first c.args.states.now c.take_steps.new.states c.settle_down.new.states (length c.args.steps.now) most
+    (took.steps good last along by) steps in
     ends_after first (sound_of c.args.net.now) c.args.states.now c.requires.states (length c.args.steps.now + most) 0 c.args.budget c.settle_down.new.states
     c.end_phase.new.states c.end_phase.result (omega (arith, c.requires.few)) all
     (subst (λ (net : Network). EndsPhase net 0 c.settle_down.new.states c.end_phase.result c.end_phase.new.states) (c.settle_down.ensures.net ∙ took.net)
@@ -56,7 +57,8 @@ returns-clause-along c = λ good last along by rest.
     let before = along_as good here here c.take_steps.new.self.held held c.take_steps.new.self.good.items last c.settle_down.new.states
     c.settle_down.new.self.differing.inside refl took.held (sym at) (settled.along good mid still) in
     let good_now : c.end_phase.new.self.good.items ≡ last = c.end_phase.ensures.good ∙ settled.good ∙ sym at in
-    let tells = subst (λ (s : List Level). (v : ℕ) → IsTold s c.end_phase.new.states c.end_phase.new.self.differing.inside v) good_now c.end_phase.ensures.told in
+    let tells = subst (λ (s : List Level). (v : ℕ) → IsTold s c.end_phase.new.states c.end_phase.new.self.differing.inside v) good_now
+    c.end_phase.ensures.told in
     let after = along_ended good here held 0 last c.settle_down.new.states last c.end_phase.new.states c.settle_down.new.self.differing.inside
     c.end_phase.new.self.differing.inside c.end_phase.result (sound_of c.settle_down.new.net) before c.end_phase.ensures.ends refl (λ v input. refl) tells in
     subst (λ (net : Network). IsAlong good net held last c.end_phase.new.states c.end_phase.new.self.differing.inside) (sym c.end_phase.ensures.net) after

@@ -57,14 +57,17 @@ steps-preserved c =
       net = looked.net ∙ before.net;
       steps = λ good along step.
           let one = taken_step good here c.steps.self.held c.look.new.self.held s c.look.new.self.good.items t c.steps.self.differing marks next []
-          c.take.new.self.good.items c.take.new.states looked.held (looked.good ∙ before.good) took.good took.states (sound_of c.steps.net) (now good along step)
+          c.take.new.self.good.items c.take.new.states looked.held (looked.good ∙ before.good) took.good took.states (sound_of c.steps.net)
+          (now good along step)
           looked.near looked.steady step in
           steps_more first c.args.states.now t c.take.new.states c.take.new.states c.steps.taken (before.steps good along step)
           (subst (λ (net : Network). IsStep net t c.take.new.states) before.net one) refl;
       along = λ good along step.
           let one = taken_along good here c.steps.self.held c.look.new.self.held s c.look.new.self.good.items t c.steps.self.differing marks next []
-          c.take.new.self.good.items c.take.new.states looked.held (looked.good ∙ before.good) took.good took.states (sound_of c.steps.net) (now good along step)
+          c.take.new.self.good.items c.take.new.states looked.held (looked.good ∙ before.good) took.good took.states (sound_of c.steps.net)
+          (now good along step)
           looked.near looked.steady step c.take.new.self.differing.inside took.told in
           subst (λ (g : List Level). IsAlong good first held g c.take.new.states c.take.new.self.differing.inside) (took.good ∙ looked.good ∙ before.good)
-          (along_at good here first c.steps.self.held held c.take.new.self.good.items c.take.new.states c.take.new.self.differing.inside before.net before.held one);
+          (along_at good here first c.steps.self.held held c.take.new.self.good.items c.take.new.states c.take.new.self.differing.inside before.net
+          before.held one);
     }

@@ -36,7 +36,8 @@ loop-changes-preserved c =
       steps = λ good last along by.
           let step = subst (λ (net : Network). IsStep net t c.take_step.new.states) before.net
           (took.steps good (there good last along by) (split good last by).0) in
-          steps_more first c.args.states.now t c.take_step.new.states c.take_step.new.states c.loop-changes.changes-index (before.steps good last along by) step refl;
+          steps_more first c.args.states.now t c.take_step.new.states c.take_step.new.states c.loop-changes.changes-index (before.steps good last along by)
+          step refl;
       along = λ good last along by.
           along_at good (network_of c.take_step.new.net) first c.loop-changes.self.held held c.take_step.new.self.good.items c.take_step.new.states
           c.take_step.new.self.differing.inside (took.net ∙ before.net) before.held (took.along good (there good last along by) (split good last by).0);

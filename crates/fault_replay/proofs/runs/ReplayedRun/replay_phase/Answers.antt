@@ -26,7 +26,14 @@ returns-clause-taken c = λ number rest beside.
     (λ new t later. Records budget new t rest later)) c.split_first.ensures beside.records in
     let ends = ran.ends beside.good recorded.0 beside.along recorded.1 in
     phase_taken budget (watched c.args.net.now c.args.self.now.run) _ Phase c.run_recorded-settled.result ends.0 refl
-    (record { done = c.run_recorded-settled.result; steps = ends.0; is_phase = ends.1; same_net = ran.net; counted = add-one c.args.self.now.run.progress.phases; replied = refl }) refl
+    (record {
+      done = c.run_recorded-settled.result;
+      steps = ends.0;
+      is_phase = ends.1;
+      same_net = ran.net;
+      counted = add-one c.args.self.now.run.progress.phases;
+      replied = refl;
+    }) refl
 
 pub returns-clause-beside : goal.returns-clause-beside
 returns-clause-beside c = λ number rest beside.

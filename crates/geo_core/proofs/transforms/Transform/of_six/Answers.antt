@@ -8,7 +8,8 @@ pub returns-in-Some-clause-some : goal.returns-in-Some-clause-some
 returns-in-Some-clause-some c =
     let v = c.args.v in
     let count : length v ≡ 6 = search rules in
-    let found : orient_of (slice_index_or v 0 (pos 0)) (slice_index_or v 1 (pos 0)) (slice_index_or v 3 (pos 0)) (slice_index_or v 4 (pos 0)) ≡ Some c.in-Some.orient =
+    let found : orient_of (slice_index_or v 0 (pos 0)) (slice_index_or v 1 (pos 0)) (slice_index_or v 3 (pos 0)) (slice_index_or v 4 (pos 0))
+    ≡ Some c.in-Some.orient =
     search rules in
     let dx : to_z w64 (of_z w64 (slice_index_or v 2 (pos 0))) ≡ slice_index_or v 2 (pos 0) = search rules in
     let dy : to_z w64 (of_z w64 (slice_index_or v 5 (pos 0))) ≡ slice_index_or v 5 (pos 0) = search rules in
@@ -17,5 +18,6 @@ returns-in-Some-clause-some c =
 pub returns-in-None-clause-none : goal.returns-in-None-clause-none
 returns-in-None-clause-none c =
     let v = c.args.v in
-    let found : orient_of (slice_index_or v 0 (pos 0)) (slice_index_or v 1 (pos 0)) (slice_index_or v 3 (pos 0)) (slice_index_or v 4 (pos 0)) ≡ None = search rules in
+    let found : orient_of (slice_index_or v 0 (pos 0)) (slice_index_or v 1 (pos 0)) (slice_index_or v 3 (pos 0)) (slice_index_or v 4 (pos 0)) ≡ None =
+    search rules in
     six_of-none v found

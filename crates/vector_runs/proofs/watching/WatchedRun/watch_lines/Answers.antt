@@ -18,7 +18,8 @@ loop-number-preserved c =
     next_line c.args.budget c.args.self.now.stuck c.args.lines.now c.loop-number.number-index line first (watched c.loop-number.net c.loop-number.self) new
     c.loop-number.seen.items (omega arith) c.loop-number-item.is (λ out. takes.left_out (same ∙ out)) (λ counts. takes.taken (same ∙ counts)) before.shown in
     record {
-      shown = subst (λ (seen : List Seen). LinesShow c.args.budget first (counting c.args.self.now.stuck (take (c.loop-number.number-index + 1) c.args.lines.now)) new seen)
+      shown = subst (λ (seen : List Seen). LinesShow c.args.budget first
+          (counting c.args.self.now.stuck (take (c.loop-number.number-index + 1) c.args.lines.now)) new seen)
           (sym (c.in_ok-show.ensures c.loop-number.net)) shown;
       stuck = takes.stuck ∙ before.stuck;
       under_way = takes.under_way;
