@@ -30,16 +30,16 @@ use Rattle.cell_tree.specs.Sizes.{CellState, AreSizes, hulls_below, size_at, siz
 use Rattle.cell_tree.specs.Trees.{cell_at}
 use Rattle.cell_tree.proofs.HullLaws.{inside_all}
 use Rattle.cell_tree.proofs.WholeLaws.{cell_is}
-use Rattle.layout_trees.specs.CellTrees.{CellTree, Elements, place_back}
-use Rattle.layout_trees.specs.CellTrees.CellTree.{cell_tree}
-use Rattle.layout_trees.specs.CellTrees.Elements.{no_elements, element_and}
-use Rattle.layout_trees.specs.FlatSets.{flat_sets, sets_below, sets_in}
+use Rattle.layout_model.specs.CellTrees.{CellTree, Elements, place_back}
+use Rattle.layout_model.specs.CellTrees.CellTree.{cell_tree}
+use Rattle.layout_model.specs.CellTrees.Elements.{no_elements, element_and}
+use Rattle.layout_model.specs.FlatSets.{flat_sets, sets_below, sets_in}
 use Rattle.cell_library.specs.LayoutTrees.{element_transform, elements_at, elements_from, tree_to}
 use Rattle.cell_library.specs.Limits.{AreStatesOf}
 use Rattle.cell_library.specs.MaterialBelow.{HasMaterial, HasMaterialBelow}
 use Rattle.cell_library.specs.OwnBoxes.{OwnBoxIs}
 use Rattle.cell_library.specs.Views.{CellView, LibraryView, no_cell, view_at}
-use Rattle.layout_trees.proofs.SetUnions.{union_some}
+use Rattle.layout_model.proofs.SetUnions.{union_some}
 use Rattle.cell_library.proofs.ViewLaws.{length-states, state_there}
 
 -- ---- elements

@@ -20,7 +20,7 @@ use Rattle.geo_core.proofs.ImageLaws.{image-forth, rect_image-covers}
 use Rattle.geo_core.proofs.StripSets.{strip_is_proper, strip_within}
 use Rattle.layout_model.specs.Layouts.{Layout, IsMaterial}
 use Rattle.layout_model.specs.Places.{Place}
-use Rattle.layout_trees.specs.CellTrees.{Standing, place_back}
+use Rattle.layout_model.specs.CellTrees.{Standing, place_back}
 use Rattle.cell_paint.specs.Painting.{kinds_on}
 use Rattle.cell_library.specs.declared.part_tiles.PartTile.{PartTile}
 use Rattle.cell_library.specs.declared.spots.Spot.{Spot}

@@ -9,10 +9,10 @@ use Rattle.geo_core.specs.declared.squares.Rect.{Rect}
 use Rattle.geo_core.specs.Covering.{Covers}
 use Rattle.tech_model.specs.declared.raw.RawTech.{RawTech}
 use Rattle.layout_model.specs.Places.{Place}
-use Rattle.layout_trees.specs.CellTrees.{CellTree, Elements, Standing, standings, standings_from, under}
-use Rattle.layout_trees.specs.CellTrees.CellTree.{cell_tree}
-use Rattle.layout_trees.specs.CellTrees.Elements.{no_elements, element_and}
-use Rattle.layout_trees.specs.FlatSets.{element_parts, parts_in}
+use Rattle.layout_model.specs.CellTrees.{CellTree, Elements, Standing, standings, standings_from, under}
+use Rattle.layout_model.specs.CellTrees.CellTree.{cell_tree}
+use Rattle.layout_model.specs.CellTrees.Elements.{no_elements, element_and}
+use Rattle.layout_model.specs.FlatSets.{element_parts, parts_in}
 use Rattle.cell_tree.specs.Sizes.{hulls_below, size_at}
 use Rattle.cell_library.specs.declared.part_tiles.PartTile.{PartTile}
 use Rattle.cell_library.specs.ElementBoxes.{AreElementBoxes, HoldParts}

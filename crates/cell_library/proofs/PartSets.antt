@@ -15,10 +15,10 @@ use Rattle.geo_core.proofs.CoveringLaws.{Covers-is_covered, is_covered-Covers}
 use Rattle.tech_model.specs.declared.raw.RawTech.{RawTech}
 use Rattle.tech_model.specs.Types.{parts_of}
 use Rattle.layout_model.specs.Places.{Place}
-use Rattle.layout_trees.specs.CellTrees.{CellTree, Elements, Standing, place_back}
-use Rattle.layout_trees.specs.CellTrees.CellTree.{cell_tree}
-use Rattle.layout_trees.specs.CellTrees.Elements.{no_elements, element_and}
-use Rattle.layout_trees.specs.FlatSets.{flat_sets, sets_below, element_parts}
+use Rattle.layout_model.specs.CellTrees.{CellTree, Elements, Standing, place_back}
+use Rattle.layout_model.specs.CellTrees.CellTree.{cell_tree}
+use Rattle.layout_model.specs.CellTrees.Elements.{no_elements, element_and}
+use Rattle.layout_model.specs.FlatSets.{flat_sets, sets_below, element_parts}
 use Rattle.cell_tree.specs.declared.limits.TheConstants.{MOST_DEPTH}
 use Rattle.cell_library.specs.declared.part_tiles.PartTile.{PartTile}
 use Rattle.cell_library.specs.LayoutTrees.{tree_at, tree_to}
@@ -27,7 +27,7 @@ use Rattle.cell_library.specs.PartTiles.{set_from, set_of_part, set_of_tiles, Is
 use Rattle.cell_library.specs.VisitedTiles.{placed_cells, placed_below, AddsTiles, IsCutOf, HasThere, AreTold}
 use Rattle.cell_library.proofs.PlacedCells.{standings_placed}
 use Rattle.cell_library.proofs.PlacedRects.{back_on, identity_back, then_identity}
-use Rattle.layout_trees.proofs.SetUnions.{union_none, none_union, union_assoc}
+use Rattle.layout_model.proofs.SetUnions.{union_none, none_union, union_assoc}
 use Rattle.cell_library.proofs.ToldTiles.{cut_type}
 
 -- ---- part tiles

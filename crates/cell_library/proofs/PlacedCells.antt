@@ -16,9 +16,9 @@ use Rattle.cell_tree.specs.Sizes.{CellState, AreSizes, size_at, size_of, element
 use Rattle.cell_tree.specs.Trees.{cell_at}
 use Rattle.cell_tree.proofs.SizeLaws.{child_is_lower}
 use Rattle.cell_tree.proofs.WholeLaws.{cell_is}
-use Rattle.layout_trees.specs.CellTrees.{CellTree, Elements, Standing, under, place_back, standings, standings_from}
-use Rattle.layout_trees.specs.CellTrees.CellTree.{cell_tree}
-use Rattle.layout_trees.specs.CellTrees.Elements.{no_elements, element_and}
+use Rattle.layout_model.specs.CellTrees.{CellTree, Elements, Standing, under, place_back, standings, standings_from}
+use Rattle.layout_model.specs.CellTrees.CellTree.{cell_tree}
+use Rattle.layout_model.specs.CellTrees.Elements.{no_elements, element_and}
 use Rattle.cell_library.specs.LayoutTrees.{elements_at, elements_from, tree_to}
 use Rattle.cell_library.specs.Limits.{AreStatesOf}
 use Rattle.cell_library.specs.MaterialBelow.{HasMaterial, HasMaterialBelow}

@@ -12,7 +12,7 @@ use Rattle.cell_tree.specs.declared.sizes.Size.{Size}
 use Rattle.cell_tree.specs.declared.use_tables.UseBody.{UseBody}
 use Rattle.cell_tree.specs.Uses.{displacements}
 use Rattle.cell_tree.specs.Sizes.{elements_below}
-use Rattle.layout_trees.specs.CellTrees.{CellTree, Elements, Standing}
+use Rattle.layout_model.specs.CellTrees.{CellTree, Elements, Standing}
 use Rattle.cell_library.specs.declared.part_tiles.PartTile.{PartTile}
 use Rattle.cell_library.specs.declared.spots.Spot.{Spot}
 use Rattle.cell_library.specs.LayoutTrees.{element_transform, elements_at, elements_from}

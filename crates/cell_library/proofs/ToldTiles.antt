@@ -14,7 +14,7 @@ use Rattle.geo_core.proofs.CoveringLaws.{covers_first, covers_second, corner_cov
 use Rattle.geo_core.proofs.ImageLaws.{image-forth, rect_image-covered}
 use Rattle.geo_core.proofs.StripSets.{strip_within}
 use Rattle.layout_model.specs.Places.{Place}
-use Rattle.layout_trees.specs.CellTrees.{Standing}
+use Rattle.layout_model.specs.CellTrees.{Standing}
 use Rattle.cell_library.specs.declared.part_tiles.PartTile.{PartTile}
 use Rattle.cell_library.specs.VisitedTiles.{IsCutOf, HasThere, AreTold, AddsTiles, AreOutside}
 

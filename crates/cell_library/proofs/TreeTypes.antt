@@ -8,8 +8,8 @@ use Rattle.tech_model.specs.declared.limits.TheConstants.{MOST_PLANES}
 use Rattle.tech_model.specs.declared.raw.RawTech.{RawTech}
 use Rattle.layout_model.specs.Layouts.{Layout}
 use Rattle.layout_model.specs.LayerTypes.{HasTypesOf}
-use Rattle.layout_trees.specs.CellTrees.{CellTree, Elements}
-use Rattle.layout_trees.specs.FlatSets.{IsTyped, AreTyped}
+use Rattle.layout_model.specs.CellTrees.{CellTree, Elements}
+use Rattle.layout_model.specs.FlatSets.{IsTyped, AreTyped}
 use Rattle.cell_paint.specs.Paints.{layout_of}
 use Rattle.cell_paint.proofs.PaintTypes.{paint_has_types}
 use Rattle.cell_tree.specs.declared.use_tables.UseBody.{UseBody}

@@ -24,7 +24,7 @@ use Rattle.cell_tree.specs.Sizes.{IsHullInRange, size_at, size_of}
 use Rattle.cell_tree.specs.Trees.{Tree, IsLawfulTree, cell_at}
 use Rattle.cell_tree.proofs.SizeLaws.{child_is_lower}
 use Rattle.cell_tree.proofs.WholeLaws.{cell_is}
-use Rattle.layout_trees.specs.CellTrees.{Standing, place_back}
+use Rattle.layout_model.specs.CellTrees.{Standing, place_back}
 use Rattle.cell_library.specs.declared.part_tiles.PartTile.{PartTile}
 use Rattle.cell_library.specs.declared.spots.Spot.{Spot}
 use Rattle.cell_library.specs.LayoutTrees.{elements_from, tree_to}

@@ -2,7 +2,7 @@
 pub use Rattle.cell_bodies.specs as CellBodies
 pub use Rattle.cell_paint.specs as CellPaint
 pub use Rattle.cell_tree.specs as CellTree
-pub use Rattle.layout_trees.specs as LowerLayoutTrees
+pub use Rattle.layout_model.specs as LayoutModel
 pub use Rattle.tech_model.specs as TechModel
 pub mod AddedCells
 pub mod Additions

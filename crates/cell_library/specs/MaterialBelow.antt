@@ -2,9 +2,9 @@
 use Rattle.std.specs.Prelude.{◌⊎◌}
 use Rattle.layout_model.specs.Layouts.{IsMaterial}
 use Rattle.layout_model.specs.Places.{Place}
-use Rattle.layout_trees.specs.CellTrees.{CellTree, Elements, place_back}
-use Rattle.layout_trees.specs.CellTrees.CellTree.{cell_tree}
-use Rattle.layout_trees.specs.CellTrees.Elements.{no_elements, element_and}
+use Rattle.layout_model.specs.CellTrees.{CellTree, Elements, place_back}
+use Rattle.layout_model.specs.CellTrees.CellTree.{cell_tree}
+use Rattle.layout_model.specs.CellTrees.Elements.{no_elements, element_and}
 
 -- Something at or below the cell has material at the place.
 abbrev mutual

@@ -8,9 +8,9 @@ use Rattle.geo_core.specs.Covering.{Covers, IsProper}
 use Rattle.geo_core.specs.Images.{composed, rect_image}
 use Rattle.geo_core.specs.Strips.{IsStrip}
 use Rattle.layout_model.specs.Places.{Place}
-use Rattle.layout_trees.specs.CellTrees.{CellTree, Elements, Standing, place_back}
-use Rattle.layout_trees.specs.CellTrees.CellTree.{cell_tree}
-use Rattle.layout_trees.specs.CellTrees.Elements.{no_elements, element_and}
+use Rattle.layout_model.specs.CellTrees.{CellTree, Elements, Standing, place_back}
+use Rattle.layout_model.specs.CellTrees.CellTree.{cell_tree}
+use Rattle.layout_model.specs.CellTrees.Elements.{no_elements, element_and}
 use Rattle.cell_library.specs.declared.part_tiles.PartTile.{PartTile}
 
 -- Where all cells of a tree stand that itself stands under a transform, in order. The first has this part, and the parts of the elements

@@ -16,7 +16,7 @@ use Rattle.layout_model.proofs.PlaceLaws.{IsBefore-irreflexive}
 use Rattle.names.specs.NamedNodes.{AreOneNamedNode, IsNameOf}
 use Rattle.cell_nodes.specs.NodeRecords.{IsNodeRecord, AreNodeRecords}
 use Rattle.cell_nodes.proofs.NodePlaces.{AreOneNamedNode-sym, material_along}
-use Rattle.own_record_laws.specs.OwnRecords.FetRecords.{IsOfNode, IsNodeBefore}
+use Rattle.own_record_laws.specs.TreeRecords.FetRecords.{IsOfNode, IsNodeBefore}
 use Rattle.own_record_laws.proofs.NodesByName.{one_name_one_node}
 use Rattle.own_record_laws.proofs.PreferredNames.{one_least, preferred_is_first}
 use Rattle.cell_records.specs.FetsOfRegions.{no_node, name_at}

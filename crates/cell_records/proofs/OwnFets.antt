@@ -33,7 +33,7 @@ use Rattle.fet_regions.specs.Transistors.{transistor_of}
 use Rattle.fet_regions.proofs.RoleLaws.{channel_type, type_not_space}
 use Rattle.cell_nodes.proofs.NodePlaces.{AreOneNamedNode-sym}
 use Rattle.cell_nodes.specs.RegionNodes.{AreNodesOfRegions}
-use Rattle.own_record_laws.specs.OwnRecords.FetRecords.{IsOfNode, IsNodeBefore, IsFetRecord, AreFetRecords, terminal_names}
+use Rattle.own_record_laws.specs.TreeRecords.FetRecords.{IsOfNode, IsNodeBefore, IsFetRecord, AreFetRecords, terminal_names}
 use Rattle.own_record_laws.proofs.FetSizes.{few_edges, terminals_total}
 use Rattle.own_record_laws.proofs.SomeEdges.{some_edge}
 use Rattle.cell_records.specs.FetsOfRegions.{name_at, term_of, IsSmallFet, IsRecordOfFet, AreRecordsOfFets}

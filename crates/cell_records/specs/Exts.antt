@@ -4,7 +4,7 @@ use Rattle.tech_model.specs.declared.raw.RawTech.{RawTech}
 use Rattle.ext_model.specs.declared.records.CellExt.{CellExt}
 use Rattle.ext_model.specs.declared.records.FetRec.{FetRec}
 use Rattle.ext_model.specs.declared.records.NodeRec.{NodeRec}
-use Rattle.own_record_laws.specs.OwnRecords.OwnRecords.{class_values}
+use Rattle.own_record_laws.specs.TreeRecords.OwnRecords.{class_values}
 
 -- The record has the name, the technology's name and values, these nodes and transistors, and no uses and merges.
 pub record IsExtOf (raw : RawTech) (name : List ℕ) (nodes : List NodeRec) (fets : List FetRec) (ext : CellExt) : Type 0 where

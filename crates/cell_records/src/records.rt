@@ -4,7 +4,7 @@ ghost use Rattle.cell_paint.specs.Paints.{layout_of};
 ghost use Rattle.ext_model.specs.Lawful.{IsLawful};
 ghost use Rattle.names.specs.Attachments.{AreUnattached};
 ghost use Rattle.names.specs.Labels.{IsLabelOf};
-ghost use Rattle.own_record_laws.specs.OwnRecords.OwnRecords.{IsOwnRecord, class_values};
+ghost use Rattle.own_record_laws.specs.TreeRecords.OwnRecords.{IsOwnRecord, class_values};
 ghost use Rattle.cell_records.specs.Exts.{IsExtOf};
 
 use crate::fet_records::fet_records;

@@ -3,7 +3,7 @@ use Rattle.std.proofs.Common.{◌≡◌, ◌∙◌, ◌<◌, ℕ, true, List, le
 use Rattle.tech_model.specs.Types.{is_subset}
 use Rattle.use_orders.specs.LibraryOrder.{IsLibraryOrder}
 use Rattle.use_orders.proofs.Visiting.{library_order-lists}
-use Rattle.layout_trees.specs.CellTrees.{CellTree}
+use Rattle.layout_model.specs.CellTrees.{CellTree}
 use Rattle.cell_tree.specs.declared.limits.TheConstants.{MOST_DEPTH}
 use Rattle.cell_library.specs.Additions.{children_in}
 use Rattle.cell_library.specs.CellPaint.Painting.{place_at}

@@ -8,8 +8,8 @@ use Rattle.geo_core.specs.declared.squares.Rect.{Rect}
 use Rattle.geo_core.specs.declared.squares.Square.{Square}
 use Rattle.geo_core.specs.declared.transforms.Transform.{Transform}
 use Rattle.geo_core.specs.Images.{image, inverted}
-use Rattle.layout_trees.specs.CellTrees.{CellTree}
-use Rattle.layout_trees.specs.CellTrees.CellTree.{cell_tree}
+use Rattle.layout_model.specs.CellTrees.{CellTree}
+use Rattle.layout_model.specs.CellTrees.CellTree.{cell_tree}
 use Rattle.cif_model.specs.declared.cifs.CifItem.{CifItem}
 use Rattle.cif_model.specs.declared.cifs.CifItem.TheVariants.{Area, Call}
 use Rattle.cif_model.specs.declared.cifs.CifSymbol.{CifSymbol}

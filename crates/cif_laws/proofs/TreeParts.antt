@@ -7,9 +7,9 @@ use Rattle.geo_core.specs.declared.transforms.Transform.{Transform}
 use Rattle.geo_core.specs.Images.{image, inverted}
 use Rattle.tech_model.specs.declared.raw.RawTech.{RawTech}
 use Rattle.tech_model.specs.Types.{is_subset}
-use Rattle.layout_trees.specs.CellTrees.{CellTree, Elements, OwnCell, place_back}
-use Rattle.layout_trees.specs.CellTrees.CellTree.{cell_tree}
-use Rattle.layout_trees.specs.FlatSets.{flat_sets, sets_below, sets_in}
+use Rattle.layout_model.specs.CellTrees.{CellTree, Elements, OwnCell, place_back}
+use Rattle.layout_model.specs.CellTrees.CellTree.{cell_tree}
+use Rattle.layout_model.specs.FlatSets.{flat_sets, sets_below, sets_in}
 use Rattle.cell_tree.specs.declared.use_tables.UseBody.{UseBody}
 use Rattle.cell_tree.specs.Uses.{displacements}
 use Rattle.cell_library.specs.CellPaint.Painting.{place_at}

@@ -1,6 +1,6 @@
 //! The laws that the CIF text of a cell is held to. The functions here do nothing; their contracts are the laws.
 //!
-//! `cif_written` has what such a text says (`IsCellCif`), `cif_model` what any text means (`Means`), and `layout_trees` the flat layout of a
+//! `cif_written` has what such a text says (`IsCellCif`), `cif_model` what any text means (`Means`), and `layout_model` the flat layout of a
 //! cell with all that stands below it (`flat_sets`). `specs/CellMeanings.antt` has the law: the layer of each part has exactly the squares where
 //! the flat layout has the part.
 //!

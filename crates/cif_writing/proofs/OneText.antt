@@ -7,7 +7,7 @@ use Rattle.tech_model.specs.declared.raw.RawTech.{RawTech}
 use Rattle.cell_tree.specs.declared.use_tables.UseBody.{UseBody}
 use Rattle.cell_library.specs.Libraries.{IsLawfulLibrary, LibraryParts, seen}
 use Rattle.cell_library.specs.Limits.{HullIs}
-use Rattle.cell_library.specs.LowerLayoutTrees.LayoutModel.Layouts.{Layout}
+use Rattle.cell_library.specs.LayoutModel.Layouts.{Layout}
 use Rattle.cell_library.specs.Views.{view_at}
 use Rattle.cell_library.proofs.BoxesBelow.{hull_seen}
 use Rattle.cell_library.proofs.ElementCounts.{use_is_lawful}

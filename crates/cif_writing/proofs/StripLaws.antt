@@ -18,7 +18,7 @@ use Rattle.tech_model.specs.Types.{is_subset, parts_of}
 use Rattle.cell_library.specs.CellPaint.Painting.{kinds_on, paint_range, place_at}
 use Rattle.cell_library.specs.CellPaint.Paints.{IsSoundPaint}
 use Rattle.cell_library.specs.CellPaint.Pieces.{pieces_on, AreTakenOut}
-use Rattle.cell_library.specs.LowerLayoutTrees.LayoutModel.Layouts.{Layout}
+use Rattle.cell_library.specs.LayoutModel.Layouts.{Layout}
 use Rattle.cif_writing.specs.Parts.{areas_with, has_part, HoldsPart}
 
 -- a set with a part is not that of space

@@ -15,7 +15,7 @@ use Rattle.cell_library.specs.Additions.{children_in}
 use Rattle.cell_library.specs.LayoutTrees.{element_transform}
 use Rattle.cell_library.specs.Libraries.{IsLawfulLibrary, LibraryParts, seen}
 use Rattle.cell_library.specs.Limits.{HullIs}
-use Rattle.cell_library.specs.LowerLayoutTrees.LayoutModel.Layouts.{Layout}
+use Rattle.cell_library.specs.LayoutModel.Layouts.{Layout}
 use Rattle.cell_library.specs.Views.{LibraryView, view_at}
 use Rattle.cif_writing.specs.declared.limits.TheConstants.{LONGEST_TEXT}
 use Rattle.cif_writing.specs.Commands.{start_command, name_command, layer_command, box_command, part_lines, call_command, finish_command, plain_call}

@@ -9,7 +9,7 @@ use Rattle.tech_model.specs.Columns.{mark_of}
 use Rattle.tech_model.specs.Rules.{types_of}
 use Rattle.tech_model.specs.Types.{images_of, is_subset, layer_of, parts_of}
 use Rattle.cell_library.specs.CellPaint.Painting.{kinds_on}
-use Rattle.cell_library.specs.LowerLayoutTrees.LayoutModel.Layouts.{Layout}
+use Rattle.cell_library.specs.LayoutModel.Layouts.{Layout}
 
 -- the type is an atom: its set is the bit of itself
 abbrev pub is_atom : RawTech → ℕ → Bool

@@ -35,8 +35,8 @@ use Rattle.cell_library.specs.Contents.{no_held}
 use Rattle.cell_library.specs.LayoutTrees.{element_transform}
 use Rattle.cell_library.specs.Libraries.{IsLawfulLibrary, LibraryParts, seen, uses_in}
 use Rattle.cell_library.specs.Limits.{HullIs}
-use Rattle.cell_library.specs.LowerLayoutTrees.LayoutModel.Layouts.{IsMaterial, Layout}
-use Rattle.cell_library.specs.LowerLayoutTrees.LayoutModel.Places.{Place}
+use Rattle.cell_library.specs.LayoutModel.Layouts.{IsMaterial, Layout}
+use Rattle.cell_library.specs.LayoutModel.Places.{Place}
 use Rattle.cell_library.specs.Views.{CellView, view_at}
 use Rattle.cell_library.proofs.BoxesBelow.{boxes_are_lawful, hull_seen}
 use Rattle.cell_library.proofs.HullsHoldMaterial.{In-element_hulls, element_image, hull_holds_material}

@@ -8,7 +8,7 @@ use Rattle.geo_core.specs.Strips.{IsStrips}
 use Rattle.tech_model.specs.declared.raw.RawTech.{RawTech}
 use Rattle.cell_tree.specs.declared.use_tables.UseBody.{UseBody}
 use Rattle.cell_library.specs.Limits.{HullIs}
-use Rattle.cell_library.specs.LowerLayoutTrees.LayoutModel.Layouts.{Layout}
+use Rattle.cell_library.specs.LayoutModel.Layouts.{Layout}
 use Rattle.cell_library.specs.Views.{LibraryView}
 use Rattle.cif_model.specs.declared.cifs.CifItem.{CifItem}
 use Rattle.cif_model.specs.declared.cifs.CifItem.TheVariants.{Area, Call}

@@ -9,7 +9,7 @@ use Rattle.cell_tree.specs.declared.use_tables.UseBody.{UseBody}
 use Rattle.cell_tree.specs.UseOrders.LibraryOrder.{IsLibraryOrder}
 use Rattle.cell_library.specs.Additions.{children_in}
 use Rattle.cell_library.specs.Limits.{HullIs}
-use Rattle.cell_library.specs.LowerLayoutTrees.LayoutModel.Layouts.{Layout}
+use Rattle.cell_library.specs.LayoutModel.Layouts.{Layout}
 use Rattle.cell_library.specs.Views.{LibraryView, view_at}
 use Rattle.cif_model.specs.declared.cifs.CifItem.{CifItem}
 use Rattle.cif_model.specs.declared.cifs.CifItem.TheVariants.{Area, Call}

@@ -25,7 +25,7 @@ use Rattle.tech_model.specs.declared.raw.TypeId.{TypeId}
 use Rattle.tech_model.specs.Types.{joined, parts_of, type_number}
 use Rattle.offences.specs.LayoutModel.Places.{Place}
 use Rattle.offences.specs.TypedStacks.{on_plane}
-use Rattle.offences.proofs.LayoutTrees.SetUnions.{none_union, union_assoc, union_none, union_some}
+use Rattle.offences.proofs.LayoutModel.SetUnions.{none_union, union_assoc, union_none, union_some}
 use Rattle.offences.proofs.TileLaws.{bit_kept, union_bit}
 use Rattle.offences.proofs.UnionLaws.{same_sets}
 use Rattle.cell_library.specs.declared.part_tiles.PartTile.{PartTile}

@@ -13,9 +13,9 @@ use Rattle.geo_core.proofs.CoveringLaws.{Covers-is_covered, is_covered-Covers, c
 use Rattle.tech_model.specs.declared.raw.RawTech.{RawTech}
 use Rattle.tech_model.specs.Types.{joined, parts_of}
 use Rattle.offences.specs.LayoutModel.Places.{Place}
-use Rattle.offences.specs.LayoutTrees.CellTrees.{CellTree}
-use Rattle.offences.specs.LayoutTrees.CellTrees.CellTree.{cell_tree}
-use Rattle.offences.specs.LayoutTrees.FlatSets.{flat_sets, parts_in}
+use Rattle.offences.specs.LayoutModel.CellTrees.{CellTree}
+use Rattle.offences.specs.LayoutModel.CellTrees.CellTree.{cell_tree}
+use Rattle.offences.specs.LayoutModel.FlatSets.{flat_sets, parts_in}
 use Rattle.offences.specs.Offences.{SetLayout, flat_type, joined_at, union_of}
 use Rattle.offences.proofs.TileLaws.{bit_kept, union_bit}
 use Rattle.offences.proofs.UnionLaws.{no_part, same_sets}

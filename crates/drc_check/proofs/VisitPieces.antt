@@ -12,8 +12,8 @@ use Rattle.geo_core.specs.Strips.{IsInUnion}
 use Rattle.geo_core.proofs.CoveringLaws.{within_trans, filled_within}
 use Rattle.tech_model.specs.declared.raw.RawTech.{RawTech}
 use Rattle.offences.specs.LayoutModel.Places.{Place}
-use Rattle.offences.specs.LayoutTrees.CellTrees.{CellTree}
-use Rattle.offences.specs.LayoutTrees.FlatSets.{flat_sets}
+use Rattle.offences.specs.LayoutModel.CellTrees.{CellTree}
+use Rattle.offences.specs.LayoutModel.FlatSets.{flat_sets}
 use Rattle.offences.specs.TypedStacks.{on_plane}
 use Rattle.cell_library.specs.declared.part_tiles.PartTile.{PartTile}
 use Rattle.cell_library.specs.PartTiles.{IsPartTileIn, set_of_part, set_of_tiles}

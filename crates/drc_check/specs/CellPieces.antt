@@ -8,8 +8,8 @@ use Rattle.geo_core.specs.Covering.{Covers}
 use Rattle.tech_model.specs.declared.raw.RawTech.{RawTech}
 use Rattle.tech_model.specs.declared.raw.TypeId.{TypeId}
 use Rattle.offences.specs.LayoutModel.Places.{Place}
-use Rattle.offences.specs.LayoutTrees.CellTrees.{CellTree}
-use Rattle.offences.specs.LayoutTrees.FlatSets.{flat_sets}
+use Rattle.offences.specs.LayoutModel.CellTrees.{CellTree}
+use Rattle.offences.specs.LayoutModel.FlatSets.{flat_sets}
 use Rattle.cell_library.specs.CellTree.Hulls.{SpansInRange}
 use Rattle.drc_rules.specs.declared.rules.Rule.{Rule}
 use Rattle.drc_check.specs.declared.pieces.ListedPiece.{ListedPiece}

@@ -6,8 +6,8 @@ use Rattle.geo_core.specs.declared.squares.Rect.{Rect}
 use Rattle.geo_core.specs.Strips.{IsStrips}
 use Rattle.tech_model.specs.declared.raw.TypeId.{TypeId}
 use Rattle.tech_model.specs.declared.raw.RawTech.{RawTech}
-use Rattle.offences.specs.LayoutTrees.CellTrees.{CellTree}
-use Rattle.offences.specs.LayoutTrees.FlatSets.{flat_sets}
+use Rattle.offences.specs.LayoutModel.CellTrees.{CellTree}
+use Rattle.offences.specs.LayoutModel.FlatSets.{flat_sets}
 use Rattle.offences.specs.Offences.{joined_at}
 use Rattle.offences.specs.TypedStacks.{on_plane}
 use Rattle.square_sets.specs.Boxes.{IsTooNarrow, IsTooNear, IsTooTight}

@@ -7,8 +7,8 @@ use Rattle.std.proofs.lemmas.Bool.{cases_lt}
 use Rattle.std.proofs.lemmas.List.{append-nil, append_assoc, take_all}
 use Rattle.std.proofs.lemmas.Option.{get_or_from_slice_get, same_Some, slice_get_within}
 use Rattle.finite_sets.proofs.Places.{slice_get-below}
-use Rattle.layout_trees.specs.CellTrees.{CellTree, Standing, standings, under}
-use Rattle.layout_trees.specs.CellTrees.CellTree.{cell_tree}
+use Rattle.layout_model.specs.CellTrees.{CellTree, Standing, standings, under}
+use Rattle.layout_model.specs.CellTrees.CellTree.{cell_tree}
 use Rattle.cell_tree.specs.declared.limits.TheConstants.{MOST_ELEMENTS_BELOW}
 use Rattle.cell_tree.specs.declared.use_tables.UseBody.{UseBody}
 use Rattle.cell_tree.specs.Uses.{displacements}
@@ -17,8 +17,8 @@ use Rattle.cell_library.specs.Libraries.{LibraryParts, IsLawfulLibrary, seen}
 use Rattle.cell_library.specs.PartCounts.{element_count}
 use Rattle.cell_library.specs.Views.{LibraryView, view_at}
 use Rattle.cell_library.proofs.ElementCounts.{use_is_lawful}
-use Rattle.library_trees.specs.NamedTrees.NamedTrees.{NamedTree, layouts_of, named_elements_in}
-use Rattle.library_trees.specs.NamedTrees.NamedTrees.NamedTree.{named_tree}
+use Rattle.library_trees.specs.TreeRecords.NamedTrees.{NamedTree, layouts_of, named_elements_in}
+use Rattle.library_trees.specs.TreeRecords.NamedTrees.NamedTree.{named_tree}
 use Rattle.library_trees.specs.ElementNames.{UseElement, use_elements}
 use Rattle.library_trees.specs.NamedCells.{named_elements_from, named_tree_at, own_body_of}
 use Rattle.library_trees.proofs.LayoutLaws.{layouts_of_cell}

@@ -6,10 +6,10 @@ use Rattle.std.proofs.lemmas.List.{length-map}
 use Rattle.std.proofs.lemmas.Option.{same_Some, slice_get-map}
 use Rattle.finite_sets.proofs.Places.{slice_get-append_left, slice_get-append_right}
 use Rattle.geo_core.specs.declared.transforms.Transform.{Transform}
-use Rattle.layout_trees.specs.CellTrees.{Standing, standings, standings_from, under}
+use Rattle.layout_model.specs.CellTrees.{Standing, standings, standings_from, under}
 use Rattle.cell_library.specs.LayoutTrees.{element_transform}
-use Rattle.library_trees.specs.NamedTrees.NamedTrees.{NamedTree, NamedElements, layouts_below, layouts_of}
-use Rattle.library_trees.specs.NamedTrees.NamedTrees.NamedElements.{no_more, element_then}
+use Rattle.library_trees.specs.TreeRecords.NamedTrees.{NamedTree, NamedElements, layouts_below, layouts_of}
+use Rattle.library_trees.specs.TreeRecords.NamedTrees.NamedElements.{no_more, element_then}
 use Rattle.library_trees.specs.ElementNames.{UseElement}
 use Rattle.library_trees.specs.NamedCells.{named_elements_at}
 use Rattle.element_paths.specs.ElementPaths.{NamedElement, element_at}

@@ -1,3 +1,6 @@
+-- what crates above name of those below
+pub use Rattle.library_trees.proofs as LibraryTrees
+pub mod RecordLaws
 mod ElementLaws
 mod UseLaws
 mod StartLaws

@@ -6,7 +6,7 @@ use Rattle.std.proofs.lemmas.Option.{same_Some}
 use Rattle.geo_core.specs.declared.grids.Grid.{Grid}
 use Rattle.geo_core.specs.declared.transforms.Transform.{Transform}
 use Rattle.geo_core.specs.Elements.{elements_of}
-use Rattle.layout_trees.specs.CellTrees.{CellTree, Elements, standings, standings_from, under}
+use Rattle.layout_model.specs.CellTrees.{CellTree, Elements, standings, standings_from, under}
 use Rattle.cell_tree.specs.declared.use_tables.UseBody.{UseBody}
 use Rattle.cell_tree.specs.Uses.{displacements}
 use Rattle.cell_library.specs.LayoutTrees.{element_transform, elements_at, elements_from, tree_at}
@@ -14,7 +14,7 @@ use Rattle.cell_library.specs.Libraries.{LibraryParts, IsLawfulLibrary, seen}
 use Rattle.cell_library.specs.PartCounts.{element_count}
 use Rattle.cell_library.specs.Views.{view_at}
 use Rattle.cell_library.proofs.LayoutTreeLaws.{tree_unfolds}
-use Rattle.library_trees.specs.NamedTrees.NamedTrees.{NamedTree, layouts_of}
+use Rattle.library_trees.specs.TreeRecords.NamedTrees.{NamedTree, layouts_of}
 use Rattle.library_trees.specs.ElementNames.{UseElement, array_element, use_elements}
 use Rattle.library_trees.specs.NamedCells.{named_elements_from}
 use Rattle.element_paths.specs.ElementPaths.{NamedElement, element_at}

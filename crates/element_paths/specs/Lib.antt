@@ -1,2 +1,4 @@
+-- what crates above name of those below
+pub use Rattle.library_trees.specs as LibraryTrees
 pub mod ElementPaths
 pub mod UseStarts

@@ -2,7 +2,7 @@
 ghost use Rattle.std.specs.Prelude.{◌≡◌, ◌<◌, ◌≤◌, [], length, nat_eq, IfOk, OnOk, IsSome};
 ghost use Rattle.std.specs.HashMap.{get};
 ghost use Rattle.std.specs.List.Sorted.{IsNonDecreasingBy};
-ghost use Rattle.layout_trees.specs.CellTrees.{standings};
+ghost use Rattle.layout_model.specs.CellTrees.{standings};
 ghost use Rattle.cell_library.specs.LayoutTrees.{tree_at};
 ghost use Rattle.cell_library.specs.Libraries.{seen};
 ghost use Rattle.element_paths.specs.ElementPaths.{AreStepsTo};

@@ -1,6 +1,6 @@
 //! Paths of elements.
 ghost use Rattle.std.specs.Prelude.{◌≡◌, ◌<◌, length, IfOk};
-ghost use Rattle.layout_trees.specs.CellTrees.{standings};
+ghost use Rattle.layout_model.specs.CellTrees.{standings};
 ghost use Rattle.cell_library.specs.LayoutTrees.{tree_at};
 ghost use Rattle.element_paths.specs.ElementPaths.{AreStepsTo};
 

@@ -1,6 +1,6 @@
 //! Where the elements of the uses of a cell begin.
 ghost use Rattle.std.specs.Prelude.{◌≡◌, ◌+◌, ◌*◌, ◌<◌, ◌≤◌, length, IfOk};
-ghost use Rattle.layout_trees.specs.CellTrees.{standings};
+ghost use Rattle.layout_model.specs.CellTrees.{standings};
 ghost use Rattle.cell_tree.specs.declared.limits.TheConstants.{MOST_ELEMENTS_BELOW};
 ghost use Rattle.cell_tree.specs.Uses.{displacements, IsLawfulUse};
 ghost use Rattle.cell_library.specs.LayoutTrees.{tree_at};

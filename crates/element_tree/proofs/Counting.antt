@@ -21,8 +21,8 @@ use Rattle.circuit_model.specs.declared.limits.CircuitLimit.TheVariants.{Depth, 
 use Rattle.circuit_model.specs.declared.limits.TheConstants.{LONGEST_CHAIN, MOST_FLAT_ELEMENTS}
 use Rattle.circuit_model.specs.Elements.{Element, ext_of, of_option, elements_below, elements_of}
 use Rattle.circuit_model.specs.Refusals.{greatest, chain_length, depth_of, past}
-use Rattle.record_graph.specs.declared.graph.RecordGraph.{RecordGraph}
-use Rattle.record_graph.specs.Graphs.{LeadTo, AreDone, IsGraphOf, children_of}
+use Rattle.element_tree.specs.declared.graph.RecordGraph.{RecordGraph}
+use Rattle.element_tree.specs.Graphs.{LeadTo, AreDone, IsGraphOf, children_of}
 use Rattle.element_tree.specs.Trees.{HasNoTreeFault, IsTreeFaultOf}
 use Rattle.element_tree.specs.Sizes.{value_at, chain_from, size_from, AreMeasured, AreMeasuredIn}
 use Rattle.element_tree.proofs.Measures.{chain_bound}

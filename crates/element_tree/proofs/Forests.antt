@@ -12,8 +12,8 @@ use Rattle.ext_model.specs.declared.records.CellExt.{CellExt}
 use Rattle.ext_model.specs.Lawful.{IsLawful, IsLawfulUse}
 use Rattle.circuit_model.specs.Elements.{AreRecords, ext_of}
 use Rattle.circuit_model.specs.Refusals.{greatest}
-use Rattle.record_graph.specs.declared.graph.RecordGraph.{RecordGraph}
-use Rattle.record_graph.specs.Graphs.{LeadTo, IsGraphOf, children_of}
+use Rattle.element_tree.specs.declared.graph.RecordGraph.{RecordGraph}
+use Rattle.element_tree.specs.Graphs.{LeadTo, IsGraphOf, children_of}
 use Rattle.element_tree.specs.declared.tree.Branch.{Branch}
 use Rattle.element_tree.specs.Trees.{branches_of}
 use Rattle.element_tree.specs.Links.{Link, links_from, links_of}

@@ -1,3 +1,8 @@
+mod WalkLaws
+mod Turns
+pub mod Cells
+mod Walks
+mod Orders
 mod NameOrders
 pub mod Transforms
 mod Chains

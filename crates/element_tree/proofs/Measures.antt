@@ -14,8 +14,8 @@ use Rattle.finite_sets.proofs.Places.{slice_get-below}
 use Rattle.ext_model.specs.declared.records.UseRec.{UseRec}
 use Rattle.ext_model.specs.declared.records.CellExt.{CellExt}
 use Rattle.circuit_model.specs.Refusals.{greatest}
-use Rattle.record_graph.specs.declared.graph.RecordGraph.{RecordGraph}
-use Rattle.record_graph.specs.Graphs.{LeadTo, AreDone, IsGraphOf, children_of}
+use Rattle.element_tree.specs.declared.graph.RecordGraph.{RecordGraph}
+use Rattle.element_tree.specs.Graphs.{LeadTo, AreDone, IsGraphOf, children_of}
 use Rattle.element_tree.specs.Sizes.{value_at, chain_from, AreMeasured}
 
 -- the last of the first so many stands first when they are reversed

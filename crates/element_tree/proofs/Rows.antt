@@ -10,8 +10,8 @@ use Rattle.finite_sets.proofs.Images.{In-reverse}
 use Rattle.ext_model.specs.declared.records.UseRec.{UseRec}
 use Rattle.ext_model.specs.declared.records.CellExt.{CellExt}
 use Rattle.circuit_model.specs.declared.limits.TheConstants.{MOST_FLAT_ELEMENTS}
-use Rattle.record_graph.specs.declared.graph.RecordGraph.{RecordGraph}
-use Rattle.record_graph.specs.Graphs.{LeadTo, children_of}
+use Rattle.element_tree.specs.declared.graph.RecordGraph.{RecordGraph}
+use Rattle.element_tree.specs.Graphs.{LeadTo, children_of}
 use Rattle.element_tree.specs.declared.tree.Branch.{Branch}
 use Rattle.element_tree.specs.Trees.{branches_of}
 use Rattle.element_tree.specs.Sizes.{value_at, size_from, AreMeasuredIn, Fits}

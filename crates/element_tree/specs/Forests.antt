@@ -5,7 +5,7 @@ use Rattle.finite_sets.specs.Lists.{In}
 use Rattle.ext_model.specs.declared.records.UseRec.{UseRec}
 use Rattle.ext_model.specs.declared.records.CellExt.{CellExt}
 use Rattle.ext_model.specs.NameParts.{element_cmp}
-use Rattle.record_graph.specs.Graphs.{children_of}
+use Rattle.element_tree.specs.Graphs.{children_of}
 use Rattle.element_tree.specs.declared.tree.Branch.{Branch}
 use Rattle.element_tree.specs.Trees.{branches_of}
 use Rattle.element_tree.specs.Links.{Link, links_from}

@@ -1,3 +1,8 @@
+pub mod Walks
+pub mod Steps
+pub mod UnderWay
+pub mod Graphs
+pub mod Goals
 pub mod Trees
 pub mod NameOrder
 pub mod Links

@@ -4,8 +4,8 @@ use Rattle.finite_sets.specs.Lists.{In}
 use Rattle.ext_model.specs.declared.records.CellExt.{CellExt}
 use Rattle.circuit_model.specs.declared.limits.TheConstants.{LONGEST_CHAIN, MOST_FLAT_ELEMENTS}
 use Rattle.circuit_model.specs.Refusals.{greatest}
-use Rattle.record_graph.specs.declared.graph.RecordGraph.{RecordGraph}
-use Rattle.record_graph.specs.Graphs.{IsGraphOf, children_of}
+use Rattle.element_tree.specs.declared.graph.RecordGraph.{RecordGraph}
+use Rattle.element_tree.specs.Graphs.{IsGraphOf, children_of}
 
 -- It is the graph of the records at and below some root.
 pub record IsSomeGraph (exts : List CellExt) (graph : RecordGraph) : Type 0 where

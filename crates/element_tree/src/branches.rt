@@ -7,12 +7,12 @@ ghost use Rattle.element_tree.specs.Sizes.{IsSomeGraph, value_at, size_from, Are
 ghost use Rattle.element_tree.specs.Forests.{AreSteps, AreBranchesOf, AreBranches};
 ghost use Rattle.element_tree.specs.RankSteps.{HaveRankSteps};
 
+use crate::graph::RecordGraph;
 use crate::name_order::in_name_order;
 use crate::tree::Branch;
 use circuit_model::MOST_FLAT_ELEMENTS;
 use ext_model::{CellExt, UseRec};
 use names_lists::List;
-use record_graph::RecordGraph;
 use std::alloc::{AllocError, Global};
 
 // The branches that lead to the children, without their steps in rank.

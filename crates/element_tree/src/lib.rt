@@ -2,7 +2,14 @@
 //!
 //! `specs/Trees.antt` says what is true of the tree that `element_tree` makes.
 //!
+//! The walk through the uses of cells, depth first from a root: in which order cells are done, or which use is the first
+//! that leads nowhere or back.
+//!
+//! Which records of a tree the uses lead to, and in which order they are done.
+//!
 //! # How the proof goes
+//!
+//! ## Elements by numbers
 //!
 //! Each record has two numbers that follow from those of its children: how many records its longest
 //! chain of uses has, and how many elements are at or below it, up to one more than the most. Along
@@ -20,13 +27,29 @@
 //!
 //! `add_elements` appends what the tree has along all chains (`Growth`), the definitions' elements
 //! are those along the same chains (`Along`), and so the tree is of these elements (`TreeLaws`).
+//!
+//! ## The walk
+//!
+//! A walk under way keeps its open cells on a stack (`UnderWay`): the use before the next one of each leads to the cell above it, and all
+//! uses before that to cells that are done, below which nothing is left to find (`WalkLaws`). So the first fault of the whole walk is at
+//! each turn the first of what is left of the open cells' uses, and `Turns` has what one turn does to the lists.
+//!
+//! ## The graph
+//!
+//! The records become a graph of numbers, in which `walk` finds the order or the first fault. `Cells` ties the number of a cell to
+//! its record, `Walks` shows by recursion on the depth that the walk over numbers finds the fault of the records, and `Orders` that the
+//! order of the walk leads each use to a record done before, and that a fault names a use that is there.
 #![tactic(auto)]
 
 mod branches;
 mod elements;
+mod faults;
+mod graph;
 mod name_order;
 mod sizes;
 mod tree;
+mod walks;
 
+pub use graph::{RecordGraph, record_graph};
 pub use sizes::chain_lengths;
 pub use tree::{Branch, ElementTree, TreeElement, element_tree};

@@ -1,13 +1,13 @@
 //! How long the chains of uses are from each record on, and how many elements are at or below it.
 ghost use Rattle.std.specs.Prelude.{◌≡◌, ◌⊎◌, ◌<◌, ◌≤◌, suc, length, map, reverse, All, sum, sum_by, IfOk, IfErr, min};
 ghost use Rattle.circuit_model.specs.Refusals.{greatest};
-ghost use Rattle.record_graph.specs.Graphs.{IsGraphOf, children_of};
+ghost use Rattle.element_tree.specs.Graphs.{IsGraphOf, children_of};
 ghost use Rattle.element_tree.specs.Trees.{HasNoTreeFault, IsTreeFaultOf};
 ghost use Rattle.element_tree.specs.Sizes.{IsSomeGraph, value_at, chain_from, size_from, AreMeasuredIn, AreSizes};
 
+use crate::graph::RecordGraph;
 use circuit_model::{CircuitLimit, FlatFault, LONGEST_CHAIN, MOST_FLAT_ELEMENTS};
 use ext_model::CellExt;
-use record_graph::RecordGraph;
 use std::alloc::{AllocError, Global};
 
 // The greatest of the numbers that the children have.

@@ -1,18 +1,18 @@
 //! The tree of elements.
 ghost use Rattle.std.specs.Prelude.{◌≡◌, ◌⊎◌, ◌<◌, length, IfOk, IfErr};
 ghost use Rattle.circuit_model.specs.Elements.{AreRecords};
-ghost use Rattle.record_graph.specs.Graphs.{IsGraphOf};
+ghost use Rattle.element_tree.specs.Graphs.{IsGraphOf};
 ghost use Rattle.element_tree.specs.Trees.{IsTreeOf, HasNoTreeFault, IsTreeFaultOf};
 ghost use Rattle.element_tree.specs.Links.{top_flat};
 
 use crate::branches::all_branches;
 use crate::elements::add_elements;
+use crate::graph::RecordGraph;
 use crate::sizes::checked_sizes;
 use circuit_model::{FlatFault, LONGEST_CHAIN};
 use ext_model::CellExt;
 use geo_core::{Orient, Transform};
 use names_lists::List;
-use record_graph::RecordGraph;
 use std::alloc::Global;
 
 /// A use of a record in a tree.

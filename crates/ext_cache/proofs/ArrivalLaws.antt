@@ -8,7 +8,7 @@ use Rattle.cell_library.specs.Additions.{AreNextCells, kept_cell, names_with, wi
 use Rattle.cell_library.specs.Libraries.{LibraryParts, IsLawfulLibrary, IsNextCell, edits_of, seen}
 use Rattle.cell_library.specs.Views.{no_cell, view_at}
 use Rattle.cell_library.proofs.ViewLaws.{count_seen}
-use Rattle.use_records.proofs.LibraryTrees.EditedTrees.{below_is_cell}
+use Rattle.element_paths.proofs.LibraryTrees.EditedTrees.{below_is_cell}
 use Rattle.ext_cache.specs.Caches.{Agrees, Records, entry_in, is_dirty, is_stale, stamp_in}
 use Rattle.ext_cache.proofs.RecordLaws.{StaysBelow, agrees_with}
 

@@ -7,7 +7,7 @@ use Rattle.cell_tree.specs.Cells.{IsAbove}
 use Rattle.cell_library.specs.Additions.{children_in}
 use Rattle.cell_library.specs.Libraries.{LibraryParts, IsLawfulLibrary, IsNextEdit, seen}
 use Rattle.cell_library.specs.Views.{CellView, with_cell_changed}
-use Rattle.use_records.proofs.LibraryTrees.StampedTrees.{stamps_keep_views}
+use Rattle.element_paths.proofs.LibraryTrees.StampedTrees.{stamps_keep_views}
 use Rattle.ext_cache.specs.Caches.{Agrees, Records, entry_in, is_dirty, is_stale, stamp_in}
 use Rattle.ext_cache.proofs.AboveLaws.{above_leads_down, leads_down_from_above}
 use Rattle.ext_cache.proofs.RecordLaws.{agrees_with, stale_if}

@@ -15,7 +15,7 @@ use Rattle.cell_library.specs.Libraries.{LibraryParts, seen}
 use Rattle.cell_library.specs.Views.{view_at}
 use Rattle.tree_merges.specs.HierMerge.Interactions.{IsWork}
 use Rattle.tree_merges.specs.HierMerge.UncleanCells.{IsCleanCell}
-use Rattle.use_records.specs.KeptRecords.KeptRecords.{HaveKeptRecordsBelow, IsBelow}
+use Rattle.element_paths.specs.LibraryTrees.KeptRecords.{HaveKeptRecordsBelow, IsBelow}
 use Rattle.ext_cache.specs.declared.extraction.Extracted.{Extracted}
 use Rattle.ext_cache.specs.declared.undo.Undo.{Undo}
 use Rattle.ext_cache.specs.Caches.{Agrees, IsRecordNow, IsWorkOfAll, MakesRecords, Records, dirty_cells, entry_in, is_dirty}

@@ -11,8 +11,8 @@ use Rattle.cell_library.specs.Additions.{children_in}
 use Rattle.cell_library.specs.Libraries.{LibraryParts, seen}
 use Rattle.cell_library.specs.Views.{LibraryView, view_at}
 use Rattle.cell_library.proofs.ChildLaws.{child_used}
-use Rattle.use_records.specs.LibraryTrees.NamedCells.{IsAtOrBelow as IsSeenAtOrBelow}
-use Rattle.use_records.specs.KeptRecords.KeptRecords.{IsBelow}
+use Rattle.element_paths.specs.LibraryTrees.NamedCells.{IsAtOrBelow as IsSeenAtOrBelow}
+use Rattle.element_paths.specs.LibraryTrees.KeptRecords.{IsBelow}
 
 -- ---- what stands below
 

@@ -17,7 +17,7 @@ use Rattle.use_orders.specs.LibraryOrder.{IsLibraryOrder}
 use Rattle.hierarchy_model.specs.CleanCells.{IsClean}
 use Rattle.cell_library.specs.Additions.{children_in}
 use Rattle.cell_library.specs.LayoutTrees.{tree_at}
-use Rattle.use_records.specs.KeptRecords.CellRecords.{IsRecordOf}
+use Rattle.element_paths.specs.LibraryTrees.CellRecords.{IsRecordOf}
 use Rattle.tree_merges.specs.HierMerge.Interactions.{IsWork}
 use Rattle.ext_cache.specs.declared.extraction.Extracted.{Extracted}
 use Rattle.ext_cache.specs.declared.limits.TheConstants.{LAST_SERIAL}

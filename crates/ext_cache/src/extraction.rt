@@ -8,7 +8,7 @@ ghost use Rattle.cell_library.specs.Additions.{children_in};
 ghost use Rattle.cell_library.specs.LayoutTrees.{tree_at};
 ghost use Rattle.cell_library.specs.Libraries.{seen};
 ghost use Rattle.cell_library.specs.Views.{view_at};
-ghost use Rattle.use_records.specs.KeptRecords.KeptRecords.{HaveKeptRecordsBelow};
+ghost use Rattle.element_paths.specs.LibraryTrees.KeptRecords.{HaveKeptRecordsBelow};
 ghost use Rattle.tree_merges.specs.HierMerge.Interactions.{IsWork};
 ghost use Rattle.ext_cache.specs.Caches.{Agrees, Extracts, HasNewSerials, HasSerialsFor, IsCounted, IsRecordNow, IsWorkOfAll, IsWorkOfExtraction};
 ghost use Rattle.ext_cache.specs.Caches.{MakesRecords, dirty_cells, record_in};
@@ -30,7 +30,7 @@ use std::alloc::{AllocError, Global};
 use std::sync::ledger::Ledger;
 use tree_merges::{Related, relate};
 use use_orders::library_order_law;
-use use_records::use_records;
+use element_paths::use_records;
 
 /// A cell of which a new record was made, and the texts of its labels that name none of its nodes, in the order of the labels.
 #[derive(Debug, Drop)]

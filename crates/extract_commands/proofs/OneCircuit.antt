@@ -4,8 +4,8 @@ use Rattle.ext_model.specs.declared.records.CellExt.{CellExt}
 use Rattle.circuit_model.specs.declared.faults.FlatFault.TheVariants.{TooMany as FlatTooMany}
 use Rattle.circuit_model.specs.declared.limits.CircuitLimit.{CircuitLimit}
 use Rattle.cell_library.specs.Views.{LibraryView, view_at}
-use Rattle.kept_records.specs.LibraryTrees.NamedCells.{named_tree_at}
-use Rattle.kept_records.specs.TreeRecords.TreeRecords.{HasTreeRecords}
+use Rattle.library_trees.specs.NamedCells.{named_tree_at}
+use Rattle.library_trees.specs.TreeRecords.TreeRecords.{HasTreeRecords}
 use Rattle.record_uniqueness.specs.RecordUniqueness.{RecordsOfTreesAreUnique}
 use Rattle.square_lines.specs.HierMerge.UncleanCells.{IsCleanCell}
 use Rattle.circuit_uniqueness.specs.FlatCircuits.{AgreeBelow, FlatCircuitsAreUnique, FlatCircuitsHaveNoFault, FlatFaultsAreUnique}

@@ -10,12 +10,12 @@ use Rattle.ext_model.specs.declared.records.CellExt.{CellExt}
 use Rattle.ext_model.specs.declared.records.UseRec.{UseRec}
 use Rattle.geo_core.specs.Images.{identity}
 use Rattle.circuit_model.specs.Elements.{ext_of}
-use Rattle.kept_records.specs.NamedTrees.NamedTrees.{NamedElements, NamedTree, own_body}
-use Rattle.kept_records.specs.NamedTrees.NamedTrees.NamedTree.{named_tree}
-use Rattle.kept_records.specs.NamedTrees.NamedTrees.NamedElements.{element_then, no_more}
-use Rattle.kept_records.specs.TreeNames.CleanTrees.{IsCleanTree}
-use Rattle.kept_records.specs.TreeRecords.TreeRecords.{HasTreeRecords, HaveTreeRecords, use_records}
-use Rattle.kept_records.proofs.TreeNames.CleanTrees.{AreCleanTrees, clean_below, clean_first, clean_rest}
+use Rattle.library_trees.specs.TreeRecords.NamedTrees.{NamedElements, NamedTree, own_body}
+use Rattle.library_trees.specs.TreeRecords.NamedTrees.NamedTree.{named_tree}
+use Rattle.library_trees.specs.TreeRecords.NamedTrees.NamedElements.{element_then, no_more}
+use Rattle.library_trees.specs.TreeNames.CleanTrees.{IsCleanTree}
+use Rattle.library_trees.specs.TreeRecords.TreeRecords.{HasTreeRecords, HaveTreeRecords, use_records}
+use Rattle.library_trees.proofs.TreeNames.CleanTrees.{AreCleanTrees, clean_below, clean_first, clean_rest}
 use Rattle.record_uniqueness.specs.RecordUniqueness.{IsFoundInBoth, RecordsOfTreesAreUnique}
 use Rattle.circuit_uniqueness.specs.FlatCircuits.{AgreeBelow, UsesName}
 

@@ -6,7 +6,7 @@ use Rattle.use_orders.specs.Uses.{UsesCell}
 use Rattle.ext_model.specs.declared.arrays.ArrayExt.{ArrayExt}
 use Rattle.cell_library.specs.TechModel.Rules.{KeepsRules}
 use Rattle.cell_library.specs.TechModel.WellFormed.{IsWellFormed}
-use Rattle.cell_library.specs.LowerLayoutTrees.FlatSets.{IsTyped}
+use Rattle.cell_library.specs.LayoutModel.FlatSets.{IsTyped}
 use Rattle.cell_library.specs.Additions.{children_in}
 use Rattle.cell_library.specs.LawfulViews.{HasSoundPaint, IsLawfulView, IsSoundView}
 use Rattle.cell_library.specs.LayoutTrees.{tree_at}
@@ -15,12 +15,12 @@ use Rattle.cell_library.specs.Views.{LibraryView, view_at}
 use Rattle.cell_library.proofs.LawfulViews.{held_sound}
 use Rattle.cell_library.proofs.TreeTypes.{library_is_typed}
 use Rattle.cell_library.proofs.ViewLaws.{count_seen}
-use Rattle.kept_records.specs.CellRecords.{IsRecordOf}
-use Rattle.kept_records.specs.LibraryTrees.NamedCells.{named_tree_at}
-use Rattle.kept_records.specs.NamedTrees.NamedTrees.{NamedTree, own_body}
-use Rattle.kept_records.specs.TreeNames.CleanTrees.{IsCleanTree}
-use Rattle.kept_records.proofs.LibraryTrees.CleanTrees.{clean_tree}
-use Rattle.kept_records.proofs.LibraryTrees.WholeTrees.{named_tree_unfolds}
+use Rattle.library_trees.specs.CellRecords.{IsRecordOf}
+use Rattle.library_trees.specs.NamedCells.{named_tree_at}
+use Rattle.library_trees.specs.TreeRecords.NamedTrees.{NamedTree, own_body}
+use Rattle.library_trees.specs.TreeNames.CleanTrees.{IsCleanTree}
+use Rattle.library_trees.proofs.CleanTrees.{clean_tree}
+use Rattle.library_trees.proofs.WholeTrees.{named_tree_unfolds}
 use Rattle.library_record_uniqueness.proofs.OneRecord.{one_record}
 use Rattle.square_lines.specs.HierMerge.UncleanCells.{IsCleanCell, IsUncleanBelow}
 use Rattle.library_uniqueness.proofs.CleanBelow.{all_are_clean}

@@ -13,7 +13,7 @@ use Rattle.circuit_model.specs.declared.limits.TheConstants.{LONGEST_CHAIN, MOST
 use Rattle.circuit_model.specs.Elements.{AreRecords, ext_of, elements_of}
 use Rattle.circuit_model.specs.Circuits.{IsMeaning}
 use Rattle.circuit_model.specs.Refusals.{walk_fault, depth_of, past, flat_fault, IsFlatOf, IsFlatFaultOf}
-use Rattle.record_graph.proofs.Cells.{found_cell}
+use Rattle.element_tree.proofs.Cells.{found_cell}
 use Rattle.full_names.specs.NameLists.{name_fault, HasNoNameFault, IsNameFaultOf}
 use Rattle.flat_limits.specs.Counts.{node_fault, merge_fault, HasNoNodeFault, IsNodeFaultOf, IsMergeFaultOf}
 use Rattle.plain_records.specs.Plains.{plains, AreArrayRecords}

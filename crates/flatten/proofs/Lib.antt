@@ -1,3 +1,22 @@
+-- what crates above name of those below
+pub use Rattle.flat_limits.proofs as FlatLimits
+pub use Rattle.name_classes.proofs as NameClasses
+pub mod PlaceLaws
+pub mod LabelLaws
+pub mod GroupLaws
+pub mod NodeLaws
+pub mod SpotLaws
+mod ScanLaws
+mod PlacedLaws
+mod AmountLaws
+mod BoundLaws
+mod AddingLaws
+mod EndLaws
+mod TotalLaws
+mod OrderLaws
+mod JoinLaws
+mod TerminalLaws
+mod FetLaws
 mod FlatNodeLaws
 mod FaultLaws
 mod ArrayLaws

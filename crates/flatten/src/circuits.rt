@@ -7,18 +7,19 @@ ghost use Rattle.circuit_model.specs.FlatNodes.{AreFlatNodes};
 ghost use Rattle.circuit_model.specs.Refusals.{node_count, merge_count};
 ghost use Rattle.full_names.specs.Names.{AreNames, elements_in};
 ghost use Rattle.name_classes.specs.Classes.{AreClasses};
-ghost use Rattle.node_labels.specs.Spots.{AreCellSpots, AreNamedOf};
+ghost use Rattle.flatten.specs.Spots.{AreCellSpots, AreNamedOf};
 
+use crate::fets::flat_fets;
+use crate::filling::with_sums;
+use crate::nodes::named_nodes;
+use crate::spots::{CellSpots, cell_spots};
+use crate::sums::node_sums;
 use circuit_model::{MOST_MERGES, MOST_NODES};
 use element_tree::ElementTree;
 use ext_model::{CellExt, Circuit, NodeRec};
-use flat_fets::flat_fets;
-use flat_nodes::{named_nodes, with_sums};
-use flat_sums::node_sums;
 use full_names::FullNames;
 use name_classes::NameClasses;
 use names_lists::List;
-use node_labels::{CellSpots, cell_spots};
 use std::alloc::{AllocError, Global};
 
 // the nodes of a flat circuit with so many classes of material

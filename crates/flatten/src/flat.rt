@@ -8,13 +8,12 @@ ghost use Rattle.flatten.specs.Stages.{HasNoUseFault, IsUseFaultOf, HasNoCountFa
 
 use crate::circuits::circuit_of;
 use circuit_model::FlatFault;
-use element_tree::{ElementTree, element_tree};
+use element_tree::{ElementTree, element_tree, record_graph};
 use ext_model::{CellExt, Circuit};
 use flat_limits::{check_classes, check_merges, check_nodes, root_number};
 use full_names::{FullNames, full_names};
 use name_classes::name_classes;
 use names_lists::Name;
-use record_graph::record_graph;
 use std::alloc::Global;
 
 /// The elements of the tree at a record, where it has no fault up to their number.

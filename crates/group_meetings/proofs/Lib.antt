@@ -4,9 +4,16 @@ pub use Rattle.meeting_laws.proofs.HierarchyModel as HierarchyModel
 pub use Rattle.tree_names.proofs.Measures as Measures
 pub use Rattle.meeting_laws.proofs as MeetingLaws
 pub use Rattle.tree_names.proofs.NameClasses as NameClasses
-pub use Rattle.meeting_laws.proofs.NamedTrees as NamedTrees
 pub use Rattle.tree_names.proofs.OwnRecordLaws as OwnRecordLaws
 pub use Rattle.tree_names.proofs as TreeNames
+pub use Rattle.meeting_laws.proofs.TreeRecords as TreeRecords
+pub mod LocalQuantities
+mod PartSums
+pub mod MemberTotals
+pub mod GroupSums
+pub mod PlacesOnce
+mod FoundAdjustments
+pub mod AdjustmentLaws
 pub mod PartMembers
 pub mod MemberMaterial
 pub mod MemberSteps

@@ -12,15 +12,15 @@ use Rattle.tech_model.specs.WellFormed.{IsWellFormed}
 use Rattle.layout_model.specs.Layouts.{IsMaterial}
 use Rattle.layout_model.specs.Links.{AreLinked}
 use Rattle.layout_model.specs.Places.{Place}
-use Rattle.layout_trees.specs.FlatSets.{sets_in, IsTyped}
+use Rattle.layout_model.specs.FlatSets.{sets_in, IsTyped}
 use Rattle.tree_names.specs.Names.NamedNodes.{AreOneNamedNode}
 use Rattle.meeting_laws.specs.Offences.Offences.{SetLayout}
 use Rattle.meeting_laws.specs.HierarchyModel.CleanCells.{IsClean}
 use Rattle.meeting_laws.specs.HierarchyModel.Restrictions.{PartStands, IsRestriction}
-use Rattle.meeting_laws.specs.NamedTrees.NamedTrees.{NamedTree, NamedElements, OwnBody, layouts_of}
-use Rattle.meeting_laws.specs.NamedTrees.NamedTrees.NamedTree.{named_tree}
-use Rattle.meeting_laws.specs.NamedTrees.FlatLayouts.{flat_layout}
-use Rattle.meeting_laws.specs.NamedTrees.MemberGroups.{AreOneGroupBelow, IsMemberAt}
+use Rattle.meeting_laws.specs.TreeRecords.NamedTrees.{NamedTree, NamedElements, OwnBody, layouts_of}
+use Rattle.meeting_laws.specs.TreeRecords.NamedTrees.NamedTree.{named_tree}
+use Rattle.meeting_laws.specs.TreeRecords.FlatLayouts.{flat_layout}
+use Rattle.meeting_laws.specs.TreeRecords.MemberGroups.{AreOneGroupBelow, IsMemberAt}
 use Rattle.meeting_laws.specs.PartLayouts.{parts_layout, HoldsAllMeetings, IsPartLink}
 use Rattle.meeting_laws.proofs.LinkLaws.{meet_near, link_of_part, material_stands, someone_stands}
 use Rattle.meeting_laws.proofs.RestrictionLaws.{layout_inside}

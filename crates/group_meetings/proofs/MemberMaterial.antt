@@ -7,17 +7,17 @@ use Rattle.tech_model.specs.Rules.{KeepsRules}
 use Rattle.tech_model.specs.WellFormed.{IsWellFormed}
 use Rattle.layout_model.specs.Layouts.{IsMaterial}
 use Rattle.layout_model.specs.Places.{Place}
-use Rattle.layout_trees.specs.CellTrees.{place_back}
-use Rattle.layout_trees.specs.FlatSets.{sets_in, IsTyped, AreTyped}
+use Rattle.layout_model.specs.CellTrees.{place_back}
+use Rattle.layout_model.specs.FlatSets.{sets_in, IsTyped, AreTyped}
 use Rattle.meeting_laws.specs.Offences.Offences.{SetLayout}
 use Rattle.meeting_laws.specs.HierarchyModel.CleanCells.{IsClean, AreClean}
 use Rattle.meeting_laws.specs.HierarchyModel.Restrictions.{PartStands}
-use Rattle.tree_names.specs.OwnRecords.FetRecords.{IsOfNode}
-use Rattle.meeting_laws.specs.NamedTrees.NamedTrees.{NamedTree, NamedElements, OwnBody, layouts_of, layouts_below}
-use Rattle.meeting_laws.specs.NamedTrees.NamedTrees.NamedTree.{named_tree}
-use Rattle.meeting_laws.specs.NamedTrees.NamedTrees.NamedElements.{no_more, element_then}
-use Rattle.meeting_laws.specs.NamedTrees.FlatLayouts.{flat_layout}
-use Rattle.meeting_laws.specs.NamedTrees.MemberGroups.{AreOneGroup, IsGroupName, IsMemberBelow}
+use Rattle.tree_names.specs.TreeRecords.FetRecords.{IsOfNode}
+use Rattle.meeting_laws.specs.TreeRecords.NamedTrees.{NamedTree, NamedElements, OwnBody, layouts_of, layouts_below}
+use Rattle.meeting_laws.specs.TreeRecords.NamedTrees.NamedTree.{named_tree}
+use Rattle.meeting_laws.specs.TreeRecords.NamedTrees.NamedElements.{no_more, element_then}
+use Rattle.meeting_laws.specs.TreeRecords.FlatLayouts.{flat_layout}
+use Rattle.meeting_laws.specs.TreeRecords.MemberGroups.{AreOneGroup, IsGroupName, IsMemberBelow}
 use Rattle.meeting_laws.specs.PartLayouts.{part_layout}
 use Rattle.meeting_laws.proofs.LinkLaws.{material_stands}
 use Rattle.meeting_laws.proofs.PartLinks.{part_material}

@@ -11,18 +11,18 @@ use Rattle.tech_model.specs.WellFormed.{IsWellFormed}
 use Rattle.layout_model.specs.Layouts.{Layout}
 use Rattle.layout_model.specs.Links.{AreLinked}
 use Rattle.layout_model.specs.Places.{Place, IsNoLater}
-use Rattle.layout_trees.specs.CellTrees.{place_back}
-use Rattle.layout_trees.specs.FlatSets.{sets_in, IsTyped}
+use Rattle.layout_model.specs.CellTrees.{place_back}
+use Rattle.layout_model.specs.FlatSets.{sets_in, IsTyped}
 use Rattle.tree_names.specs.Names.NamedNodes.{AreOneNamedNode}
 use Rattle.meeting_laws.specs.Offences.Offences.{SetLayout}
 use Rattle.meeting_laws.proofs.HierarchyModel.PartSearch.{one_part}
-use Rattle.tree_names.specs.OwnRecords.FetRecords.{IsOfNode}
+use Rattle.tree_names.specs.TreeRecords.FetRecords.{IsOfNode}
 use Rattle.tree_names.proofs.CellNodes.NodePlaces.{AreOneNamedNode-sym, material_along}
-use Rattle.meeting_laws.specs.NamedTrees.NamedTrees.{NamedTree, NamedElements, layouts_of}
-use Rattle.meeting_laws.specs.NamedTrees.NamedTrees.NamedTree.{named_tree}
-use Rattle.meeting_laws.specs.NamedTrees.NamedTrees.NamedElements.{no_more, element_then}
+use Rattle.meeting_laws.specs.TreeRecords.NamedTrees.{NamedTree, NamedElements, layouts_of}
+use Rattle.meeting_laws.specs.TreeRecords.NamedTrees.NamedTree.{named_tree}
+use Rattle.meeting_laws.specs.TreeRecords.NamedTrees.NamedElements.{no_more, element_then}
 use Rattle.ext_model.specs.Paths.{path_text}
-use Rattle.meeting_laws.proofs.NamedTrees.MoveLaws.{neighbours_back, stacked_back}
+use Rattle.meeting_laws.proofs.TreeRecords.MoveLaws.{neighbours_back, stacked_back}
 use Rattle.meeting_laws.specs.PartLayouts.{part_layout}
 use Rattle.meeting_laws.proofs.PartLinks.{link_of_same}
 use Rattle.group_meetings.specs.Members.{tree_parts, IsMemberOfElement, IsMemberOfPart}

@@ -8,20 +8,20 @@ use Rattle.tech_model.specs.WellFormed.{IsWellFormed}
 use Rattle.layout_model.specs.LayerTypes.{or_space, HasTypesOf}
 use Rattle.layout_model.specs.Layouts.{Layout, IsMaterial}
 use Rattle.layout_model.specs.Places.{Place}
-use Rattle.layout_trees.specs.CellTrees.{place_back}
-use Rattle.layout_trees.specs.FlatSets.{sets_in, flat_sets, element_parts}
+use Rattle.layout_model.specs.CellTrees.{place_back}
+use Rattle.layout_model.specs.FlatSets.{sets_in, flat_sets, element_parts}
 use Rattle.tree_names.specs.Names.Attachments.{label_at}
 use Rattle.tree_names.specs.Names.NamedNodes.{AreOneNamedNode}
 use Rattle.tree_names.proofs.Names.AttachLaws.{suits_material}
 use Rattle.meeting_laws.specs.Offences.Offences.{SetLayout}
 use Rattle.meeting_laws.proofs.HierarchyModel.CleanLaws.{flat_of_parts}
 use Rattle.meeting_laws.proofs.HierarchyModel.KindLaws.{type_in_layout}
-use Rattle.meeting_laws.specs.NamedTrees.NamedTrees.{NamedTree, NamedElements, OwnBody, layouts_of, layouts_below, place_forth}
-use Rattle.meeting_laws.specs.NamedTrees.NamedTrees.NamedTree.{named_tree}
-use Rattle.meeting_laws.specs.NamedTrees.NamedTrees.NamedElements.{no_more, element_then}
-use Rattle.meeting_laws.specs.NamedTrees.FlatLayouts.{flat_layout}
-use Rattle.meeting_laws.specs.NamedTrees.MemberGroups.{AreOneGroup, AreOneGroupBelow, IsMemberAt, IsMemberBelow}
-use Rattle.meeting_laws.proofs.NamedTrees.MoveLaws.{above_from_back}
+use Rattle.meeting_laws.specs.TreeRecords.NamedTrees.{NamedTree, NamedElements, OwnBody, layouts_of, layouts_below, place_forth}
+use Rattle.meeting_laws.specs.TreeRecords.NamedTrees.NamedTree.{named_tree}
+use Rattle.meeting_laws.specs.TreeRecords.NamedTrees.NamedElements.{no_more, element_then}
+use Rattle.meeting_laws.specs.TreeRecords.FlatLayouts.{flat_layout}
+use Rattle.meeting_laws.specs.TreeRecords.MemberGroups.{AreOneGroup, AreOneGroupBelow, IsMemberAt, IsMemberBelow}
+use Rattle.meeting_laws.proofs.TreeRecords.MoveLaws.{above_from_back}
 use Rattle.meeting_laws.specs.PartLayouts.{part_layout, parts_layout}
 use Rattle.group_meetings.specs.Members.{tree_parts, IsMemberOfElement, IsMemberOfPart}
 

@@ -8,8 +8,8 @@ use Rattle.tech_model.proofs.JoinedLaws.{joined-found}
 use Rattle.layout_model.specs.LayerTypes.{or_space}
 use Rattle.layout_model.specs.Layouts.{IsMaterial}
 use Rattle.layout_model.specs.Places.{Place}
-use Rattle.layout_trees.specs.CellTrees.{place_back}
-use Rattle.layout_trees.specs.FlatSets.{sets_in, flat_sets}
+use Rattle.layout_model.specs.CellTrees.{place_back}
+use Rattle.layout_model.specs.FlatSets.{sets_in, flat_sets}
 use Rattle.ext_model.specs.declared.records.CellExt.{CellExt}
 use Rattle.ext_model.specs.declared.records.NodeRec.{NodeRec}
 use Rattle.tree_names.specs.CellNodes.NodeRecords.{AreNodeRecords}
@@ -19,10 +19,10 @@ use Rattle.meeting_laws.specs.HierarchyModel.Restrictions.{PartStands}
 use Rattle.meeting_laws.proofs.HierarchyModel.CleanLaws.{has_flat_type}
 use Rattle.meeting_laws.proofs.HierarchyModel.KindLaws.{defined_or_not}
 use Rattle.meeting_laws.proofs.HierarchyModel.PartSearch.{earlier, one_part}
-use Rattle.meeting_laws.specs.NamedTrees.NamedTrees.{NamedTree, NamedElements, OwnBody, layouts_of, layouts_below}
-use Rattle.meeting_laws.specs.NamedTrees.NamedTrees.NamedTree.{named_tree}
-use Rattle.meeting_laws.specs.NamedTrees.NamedTrees.NamedElements.{no_more, element_then}
-use Rattle.meeting_laws.specs.NamedTrees.FlatLayouts.{flat_layout}
+use Rattle.meeting_laws.specs.TreeRecords.NamedTrees.{NamedTree, NamedElements, OwnBody, layouts_of, layouts_below}
+use Rattle.meeting_laws.specs.TreeRecords.NamedTrees.NamedTree.{named_tree}
+use Rattle.meeting_laws.specs.TreeRecords.NamedTrees.NamedElements.{no_more, element_then}
+use Rattle.meeting_laws.specs.TreeRecords.FlatLayouts.{flat_layout}
 use Rattle.meeting_laws.specs.TreeRecords.TreeRecords.{HaveTreeRecords}
 use Rattle.tree_names.proofs.GroupMerges.{has_group}
 use Rattle.tree_names.proofs.RecordedNodes.{record_at}

@@ -9,10 +9,10 @@ use Rattle.layout_model.specs.Links.{AreLinked, AreOneNode}
 use Rattle.layout_model.specs.Places.{Place}
 use Rattle.meeting_laws.specs.Offences.Offences.{SetLayout}
 use Rattle.meeting_laws.specs.HierarchyModel.Restrictions.{IsRestriction}
-use Rattle.meeting_laws.specs.NamedTrees.NamedTrees.{NamedTree}
-use Rattle.meeting_laws.specs.NamedTrees.NamedTrees.NamedTree.{named_tree}
-use Rattle.meeting_laws.specs.NamedTrees.FlatLayouts.{flat_layout}
-use Rattle.meeting_laws.specs.NamedTrees.MemberGroups.{AreOneGroup}
+use Rattle.meeting_laws.specs.TreeRecords.NamedTrees.{NamedTree}
+use Rattle.meeting_laws.specs.TreeRecords.NamedTrees.NamedTree.{named_tree}
+use Rattle.meeting_laws.specs.TreeRecords.FlatLayouts.{flat_layout}
+use Rattle.meeting_laws.specs.TreeRecords.MemberGroups.{AreOneGroup}
 use Rattle.meeting_laws.specs.PartLayouts.{parts_layout}
 use Rattle.meeting_laws.proofs.RestrictionLaws.{layout_inside, layout_elsewhere}
 use Rattle.meeting_laws.proofs.PartLinks.{link_of_same}

@@ -8,17 +8,17 @@ use Rattle.tech_model.specs.Types.{connects}
 use Rattle.tech_model.specs.WellFormed.{IsWellFormed}
 use Rattle.layout_model.specs.Links.{AreLinked, AreOneNode}
 use Rattle.layout_model.specs.Places.{Place}
-use Rattle.layout_trees.specs.FlatSets.{IsTyped}
+use Rattle.layout_model.specs.FlatSets.{IsTyped}
 use Rattle.meeting_laws.specs.Offences.Offences.{SetLayout}
 use Rattle.meeting_laws.specs.HierarchyModel.CleanCells.{IsClean}
 use Rattle.meeting_laws.specs.HierarchyModel.Restrictions.{IsRestriction}
 use Rattle.ext_model.specs.declared.records.CellExt.{CellExt}
 use Rattle.ext_model.specs.declared.records.NodeRec.{NodeRec}
 use Rattle.tree_names.specs.CellNodes.NodeRecords.{AreNodeRecords}
-use Rattle.meeting_laws.specs.NamedTrees.NamedTrees.{NamedTree, named_elements_in, layouts_of, own_body}
+use Rattle.meeting_laws.specs.TreeRecords.NamedTrees.{NamedTree, named_elements_in, layouts_of, own_body}
 use Rattle.meeting_laws.specs.TreeRecords.TreeRecords.{HaveTreeRecords}
-use Rattle.meeting_laws.specs.NamedTrees.FlatLayouts.{flat_layout}
-use Rattle.meeting_laws.specs.NamedTrees.MemberGroups.{AreOneGroup, IsMemberAt, IsMemberOf}
+use Rattle.meeting_laws.specs.TreeRecords.FlatLayouts.{flat_layout}
+use Rattle.meeting_laws.specs.TreeRecords.MemberGroups.{AreOneGroup, IsMemberAt, IsMemberOf}
 use Rattle.meeting_laws.specs.PartLayouts.{parts_layout, Passes, HoldsAllMeetings}
 use Rattle.group_meetings.specs.Members.{tree_parts, PartsHaveMembers, MeetInRegion}
 

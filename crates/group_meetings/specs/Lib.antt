@@ -2,10 +2,9 @@
 pub use Rattle.tree_names.specs.CellNodes as CellNodes
 pub use Rattle.meeting_laws.specs.HierarchyModel as HierarchyModel
 pub use Rattle.meeting_laws.specs as MeetingLaws
-pub use Rattle.meeting_laws.specs.NamedTrees as NamedTrees
 pub use Rattle.meeting_laws.specs.Offences as Offences
-pub use Rattle.tree_names.specs.OwnRecords as OwnRecords
 pub use Rattle.tree_names.specs as TreeNames
 pub use Rattle.meeting_laws.specs.TreeRecords as TreeRecords
+pub mod AdjustmentLaws
 pub mod Laws
 pub mod Members

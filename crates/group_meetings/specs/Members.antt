@@ -5,16 +5,16 @@ use Rattle.tech_model.specs.Types.{connects}
 use Rattle.layout_model.specs.Layouts.{IsMaterial}
 use Rattle.layout_model.specs.Links.{AreOneNode}
 use Rattle.layout_model.specs.Places.{Place}
-use Rattle.layout_trees.specs.CellTrees.{place_back}
-use Rattle.layout_trees.specs.FlatSets.{parts_in}
+use Rattle.layout_model.specs.CellTrees.{place_back}
+use Rattle.layout_model.specs.FlatSets.{parts_in}
 use Rattle.ext_model.specs.Paths.{path_text}
 use Rattle.meeting_laws.specs.Offences.Offences.{SetLayout}
 use Rattle.meeting_laws.specs.HierarchyModel.Restrictions.{PartStands}
-use Rattle.tree_names.specs.OwnRecords.FetRecords.{IsOfNode}
-use Rattle.meeting_laws.specs.NamedTrees.NamedTrees.{NamedTree, NamedElements, layouts_of}
-use Rattle.meeting_laws.specs.NamedTrees.NamedTrees.NamedTree.{named_tree}
-use Rattle.meeting_laws.specs.NamedTrees.NamedTrees.NamedElements.{no_more, element_then}
-use Rattle.meeting_laws.specs.NamedTrees.MemberGroups.{IsGroupName, IsMemberAt}
+use Rattle.tree_names.specs.TreeRecords.FetRecords.{IsOfNode}
+use Rattle.meeting_laws.specs.TreeRecords.NamedTrees.{NamedTree, NamedElements, layouts_of}
+use Rattle.meeting_laws.specs.TreeRecords.NamedTrees.NamedTree.{named_tree}
+use Rattle.meeting_laws.specs.TreeRecords.NamedTrees.NamedElements.{no_more, element_then}
+use Rattle.meeting_laws.specs.TreeRecords.MemberGroups.{IsGroupName, IsMemberAt}
 use Rattle.meeting_laws.specs.PartLayouts.{parts_layout}
 
 -- the parts of a cell: its own layout, and the flat layout of each element

@@ -10,8 +10,8 @@ use Rattle.geo_core.specs.declared.transforms.Transform.{Transform}
 use Rattle.tech_model.specs.declared.raw.RawTech.{RawTech}
 use Rattle.ext_model.specs.declared.tables.CellKey.{CellKey}
 use Rattle.use_orders.specs.Uses.{AreBehindChildren, IsAtOrBelow, UsesCell}
-use Rattle.layout_trees.specs.CellTrees.{CellTree, Elements}
-use Rattle.layout_trees.specs.CellTrees.CellTree.{cell_tree}
+use Rattle.layout_model.specs.CellTrees.{CellTree, Elements}
+use Rattle.layout_model.specs.CellTrees.CellTree.{cell_tree}
 use Rattle.hierarchy_model.specs.CleanCells.{AreClean, IsClean, IsCleanBelow}
 use Rattle.hier_merge.specs.UncleanCells.{IsCleanCell, IsFirstUnclean}
 use Rattle.cell_tree.specs.declared.use_tables.UseBody.{UseBody}

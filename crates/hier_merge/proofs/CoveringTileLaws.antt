@@ -21,10 +21,10 @@ use Rattle.tech_model.proofs.JoinedLaws.{joined-found}
 use Rattle.tech_model.proofs.SetLaws.{set_not_empty}
 use Rattle.layout_model.specs.LayerTypes.{HasTypesOf}
 use Rattle.layout_model.specs.Places.{Place}
-use Rattle.layout_trees.specs.CellTrees.{CellTree, Elements, Standing, standings, standings_from, under}
-use Rattle.layout_trees.specs.CellTrees.CellTree.{cell_tree}
-use Rattle.layout_trees.specs.CellTrees.Elements.{no_elements, element_and}
-use Rattle.layout_trees.specs.FlatSets.{AreTyped, IsTyped}
+use Rattle.layout_model.specs.CellTrees.{CellTree, Elements, Standing, standings, standings_from, under}
+use Rattle.layout_model.specs.CellTrees.CellTree.{cell_tree}
+use Rattle.layout_model.specs.CellTrees.Elements.{no_elements, element_and}
+use Rattle.layout_model.specs.FlatSets.{AreTyped, IsTyped}
 use Rattle.offences.specs.declared.set_tiles.SetTile.{SetTile}
 use Rattle.offences.specs.declared.stacks.TypedStack.{TypedStack}
 use Rattle.offences.specs.PartSets.{no_tile, tile_at}

@@ -12,8 +12,8 @@ use Rattle.tech_model.specs.declared.raw.RawTech.{RawTech}
 use Rattle.tech_model.specs.Rules.{KeepsRules}
 use Rattle.tech_model.specs.WellFormed.{IsWellFormed}
 use Rattle.layout_model.specs.Places.{Place}
-use Rattle.layout_trees.specs.CellTrees.{CellTree}
-use Rattle.layout_trees.specs.FlatSets.{IsTyped, parts_in}
+use Rattle.layout_model.specs.CellTrees.{CellTree}
+use Rattle.layout_model.specs.FlatSets.{IsTyped, parts_in}
 use Rattle.offences.specs.declared.plane_stacks.PlaneStack.{PlaneStack}
 use Rattle.offences.specs.Offences.{HaveTypes, OffendsOn, SetLayout}
 use Rattle.offences.specs.SetTiles.{tile_parts}

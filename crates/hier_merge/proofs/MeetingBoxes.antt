@@ -13,8 +13,8 @@ use Rattle.geo_core.proofs.StripSets.{strip_within}
 use Rattle.geo_core.proofs.NeighbourLaws.{AreEdgeNeighbours-sym}
 use Rattle.tech_model.specs.declared.raw.RawTech.{RawTech}
 use Rattle.layout_model.specs.Places.{Place}
-use Rattle.layout_trees.specs.CellTrees.{CellTree}
-use Rattle.layout_trees.specs.FlatSets.{parts_in}
+use Rattle.layout_model.specs.CellTrees.{CellTree}
+use Rattle.layout_model.specs.FlatSets.{parts_in}
 use Rattle.interact.specs.NearBoxes.{IsShared}
 use Rattle.geo_core.specs.Areas.{widened}
 use Rattle.geo_core.proofs.CoveringLaws.{covers_widened}

@@ -11,9 +11,9 @@ use Rattle.tech_model.specs.Types.{joined}
 use Rattle.tech_model.specs.Rules.{KeepsRules}
 use Rattle.tech_model.specs.WellFormed.{IsWellFormed}
 use Rattle.layout_model.specs.Places.{Place}
-use Rattle.layout_trees.specs.CellTrees.{CellTree}
-use Rattle.layout_trees.specs.CellTrees.CellTree.{cell_tree}
-use Rattle.layout_trees.specs.FlatSets.{parts_in, IsTyped}
+use Rattle.layout_model.specs.CellTrees.{CellTree}
+use Rattle.layout_model.specs.CellTrees.CellTree.{cell_tree}
+use Rattle.layout_model.specs.FlatSets.{parts_in, IsTyped}
 use Rattle.interact.specs.NearBoxes.{IsShared}
 use Rattle.offences.specs.Offences.{HaveTypes, Offends, OffendsOn, SetLayout, joined_at}
 use Rattle.offences.specs.SetTiles.{tile_part}

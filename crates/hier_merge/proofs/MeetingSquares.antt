@@ -16,8 +16,8 @@ use Rattle.geo_core.specs.Strips.{IsInUnion, IsStrips}
 use Rattle.geo_core.proofs.CoveringLaws.{Covers-is_covered, is_covered-Covers, covers_widened}
 use Rattle.tech_model.specs.declared.raw.RawTech.{RawTech}
 use Rattle.layout_model.specs.Places.{Place}
-use Rattle.layout_trees.specs.CellTrees.{CellTree}
-use Rattle.layout_trees.specs.FlatSets.{parts_in}
+use Rattle.layout_model.specs.CellTrees.{CellTree}
+use Rattle.layout_model.specs.FlatSets.{parts_in}
 use Rattle.interact.specs.NearBoxes.{IsShared}
 use Rattle.offences.specs.Offences.{SetLayout}
 use Rattle.offences.proofs.TileLaws.{bit_kept, union_bit}

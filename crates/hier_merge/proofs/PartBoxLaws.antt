@@ -10,9 +10,9 @@ use Rattle.tech_model.specs.declared.raw.TypeRec.{TypeRec}
 use Rattle.tech_model.specs.Types.{parts_of}
 use Rattle.layout_model.specs.Places.{Place}
 use Rattle.layout_model.specs.Layouts.{Layout}
-use Rattle.layout_trees.specs.CellTrees.{CellTree}
-use Rattle.layout_trees.specs.CellTrees.CellTree.{cell_tree}
-use Rattle.layout_trees.specs.FlatSets.{element_parts, elements_in, parts_in, sets_in}
+use Rattle.layout_model.specs.CellTrees.{CellTree}
+use Rattle.layout_model.specs.CellTrees.CellTree.{cell_tree}
+use Rattle.layout_model.specs.FlatSets.{element_parts, elements_in, parts_in, sets_in}
 use Rattle.cell_library.specs.CellPaint.Painting.{paint_range}
 use Rattle.cell_library.specs.CellPaint.Paints.{IsPaintBox, IsSoundPaint}
 use Rattle.cell_tree.specs.Hulls.{IsLawfulBox}

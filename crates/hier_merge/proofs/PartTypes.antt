@@ -11,10 +11,10 @@ use Rattle.tech_model.specs.WellFormed.{IsWellFormed}
 use Rattle.layout_model.specs.Layouts.{Layout}
 use Rattle.layout_model.specs.LayerTypes.{HasTypesOf}
 use Rattle.layout_model.specs.Places.{Place}
-use Rattle.layout_trees.specs.CellTrees.{CellTree, Elements, place_back}
-use Rattle.layout_trees.specs.CellTrees.CellTree.{cell_tree}
-use Rattle.layout_trees.specs.CellTrees.Elements.{no_elements, element_and}
-use Rattle.layout_trees.specs.FlatSets.{element_parts, flat_sets, parts_in, sets_below, sets_in, AreTyped, IsTyped}
+use Rattle.layout_model.specs.CellTrees.{CellTree, Elements, place_back}
+use Rattle.layout_model.specs.CellTrees.CellTree.{cell_tree}
+use Rattle.layout_model.specs.CellTrees.Elements.{no_elements, element_and}
+use Rattle.layout_model.specs.FlatSets.{element_parts, flat_sets, parts_in, sets_below, sets_in, AreTyped, IsTyped}
 use Rattle.offences.specs.Offences.{HaveTypes, SetLayout, joined_at}
 use Rattle.offences.proofs.SpoiledLaws.{some_is_not_none}
 use Rattle.hierarchy_model.specs.CleanCells.{AreClean, IsCleanBelow}

@@ -10,7 +10,7 @@ use Rattle.geo_core.specs.Areas.{IsNear}
 use Rattle.tech_model.specs.declared.raw.RawTech.{RawTech}
 use Rattle.tech_model.specs.Types.{parts_of}
 use Rattle.layout_model.specs.Places.{Place}
-use Rattle.layout_trees.proofs.SetUnions.{none_union}
+use Rattle.layout_model.proofs.SetUnions.{none_union}
 use Rattle.offences.specs.declared.set_tiles.SetTile.{SetTile}
 use Rattle.offences.specs.SetTiles.{tile_part, AreTilesOfParts, set_of_set_tile}
 use Rattle.cell_library.specs.declared.part_tiles.PartTile.{PartTile}

@@ -17,7 +17,7 @@ use Rattle.geo_core.specs.Covering.{Covers}
 use Rattle.geo_core.specs.Images.{rect_image}
 use Rattle.geo_core.proofs.CoveringLaws.{covers_second}
 use Rattle.tech_model.specs.declared.raw.RawTech.{RawTech}
-use Rattle.layout_trees.specs.CellTrees.{CellTree}
+use Rattle.layout_model.specs.CellTrees.{CellTree}
 use Rattle.offences.specs.declared.set_tiles.SetTile.{SetTile}
 use Rattle.cell_library.specs.declared.part_tiles.PartTile.{PartTile}
 use Rattle.cell_library.specs.PartTiles.{IsPartTileIn}

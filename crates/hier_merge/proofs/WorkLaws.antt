@@ -11,7 +11,7 @@ use Rattle.geo_core.proofs.StripSets.{strips_same}
 use Rattle.geo_core.proofs.CoveringLaws.{within_antisym}
 use Rattle.tech_model.specs.declared.raw.RawTech.{RawTech}
 use Rattle.layout_model.specs.Layouts.{Layout}
-use Rattle.layout_trees.specs.CellTrees.{CellTree}
+use Rattle.layout_model.specs.CellTrees.{CellTree}
 use Rattle.interact.specs.NearBoxes.{IsShared}
 use Rattle.cell_library.specs.declared.part_tiles.PartTile.{PartTile}
 use Rattle.cell_library.specs.LayoutTrees.{tree_at}

@@ -2,7 +2,7 @@
 use Rattle.std.specs.Prelude.{◌≡◌, ℕ, List, ◌∷◌, ◌++◌, length, All}
 use Rattle.geo_core.specs.declared.squares.Rect.{Rect}
 use Rattle.use_orders.specs.LibraryOrder.{IsLibraryOrder}
-use Rattle.layout_trees.specs.FlatSets.{parts_in}
+use Rattle.layout_model.specs.FlatSets.{parts_in}
 use Rattle.offences.specs.Offences.{OffendsOn}
 use Rattle.hierarchy_model.specs.CleanCells.{IsClean}
 use Rattle.cell_library.specs.Additions.{children_in}

@@ -1,6 +1,6 @@
 //! The squares at which the parts of a cell spoil each other.
 ghost use Rattle.std.specs.Prelude.{◌≡◌, ◌≤◌, ◌+◌, ◌<◌, ◌↔◌, ℕ, [], IfOk, length};
-ghost use Rattle.layout_trees.specs.FlatSets.{parts_in};
+ghost use Rattle.layout_model.specs.FlatSets.{parts_in};
 ghost use Rattle.offences.specs.Offences.{OffendsOn};
 ghost use Rattle.hierarchy_model.specs.CleanCells.{IsClean, IsCleanBelow};
 ghost use Rattle.hierarchy_model.specs.Laws.{KeepsWhatItHas};

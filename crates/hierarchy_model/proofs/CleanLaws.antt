@@ -15,10 +15,10 @@ use Rattle.tech_model.proofs.WithinLaws.{within_trans, within_space}
 use Rattle.tech_model.specs.ChannelRoles.{is_channel}
 use Rattle.offences.specs.LayoutModel.Places.{Place}
 use Rattle.offences.specs.Offences.{SetLayout, joined_at, union_of, flat_type, is_exactly, parts_with, HasKind, Offends}
-use Rattle.offences.specs.LayoutTrees.CellTrees.{OwnCell, CellTree, Elements, place_back, own_types, own_types_below}
-use Rattle.offences.specs.LayoutTrees.CellTrees.CellTree.{cell_tree}
-use Rattle.offences.specs.LayoutTrees.CellTrees.Elements.{no_elements, element_and}
-use Rattle.offences.specs.LayoutTrees.FlatSets.{sets_in, flat_sets, sets_below, element_parts, IsTyped, AreTyped}
+use Rattle.offences.specs.LayoutModel.CellTrees.{OwnCell, CellTree, Elements, place_back, own_types, own_types_below}
+use Rattle.offences.specs.LayoutModel.CellTrees.CellTree.{cell_tree}
+use Rattle.offences.specs.LayoutModel.CellTrees.Elements.{no_elements, element_and}
+use Rattle.offences.specs.LayoutModel.FlatSets.{sets_in, flat_sets, sets_below, element_parts, IsTyped, AreTyped}
 use Rattle.hierarchy_model.specs.CleanCells.{IsClean, AreClean}
 use Rattle.hierarchy_model.specs.Laws.{times, HasFlatType, OwnTypesAreWithin, ChannelsHaveOneOwner}
 use Rattle.hierarchy_model.proofs.KindLaws.{defined_or_not, type_in_layout}

@@ -15,10 +15,10 @@ use Rattle.offences.specs.LayoutModel.Places.{Place, AreNeighbours}
 use Rattle.offences.specs.Roles.{Role, role_of}
 use Rattle.offences.specs.Roles.Role.{Channel, Terminal, Other}
 use Rattle.offences.specs.Offences.{SetLayout, joined_at, flat_type, HasKind, Offends}
-use Rattle.offences.specs.LayoutTrees.CellTrees.{OwnCell, CellTree, Elements, place_back, own_types, own_types_below}
-use Rattle.offences.specs.LayoutTrees.CellTrees.CellTree.{cell_tree}
-use Rattle.offences.specs.LayoutTrees.CellTrees.Elements.{no_elements, element_and}
-use Rattle.offences.specs.LayoutTrees.FlatSets.{sets_in, flat_sets, element_parts, IsTyped, AreTyped}
+use Rattle.offences.specs.LayoutModel.CellTrees.{OwnCell, CellTree, Elements, place_back, own_types, own_types_below}
+use Rattle.offences.specs.LayoutModel.CellTrees.CellTree.{cell_tree}
+use Rattle.offences.specs.LayoutModel.CellTrees.Elements.{no_elements, element_and}
+use Rattle.offences.specs.LayoutModel.FlatSets.{sets_in, flat_sets, element_parts, IsTyped, AreTyped}
 use Rattle.hierarchy_model.specs.CleanCells.{IsClean, AreClean}
 use Rattle.hierarchy_model.specs.Laws.{own_pairs, own_pairs_below, RolesAreKept}
 use Rattle.hierarchy_model.proofs.KindLaws.{type_in_layout}

@@ -3,10 +3,10 @@ use Rattle.std.specs.Prelude.{◌∷◌}
 use Rattle.tech_model.specs.declared.raw.RawTech.{RawTech}
 use Rattle.offences.specs.LayoutModel.Places.{Place}
 use Rattle.offences.specs.Offences.{Offends}
-use Rattle.offences.specs.LayoutTrees.CellTrees.{CellTree, Elements}
-use Rattle.offences.specs.LayoutTrees.CellTrees.CellTree.{cell_tree}
-use Rattle.offences.specs.LayoutTrees.CellTrees.Elements.{no_elements, element_and}
-use Rattle.offences.specs.LayoutTrees.FlatSets.{sets_in, element_parts, elements_in}
+use Rattle.offences.specs.LayoutModel.CellTrees.{CellTree, Elements}
+use Rattle.offences.specs.LayoutModel.CellTrees.CellTree.{cell_tree}
+use Rattle.offences.specs.LayoutModel.CellTrees.Elements.{no_elements, element_and}
+use Rattle.offences.specs.LayoutModel.FlatSets.{sets_in, element_parts, elements_in}
 
 -- A cell is clean where all cells below it are and no place of it offends.
 abbrev mutual

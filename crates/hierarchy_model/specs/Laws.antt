@@ -9,10 +9,10 @@ use Rattle.tech_model.specs.ChannelRoles.{is_channel}
 use Rattle.offences.specs.LayoutModel.Places.{Place, AreNeighbours}
 use Rattle.offences.specs.Offences.{joined_at}
 use Rattle.offences.specs.Roles.{role_of}
-use Rattle.offences.specs.LayoutTrees.CellTrees.{CellTree, Elements, place_back, own_types}
-use Rattle.offences.specs.LayoutTrees.CellTrees.CellTree.{cell_tree}
-use Rattle.offences.specs.LayoutTrees.CellTrees.Elements.{no_elements, element_and}
-use Rattle.offences.specs.LayoutTrees.FlatSets.{flat_sets, IsTyped}
+use Rattle.offences.specs.LayoutModel.CellTrees.{CellTree, Elements, place_back, own_types}
+use Rattle.offences.specs.LayoutModel.CellTrees.CellTree.{cell_tree}
+use Rattle.offences.specs.LayoutModel.CellTrees.Elements.{no_elements, element_and}
+use Rattle.offences.specs.LayoutModel.FlatSets.{flat_sets, IsTyped}
 use Rattle.hierarchy_model.specs.CleanCells.{IsClean}
 
 -- how often the type stands in the list

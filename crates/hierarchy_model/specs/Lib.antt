@@ -1,6 +1,5 @@
 -- what crates above name of those below
 pub use Rattle.offences.specs.LayoutModel as LayoutModel
-pub use Rattle.offences.specs.LayoutTrees as LayoutTrees
 pub use Rattle.offences.specs as Offences
 pub mod CleanCells
 pub mod Laws

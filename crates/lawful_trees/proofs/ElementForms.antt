@@ -8,7 +8,7 @@ use Rattle.geo_core.specs.Elements.{elements_of}
 use Rattle.ext_model.specs.NodeNames.{is_node_name}
 use Rattle.ext_model.specs.ElementNames.{is_use_id}
 use Rattle.ext_model.proofs.ElementForms.{id_form, indexed_form}
-use Rattle.kept_records.specs.LibraryTrees.ElementNames.{UseElement, array_element, use_elements}
+use Rattle.library_trees.specs.ElementNames.{UseElement, array_element, use_elements}
 
 -- the name of an element of a use has the form of a node's name
 pub element_form : (id : List ℕ) (grid : Option Grid) → IsTrue (is_use_id id) → (element : UseElement) → In element (use_elements id grid)

@@ -19,7 +19,7 @@ use Rattle.cell_library.specs.LayoutTrees.{element_transform}
 use Rattle.cell_library.proofs.GridSteps.{IsNearStep, element_is_near}
 use Rattle.ext_model.specs.declared.limits.TheConstants.{ELEMENT_EDGE}
 use Rattle.ext_model.specs.Lawful.{IsPlacement}
-use Rattle.kept_records.specs.LibraryTrees.ElementNames.{UseElement, array_element, use_elements}
+use Rattle.library_trees.specs.ElementNames.{UseElement, array_element, use_elements}
 
 -- The displacement is that of an element of a lawful use.
 record IsNearBoth (step : ℤ × ℤ) : Type 0 where

@@ -14,14 +14,14 @@ use Rattle.ext_model.specs.Lawful.{AreMeasures, IsMeasure}
 use Rattle.layout_model.specs.Layouts.{IsMaterial}
 use Rattle.layout_model.specs.Places.{Place}
 use Rattle.layout_model.specs.Technologies.{Class, class_of, rules_of}
-use Rattle.kept_records.proofs.Measures.MeasureLaws.{space_out}
-use Rattle.kept_records.proofs.NameClasses.ClassLaws.{distinct_in_order}
-use Rattle.kept_records.specs.NamedTrees.FlatLayouts.{flat_layout}
-use Rattle.kept_records.specs.NamedTrees.NamedTrees.{NamedTree}
-use Rattle.kept_records.specs.TreeRecords.Merges.{Adjustment, AreAdjustments, IsMemberGroup, MemberGroup, group_merges, is_zero_adjustment, merge_of, zero_adjustment}
-use Rattle.kept_records.specs.TreeNames.CleanTrees.{IsCleanTree}
-use Rattle.adjustment_laws.specs.GroupMeetings.Members.{tree_parts}
-use Rattle.adjustment_laws.proofs.LocalQuantities.{area_local, capacitance_local, perimeter_local}
+use Rattle.library_trees.proofs.Measures.MeasureLaws.{space_out}
+use Rattle.library_trees.proofs.NameClasses.ClassLaws.{distinct_in_order}
+use Rattle.library_trees.specs.TreeRecords.FlatLayouts.{flat_layout}
+use Rattle.library_trees.specs.TreeRecords.NamedTrees.{NamedTree}
+use Rattle.library_trees.specs.TreeRecords.Merges.{Adjustment, AreAdjustments, IsMemberGroup, MemberGroup, group_merges, is_zero_adjustment, merge_of, zero_adjustment}
+use Rattle.library_trees.specs.TreeNames.CleanTrees.{IsCleanTree}
+use Rattle.group_meetings.specs.Members.{tree_parts}
+use Rattle.group_meetings.proofs.LocalQuantities.{area_local, capacitance_local, perimeter_local}
 use Rattle.lawful_trees.proofs.MemberSums.{adjustment_small}
 use Rattle.lawful_trees.proofs.NearPlaces.{IsPaintPlace}
 use Rattle.lawful_trees.proofs.SmallWeights.{area_little, capacitance_little, perimeter_little}

@@ -16,24 +16,24 @@ use Rattle.ext_model.specs.LawfulArrays.{IsArrayUse, IsLawfulArrayExt}
 use Rattle.ext_model.specs.Plain.{plain}
 use Rattle.layout_model.specs.LayerTypes.{HasTypesOf}
 use Rattle.layout_model.specs.Technologies.{class_of, rules_of}
-use Rattle.layout_trees.specs.CellTrees.{CellTree}
-use Rattle.layout_trees.specs.FlatSets.{IsTyped, parts_in}
+use Rattle.layout_model.specs.CellTrees.{CellTree}
+use Rattle.layout_model.specs.FlatSets.{IsTyped, parts_in}
 use Rattle.cell_library.specs.LayoutTrees.{tree_at}
 use Rattle.cell_library.specs.Libraries.{LibraryParts, IsLawfulLibrary, seen}
 use Rattle.cell_library.proofs.ElementCounts.{few_elements, part_count}
-use Rattle.kept_records.specs.HierarchyModel.CleanCells.{IsClean}
-use Rattle.kept_records.proofs.OwnRecordLaws.NameForms.{plain_word}
-use Rattle.kept_records.specs.NamedTrees.NamedTrees.{NamedTree, layouts_of, named_elements_in, own_body}
-use Rattle.kept_records.specs.NamedTrees.NamedTrees.NamedTree.{named_tree}
-use Rattle.kept_records.specs.TreeRecords.Merges.{group_merges}
-use Rattle.kept_records.specs.TreeRecords.TreeRecords.{IsTreeRecord}
-use Rattle.kept_records.specs.TreeNames.CleanTrees.{HasElementNames, IsCleanTree, ids_in}
-use Rattle.kept_records.proofs.TreeNames.GroupMerges.{merge_members}
-use Rattle.adjustment_laws.specs.GroupMeetings.Members.{tree_parts}
-use Rattle.kept_records.specs.LibraryTrees.NamedCells.{named_tree_at}
-use Rattle.kept_records.proofs.LibraryTrees.CleanTrees.{clean_tree}
-use Rattle.kept_records.proofs.LibraryTrees.LayoutLaws.{layouts_of_cell}
-use Rattle.kept_records.specs.CellRecords.{IsRecordOf}
+use Rattle.library_trees.specs.HierarchyModel.CleanCells.{IsClean}
+use Rattle.library_trees.proofs.OwnRecordLaws.NameForms.{plain_word}
+use Rattle.library_trees.specs.TreeRecords.NamedTrees.{NamedTree, layouts_of, named_elements_in, own_body}
+use Rattle.library_trees.specs.TreeRecords.NamedTrees.NamedTree.{named_tree}
+use Rattle.library_trees.specs.TreeRecords.Merges.{group_merges}
+use Rattle.library_trees.specs.TreeRecords.TreeRecords.{IsTreeRecord}
+use Rattle.library_trees.specs.TreeNames.CleanTrees.{HasElementNames, IsCleanTree, ids_in}
+use Rattle.library_trees.proofs.TreeNames.GroupMerges.{merge_members}
+use Rattle.group_meetings.specs.Members.{tree_parts}
+use Rattle.library_trees.specs.NamedCells.{named_tree_at}
+use Rattle.library_trees.proofs.CleanTrees.{clean_tree}
+use Rattle.library_trees.proofs.LayoutLaws.{layouts_of_cell}
+use Rattle.library_trees.specs.CellRecords.{IsRecordOf}
 use Rattle.lawful_trees.specs.Laws.{RecordIsLawful}
 use Rattle.lawful_trees.proofs.LawfulMerges.{group_merge_small}
 use Rattle.lawful_trees.proofs.LibraryElements.{forms_below, lawful_uses}

@@ -22,13 +22,13 @@ use Rattle.cell_library.proofs.ViewLaws.{cell_viewed}
 use Rattle.ext_model.specs.declared.records.UseRec.{UseRec}
 use Rattle.ext_model.specs.Lawful.{IsLawfulUse}
 use Rattle.ext_model.specs.NodeNames.{is_node_name}
-use Rattle.kept_records.specs.NamedTrees.NamedTrees.{NamedTree, NamedElements, named_elements_in, own_body}
-use Rattle.kept_records.specs.NamedTrees.NamedTrees.NamedTree.{named_tree}
-use Rattle.kept_records.specs.NamedTrees.NamedTrees.NamedElements.{no_more, element_then}
-use Rattle.kept_records.specs.TreeRecords.TreeRecords.{use_records}
-use Rattle.kept_records.specs.LibraryTrees.ElementNames.{UseElement, use_elements}
-use Rattle.kept_records.specs.LibraryTrees.NamedCells.{named_elements_at, named_elements_from, named_tree_at, named_tree_to}
-use Rattle.kept_records.proofs.LibraryTrees.WholeTrees.{UsesWithIds, named_tree_unfolds, no_cell_seen}
+use Rattle.library_trees.specs.TreeRecords.NamedTrees.{NamedTree, NamedElements, named_elements_in, own_body}
+use Rattle.library_trees.specs.TreeRecords.NamedTrees.NamedTree.{named_tree}
+use Rattle.library_trees.specs.TreeRecords.NamedTrees.NamedElements.{no_more, element_then}
+use Rattle.library_trees.specs.TreeRecords.TreeRecords.{use_records}
+use Rattle.library_trees.specs.ElementNames.{UseElement, use_elements}
+use Rattle.library_trees.specs.NamedCells.{named_elements_at, named_elements_from, named_tree_at, named_tree_to}
+use Rattle.library_trees.proofs.WholeTrees.{UsesWithIds, named_tree_unfolds, no_cell_seen}
 use Rattle.lawful_trees.proofs.ElementForms.{element_form}
 use Rattle.lawful_trees.proofs.ElementPlaces.{element_placement}
 

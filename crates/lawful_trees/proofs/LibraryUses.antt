@@ -15,7 +15,7 @@ use Rattle.cell_tree.specs.Uses.{IsLawfulGrid, IsShift}
 use Rattle.cell_library.specs.Libraries.{LibraryParts, IsLawfulLibrary, seen}
 use Rattle.cell_library.specs.Views.{view_at}
 use Rattle.cell_library.proofs.ElementCounts.{use_is_lawful}
-use Rattle.kept_records.specs.CellRecords.{library_use, library_uses}
+use Rattle.library_trees.specs.CellRecords.{library_use, library_uses}
 use Rattle.lawful_trees.proofs.LibraryElements.{use_ids}
 
 -- the id of a use has its form, with or without a grid

@@ -12,18 +12,18 @@ use Rattle.ext_model.specs.Lawful.{IsMeasure}
 use Rattle.layout_model.specs.Layouts.{IsMaterial}
 use Rattle.layout_model.specs.Places.{Place}
 use Rattle.layout_model.proofs.Families.{InFamily}
-use Rattle.kept_records.specs.NamedTrees.FlatLayouts.{flat_layout}
-use Rattle.kept_records.specs.NamedTrees.MemberGroups.{IsGroupName}
-use Rattle.kept_records.specs.NamedTrees.NamedTrees.{NamedTree}
-use Rattle.kept_records.specs.TreeRecords.PlaceWeights.{PlaceWeight, AreMemberTotals, IsAdjustment}
-use Rattle.kept_records.specs.TreeNames.CleanTrees.{IsCleanTree}
-use Rattle.adjustment_laws.specs.MeetingLaws.PartLayouts.{part_layout}
-use Rattle.adjustment_laws.specs.GroupMeetings.Members.{tree_parts}
-use Rattle.adjustment_laws.proofs.GroupMeetings.MemberMaterial.{flat_of_part, member_is_material, named_is_material}
-use Rattle.adjustment_laws.proofs.GroupMeetings.MemberSteps.{one_of_part}
-use Rattle.adjustment_laws.proofs.GroupSums.{StandsAt}
-use Rattle.adjustment_laws.proofs.LocalQuantities.{IsLocal}
-use Rattle.adjustment_laws.proofs.MemberTotals.{counted, member_by_pairs, part_at}
+use Rattle.library_trees.specs.TreeRecords.FlatLayouts.{flat_layout}
+use Rattle.library_trees.specs.TreeRecords.MemberGroups.{IsGroupName}
+use Rattle.library_trees.specs.TreeRecords.NamedTrees.{NamedTree}
+use Rattle.library_trees.specs.TreeRecords.PlaceWeights.{PlaceWeight, AreMemberTotals, IsAdjustment}
+use Rattle.library_trees.specs.TreeNames.CleanTrees.{IsCleanTree}
+use Rattle.group_meetings.specs.MeetingLaws.PartLayouts.{part_layout}
+use Rattle.group_meetings.specs.Members.{tree_parts}
+use Rattle.group_meetings.proofs.MemberMaterial.{flat_of_part, member_is_material, named_is_material}
+use Rattle.group_meetings.proofs.MemberSteps.{one_of_part}
+use Rattle.group_meetings.proofs.GroupSums.{StandsAt}
+use Rattle.group_meetings.proofs.LocalQuantities.{IsLocal}
+use Rattle.group_meetings.proofs.MemberTotals.{counted, member_by_pairs, part_at}
 use Rattle.lawful_trees.proofs.FewPlaces.{IsNear, IsSmallSum, PartPlace, small_total}
 use Rattle.lawful_trees.proofs.NearPlaces.{IsPaintPlace}
 use Rattle.lawful_trees.proofs.SmallWeights.{CountsLittle}

@@ -9,10 +9,10 @@ use Rattle.tech_model.specs.declared.raw.RawTech.{RawTech}
 use Rattle.tech_model.specs.WellFormed.{IsWellFormed}
 use Rattle.layout_model.specs.Layouts.{IsMaterial}
 use Rattle.layout_model.specs.Places.{Place}
-use Rattle.layout_trees.specs.CellTrees.{CellTree, Elements, place_back}
-use Rattle.layout_trees.specs.CellTrees.CellTree.{cell_tree}
-use Rattle.layout_trees.specs.CellTrees.Elements.{no_elements, element_and}
-use Rattle.layout_trees.specs.FlatSets.{flat_sets, IsTyped, AreTyped}
+use Rattle.layout_model.specs.CellTrees.{CellTree, Elements, place_back}
+use Rattle.layout_model.specs.CellTrees.CellTree.{cell_tree}
+use Rattle.layout_model.specs.CellTrees.Elements.{no_elements, element_and}
+use Rattle.layout_model.specs.FlatSets.{flat_sets, IsTyped, AreTyped}
 use Rattle.cell_paint.specs.Painting.{paint_range}
 use Rattle.cell_tree.specs.declared.limits.TheConstants.{MOST_DEPTH}
 use Rattle.cell_tree.specs.declared.sizes.Dimension.TheVariants.{Hull}
@@ -22,10 +22,10 @@ use Rattle.cell_library.specs.LayoutTrees.{tree_at}
 use Rattle.cell_library.specs.Libraries.{LibraryParts, IsLawfulLibrary, seen}
 use Rattle.cell_library.specs.MaterialBelow.{HasMaterial, HasMaterialBelow}
 use Rattle.cell_library.proofs.HullsHoldMaterial.{hull_holds_material, material_of_sets}
-use Rattle.kept_records.specs.NamedTrees.NamedTrees.{NamedTree, layouts_of, own_body}
-use Rattle.kept_records.specs.NamedTrees.NamedTrees.NamedTree.{named_tree}
-use Rattle.kept_records.specs.NamedTrees.FlatLayouts.{flat_layout}
-use Rattle.adjustment_laws.proofs.MeetingLaws.LinkLaws.{part_of_empty}
+use Rattle.library_trees.specs.TreeRecords.NamedTrees.{NamedTree, layouts_of, own_body}
+use Rattle.library_trees.specs.TreeRecords.NamedTrees.NamedTree.{named_tree}
+use Rattle.library_trees.specs.TreeRecords.FlatLayouts.{flat_layout}
+use Rattle.group_meetings.proofs.MeetingLaws.LinkLaws.{part_of_empty}
 
 -- A place where there may be paint.
 pub record IsPaintPlace (place : Place) : Type 0 where

@@ -27,18 +27,18 @@ use Rattle.layout_model.specs.Places.{Place}
 use Rattle.layout_model.specs.Technologies.{class_of}
 use Rattle.layout_model.specs.Transistors.{Transistor}
 use Rattle.cell_paint.specs.Painting.{paint_range}
-use Rattle.kept_records.specs.Measures.Bounds.{IsSmallMeasure}
-use Rattle.kept_records.proofs.Measures.BoundLaws.{measures_are_small}
-use Rattle.kept_records.specs.Names.NamedNodes.{AreOneNamedNode}
-use Rattle.kept_records.specs.CellNodes.NodeRecords.{AreNodeRecords, IsNodeRecord}
-use Rattle.kept_records.proofs.CellNodes.NodePlaces.{material_along}
-use Rattle.kept_records.specs.OwnRecords.FetRecords.{AreFetRecords, IsNodeBefore, IsOfNode}
-use Rattle.kept_records.specs.OwnRecords.OwnRecords.{class_values}
-use Rattle.kept_records.proofs.OwnRecordLaws.LawfulFets.{fet_is_lawful}
-use Rattle.kept_records.proofs.OwnRecordLaws.NameForms.{type_word, name_form}
-use Rattle.kept_records.proofs.OwnRecordLaws.NamesDiffer.{names_differ}
-use Rattle.kept_records.proofs.OwnRecordLaws.NodeSizes.{measure_from, near_place, paint_x, paint_y, capacitance_small, record_measures}
-use Rattle.kept_records.proofs.OwnRecordLaws.PreferredNames.{recorded, in_some, goes_by}
+use Rattle.library_trees.specs.Measures.Bounds.{IsSmallMeasure}
+use Rattle.library_trees.proofs.Measures.BoundLaws.{measures_are_small}
+use Rattle.library_trees.specs.Names.NamedNodes.{AreOneNamedNode}
+use Rattle.library_trees.specs.CellNodes.NodeRecords.{AreNodeRecords, IsNodeRecord}
+use Rattle.library_trees.proofs.CellNodes.NodePlaces.{material_along}
+use Rattle.library_trees.specs.TreeRecords.FetRecords.{AreFetRecords, IsNodeBefore, IsOfNode}
+use Rattle.library_trees.specs.TreeRecords.OwnRecords.{class_values}
+use Rattle.library_trees.proofs.OwnRecordLaws.LawfulFets.{fet_is_lawful}
+use Rattle.library_trees.proofs.OwnRecordLaws.NameForms.{type_word, name_form}
+use Rattle.library_trees.proofs.OwnRecordLaws.NamesDiffer.{names_differ}
+use Rattle.library_trees.proofs.OwnRecordLaws.NodeSizes.{measure_from, near_place, paint_x, paint_y, capacitance_small, record_measures}
+use Rattle.library_trees.proofs.OwnRecordLaws.PreferredNames.{recorded, in_some, goes_by}
 
 -- a record has no more values than a technology may have classes
 pub class_limit : (raw : RawTech) → IsWellFormed raw → (values : List ℕ) → values ≡ class_values raw → length values ≤ MOST_CLASSES

@@ -17,7 +17,7 @@ use Rattle.tech_model.specs.WellFormed.{IsClass, IsWellFormed}
 use Rattle.layout_model.specs.Layouts.{Layout}
 use Rattle.layout_model.specs.Places.{Place, neighbours}
 use Rattle.layout_model.specs.Technologies.{Class, class_of, rules_of}
-use Rattle.kept_records.specs.TreeRecords.PlaceWeights.{PlaceWeight, area_weight, perimeter_weight, capacitance_weight}
+use Rattle.library_trees.specs.TreeRecords.PlaceWeights.{PlaceWeight, area_weight, perimeter_weight, capacitance_weight}
 
 -- A number from 0 to five million.
 pub record IsLittle (z : ℤ) : Type 0 where

@@ -11,19 +11,19 @@ use Rattle.ext_model.specs.Paths.{path_text}
 use Rattle.ext_model.specs.RecordNames.{element_names, node_names}
 use Rattle.ext_model.specs.Lawful.{IsPathIn}
 use Rattle.layout_model.specs.Places.{Place}
-use Rattle.layout_trees.specs.CellTrees.{place_back}
-use Rattle.layout_trees.specs.FlatSets.{IsTyped, AreTyped}
-use Rattle.kept_records.proofs.CellNodes.NodePlaces.{material_along}
-use Rattle.kept_records.specs.OwnRecords.FetRecords.{IsOfNode}
-use Rattle.kept_records.proofs.OwnRecordLaws.NameForms.{name_form}
-use Rattle.kept_records.specs.NamedTrees.FlatLayouts.{HasNodePath, HasNodePathBelow}
-use Rattle.kept_records.specs.NamedTrees.MemberGroups.{IsMemberAt, IsMemberBelow}
-use Rattle.kept_records.specs.NamedTrees.NamedTrees.{NamedTree, NamedElements, layouts_of, layouts_below, named_elements_in, own_body}
-use Rattle.kept_records.specs.NamedTrees.NamedTrees.NamedTree.{named_tree}
-use Rattle.kept_records.specs.NamedTrees.NamedTrees.NamedElements.{no_more, element_then}
-use Rattle.kept_records.specs.TreeRecords.TreeRecords.{use_records}
-use Rattle.kept_records.specs.TreeNames.CleanTrees.{ids_in}
-use Rattle.kept_records.proofs.TreeNames.Representatives.{group_has_path}
+use Rattle.layout_model.specs.CellTrees.{place_back}
+use Rattle.layout_model.specs.FlatSets.{IsTyped, AreTyped}
+use Rattle.library_trees.proofs.CellNodes.NodePlaces.{material_along}
+use Rattle.library_trees.specs.TreeRecords.FetRecords.{IsOfNode}
+use Rattle.library_trees.proofs.OwnRecordLaws.NameForms.{name_form}
+use Rattle.library_trees.specs.TreeRecords.FlatLayouts.{HasNodePath, HasNodePathBelow}
+use Rattle.library_trees.specs.TreeRecords.MemberGroups.{IsMemberAt, IsMemberBelow}
+use Rattle.library_trees.specs.TreeRecords.NamedTrees.{NamedTree, NamedElements, layouts_of, layouts_below, named_elements_in, own_body}
+use Rattle.library_trees.specs.TreeRecords.NamedTrees.NamedTree.{named_tree}
+use Rattle.library_trees.specs.TreeRecords.NamedTrees.NamedElements.{no_more, element_then}
+use Rattle.library_trees.specs.TreeRecords.TreeRecords.{use_records}
+use Rattle.library_trees.specs.TreeNames.CleanTrees.{ids_in}
+use Rattle.library_trees.proofs.TreeNames.Representatives.{group_has_path}
 use Rattle.lawful_trees.proofs.LibraryElements.{HasForms, HaveForms}
 
 -- The path is names of elements and a name of a node, each of its form.

@@ -1,3 +1,4 @@
+pub mod SetUnions
 pub mod Families
 pub mod NodeLaws
 pub mod PlaceLaws

@@ -1,4 +1,6 @@
 //! What a layout is, and what its nodes are: the definitions that the theorems of the crates above speak of, and their laws.
+//!
+//! Cells with all that stands below them, and their flat layouts: definitions that contracts cite.
 #![tactic(auto)]
 
 ghost use Rattle.layout_model.specs.Laws.{HasOneNodeList};

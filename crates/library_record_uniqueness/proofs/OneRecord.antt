@@ -5,12 +5,12 @@ use Rattle.ext_model.specs.declared.records.MergeRec.{MergeRec}
 use Rattle.ext_model.specs.Plain.{plain}
 use Rattle.ext_model.specs.Rows.{AreRowsOf}
 use Rattle.merge_rows.proofs.UniqueRows.{rows_unique}
-use Rattle.cell_library.specs.LowerLayoutTrees.FlatSets.{IsTyped}
+use Rattle.cell_library.specs.LayoutModel.FlatSets.{IsTyped}
 use Rattle.cell_library.specs.LayoutTrees.{tree_at}
 use Rattle.cell_library.specs.Libraries.{IsLawfulLibrary, LibraryParts, seen}
 use Rattle.record_uniqueness.proofs.SameTreeRecords.{tree_records_are_one}
-use Rattle.kept_records.specs.LibraryTrees.NamedCells.{named_tree_at}
-use Rattle.kept_records.proofs.LibraryTrees.CleanTrees.{clean_tree}
+use Rattle.library_trees.specs.NamedCells.{named_tree_at}
+use Rattle.library_trees.proofs.CleanTrees.{clean_tree}
 use Rattle.library_record_uniqueness.specs.Laws.{RecordIsUnique}
 
 -- the record of a cell whose types are the technology's

@@ -3,8 +3,8 @@ use Rattle.std.specs.Prelude.{◌≡◌, ℕ}
 use Rattle.ext_model.specs.declared.arrays.ArrayExt.{ArrayExt}
 use Rattle.cell_library.specs.LayoutTrees.{tree_at}
 use Rattle.cell_library.specs.Libraries.{LibraryParts, seen}
-use Rattle.kept_records.specs.HierarchyModel.CleanCells.{IsClean}
-use Rattle.kept_records.specs.CellRecords.{IsRecordOf}
+use Rattle.library_trees.specs.HierarchyModel.CleanCells.{IsClean}
+use Rattle.library_trees.specs.CellRecords.{IsRecordOf}
 
 -- where the cell is clean, it has one record, with its arrays and its rows of merges
 abbrev pub RecordIsUnique : LibraryParts → ℕ → Type 0

@@ -3,8 +3,8 @@ use Rattle.std.proofs.Common.{◌≡◌, ℕ, zero, suc, ap, ◌∙◌}
 use Rattle.finite_sets.specs.Chain.Chain.{stay, go}
 use Rattle.cell_tree.specs.declared.limits.TheConstants.{MOST_DEPTH}
 use Rattle.cell_library.specs.Views.{CellView, LibraryView, view_at}
-use Rattle.tree_names.specs.NamedTrees.NamedTrees.NamedTree.{named_tree}
-use Rattle.tree_names.specs.NamedTrees.NamedTrees.NamedElements.{no_more}
+use Rattle.tree_names.specs.TreeRecords.NamedTrees.NamedTree.{named_tree}
+use Rattle.tree_names.specs.TreeRecords.NamedTrees.NamedElements.{no_more}
 use Rattle.library_trees.specs.Laws.{NamedTreesAreOfTheCellsBelow}
 use Rattle.library_trees.specs.NamedCells.{IsAtOrBelow, body_of, named_elements_from, named_tree_at, named_tree_to, own_body_of}
 use Rattle.library_trees.proofs.WholeTrees.{named_elements_same}

@@ -1,7 +1,7 @@
 -- The named trees of clean cells.
 use Rattle.std.proofs.Common.{sym, subst, ℕ}
-use Rattle.cell_library.specs.LowerLayoutTrees.CellTrees.{CellTree}
-use Rattle.cell_library.specs.LowerLayoutTrees.FlatSets.{IsTyped}
+use Rattle.cell_library.specs.LayoutModel.CellTrees.{CellTree}
+use Rattle.cell_library.specs.LayoutModel.FlatSets.{IsTyped}
 use Rattle.tree_names.specs.HierarchyModel.CleanCells.{IsClean}
 use Rattle.cell_library.specs.LayoutTrees.{tree_at}
 use Rattle.cell_library.specs.Libraries.{LibraryParts, IsLawfulLibrary, seen}

@@ -5,15 +5,15 @@ use Rattle.std.proofs.lemmas.Simd.{map-map}
 use Rattle.geo_core.specs.declared.grids.Grid.{Grid}
 use Rattle.geo_core.specs.declared.transforms.Transform.{Transform}
 use Rattle.geo_core.specs.Elements.{elements_of}
-use Rattle.cell_library.specs.LowerLayoutTrees.CellTrees.{CellTree}
-use Rattle.cell_library.specs.LowerLayoutTrees.CellTrees.CellTree.{cell_tree}
-use Rattle.cell_library.specs.LowerLayoutTrees.CellTrees.Elements.{element_and}
+use Rattle.cell_library.specs.LayoutModel.CellTrees.{CellTree}
+use Rattle.cell_library.specs.LayoutModel.CellTrees.CellTree.{cell_tree}
+use Rattle.cell_library.specs.LayoutModel.CellTrees.Elements.{element_and}
 use Rattle.cell_tree.specs.declared.limits.TheConstants.{MOST_DEPTH}
 use Rattle.cell_tree.specs.declared.use_tables.UseBody.{UseBody}
 use Rattle.cell_tree.specs.Uses.{displacements}
 use Rattle.cell_library.specs.LayoutTrees.{element_transform, elements_at, elements_from, own_cell, tree_at, tree_to}
 use Rattle.cell_library.specs.Views.{LibraryView, view_at}
-use Rattle.tree_names.specs.NamedTrees.NamedTrees.{NamedTree, NamedElements, layouts_below, layouts_of}
+use Rattle.tree_names.specs.TreeRecords.NamedTrees.{NamedTree, NamedElements, layouts_below, layouts_of}
 use Rattle.library_trees.specs.ElementNames.{UseElement, array_element, use_elements}
 use Rattle.library_trees.specs.NamedCells.{named_elements_at, named_elements_from, named_tree_at, named_tree_to}
 

@@ -4,6 +4,8 @@ pub use Rattle.tree_names.proofs.Measures as Measures
 pub use Rattle.tree_names.proofs.NameClasses as NameClasses
 pub use Rattle.tree_names.proofs.OwnRecordLaws as OwnRecordLaws
 pub use Rattle.tree_names.proofs as TreeNames
+mod NamedRecords
+mod RecordedTrees
 pub mod LayoutLaws
 pub mod WholeTrees
 mod ElementNameLaws

@@ -11,7 +11,7 @@ use Rattle.cell_tree.specs.Sizes.{size_at, depth_below as size_below}
 use Rattle.cell_library.specs.Libraries.{LibraryParts, IsLawfulLibrary, seen}
 use Rattle.cell_library.specs.Views.{view_at}
 use Rattle.cell_library.proofs.LayoutTreeLaws.{children_are_cells, depth_is}
-use Rattle.tree_names.specs.NamedTrees.NamedTrees.{NamedTree, NamedElements}
+use Rattle.tree_names.specs.TreeRecords.NamedTrees.{NamedTree, NamedElements}
 use Rattle.tree_names.specs.CleanTrees.{depth_below, depth_of}
 use Rattle.library_trees.specs.ElementNames.{UseElement, use_elements}
 use Rattle.library_trees.specs.Laws.{AreChainsShort}

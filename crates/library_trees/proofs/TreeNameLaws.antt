@@ -15,7 +15,7 @@ use Rattle.cell_library.specs.Libraries.{LibraryParts, IsLawfulLibrary, seen}
 use Rattle.cell_library.specs.Views.{CellView, LibraryView, view_at}
 use Rattle.cell_library.proofs.LayoutTreeLaws.{uses_seen, state_is}
 use Rattle.ext_model.specs.NodeNames.{slashes_in}
-use Rattle.tree_names.specs.NamedTrees.NamedTrees.{NamedTree, NamedElements}
+use Rattle.tree_names.specs.TreeRecords.NamedTrees.{NamedTree, NamedElements}
 use Rattle.tree_names.specs.CleanTrees.{HasElementNames, HaveElementNames, ids_in}
 use Rattle.library_trees.specs.ElementNames.{UseElement, use_elements}
 use Rattle.library_trees.specs.Laws.{ElementNamesTellElements}

@@ -2,8 +2,8 @@
 use Rattle.std.proofs.Common.{◌≡◌, ◌<◌, ◌≤◌, ℕ, zero, suc, List, [], ◌∷◌, length, refl, sym, ap, ◌∙◌, arith}
 use Rattle.std.specs.Prelude.{Some, slice_get}
 use Rattle.std.proofs.Math.ListN.{get_or-eq_default}
-use Rattle.tree_names.specs.NamedTrees.NamedTrees.{NamedTree}
-use Rattle.tree_names.specs.NamedTrees.NamedTrees.NamedTree.{named_tree}
+use Rattle.tree_names.specs.TreeRecords.NamedTrees.{NamedTree}
+use Rattle.tree_names.specs.TreeRecords.NamedTrees.NamedTree.{named_tree}
 use Rattle.cell_tree.specs.declared.limits.TheConstants.{MOST_DEPTH}
 use Rattle.cell_tree.specs.declared.sizes.Dimension.TheVariants.{Depth}
 use Rattle.cell_tree.specs.declared.sizes.Size.{Size}

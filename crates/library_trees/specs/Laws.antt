@@ -11,8 +11,8 @@ use Rattle.cell_library.specs.Edits.{erased, labelled, moved, painted, placed, u
 use Rattle.cell_library.specs.LayoutTrees.{tree_at}
 use Rattle.cell_library.specs.Libraries.{LibraryParts, IsNextEdit, seen}
 use Rattle.cell_library.specs.Views.{CellView, LibraryView, view_at, with_cell_changed}
-use Rattle.tree_names.specs.NamedTrees.NamedTrees.{layouts_of}
-use Rattle.tree_names.specs.NamedTrees.NamedTrees.NamedTree.{named_tree}
+use Rattle.tree_names.specs.TreeRecords.NamedTrees.{layouts_of}
+use Rattle.tree_names.specs.TreeRecords.NamedTrees.NamedTree.{named_tree}
 use Rattle.tree_names.specs.CleanTrees.{HasElementNames, IsCleanTree, depth_of}
 use Rattle.library_trees.specs.NamedCells.{IsAtOrBelow, named_elements_from, named_tree_at, own_body_of}
 

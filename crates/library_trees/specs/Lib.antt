@@ -3,11 +3,12 @@ pub use Rattle.tree_names.specs.CellNodes as CellNodes
 pub use Rattle.tree_names.specs.CircuitModel as CircuitModel
 pub use Rattle.tree_names.specs.HierarchyModel as HierarchyModel
 pub use Rattle.tree_names.specs.Measures as Measures
-pub use Rattle.tree_names.specs.NamedTrees as NamedTrees
 pub use Rattle.tree_names.specs.Names as Names
-pub use Rattle.tree_names.specs.OwnRecords as OwnRecords
 pub use Rattle.tree_names.specs as TreeNames
 pub use Rattle.tree_names.specs.TreeRecords as TreeRecords
+pub mod CellRecords
+pub mod KeptRecords
+pub mod RecordLaws
 pub mod ElementNames
 pub mod NamedCells
 pub mod Laws

@@ -7,9 +7,9 @@ use Rattle.cell_tree.specs.declared.use_tables.UseBody.{UseBody}
 use Rattle.cell_tree.specs.Uses.{HasChild}
 use Rattle.cell_library.specs.LayoutTrees.{element_transform}
 use Rattle.cell_library.specs.Views.{CellView, LibraryView, view_at}
-use Rattle.tree_names.specs.NamedTrees.NamedTrees.{NamedTree, NamedElements, OwnBody}
-use Rattle.tree_names.specs.NamedTrees.NamedTrees.NamedTree.{named_tree}
-use Rattle.tree_names.specs.NamedTrees.NamedTrees.NamedElements.{no_more, element_then}
+use Rattle.tree_names.specs.TreeRecords.NamedTrees.{NamedTree, NamedElements, OwnBody}
+use Rattle.tree_names.specs.TreeRecords.NamedTrees.NamedTree.{named_tree}
+use Rattle.tree_names.specs.TreeRecords.NamedTrees.NamedElements.{no_more, element_then}
 use Rattle.library_trees.specs.ElementNames.{UseElement, use_elements}
 
 -- these elements of one child, and then others

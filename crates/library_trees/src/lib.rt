@@ -3,7 +3,11 @@
 //! `specs/NamedCells.antt` has the named tree of a cell: as `cell_library` has its tree of layouts, with the names of elements, which
 //! `specs/ElementNames.antt` has, and with the names and labels of cells. `specs/Laws.antt` has the laws.
 //!
+//! `specs/RecordLaws.antt` has the laws of the records that are kept of the cells of a library, and the records of a cell's tree.
+//!
 //! # How the proof goes
+//!
+//! ## Trees
 //!
 //! The elements of a use are displaced as those of the tree of layouts are, so without names and labels the trees are the same
 //! (`LayoutLaws`). Depth falls from a cell to its children, so a tree that is unfolded as far as the cell's depth is whole
@@ -12,12 +16,19 @@
 //! the names of elements differ (`TreeNameLaws`). A tree is made of what is seen of the cells that chains of uses lead to
 //! (`AgreeingViews`), and an edit changes one cell (`EditedTrees`), and raises the stamps of all cells above it (`StampedTrees`). What is
 //! asked of clean trees is then what is known of trees of layouts, and of names (`CleanTrees`).
+//!
+//! ## Records of trees
+//!
+//! A list of records, each kept of a cell and with its name, has one record of that name, as the names of cells differ: by the name it is found
+//! (`NamedRecords`). Depth falls from a cell to its children, and the tree of a cell has the trees of its children, so by depth each cell of the
+//! tree has its record. For the first law the list is that of all records that are kept with the name of their cell (`RecordedTrees`).
 #![tactic(auto)]
 
-ghost use Rattle.std.specs.Prelude.{◌<◌, length};
 ghost use Rattle.library_trees.specs.Laws.{AreChainsShort, CleanCellHasCleanTree, EditsKeepOtherTrees, ElementNamesTellElements};
 ghost use Rattle.library_trees.specs.Laws.{NamedTreesAreOfTheCellsBelow, NamedTreesHaveTheLayouts, NamedTreesUnfold};
 ghost use Rattle.library_trees.specs.Laws.{NewCellsKeepTrees, StampsTellChangedTrees};
+ghost use Rattle.library_trees.specs.RecordLaws.{KeptRecordsAreOfTheTree, ListedRecordsAreOfTheTree};
+ghost use Rattle.std.specs.Prelude.{◌<◌, length};
 
 use cell_library::Reader;
 use ext_model::CellKey;
@@ -79,4 +90,18 @@ pub fn clean_cell_has_clean_tree(library: &Reader<'_>, cell: CellKey)
 {
     library.lawful();
     library.typed(cell);
+}
+
+/// Where records are kept of all cells below a cell, the elements of its tree have the records of some list.
+pub fn kept_records_are_of_the_tree(library: &Reader<'_>)
+    ensures { KeptRecordsAreOfTheTree library.now }
+{
+    library.lawful();
+}
+
+/// A list of the kept records of all cells at and below a cell has the records of the cell's tree.
+pub fn listed_records_are_of_the_tree(library: &Reader<'_>)
+    ensures { ListedRecordsAreOfTheTree library.now }
+{
+    library.lawful();
 }

@@ -13,7 +13,7 @@ use Rattle.geo_core.proofs.ElementLaws.{length-elements_of}
 use Rattle.tech_model.specs.declared.raw.RawTech.{RawTech}
 use Rattle.use_orders.specs.Uses.{UsesCell}
 use Rattle.use_orders.proofs.Visiting.{library_order-lists}
-use Rattle.layout_trees.specs.CellTrees.{CellTree, Elements}
+use Rattle.layout_model.specs.CellTrees.{CellTree, Elements}
 use Rattle.hierarchy_model.specs.CleanCells.{AreClean, IsClean}
 use Rattle.cell_tree.specs.declared.use_tables.UseBody.{UseBody}
 use Rattle.cell_tree.specs.Uses.{displacements}

@@ -1,7 +1,7 @@
 -- what crates above name of those below
 pub use Rattle.tree_records.proofs.CellNodes as CellNodes
 pub use Rattle.hierarchy_model.proofs as HierarchyModel
-pub use Rattle.tree_records.proofs.NamedTrees as NamedTrees
+pub use Rattle.tree_records.proofs as TreeRecords
 pub mod LinkLaws
 mod ListSums
 mod ExcessLaws

@@ -1,4 +1,3 @@
 -- what crates above name of those below
-pub use Rattle.tree_records.specs.NamedTrees as NamedTrees
 pub use Rattle.tree_records.specs as TreeRecords
 pub mod NetworkLaws

@@ -5,7 +5,7 @@ use Rattle.ext_model.specs.declared.records.CellExt.{CellExt}
 use Rattle.ext_model.specs.declared.circuits.Circuit.{Circuit}
 use Rattle.circuit_model.specs.Elements.{AreRecords}
 use Rattle.circuit_model.specs.Refusals.{IsFlatOf}
-use Rattle.tree_records.specs.NamedTrees.NamedTrees.{NamedTree}
+use Rattle.tree_records.specs.NamedTrees.{NamedTree}
 use Rattle.tree_records.specs.TreeCircuits.{IsFlatCircuit}
 use Rattle.sim_records.specs.SimRecords.{sim_of}
 use Rattle.switch_net.specs.declared.limits.TheConstants.{MOST_NODES}

@@ -18,7 +18,7 @@ use Rattle.finite_sets.proofs.Totals.{length-same_set}
 use Rattle.rect_contacts.proofs.BothWays.{Lists-below}
 use Rattle.tech_model.specs.declared.raw.RawTech.{RawTech}
 use Rattle.tech_model.specs.Types.{type_number, joined}
-use Rattle.layout_trees.specs.LayoutModel.Places.{Place}
+use Rattle.layout_model.specs.Places.{Place}
 use Rattle.offences.specs.declared.part_sets.PartSum.{PartSum}
 use Rattle.offences.specs.declared.stacks.PartKind.{PartKind}
 use Rattle.offences.specs.Offences.{SetLayout, joined_at, parts_with, is_exactly}

@@ -28,8 +28,8 @@ use Rattle.tech_model.specs.Types.{parts_of, joined}
 use Rattle.tech_model.specs.WellFormed.{IsWellFormed}
 use Rattle.tech_model.proofs.JoinedLaws.{joined-type}
 use Rattle.tech_model.proofs.SetLaws.{set_not_empty}
-use Rattle.layout_trees.specs.LayoutModel.LayerTypes.{Kinds, AreTypesOf, or_space}
-use Rattle.layout_trees.specs.LayoutModel.Places.{Place, AreNeighbours}
+use Rattle.layout_model.specs.LayerTypes.{Kinds, AreTypesOf, or_space}
+use Rattle.layout_model.specs.Places.{Place, AreNeighbours}
 use Rattle.offences.specs.declared.set_tiles.SetTile.{SetTile}
 use Rattle.offences.specs.LayerParts.{layer_tile, IsPartTile, ArePartTiles}
 use Rattle.offences.specs.Offences.{SetLayout, joined_at, flat_type, union_of, is_exactly, parts_with, HasKind, Offends, OffendsOn, HaveTypes}

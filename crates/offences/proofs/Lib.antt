@@ -1,7 +1,6 @@
 -- what crates above name of those below
 pub use Rattle.geo_core.proofs as GeoCore
-pub use Rattle.layout_trees.proofs.LayoutModel as LayoutModel
-pub use Rattle.layout_trees.proofs as LayoutTrees
+pub use Rattle.layout_model.proofs as LayoutModel
 pub mod UnionLaws
 mod SumLaws
 pub mod KindLaws

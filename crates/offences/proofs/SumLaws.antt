@@ -11,7 +11,7 @@ use Rattle.finite_sets.proofs.Pairs.{Pairwise, AllPairs-from_Pairwise, Pairwise-
 use Rattle.offences.specs.declared.set_tiles.SetTile.{SetTile}
 use Rattle.offences.specs.declared.part_sets.PartSum.{PartSum}
 use Rattle.offences.specs.PartSets.{no_tile, tile_at, AreInPartOrder, set_if, member_set, listed_set, all_sets, HasMember, HaveSetsOf}
-use Rattle.layout_trees.proofs.SetUnions.{union_assoc}
+use Rattle.layout_model.proofs.SetUnions.{union_assoc}
 use Rattle.offences.proofs.UnionLaws.{set_if-empty, set_if-or}
 
 -- one more sum at the end

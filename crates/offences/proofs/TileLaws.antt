@@ -12,7 +12,7 @@ use Rattle.geo_core.specs.Covering.{Covers, is_covered}
 use Rattle.geo_core.proofs.CoveringLaws.{Covers-is_covered, is_covered-Covers}
 use Rattle.tech_model.proofs.SetLaws.{or_bit_cases, or_bit_left, or_bit_right}
 use Rattle.tech_model.proofs.WellFormedLaws.{In-range_with_len, range_bounds}
-use Rattle.layout_trees.specs.LayoutModel.Places.{Place}
+use Rattle.layout_model.specs.Places.{Place}
 use Rattle.offences.specs.declared.set_tiles.SetTile.{SetTile}
 use Rattle.offences.specs.declared.part_sets.PartSum.{PartSum}
 use Rattle.offences.specs.Offences.{SetLayout, union_of}

@@ -8,7 +8,7 @@ use Rattle.geo_core.specs.Covering.{Covers, IsProper}
 use Rattle.tech_model.specs.declared.raw.TypeId.{TypeId}
 use Rattle.tech_model.specs.declared.raw.RawTech.{RawTech}
 use Rattle.tech_model.specs.Types.{parts_of}
-use Rattle.layout_trees.specs.LayoutModel.LayerTypes.{Kinds}
+use Rattle.layout_model.specs.LayerTypes.{Kinds}
 use Rattle.offences.specs.declared.set_tiles.SetTile.{SetTile}
 
 -- a tile of a part, with the set of its type

@@ -1,8 +1,7 @@
 -- what crates above name of those below
 pub use Rattle.finite_sets.specs as FiniteSets
 pub use Rattle.geo_core.specs as GeoCore
-pub use Rattle.layout_trees.specs.LayoutModel as LayoutModel
-pub use Rattle.layout_trees.specs as LayoutTrees
+pub use Rattle.layout_model.specs as LayoutModel
 pub use Rattle.tech_model.specs as TechModel
 pub mod Offences
 pub mod Roles

@@ -5,7 +5,7 @@ use Rattle.geo_core.specs.declared.squares.Square.{Square}
 use Rattle.tech_model.specs.declared.raw.RawTech.{RawTech}
 use Rattle.tech_model.specs.Types.{joined, is_within}
 use Rattle.tech_model.specs.ChannelRoles.{is_channel}
-use Rattle.layout_trees.specs.LayoutModel.Places.{Place, AreNeighbours}
+use Rattle.layout_model.specs.Places.{Place, AreNeighbours}
 use Rattle.offences.specs.Roles.{role_of}
 
 -- The set of tile parts that stands at each place, empty for space.

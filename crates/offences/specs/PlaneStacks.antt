@@ -4,7 +4,7 @@ use Rattle.finite_sets.specs.Lists.{In}
 use Rattle.geo_core.specs.Areas.{AreDisjoint}
 use Rattle.geo_core.specs.Covering.{Covers}
 use Rattle.tech_model.specs.declared.raw.RawTech.{RawTech}
-use Rattle.layout_trees.specs.LayoutModel.Places.{Place}
+use Rattle.layout_model.specs.Places.{Place}
 use Rattle.offences.specs.declared.plane_stacks.PlaneStack.{PlaneStack}
 use Rattle.offences.specs.Offences.{SetLayout}
 use Rattle.offences.specs.TypedStacks.{IsTypedStack}

@@ -5,8 +5,8 @@ use Rattle.geo_core.specs.Areas.{IsNear}
 use Rattle.geo_core.specs.Covering.{is_covered}
 use Rattle.tech_model.specs.declared.raw.RawTech.{RawTech}
 use Rattle.tech_model.specs.Types.{parts_of}
-use Rattle.layout_trees.specs.LayoutModel.LayerTypes.{Kinds, or_space}
-use Rattle.layout_trees.specs.LayoutModel.Places.{Place}
+use Rattle.layout_model.specs.LayerTypes.{Kinds, or_space}
+use Rattle.layout_model.specs.Places.{Place}
 use Rattle.offences.specs.Offences.{SetLayout}
 use Rattle.offences.specs.declared.set_tiles.SetTile.{SetTile}
 

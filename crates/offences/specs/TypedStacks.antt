@@ -14,7 +14,7 @@ use Rattle.tech_model.specs.declared.raw.TypeId.{TypeId}
 use Rattle.tech_model.specs.declared.raw.RawTech.{RawTech}
 use Rattle.tech_model.specs.Types.{type_number, joined}
 use Rattle.tech_model.specs.ChannelRoles.{is_channel}
-use Rattle.layout_trees.specs.LayoutModel.Places.{Place}
+use Rattle.layout_model.specs.Places.{Place}
 use Rattle.offences.specs.declared.set_tiles.SetTile.{SetTile}
 use Rattle.offences.specs.declared.part_sets.PartSum.{PartSum}
 use Rattle.offences.specs.declared.stacks.PartKind.{PartKind}

@@ -9,15 +9,15 @@ use Rattle.finite_sets.proofs.Sums.{sum_on-count, sum_on-scale}
 use Rattle.finite_sets.proofs.Totals.{Total-none, Total-iff, Total-union, Total-from_list}
 use Rattle.tech_model.specs.declared.raw.RawTech.{RawTech}
 use Rattle.tech_model.specs.ChannelRoles.{is_terminal}
-use Rattle.own_records.specs.LayoutModel.EdgeCounts.{LeadsAcross, IsEdgeCount}
-use Rattle.own_records.specs.LayoutModel.Layouts.{Layout}
-use Rattle.own_records.specs.LayoutModel.Measures.{perimeter_at}
-use Rattle.own_records.specs.LayoutModel.Places.{Place}
-use Rattle.own_records.specs.LayoutModel.Technologies.{Class}
-use Rattle.own_records.specs.LayoutModel.Transistors.{AreOneChannel, IsTerminalOf, Transistor, IsTransistor}
-use Rattle.own_records.proofs.FloodNodes.OpenEdges.{edges_by_places}
-use Rattle.own_records.specs.Measures.Bounds.{IsNearPlace}
-use Rattle.own_records.proofs.Measures.BoundLaws.{measures_are_small}
+use Rattle.tree_records.specs.LayoutModel.EdgeCounts.{LeadsAcross, IsEdgeCount}
+use Rattle.tree_records.specs.LayoutModel.Layouts.{Layout}
+use Rattle.tree_records.specs.LayoutModel.Measures.{perimeter_at}
+use Rattle.tree_records.specs.LayoutModel.Places.{Place}
+use Rattle.tree_records.specs.LayoutModel.Technologies.{Class}
+use Rattle.tree_records.specs.LayoutModel.Transistors.{AreOneChannel, IsTerminalOf, Transistor, IsTransistor}
+use Rattle.tree_records.proofs.FloodNodes.OpenEdges.{edges_by_places}
+use Rattle.tree_records.specs.Measures.Bounds.{IsNearPlace}
+use Rattle.tree_records.proofs.Measures.BoundLaws.{measures_are_small}
 
 -- ---- few edges
 

@@ -24,13 +24,13 @@ use Rattle.ext_model.specs.NodeNames.{is_word}
 use Rattle.ext_model.specs.Lawful.{IsMeasure, IsLawfulTerm, IsLawfulFet}
 use Rattle.ext_model.specs.RecordNames.{node_names}
 use Rattle.tech_model.specs.ChannelRoles.{is_terminal}
-use Rattle.own_records.specs.LayoutModel.LayerTypes.{HasTypesOf}
-use Rattle.own_records.specs.LayoutModel.Layouts.{Layout, IsMaterial}
-use Rattle.own_records.specs.LayoutModel.Places.{Place}
-use Rattle.own_records.specs.LayoutModel.Transistors.{AreOneChannel, IsTerminalOf, IsTransistor, gate_length}
-use Rattle.own_records.specs.CellPaint.Painting.{paint_range}
-use Rattle.own_records.specs.Measures.Bounds.{IsNearPlace}
-use Rattle.own_records.specs.FetRecords.{IsOfNode, IsFetRecord}
+use Rattle.tree_records.specs.LayoutModel.LayerTypes.{HasTypesOf}
+use Rattle.tree_records.specs.LayoutModel.Layouts.{Layout, IsMaterial}
+use Rattle.tree_records.specs.LayoutModel.Places.{Place}
+use Rattle.tree_records.specs.LayoutModel.Transistors.{AreOneChannel, IsTerminalOf, IsTransistor, gate_length}
+use Rattle.tree_records.specs.CellPaint.Painting.{paint_range}
+use Rattle.tree_records.specs.Measures.Bounds.{IsNearPlace}
+use Rattle.tree_records.specs.FetRecords.{IsOfNode, IsFetRecord}
 use Rattle.own_record_laws.proofs.FetSizes.{few_places, few_edges, terminals_total}
 use Rattle.own_record_laws.proofs.NameForms.{plain_word, label_word}
 use Rattle.own_record_laws.proofs.NodeSizes.{measure_from, near_place, paint_x, paint_y}

@@ -1,8 +1,8 @@
 -- what crates above name of those below
-pub use Rattle.own_records.proofs.CellNodes as CellNodes
-pub use Rattle.own_records.proofs.FloodNodes as FloodNodes
-pub use Rattle.own_records.proofs.Measures as Measures
-pub use Rattle.own_records.proofs.Names as Names
+pub use Rattle.tree_records.proofs.CellNodes as CellNodes
+pub use Rattle.tree_records.proofs.FloodNodes as FloodNodes
+pub use Rattle.tree_records.proofs.Measures as Measures
+pub use Rattle.tree_records.proofs.Names as Names
 mod OneElement
 mod NoOtherFaults
 mod Parts

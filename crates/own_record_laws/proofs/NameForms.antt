@@ -26,11 +26,11 @@ use Rattle.tech_model.specs.WellFormed.{IsWellFormed}
 use Rattle.tech_model.proofs.WellFormedLaws.{layer_well_formed}
 use Rattle.ext_model.specs.declared.names.TheConstants.{SLASH}
 use Rattle.ext_model.specs.NodeNames.{is_word_byte, is_word, slashes_in, is_node_name}
-use Rattle.own_records.specs.LayoutModel.Layouts.{Layout}
-use Rattle.own_records.specs.LayoutModel.Places.{Place}
-use Rattle.own_records.specs.Names.Attachments.{HasText, label_at}
-use Rattle.own_records.specs.Names.GeneratedNames.{coordinate_text, generated_name}
-use Rattle.own_records.specs.Names.NamedNodes.{IsNameOf}
+use Rattle.tree_records.specs.LayoutModel.Layouts.{Layout}
+use Rattle.tree_records.specs.LayoutModel.Places.{Place}
+use Rattle.tree_records.specs.Names.Attachments.{HasText, label_at}
+use Rattle.tree_records.specs.Names.GeneratedNames.{coordinate_text, generated_name}
+use Rattle.tree_records.specs.Names.NamedNodes.{IsNameOf}
 
 -- A byte that a name of a node may have.
 record IsNameByte (byte : ℕ) : Type 0 where

@@ -9,11 +9,11 @@ use Rattle.tech_model.specs.declared.raw.RawTech.{RawTech}
 use Rattle.tech_model.specs.WellFormed.{IsWellFormed}
 use Rattle.ext_model.specs.declared.records.NodeRec.{NodeRec}
 use Rattle.ext_model.specs.RecordNames.{names_of}
-use Rattle.own_records.specs.LayoutModel.LayerTypes.{HasTypesOf}
-use Rattle.own_records.specs.LayoutModel.Layouts.{Layout}
-use Rattle.own_records.specs.LayoutModel.Places.{Place, IsBefore}
-use Rattle.own_records.proofs.LayoutModel.PlaceLaws.{IsBefore-irreflexive}
-use Rattle.own_records.specs.CellNodes.NodeRecords.{IsNodeRecord, AreNodeRecords}
+use Rattle.tree_records.specs.LayoutModel.LayerTypes.{HasTypesOf}
+use Rattle.tree_records.specs.LayoutModel.Layouts.{Layout}
+use Rattle.tree_records.specs.LayoutModel.Places.{Place, IsBefore}
+use Rattle.tree_records.proofs.LayoutModel.PlaceLaws.{IsBefore-irreflexive}
+use Rattle.tree_records.specs.CellNodes.NodeRecords.{IsNodeRecord, AreNodeRecords}
 use Rattle.own_record_laws.proofs.NodesByName.{one_name_one_node}
 use Rattle.own_record_laws.proofs.PreferredNames.{one_least, recorded}
 

@@ -13,14 +13,14 @@ use Rattle.tech_model.specs.declared.raw.RawTech.{RawTech}
 use Rattle.tech_model.specs.WellFormed.{IsWellFormed, IsClass}
 use Rattle.ext_model.specs.declared.limits.TheConstants.{MEASURE_EDGE}
 use Rattle.ext_model.specs.Lawful.{IsMeasure, AreMeasures}
-use Rattle.own_records.specs.LayoutModel.LayerTypes.{HasTypesOf}
-use Rattle.own_records.specs.LayoutModel.Layouts.{Layout, IsMaterial}
-use Rattle.own_records.specs.LayoutModel.Nodes as layout_nodes
-use Rattle.own_records.specs.LayoutModel.Places.{Place}
-use Rattle.own_records.specs.LayoutModel.Technologies.{Class, capacitance, class_of}
-use Rattle.own_records.specs.CellPaint.Painting.{paint_range}
-use Rattle.own_records.specs.Measures.Bounds.{IsNearPlace, IsSmallMeasure}
-use Rattle.own_records.proofs.CellNodes.CapacitanceLaws.{product_small}
+use Rattle.tree_records.specs.LayoutModel.LayerTypes.{HasTypesOf}
+use Rattle.tree_records.specs.LayoutModel.Layouts.{Layout, IsMaterial}
+use Rattle.tree_records.specs.LayoutModel.Nodes as layout_nodes
+use Rattle.tree_records.specs.LayoutModel.Places.{Place}
+use Rattle.tree_records.specs.LayoutModel.Technologies.{Class, capacitance, class_of}
+use Rattle.tree_records.specs.CellPaint.Painting.{paint_range}
+use Rattle.tree_records.specs.Measures.Bounds.{IsNearPlace, IsSmallMeasure}
+use Rattle.tree_records.proofs.CellNodes.CapacitanceLaws.{product_small}
 
 -- a number from 0 to a bound below the edge
 pub measure_from : (z : ℤ) (most : ℕ) → pos 0 ≤ℤ z → z ≤ℤ pos most → most < MEASURE_EDGE → IsMeasure z

@@ -21,14 +21,14 @@ use Rattle.tech_model.specs.WellFormed.{IsWellFormed}
 use Rattle.tech_model.proofs.TypeLaws.{connects_layer}
 use Rattle.tech_model.proofs.WellFormedLaws.{layer_well_formed}
 use Rattle.ext_model.specs.NodeNames.{ends_in, is_naming_text, is_node_name, is_global}
-use Rattle.own_records.specs.LayoutModel.Places.{Place, IsNoLater}
-use Rattle.own_records.specs.LayoutModel.LayerTypes.{HasTypesOf}
-use Rattle.own_records.specs.LayoutModel.Layouts.{Layout, IsMaterial}
-use Rattle.own_records.proofs.LayoutModel.PlaceLaws.{IsNoLater-antisym}
-use Rattle.own_records.specs.Names.Attachments.{Suits, AttachesTo, HasText, label_at}
-use Rattle.own_records.specs.Names.GeneratedNames.{coordinate_text, generated_name}
-use Rattle.own_records.specs.Names.NamedNodes.{AreOneNamedNode, IsNameOf}
-use Rattle.own_records.proofs.CellNodes.NodePlaces.{AreOneNamedNode-sym}
+use Rattle.tree_records.specs.LayoutModel.Places.{Place, IsNoLater}
+use Rattle.tree_records.specs.LayoutModel.LayerTypes.{HasTypesOf}
+use Rattle.tree_records.specs.LayoutModel.Layouts.{Layout, IsMaterial}
+use Rattle.tree_records.proofs.LayoutModel.PlaceLaws.{IsNoLater-antisym}
+use Rattle.tree_records.specs.Names.Attachments.{Suits, AttachesTo, HasText, label_at}
+use Rattle.tree_records.specs.Names.GeneratedNames.{coordinate_text, generated_name}
+use Rattle.tree_records.specs.Names.NamedNodes.{AreOneNamedNode, IsNameOf}
+use Rattle.tree_records.proofs.CellNodes.NodePlaces.{AreOneNamedNode-sym}
 
 -- ---- generated names
 

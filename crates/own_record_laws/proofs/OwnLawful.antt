@@ -21,19 +21,19 @@ use Rattle.ext_model.specs.declared.records.CellExt.{CellExt}
 use Rattle.ext_model.specs.NodeNames.{is_word, is_node_name}
 use Rattle.ext_model.specs.Lawful.{IsLawfulUse, IsLawfulNode, IsLawfulFet, IsLawfulMerge, IsLawful}
 use Rattle.ext_model.specs.RecordNames.{names_of, node_names}
-use Rattle.own_records.specs.LayoutModel.LayerTypes.{HasTypesOf}
-use Rattle.own_records.specs.LayoutModel.Layouts.{Layout, IsMaterial}
-use Rattle.own_records.specs.LayoutModel.Places.{Place}
-use Rattle.own_records.specs.LayoutModel.Technologies.{class_of}
-use Rattle.own_records.specs.LayoutModel.Transistors.{Transistor}
-use Rattle.own_records.specs.CellPaint.Painting.{paint_range}
-use Rattle.own_records.specs.Measures.Bounds.{IsSmallMeasure}
-use Rattle.own_records.proofs.Measures.BoundLaws.{measures_are_small}
-use Rattle.own_records.specs.Names.NamedNodes.{AreOneNamedNode}
-use Rattle.own_records.specs.CellNodes.NodeRecords.{IsNodeRecord}
-use Rattle.own_records.proofs.CellNodes.NodePlaces.{material_along}
-use Rattle.own_records.specs.FetRecords.{IsOfNode}
-use Rattle.own_records.specs.OwnRecords.{IsOwnRecord}
+use Rattle.tree_records.specs.LayoutModel.LayerTypes.{HasTypesOf}
+use Rattle.tree_records.specs.LayoutModel.Layouts.{Layout, IsMaterial}
+use Rattle.tree_records.specs.LayoutModel.Places.{Place}
+use Rattle.tree_records.specs.LayoutModel.Technologies.{class_of}
+use Rattle.tree_records.specs.LayoutModel.Transistors.{Transistor}
+use Rattle.tree_records.specs.CellPaint.Painting.{paint_range}
+use Rattle.tree_records.specs.Measures.Bounds.{IsSmallMeasure}
+use Rattle.tree_records.proofs.Measures.BoundLaws.{measures_are_small}
+use Rattle.tree_records.specs.Names.NamedNodes.{AreOneNamedNode}
+use Rattle.tree_records.specs.CellNodes.NodeRecords.{IsNodeRecord}
+use Rattle.tree_records.proofs.CellNodes.NodePlaces.{material_along}
+use Rattle.tree_records.specs.FetRecords.{IsOfNode}
+use Rattle.tree_records.specs.OwnRecords.{IsOwnRecord}
 use Rattle.own_record_laws.specs.Laws.{OwnRecordsAreLawful}
 use Rattle.own_record_laws.proofs.LawfulFets.{fet_is_lawful}
 use Rattle.own_record_laws.proofs.NameForms.{plain_word, type_word, name_form}

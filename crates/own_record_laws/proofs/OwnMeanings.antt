@@ -15,18 +15,18 @@ use Rattle.ext_model.specs.declared.records.FetRec.{FetRec}
 use Rattle.ext_model.specs.declared.records.CellExt.{CellExt}
 use Rattle.ext_model.specs.Lawful.{IsLawful}
 use Rattle.ext_model.specs.RecordNames.{names_of}
-use Rattle.own_records.specs.LayoutModel.Places.{Place}
-use Rattle.own_records.specs.LayoutModel.Layouts.{Layout}
-use Rattle.own_records.specs.LayoutModel.Transistors.{IsTransistor, IsTerminalOf, AreOneChannel}
+use Rattle.tree_records.specs.LayoutModel.Places.{Place}
+use Rattle.tree_records.specs.LayoutModel.Layouts.{Layout}
+use Rattle.tree_records.specs.LayoutModel.Transistors.{IsTransistor, IsTerminalOf, AreOneChannel}
 use Rattle.full_names.specs.CircuitModel.Elements.{Element, elements_of}
 use Rattle.full_names.specs.CircuitModel.FullNames.{AreInNameOrder}
 use Rattle.full_names.specs.CircuitModel.FlatNodes.{AreFlatNodes}
 use Rattle.full_names.specs.CircuitModel.FlatFets.{fets_in, IsFlatFet, AreFlatFets}
 use Rattle.full_names.specs.CircuitModel.Circuits.{IsCircuitOf}
 use Rattle.full_names.proofs.ListOrders.{pairwise_names, names_in_order}
-use Rattle.own_records.specs.FetRecords.{IsOfNode, IsFetRecord, IsNameBefore}
-use Rattle.own_records.specs.OwnCircuits.{IsOwnCircuit}
-use Rattle.own_records.specs.OwnRecords.{IsOwnRecord}
+use Rattle.tree_records.specs.FetRecords.{IsOfNode, IsFetRecord, IsNameBefore}
+use Rattle.tree_records.specs.OwnCircuits.{IsOwnCircuit}
+use Rattle.tree_records.specs.OwnRecords.{IsOwnRecord}
 use Rattle.own_record_laws.specs.Laws.{OwnRecordsMeanTheLayout}
 use Rattle.own_record_laws.proofs.OneElement.{root_of, only_record, only_element}
 use Rattle.own_record_laws.proofs.PreferredNames.{recorded, in_some, goes_by}

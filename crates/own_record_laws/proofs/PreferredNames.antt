@@ -14,15 +14,15 @@ use Rattle.ext_model.specs.declared.records.NodeRec.{NodeRec}
 use Rattle.ext_model.specs.NameOrder.{name_cmp}
 use Rattle.ext_model.specs.RecordNames.{names_of}
 use Rattle.ext_model.proofs.NameOrders.{name_cmp_total}
-use Rattle.own_records.specs.LayoutModel.Places.{Place, IsNoLater}
-use Rattle.own_records.specs.LayoutModel.Layouts.{Layout, IsMaterial}
-use Rattle.own_records.proofs.LayoutModel.PlaceLaws.{IsNoLater-antisym}
-use Rattle.own_records.specs.Names.NamedNodes.{AreOneNamedNode, IsNameOf}
-use Rattle.own_records.specs.CellNodes.NodeRecords.{IsNodeRecord, AreNodeRecords}
-use Rattle.own_records.proofs.CellNodes.NodePlaces.{AreOneNamedNode-sym}
+use Rattle.tree_records.specs.LayoutModel.Places.{Place, IsNoLater}
+use Rattle.tree_records.specs.LayoutModel.Layouts.{Layout, IsMaterial}
+use Rattle.tree_records.proofs.LayoutModel.PlaceLaws.{IsNoLater-antisym}
+use Rattle.tree_records.specs.Names.NamedNodes.{AreOneNamedNode, IsNameOf}
+use Rattle.tree_records.specs.CellNodes.NodeRecords.{IsNodeRecord, AreNodeRecords}
+use Rattle.tree_records.proofs.CellNodes.NodePlaces.{AreOneNamedNode-sym}
 use Rattle.full_names.proofs.ListOrders.{not_before_itself}
-use Rattle.own_records.specs.FetRecords.{IsNoLaterName, IsOfNode}
-use Rattle.own_records.specs.OwnCircuits.{IsInSome}
+use Rattle.tree_records.specs.FetRecords.{IsNoLaterName, IsOfNode}
+use Rattle.tree_records.specs.OwnCircuits.{IsInSome}
 
 -- two names of which neither is later than the other are one
 pub later_both_ways : (a b : List ℕ) → IsNoLaterName a b → IsNoLaterName b a → a ≡ b

@@ -13,12 +13,12 @@ use Rattle.tech_model.specs.declared.raw.Label.{Label}
 use Rattle.tech_model.specs.declared.raw.RawTech.{RawTech}
 use Rattle.ext_model.specs.declared.records.TermRec.{TermRec}
 use Rattle.ext_model.specs.declared.records.FetRec.{FetRec}
-use Rattle.own_records.specs.LayoutModel.Places.{Place}
-use Rattle.own_records.specs.LayoutModel.Layouts.{Layout}
-use Rattle.own_records.specs.LayoutModel.Transistors.{Transistor, IsTransistor, AreFetsInOrder, AreTransistors, AreOneChannel}
+use Rattle.tree_records.specs.LayoutModel.Places.{Place}
+use Rattle.tree_records.specs.LayoutModel.Layouts.{Layout}
+use Rattle.tree_records.specs.LayoutModel.Transistors.{Transistor, IsTransistor, AreFetsInOrder, AreTransistors, AreOneChannel}
 use Rattle.full_names.proofs.ListOrders.{pairwise_names, Distinct-names}
 use Rattle.full_names.specs.CircuitModel.FullNames.{AreInNameOrder}
-use Rattle.own_records.specs.FetRecords.{IsOfNode, IsFetRecord, IsNameBefore, AreFetRecords, terminal_names}
+use Rattle.tree_records.specs.FetRecords.{IsOfNode, IsFetRecord, IsNameBefore, AreFetRecords, terminal_names}
 use Rattle.own_record_laws.proofs.SameTerminals.{sides_of}
 
 -- transistors whose nodes go by their names

@@ -1,8 +1,8 @@
 -- Where edges are counted there is one.
 use Rattle.std.proofs.Common.{ℤ, pos, ◌<ℤ◌, [], ◌∷◌, inl, refl, arith}
 use Rattle.std.proofs.lemmas.Int.{ints}
-use Rattle.own_records.specs.LayoutModel.EdgeCounts.{LeadsAcross, IsEdgeCount}
-use Rattle.own_records.specs.LayoutModel.Places.{Place}
+use Rattle.tree_records.specs.LayoutModel.EdgeCounts.{LeadsAcross, IsEdgeCount}
+use Rattle.tree_records.specs.LayoutModel.Places.{Place}
 
 -- An edge that a count of some edges has.
 pub record IsCounted (From To : Place → Type 0) : Type 0 where

@@ -7,16 +7,16 @@ use Rattle.tech_model.specs.WellFormed.{IsWellFormed}
 use Rattle.ext_model.specs.declared.circuits.Circuit.{Circuit}
 use Rattle.ext_model.specs.declared.records.CellExt.{CellExt}
 use Rattle.ext_model.specs.Lawful.{IsLawful}
-use Rattle.own_records.specs.LayoutModel.LayerTypes.{HasTypesOf}
-use Rattle.own_records.specs.LayoutModel.Layouts.{Layout}
-use Rattle.own_records.specs.Names.Labels.{IsLabelOf}
-use Rattle.own_records.specs.CellPaint.Paints.{IsSoundPaint}
+use Rattle.tree_records.specs.LayoutModel.LayerTypes.{HasTypesOf}
+use Rattle.tree_records.specs.LayoutModel.Layouts.{Layout}
+use Rattle.tree_records.specs.Names.Labels.{IsLabelOf}
+use Rattle.tree_records.specs.CellPaint.Paints.{IsSoundPaint}
 use Rattle.full_names.specs.CircuitModel.declared.faults.FlatFault.{FlatFault}
 use Rattle.full_names.specs.CircuitModel.declared.faults.FlatFault.TheVariants.{TooMany}
 use Rattle.full_names.specs.CircuitModel.declared.limits.CircuitLimit.TheVariants.{Nodes, Names}
 use Rattle.full_names.specs.CircuitModel.Refusals.{IsFlatOf, IsFlatFaultOf}
-use Rattle.own_records.specs.OwnCircuits.{IsOwnCircuit}
-use Rattle.own_records.specs.OwnRecords.{IsOwnRecord}
+use Rattle.tree_records.specs.OwnCircuits.{IsOwnCircuit}
+use Rattle.tree_records.specs.OwnRecords.{IsOwnRecord}
 
 -- the record of sound paint of a technology that keeps its rules, with labels of it, is lawful
 abbrev pub OwnRecordsAreLawful : Type 0

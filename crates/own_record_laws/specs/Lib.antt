@@ -1,6 +1,6 @@
 -- what crates above name of those below
-pub use Rattle.own_records.specs.CellNodes as CellNodes
-pub use Rattle.own_records.specs.Measures as Measures
-pub use Rattle.own_records.specs.Names as Names
-pub use Rattle.own_records.specs as OwnRecords
+pub use Rattle.tree_records.specs.CellNodes as CellNodes
+pub use Rattle.tree_records.specs.Measures as Measures
+pub use Rattle.tree_records.specs.Names as Names
+pub use Rattle.tree_records.specs as TreeRecords
 pub mod Laws

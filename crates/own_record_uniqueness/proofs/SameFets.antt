@@ -20,7 +20,7 @@ use Rattle.full_names.proofs.ListOrders.{not_before_itself}
 use Rattle.own_record_laws.specs.CellNodes.LayoutModel.Layouts.{Layout}
 use Rattle.own_record_laws.specs.CellNodes.LayoutModel.Places.{Place, IsBefore, IsNoLater}
 use Rattle.own_record_laws.specs.CellNodes.LayoutModel.Transistors.{gate_length}
-use Rattle.own_record_laws.specs.OwnRecords.FetRecords.{AreFetRecords, IsFetRecord, IsNameBefore, IsNodeBefore, IsOfNode, terminal_names}
+use Rattle.own_record_laws.specs.TreeRecords.FetRecords.{AreFetRecords, IsFetRecord, IsNameBefore, IsNodeBefore, IsOfNode, terminal_names}
 use Rattle.own_record_laws.proofs.CellNodes.LayoutModel.PlaceLaws.{IsBefore-irreflexive, IsBefore-trans, IsNoLater-antisym}
 use Rattle.own_record_laws.proofs.SameFets.{side_of}
 use Rattle.own_record_uniqueness.specs.OwnUniqueness.{FetRecordsAreUnique}

@@ -14,7 +14,7 @@ use Rattle.own_record_laws.specs.CellNodes.LayoutModel.EdgeCounts.{IsEdgeCount, 
 use Rattle.own_record_laws.specs.CellNodes.LayoutModel.Layouts.{Layout}
 use Rattle.own_record_laws.specs.CellNodes.LayoutModel.Places.{Place, IsBefore}
 use Rattle.own_record_laws.specs.CellNodes.LayoutModel.Transistors.{AreFetsInOrder, AreOneChannel, AreTransistors, IsTerminalOf, IsTransistor, Transistor}
-use Rattle.own_record_laws.specs.OwnRecords.FetRecords.{IsOfNode}
+use Rattle.own_record_laws.specs.TreeRecords.FetRecords.{IsOfNode}
 use Rattle.own_record_laws.proofs.CellNodes.LayoutModel.PlaceLaws.{AreNeighbours-sym, IsBefore-irreflexive, IsBefore-trans, IsNoLater-antisym}
 use Rattle.own_record_laws.proofs.PreferredNames.{one_name}
 use Rattle.own_record_laws.proofs.SomeEdges.{some_edge}

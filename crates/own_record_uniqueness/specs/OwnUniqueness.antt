@@ -9,8 +9,8 @@ use Rattle.ext_model.specs.declared.records.NodeRec.{NodeRec}
 use Rattle.own_record_laws.specs.CellNodes.LayoutModel.Layouts.{Layout}
 use Rattle.own_record_laws.specs.CellNodes.NodeRecords.{AreNodeRecords}
 use Rattle.own_record_laws.specs.Names.Attachments.{AreUnattached}
-use Rattle.own_record_laws.specs.OwnRecords.FetRecords.{AreFetRecords, IsNameBefore, IsNodeBefore}
-use Rattle.own_record_laws.specs.OwnRecords.OwnRecords.{IsOwnRecord}
+use Rattle.own_record_laws.specs.TreeRecords.FetRecords.{AreFetRecords, IsNameBefore, IsNodeBefore}
+use Rattle.own_record_laws.specs.TreeRecords.OwnRecords.{IsOwnRecord}
 
 -- a layout has one list of the texts of labels that name no place
 abbrev pub UnattachedTextsAreUnique : Type 0

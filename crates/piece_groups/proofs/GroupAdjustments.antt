@@ -10,19 +10,19 @@ use Rattle.tech_model.specs.Rules.{KeepsRules}
 use Rattle.tech_model.specs.WellFormed.{IsClass, IsWellFormed}
 use Rattle.layout_model.specs.Places.{Place}
 use Rattle.layout_model.specs.Technologies.{Class, class_of, rules_of}
-use Rattle.adjustment_laws.proofs.Measures.MeasureLaws.{space_out}
+use Rattle.group_meetings.proofs.Measures.MeasureLaws.{space_out}
 use Rattle.offences.specs.Offences.{SetLayout}
-use Rattle.group_merges.specs.NamedTrees.NamedTrees.{NamedTree}
-use Rattle.group_merges.specs.NamedTrees.MemberGroups.{IsGroupName}
-use Rattle.group_merges.specs.TreeRecords.Merges.{AreAdjustments}
-use Rattle.group_merges.specs.TreeRecords.PlaceWeights.{PlaceWeight, area_weight, perimeter_weight, capacitance_weight, IsAdjustment}
-use Rattle.adjustment_laws.specs.TreeNames.CleanTrees.{IsCleanTree}
-use Rattle.group_merges.specs.MeetingLaws.PartLayouts.{Passes, excess}
-use Rattle.adjustment_laws.specs.GroupMeetings.Laws.{IsRestrictedTo}
-use Rattle.adjustment_laws.specs.GroupMeetings.Members.{PartsHaveMembers}
-use Rattle.adjustment_laws.specs.Laws.{AreMembersOf, IsOfClasses}
-use Rattle.adjustment_laws.proofs.AdjustmentLaws.{counts_are_adjustments}
-use Rattle.group_merges.specs.MeetingSums.Sums.{AreMeetingMeasures}
+use Rattle.piece_groups.specs.TreeRecords.NamedTrees.{NamedTree}
+use Rattle.piece_groups.specs.TreeRecords.MemberGroups.{IsGroupName}
+use Rattle.piece_groups.specs.TreeRecords.Merges.{AreAdjustments}
+use Rattle.piece_groups.specs.TreeRecords.PlaceWeights.{PlaceWeight, area_weight, perimeter_weight, capacitance_weight, IsAdjustment}
+use Rattle.group_meetings.specs.TreeNames.CleanTrees.{IsCleanTree}
+use Rattle.piece_groups.specs.MeetingLaws.PartLayouts.{Passes, excess}
+use Rattle.group_meetings.specs.Laws.{IsRestrictedTo}
+use Rattle.group_meetings.specs.Members.{PartsHaveMembers}
+use Rattle.group_meetings.specs.AdjustmentLaws.{AreMembersOf, IsOfClasses}
+use Rattle.group_meetings.proofs.AdjustmentLaws.{counts_are_adjustments}
+use Rattle.piece_groups.specs.MeetingSums.Sums.{AreMeetingMeasures}
 use Rattle.piece_groups.specs.Laws.{HasRecordsBelow}
 use Rattle.piece_groups.proofs.RecordedTotals.{member_totals}
 

@@ -1,3 +1,14 @@
+-- what crates above name of those below
+pub use Rattle.full_names.proofs as FullNames
+pub use Rattle.meeting_sums.proofs.LowerMeetingLaws as LowerMeetingLaws
+pub mod PlacesOfPieces
+pub mod MarkedGroups
+mod MemberLaws
+mod LinkLaws
+mod WalkLaws
+mod SumLaws
+mod GroupLaws
+mod MarkLaws
 mod ListedThings
 mod OwnPlaces
 mod RecordedTotals

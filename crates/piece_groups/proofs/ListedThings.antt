@@ -2,7 +2,7 @@
 use Rattle.std.proofs.Common.{◌⊎◌, ℕ, List, [], ◌∷◌, inl, inr, refl, sym, subst}
 use Rattle.std.proofs.lemmas.Bool.{cases_eq}
 use Rattle.finite_sets.specs.Lists.{In, Lists}
-use Rattle.adjustment_laws.proofs.PlacesOnce.{AreTold, once_each}
+use Rattle.group_meetings.proofs.PlacesOnce.{AreTold, once_each}
 
 -- two lists of things that are told apart are one, or they differ
 list_told : {X : Type 0} → AreTold X → AreTold (List X)

@@ -15,18 +15,18 @@ use Rattle.layout_model.specs.Places.{Place}
 use Rattle.layout_model.specs.Technologies.{Class, rules_of}
 use Rattle.offences.specs.declared.plane_stacks.PlaneStack.{PlaneStack}
 use Rattle.offences.specs.Offences.{SetLayout}
-use Rattle.group_merges.specs.NamedTrees.NamedTrees.{NamedTree}
-use Rattle.group_merges.specs.TreeRecords.Merges.{MemberGroup}
-use Rattle.group_merges.specs.TreeRecords.PlaceWeights.{area_weight, capacitance_weight, perimeter_weight}
-use Rattle.adjustment_laws.proofs.TreeNames.GroupNames.{group_name_along, one_group}
-use Rattle.group_merges.specs.MeetingLaws.PartLayouts.{excess}
-use Rattle.adjustment_laws.proofs.GroupMeetings.MemberMaterial.{named_is_material}
-use Rattle.group_merges.specs.MeetingSums.declared.sums.MeetingSum.{MeetingSum}
-use Rattle.group_merges.specs.MeetingSums.StackTiles.{IsInGroup}
-use Rattle.group_merges.specs.MeetingSums.Sums.{AreMeetingMeasures, IsMeetingSum}
-use Rattle.piece_members.specs.Laws.{AreMarkedPieces, MarksTellGroups}
-use Rattle.piece_members.specs.MemberMarks.{mark_at}
-use Rattle.piece_members.specs.PieceMembers.{LiesInPiece}
+use Rattle.piece_groups.specs.TreeRecords.NamedTrees.{NamedTree}
+use Rattle.piece_groups.specs.TreeRecords.Merges.{MemberGroup}
+use Rattle.piece_groups.specs.TreeRecords.PlaceWeights.{area_weight, capacitance_weight, perimeter_weight}
+use Rattle.group_meetings.proofs.TreeNames.GroupNames.{group_name_along, one_group}
+use Rattle.piece_groups.specs.MeetingLaws.PartLayouts.{excess}
+use Rattle.group_meetings.proofs.MemberMaterial.{named_is_material}
+use Rattle.piece_groups.specs.MeetingSums.declared.sums.MeetingSum.{MeetingSum}
+use Rattle.piece_groups.specs.MeetingSums.StackTiles.{IsInGroup}
+use Rattle.piece_groups.specs.MeetingSums.Sums.{AreMeetingMeasures, IsMeetingSum}
+use Rattle.piece_groups.specs.MemberLaws.{AreMarkedPieces, MarksTellGroups}
+use Rattle.piece_groups.specs.MemberMarks.{mark_at}
+use Rattle.piece_groups.specs.PieceMembers.{LiesInPiece}
 use Rattle.piece_groups.specs.Laws.{piece_marks}
 use Rattle.piece_groups.proofs.PiecePlaces.{piece_at, piece_is_within}
 use Rattle.piece_groups.proofs.MarkedMembers.{IsGroupAt}

@@ -13,16 +13,16 @@ use Rattle.layout_model.specs.Places.{Place}
 use Rattle.offences.specs.declared.plane_stacks.PlaneStack.{PlaneStack}
 use Rattle.offences.specs.Offences.{SetLayout}
 use Rattle.circuit_model.specs.FullNames.{AreInNameOrder}
-use Rattle.group_merges.proofs.FullNames.ListOrders.{pairwise_names}
-use Rattle.adjustment_laws.specs.OwnRecords.FetRecords.{IsNoLaterName}
-use Rattle.group_merges.specs.NamedTrees.NamedTrees.{NamedTree}
-use Rattle.group_merges.specs.NamedTrees.NamedTrees.NamedTree.{named_tree}
-use Rattle.group_merges.specs.NamedTrees.MemberGroups.{AreOneGroup, IsGroupName, IsMemberAt, IsMemberOf}
-use Rattle.group_merges.specs.TreeRecords.Merges.{MemberGroup}
-use Rattle.adjustment_laws.specs.Laws.{AreMembersOf}
-use Rattle.group_merges.specs.MeetingSums.declared.sums.MeetingSum.{MeetingSum}
-use Rattle.group_merges.specs.MarkedGroups.{HasMark, IsGroupOfMark}
-use Rattle.piece_members.specs.Laws.{AreMarkedPieces, MarksTellGroups}
+use Rattle.piece_groups.proofs.FullNames.ListOrders.{pairwise_names}
+use Rattle.group_meetings.specs.TreeRecords.FetRecords.{IsNoLaterName}
+use Rattle.piece_groups.specs.TreeRecords.NamedTrees.{NamedTree}
+use Rattle.piece_groups.specs.TreeRecords.NamedTrees.NamedTree.{named_tree}
+use Rattle.piece_groups.specs.TreeRecords.MemberGroups.{AreOneGroup, IsGroupName, IsMemberAt, IsMemberOf}
+use Rattle.piece_groups.specs.TreeRecords.Merges.{MemberGroup}
+use Rattle.group_meetings.specs.AdjustmentLaws.{AreMembersOf}
+use Rattle.piece_groups.specs.MeetingSums.declared.sums.MeetingSum.{MeetingSum}
+use Rattle.piece_groups.specs.MarkedGroups.{HasMark, IsGroupOfMark}
+use Rattle.piece_groups.specs.MemberLaws.{AreMarkedPieces, MarksTellGroups}
 use Rattle.piece_groups.proofs.PiecePlaces.{listed_has_place}
 
 -- a place is of its own group

@@ -11,18 +11,18 @@ use Rattle.layout_model.specs.Layouts.{IsMaterial}
 use Rattle.layout_model.specs.Places.{Place}
 use Rattle.offences.specs.declared.plane_stacks.PlaneStack.{PlaneStack}
 use Rattle.offences.specs.Offences.{SetLayout}
-use Rattle.group_merges.specs.NamedTrees.NamedTrees.{NamedTree}
-use Rattle.group_merges.specs.NamedTrees.FlatLayouts.{flat_layout}
-use Rattle.group_merges.specs.NamedTrees.MemberGroups.{IsMemberAt}
-use Rattle.group_merges.specs.MeetingLaws.PartLayouts.{parts_layout, Passes}
-use Rattle.group_merges.proofs.MeetingLaws.RestrictionLaws.{layout_inside}
-use Rattle.adjustment_laws.specs.GroupMeetings.Members.{tree_parts, IsMemberOfPart}
-use Rattle.adjustment_laws.proofs.GroupMeetings.PartMembers.{flat_is_of_parts, member_at_part, part_of_member}
-use Rattle.adjustment_laws.proofs.GroupMeetings.MemberMaterial.{flat_of_part, member_is_material}
-use Rattle.adjustment_laws.proofs.GroupMeetings.MemberSteps.{one_of_part}
-use Rattle.piece_members.specs.Laws.{AreMarkedPieces}
-use Rattle.piece_members.specs.PieceMembers.{LiesInPiece}
-use Rattle.piece_members.proofs.PiecePlaces.{tile_is_material, place_of_piece, stands_in_piece, material_is_within, restricted_is_material}
+use Rattle.piece_groups.specs.TreeRecords.NamedTrees.{NamedTree}
+use Rattle.piece_groups.specs.TreeRecords.FlatLayouts.{flat_layout}
+use Rattle.piece_groups.specs.TreeRecords.MemberGroups.{IsMemberAt}
+use Rattle.piece_groups.specs.MeetingLaws.PartLayouts.{parts_layout, Passes}
+use Rattle.piece_groups.proofs.MeetingLaws.RestrictionLaws.{layout_inside}
+use Rattle.group_meetings.specs.Members.{tree_parts, IsMemberOfPart}
+use Rattle.group_meetings.proofs.PartMembers.{flat_is_of_parts, member_at_part, part_of_member}
+use Rattle.group_meetings.proofs.MemberMaterial.{flat_of_part, member_is_material}
+use Rattle.group_meetings.proofs.MemberSteps.{one_of_part}
+use Rattle.piece_groups.specs.MemberLaws.{AreMarkedPieces}
+use Rattle.piece_groups.specs.PieceMembers.{LiesInPiece}
+use Rattle.piece_groups.proofs.PlacesOfPieces.{tile_is_material, place_of_piece, stands_in_piece, material_is_within, restricted_is_material}
 
 module _ (raw : RawTech) (formed : IsWellFormed raw) (rules : KeepsRules raw) (within : Square → Bool) (tree : NamedTree) (others : List SetLayout)
     (stacks : List PlaneStack) (names : List (List ℕ)) (pairs : List (ℕ × ℕ)) (tiles : List RegionTile) (count : ℕ) (marks : List ℕ)

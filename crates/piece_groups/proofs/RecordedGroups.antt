@@ -12,20 +12,20 @@ use Rattle.layout_model.specs.Places.{Place}
 use Rattle.layout_model.specs.Technologies.{rules_of}
 use Rattle.offences.specs.declared.plane_stacks.PlaneStack.{PlaneStack}
 use Rattle.offences.specs.Offences.{SetLayout}
-use Rattle.group_merges.specs.NamedTrees.NamedTrees.{NamedTree}
-use Rattle.group_merges.specs.NamedTrees.FlatLayouts.{flat_layout}
-use Rattle.group_merges.specs.NamedTrees.MemberGroups.{IsGroupName, IsMemberAt}
-use Rattle.group_merges.specs.TreeRecords.Merges.{Adjustment, AreAdjustments, HasGroupIn, IsMemberGroup, MemberGroup, group_name}
-use Rattle.group_merges.specs.TreeRecords.PlaceWeights.{capacitance_weight, IsAdjustment}
-use Rattle.adjustment_laws.proofs.TreeNames.GroupNames.{group_name_along, members_together}
-use Rattle.group_merges.proofs.MeetingLaws.LinkLaws.{someone_stands}
-use Rattle.adjustment_laws.specs.GroupMeetings.Members.{tree_parts}
-use Rattle.adjustment_laws.proofs.GroupMeetings.PartMembers.{flat_is_of_parts, member_at_part}
-use Rattle.group_merges.specs.MeetingSums.declared.sums.MeetingSum.{MeetingSum}
-use Rattle.group_merges.specs.MeetingSums.Sums.{AreMeetingSums}
-use Rattle.group_merges.specs.MarkedGroups.{AreMarkedGroups}
-use Rattle.piece_members.specs.Laws.{AreMarkedPieces, MarksTellGroups}
-use Rattle.piece_members.proofs.MarkedGroups.{marks_tell_groups}
+use Rattle.piece_groups.specs.TreeRecords.NamedTrees.{NamedTree}
+use Rattle.piece_groups.specs.TreeRecords.FlatLayouts.{flat_layout}
+use Rattle.piece_groups.specs.TreeRecords.MemberGroups.{IsGroupName, IsMemberAt}
+use Rattle.piece_groups.specs.TreeRecords.Merges.{Adjustment, AreAdjustments, HasGroupIn, IsMemberGroup, MemberGroup, group_name}
+use Rattle.piece_groups.specs.TreeRecords.PlaceWeights.{capacitance_weight, IsAdjustment}
+use Rattle.group_meetings.proofs.TreeNames.GroupNames.{group_name_along, members_together}
+use Rattle.piece_groups.proofs.MeetingLaws.LinkLaws.{someone_stands}
+use Rattle.group_meetings.specs.Members.{tree_parts}
+use Rattle.group_meetings.proofs.PartMembers.{flat_is_of_parts, member_at_part}
+use Rattle.piece_groups.specs.MeetingSums.declared.sums.MeetingSum.{MeetingSum}
+use Rattle.piece_groups.specs.MeetingSums.Sums.{AreMeetingSums}
+use Rattle.piece_groups.specs.MarkedGroups.{AreMarkedGroups}
+use Rattle.piece_groups.specs.MemberLaws.{AreMarkedPieces, MarksTellGroups}
+use Rattle.piece_groups.proofs.MarkedGroups.{marks_tell_groups}
 use Rattle.piece_groups.specs.Laws.{HasRecordsBelow, MarkedGroupsAreRecorded, piece_marks}
 use Rattle.piece_groups.proofs.ListedThings.{name_told, some_or_none}
 use Rattle.piece_groups.proofs.MarkedMembers.{group_at}

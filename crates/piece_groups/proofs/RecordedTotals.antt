@@ -9,27 +9,27 @@ use Rattle.tech_model.specs.Rules.{KeepsRules}
 use Rattle.tech_model.specs.WellFormed.{IsWellFormed}
 use Rattle.layout_model.specs.Layouts.{IsMaterial}
 use Rattle.layout_model.specs.Places.{Place}
-use Rattle.layout_trees.specs.CellTrees.{place_back}
-use Rattle.layout_trees.specs.FlatSets.{IsTyped, AreTyped}
-use Rattle.group_merges.specs.HierarchyModel.CleanCells.{IsClean, AreClean}
+use Rattle.layout_model.specs.CellTrees.{place_back}
+use Rattle.layout_model.specs.FlatSets.{IsTyped, AreTyped}
+use Rattle.piece_groups.specs.HierarchyModel.CleanCells.{IsClean, AreClean}
 use Rattle.ext_model.specs.declared.records.CellExt.{CellExt}
 use Rattle.ext_model.specs.declared.records.NodeRec.{NodeRec}
-use Rattle.adjustment_laws.specs.CellNodes.NodeRecords.{AreNodeRecords}
-use Rattle.adjustment_laws.specs.OwnRecords.FetRecords.{IsOfNode}
-use Rattle.adjustment_laws.proofs.OwnRecordLaws.PreferredNames.{one_name}
-use Rattle.group_merges.specs.NamedTrees.NamedTrees.{NamedTree, NamedElements, OwnBody, layouts_of, layouts_below}
-use Rattle.group_merges.specs.NamedTrees.NamedTrees.NamedTree.{named_tree}
-use Rattle.group_merges.specs.NamedTrees.NamedTrees.NamedElements.{no_more, element_then}
-use Rattle.group_merges.specs.NamedTrees.FlatLayouts.{flat_layout}
-use Rattle.group_merges.specs.NamedTrees.MemberGroups.{IsGroupName, IsMemberAt, IsMemberBelow}
-use Rattle.group_merges.specs.TreeRecords.Merges.{group_name}
-use Rattle.group_merges.specs.TreeRecords.PlaceWeights.{PlaceWeight, IsGroupTotal, IsTotalBelow, IsMemberTotal, AreMemberTotals}
-use Rattle.group_merges.specs.TreeRecords.TreeRecords.{HasTreeRecord, HaveTreeRecords}
-use Rattle.adjustment_laws.proofs.TreeNames.GroupNames.{one_group_name}
-use Rattle.adjustment_laws.proofs.TreeNames.RecordedNodes.{record_at}
-use Rattle.adjustment_laws.proofs.TreeNames.TreeElements.{top_record}
-use Rattle.adjustment_laws.proofs.GroupMeetings.MemberMaterial.{named_is_material}
-use Rattle.adjustment_laws.proofs.PlacesOnce.{place_told}
+use Rattle.group_meetings.specs.CellNodes.NodeRecords.{AreNodeRecords}
+use Rattle.group_meetings.specs.TreeRecords.FetRecords.{IsOfNode}
+use Rattle.group_meetings.proofs.OwnRecordLaws.PreferredNames.{one_name}
+use Rattle.piece_groups.specs.TreeRecords.NamedTrees.{NamedTree, NamedElements, OwnBody, layouts_of, layouts_below}
+use Rattle.piece_groups.specs.TreeRecords.NamedTrees.NamedTree.{named_tree}
+use Rattle.piece_groups.specs.TreeRecords.NamedTrees.NamedElements.{no_more, element_then}
+use Rattle.piece_groups.specs.TreeRecords.FlatLayouts.{flat_layout}
+use Rattle.piece_groups.specs.TreeRecords.MemberGroups.{IsGroupName, IsMemberAt, IsMemberBelow}
+use Rattle.piece_groups.specs.TreeRecords.Merges.{group_name}
+use Rattle.piece_groups.specs.TreeRecords.PlaceWeights.{PlaceWeight, IsGroupTotal, IsTotalBelow, IsMemberTotal, AreMemberTotals}
+use Rattle.piece_groups.specs.TreeRecords.TreeRecords.{HasTreeRecord, HaveTreeRecords}
+use Rattle.group_meetings.proofs.TreeNames.GroupNames.{one_group_name}
+use Rattle.group_meetings.proofs.TreeNames.RecordedNodes.{record_at}
+use Rattle.group_meetings.proofs.TreeNames.TreeElements.{top_record}
+use Rattle.group_meetings.proofs.MemberMaterial.{named_is_material}
+use Rattle.group_meetings.proofs.PlacesOnce.{place_told}
 use Rattle.piece_groups.specs.Laws.{HasRecordsBelow}
 use Rattle.piece_groups.proofs.ListedThings.{name_told, IsDecided, listed_with}
 use Rattle.piece_groups.proofs.OwnPlaces.{places_in, material_in_area}

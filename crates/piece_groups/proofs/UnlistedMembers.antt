@@ -12,20 +12,20 @@ use Rattle.layout_model.specs.Places.{Place}
 use Rattle.layout_model.specs.Technologies.{Class, rules_of}
 use Rattle.offences.specs.declared.plane_stacks.PlaneStack.{PlaneStack}
 use Rattle.offences.specs.Offences.{SetLayout}
-use Rattle.group_merges.specs.NamedTrees.NamedTrees.{NamedTree}
-use Rattle.group_merges.specs.NamedTrees.MemberGroups.{IsGroupName, IsMemberAt, IsMemberOf}
-use Rattle.group_merges.specs.TreeRecords.Merges.{MemberGroup, IsMemberGroup, is_zero_adjustment, zero_adjustment}
-use Rattle.group_merges.specs.TreeRecords.PlaceWeights.{area_weight, capacitance_weight, perimeter_weight}
-use Rattle.adjustment_laws.proofs.TreeNames.GroupNames.{one_group}
-use Rattle.group_merges.specs.MeetingLaws.PartLayouts.{excess}
-use Rattle.group_merges.proofs.MeetingLaws.LinkLaws.{someone_stands}
-use Rattle.adjustment_laws.specs.GroupMeetings.Members.{tree_parts}
-use Rattle.adjustment_laws.proofs.GroupMeetings.GroupRegions.{larger_groups_within}
-use Rattle.adjustment_laws.proofs.GroupMeetings.MemberMaterial.{named_is_material}
-use Rattle.adjustment_laws.proofs.GroupMeetings.PartMembers.{flat_is_of_parts, member_at_part}
-use Rattle.adjustment_laws.specs.Laws.{AreMembersOf}
-use Rattle.group_merges.specs.MeetingSums.Sums.{AreMeetingMeasures}
-use Rattle.piece_members.specs.Laws.{AreMarkedPieces}
+use Rattle.piece_groups.specs.TreeRecords.NamedTrees.{NamedTree}
+use Rattle.piece_groups.specs.TreeRecords.MemberGroups.{IsGroupName, IsMemberAt, IsMemberOf}
+use Rattle.piece_groups.specs.TreeRecords.Merges.{MemberGroup, IsMemberGroup, is_zero_adjustment, zero_adjustment}
+use Rattle.piece_groups.specs.TreeRecords.PlaceWeights.{area_weight, capacitance_weight, perimeter_weight}
+use Rattle.group_meetings.proofs.TreeNames.GroupNames.{one_group}
+use Rattle.piece_groups.specs.MeetingLaws.PartLayouts.{excess}
+use Rattle.piece_groups.proofs.MeetingLaws.LinkLaws.{someone_stands}
+use Rattle.group_meetings.specs.Members.{tree_parts}
+use Rattle.group_meetings.proofs.GroupRegions.{larger_groups_within}
+use Rattle.group_meetings.proofs.MemberMaterial.{named_is_material}
+use Rattle.group_meetings.proofs.PartMembers.{flat_is_of_parts, member_at_part}
+use Rattle.group_meetings.specs.AdjustmentLaws.{AreMembersOf}
+use Rattle.piece_groups.specs.MeetingSums.Sums.{AreMeetingMeasures}
+use Rattle.piece_groups.specs.MemberLaws.{AreMarkedPieces}
 use Rattle.piece_groups.specs.Laws.{HasRecordsBelow}
 use Rattle.piece_groups.proofs.ListedThings.{name_told}
 use Rattle.piece_groups.proofs.PiecePlaces.{member_is_listed}

@@ -16,15 +16,15 @@ use Rattle.offences.specs.Offences.{SetLayout}
 use Rattle.ext_model.specs.declared.records.CellExt.{CellExt}
 use Rattle.ext_model.specs.declared.records.MergeRec.{MergeRec}
 use Rattle.ext_model.specs.declared.records.NodeRec.{NodeRec}
-use Rattle.adjustment_laws.specs.CellNodes.NodeRecords.{AreNodeRecords}
-use Rattle.group_merges.specs.NamedTrees.NamedTrees.{NamedTree, named_elements_in, own_body}
-use Rattle.group_merges.specs.TreeRecords.Merges.{AreGroupMerges, MemberGroup, group_merges}
-use Rattle.group_merges.specs.TreeRecords.TreeRecords.{HaveTreeRecords}
-use Rattle.group_merges.specs.MeetingSums.declared.sums.MeetingSum.{MeetingSum}
-use Rattle.group_merges.specs.MeetingSums.Sums.{AreMeetingSums}
-use Rattle.group_merges.specs.MarkedGroups.{AreMarkedGroups}
-use Rattle.piece_members.specs.Laws.{AreMarkedPieces}
-use Rattle.piece_members.specs.MemberMarks.{mark_at}
+use Rattle.group_meetings.specs.CellNodes.NodeRecords.{AreNodeRecords}
+use Rattle.piece_groups.specs.TreeRecords.NamedTrees.{NamedTree, named_elements_in, own_body}
+use Rattle.piece_groups.specs.TreeRecords.Merges.{AreGroupMerges, MemberGroup, group_merges}
+use Rattle.piece_groups.specs.TreeRecords.TreeRecords.{HaveTreeRecords}
+use Rattle.piece_groups.specs.MeetingSums.declared.sums.MeetingSum.{MeetingSum}
+use Rattle.piece_groups.specs.MeetingSums.Sums.{AreMeetingSums}
+use Rattle.piece_groups.specs.MarkedGroups.{AreMarkedGroups}
+use Rattle.piece_groups.specs.MemberLaws.{AreMarkedPieces}
+use Rattle.piece_groups.specs.MemberMarks.{mark_at}
 
 -- the mark of each piece
 abbrev pub piece_marks : ℕ → List PlaneStack → List RegionTile → List ℕ → List ℕ

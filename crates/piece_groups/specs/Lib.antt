@@ -1,3 +1,14 @@
 -- what crates above name of those below
-pub use Rattle.piece_members.specs as PieceMembers
+pub use Rattle.meeting_sums.specs.HierarchyModel as HierarchyModel
+pub use Rattle.meeting_sums.specs.LowerMeetingLaws as LowerMeetingLaws
+pub use Rattle.meeting_sums.specs as MeetingSums
+pub use Rattle.meeting_sums.specs.TreeRecords as TreeRecords
+pub mod PieceMembers
+pub mod MemberMarks
+pub mod MemberLaws
+pub mod MarkedGroups
+pub mod Members
+pub mod Links
+pub mod Groups
+pub mod MarkMerges
 pub mod Laws

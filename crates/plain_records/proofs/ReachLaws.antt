@@ -29,8 +29,8 @@ use Rattle.circuit_model.specs.FullNames.{full_names}
 use Rattle.circuit_model.specs.Circuits.{IsMeaning, IsCircuitOf}
 use Rattle.circuit_model.specs.Refusals.{first_fault, use_fault, walk_fault, greatest, chain_length, depth_of, once, name_bytes, node_count, merge_count, past}
 use Rattle.circuit_model.specs.Refusals.{class_fault, before_slash, after_slash, leads, path_fault, merge_fault, element_fault, flat_fault}
-use Rattle.record_graph.specs.Graphs.{LeadTo, children_of}
-use Rattle.record_graph.proofs.Cells.{found_cell}
+use Rattle.element_tree.specs.Graphs.{LeadTo, children_of}
+use Rattle.element_tree.proofs.Cells.{found_cell}
 use Rattle.element_tree.specs.Trees.{tree_fault}
 use Rattle.element_tree.proofs.Counting.{leads_at}
 use Rattle.plain_records.specs.Plains.{plains}

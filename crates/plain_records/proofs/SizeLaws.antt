@@ -11,8 +11,8 @@ use Rattle.ext_model.specs.declared.records.UseRec.{UseRec}
 use Rattle.ext_model.specs.declared.arrays.ArrayUse.{ArrayUse}
 use Rattle.ext_model.specs.declared.arrays.ArrayExt.{ArrayExt}
 use Rattle.ext_model.specs.Plain.{plain_uses}
-use Rattle.record_graph.specs.declared.graph.RecordGraph.{RecordGraph}
-use Rattle.record_graph.specs.Graphs.{children_of}
+use Rattle.element_tree.specs.declared.graph.RecordGraph.{RecordGraph}
+use Rattle.element_tree.specs.Graphs.{children_of}
 use Rattle.element_tree.specs.Sizes.{AreMeasured}
 use Rattle.element_tree.proofs.Measures.{IsRead, next_in_order}
 use Rattle.element_tree.proofs.Rows.{LeadTo-long}

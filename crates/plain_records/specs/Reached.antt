@@ -9,8 +9,8 @@ use Rattle.ext_model.specs.Plain.{plain, plain_uses}
 use Rattle.circuit_model.specs.declared.faults.FlatFault.{FlatFault}
 use Rattle.circuit_model.specs.Elements.{AreRecords}
 use Rattle.circuit_model.specs.Refusals.{walk_fault}
-use Rattle.record_graph.specs.declared.graph.RecordGraph.{RecordGraph}
-use Rattle.record_graph.specs.Graphs.{IsGraphOf}
+use Rattle.element_tree.specs.declared.graph.RecordGraph.{RecordGraph}
+use Rattle.element_tree.specs.Graphs.{IsGraphOf}
 use Rattle.element_tree.specs.Trees.{tree_fault}
 use Rattle.plain_records.specs.Plains.{plains}
 

@@ -12,7 +12,7 @@ use circuit_model::{CircuitLimit, FlatFault, LONGEST_CHAIN, MOST_FLAT_ELEMENTS};
 use element_tree::chain_lengths;
 use ext_model::{ArrayExt, ArrayUse, CellExt};
 use names_lists::List;
-use record_graph::{RecordGraph, record_graph};
+use element_tree::{RecordGraph, record_graph};
 use std::alloc::{AllocError, Global};
 
 // How many elements are at or below a record whose uses lead to these children, or one more than the most.

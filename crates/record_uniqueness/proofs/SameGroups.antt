@@ -4,17 +4,17 @@ use Rattle.finite_sets.specs.Lists.{In}
 use Rattle.finite_sets.proofs.Chains.{Chain-append}
 use Rattle.tech_model.specs.declared.raw.RawTech.{RawTech}
 use Rattle.tech_model.specs.WellFormed.{IsWellFormed}
-use Rattle.tree_sums.specs.TreeNames.CleanTrees.{IsCleanTree}
-use Rattle.tree_sums.specs.TreeNames.NamedTrees.LayoutModel.Places.{Place}
-use Rattle.tree_sums.specs.TreeNames.NamedTrees.LayoutModel.Technologies.{rules_of}
-use Rattle.tree_sums.specs.TreeNames.NamedTrees.MemberGroups.{AreOneGroup, IsGroupName, IsMemberOf}
-use Rattle.tree_sums.specs.TreeNames.NamedTrees.NamedTrees.{NamedTree}
-use Rattle.tree_sums.specs.TreeNames.NamedTrees.NamedTrees.NamedTree.{named_tree}
-use Rattle.tree_sums.specs.TreeRecords.Merges.{AreAdjustments, IsMemberGroup, MemberGroup, group_name}
-use Rattle.tree_sums.specs.TreeRecords.PlaceWeights.{IsAdjustment, capacitance_weight}
-use Rattle.tree_sums.proofs.FullNames.ListOrders.{same_in_order}
-use Rattle.tree_sums.proofs.TreeNames.GroupNames.{one_group}
-use Rattle.tree_sums.proofs.TreeNames.GroupNodes.{group_back}
+use Rattle.tree_circuits.specs.TreeNames.CleanTrees.{IsCleanTree}
+use Rattle.tree_circuits.specs.TreeNames.TreeRecords.LayoutModel.Places.{Place}
+use Rattle.tree_circuits.specs.TreeNames.TreeRecords.LayoutModel.Technologies.{rules_of}
+use Rattle.tree_circuits.specs.TreeNames.TreeRecords.MemberGroups.{AreOneGroup, IsGroupName, IsMemberOf}
+use Rattle.tree_circuits.specs.TreeNames.TreeRecords.NamedTrees.{NamedTree}
+use Rattle.tree_circuits.specs.TreeNames.TreeRecords.NamedTrees.NamedTree.{named_tree}
+use Rattle.tree_circuits.specs.TreeRecords.Merges.{AreAdjustments, IsMemberGroup, MemberGroup, group_name}
+use Rattle.tree_circuits.specs.TreeRecords.PlaceWeights.{IsAdjustment, capacitance_weight}
+use Rattle.tree_circuits.proofs.FullNames.ListOrders.{same_in_order}
+use Rattle.tree_circuits.proofs.TreeNames.GroupNames.{one_group}
+use Rattle.tree_circuits.proofs.TreeNames.GroupNodes.{group_back}
 use Rattle.record_uniqueness.proofs.SameTotals.{same_adjustment, same_adjustments}
 
 -- a place of a group, and another of that one's group

@@ -11,14 +11,14 @@ use Rattle.tech_model.specs.Rules.{KeepsRules}
 use Rattle.tech_model.specs.WellFormed.{IsWellFormed}
 use Rattle.ext_model.specs.declared.records.MergeRec.{MergeRec}
 use Rattle.ext_model.proofs.NameOrders.{name_cmp_total}
-use Rattle.tree_sums.specs.TreeNames.CleanTrees.{IsCleanTree}
-use Rattle.tree_sums.specs.TreeNames.NamedTrees.LayoutModel.Technologies.{Class, rules_of}
-use Rattle.tree_sums.specs.TreeNames.NamedTrees.NamedTrees.{NamedTree}
-use Rattle.tree_sums.specs.TreeNames.OwnRecords.FetRecords.{IsNameBefore}
-use Rattle.tree_sums.specs.TreeRecords.Merges.{AreGroupMerges, MemberGroup, group_merges, group_name, is_zero_adjustment, merge_of}
-use Rattle.tree_sums.proofs.FullNames.ListOrders.{not_before_itself}
-use Rattle.tree_sums.proofs.MaterialPlaces.{named_place}
-use Rattle.tree_sums.proofs.TreeNames.GroupNames.{one_group_name}
+use Rattle.tree_circuits.specs.TreeNames.CleanTrees.{IsCleanTree}
+use Rattle.tree_circuits.specs.TreeNames.TreeRecords.LayoutModel.Technologies.{Class, rules_of}
+use Rattle.tree_circuits.specs.TreeNames.TreeRecords.NamedTrees.{NamedTree}
+use Rattle.tree_circuits.specs.TreeNames.TreeRecords.FetRecords.{IsNameBefore}
+use Rattle.tree_circuits.specs.TreeRecords.Merges.{AreGroupMerges, MemberGroup, group_merges, group_name, is_zero_adjustment, merge_of}
+use Rattle.tree_circuits.proofs.FullNames.ListOrders.{not_before_itself}
+use Rattle.tree_circuits.proofs.MaterialPlaces.{named_place}
+use Rattle.tree_circuits.proofs.TreeNames.GroupNames.{one_group_name}
 use Rattle.record_uniqueness.specs.RecordUniqueness.{GroupMergesAreUnique}
 use Rattle.record_uniqueness.proofs.SameGroups.{name_of_group, same_group}
 

@@ -5,21 +5,21 @@ use Rattle.finite_sets.specs.Total.{sum_on}
 use Rattle.finite_sets.proofs.Totals.{Total-unique}
 use Rattle.tech_model.specs.declared.raw.RawTech.{RawTech}
 use Rattle.tech_model.specs.WellFormed.{IsWellFormed}
-use Rattle.tree_sums.specs.TreeNames.CleanTrees.{HaveElementNames, IsCleanTree, ids_in}
-use Rattle.tree_sums.specs.TreeNames.NamedTrees.FlatLayouts.{flat_layout}
-use Rattle.tree_sums.specs.TreeNames.NamedTrees.LayoutModel.Technologies.{Class}
-use Rattle.tree_sums.specs.TreeNames.NamedTrees.MemberGroups.{IsGroupName}
-use Rattle.tree_sums.specs.TreeNames.NamedTrees.NamedTrees.{NamedElements, NamedTree, named_elements_in}
-use Rattle.tree_sums.specs.TreeNames.NamedTrees.NamedTrees.NamedTree.{named_tree}
-use Rattle.tree_sums.specs.TreeNames.NamedTrees.NamedTrees.NamedElements.{element_then, no_more}
-use Rattle.tree_sums.specs.TreeNames.OwnRecords.FetRecords.{IsOfNode}
-use Rattle.tree_sums.specs.TreeRecords.Merges.{AreAdjustments}
-use Rattle.tree_sums.specs.TreeRecords.PlaceWeights.{AreMemberTotals, IsAdjustment, IsGroupTotal, IsMemberTotal, IsOwnTotal, IsTotalBelow}
-use Rattle.tree_sums.specs.TreeRecords.PlaceWeights.{PlaceWeight, area_weight, perimeter_weight}
-use Rattle.tree_sums.proofs.BelowSums.{total_has_place}
-use Rattle.tree_sums.proofs.TreeNames.GroupNames.{member_begins}
-use Rattle.tree_sums.proofs.TreeNames.OwnNames.{goes_by_own, own_name_whole}
-use Rattle.tree_sums.proofs.TreeNames.Paths.{BeginsIn, begins_once, begins_with_slash, one_split}
+use Rattle.tree_circuits.specs.TreeNames.CleanTrees.{HaveElementNames, IsCleanTree, ids_in}
+use Rattle.tree_circuits.specs.TreeNames.TreeRecords.FlatLayouts.{flat_layout}
+use Rattle.tree_circuits.specs.TreeNames.TreeRecords.LayoutModel.Technologies.{Class}
+use Rattle.tree_circuits.specs.TreeNames.TreeRecords.MemberGroups.{IsGroupName}
+use Rattle.tree_circuits.specs.TreeNames.TreeRecords.NamedTrees.{NamedElements, NamedTree, named_elements_in}
+use Rattle.tree_circuits.specs.TreeNames.TreeRecords.NamedTrees.NamedTree.{named_tree}
+use Rattle.tree_circuits.specs.TreeNames.TreeRecords.NamedTrees.NamedElements.{element_then, no_more}
+use Rattle.tree_circuits.specs.TreeNames.TreeRecords.FetRecords.{IsOfNode}
+use Rattle.tree_circuits.specs.TreeRecords.Merges.{AreAdjustments}
+use Rattle.tree_circuits.specs.TreeRecords.PlaceWeights.{AreMemberTotals, IsAdjustment, IsGroupTotal, IsMemberTotal, IsOwnTotal, IsTotalBelow}
+use Rattle.tree_circuits.specs.TreeRecords.PlaceWeights.{PlaceWeight, area_weight, perimeter_weight}
+use Rattle.tree_circuits.proofs.BelowSums.{total_has_place}
+use Rattle.tree_circuits.proofs.TreeNames.GroupNames.{member_begins}
+use Rattle.tree_circuits.proofs.TreeNames.OwnNames.{goes_by_own, own_name_whole}
+use Rattle.tree_circuits.proofs.TreeNames.Paths.{BeginsIn, begins_once, begins_with_slash, one_split}
 
 module _ (raw : RawTech) (weight : PlaceWeight) where
   -- what has a total below begins with the name of its element

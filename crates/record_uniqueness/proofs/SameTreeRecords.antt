@@ -9,13 +9,13 @@ use Rattle.tech_model.specs.WellFormed.{IsWellFormed}
 use Rattle.ext_model.specs.declared.records.CellExt.{CellExt}
 use Rattle.own_record_uniqueness.proofs.SameFets.{fet_records_are_one}
 use Rattle.own_record_uniqueness.proofs.SameNodes.{same_nodes}
-use Rattle.tree_sums.specs.TreeNames.CleanTrees.{IsCleanTree}
-use Rattle.tree_sums.specs.TreeNames.NamedTrees.NamedTrees.{NamedElements, NamedStanding, NamedTree, named_above, named_standings, named_standings_below}
-use Rattle.tree_sums.specs.TreeNames.NamedTrees.NamedTrees.{own_body}
-use Rattle.tree_sums.specs.TreeNames.NamedTrees.NamedTrees.NamedTree.{named_tree}
-use Rattle.tree_sums.specs.TreeNames.NamedTrees.NamedTrees.NamedElements.{element_then, no_more}
-use Rattle.tree_sums.specs.TreeRecords.TreeRecords.{HasTreeRecord, HasTreeRecords, HaveTreeRecords}
-use Rattle.tree_sums.proofs.TreeNames.CleanTrees.{AreCleanTrees, clean_below, clean_first, clean_rest}
+use Rattle.tree_circuits.specs.TreeNames.CleanTrees.{IsCleanTree}
+use Rattle.tree_circuits.specs.TreeNames.TreeRecords.NamedTrees.{NamedElements, NamedStanding, NamedTree, named_above, named_standings, named_standings_below}
+use Rattle.tree_circuits.specs.TreeNames.TreeRecords.NamedTrees.{own_body}
+use Rattle.tree_circuits.specs.TreeNames.TreeRecords.NamedTrees.NamedTree.{named_tree}
+use Rattle.tree_circuits.specs.TreeNames.TreeRecords.NamedTrees.NamedElements.{element_then, no_more}
+use Rattle.tree_circuits.specs.TreeRecords.TreeRecords.{HasTreeRecord, HasTreeRecords, HaveTreeRecords}
+use Rattle.tree_circuits.proofs.TreeNames.CleanTrees.{AreCleanTrees, clean_below, clean_first, clean_rest}
 use Rattle.record_uniqueness.specs.RecordUniqueness.{IsFoundInBoth, RecordsOfTreesAreUnique, TreeRecordsAreUnique}
 use Rattle.record_uniqueness.proofs.SameMerges.{same_merges}
 

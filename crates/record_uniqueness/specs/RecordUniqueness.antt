@@ -7,11 +7,11 @@ use Rattle.tech_model.specs.Rules.{KeepsRules}
 use Rattle.tech_model.specs.WellFormed.{IsWellFormed}
 use Rattle.ext_model.specs.declared.records.CellExt.{CellExt}
 use Rattle.ext_model.specs.declared.records.MergeRec.{MergeRec}
-use Rattle.tree_sums.specs.TreeNames.CircuitModel.Elements.{ext_of}
-use Rattle.tree_sums.specs.TreeNames.CleanTrees.{IsCleanTree}
-use Rattle.tree_sums.specs.TreeRecords.Merges.{AreGroupMerges}
-use Rattle.tree_sums.specs.TreeRecords.TreeRecords.{HasTreeRecords, IsTreeRecord}
-use Rattle.tree_sums.specs.TreeNames.NamedTrees.NamedTrees.{NamedStanding, NamedTree, named_standings}
+use Rattle.tree_circuits.specs.TreeNames.CircuitModel.Elements.{ext_of}
+use Rattle.tree_circuits.specs.TreeNames.CleanTrees.{IsCleanTree}
+use Rattle.tree_circuits.specs.TreeRecords.Merges.{AreGroupMerges}
+use Rattle.tree_circuits.specs.TreeRecords.TreeRecords.{HasTreeRecords, IsTreeRecord}
+use Rattle.tree_circuits.specs.TreeNames.TreeRecords.NamedTrees.{NamedStanding, NamedTree, named_standings}
 
 -- the groups of a clean cell have one list of merges
 abbrev pub GroupMergesAreUnique : Type 0

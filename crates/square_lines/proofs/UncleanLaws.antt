@@ -7,7 +7,7 @@ use Rattle.finite_sets.proofs.Members.{In-append_cases, In-append_right, In-get_
 use Rattle.geo_core.specs.declared.squares.Rect.{Rect}
 use Rattle.geo_core.specs.declared.squares.Square.{Square}
 use Rattle.use_orders.proofs.Visiting.{library_order-lists}
-use Rattle.layout_trees.specs.FlatSets.{parts_in}
+use Rattle.layout_model.specs.FlatSets.{parts_in}
 use Rattle.hier_merge.specs.Offences.Offences.{OffendsOn}
 use Rattle.hier_merge.specs.StripLists.{AreStripsByPlane, AreStripsFrom}
 use Rattle.hier_merge.specs.UncleanCells.{AreOffendingOf, IsUncleanBelow}

@@ -14,17 +14,17 @@ use Rattle.tech_model.proofs.GeoCore.FiniteSets.Members.{In-map, In-map_source}
 use Rattle.tech_model.proofs.GeoCore.FiniteSets.Ranges.{Lists-integer_range, Lists-pairs_of}
 use Rattle.tech_model.proofs.GeoCore.ImageLaws.{image-moved}
 use Rattle.tech_model.proofs.GeoCore.SquareLaws.{square_is}
-use Rattle.cell_library.specs.LowerLayoutTrees.CellTrees.{place_back}
-use Rattle.cell_library.specs.LowerLayoutTrees.FlatSets.{flat_sets, sets_below}
-use Rattle.cell_library.specs.LowerLayoutTrees.LayoutModel.Places.{Place}
+use Rattle.cell_library.specs.LayoutModel.CellTrees.{place_back}
+use Rattle.cell_library.specs.LayoutModel.FlatSets.{flat_sets, sets_below}
+use Rattle.cell_library.specs.LayoutModel.Places.{Place}
 use Rattle.cell_library.specs.LayoutTrees.{element_transform}
 use Rattle.ext_model.specs.Paths.{path_text}
 use Rattle.library_trees.specs.ElementNames.{UseElement, array_element, use_elements}
 use Rattle.library_trees.specs.NamedCells.{named_elements_at}
-use Rattle.library_trees.specs.NamedTrees.FlatLayouts.{HasNodePath, HasNodePathBelow}
-use Rattle.library_trees.specs.NamedTrees.NamedTrees.{NamedTree, layouts_below, layouts_of}
-use Rattle.library_trees.specs.NamedTrees.NamedTrees.NamedElements.{no_more}
-use Rattle.library_trees.proofs.TreeNames.HierarchyModel.LayoutTrees.SetUnions.{none_union, union_none, union_same}
+use Rattle.library_trees.specs.TreeRecords.FlatLayouts.{HasNodePath, HasNodePathBelow}
+use Rattle.library_trees.specs.TreeRecords.NamedTrees.{NamedTree, layouts_below, layouts_of}
+use Rattle.library_trees.specs.TreeRecords.NamedTrees.NamedElements.{no_more}
+use Rattle.library_trees.proofs.TreeNames.HierarchyModel.LayoutModel.SetUnions.{none_union, union_none, union_same}
 
 module _ (raw : RawTech) (tree : NamedTree) (placed : Transform) where
   -- what an element of the child has at a place

@@ -9,7 +9,7 @@ use Rattle.tech_model.specs.declared.raw.RawTech.{RawTech}
 use Rattle.tech_model.specs.Types.{has_name, layer_named}
 use Rattle.tech_model.proofs.GeoCore.FiniteSets.Images.{In-flat_map, In-flat_map_source}
 use Rattle.tech_model.proofs.GeoCore.FiniteSets.Searches.{In-from_list_any, absent-from_list_any, position_from-below}
-use Rattle.cell_library.specs.LowerLayoutTrees.LayoutModel.Places.{Place}
+use Rattle.cell_library.specs.LayoutModel.Places.{Place}
 use Rattle.cell_library.specs.Views.{LibraryView}
 use Rattle.ext_model.specs.declared.circuits.Circuit.{Circuit}
 use Rattle.ext_model.specs.declared.records.NodeRec.{NodeRec}
@@ -17,7 +17,7 @@ use Rattle.ext_model.specs.NodeNames.{is_global, slashes_in}
 use Rattle.ext_model.specs.RecordNames.{names_of}
 use Rattle.layout_gen.specs.Generated.{diff_name, poly_name, tile_name}
 use Rattle.library_trees.specs.NamedCells.{named_tree_at}
-use Rattle.library_trees.specs.NamedTrees.FlatLayouts.{HasOwnName}
+use Rattle.library_trees.specs.TreeRecords.FlatLayouts.{HasOwnName}
 use Rattle.library_trees.specs.TreeRecords.TreeCircuits.{IsFlatCircuit}
 use Rattle.stack_nodes.specs.StackNodes.{HasNodeOfName, IsStackCircuit, OfRowsAndColumns, StackCircuitsHaveTheirNodes}
 use Rattle.stack_nodes.proofs.StackNames.{HasFlatName, column_name_is, named_in_stack, row_name_is, tile_path}

@@ -14,9 +14,9 @@ use Rattle.tech_model.specs.GeoCore.declared.transforms.Transform.{Transform}
 use Rattle.tech_model.specs.declared.raw.RawTech.{RawTech}
 use Rattle.tech_model.proofs.GeoCore.FiniteSets.Chains.{Chain-carries}
 use Rattle.tech_model.proofs.GeoCore.FiniteSets.Members.{In-map}
-use Rattle.cell_library.specs.LowerLayoutTrees.LayoutModel.Layouts.{IsMaterial}
-use Rattle.cell_library.specs.LowerLayoutTrees.LayoutModel.Places.{Place}
-use Rattle.cell_library.specs.LowerLayoutTrees.LayoutModel.Technologies.{class_of, rules_of}
+use Rattle.cell_library.specs.LayoutModel.Layouts.{IsMaterial}
+use Rattle.cell_library.specs.LayoutModel.Places.{Place}
+use Rattle.cell_library.specs.LayoutModel.Technologies.{class_of, rules_of}
 use Rattle.cell_library.specs.Views.{LibraryView}
 use Rattle.ext_model.specs.declared.circuits.Circuit.{Circuit}
 use Rattle.ext_model.specs.declared.records.NodeRec.{NodeRec}
@@ -26,9 +26,9 @@ use Rattle.layout_gen.specs.declared.limits.TheConstants.{MOST_TILES}
 use Rattle.layout_gen.specs.Generated.{row_grid, stack_grid, tile_labels}
 use Rattle.library_trees.specs.ElementNames.{UseElement, use_elements}
 use Rattle.library_trees.specs.NamedCells.{named_elements_at}
-use Rattle.library_trees.specs.NamedTrees.FlatLayouts.{AreFlatLinked, AreOneFlatNode, HasTextBelow, HasTextSomewhere, flat_layout}
-use Rattle.library_trees.specs.NamedTrees.NamedTrees.{NamedTree}
-use Rattle.library_trees.specs.NamedTrees.NamedTrees.NamedElements.{no_more}
+use Rattle.library_trees.specs.TreeRecords.FlatLayouts.{AreFlatLinked, AreOneFlatNode, HasTextBelow, HasTextSomewhere, flat_layout}
+use Rattle.library_trees.specs.TreeRecords.NamedTrees.{NamedTree}
+use Rattle.library_trees.specs.TreeRecords.NamedTrees.NamedElements.{no_more}
 use Rattle.library_trees.specs.Names.Attachments.{label_at}
 use Rattle.library_trees.specs.TreeRecords.TreeCircuits.{IsFlatNodeRecord}
 use Rattle.library_trees.proofs.NameClasses.FullNames.ListOrders.{Distinct-names, pairwise_names, same_in_order}

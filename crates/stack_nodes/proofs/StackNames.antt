@@ -6,8 +6,8 @@ use Rattle.tech_model.specs.GeoCore.Images.{identity}
 use Rattle.tech_model.specs.declared.raw.RawTech.{RawTech}
 use Rattle.tech_model.specs.Rules.{HaveOwnSets}
 use Rattle.tech_model.specs.WellFormed.{IsWellFormed}
-use Rattle.cell_library.specs.LowerLayoutTrees.LayoutModel.Layouts.{IsMaterial}
-use Rattle.cell_library.specs.LowerLayoutTrees.LayoutModel.Places.{Place}
+use Rattle.cell_library.specs.LayoutModel.Layouts.{IsMaterial}
+use Rattle.cell_library.specs.LayoutModel.Places.{Place}
 use Rattle.ext_model.specs.ElementNames.{indexed_name}
 use Rattle.ext_model.specs.NodeNames.{is_global, slashes_in}
 use Rattle.ext_model.specs.Paths.{full_name, path_text}
@@ -15,8 +15,8 @@ use Rattle.ext_model.specs.TextScan.Decimal.{decimal, natural_text}
 use Rattle.ext_model.proofs.PathNames.{last_name-path_text}
 use Rattle.layout_gen.specs.Generated.{row_grid, stack_grid, tile_name}
 use Rattle.library_trees.specs.ElementNames.{use_elements}
-use Rattle.library_trees.specs.NamedTrees.FlatLayouts.{HasNodePath, HasNodePathBelow, HasOwnName, IsFlatName, flat_layout}
-use Rattle.library_trees.specs.NamedTrees.NamedTrees.{named_elements_in}
+use Rattle.library_trees.specs.TreeRecords.FlatLayouts.{HasNodePath, HasNodePathBelow, HasOwnName, IsFlatName, flat_layout}
+use Rattle.library_trees.specs.TreeRecords.NamedTrees.{named_elements_in}
 use Rattle.stack_runs.specs.StackVectors.{column_name, row_name}
 use Rattle.stack_nodes.proofs.Arrays.{path_through}
 use Rattle.stack_nodes.proofs.StackElements.{in_row, in_stack, row_back, row_element, row_named, row_there, tile_back, tile_element, tile_named, tile_there}

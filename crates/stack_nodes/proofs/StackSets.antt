@@ -15,18 +15,18 @@ use Rattle.tech_model.proofs.GeoCore.CoveringLaws.{Covers-is_covered, is_covered
 use Rattle.tech_model.proofs.GeoCore.FiniteSets.Orders.{less_equal_or_greater}
 use Rattle.tech_model.proofs.JoinedLaws.{joined-found, joined-type}
 use Rattle.tech_model.proofs.SetLaws.{set_not_empty}
-use Rattle.cell_library.specs.LowerLayoutTrees.CellTrees.{place_back}
-use Rattle.cell_library.specs.LowerLayoutTrees.FlatSets.{flat_sets}
-use Rattle.cell_library.specs.LowerLayoutTrees.LayoutModel.LayerTypes.{or_space}
-use Rattle.cell_library.specs.LowerLayoutTrees.LayoutModel.Layouts.{IsMaterial}
-use Rattle.cell_library.specs.LowerLayoutTrees.LayoutModel.Places.{Place}
+use Rattle.cell_library.specs.LayoutModel.CellTrees.{place_back}
+use Rattle.cell_library.specs.LayoutModel.FlatSets.{flat_sets}
+use Rattle.cell_library.specs.LayoutModel.LayerTypes.{or_space}
+use Rattle.cell_library.specs.LayoutModel.Layouts.{IsMaterial}
+use Rattle.cell_library.specs.LayoutModel.Places.{Place}
 use Rattle.cell_library.specs.LayoutTrees.{element_transform}
 use Rattle.layout_gen.specs.Generated.{row_grid, stack_grid, tile_layout}
 use Rattle.layout_gen.proofs.Sizes.{area_to}
 use Rattle.library_trees.specs.ElementNames.{UseElement, use_elements}
-use Rattle.library_trees.specs.NamedTrees.FlatLayouts.{flat_layout}
-use Rattle.library_trees.specs.NamedTrees.NamedTrees.{layouts_of}
-use Rattle.library_trees.proofs.TreeNames.HierarchyModel.LayoutTrees.SetUnions.{none_union, union_none}
+use Rattle.library_trees.specs.TreeRecords.FlatLayouts.{flat_layout}
+use Rattle.library_trees.specs.TreeRecords.NamedTrees.{layouts_of}
+use Rattle.library_trees.proofs.TreeNames.HierarchyModel.LayoutModel.SetUnions.{none_union, union_none}
 use Rattle.stack_nodes.proofs.Arrays.{IsElementAt, element_place, moved, same_place, sets_at, sets_either, sets_one}
 use Rattle.stack_nodes.proofs.StackElements.{back_in_row, back_in_stack, in_row, in_stack, row_back, row_element, row_there, tile_back, tile_element}
 use Rattle.stack_nodes.proofs.StackElements.{tile_there}

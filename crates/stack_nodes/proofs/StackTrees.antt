@@ -9,9 +9,9 @@ use Rattle.cell_library.specs.Views.{CellView, LibraryView, no_cell, view_at}
 use Rattle.layout_gen.specs.Generated.{array_cell, no_paint, row_grid, row_name, stack_grid, stack_name, tile_cell, tile_name, with_generated}
 use Rattle.library_trees.specs.ElementNames.{use_elements}
 use Rattle.library_trees.specs.NamedCells.{body_of, named_elements_at, named_elements_from, named_tree_at, named_tree_to}
-use Rattle.library_trees.specs.NamedTrees.NamedTrees.{NamedTree, OwnBody}
-use Rattle.library_trees.specs.NamedTrees.NamedTrees.NamedTree.{named_tree}
-use Rattle.library_trees.specs.NamedTrees.NamedTrees.NamedElements.{no_more}
+use Rattle.library_trees.specs.TreeRecords.NamedTrees.{NamedTree, OwnBody}
+use Rattle.library_trees.specs.TreeRecords.NamedTrees.NamedTree.{named_tree}
+use Rattle.library_trees.specs.TreeRecords.NamedTrees.NamedElements.{no_more}
 use Rattle.stack_nodes.proofs.TileNodes.{tile_body}
 
 -- what a cell without paint and labels has of its own

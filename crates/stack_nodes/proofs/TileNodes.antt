@@ -14,14 +14,14 @@ use Rattle.tech_model.specs.Types.{image_on, images_of, is_within, layer_number,
 use Rattle.tech_model.specs.WellFormed.{IsWellFormed}
 use Rattle.tech_model.proofs.GeoCore.FiniteSets.Members.{In-get_or}
 use Rattle.tech_model.proofs.TypeLaws.{within_self}
-use Rattle.cell_library.specs.LowerLayoutTrees.LayoutModel.Layouts.{IsMaterial}
-use Rattle.cell_library.specs.LowerLayoutTrees.LayoutModel.Places.{Place}
+use Rattle.cell_library.specs.LayoutModel.Layouts.{IsMaterial}
+use Rattle.cell_library.specs.LayoutModel.Places.{Place}
 use Rattle.cell_paint.specs.Painting.{place_at}
 use Rattle.cell_paint.proofs.AgainLaws.{found_image}
 use Rattle.ext_model.specs.NodeNames.{is_naming_text}
 use Rattle.layout_gen.specs.Generated.{diff_label, poly_label, tile_labels, tile_layout}
-use Rattle.library_trees.specs.NamedTrees.FlatLayouts.{HasOwnName}
-use Rattle.library_trees.specs.NamedTrees.NamedTrees.{OwnBody}
+use Rattle.library_trees.specs.TreeRecords.FlatLayouts.{HasOwnName}
+use Rattle.library_trees.specs.TreeRecords.NamedTrees.{OwnBody}
 use Rattle.library_trees.specs.Names.Attachments.{HasText, IsFirstToAttach, Suits, label_at, touched}
 use Rattle.library_trees.specs.Names.NamedNodes.{AreOneNamedNode}
 use Rattle.library_trees.proofs.CellNodes.NodePlaces.{AreOneNamedNode-sym, material_along}

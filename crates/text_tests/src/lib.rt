@@ -1,8 +1,19 @@
-//! Tests of texts, lines, words, names and numbers, and of a text that is read up to its first faulty line: what a person would expect of
-//! each, in tables.
+//! Tests of the public calls that read and write texts: lines and words, sim files, ext files and scripts.
 #![tactic(auto)]
 
+#[cfg(test)]
+mod circuit_reading;
+#[cfg(test)]
+mod circuit_records;
+#[cfg(test)]
+mod circuit_texts;
 #[cfg(test)]
 mod last_lines;
 #[cfg(test)]
 mod scans;
+#[cfg(test)]
+mod script_texts;
+#[cfg(test)]
+mod sim_sizes;
+#[cfg(test)]
+mod sim_texts;

@@ -4,18 +4,18 @@ use Rattle.std.specs.Prelude.{Some}
 use Rattle.geo_core.specs.declared.transforms.Transform.{Transform}
 use Rattle.tech_model.specs.declared.raw.RawTech.{RawTech}
 use Rattle.layout_model.specs.Places.{Place}
-use Rattle.layout_trees.specs.CellTrees.{place_back}
+use Rattle.layout_model.specs.CellTrees.{place_back}
 use Rattle.ext_model.specs.Paths.{path_text}
 use Rattle.cell_tree.specs.declared.limits.TheConstants.{MOST_DEPTH}
 use Rattle.cell_tree.specs.Uses.{HasChild}
 use Rattle.cell_library.specs.Libraries.{LibraryParts, IsLawfulLibrary, seen}
 use Rattle.cell_library.specs.Views.{LibraryView, view_at}
 use Rattle.cell_library.proofs.LayoutTreeLaws.{children_are_cells}
-use Rattle.library_trees.specs.NamedTrees.MemberGroups.{IsGroupName}
-use Rattle.library_trees.specs.NamedTrees.NamedTrees.{NamedTree, NamedElements, named_elements_in, own_body}
-use Rattle.library_trees.specs.NamedTrees.NamedTrees.NamedTree.{named_tree}
-use Rattle.library_trees.specs.NamedTrees.NamedTrees.NamedElements.{no_more, element_then}
-use Rattle.record_groups.specs.GroupMeetings.Members.{IsMemberOfElement, IsMemberOfPart}
+use Rattle.library_trees.specs.TreeRecords.MemberGroups.{IsGroupName}
+use Rattle.library_trees.specs.TreeRecords.NamedTrees.{NamedTree, NamedElements, named_elements_in, own_body}
+use Rattle.library_trees.specs.TreeRecords.NamedTrees.NamedTree.{named_tree}
+use Rattle.library_trees.specs.TreeRecords.NamedTrees.NamedElements.{no_more, element_then}
+use Rattle.tile_members.specs.GroupMeetings.Members.{IsMemberOfElement, IsMemberOfPart}
 use Rattle.library_trees.specs.TreeNames.CleanTrees.{IsCleanTree}
 use Rattle.library_trees.proofs.TreeNames.CleanTrees.{AreCleanTrees, clean_below, clean_first, clean_rest}
 use Rattle.library_trees.specs.ElementNames.{UseElement, use_elements}

@@ -11,25 +11,25 @@ use Rattle.ext_model.specs.declared.arrays.ArrayExt.{ArrayExt}
 use Rattle.ext_model.specs.Paths.{path_text}
 use Rattle.ext_model.specs.Plain.{plain}
 use Rattle.ext_model.specs.Tables.{Table, ext_of}
-use Rattle.layout_trees.specs.CellTrees.{CellTree, Standing, place_back, standings, under}
+use Rattle.layout_model.specs.CellTrees.{CellTree, Standing, place_back, standings, under}
 use Rattle.cell_library.specs.LayoutTrees.{own_cell, tree_at}
 use Rattle.cell_library.specs.Libraries.{LibraryParts, IsLawfulLibrary, seen}
 use Rattle.cell_library.specs.Views.{view_at}
 use Rattle.cell_library.proofs.LayoutTreeLaws.{tree_unfolds}
 use Rattle.cell_library.proofs.PlacedRects.{back_on, identity_back}
-use Rattle.library_trees.specs.OwnRecords.FetRecords.{IsOfNode}
-use Rattle.library_trees.specs.NamedTrees.MemberGroups.{IsGroupName}
-use Rattle.library_trees.specs.NamedTrees.NamedTrees.{NamedTree}
-use Rattle.record_groups.specs.GroupMeetings.Members.{IsMemberOfPart}
-use Rattle.record_groups.proofs.GroupMeetings.PartMembers.{member_at_part}
+use Rattle.library_trees.specs.TreeRecords.FetRecords.{IsOfNode}
+use Rattle.library_trees.specs.TreeRecords.MemberGroups.{IsGroupName}
+use Rattle.library_trees.specs.TreeRecords.NamedTrees.{NamedTree}
+use Rattle.tile_members.specs.GroupMeetings.Members.{IsMemberOfPart}
+use Rattle.tile_members.proofs.GroupMeetings.PartMembers.{member_at_part}
 use Rattle.library_trees.specs.NamedCells.{named_tree_at}
 use Rattle.library_trees.proofs.LayoutLaws.{layouts_of_cell}
 use Rattle.library_trees.proofs.WholeTrees.{named_tree_unfolds}
-use Rattle.kept_records.specs.KeptRecords.{HasKeptRecord}
+use Rattle.library_trees.specs.KeptRecords.{HasKeptRecord}
 use Rattle.element_paths.specs.declared.steps.Step.{Step}
 use Rattle.element_paths.specs.ElementPaths.{AreStepsTo, LeadsDown, NamedElement}
-use Rattle.record_groups.specs.Laws.{RecordsTellGroups}
-use Rattle.record_groups.specs.MergedMembers.{first_member}
+use Rattle.tile_members.specs.GroupLaws.{RecordsTellGroups}
+use Rattle.tile_members.specs.MergedMembers.{first_member}
 use Rattle.tile_members.specs.Finding.{HasMembers}
 use Rattle.tile_members.specs.MemberNames.{LeadsToMember, kept_in}
 use Rattle.tile_members.proofs.ChildCells.{IsChildOf, clean_element, element_child, element_member}

@@ -11,18 +11,18 @@ use Rattle.geo_core.specs.declared.transforms.Transform.{Transform}
 use Rattle.ext_model.specs.declared.records.NodeRec.{NodeRec}
 use Rattle.ext_model.specs.Tables.{Table}
 use Rattle.tech_model.specs.declared.raw.RawTech.{RawTech}
-use Rattle.layout_trees.specs.CellTrees.{CellTree, Standing, place_back, standings}
+use Rattle.layout_model.specs.CellTrees.{CellTree, Standing, place_back, standings}
 use Rattle.cell_library.specs.declared.part_tiles.PartTile.{PartTile}
 use Rattle.cell_library.specs.LayoutTrees.{tree_at}
 use Rattle.cell_library.specs.Libraries.{LibraryParts, IsLawfulLibrary, seen}
 use Rattle.cell_library.specs.PartTiles.{IsPartTileIn}
 use Rattle.cell_library.specs.Views.{view_at}
-use Rattle.library_trees.specs.OwnRecords.FetRecords.{IsOfNode}
-use Rattle.library_trees.specs.NamedTrees.NamedTrees.{NamedTree, layouts_of}
-use Rattle.record_groups.specs.GroupMeetings.Members.{IsMemberOfPart}
+use Rattle.library_trees.specs.TreeRecords.FetRecords.{IsOfNode}
+use Rattle.library_trees.specs.TreeRecords.NamedTrees.{NamedTree, layouts_of}
+use Rattle.tile_members.specs.GroupMeetings.Members.{IsMemberOfPart}
 use Rattle.library_trees.specs.NamedCells.{named_tree_at}
 use Rattle.library_trees.proofs.LayoutLaws.{layouts_of_cell}
-use Rattle.member_tiles.specs.Laws.{MembersHaveWholeTiles}
+use Rattle.tile_members.specs.TileLaws.{MembersHaveWholeTiles}
 use Rattle.tile_members.specs.declared.opened_cells.OpenedCell.{OpenedCell}
 use Rattle.tile_members.specs.declared.opened_cells.OpenedCells.{OpenedCells}
 use Rattle.tile_members.specs.Finding.{HasMembers}

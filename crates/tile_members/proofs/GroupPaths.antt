@@ -9,7 +9,7 @@ use Rattle.ext_model.specs.declared.tables.CellKey.{CellKey}
 use Rattle.ext_model.specs.Paths.{path_text}
 use Rattle.ext_model.specs.Plain.{plain}
 use Rattle.ext_model.specs.Tables.{Table, ext_of}
-use Rattle.record_groups.specs.MergedMembers.{first_member}
+use Rattle.tile_members.specs.MergedMembers.{first_member}
 use Rattle.tile_members.specs.MemberNames.{AreMergesOf, kept_in}
 
 -- the path of the first member, by merges that are kept, is that by the record that is kept

@@ -1,3 +1,10 @@
+-- what crates above name of those below
+pub use Rattle.group_meetings.proofs as GroupMeetings
+mod StandingTypes
+mod WholeTiles
+mod MergeFinds
+mod GroupFirsts
+mod RecordedGroups
 mod ListPlaces
 mod NewNames
 mod StandingCells

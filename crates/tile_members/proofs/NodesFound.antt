@@ -16,7 +16,7 @@ use Rattle.layout_model.specs.Places.{Place, IsNoLater}
 use Rattle.layout_model.specs.RegionTiles.{IsInRegion}
 use Rattle.names.specs.NamedNodes.{AreOneNamedNode}
 use Rattle.cell_nodes.proofs.NodePlaces.{AreOneNamedNode-sym}
-use Rattle.layout_trees.specs.CellTrees.{place_back}
+use Rattle.layout_model.specs.CellTrees.{place_back}
 use Rattle.cell_library.specs.declared.part_tiles.PartTile.{PartTile}
 use Rattle.cell_library.specs.Libraries.{LibraryParts, seen}
 use Rattle.cell_library.specs.Views.{LibraryView, view_at}

@@ -7,7 +7,7 @@ use Rattle.finite_sets.proofs.Places.{In-slice_get}
 use Rattle.geo_core.specs.declared.transforms.Transform.{Transform}
 use Rattle.geo_core.specs.Images.{composed, identity}
 use Rattle.geo_core.specs.Reach.{MovesInReach}
-use Rattle.layout_trees.specs.CellTrees.{CellTree, Elements, Standing, standings}
+use Rattle.layout_model.specs.CellTrees.{CellTree, Elements, Standing, standings}
 use Rattle.cell_tree.specs.declared.limits.TheConstants.{MOST_DEPTH}
 use Rattle.cell_tree.specs.declared.use_tables.UseBody.{UseBody}
 use Rattle.cell_tree.specs.Trees.{cell_at}

@@ -14,7 +14,7 @@ use Rattle.geo_core.specs.Reach.{LiesInReach, MovesInReach}
 use Rattle.geo_core.proofs.CoveringLaws.{corner_covered}
 use Rattle.layout_model.specs.Layouts.{Layout, IsMaterial}
 use Rattle.layout_model.specs.Places.{Place}
-use Rattle.layout_trees.specs.CellTrees.{Standing, place_back, standings}
+use Rattle.layout_model.specs.CellTrees.{Standing, place_back, standings}
 use Rattle.cell_tree.specs.declared.limits.TheConstants.{MOST_DEPTH}
 use Rattle.cell_tree.specs.Hulls.{SpansInRange}
 use Rattle.cell_library.specs.declared.part_tiles.PartTile.{PartTile}
@@ -27,7 +27,7 @@ use Rattle.cell_library.proofs.PlacedCells.{placed_has, standings_placed}
 use Rattle.cell_library.proofs.PlacedRects.{identity_back}
 use Rattle.cell_library.proofs.ToldTiles.{cut_type}
 use Rattle.cell_library.proofs.VisitLaws.{hull_spans}
-use Rattle.member_tiles.specs.Laws.{LiesInPartTile}
+use Rattle.tile_members.specs.TileLaws.{LiesInPartTile}
 use Rattle.tile_members.specs.OpenedCells.{HasOwnCorner, corner_place}
 use Rattle.tile_members.specs.TileMembers.{IsPartTile}
 use Rattle.tile_members.proofs.StandingCells.{standing_cells}

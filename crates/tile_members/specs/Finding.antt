@@ -2,7 +2,7 @@
 use Rattle.std.specs.Prelude.{◌≡◌, ◌<◌, ℕ, length}
 use Rattle.ext_model.specs.Tables.{Table}
 use Rattle.cell_library.specs.Libraries.{LibraryParts, seen}
-use Rattle.kept_records.specs.KeptRecords.{HaveKeptRecordsBelow}
+use Rattle.library_trees.specs.KeptRecords.{HaveKeptRecordsBelow}
 use Rattle.library_trees.specs.NamedCells.{named_tree_at}
 use Rattle.library_trees.specs.TreeNames.CleanTrees.{IsCleanTree}
 use Rattle.tile_members.specs.declared.finding.MemberFinder.{MemberFinder}

@@ -2,7 +2,7 @@
 use Rattle.std.specs.Prelude.{◌≡◌, ◌⊎◌, ◌&&◌, ℕ, nat_eq, Bool, List, [], ◌∷◌, ◌++◌, length, Some, slice_get}
 use Rattle.std.specs.HashMap.{get}
 use Rattle.ext_model.specs.declared.records.NodeRec.{NodeRec}
-use Rattle.layout_trees.specs.CellTrees.{Standing, standings}
+use Rattle.layout_model.specs.CellTrees.{Standing, standings}
 use Rattle.cell_library.specs.LayoutTrees.{tree_at}
 use Rattle.cell_library.specs.Views.{LibraryView}
 use Rattle.tile_members.specs.declared.known_members.KnownMembers.{KnownMembers}

@@ -1,3 +1,9 @@
+-- what crates above name of those below
+pub use Rattle.group_meetings.specs as GroupMeetings
+pub mod TileLaws
+pub mod MergedMembers
+pub mod MergeTables
+pub mod GroupLaws
 pub mod TileMembers
 pub mod OpenedCells
 pub mod MemberNames

@@ -10,11 +10,11 @@ use Rattle.layout_model.specs.Layouts.{IsMaterial}
 use Rattle.layout_model.specs.Places.{Place}
 use Rattle.layout_model.specs.RegionTiles.{AreLayoutTiles, LiesIn}
 use Rattle.cell_nodes.specs.RegionNodes.{AreNodesOfRegions}
-use Rattle.layout_trees.specs.CellTrees.{place_back}
+use Rattle.layout_model.specs.CellTrees.{place_back}
 use Rattle.cell_library.specs.declared.part_tiles.PartTile.{PartTile}
 use Rattle.cell_library.specs.Libraries.{LibraryParts, seen}
 use Rattle.cell_library.specs.Views.{LibraryView, view_at}
-use Rattle.library_trees.specs.OwnRecords.FetRecords.{IsOfNode}
+use Rattle.library_trees.specs.TreeRecords.FetRecords.{IsOfNode}
 use Rattle.tile_members.specs.declared.opened_cells.OpenedCell.{OpenedCell}
 use Rattle.tile_members.specs.declared.opened_cells.OpenedCells.{OpenedCells}
 

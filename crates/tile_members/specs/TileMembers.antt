@@ -4,12 +4,12 @@ use Rattle.finite_sets.specs.Lists.{In, Distinct}
 use Rattle.geo_core.specs.declared.squares.Rect.{Rect}
 use Rattle.tech_model.specs.declared.raw.RawTech.{RawTech}
 use Rattle.layout_model.specs.Places.{Place}
-use Rattle.layout_trees.specs.CellTrees.{CellTree}
+use Rattle.layout_model.specs.CellTrees.{CellTree}
 use Rattle.cell_library.specs.declared.part_tiles.PartTile.{PartTile}
 use Rattle.cell_library.specs.PartTiles.{IsPartTileIn}
-use Rattle.library_trees.specs.NamedTrees.NamedTrees.{NamedTree}
-use Rattle.record_groups.specs.GroupMeetings.Members.{IsMemberOfPart}
-use Rattle.member_tiles.specs.Laws.{LiesInPartTile}
+use Rattle.library_trees.specs.TreeRecords.NamedTrees.{NamedTree}
+use Rattle.tile_members.specs.GroupMeetings.Members.{IsMemberOfPart}
+use Rattle.tile_members.specs.TileLaws.{LiesInPartTile}
 
 -- The tile is a part tile of the cell, cut to some area.
 abbrev pub IsPartTile : CellTree → PartTile → Type 0

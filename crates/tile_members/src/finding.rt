@@ -11,10 +11,10 @@ ghost use Rattle.tile_members.specs.TileMembers.{HasTile, IsPartTile};
 
 use crate::known_members::KnownMembers;
 use crate::member_names::MemberNames;
+use crate::members_have_whole_tiles;
 use crate::opened_cells::OpenedCells;
 use cell_library::{Opened, PartTile, Reader};
 use ext_model::{CellKey, ExtTable};
-use member_tiles::members_have_whole_tiles;
 use names_lists::Name;
 use std::alloc::{AllocError, Global};
 use std::sync::ledger::Ledger;

@@ -5,12 +5,12 @@ ghost use Rattle.ext_model.specs.declared.arrays.ArrayExt.{ArrayExt as IsRecord}
 ghost use Rattle.ext_model.specs.Paths.{path_text};
 ghost use Rattle.ext_model.specs.Plain.{plain};
 ghost use Rattle.ext_model.specs.Tables.{ext_of};
-ghost use Rattle.record_groups.specs.MergedMembers.{first_member};
+ghost use Rattle.tile_members.specs.MergedMembers.{first_member};
 ghost use Rattle.tile_members.specs.MemberNames.{kept_in, AreGroupsOf};
 
+use crate::groups::RecordGroups;
 use element_paths::Step;
 use ext_model::{CellKey, ExtTable, SLASH};
-use record_groups::RecordGroups;
 use std::alloc::{AllocError, Global};
 use std::collections::HashMap;
 

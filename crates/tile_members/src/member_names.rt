@@ -1,6 +1,6 @@
 //! The names of members, by the nodes that are of them.
 ghost use Rattle.std.specs.Prelude.{◌≡◌, ◌<◌, [], ℕ, All, IfOk, IsSome, length};
-ghost use Rattle.layout_trees.specs.CellTrees.{standings};
+ghost use Rattle.layout_model.specs.CellTrees.{standings};
 ghost use Rattle.ext_model.specs.Tables.{ext_of};
 ghost use Rattle.cell_library.specs.LayoutTrees.{tree_at};
 ghost use Rattle.cell_library.specs.Libraries.{seen};
@@ -9,11 +9,11 @@ ghost use Rattle.tile_members.specs.Finding.{HasMembers};
 ghost use Rattle.tile_members.specs.MemberNames.{kept_in, AreGroupsOf, LeadsToMember};
 
 use crate::group_tables::GroupTable;
+use crate::records_tell_groups;
 use cell_library::Reader;
 use element_paths::{ElementPaths, Step};
 use ext_model::{CellKey, ExtTable};
 use names_lists::Name;
-use record_groups::records_tell_groups;
 use std::alloc::{AllocError, Global};
 
 /// Finds the names of members in a library of whose cells there are records.

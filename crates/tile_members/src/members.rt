@@ -5,7 +5,7 @@ ghost use Rattle.ext_model.specs.Tables.{ext_of};
 ghost use Rattle.cell_library.specs.LayoutTrees.{tree_at};
 ghost use Rattle.cell_library.specs.Libraries.{seen};
 ghost use Rattle.library_trees.specs.NamedCells.{named_tree_at};
-ghost use Rattle.kept_records.specs.KeptRecords.{HaveKeptRecordsBelow};
+ghost use Rattle.library_trees.specs.KeptRecords.{HaveKeptRecordsBelow};
 ghost use Rattle.tile_members.specs.TileMembers.{AreTileMembers, IsPartTile};
 
 use crate::finding::MemberFinder;

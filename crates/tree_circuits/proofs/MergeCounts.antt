@@ -18,22 +18,22 @@ use Rattle.ext_model.specs.declared.records.MergeRec.{MergeRec}
 use Rattle.ext_model.specs.declared.records.NodeRec.{NodeRec}
 use Rattle.layout_model.specs.Places.{Place}
 use Rattle.layout_model.specs.Technologies.{Class, rules_of}
-use Rattle.layout_trees.specs.CellTrees.{place_back}
+use Rattle.layout_model.specs.CellTrees.{place_back}
 use Rattle.circuit_model.specs.Elements.{ext_of}
-use Rattle.tree_sums.proofs.FullNames.ListOrders.{Distinct-names, not_before_itself, pairwise_names}
-use Rattle.tree_fets.specs.OwnRecords.FetRecords.{IsNameBefore}
-use Rattle.tree_sums.proofs.OwnRecordLaws.PreferredNames.{goes_by, in_some}
-use Rattle.tree_fets.specs.NamedTrees.MemberGroups.{IsMemberAt, IsMemberBelow}
-use Rattle.tree_fets.specs.NamedTrees.NamedTrees.{NamedTree, NamedElements}
-use Rattle.tree_fets.specs.NamedTrees.NamedTrees.NamedTree.{named_tree}
-use Rattle.tree_fets.specs.NamedTrees.NamedTrees.NamedElements.{no_more, element_then}
-use Rattle.tree_sums.specs.TreeRecords.Merges.{Adjustment, MemberGroup, IsMemberGroup, group_merges, group_name, is_zero_adjustment, merge_of, zero_adjustment}
-use Rattle.tree_sums.specs.TreeRecords.TreeRecords.{HasTreeRecord, HasTreeRecords, HaveTreeRecords}
-use Rattle.tree_sums.specs.TreeNames.CleanTrees.{IsCleanTree, depth_below, depth_of}
-use Rattle.tree_sums.proofs.TreeNames.CleanTrees.{AreCleanTrees, clean_below, clean_first, clean_rest}
-use Rattle.tree_sums.proofs.TreeNames.GroupNames.{group_name_along, members_together, one_group_name}
-use Rattle.tree_sums.proofs.TreeNames.GroupNodes.{group_back}
-use Rattle.tree_sums.proofs.GroupShares.{first_is_name}
+use Rattle.tree_circuits.proofs.FullNames.ListOrders.{Distinct-names, not_before_itself, pairwise_names}
+use Rattle.tree_circuits.specs.TreeRecords.FetRecords.{IsNameBefore}
+use Rattle.tree_circuits.proofs.OwnRecordLaws.PreferredNames.{goes_by, in_some}
+use Rattle.tree_circuits.specs.TreeRecords.MemberGroups.{IsMemberAt, IsMemberBelow}
+use Rattle.tree_circuits.specs.TreeRecords.NamedTrees.{NamedTree, NamedElements}
+use Rattle.tree_circuits.specs.TreeRecords.NamedTrees.NamedTree.{named_tree}
+use Rattle.tree_circuits.specs.TreeRecords.NamedTrees.NamedElements.{no_more, element_then}
+use Rattle.tree_circuits.specs.TreeRecords.Merges.{Adjustment, MemberGroup, IsMemberGroup, group_merges, group_name, is_zero_adjustment, merge_of, zero_adjustment}
+use Rattle.tree_circuits.specs.TreeRecords.TreeRecords.{HasTreeRecord, HasTreeRecords, HaveTreeRecords}
+use Rattle.tree_circuits.specs.TreeNames.CleanTrees.{IsCleanTree, depth_below, depth_of}
+use Rattle.tree_circuits.proofs.TreeNames.CleanTrees.{AreCleanTrees, clean_below, clean_first, clean_rest}
+use Rattle.tree_circuits.proofs.TreeNames.GroupNames.{group_name_along, members_together, one_group_name}
+use Rattle.tree_circuits.proofs.TreeNames.GroupNodes.{group_back}
+use Rattle.tree_circuits.proofs.GroupShares.{first_is_name}
 use Rattle.tree_circuits.proofs.MergePaths.{name_member}
 use Rattle.tree_circuits.proofs.RecordCounts.{found_count, found_names, node_paths, node_paths_below, nodes_in, path_count, tree_count, tree_count_below}
 

@@ -22,24 +22,24 @@ use Rattle.ext_model.specs.NodeNames.{slashes_in}
 use Rattle.ext_model.specs.RecordNames.{names_of, node_names}
 use Rattle.layout_model.specs.Places.{Place}
 use Rattle.layout_model.specs.Technologies.{rules_of}
-use Rattle.layout_trees.specs.CellTrees.{place_back}
+use Rattle.layout_model.specs.CellTrees.{place_back}
 use Rattle.circuit_model.specs.declared.faults.FlatFault.{FlatFault}
 use Rattle.circuit_model.specs.declared.faults.FlatFault.TheVariants.{NoPath}
 use Rattle.circuit_model.specs.Elements.{ext_of}
 use Rattle.circuit_model.specs.Refusals.{first_fault, leads, merge_fault, path_fault}
-use Rattle.tree_sums.proofs.NameClasses.PathLaws.{leads-name, leads-use}
-use Rattle.tree_sums.proofs.OwnRecordLaws.PreferredNames.{goes_by, in_some}
-use Rattle.tree_fets.specs.NamedTrees.MemberGroups.{IsGroupName, IsMemberAt, IsMemberBelow}
-use Rattle.tree_fets.specs.NamedTrees.NamedTrees.{NamedTree, NamedElements, NamedStanding, named_above, named_standings, named_standings_below, own_body}
-use Rattle.tree_fets.specs.NamedTrees.NamedTrees.NamedTree.{named_tree}
-use Rattle.tree_fets.specs.NamedTrees.NamedTrees.NamedElements.{no_more, element_then}
-use Rattle.tree_sums.specs.TreeRecords.Merges.{group_merges}
-use Rattle.tree_sums.specs.TreeRecords.TreeRecords.{HasTreeRecords, HaveTreeRecords, use_records}
-use Rattle.tree_sums.specs.TreeNames.CleanTrees.{IsCleanTree, ids_in}
-use Rattle.tree_sums.proofs.TreeNames.CleanTrees.{AreCleanTrees, clean_below, clean_first, clean_rest}
-use Rattle.tree_sums.proofs.TreeNames.GroupMerges.{merge_members}
-use Rattle.tree_sums.proofs.TreeNames.OwnNames.{goes_by_own, own_name_whole}
-use Rattle.tree_sums.proofs.TreeNames.TreeElements.{record_is, top_record}
+use Rattle.tree_circuits.proofs.NameClasses.PathLaws.{leads-name, leads-use}
+use Rattle.tree_circuits.proofs.OwnRecordLaws.PreferredNames.{goes_by, in_some}
+use Rattle.tree_circuits.specs.TreeRecords.MemberGroups.{IsGroupName, IsMemberAt, IsMemberBelow}
+use Rattle.tree_circuits.specs.TreeRecords.NamedTrees.{NamedTree, NamedElements, NamedStanding, named_above, named_standings, named_standings_below, own_body}
+use Rattle.tree_circuits.specs.TreeRecords.NamedTrees.NamedTree.{named_tree}
+use Rattle.tree_circuits.specs.TreeRecords.NamedTrees.NamedElements.{no_more, element_then}
+use Rattle.tree_circuits.specs.TreeRecords.Merges.{group_merges}
+use Rattle.tree_circuits.specs.TreeRecords.TreeRecords.{HasTreeRecords, HaveTreeRecords, use_records}
+use Rattle.tree_circuits.specs.TreeNames.CleanTrees.{IsCleanTree, ids_in}
+use Rattle.tree_circuits.proofs.TreeNames.CleanTrees.{AreCleanTrees, clean_below, clean_first, clean_rest}
+use Rattle.tree_circuits.proofs.TreeNames.GroupMerges.{merge_members}
+use Rattle.tree_circuits.proofs.TreeNames.OwnNames.{goes_by_own, own_name_whole}
+use Rattle.tree_circuits.proofs.TreeNames.TreeElements.{record_is, top_record}
 
 -- a group has the member that it is named by
 pub name_member : (raw : RawTech) (tree : NamedTree) (place : Place) (name : List ℕ) → IsGroupName raw tree place name

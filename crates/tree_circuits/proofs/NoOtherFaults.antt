@@ -4,7 +4,7 @@ use Rattle.std.proofs.Common.{◌≡◌, ◌⊎◌, ◌≤◌, ℕ, Bool, true, 
 use Rattle.std.proofs.Common.{arith, eq-eqb, suc}
 use Rattle.std.specs.Option.{option_or}
 use Rattle.std.proofs.lemmas.Bool.Decides.{nat_tests}
-use Rattle.tree_fets.proofs.ElementTree.Counting.{within_limit}
+use Rattle.tree_circuits.proofs.ElementTree.Counting.{within_limit}
 use Rattle.finite_sets.proofs.Firsts.{first_some-none}
 use Rattle.finite_sets.proofs.OneForOne.{AreOneForOne-source, AreOneForOne-length}
 use Rattle.circuit_model.specs.declared.faults.FlatFault.{FlatFault}
@@ -13,9 +13,9 @@ use Rattle.circuit_model.specs.declared.limits.CircuitLimit.TheVariants.{Depth, 
 use Rattle.circuit_model.specs.declared.limits.TheConstants.{LONGEST_CHAIN, MOST_FLAT_ELEMENTS, MOST_MERGES, MOST_NAME_BYTES, MOST_NODES}
 use Rattle.circuit_model.specs.Elements.{elements_of}
 use Rattle.circuit_model.specs.Refusals.{chain_length, class_fault, element_fault, first_fault, merge_count, name_bytes, node_count}
-use Rattle.tree_fets.specs.NamedTrees.NamedTrees.{named_standings}
-use Rattle.tree_sums.specs.TreeNames.TreeElements.{IsElementFor}
-use Rattle.tree_sums.proofs.TreeNames.TreeElements.{elements_for, record_is, top_record}
+use Rattle.tree_circuits.specs.TreeRecords.NamedTrees.{named_standings}
+use Rattle.tree_circuits.specs.TreeNames.TreeElements.{IsElementFor}
+use Rattle.tree_circuits.proofs.TreeNames.TreeElements.{elements_for, record_is, top_record}
 use Rattle.tree_circuits.specs.Laws.{TreeRecordsHaveNoOtherFault}
 use Rattle.tree_circuits.proofs.MergeCounts.{merges_in, merges_within}
 use Rattle.tree_circuits.proofs.MergePaths.{no_merges_fault}

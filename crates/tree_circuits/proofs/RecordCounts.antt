@@ -10,10 +10,10 @@ use Rattle.ext_model.specs.Paths.{path_text}
 use Rattle.ext_model.specs.declared.records.CellExt.{CellExt}
 use Rattle.ext_model.specs.declared.records.NodeRec.{NodeRec}
 use Rattle.circuit_model.specs.Elements.{Element, ext_of}
-use Rattle.tree_fets.specs.NamedTrees.NamedTrees.{NamedTree, NamedElements, NamedStanding, named_above, named_standings, named_standings_below}
-use Rattle.tree_fets.specs.NamedTrees.NamedTrees.NamedTree.{named_tree}
-use Rattle.tree_fets.specs.NamedTrees.NamedTrees.NamedElements.{no_more, element_then}
-use Rattle.tree_sums.specs.TreeNames.TreeElements.{IsElementFor}
+use Rattle.tree_circuits.specs.TreeRecords.NamedTrees.{NamedTree, NamedElements, NamedStanding, named_above, named_standings, named_standings_below}
+use Rattle.tree_circuits.specs.TreeRecords.NamedTrees.NamedTree.{named_tree}
+use Rattle.tree_circuits.specs.TreeRecords.NamedTrees.NamedElements.{no_more, element_then}
+use Rattle.tree_circuits.specs.TreeNames.TreeElements.{IsElementFor}
 
 -- how many of something a record has, if one is found
 abbrev pub found_count : (CellExt → ℕ) → Option CellExt → ℕ

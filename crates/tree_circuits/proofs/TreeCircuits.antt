@@ -1,9 +1,9 @@
 -- The circuit that the records of a tree mean is that of the flat layout.
 use Rattle.std.proofs.Common.{◌∙◌, length}
 use Rattle.circuit_model.specs.Elements.{elements_of}
-use Rattle.tree_sums.proofs.TreeNames.TreeElements.{elements_for, record_is, top_record}
-use Rattle.tree_fets.proofs.RecordFets.{fets_of_records}
-use Rattle.tree_sums.proofs.FlatNodes.{flat_nodes_are}
+use Rattle.tree_circuits.proofs.TreeNames.TreeElements.{elements_for, record_is, top_record}
+use Rattle.tree_circuits.proofs.RecordFets.{fets_of_records}
+use Rattle.tree_circuits.proofs.FlatNodes.{flat_nodes_are}
 use Rattle.tree_circuits.specs.Laws.{RecordsStandForTheFlatLayout}
 
 -- the nodes and the transistors are those of the flat layout, and the technology and the classes are the layout's

@@ -16,12 +16,12 @@ use Rattle.circuit_model.specs.declared.faults.FlatFault.TheVariants.{NoCell, Cy
 use Rattle.circuit_model.specs.Elements.{ext_of}
 use Rattle.circuit_model.specs.FlatNodes.{is_among}
 use Rattle.circuit_model.specs.Refusals.{chain_length, first_fault, greatest, use_fault, walk_fault}
-use Rattle.tree_fets.specs.NamedTrees.NamedTrees.{NamedTree, NamedElements, own_body}
-use Rattle.tree_fets.specs.NamedTrees.NamedTrees.NamedTree.{named_tree}
-use Rattle.tree_fets.specs.NamedTrees.NamedTrees.NamedElements.{no_more, element_then}
-use Rattle.tree_sums.specs.TreeRecords.TreeRecords.{HasTreeRecords, HaveTreeRecords, use_records}
-use Rattle.tree_sums.specs.TreeNames.CleanTrees.{depth_below, depth_of}
-use Rattle.tree_sums.proofs.TreeNames.TreeElements.{one_record, record_is, top_record}
+use Rattle.tree_circuits.specs.TreeRecords.NamedTrees.{NamedTree, NamedElements, own_body}
+use Rattle.tree_circuits.specs.TreeRecords.NamedTrees.NamedTree.{named_tree}
+use Rattle.tree_circuits.specs.TreeRecords.NamedTrees.NamedElements.{no_more, element_then}
+use Rattle.tree_circuits.specs.TreeRecords.TreeRecords.{HasTreeRecords, HaveTreeRecords, use_records}
+use Rattle.tree_circuits.specs.TreeNames.CleanTrees.{depth_below, depth_of}
+use Rattle.tree_circuits.proofs.TreeNames.TreeElements.{one_record, record_is, top_record}
 
 -- the cell of the first use
 abbrev first_cell : List UseRec → List ℕ

@@ -12,10 +12,10 @@ use Rattle.circuit_model.specs.declared.limits.TheConstants.{LONGEST_CHAIN, MOST
 use Rattle.circuit_model.specs.Circuits.{IsMeaning}
 use Rattle.circuit_model.specs.Elements.{ext_of}
 use Rattle.circuit_model.specs.Refusals.{IsFlatFaultOf}
-use Rattle.tree_fets.specs.NamedTrees.NamedTrees.{NamedTree, named_standings, own_body}
-use Rattle.tree_sums.specs.TreeRecords.TreeCircuits.{IsFlatCircuit}
-use Rattle.tree_sums.specs.TreeRecords.TreeRecords.{HasTreeRecords}
-use Rattle.tree_sums.specs.TreeNames.CleanTrees.{IsCleanTree, depth_of}
+use Rattle.tree_circuits.specs.TreeRecords.NamedTrees.{NamedTree, named_standings, own_body}
+use Rattle.tree_circuits.specs.TreeRecords.TreeCircuits.{IsFlatCircuit}
+use Rattle.tree_circuits.specs.TreeRecords.TreeRecords.{HasTreeRecords}
+use Rattle.tree_circuits.specs.TreeNames.CleanTrees.{IsCleanTree, depth_of}
 
 -- the circuit that the records of a clean cell and of all below it mean is that of its flat layout
 abbrev pub RecordsStandForTheFlatLayout : Type 0

@@ -9,14 +9,14 @@ use Rattle.tech_model.specs.Rules.{KeepsRules}
 use Rattle.tech_model.specs.WellFormed.{IsWellFormed}
 use Rattle.layout_model.specs.Layouts.{IsMaterial, Layout}
 use Rattle.layout_model.specs.Places.{Place}
-use Rattle.layout_trees.specs.CellTrees.{CellTree}
-use Rattle.layout_trees.specs.FlatSets.{parts_in}
+use Rattle.layout_model.specs.CellTrees.{CellTree}
+use Rattle.layout_model.specs.FlatSets.{parts_in}
 use Rattle.ext_model.specs.declared.records.MergeRec.{MergeRec}
 use Rattle.ext_model.specs.declared.records.NodeRec.{NodeRec}
 use Rattle.group_meetings.specs.CellNodes.NodeRecords.{AreNodeRecords}
 use Rattle.flood_nodes.specs.declared.found.Regions.{Regions}
 use Rattle.hierarchy_model.specs.CleanCells.{IsClean}
-use Rattle.meeting_sums.specs.NamedTrees.NamedTrees.{NamedTree, OwnBody, layouts_of, own_body}
+use Rattle.meeting_sums.specs.TreeRecords.NamedTrees.{NamedTree, OwnBody, layouts_of, own_body}
 use Rattle.meeting_sums.specs.TreeRecords.Merges.{AreGroupMerges}
 use Rattle.group_meetings.specs.TreeNames.CleanTrees.{IsCleanTree}
 use Rattle.meeting_sums.specs.LowerMeetingLaws.PartLayouts.{HoldsAllMeetings, Passes}
@@ -32,13 +32,13 @@ use Rattle.cell_library.specs.Views.{LibraryView, view_at}
 use Rattle.cell_library.proofs.ElementCounts.{few_elements, part_count}
 use Rattle.cell_library.proofs.ViewLaws.{state_there}
 use Rattle.library_trees.specs.NamedCells.{named_tree_at, own_body_of}
-use Rattle.kept_records.specs.KeptRecords.{HaveKeptRecordsBelow, KeptRecords}
-use Rattle.kept_records.specs.Laws.{KeptRecordsAreOfTheTree}
+use Rattle.library_trees.specs.KeptRecords.{HaveKeptRecordsBelow, KeptRecords}
+use Rattle.library_trees.specs.RecordLaws.{KeptRecordsAreOfTheTree}
 use Rattle.hier_merge.specs.declared.meetings.Meeting.{Meeting}
 use Rattle.hier_merge.specs.MeetingPieces.{AreMeetingPieces}
 use Rattle.meeting_sums.specs.declared.limits.TheConstants.{MOST_PARTS}
-use Rattle.piece_groups.specs.PieceMembers.Laws.{AreMarkedPieces}
-use Rattle.piece_groups.specs.PieceMembers.MemberMarks.{AreMemberMarks}
+use Rattle.piece_groups.specs.MemberLaws.{AreMarkedPieces}
+use Rattle.piece_groups.specs.MemberMarks.{AreMemberMarks}
 use Rattle.piece_groups.specs.Laws.{HasRecordsBelow, MarkedGroupsAreRecorded}
 use Rattle.tile_members.specs.declared.members.TileMembers.{TileMembers}
 use Rattle.tile_members.specs.TileMembers.{AreTileMembers}

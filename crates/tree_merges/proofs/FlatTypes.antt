@@ -16,8 +16,8 @@ use Rattle.tech_model.specs.Types.{is_type, joined, parts_of, plane_of, type_num
 use Rattle.tech_model.proofs.JoinedLaws.{joined-found}
 use Rattle.tech_model.proofs.SetLaws.{or_bit_left, or_bit_right}
 use Rattle.layout_model.specs.Places.{Place}
-use Rattle.layout_trees.specs.CellTrees.{CellTree}
-use Rattle.layout_trees.specs.FlatSets.{parts_in}
+use Rattle.layout_model.specs.CellTrees.{CellTree}
+use Rattle.layout_model.specs.FlatSets.{parts_in}
 use Rattle.offences.specs.declared.plane_stacks.PlaneStack.{PlaneStack}
 use Rattle.offences.specs.Changes.{number_of}
 use Rattle.offences.specs.Offences.{Offends, SetLayout, flat_type, union_of}

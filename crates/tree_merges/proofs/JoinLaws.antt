@@ -7,7 +7,7 @@ use Rattle.std.specs.Prelude.{slice_index}
 use Rattle.partition.specs.Divides.{AddsPair, Divides, IsPair}
 use Rattle.layout_model.specs.declared.region_tiles.RegionTile.{RegionTile}
 use Rattle.offences.specs.declared.plane_stacks.PlaneStack.{PlaneStack}
-use Rattle.piece_groups.specs.PieceMembers.MemberMarks.{region_position}
+use Rattle.piece_groups.specs.MemberMarks.{region_position}
 use Rattle.tree_merges.specs.MemberPairs.{AddsPairs, pairs_from, piece_pairs}
 
 abbrev pub Pair : Type 0

@@ -9,13 +9,13 @@ use Rattle.finite_sets.proofs.Searches.{All-from_In, All-In}
 use Rattle.tech_model.specs.declared.raw.RawTech.{RawTech}
 use Rattle.layout_model.specs.declared.region_tiles.RegionTile.{RegionTile}
 use Rattle.layout_model.specs.RegionTiles.{regions_of}
-use Rattle.layout_trees.specs.CellTrees.{CellTree}
+use Rattle.layout_model.specs.CellTrees.{CellTree}
 use Rattle.flood_nodes.specs.declared.found.Regions.{Regions}
 use Rattle.offences.specs.declared.plane_stacks.PlaneStack.{PlaneStack}
 use Rattle.offences.specs.Offences.{SetLayout}
 use Rattle.offences.specs.PlaneStacks.{ArePlaneStacks}
 use Rattle.offences.specs.TypedStacks.{AreByPart}
-use Rattle.meeting_sums.specs.NamedTrees.NamedTrees.{NamedTree}
+use Rattle.meeting_sums.specs.TreeRecords.NamedTrees.{NamedTree}
 use Rattle.cell_library.specs.declared.part_tiles.PartTile.{PartTile}
 use Rattle.hier_merge.specs.declared.meetings.Meeting.{Meeting}
 use Rattle.hier_merge.specs.MeetingPieces.{AreMeetingPieces, HasCoveringTiles}
@@ -23,8 +23,8 @@ use Rattle.ext_model.specs.declared.records.MergeRec.{MergeRec}
 use Rattle.meeting_sums.specs.declared.limits.TheConstants.{MOST_PARTS}
 use Rattle.meeting_sums.specs.declared.sums.MeetingSum.{MeetingSum}
 use Rattle.meeting_sums.specs.Sums.{AreMeetingSums}
-use Rattle.group_merges.specs.MarkMerges.{AreMergesOfMarks}
-use Rattle.piece_groups.specs.PieceMembers.MemberMarks.{AreMemberMarks, mark_at}
+use Rattle.piece_groups.specs.MarkMerges.{AreMergesOfMarks}
+use Rattle.piece_groups.specs.MemberMarks.{AreMemberMarks, mark_at}
 use Rattle.piece_groups.specs.Laws.{piece_marks}
 use Rattle.tile_members.specs.declared.members.TileMembers.{TileMembers}
 use Rattle.tile_members.specs.TileMembers.{AreTileMembers}

@@ -7,12 +7,12 @@ use Rattle.geo_core.specs.Covering.{Covers}
 use Rattle.finite_sets.proofs.Members.{In-append_cases, In-append_left, In-append_right, In-get_or, In-index, In-map, In-map_source}
 use Rattle.finite_sets.proofs.Searches.{All-In}
 use Rattle.tech_model.specs.declared.raw.RawTech.{RawTech}
-use Rattle.layout_trees.specs.CellTrees.{CellTree}
+use Rattle.layout_model.specs.CellTrees.{CellTree}
 use Rattle.offences.specs.declared.plane_stacks.PlaneStack.{PlaneStack}
-use Rattle.meeting_sums.specs.NamedTrees.NamedTrees.{NamedTree}
+use Rattle.meeting_sums.specs.TreeRecords.NamedTrees.{NamedTree}
 use Rattle.hier_merge.specs.MeetingPieces.{AreMeetingPieces, CoversPiece, HasCoveringTiles}
 use Rattle.cell_library.specs.declared.part_tiles.PartTile.{PartTile}
-use Rattle.piece_groups.specs.PieceMembers.PieceMembers.{AreMembersInPieces, IsNumberedIn}
+use Rattle.piece_groups.specs.PieceMembers.{AreMembersInPieces, IsNumberedIn}
 use Rattle.tile_members.specs.TileMembers.{AreTileMembers}
 use Rattle.tree_merges.specs.MemberPairs.{member_pairs, pairs_from, piece_pairs}
 

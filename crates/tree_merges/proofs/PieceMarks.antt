@@ -9,7 +9,7 @@ use Rattle.layout_model.specs.declared.region_tiles.RegionTile.{RegionTile}
 use Rattle.layout_model.specs.RegionTiles.{regions_of}
 use Rattle.flood_nodes.specs.SoundTiles.{IsSoundTile}
 use Rattle.flood_nodes.specs.TileShares.{no_tile, tile_at}
-use Rattle.piece_groups.specs.PieceMembers.MemberMarks.{mark_at, region_position}
+use Rattle.piece_groups.specs.MemberMarks.{mark_at, region_position}
 
 -- the region of a tile, by its index
 pub region_at : (tiles : List RegionTile) (index : ℕ) → index < length tiles → slice_index (regions_of tiles) index ≡ (tile_at tiles index).region

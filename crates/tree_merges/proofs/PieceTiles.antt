@@ -23,7 +23,7 @@ use Rattle.offences.specs.Offences.{SetLayout}
 use Rattle.offences.specs.PlaneStacks.{ArePlaneStacks}
 use Rattle.offences.specs.TypedStacks.{no_typed_stack}
 use Rattle.meeting_sums.specs.StackTiles.{tile_of, tiles_of}
-use Rattle.piece_groups.specs.PieceMembers.PieceMembers.{LiesInPiece}
+use Rattle.piece_groups.specs.PieceMembers.{LiesInPiece}
 
 -- what holds of each piece as a tile holds of all tiles
 pub all_tiles : (P : RegionTile → Type 0) (stacks : List PlaneStack) → ((piece : PlaneStack) → In piece stacks → P (tile_of piece)) → All P (tiles_of stacks)

@@ -8,8 +8,8 @@ use Rattle.offences.specs.PlaneStacks.{ArePlaneStacks}
 use Rattle.hier_merge.specs.declared.meetings.Meeting.{Meeting}
 use Rattle.meeting_sums.specs.declared.sums.MeetingSum.{MeetingSum}
 use Rattle.meeting_sums.specs.Sums.{AreMeetingSums}
-use Rattle.group_merges.specs.MarkMerges.{AreMergesOfMarks}
-use Rattle.piece_groups.specs.PieceMembers.MemberMarks.{AreMemberMarks}
+use Rattle.piece_groups.specs.MarkMerges.{AreMergesOfMarks}
+use Rattle.piece_groups.specs.MemberMarks.{AreMemberMarks}
 use Rattle.piece_groups.specs.Laws.{piece_marks}
 use Rattle.tile_members.specs.declared.members.TileMembers.{TileMembers}
 use Rattle.tree_merges.specs.MemberPairs.{member_pairs}

@@ -4,7 +4,7 @@ use Rattle.ext_model.specs.declared.records.NodeRec.{NodeRec}
 use Rattle.ext_model.specs.Tables.{Table, ext_of}
 use Rattle.group_meetings.specs.CellNodes.NodeRecords.{AreNodeRecords}
 use Rattle.cell_library.specs.Views.{LibraryView, view_at}
-use Rattle.kept_records.specs.KeptRecords.{KeptRecords}
+use Rattle.library_trees.specs.KeptRecords.{KeptRecords}
 
 -- the record that a table has of each cell, by the position of the cell
 abbrev pub records_in : Table → KeptRecords

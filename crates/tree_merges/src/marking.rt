@@ -2,7 +2,7 @@
 ghost use Rattle.std.specs.Prelude.{◌≡◌, ◌+◌, ◌<◌, All, map, length, slice_index, IfOk};
 ghost use Rattle.std.specs.List.{range_with_len};
 ghost use Rattle.partition.specs.Marks.{IsNumbered};
-ghost use Rattle.piece_groups.specs.PieceMembers.MemberMarks.{AreMemberMarks, mark_at};
+ghost use Rattle.piece_groups.specs.MemberMarks.{AreMemberMarks, mark_at};
 ghost use Rattle.tree_merges.specs.MemberPairs.{AddsPairs, member_pairs};
 ghost use Rattle.tree_merges.specs.Pieces.{AreNumbered};
 

@@ -7,7 +7,7 @@ ghost use Rattle.hierarchy_model.specs.Laws.{KeepsWhatItHas};
 ghost use Rattle.cell_library.specs.Libraries.{seen};
 ghost use Rattle.cell_library.specs.LayoutTrees.{tree_at};
 ghost use Rattle.library_trees.specs.NamedCells.{named_tree_at};
-ghost use Rattle.kept_records.specs.KeptRecords.{HaveKeptRecordsBelow};
+ghost use Rattle.library_trees.specs.KeptRecords.{HaveKeptRecordsBelow};
 ghost use Rattle.meeting_sums.specs.TreeRecords.Merges.{AreGroupMerges};
 ghost use Rattle.hier_merge.specs.Interactions.{IsWork};
 ghost use Rattle.tree_merges.specs.Relations.{HasOwnNodes, records_in};

@@ -16,8 +16,8 @@ use Rattle.circuit_model.specs.Elements.{Element}
 use Rattle.circuit_model.specs.FlatNodes.{AreFlatNodes, IsFlatNode}
 use Rattle.circuit_model.specs.FullNames.{AreLinked, AreOneNode}
 use Rattle.name_classes.proofs.FullNames.ListOrders.{pairwise_names}
-use Rattle.tree_records.specs.NamedTrees.FlatLayouts.{HasNodePath, IsFlatName}
-use Rattle.tree_records.specs.NamedTrees.NamedTrees.{NamedTree, named_standings}
+use Rattle.tree_records.specs.FlatLayouts.{HasNodePath, IsFlatName}
+use Rattle.tree_records.specs.NamedTrees.{NamedTree, named_standings}
 use Rattle.tree_records.specs.TreeRecords.{HasTreeRecords}
 use Rattle.tree_names.specs.CircuitNodes.{IsNamedAsFlatNode, NameFlatNodes}
 use Rattle.tree_names.specs.CleanTrees.{IsCleanTree}

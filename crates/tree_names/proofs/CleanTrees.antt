@@ -2,11 +2,11 @@
 use Rattle.tech_model.specs.declared.raw.RawTech.{RawTech}
 use Rattle.geo_core.specs.declared.transforms.Transform.{Transform}
 use Rattle.std.proofs.Common.{ℕ, List}
-use Rattle.hierarchy_model.specs.LayoutTrees.FlatSets.{AreTyped}
+use Rattle.hierarchy_model.specs.LayoutModel.FlatSets.{AreTyped}
 use Rattle.hierarchy_model.specs.CleanCells.{AreClean}
-use Rattle.tree_records.specs.NamedTrees.NamedTrees.{NamedTree, NamedElements, OwnBody, layouts_below}
-use Rattle.tree_records.specs.NamedTrees.NamedTrees.NamedTree.{named_tree}
-use Rattle.tree_records.specs.NamedTrees.NamedTrees.NamedElements.{element_then}
+use Rattle.tree_records.specs.NamedTrees.{NamedTree, NamedElements, OwnBody, layouts_below}
+use Rattle.tree_records.specs.NamedTrees.NamedTree.{named_tree}
+use Rattle.tree_records.specs.NamedTrees.NamedElements.{element_then}
 use Rattle.tree_names.specs.CleanTrees.{HaveElementNames, IsCleanTree}
 
 -- The tree of each element is clean.

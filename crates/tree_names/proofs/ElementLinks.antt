@@ -12,7 +12,7 @@ use Rattle.ext_model.specs.RecordNames.{names_of}
 use Rattle.ext_model.proofs.PathNames.{last_name-behind}
 use Rattle.circuit_model.specs.Elements.{Element}
 use Rattle.circuit_model.specs.FullNames.{AreLinked, AreMerged, AreNamesOfOne, name_in}
-use Rattle.tree_records.specs.NamedTrees.NamedTrees.{NamedTree, NamedStanding, named_standings}
+use Rattle.tree_records.specs.NamedTrees.{NamedTree, NamedStanding, named_standings}
 use Rattle.tree_names.specs.PathLinks.{AreMergedIn, AreNamesOfNode, ArePathsJoined}
 use Rattle.tree_names.specs.TreeElements.{IsElementFor}
 use Rattle.tree_names.proofs.Standings.{joined_among, joined_there}

@@ -13,13 +13,13 @@ use Rattle.ext_model.specs.declared.records.CellExt.{CellExt}
 use Rattle.ext_model.specs.Paths.{full_name, path_text}
 use Rattle.ext_model.specs.RecordNames.{names_of, node_names}
 use Rattle.layout_model.specs.Places.{Place}
-use Rattle.hierarchy_model.specs.LayoutTrees.CellTrees.{place_back}
+use Rattle.hierarchy_model.specs.LayoutModel.CellTrees.{place_back}
 use Rattle.circuit_model.specs.Elements.{Element, ext_of}
 use Rattle.circuit_model.specs.FullNames.{AreOneNode, IsFullName, name_in}
-use Rattle.tree_records.specs.NamedTrees.FlatLayouts.{HasNodePath, HasNodePathBelow, IsFlatName}
-use Rattle.tree_records.specs.NamedTrees.NamedTrees.{NamedTree, NamedElements, NamedStanding, named_standings, named_standings_below, named_above}
-use Rattle.tree_records.specs.NamedTrees.NamedTrees.NamedTree.{named_tree}
-use Rattle.tree_records.specs.NamedTrees.NamedTrees.NamedElements.{no_more, element_then}
+use Rattle.tree_records.specs.FlatLayouts.{HasNodePath, HasNodePathBelow, IsFlatName}
+use Rattle.tree_records.specs.NamedTrees.{NamedTree, NamedElements, NamedStanding, named_standings, named_standings_below, named_above}
+use Rattle.tree_records.specs.NamedTrees.NamedTree.{named_tree}
+use Rattle.tree_records.specs.NamedTrees.NamedElements.{no_more, element_then}
 use Rattle.tree_records.specs.TreeRecords.{HasTreeRecords, HaveTreeRecords}
 use Rattle.tree_names.specs.CleanTrees.{IsCleanTree}
 use Rattle.tree_names.specs.TreeElements.{IsElementFor}

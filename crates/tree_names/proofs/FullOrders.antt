@@ -9,7 +9,7 @@ use Rattle.ext_model.proofs.PathOrders.{paths_keep_the_order}
 use Rattle.name_classes.specs.FullNames.OwnNames.{is_marked}
 use Rattle.name_classes.proofs.FullNames.ListOrders.{not_before_itself}
 use Rattle.name_classes.proofs.FullNames.NameForms.{global_before_path, is_global-mark, last_from_form}
-use Rattle.own_record_laws.specs.OwnRecords.FetRecords.{IsNameBefore, IsNoLaterName}
+use Rattle.own_record_laws.specs.TreeRecords.FetRecords.{IsNameBefore, IsNoLaterName}
 
 module _ (ids : List (List ℕ)) where
   -- the full name of a name of a node, by its mark

@@ -14,17 +14,17 @@ use Rattle.ext_model.specs.Paths.{last_name, path_text}
 use Rattle.ext_model.proofs.PathNames.{last_name-behind, last_name-whole}
 use Rattle.ext_model.proofs.RecordNameLaws.{slashes_in-node_name}
 use Rattle.layout_model.specs.Places.{Place}
-use Rattle.hierarchy_model.specs.LayoutTrees.CellTrees.{place_back}
+use Rattle.hierarchy_model.specs.LayoutModel.CellTrees.{place_back}
 use Rattle.own_record_laws.specs.Names.Attachments.{HasText, label_at}
 use Rattle.own_record_laws.specs.Names.GeneratedNames.{coordinate_text, generated_name}
 use Rattle.own_record_laws.proofs.Names.AttachLaws.{suits_material}
 use Rattle.own_record_laws.proofs.CellNodes.NodePlaces.{AreOneNamedNode-sym}
 use Rattle.own_record_laws.proofs.NodesByName.{ends_in-mark}
-use Rattle.tree_records.specs.NamedTrees.FlatLayouts.{AreOneFlatNode, HasOwnName, HasNodePath, HasNodePathBelow, HasTextBelow, HasTextSomewhere}
-use Rattle.tree_records.specs.NamedTrees.NamedTrees.{NamedTree, NamedElements, OwnBody, place_forth}
-use Rattle.tree_records.specs.NamedTrees.NamedTrees.NamedTree.{named_tree}
-use Rattle.tree_records.specs.NamedTrees.NamedTrees.NamedElements.{no_more, element_then}
-use Rattle.tree_records.proofs.NamedTrees.MoveLaws.{above_from_back}
+use Rattle.tree_records.specs.FlatLayouts.{AreOneFlatNode, HasOwnName, HasNodePath, HasNodePathBelow, HasTextBelow, HasTextSomewhere}
+use Rattle.tree_records.specs.NamedTrees.{NamedTree, NamedElements, OwnBody, place_forth}
+use Rattle.tree_records.specs.NamedTrees.NamedTree.{named_tree}
+use Rattle.tree_records.specs.NamedTrees.NamedElements.{no_more, element_then}
+use Rattle.tree_records.proofs.MoveLaws.{above_from_back}
 use Rattle.tree_records.specs.TreeRecords.{HasTreeRecords, HaveTreeRecords}
 use Rattle.tree_names.specs.CleanTrees.{IsCleanTree}
 use Rattle.tree_names.proofs.CleanTrees.{AreCleanTrees, clean_below, clean_first, clean_rest}

@@ -12,10 +12,10 @@ use Rattle.ext_model.specs.declared.records.MergeRec.{MergeRec}
 use Rattle.layout_model.specs.Layouts.{IsMaterial}
 use Rattle.layout_model.specs.Places.{Place}
 use Rattle.layout_model.specs.Technologies.{Class, rules_of}
-use Rattle.tree_records.specs.NamedTrees.FlatLayouts.{flat_layout}
-use Rattle.tree_records.specs.NamedTrees.MemberGroups.{IsGroupName, IsMemberAt}
-use Rattle.tree_records.specs.NamedTrees.NamedTrees.{NamedTree}
-use Rattle.tree_records.specs.NamedTrees.NamedTrees.NamedTree.{named_tree}
+use Rattle.tree_records.specs.FlatLayouts.{flat_layout}
+use Rattle.tree_records.specs.MemberGroups.{IsGroupName, IsMemberAt}
+use Rattle.tree_records.specs.NamedTrees.{NamedTree}
+use Rattle.tree_records.specs.NamedTrees.NamedTree.{named_tree}
 use Rattle.tree_records.specs.Merges.{Adjustment, MemberGroup, group_name, merge_of, group_merges, zero_adjustment}
 use Rattle.tree_records.specs.TreeRecords.{HasTreeRecord}
 use Rattle.tree_names.specs.CleanTrees.{IsCleanTree}

@@ -7,13 +7,13 @@ use Rattle.tech_model.specs.declared.raw.RawTech.{RawTech}
 use Rattle.tech_model.specs.WellFormed.{IsWellFormed}
 use Rattle.layout_model.specs.LayerTypes.{HasTypesOf}
 use Rattle.layout_model.specs.Places.{Place}
-use Rattle.hierarchy_model.specs.LayoutTrees.CellTrees.{place_back}
-use Rattle.own_record_laws.specs.OwnRecords.FetRecords.{IsNoLaterName}
+use Rattle.hierarchy_model.specs.LayoutModel.CellTrees.{place_back}
+use Rattle.own_record_laws.specs.TreeRecords.FetRecords.{IsNoLaterName}
 use Rattle.own_record_laws.proofs.PreferredNames.{later_both_ways}
-use Rattle.tree_records.specs.NamedTrees.MemberGroups.{AreOneGroup, AreOneGroupBelow, IsGroupName, IsMemberAt, IsMemberBelow}
-use Rattle.tree_records.specs.NamedTrees.NamedTrees.{NamedTree, NamedElements, OwnBody}
-use Rattle.tree_records.specs.NamedTrees.NamedTrees.NamedTree.{named_tree}
-use Rattle.tree_records.specs.NamedTrees.NamedTrees.NamedElements.{no_more, element_then}
+use Rattle.tree_records.specs.MemberGroups.{AreOneGroup, AreOneGroupBelow, IsGroupName, IsMemberAt, IsMemberBelow}
+use Rattle.tree_records.specs.NamedTrees.{NamedTree, NamedElements, OwnBody}
+use Rattle.tree_records.specs.NamedTrees.NamedTree.{named_tree}
+use Rattle.tree_records.specs.NamedTrees.NamedElements.{no_more, element_then}
 use Rattle.tree_names.specs.CleanTrees.{IsCleanTree, ids_in}
 use Rattle.tree_names.proofs.CleanTrees.{AreCleanTrees, clean_below, clean_first, clean_rest}
 use Rattle.tree_names.proofs.GroupNodes.{group_back}

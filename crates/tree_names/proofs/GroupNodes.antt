@@ -10,16 +10,16 @@ use Rattle.tech_model.proofs.TypeLaws.{connects_back}
 use Rattle.layout_model.specs.Links.{AreLinked}
 use Rattle.layout_model.specs.Places.{Place}
 use Rattle.layout_model.proofs.NodeLaws.{AreLinked-sym}
-use Rattle.hierarchy_model.specs.LayoutTrees.CellTrees.{place_back}
-use Rattle.hierarchy_model.specs.LayoutTrees.FlatSets.{AreTyped, IsTyped}
+use Rattle.hierarchy_model.specs.LayoutModel.CellTrees.{place_back}
+use Rattle.hierarchy_model.specs.LayoutModel.FlatSets.{AreTyped, IsTyped}
 use Rattle.own_record_laws.proofs.CellNodes.NodePlaces.{AreOneNamedNode-sym}
 use Rattle.hierarchy_model.specs.CleanCells.{AreClean, IsClean}
-use Rattle.tree_records.specs.NamedTrees.FlatLayouts.{AreFlatLinked, AreOneFlatNode, flat_layout}
-use Rattle.tree_records.specs.NamedTrees.MemberGroups.{AreOneGroup, AreOneGroupBelow}
-use Rattle.tree_records.specs.NamedTrees.NamedTrees.{NamedTree, NamedElements, layouts_below, layouts_of, place_forth}
-use Rattle.tree_records.specs.NamedTrees.NamedTrees.NamedTree.{named_tree}
-use Rattle.tree_records.specs.NamedTrees.NamedTrees.NamedElements.{no_more, element_then}
-use Rattle.tree_records.proofs.NamedTrees.MoveLaws.{above_from_back}
+use Rattle.tree_records.specs.FlatLayouts.{AreFlatLinked, AreOneFlatNode, flat_layout}
+use Rattle.tree_records.specs.MemberGroups.{AreOneGroup, AreOneGroupBelow}
+use Rattle.tree_records.specs.NamedTrees.{NamedTree, NamedElements, layouts_below, layouts_of, place_forth}
+use Rattle.tree_records.specs.NamedTrees.NamedTree.{named_tree}
+use Rattle.tree_records.specs.NamedTrees.NamedElements.{no_more, element_then}
+use Rattle.tree_records.proofs.MoveLaws.{above_from_back}
 use Rattle.tree_names.proofs.LiftedLinks.{StandsIn, StandBelow, below_stands, flat_node_up, own_node_up}
 
 -- flat links lead both ways

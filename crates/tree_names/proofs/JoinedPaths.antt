@@ -12,12 +12,12 @@ use Rattle.ext_model.specs.RecordNames.{names_of}
 use Rattle.layout_model.specs.Places.{Place}
 use Rattle.layout_model.specs.Technologies.{rules_of}
 use Rattle.own_record_laws.proofs.PreferredNames.{recorded}
-use Rattle.tree_records.specs.NamedTrees.FlatLayouts.{AreOneFlatNode, HasNodePath, HasNodePathBelow}
-use Rattle.tree_records.specs.NamedTrees.MemberGroups.{AreOneGroup, IsMemberOf}
-use Rattle.tree_records.specs.NamedTrees.NamedTrees.{NamedTree, NamedElements, OwnBody, place_forth}
-use Rattle.tree_records.specs.NamedTrees.NamedTrees.NamedTree.{named_tree}
-use Rattle.tree_records.specs.NamedTrees.NamedTrees.NamedElements.{no_more, element_then}
-use Rattle.tree_records.proofs.NamedTrees.MoveLaws.{back_from_above}
+use Rattle.tree_records.specs.FlatLayouts.{AreOneFlatNode, HasNodePath, HasNodePathBelow}
+use Rattle.tree_records.specs.MemberGroups.{AreOneGroup, IsMemberOf}
+use Rattle.tree_records.specs.NamedTrees.{NamedTree, NamedElements, OwnBody, place_forth}
+use Rattle.tree_records.specs.NamedTrees.NamedTree.{named_tree}
+use Rattle.tree_records.specs.NamedTrees.NamedElements.{no_more, element_then}
+use Rattle.tree_records.proofs.MoveLaws.{back_from_above}
 use Rattle.tree_records.specs.Merges.{group_merges}
 use Rattle.tree_records.specs.TreeRecords.{HasTreeRecords, HaveTreeRecords, IsTreeRecord}
 use Rattle.tree_names.specs.CleanTrees.{IsCleanTree}

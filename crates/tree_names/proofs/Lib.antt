@@ -5,7 +5,7 @@ pub use Rattle.name_classes.proofs.FullNames as FullNames
 pub use Rattle.hierarchy_model.proofs as HierarchyModel
 pub use Rattle.own_record_laws.proofs.Measures as Measures
 pub use Rattle.name_classes.proofs as NameClasses
-pub use Rattle.tree_records.proofs.NamedTrees as NamedTrees
+pub use Rattle.tree_records.proofs as TreeRecords
 pub use Rattle.own_record_laws.proofs.Names as Names
 pub use Rattle.own_record_laws.proofs as OwnRecordLaws
 pub mod LiftedLinks

@@ -12,17 +12,17 @@ use Rattle.layout_model.specs.LayerTypes.{or_space}
 use Rattle.layout_model.specs.Layouts.{Layout, IsMaterial}
 use Rattle.layout_model.specs.Links.{AreLinked}
 use Rattle.layout_model.specs.Places.{Place, AreNeighbours, AreStacked}
-use Rattle.hierarchy_model.specs.LayoutTrees.CellTrees.{place_back}
-use Rattle.hierarchy_model.specs.LayoutTrees.FlatSets.{flat_sets, sets_in, element_parts, IsTyped}
+use Rattle.hierarchy_model.specs.LayoutModel.CellTrees.{place_back}
+use Rattle.hierarchy_model.specs.LayoutModel.FlatSets.{flat_sets, sets_in, element_parts, IsTyped}
 use Rattle.own_record_laws.specs.Names.NamedNodes.{AreOneNamedNode}
 use Rattle.hierarchy_model.specs.Offences.Offences.{SetLayout, HasKind, joined_at}
 use Rattle.hierarchy_model.specs.CleanCells.{IsClean}
 use Rattle.hierarchy_model.proofs.CleanLaws.{part_within, flat_of_parts, first_kind, later_kind, own_within}
-use Rattle.tree_records.specs.NamedTrees.FlatLayouts.{AreOneFlatNode, HasTextBelow, HasTextSomewhere, flat_layout}
-use Rattle.tree_records.specs.NamedTrees.NamedTrees.{NamedTree, NamedElements, OwnBody, layouts_below, layouts_of, place_forth}
-use Rattle.tree_records.specs.NamedTrees.NamedTrees.NamedTree.{named_tree}
-use Rattle.tree_records.specs.NamedTrees.NamedTrees.NamedElements.{no_more, element_then}
-use Rattle.tree_records.proofs.NamedTrees.MoveLaws.{back_from_above, neighbours_above, stacked_above}
+use Rattle.tree_records.specs.FlatLayouts.{AreOneFlatNode, HasTextBelow, HasTextSomewhere, flat_layout}
+use Rattle.tree_records.specs.NamedTrees.{NamedTree, NamedElements, OwnBody, layouts_below, layouts_of, place_forth}
+use Rattle.tree_records.specs.NamedTrees.NamedTree.{named_tree}
+use Rattle.tree_records.specs.NamedTrees.NamedElements.{no_more, element_then}
+use Rattle.tree_records.proofs.MoveLaws.{back_from_above, neighbours_above, stacked_above}
 use Rattle.tree_names.specs.PartLinks.{LinksGoUp, PartsKeepLinks}
 
 -- a type that is not space is defined

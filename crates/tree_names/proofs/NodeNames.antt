@@ -14,9 +14,9 @@ use Rattle.ext_model.proofs.PathNames.{last_name-whole}
 use Rattle.layout_model.specs.Places.{Place}
 use Rattle.circuit_model.specs.Elements.{Element}
 use Rattle.circuit_model.specs.FullNames.{AreLinked, AreOneNode}
-use Rattle.tree_records.specs.NamedTrees.FlatLayouts.{AreFlatLinked, AreOneFlatNode, HasNodePath, HasTextSomewhere}
-use Rattle.tree_records.specs.NamedTrees.MemberGroups.{IsGroupName}
-use Rattle.tree_records.specs.NamedTrees.NamedTrees.{NamedTree, named_standings}
+use Rattle.tree_records.specs.FlatLayouts.{AreFlatLinked, AreOneFlatNode, HasNodePath, HasTextSomewhere}
+use Rattle.tree_records.specs.MemberGroups.{IsGroupName}
+use Rattle.tree_records.specs.NamedTrees.{NamedTree, named_standings}
 use Rattle.tree_records.specs.TreeRecords.{HasTreeRecords}
 use Rattle.tree_names.specs.CleanTrees.{IsCleanTree}
 use Rattle.tree_names.specs.PathLinks.{ArePathsJoined}

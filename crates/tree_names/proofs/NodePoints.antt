@@ -24,19 +24,19 @@ use Rattle.ext_model.specs.Paths.{full_name}
 use Rattle.ext_model.specs.RecordNames.{names_of, node_names}
 use Rattle.layout_model.specs.LayerTypes.{HasTypesOf}
 use Rattle.layout_model.specs.Places.{Place}
-use Rattle.hierarchy_model.specs.LayoutTrees.FlatSets.{AreTyped, IsTyped}
+use Rattle.hierarchy_model.specs.LayoutModel.FlatSets.{AreTyped, IsTyped}
 use Rattle.own_record_laws.specs.CellNodes.NodeRecords.{AreNodeRecords, IsNodeRecord}
 use Rattle.circuit_model.specs.Elements.{Element, ids_of, placed}
 use Rattle.circuit_model.specs.FlatNodes.{IsFlatNode, gives_name, is_among}
 use Rattle.circuit_model.specs.FullNames.{AreOneNode, full_names, name_in}
 use Rattle.name_classes.proofs.FullNames.ListOrders.{pairwise_names}
-use Rattle.own_record_laws.specs.OwnRecords.FetRecords.{IsNoLaterName}
+use Rattle.own_record_laws.specs.TreeRecords.FetRecords.{IsNoLaterName}
 use Rattle.own_record_laws.proofs.NameForms.{name_form}
 use Rattle.own_record_laws.proofs.PreferredNames.{later_both_ways, preferred_is_first, recorded}
-use Rattle.tree_records.specs.NamedTrees.NamedTrees.{NamedTree, NamedElements, OwnBody, NamedStanding, layouts_below, layouts_of, named_standings, named_standings_below}
-use Rattle.tree_records.specs.NamedTrees.NamedTrees.{named_above}
-use Rattle.tree_records.specs.NamedTrees.NamedTrees.NamedTree.{named_tree}
-use Rattle.tree_records.specs.NamedTrees.NamedTrees.NamedElements.{no_more, element_then}
+use Rattle.tree_records.specs.NamedTrees.{NamedTree, NamedElements, OwnBody, NamedStanding, layouts_below, layouts_of, named_standings, named_standings_below}
+use Rattle.tree_records.specs.NamedTrees.{named_above}
+use Rattle.tree_records.specs.NamedTrees.NamedTree.{named_tree}
+use Rattle.tree_records.specs.NamedTrees.NamedElements.{no_more, element_then}
 use Rattle.tree_records.specs.TreeCircuits.{HasNodeNamed, IsPointOf}
 use Rattle.tree_names.specs.TreeElements.{IsElementFor}
 use Rattle.tree_names.proofs.FullOrders.{full_no_later}

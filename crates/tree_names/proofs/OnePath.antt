@@ -5,11 +5,11 @@ use Rattle.tech_model.specs.declared.raw.RawTech.{RawTech}
 use Rattle.tech_model.specs.Rules.{KeepsRules}
 use Rattle.tech_model.specs.WellFormed.{IsWellFormed}
 use Rattle.layout_model.specs.Places.{Place}
-use Rattle.hierarchy_model.specs.LayoutTrees.CellTrees.{place_back}
-use Rattle.tree_records.specs.NamedTrees.FlatLayouts.{AreOneFlatNode, HasNodePath, HasNodePathBelow}
-use Rattle.tree_records.specs.NamedTrees.NamedTrees.{NamedTree, NamedElements}
-use Rattle.tree_records.specs.NamedTrees.NamedTrees.NamedTree.{named_tree}
-use Rattle.tree_records.specs.NamedTrees.NamedTrees.NamedElements.{no_more, element_then}
+use Rattle.hierarchy_model.specs.LayoutModel.CellTrees.{place_back}
+use Rattle.tree_records.specs.FlatLayouts.{AreOneFlatNode, HasNodePath, HasNodePathBelow}
+use Rattle.tree_records.specs.NamedTrees.{NamedTree, NamedElements}
+use Rattle.tree_records.specs.NamedTrees.NamedTree.{named_tree}
+use Rattle.tree_records.specs.NamedTrees.NamedElements.{no_more, element_then}
 use Rattle.tree_names.specs.CleanTrees.{IsCleanTree, ids_in}
 use Rattle.tree_names.proofs.CleanTrees.{AreCleanTrees, clean_below, clean_first, clean_rest}
 use Rattle.tree_names.proofs.GroupNodes.{flat_node_above}

@@ -9,11 +9,11 @@ use Rattle.layout_model.specs.LayerTypes.{HasTypesOf}
 use Rattle.layout_model.specs.Places.{Place}
 use Rattle.own_record_laws.specs.Names.NamedNodes.{AreOneNamedNode}
 use Rattle.own_record_laws.proofs.CellNodes.NodePlaces.{AreOneNamedNode-sym, material_along}
-use Rattle.own_record_laws.specs.OwnRecords.FetRecords.{IsOfNode}
+use Rattle.own_record_laws.specs.TreeRecords.FetRecords.{IsOfNode}
 use Rattle.own_record_laws.proofs.NameForms.{name_form}
 use Rattle.own_record_laws.proofs.NodesByName.{one_name_one_node}
-use Rattle.tree_records.specs.NamedTrees.FlatLayouts.{HasOwnName}
-use Rattle.tree_records.specs.NamedTrees.NamedTrees.{OwnBody}
+use Rattle.tree_records.specs.FlatLayouts.{HasOwnName}
+use Rattle.tree_records.specs.NamedTrees.{OwnBody}
 
 -- the preferred name is one of the node's names
 pub goes_by_own : (raw : RawTech) (own : OwnBody) (place : Place) (name : List ℕ) → IsOfNode raw own.layout own.labels name place

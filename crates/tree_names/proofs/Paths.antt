@@ -7,8 +7,8 @@ use Rattle.ext_model.specs.Paths.{path_text}
 use Rattle.ext_model.proofs.PathOrders.{slashes_in-behind}
 use Rattle.circuit_model.specs.Refusals.{after_slash, before_slash}
 use Rattle.name_classes.proofs.PathLaws.{after-split, before-split}
-use Rattle.tree_records.specs.NamedTrees.NamedTrees.{NamedElements}
-use Rattle.tree_records.specs.NamedTrees.NamedTrees.NamedElements.{no_more, element_then}
+use Rattle.tree_records.specs.NamedTrees.{NamedElements}
+use Rattle.tree_records.specs.NamedTrees.NamedElements.{no_more, element_then}
 use Rattle.tree_names.specs.CleanTrees.{HaveElementNames, ids_in}
 
 -- the first slash tells an element's name from the path behind it

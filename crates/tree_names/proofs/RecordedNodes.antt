@@ -15,9 +15,9 @@ use Rattle.ext_model.specs.RecordNames.{names_of}
 use Rattle.layout_model.specs.LayerTypes.{or_space}
 use Rattle.layout_model.specs.Layouts.{IsMaterial}
 use Rattle.layout_model.specs.Places.{Place, IsNoLater}
-use Rattle.hierarchy_model.specs.LayoutTrees.CellTrees.{place_back}
-use Rattle.hierarchy_model.specs.LayoutTrees.FlatSets.{flat_sets, sets_below, sets_in}
-use Rattle.hierarchy_model.proofs.LayoutTrees.SetUnions.{union_some}
+use Rattle.hierarchy_model.specs.LayoutModel.CellTrees.{place_back}
+use Rattle.hierarchy_model.specs.LayoutModel.FlatSets.{flat_sets, sets_below, sets_in}
+use Rattle.hierarchy_model.proofs.LayoutModel.SetUnions.{union_some}
 use Rattle.own_record_laws.specs.Names.NamedNodes.{AreOneNamedNode, IsNameOf}
 use Rattle.ext_model.specs.Paths.{path_text}
 use Rattle.own_record_laws.specs.CellNodes.NodeRecords.{AreNodeRecords}
@@ -25,13 +25,13 @@ use Rattle.own_record_laws.proofs.CellNodes.NodePlaces.{AreOneNamedNode-sym}
 use Rattle.hierarchy_model.specs.Offences.Offences.{joined_at}
 use Rattle.hierarchy_model.proofs.CleanLaws.{has_flat_type}
 use Rattle.hierarchy_model.proofs.KindLaws.{defined_or_not, material_set}
-use Rattle.own_record_laws.specs.OwnRecords.FetRecords.{IsOfNode}
+use Rattle.own_record_laws.specs.TreeRecords.FetRecords.{IsOfNode}
 use Rattle.own_record_laws.proofs.PreferredNames.{in_some, one_least, preferred_is_first}
-use Rattle.tree_records.specs.NamedTrees.FlatLayouts.{HasOwnName, HasNodePath, HasNodePathBelow, flat_layout}
-use Rattle.tree_records.specs.NamedTrees.NamedTrees.{NamedTree, NamedElements, OwnBody, layouts_below, layouts_of, place_forth}
-use Rattle.tree_records.specs.NamedTrees.NamedTrees.NamedTree.{named_tree}
-use Rattle.tree_records.specs.NamedTrees.NamedTrees.NamedElements.{no_more, element_then}
-use Rattle.tree_records.proofs.NamedTrees.MoveLaws.{above_from_back}
+use Rattle.tree_records.specs.FlatLayouts.{HasOwnName, HasNodePath, HasNodePathBelow, flat_layout}
+use Rattle.tree_records.specs.NamedTrees.{NamedTree, NamedElements, OwnBody, layouts_below, layouts_of, place_forth}
+use Rattle.tree_records.specs.NamedTrees.NamedTree.{named_tree}
+use Rattle.tree_records.specs.NamedTrees.NamedElements.{no_more, element_then}
+use Rattle.tree_records.proofs.MoveLaws.{above_from_back}
 use Rattle.tree_records.specs.TreeRecords.{HasTreeRecords, HaveTreeRecords}
 use Rattle.tree_names.specs.CleanTrees.{IsCleanTree}
 use Rattle.tree_names.proofs.CleanTrees.{AreCleanTrees, clean_below, clean_first, clean_rest}

@@ -4,13 +4,13 @@ use Rattle.finite_sets.proofs.Chains.{Chain-append, Chain-one}
 use Rattle.finite_sets.specs.Chain.Chain.{stay}
 use Rattle.tech_model.specs.declared.raw.RawTech.{RawTech}
 use Rattle.layout_model.specs.Places.{Place}
-use Rattle.hierarchy_model.specs.LayoutTrees.CellTrees.{place_back}
-use Rattle.tree_records.specs.NamedTrees.FlatLayouts.{HasNodePath, HasNodePathBelow}
-use Rattle.tree_records.specs.NamedTrees.MemberGroups.{AreOneGroup, AreOneGroupBelow, IsGroupName, IsMemberAt, IsMemberBelow}
-use Rattle.tree_records.specs.NamedTrees.NamedTrees.{NamedTree, NamedElements, place_forth}
-use Rattle.tree_records.specs.NamedTrees.NamedTrees.NamedTree.{named_tree}
-use Rattle.tree_records.specs.NamedTrees.NamedTrees.NamedElements.{no_more, element_then}
-use Rattle.tree_records.proofs.NamedTrees.MoveLaws.{back_from_above}
+use Rattle.hierarchy_model.specs.LayoutModel.CellTrees.{place_back}
+use Rattle.tree_records.specs.FlatLayouts.{HasNodePath, HasNodePathBelow}
+use Rattle.tree_records.specs.MemberGroups.{AreOneGroup, AreOneGroupBelow, IsGroupName, IsMemberAt, IsMemberBelow}
+use Rattle.tree_records.specs.NamedTrees.{NamedTree, NamedElements, place_forth}
+use Rattle.tree_records.specs.NamedTrees.NamedTree.{named_tree}
+use Rattle.tree_records.specs.NamedTrees.NamedElements.{no_more, element_then}
+use Rattle.tree_records.proofs.MoveLaws.{back_from_above}
 use Rattle.tree_names.specs.PathLinks.{GroupHasPath}
 use Rattle.tree_names.proofs.OwnNames.{goes_by_own}
 

@@ -5,9 +5,9 @@ use Rattle.finite_sets.proofs.Members.{In-append_cases, In-append_left, In-appen
 use Rattle.geo_core.specs.declared.transforms.Transform.{Transform}
 use Rattle.ext_model.specs.declared.records.CellExt.{CellExt}
 use Rattle.ext_model.specs.Paths.{path_text}
-use Rattle.tree_records.specs.NamedTrees.NamedTrees.{NamedTree, NamedElements, NamedStanding, named_standings, named_standings_below, named_above}
-use Rattle.tree_records.specs.NamedTrees.NamedTrees.NamedTree.{named_tree}
-use Rattle.tree_records.specs.NamedTrees.NamedTrees.NamedElements.{no_more, element_then}
+use Rattle.tree_records.specs.NamedTrees.{NamedTree, NamedElements, NamedStanding, named_standings, named_standings_below, named_above}
+use Rattle.tree_records.specs.NamedTrees.NamedTree.{named_tree}
+use Rattle.tree_records.specs.NamedTrees.NamedElements.{no_more, element_then}
 use Rattle.tree_names.specs.PathLinks.{AreJoinedIn, ArePathsJoined, ArePathsJoinedBelow}
 
 -- The record of a cell among these joins two names or paths, whose paths from the top are these.

@@ -8,12 +8,12 @@ use Rattle.tech_model.specs.WellFormed.{IsWellFormed}
 use Rattle.ext_model.specs.declared.records.CellExt.{CellExt}
 use Rattle.ext_model.specs.Paths.{path_text}
 use Rattle.layout_model.specs.Places.{Place}
-use Rattle.hierarchy_model.specs.LayoutTrees.CellTrees.{place_back}
-use Rattle.tree_records.specs.NamedTrees.FlatLayouts.{HasNodePath, HasNodePathBelow}
-use Rattle.tree_records.specs.NamedTrees.MemberGroups.{IsGroupName, IsMemberBelow}
-use Rattle.tree_records.specs.NamedTrees.NamedTrees.{NamedTree, NamedElements}
-use Rattle.tree_records.specs.NamedTrees.NamedTrees.NamedTree.{named_tree}
-use Rattle.tree_records.specs.NamedTrees.NamedTrees.NamedElements.{no_more, element_then}
+use Rattle.hierarchy_model.specs.LayoutModel.CellTrees.{place_back}
+use Rattle.tree_records.specs.FlatLayouts.{HasNodePath, HasNodePathBelow}
+use Rattle.tree_records.specs.MemberGroups.{IsGroupName, IsMemberBelow}
+use Rattle.tree_records.specs.NamedTrees.{NamedTree, NamedElements}
+use Rattle.tree_records.specs.NamedTrees.NamedTree.{named_tree}
+use Rattle.tree_records.specs.NamedTrees.NamedElements.{no_more, element_then}
 use Rattle.tree_records.specs.TreeRecords.{HasTreeRecords, HaveTreeRecords}
 use Rattle.tree_names.specs.CleanTrees.{IsCleanTree}
 use Rattle.tree_names.specs.PathLinks.{ArePathsJoined, ArePathsJoinedBelow}

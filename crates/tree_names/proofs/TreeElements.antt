@@ -14,9 +14,9 @@ use Rattle.ext_model.specs.declared.records.UseRec.{UseRec}
 use Rattle.circuit_model.specs.declared.limits.TheConstants.{LONGEST_CHAIN}
 use Rattle.circuit_model.specs.Elements.{Element, elements_below, elements_of, ext_of, of_option, placed}
 use Rattle.name_classes.proofs.ElementTree.Transforms.{image-identity, transform_of-six}
-use Rattle.tree_records.specs.NamedTrees.NamedTrees.{NamedTree, NamedElements, NamedStanding, named_standings, named_standings_below, own_body, named_above}
-use Rattle.tree_records.specs.NamedTrees.NamedTrees.NamedTree.{named_tree}
-use Rattle.tree_records.specs.NamedTrees.NamedTrees.NamedElements.{no_more, element_then}
+use Rattle.tree_records.specs.NamedTrees.{NamedTree, NamedElements, NamedStanding, named_standings, named_standings_below, own_body, named_above}
+use Rattle.tree_records.specs.NamedTrees.NamedTree.{named_tree}
+use Rattle.tree_records.specs.NamedTrees.NamedElements.{no_more, element_then}
 use Rattle.tree_records.specs.TreeRecords.{HasTreeRecord, HasTreeRecords, HaveTreeRecords, IsTreeRecord, use_records}
 use Rattle.tree_names.specs.CleanTrees.{depth_of, depth_below}
 use Rattle.tree_names.specs.TreeElements.{IsElementFor}

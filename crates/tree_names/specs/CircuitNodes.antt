@@ -6,8 +6,8 @@ use Rattle.layout_model.specs.Layouts.{IsMaterial}
 use Rattle.layout_model.specs.Places.{Place}
 use Rattle.ext_model.specs.declared.records.NodeRec.{NodeRec}
 use Rattle.ext_model.specs.RecordNames.{names_of}
-use Rattle.tree_records.specs.NamedTrees.FlatLayouts.{IsFlatName, IsOfFlatNode, flat_layout}
-use Rattle.tree_records.specs.NamedTrees.NamedTrees.{NamedTree}
+use Rattle.tree_records.specs.FlatLayouts.{IsFlatName, IsOfFlatNode, flat_layout}
+use Rattle.tree_records.specs.NamedTrees.{NamedTree}
 
 -- The names of the node are those of the flat node that contains the place, and its preferred name is the flat node's.
 pub record IsNamedAsFlatNode (raw : RawTech) (tree : NamedTree) (place : Place) (node : NodeRec) : Type 0 where

@@ -3,11 +3,11 @@ use Rattle.std.specs.Prelude.{◌≡◌, ℕ, suc, max, List, [], ◌∷◌}
 use Rattle.finite_sets.specs.Lists.{Distinct}
 use Rattle.tech_model.specs.declared.raw.RawTech.{RawTech}
 use Rattle.ext_model.specs.NodeNames.{slashes_in}
-use Rattle.hierarchy_model.specs.LayoutTrees.FlatSets.{IsTyped}
+use Rattle.hierarchy_model.specs.LayoutModel.FlatSets.{IsTyped}
 use Rattle.hierarchy_model.specs.CleanCells.{IsClean}
-use Rattle.tree_records.specs.NamedTrees.NamedTrees.{NamedTree, NamedElements, layouts_of}
-use Rattle.tree_records.specs.NamedTrees.NamedTrees.NamedTree.{named_tree}
-use Rattle.tree_records.specs.NamedTrees.NamedTrees.NamedElements.{no_more, element_then}
+use Rattle.tree_records.specs.NamedTrees.{NamedTree, NamedElements, layouts_of}
+use Rattle.tree_records.specs.NamedTrees.NamedTree.{named_tree}
+use Rattle.tree_records.specs.NamedTrees.NamedElements.{no_more, element_then}
 
 -- the names of the elements of a cell
 abbrev pub ids_in : NamedElements → List (List ℕ)

@@ -9,7 +9,7 @@ use Rattle.tech_model.specs.WellFormed.{IsWellFormed}
 use Rattle.layout_model.specs.LayerTypes.{HasTypesOf}
 use Rattle.layout_model.specs.Layouts.{IsMaterial}
 use Rattle.layout_model.specs.Places.{Place}
-use Rattle.hierarchy_model.specs.LayoutTrees.FlatSets.{IsTyped}
+use Rattle.hierarchy_model.specs.LayoutModel.FlatSets.{IsTyped}
 use Rattle.own_record_laws.specs.Names.NamedNodes.{AreOneNamedNode}
 use Rattle.ext_model.specs.declared.records.CellExt.{CellExt}
 use Rattle.ext_model.specs.declared.records.NodeRec.{NodeRec}
@@ -18,10 +18,10 @@ use Rattle.circuit_model.specs.Elements.{Element, elements_of, ext_of}
 use Rattle.circuit_model.specs.FlatNodes.{AreFlatNodes}
 use Rattle.circuit_model.specs.FullNames.{AreOneNode, IsFullName}
 use Rattle.ext_model.specs.Paths.{full_name}
-use Rattle.own_record_laws.specs.OwnRecords.FetRecords.{IsOfNode}
-use Rattle.tree_records.specs.NamedTrees.FlatLayouts.{AreOneFlatNode, HasOwnName, HasNodePath, IsFlatName, flat_layout}
-use Rattle.tree_records.specs.NamedTrees.MemberGroups.{AreOneGroup, IsGroupName, IsMemberAt}
-use Rattle.tree_records.specs.NamedTrees.NamedTrees.{NamedTree, OwnBody, layouts_of, named_standings, own_body}
+use Rattle.own_record_laws.specs.TreeRecords.FetRecords.{IsOfNode}
+use Rattle.tree_records.specs.FlatLayouts.{AreOneFlatNode, HasOwnName, HasNodePath, IsFlatName, flat_layout}
+use Rattle.tree_records.specs.MemberGroups.{AreOneGroup, IsGroupName, IsMemberAt}
+use Rattle.tree_records.specs.NamedTrees.{NamedTree, OwnBody, layouts_of, named_standings, own_body}
 use Rattle.tree_records.specs.TreeCircuits.{IsPointOf}
 use Rattle.tree_records.specs.TreeRecords.{HasTreeRecords}
 use Rattle.tree_names.specs.CircuitNodes.{NameFlatNodes}

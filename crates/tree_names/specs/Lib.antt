@@ -3,10 +3,8 @@ pub use Rattle.own_record_laws.specs.CellNodes as CellNodes
 pub use Rattle.circuit_model.specs as CircuitModel
 pub use Rattle.hierarchy_model.specs as HierarchyModel
 pub use Rattle.own_record_laws.specs.Measures as Measures
-pub use Rattle.tree_records.specs.NamedTrees as NamedTrees
-pub use Rattle.own_record_laws.specs.Names as Names
-pub use Rattle.own_record_laws.specs.OwnRecords as OwnRecords
 pub use Rattle.tree_records.specs as TreeRecords
+pub use Rattle.own_record_laws.specs.Names as Names
 pub mod CircuitNodes
 pub mod CleanTrees
 pub mod PartLinks

@@ -4,9 +4,9 @@ use Rattle.tech_model.specs.Types.{connects}
 use Rattle.layout_model.specs.Layouts.{Layout}
 use Rattle.layout_model.specs.Links.{AreLinked}
 use Rattle.layout_model.specs.Places.{Place}
-use Rattle.tree_records.specs.NamedTrees.FlatLayouts.{flat_layout}
-use Rattle.tree_records.specs.NamedTrees.NamedTrees.{NamedTree, NamedElements, named_elements_in, own_body, place_forth}
-use Rattle.tree_records.specs.NamedTrees.NamedTrees.NamedElements.{no_more, element_then}
+use Rattle.tree_records.specs.FlatLayouts.{flat_layout}
+use Rattle.tree_records.specs.NamedTrees.{NamedTree, NamedElements, named_elements_in, own_body, place_forth}
+use Rattle.tree_records.specs.NamedTrees.NamedElements.{no_more, element_then}
 
 -- The links of the flat layout of each element are links of this layout, where the element's transform takes them.
 abbrev pub LinksGoUp : RawTech → NamedElements → Layout → Type 0

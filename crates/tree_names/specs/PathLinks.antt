@@ -9,11 +9,11 @@ use Rattle.ext_model.specs.declared.records.NodeRec.{NodeRec}
 use Rattle.ext_model.specs.Paths.{path_text}
 use Rattle.ext_model.specs.RecordNames.{names_of}
 use Rattle.circuit_model.specs.Elements.{ext_of}
-use Rattle.tree_records.specs.NamedTrees.FlatLayouts.{AreOneFlatNode, HasNodePath}
-use Rattle.tree_records.specs.NamedTrees.MemberGroups.{AreOneGroup}
-use Rattle.tree_records.specs.NamedTrees.NamedTrees.{NamedTree, NamedElements}
-use Rattle.tree_records.specs.NamedTrees.NamedTrees.NamedTree.{named_tree}
-use Rattle.tree_records.specs.NamedTrees.NamedTrees.NamedElements.{no_more, element_then}
+use Rattle.tree_records.specs.FlatLayouts.{AreOneFlatNode, HasNodePath}
+use Rattle.tree_records.specs.MemberGroups.{AreOneGroup}
+use Rattle.tree_records.specs.NamedTrees.{NamedTree, NamedElements}
+use Rattle.tree_records.specs.NamedTrees.NamedTree.{named_tree}
+use Rattle.tree_records.specs.NamedTrees.NamedElements.{no_more, element_then}
 
 -- The first is the preferred name of a node of the record, and the second one of the node's names.
 pub record AreNamesOfNode (ext : CellExt) (first second : List ℕ) : Type 0 where

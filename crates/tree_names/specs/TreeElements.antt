@@ -5,7 +5,7 @@ use Rattle.geo_core.specs.Images.{image}
 use Rattle.tech_model.specs.declared.raw.RawTech.{RawTech}
 use Rattle.ext_model.specs.declared.records.CellExt.{CellExt}
 use Rattle.circuit_model.specs.Elements.{Element, ext_of, ids_of, placed}
-use Rattle.tree_records.specs.NamedTrees.NamedTrees.{NamedTree, NamedStanding, own_body}
+use Rattle.tree_records.specs.NamedTrees.{NamedTree, NamedStanding, own_body}
 use Rattle.tree_records.specs.TreeRecords.{IsTreeRecord}
 
 -- The element is the cell as it stands: the same names lead to it, its uses move squares as the cell's transform does, and it has the

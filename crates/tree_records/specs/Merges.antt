@@ -3,16 +3,16 @@ use Rattle.std.specs.Prelude.{◌≡◌, ◌⊎◌, ◌↔◌, ◌&&◌, ℕ, �
 use Rattle.std.specs.List.{flat_map, list_all}
 use Rattle.std.specs.Ordering.{int_eq}
 use Rattle.finite_sets.specs.Lists.{In}
-use Rattle.named_trees.specs.TechModel.declared.raw.RawTech.{RawTech}
-use Rattle.named_trees.specs.LayoutModel.Layouts.{IsMaterial}
-use Rattle.named_trees.specs.LayoutModel.Places.{Place}
-use Rattle.named_trees.specs.LayoutModel.Technologies.{Class, rules_of}
+use Rattle.tree_records.specs.TechModel.declared.raw.RawTech.{RawTech}
+use Rattle.tree_records.specs.LayoutModel.Layouts.{IsMaterial}
+use Rattle.tree_records.specs.LayoutModel.Places.{Place}
+use Rattle.tree_records.specs.LayoutModel.Technologies.{Class, rules_of}
 use Rattle.circuit_model.specs.ExtModel.declared.records.MergeRec.{MergeRec}
 use Rattle.circuit_model.specs.FullNames.{AreInNameOrder}
-use Rattle.named_trees.specs.OwnRecords.FetRecords.{IsNameBefore}
-use Rattle.named_trees.specs.NamedTrees.{NamedTree}
-use Rattle.named_trees.specs.FlatLayouts.{flat_layout}
-use Rattle.named_trees.specs.MemberGroups.{IsGroupName, IsMemberOf}
+use Rattle.tree_records.specs.FetRecords.{IsNameBefore}
+use Rattle.tree_records.specs.NamedTrees.{NamedTree}
+use Rattle.tree_records.specs.FlatLayouts.{flat_layout}
+use Rattle.tree_records.specs.MemberGroups.{IsGroupName, IsMemberOf}
 use Rattle.tree_records.specs.PlaceWeights.{area_weight, capacitance_weight, perimeter_weight, IsAdjustment}
 
 -- What is to be added to the sum of a group's members: a capacitance in attofarads, and for each class an area in square lambda and a perimeter

@@ -1,17 +1,17 @@
 -- How places of layouts are weighed, and what the members of groups and whole groups weigh.
 use Rattle.std.specs.Prelude.{◌≡◌, ◌⊎◌, ℕ, ℤ, pos, ◌+ℤ◌, ◌-ℤ◌, ◌*ℤ◌, List, [], ◌∷◌}
 use Rattle.finite_sets.specs.Total.{sum_on, Total}
-use Rattle.named_trees.specs.TechModel.declared.raw.RawTech.{RawTech}
-use Rattle.named_trees.specs.LayoutModel.Layouts.{Layout}
-use Rattle.named_trees.specs.LayoutModel.Measures.{area_at, perimeter_at}
-use Rattle.named_trees.specs.LayoutModel.Places.{Place}
-use Rattle.named_trees.specs.LayoutModel.Technologies.{Class}
+use Rattle.tree_records.specs.TechModel.declared.raw.RawTech.{RawTech}
+use Rattle.tree_records.specs.LayoutModel.Layouts.{Layout}
+use Rattle.tree_records.specs.LayoutModel.Measures.{area_at, perimeter_at}
+use Rattle.tree_records.specs.LayoutModel.Places.{Place}
+use Rattle.tree_records.specs.LayoutModel.Technologies.{Class}
 use Rattle.circuit_model.specs.ExtModel.Paths.{path_text}
-use Rattle.named_trees.specs.OwnRecords.FetRecords.{IsOfNode}
-use Rattle.named_trees.specs.NamedTrees.{NamedTree, NamedElements, named_elements_in, own_body}
-use Rattle.named_trees.specs.NamedTrees.NamedElements.{no_more, element_then}
-use Rattle.named_trees.specs.FlatLayouts.{flat_layout}
-use Rattle.named_trees.specs.MemberGroups.{IsGroupName}
+use Rattle.tree_records.specs.FetRecords.{IsOfNode}
+use Rattle.tree_records.specs.NamedTrees.{NamedTree, NamedElements, named_elements_in, own_body}
+use Rattle.tree_records.specs.NamedTrees.NamedElements.{no_more, element_then}
+use Rattle.tree_records.specs.FlatLayouts.{flat_layout}
+use Rattle.tree_records.specs.MemberGroups.{IsGroupName}
 
 -- what a place weighs in a layout
 abbrev pub PlaceWeight : Type 0

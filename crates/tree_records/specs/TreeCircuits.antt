@@ -3,26 +3,26 @@ use Rattle.std.specs.Prelude.{◌≡◌, ◌⊎◌, ◌↔◌, ◌<◌, ℕ, IsT
 use Rattle.finite_sets.specs.Least.{IsLeast}
 use Rattle.finite_sets.specs.Lists.{In}
 use Rattle.circuit_model.specs.GeoCore.Images.{image}
-use Rattle.named_trees.specs.TechModel.declared.raw.FetRule.{FetRule}
-use Rattle.named_trees.specs.TechModel.declared.raw.RawTech.{RawTech}
-use Rattle.named_trees.specs.TechModel.ChannelRoles.{is_channel}
-use Rattle.named_trees.specs.LayoutModel.Layouts.{IsMaterial}
-use Rattle.named_trees.specs.LayoutModel.Nodes.{AreMeasures}
-use Rattle.named_trees.specs.LayoutModel.Places.{Place, IsBefore, IsNoLater}
-use Rattle.named_trees.specs.LayoutModel.Technologies.{capacitance, rules_of}
-use Rattle.named_trees.specs.LayoutModel.Transistors.{AreOneChannel, IsTransistor, Transistor, gate_length}
-use Rattle.named_trees.specs.LayoutTrees.CellTrees.{place_back}
+use Rattle.tree_records.specs.TechModel.declared.raw.FetRule.{FetRule}
+use Rattle.tree_records.specs.TechModel.declared.raw.RawTech.{RawTech}
+use Rattle.tree_records.specs.TechModel.ChannelRoles.{is_channel}
+use Rattle.tree_records.specs.LayoutModel.Layouts.{IsMaterial}
+use Rattle.tree_records.specs.LayoutModel.Nodes.{AreMeasures}
+use Rattle.tree_records.specs.LayoutModel.Places.{Place, IsBefore, IsNoLater}
+use Rattle.tree_records.specs.LayoutModel.Technologies.{capacitance, rules_of}
+use Rattle.tree_records.specs.LayoutModel.Transistors.{AreOneChannel, IsTransistor, Transistor, gate_length}
+use Rattle.tree_records.specs.LayoutModel.CellTrees.{place_back}
 use Rattle.circuit_model.specs.ExtModel.declared.circuits.Circuit.{Circuit}
 use Rattle.circuit_model.specs.ExtModel.declared.records.FetRec.{FetRec}
 use Rattle.circuit_model.specs.ExtModel.declared.records.NodeRec.{NodeRec}
 use Rattle.circuit_model.specs.ExtModel.Paths.{full_name}
 use Rattle.circuit_model.specs.ExtModel.RecordNames.{names_of}
-use Rattle.named_trees.specs.Names.NamedNodes.{AreOneNamedNode, IsNameOf}
+use Rattle.tree_records.specs.Names.NamedNodes.{AreOneNamedNode, IsNameOf}
 use Rattle.circuit_model.specs.FullNames.{AreInNameOrder}
-use Rattle.named_trees.specs.OwnRecords.FetRecords.{IsNoLaterName, terminal_names}
-use Rattle.named_trees.specs.OwnRecords.OwnRecords.{class_values}
-use Rattle.named_trees.specs.NamedTrees.{NamedTree, NamedStanding, named_standings, place_forth}
-use Rattle.named_trees.specs.FlatLayouts.{flat_layout, AreOneFlatNode, IsFlatName, IsOfFlatNode}
+use Rattle.tree_records.specs.FetRecords.{IsNoLaterName, terminal_names}
+use Rattle.tree_records.specs.OwnRecords.{class_values}
+use Rattle.tree_records.specs.NamedTrees.{NamedTree, NamedStanding, named_standings, place_forth}
+use Rattle.tree_records.specs.FlatLayouts.{flat_layout, AreOneFlatNode, IsFlatName, IsOfFlatNode}
 
 -- The own layout of the instance has a node with this least place whose preferred name, as a full name, is this.
 pub record HasNodeNamed (raw : RawTech) (standing : NamedStanding) (name : List ℕ) (least : Place) : Type 0 where

@@ -1,16 +1,16 @@
 -- The record of a cell, and the records of all cells at and below it.
 use Rattle.std.specs.Prelude.{◌≡◌, List, [], ◌∷◌, Some}
 use Rattle.circuit_model.specs.GeoCore.Images.{six_of}
-use Rattle.named_trees.specs.TechModel.declared.raw.RawTech.{RawTech}
+use Rattle.tree_records.specs.TechModel.declared.raw.RawTech.{RawTech}
 use Rattle.circuit_model.specs.ExtModel.declared.records.CellExt.{CellExt}
 use Rattle.circuit_model.specs.ExtModel.declared.records.UseRec.{UseRec}
-use Rattle.named_trees.specs.CellNodes.NodeRecords.{AreNodeRecords}
+use Rattle.tree_records.specs.CellNodes.NodeRecords.{AreNodeRecords}
 use Rattle.circuit_model.specs.Elements.{ext_of}
-use Rattle.named_trees.specs.OwnRecords.FetRecords.{AreFetRecords, IsNodeBefore}
-use Rattle.named_trees.specs.OwnRecords.OwnRecords.{class_values}
-use Rattle.named_trees.specs.NamedTrees.{NamedTree, NamedElements, named_elements_in, own_body}
-use Rattle.named_trees.specs.NamedTrees.NamedTree.{named_tree}
-use Rattle.named_trees.specs.NamedTrees.NamedElements.{no_more, element_then}
+use Rattle.tree_records.specs.FetRecords.{AreFetRecords, IsNodeBefore}
+use Rattle.tree_records.specs.OwnRecords.{class_values}
+use Rattle.tree_records.specs.NamedTrees.{NamedTree, NamedElements, named_elements_in, own_body}
+use Rattle.tree_records.specs.NamedTrees.NamedTree.{named_tree}
+use Rattle.tree_records.specs.NamedTrees.NamedElements.{no_more, element_then}
 use Rattle.tree_records.specs.Merges.{AreGroupMerges}
 
 -- the elements as a record has them, each with its name, its cell's and the six numbers of its transform

@@ -1,6 +1,6 @@
 -- What a designer may count on: undo takes an edit back, and redo gives it again. And what a session may: cells may come between edits.
 use Rattle.std.specs.Prelude.{◌≡◌, ◌<◌, ℕ, true, Some, length}
-use Rattle.cell_library.specs.LowerLayoutTrees.LayoutModel.Places.{Place}
+use Rattle.cell_library.specs.LayoutModel.Places.{Place}
 use Rattle.cell_library.specs.LawfulViews.{IsLawfulView}
 use Rattle.cell_library.specs.Views.{CellView, LibraryView, view_at}
 use Rattle.script_lines.specs.declared.commands.Command.{Command}

@@ -1,7 +1,7 @@
 -- The records of a clean cell and of all below it: what they mean.
 use Rattle.std.proofs.Common.{◌≡◌, ◌<◌, ◌∙◌, ℕ, List, length, Option, Some, refl, sym, ap, subst, inl, inr}
 use Rattle.std.specs.Prelude.{IsSome}
-use Rattle.kept_records.proofs.TreeNames.TreeElements.{top_record}
+use Rattle.library_trees.proofs.TreeNames.TreeElements.{top_record}
 use Rattle.ext_model.specs.declared.circuits.Circuit.{Circuit}
 use Rattle.ext_model.specs.declared.records.CellExt.{CellExt}
 use Rattle.circuit_model.specs.declared.faults.FlatFault.{FlatFault}
@@ -14,7 +14,7 @@ use Rattle.circuit_laws.specs.CircuitLaws.{FlatTransistorsHaveLetterAndLengths}
 use Rattle.square_lines.specs.HierMerge.UncleanCells.{IsCleanCell}
 use Rattle.cell_library.specs.Libraries.{IsLawfulLibrary, LibraryParts, seen}
 use Rattle.cell_library.specs.Views.{view_at}
-use Rattle.network_laws.specs.NamedTrees.NamedTrees.{own_body}
+use Rattle.network_laws.specs.TreeRecords.NamedTrees.{own_body}
 use Rattle.network_laws.specs.TreeRecords.TreeRecords.{HasTreeRecords}
 use Rattle.tree_circuits.specs.Laws.{RecordsStandForTheFlatLayout, TreeRecordsHaveNoOtherFault}
 use Rattle.library_trees.specs.Laws.{AreChainsShort, CleanCellHasCleanTree}

@@ -23,8 +23,8 @@ use Rattle.cell_library.specs.Views.{LibraryView, view_at}
 use Rattle.cell_library.proofs.ChildLaws.{below_there}
 use Rattle.network_laws.specs.TreeRecords.TreeRecords.{HasTreeRecords}
 use Rattle.library_trees.specs.NamedCells.{IsAtOrBelow as IsSeenAtOrBelow, named_tree_at}
-use Rattle.kept_records.specs.KeptRecords.{HasKeptRecord}
-use Rattle.kept_records.specs.Laws.{ListedRecordsAreOfTheTree}
+use Rattle.library_trees.specs.KeptRecords.{HasKeptRecord}
+use Rattle.library_trees.specs.RecordLaws.{ListedRecordsAreOfTheTree}
 use Rattle.workspace.proofs.CellNames.{names_tell, tree_named}
 use Rattle.ext_cache.specs.Caches.{Agrees, IsRecordNow, Records, record_in}
 use Rattle.ext_cache.proofs.OrderLaws.{below_is_before}

@@ -24,7 +24,7 @@ use Rattle.cell_library.specs.Libraries.{IsLawfulLibrary, LibraryParts, seen}
 use Rattle.cell_library.specs.Views.{view_at}
 use Rattle.cell_library.proofs.ElementCounts.{use_is_lawful}
 use Rattle.cell_library.proofs.LayoutTreeLaws.{state_is, uses_seen}
-use Rattle.kept_records.specs.CellRecords.{library_use, library_uses}
+use Rattle.library_trees.specs.CellRecords.{library_use, library_uses}
 use Rattle.ext_cache.specs.Caches.{IsRecordNow}
 
 -- the four factors of an orientation fit

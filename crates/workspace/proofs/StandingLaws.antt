@@ -2,13 +2,13 @@
 use Rattle.std.proofs.Common.{◌≡◌, ◌<◌, ◌≤◌, ℕ, suc, length, map, refl, ap, arith, length-append}
 use Rattle.std.proofs.lemmas.List.{length-map}
 use Rattle.circuit_model.specs.declared.limits.TheConstants.{MOST_FLAT_ELEMENTS}
-use Rattle.layout_trees.specs.CellTrees.{CellTree, standings, standings_from, under}
+use Rattle.layout_model.specs.CellTrees.{CellTree, standings, standings_from, under}
 use Rattle.cell_library.specs.LayoutTrees.{tree_at}
 use Rattle.cell_library.specs.Libraries.{IsLawfulLibrary, LibraryParts, seen}
 use Rattle.cell_library.proofs.StandingCounts.{standings_few}
-use Rattle.network_laws.specs.NamedTrees.NamedTrees.{NamedElements, NamedTree, layouts_below, layouts_of, named_above, named_standings, named_standings_below}
-use Rattle.network_laws.specs.NamedTrees.NamedTrees.NamedTree.{named_tree}
-use Rattle.network_laws.specs.NamedTrees.NamedTrees.NamedElements.{no_more, element_then}
+use Rattle.network_laws.specs.TreeRecords.NamedTrees.{NamedElements, NamedTree, layouts_below, layouts_of, named_above, named_standings, named_standings_below}
+use Rattle.network_laws.specs.TreeRecords.NamedTrees.NamedTree.{named_tree}
+use Rattle.network_laws.specs.TreeRecords.NamedTrees.NamedElements.{no_more, element_then}
 use Rattle.library_trees.specs.NamedCells.{named_tree_at}
 use Rattle.library_trees.proofs.LayoutLaws.{layouts_of_cell}
 

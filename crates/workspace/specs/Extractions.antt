@@ -12,7 +12,7 @@ use Rattle.ext_cache.specs.Names.Attachments.{AreUnattached}
 use Rattle.cell_library.specs.Additions.{children_in}
 use Rattle.cell_library.specs.Views.{LibraryView, cell_named, view_at}
 use Rattle.square_lines.specs.HierMerge.UncleanCells.{IsCleanCell, IsUncleanBelow}
-use Rattle.kept_records.specs.CellRecords.{IsRecordOf}
+use Rattle.library_trees.specs.CellRecords.{IsRecordOf}
 use Rattle.ext_loading.specs.ExtFiles.{ext_file}
 use Rattle.line_answers.specs.declared.refusals.Refusal.{Refusal}
 use Rattle.line_answers.specs.LineEffects.{refused, reply}

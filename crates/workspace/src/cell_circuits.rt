@@ -15,7 +15,7 @@ use circuit_laws::flat_transistors_have_letter_and_lengths;
 use circuit_model::{CircuitLimit, FlatFault};
 use ext_model::{ArrayExt, CellKey, Circuit};
 use flatten::flatten;
-use kept_records::listed_records_are_of_the_tree;
+use library_trees::listed_records_are_of_the_tree;
 use library_trees::{chains_are_short, clean_cell_has_clean_tree};
 use network_laws::{flat_circuits_have_letters, flat_networks_fit, flat_networks_have_the_nodes};
 use session_model::Halt;

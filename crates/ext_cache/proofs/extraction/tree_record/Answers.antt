@@ -8,10 +8,10 @@ use Rattle.tech_model.specs.declared.raw.RawTech.{RawTech}
 use Rattle.names.specs.Labels.{IsLabelOf}
 use Rattle.ext_model.specs.declared.tables.ExtEntry.{ExtEntry}
 use Rattle.cell_library.specs.Libraries.{seen}
-use Rattle.use_records.specs.KeptRecords.KeptRecords.{HaveKeptRecordsBelow}
+use Rattle.element_paths.specs.LibraryTrees.KeptRecords.{HaveKeptRecordsBelow}
 use Rattle.cell_library.specs.Views.{view_at}
 use Rattle.cell_library.specs.CellPaint.Paints.{layout_of}
-use Rattle.cell_records.specs.OwnRecords.OwnRecords.{IsOwnRecord}
+use Rattle.cell_records.specs.TreeRecords.OwnRecords.{IsOwnRecord}
 use Rattle.library_labels.proofs.LabelLaws.{labels_may_name}
 use Rattle.ext_cache.specs.declared.extraction.MadeRecord.{MadeRecord}
 use Rattle.ext_cache.proofs.MadeLaws.{found_empty, made_is_now, own_record_of}

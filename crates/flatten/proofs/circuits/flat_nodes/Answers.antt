@@ -1,7 +1,7 @@
 use Rattle.std.proofs.Common.{◌≡◌, ℕ, List, length, ◌∙◌, subst, arith}
 use Rattle.full_names.specs.Names.{elements_in}
-use Rattle.node_labels.specs.Spots.{AreNamedOf}
-use Rattle.node_labels.proofs.NodeLaws.{so_many}
+use Rattle.flatten.specs.Spots.{AreNamedOf}
+use Rattle.flatten.proofs.NodeLaws.{so_many}
 use Rattle.flatten.proofs.FlatNodeLaws.{named_filled, flat_nodes_are}
 use Rattle.flatten.proofs.circuits.flat_nodes.Goals as goal
 

@@ -1,7 +1,7 @@
 use Rattle.std.proofs.Common.{List, length, sym, subst, arith}
 use Rattle.std.proofs.lemmas.List.Sorted.{IsPermutation-refl}
 use Rattle.tech_model.specs.declared.raw.RawTech.{RawTech}
-use Rattle.layout_trees.specs.FlatSets.{parts_in}
+use Rattle.layout_model.specs.FlatSets.{parts_in}
 use Rattle.offences.specs.Offences.{OffendsOn}
 use Rattle.hierarchy_model.specs.Laws.{CleanCellsKeepWhatTheyHave}
 use Rattle.cell_library.specs.declared.part_tiles.PartTile.{PartTile}

@@ -10,7 +10,7 @@ use Rattle.geo_core.specs.Covering.{Covers, IsProper}
 use Rattle.geo_core.specs.Strips.{IsInUnion, IsStrips}
 use Rattle.geo_core.proofs.StripSets.{strips_same}
 use Rattle.tech_model.specs.declared.raw.RawTech.{RawTech}
-use Rattle.layout_trees.specs.LayoutModel.LayerTypes.{Kinds, AreTypesOf}
+use Rattle.layout_model.specs.LayerTypes.{Kinds, AreTypesOf}
 use Rattle.offences.specs.declared.set_tiles.SetTile.{SetTile}
 use Rattle.offences.specs.LayerParts.{ArePartTiles}
 use Rattle.offences.specs.Offences.{SetLayout, OffendsOn, HaveTypes}

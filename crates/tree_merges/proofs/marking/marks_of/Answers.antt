@@ -6,7 +6,7 @@ use Rattle.layout_model.specs.declared.region_tiles.RegionTile.{RegionTile}
 use Rattle.layout_model.specs.RegionTiles.{regions_of}
 use Rattle.flood_nodes.specs.TileShares.{no_tile}
 use Rattle.offences.specs.declared.plane_stacks.PlaneStack.{PlaneStack}
-use Rattle.piece_groups.specs.PieceMembers.MemberMarks.{region_position}
+use Rattle.piece_groups.specs.MemberMarks.{region_position}
 use Rattle.tree_merges.specs.MemberPairs.{AddsPairs, pairs_from}
 use Rattle.tree_merges.proofs.JoinLaws.{Pair, joined_pairs, joins_next}
 use Rattle.tree_merges.proofs.PieceMarks.{region_at}

@@ -13,8 +13,8 @@ use Rattle.meeting_sums.specs.declared.limits.TheConstants.{MOST_PARTS}
 use Rattle.meeting_sums.specs.declared.sums.MeetingSum.{MeetingSum}
 use Rattle.meeting_sums.specs.StackTiles.{tiles_of}
 use Rattle.meeting_sums.specs.Sums.{AreMeetingSums}
-use Rattle.group_merges.specs.MarkMerges.{AreMergesOfMarks}
-use Rattle.piece_groups.specs.PieceMembers.MemberMarks.{mark_at}
+use Rattle.piece_groups.specs.MarkMerges.{AreMergesOfMarks}
+use Rattle.piece_groups.specs.MemberMarks.{mark_at}
 use Rattle.tree_merges.proofs.NumberedMembers.{marked_merges, parts_are_few, parts_in_order}
 use Rattle.tree_merges.proofs.PieceMarks.{marks_are_counted}
 use Rattle.tree_merges.proofs.PieceTiles.{tiles_are_spread, unnumbered_contacts}

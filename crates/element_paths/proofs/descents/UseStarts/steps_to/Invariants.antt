@@ -1,5 +1,5 @@
 use Rattle.std.proofs.Common.{◌<◌, length}
-use Rattle.layout_trees.specs.CellTrees.{standings}
+use Rattle.layout_model.specs.CellTrees.{standings}
 use Rattle.cell_library.specs.LayoutTrees.{tree_at}
 use Rattle.cell_library.specs.Libraries.{seen}
 use Rattle.element_paths.specs.UseStarts.{AreStartsOf}

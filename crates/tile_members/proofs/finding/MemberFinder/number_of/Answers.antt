@@ -2,7 +2,7 @@ use Rattle.std.proofs.Common.{sym, subst}
 use Rattle.std.proofs.lemmas.Result.{IfOk-weaker}
 use Rattle.cell_library.specs.Libraries.{seen}
 use Rattle.library_trees.specs.NamedCells.{named_tree_at}
-use Rattle.member_tiles.specs.Laws.{MembersHaveWholeTiles}
+use Rattle.tile_members.specs.TileLaws.{MembersHaveWholeTiles}
 use Rattle.tile_members.specs.KnownMembers.{IsOfMember}
 use Rattle.tile_members.specs.TileMembers.{HasTile}
 use Rattle.tile_members.proofs.FinderLaws.{finder_entered}

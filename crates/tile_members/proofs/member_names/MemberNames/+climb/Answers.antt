@@ -6,8 +6,8 @@ use Rattle.ext_model.specs.Paths.{path_text}
 use Rattle.ext_model.specs.Plain.{plain}
 use Rattle.ext_model.specs.Tables.{Table, ext_of}
 use Rattle.element_paths.specs.declared.steps.Step.{Step}
-use Rattle.record_groups.specs.Laws.{RecordsTellGroups}
-use Rattle.record_groups.specs.MergedMembers.{first_member}
+use Rattle.tile_members.specs.GroupLaws.{RecordsTellGroups}
+use Rattle.tile_members.specs.MergedMembers.{first_member}
 use Rattle.tile_members.proofs.Climbs.{Climbs, climbed_more, climbed_none}
 use Rattle.tile_members.proofs.ListPlaces.{all_behind, first_split, none_there}
 use Rattle.tile_members.proofs.member_names.MemberNames.+climb.Goals as goal

@@ -1,5 +1,0 @@
-use Rattle.adjustment_laws.proofs.AdjustmentLaws.{counts_are_adjustments}
-use Rattle.adjustment_laws.proofs.counts_within_are_adjustments.Goals as goal
-
-pub returns : goal.returns
-returns c = counts_are_adjustments c.args.tech.now

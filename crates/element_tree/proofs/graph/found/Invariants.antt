@@ -1,0 +1,7 @@
+use Rattle.std.proofs.Common.{◌≡◌, take}
+use Rattle.element_tree.specs.Goals.{found_goals}
+use Rattle.element_tree.proofs.graph.found.Given as goal
+
+-- those among the goals passed have been taken
+abbrev pub invariant-loop-goal : goal.invariant-loop-goal
+invariant-loop-goal l = l.children.items ≡ found_goals (take l.goal-index l.goals)

@@ -1,4 +1,0 @@
-mod OrderLaws
-mod JoinLaws
-mod TerminalLaws
-mod FetLaws

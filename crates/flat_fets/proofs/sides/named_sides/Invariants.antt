@@ -1,6 +1,0 @@
-use Rattle.std.proofs.Common.{◌≡◌, map, take}
-use Rattle.flat_fets.specs.Sides.{named_side}
-use Rattle.flat_fets.proofs.sides.named_sides.Given as goal
-
-abbrev pub invariant-loop-side : goal.invariant-loop-side
-invariant-loop-side l = l.named.items ≡ map (named_side l.nodes) (take l.side-index l.sides)

@@ -1,2 +1,0 @@
-mod ScanLaws
-mod PlacedLaws

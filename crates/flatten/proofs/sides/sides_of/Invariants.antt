@@ -1,0 +1,11 @@
+use Rattle.std.proofs.Common.{◌≡◌, ℕ, List, map, take}
+use Rattle.full_names.specs.NameLists.{IsFullNameList}
+use Rattle.full_names.specs.Names.{elements_in}
+use Rattle.flatten.specs.Spots.{element_at}
+use Rattle.flatten.specs.Sides.{side_of}
+use Rattle.flatten.proofs.sides.sides_of.Given as goal
+
+abbrev pub invariant-loop-at : goal.invariant-loop-at
+invariant-loop-at l =
+    (list : List (List ℕ)) → IsFullNameList (elements_in l.names) list
+    → l.sides.items ≡ map (side_of list l.labels (element_at l.names l.element)) (take l.at l.terminals)

@@ -1,0 +1,6 @@
+use Rattle.std.proofs.Common.{map, take}
+use Rattle.flatten.specs.Spots.{AreSpotsOf}
+use Rattle.flatten.proofs.spots.node_spots.Given as goal
+
+abbrev pub invariant-loop-node : goal.invariant-loop-node
+invariant-loop-node l = AreSpotsOf l.names l.cell (map (λ node. node.name) (take l.node-index l.nodes)) l.spots.items

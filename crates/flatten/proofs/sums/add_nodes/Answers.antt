@@ -1,0 +1,65 @@
+use Rattle.std.proofs.Common.{ℕ, List, map, ◌∙◌, subst}
+use Rattle.std.proofs.Math.ListN.{length-set}
+use Rattle.std.proofs.lemmas.List.{take_all}
+use Rattle.ext_model.specs.declared.records.NodeRec.{NodeRec}
+use Rattle.full_names.specs.declared.names.Spot.TheVariants.{Local}
+use Rattle.full_names.specs.Names.{IsSpotOf}
+use Rattle.flatten.specs.Spots.{element_at, cell_at}
+use Rattle.flatten.proofs.PlaceLaws.{AreAlong-at}
+use Rattle.flatten.specs.Sums.{AddAll, node_addend}
+use Rattle.flatten.proofs.AddingLaws.{step_fits, step_adds}
+use Rattle.flatten.proofs.sums.add_nodes.Goals as goal
+
+abbrev name_of : NodeRec → List ℕ
+name_of node = node.name
+
+pub node_of-number-requires-clause-spot : goal.node_of-number-requires-clause-spot
+node_of-number-requires-clause-spot c = (
+  c.index-nodes-at.result.name,
+  AreAlong-at (IsSpotOf c.args.names.now (cell_at c.args.names.now c.args.element)) name_of c.args.nodes.now c.args.spots.now c.requires.spots c.loop-at.at
+      c.loop-at-test.true c.index-nodes-at.result c.index-nodes-at.is (Local 0),
+)
+
+pub add_amounts-requires-clause-long : goal.add_amounts-requires-clause-long
+add_amounts-requires-clause-long c =
+    let labels = c.args.labels.now in
+    let nodes = c.args.nodes.now in
+    let node = c.index-nodes-at.result in
+    let f = node_addend c.requires.names.list labels (element_at c.args.names.now c.args.element) in
+    (step_fits f nodes c.loop-at.at node c.index-nodes-at.is c.loop-at-test.true labels c.requires.room.0 c.args.sums.now c.loop-at.sums
+    c.requires.below c.loop-at.invariant.long c.node_of-number.result c.node_of-number.ensures.label c.index-sums-number.result c.requires.room.1.1
+    (c.loop-at.invariant.adds c.requires.names.list c.requires.names.is_list) c.items.result.now c.items.ensures c.requires.room.1.0).long
+
+pub add_amounts-requires-clause-fit : goal.add_amounts-requires-clause-fit
+add_amounts-requires-clause-fit c =
+    let labels = c.args.labels.now in
+    let nodes = c.args.nodes.now in
+    let node = c.index-nodes-at.result in
+    let f = node_addend c.requires.names.list labels (element_at c.args.names.now c.args.element) in
+    (step_fits f nodes c.loop-at.at node c.index-nodes-at.is c.loop-at-test.true labels c.requires.room.0 c.args.sums.now c.loop-at.sums
+    c.requires.below c.loop-at.invariant.long c.node_of-number.result c.node_of-number.ensures.label c.index-sums-number.result c.requires.room.1.1
+    (c.loop-at.invariant.adds c.requires.names.list c.requires.names.is_list) c.items.result.now c.items.ensures c.requires.room.1.0).fit
+
+pub loop-at-preserved : goal.loop-at-preserved
+loop-at-preserved c = record {
+  long = length-set c.loop-at.sums c.node_of-number.result c.add_amounts.new.sum ∙ c.loop-at.invariant.long;
+  adds = λ list is_list.
+      (let labels = c.args.labels.now in
+      let nodes = c.args.nodes.now in
+      let node = c.index-nodes-at.result in
+      let f = node_addend list labels (element_at c.args.names.now c.args.element) in
+      let is_spot = AreAlong-at (IsSpotOf c.args.names.now (cell_at c.args.names.now c.args.element)) name_of nodes c.args.spots.now c.requires.spots
+      c.loop-at.at
+      c.loop-at-test.true node c.index-nodes-at.is (Local 0) in
+      step_adds f nodes c.loop-at.at node c.index-nodes-at.is c.loop-at-test.true labels c.requires.room.0 c.args.sums.now c.loop-at.sums
+      c.requires.below c.loop-at.invariant.long c.node_of-number.result c.node_of-number.ensures.label c.index-sums-number.result c.requires.room.1.1
+      (c.loop-at.invariant.adds list is_list) c.items.result.now c.items.ensures
+      (c.node_of-number.ensures.node list is_list node.name is_spot) c.add_amounts.new.sum c.add_amounts.ensures);
+}
+
+pub returns : goal.returns
+returns c list is_list =
+    let nodes = c.args.nodes.now in
+    let f = node_addend list c.args.labels.now (element_at c.args.names.now c.args.element) in
+    let P : List NodeRec → Type 0 = λ l. AddAll (map f l) c.args.sums.now c.loop-at.sums in
+    subst P (take_all c.loop-at.at nodes c.loop-at-test.false ∙ c.requires.nodes) (c.loop-at.invariant.adds list is_list)

@@ -1,0 +1,11 @@
+use Rattle.std.proofs.Common.{ℕ, List, take}
+use Rattle.std.specs.List.{flat_map}
+use Rattle.full_names.specs.NameLists.{IsFullNameList}
+use Rattle.full_names.specs.Names.{elements_in}
+use Rattle.flatten.specs.Sums.{HaveSums, addends_in}
+use Rattle.flatten.proofs.sums.node_sums.Given as goal
+
+abbrev pub invariant-loop-number : goal.invariant-loop-number
+invariant-loop-number l =
+    (list : List (List ℕ)) → IsFullNameList (elements_in l.names) list
+    → HaveSums l.classes.count l.measured (flat_map (addends_in list l.classes.labels) (take l.number (elements_in l.names))) l.sums.items

@@ -1,2 +1,0 @@
-//! Cells with all that stands below them, and their flat layouts: definitions that contracts cite.
-#![tactic(auto)]

@@ -1,2 +1,0 @@
-mod StandingTypes
-mod WholeTiles

@@ -1,6 +1,0 @@
-use Rattle.std.proofs.Common.{take}
-use Rattle.node_labels.specs.Spots.{AreFetSpotsOf}
-use Rattle.node_labels.proofs.spots.fet_spots.Given as goal
-
-abbrev pub invariant-loop-fet : goal.invariant-loop-fet
-invariant-loop-fet l = AreFetSpotsOf l.names l.cell (take l.fet-index l.fets) l.spots.items

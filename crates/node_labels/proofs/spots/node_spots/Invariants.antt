@@ -1,6 +1,0 @@
-use Rattle.std.proofs.Common.{map, take}
-use Rattle.node_labels.specs.Spots.{AreSpotsOf}
-use Rattle.node_labels.proofs.spots.node_spots.Given as goal
-
-abbrev pub invariant-loop-node : goal.invariant-loop-node
-invariant-loop-node l = AreSpotsOf l.names l.cell (map (λ node. node.name) (take l.node-index l.nodes)) l.spots.items

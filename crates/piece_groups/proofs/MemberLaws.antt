@@ -1,0 +1,110 @@
+-- Members one after the other, and then in the order of their names.
+use Rattle.std.proofs.Common.{◌≡◌, ◌≢◌, ◌<◌, ◌≤◌, ◌+◌, ℕ, false, List, [], ◌∷◌, ◌++◌, Some, take, length, get_or}
+use Rattle.std.proofs.Common.{sym, ◌∙◌, ap, subst, arith}
+use Rattle.std.specs.Prelude.{slice_get, IsPermutation, IsSorted}
+use Rattle.std.specs.Cmp.{IsTotalOrder}
+use Rattle.std.specs.Option.{option_map}
+use Rattle.std.specs.declared.cmp.Ordering.{Ordering}
+use Rattle.std.specs.declared.cmp.Ordering.TheVariants.{Less, Equal, Greater}
+use Rattle.std.specs.Ordering.{is_lt, ordering_reverse}
+use Rattle.std.proofs.lemmas.Cmp.{on_total}
+use Rattle.std.proofs.lemmas.List.{take_more, take_all, get_or-take, length-map, map-append}
+use Rattle.std.proofs.lemmas.List.Sorted.{IsPermutation-map, IsPermutation-sym}
+use Rattle.std.proofs.lemmas.Option.{get_or_from_slice_get, slice_get-map, slice_get_within}
+use Rattle.finite_sets.specs.Lists.{In, Distinct}
+use Rattle.finite_sets.proofs.Members.{In-map, In-permutation}
+use Rattle.finite_sets.proofs.Orders.{IsSorted-pairs}
+use Rattle.finite_sets.proofs.Pairs.{Pairwise, Pairwise-from_AllPairs, AllPairs-from_Pairwise}
+use Rattle.finite_sets.proofs.Places.{In-slice_get, slice_get-In, slice_get-below}
+use Rattle.finite_sets.proofs.Images.{Distinct-permutation}
+use Rattle.ext_model.specs.NameOrder.{name_cmp}
+use Rattle.ext_model.proofs.NameOrders.{name_cmp_total, name_cmp_exact}
+use Rattle.meeting_sums.specs.TreeRecords.FetRecords.{IsNameBefore}
+use Rattle.piece_groups.specs.declared.members.Member.{Member}
+use Rattle.piece_groups.specs.Members.{names_of, marks_of, member_cmp, IsMemberAt, AreMembers}
+
+pub member_cmp_total : IsTotalOrder member_cmp
+unfolding member_cmp
+member_cmp_total = on_total (λ (member : Member). member.name.now) name_cmp_total
+
+-- These are the members with the names and marks below this number, one after the other.
+pub record AreCollected (names : List (List ℕ)) (marks : List ℕ) (number : ℕ) (members : List Member) : Type 0 where
+  pub names_are : names_of members ≡ take number names
+  pub marks_are : marks_of members ≡ take number marks
+
+pub collected_none : (names : List (List ℕ)) (marks : List ℕ) (members : List Member) → members ≡ [] → AreCollected names marks 0 members
+collected_none names marks members none = record { names_are = ap names_of none; marks_are = ap marks_of none }
+
+pub collected_more : (names : List (List ℕ)) (marks : List ℕ) (number : ℕ) (members later : List Member) (member : Member)
+    (d : List ℕ) → length names ≤ length marks → number < length names → member.name.now ≡ get_or names number d → member.mark ≡ get_or marks number 0
+    → later ≡ members ++ member ∷ [] → AreCollected names marks number members → AreCollected names marks (number + 1) later
+collected_more names marks number members later member d enough within name mark is so_far = record {
+  names_are = ap names_of is ∙ map-append (λ (m : Member). m.name.now) members (member ∷ [])
+      ∙ (λ i. so_far.names_are i ++ name i ∷ []) ∙ sym (take_more names number d within);
+  marks_are = ap marks_of is ∙ map-append (λ (m : Member). m.mark) members (member ∷ [])
+      ∙ (λ i. so_far.marks_are i ++ mark i ∷ []) ∙ sym (take_more marks number 0 (omega arith));
+}
+
+module _ (names : List (List ℕ)) (marks : List ℕ) (number : ℕ) (members : List Member) (enough : length names ≤ length marks)
+    (past : length names ≤ number) (within : number ≤ length names) (are : AreCollected names marks number members) where
+  all_names : names_of members ≡ names
+  all_names = are.names_are ∙ take_all number names past
+
+  -- what stands where, once all are collected
+  member_at : (k : ℕ) (member : Member) → slice_get members k ≡ Some member → IsMemberAt names marks member k
+  member_at k member at =
+      let name_of = λ (m : Member). m.name.now in
+      let mark_of = λ (m : Member). m.mark in
+      let mark : get_or (marks_of members) k 0 ≡ member.mark =
+      get_or_from_slice_get (marks_of members) k member.mark 0 (slice_get-map mark_of members k ∙ ap (option_map mark_of) at) in
+      let below : k < number = omega (arith, slice_get_within members k member at, length-map members name_of, ap length all_names) in record {
+        named = ap (λ (list : List (List ℕ)). slice_get list k) (sym all_names) ∙ slice_get-map name_of members k ∙ ap (option_map name_of) at;
+        marked = sym (get_or-take number marks k 0 below) ∙ ap (λ (list : List ℕ). get_or list k 0) (sym are.marks_are) ∙ mark;
+      }
+
+  -- the member with a name
+  named_member : (k : ℕ) (name : List ℕ) → slice_get names k ≡ Some name → (member : Member) × (slice_get members k ≡ Some member)
+  named_member k name at =
+      slice_get-below members k
+      (omega (arith, slice_get_within names k name at, length-map members (λ (m : Member). m.name.now), ap length all_names))
+
+-- two names that differ, of which the second doesn't stand first
+name_before : (a b : List ℕ) → is_lt (name_cmp b a) ≡ false → a ≢ b → IsNameBefore a b
+name_before a b no_later differ = by (name_cmp a b) (name_cmp b a) (name_cmp_total.antisymm a b) no_later (λ tied. differ (name_cmp_exact a b tied)) where
+  by : (there back : Ordering) → there ≡ ordering_reverse back → is_lt back ≡ false → (there ≡ Equal → ⊥) → there ≡ Less
+  by there Less turned less equal = cc
+  by there Equal turned less equal = absurd (equal turned)
+  by there Greater turned less equal = turned
+
+-- sorted members with different names stand in the order of their names
+strictly_in_order : (members : List Member) → Pairwise (λ a b. is_lt (member_cmp b a) ≡ false) members → Distinct (names_of members)
+    → Pairwise (λ a b. IsNameBefore a.name.now b.name.now) members
+unfolding member_cmp
+strictly_in_order [] sorted once = tt
+strictly_in_order (member ∷ members) sorted once = (
+  λ other here. name_before member.name.now other.name.now (sorted.0 other here)
+      (λ same. once.0 (subst (λ (name : List ℕ). In name (names_of members)) (sym same) (In-map (λ (m : Member). m.name.now) other members here))),
+  strictly_in_order members sorted.1 once.1,
+)
+
+-- the members once they are sorted
+pub members_all : (names : List (List ℕ)) (marks : List ℕ) (number : ℕ) (members sorted : List Member) → Distinct names → length names ≤ length marks
+    → length names ≤ number → number ≤ length names → AreCollected names marks number members → IsPermutation members sorted → IsSorted member_cmp sorted
+    → AreMembers names marks sorted
+members_all names marks number members sorted once enough past within are moved ordered = record {
+  in_order =
+      let no_later = IsSorted-pairs member_cmp member_cmp_total sorted ordered in
+      AllPairs-from_Pairwise (λ (a b : Member). IsNameBefore a.name.now b.name.now) sorted
+      (strictly_in_order sorted (Pairwise-from_AllPairs (λ a b. is_lt (member_cmp b a) ≡ false) sorted no_later)
+      (Distinct-permutation (names_of members) (names_of sorted) (IsPermutation-map (λ (m : Member). m.name.now) members sorted moved)
+      (subst Distinct (sym (all_names names marks number members enough past within are)) once)));
+  each = λ member here.
+      let at = slice_get-In member members (In-permutation member sorted members (IsPermutation-sym members sorted moved) here) in
+      (at.0, member_at names marks number members enough past within are at.0 member at.1);
+  whole = λ k name at.
+      let found = named_member names marks number members enough past within are k name at in (
+        found.0,
+        In-permutation found.0 members sorted moved (In-slice_get members k found.0 found.1),
+        member_at names marks number members enough past within are k found.0 found.1,
+      );
+}

@@ -1,2 +1,0 @@
-pub mod PiecePlaces
-pub mod MarkedGroups

@@ -1,3 +1,0 @@
-pub mod PieceMembers
-pub mod MemberMarks
-pub mod Laws

@@ -1,3 +1,0 @@
-pub mod Cells
-mod Walks
-mod Orders

@@ -1,7 +1,0 @@
-use Rattle.std.proofs.Common.{◌≡◌, map, take}
-use Rattle.record_graph.specs.Goals.{found_goals}
-use Rattle.record_graph.proofs.graph.all_found.Given as goal
-
--- the records passed have their lists
-abbrev pub invariant-loop-goals : goal.invariant-loop-goals
-invariant-loop-goals l = l.children.items ≡ map found_goals (take l.goals-index l.graph)

@@ -1,7 +1,0 @@
-use Rattle.std.proofs.Common.{◌≡◌, map, take}
-use Rattle.record_graph.specs.Goals.{goals_in}
-use Rattle.record_graph.proofs.graph.all_goals.Given as goal
-
--- the records passed have their lists
-abbrev pub invariant-loop-ext : goal.invariant-loop-ext
-invariant-loop-ext l = l.graph.items ≡ map (goals_in l.index) (take l.ext-index l.exts)

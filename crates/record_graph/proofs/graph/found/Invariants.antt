@@ -1,7 +1,0 @@
-use Rattle.std.proofs.Common.{◌≡◌, take}
-use Rattle.record_graph.specs.Goals.{found_goals}
-use Rattle.record_graph.proofs.graph.found.Given as goal
-
--- those among the goals passed have been taken
-abbrev pub invariant-loop-goal : goal.invariant-loop-goal
-invariant-loop-goal l = l.children.items ≡ found_goals (take l.goal-index l.goals)

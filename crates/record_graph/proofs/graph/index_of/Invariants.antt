@@ -1,7 +1,0 @@
-use Rattle.std.proofs.Common.{◌≡◌, take}
-use Rattle.record_graph.specs.Goals.{cells_of}
-use Rattle.record_graph.proofs.graph.index_of.Given as goal
-
--- the cells of the records passed are in the index
-abbrev pub invariant-loop-ext : goal.invariant-loop-ext
-invariant-loop-ext l = l.index ≡ cells_of (take l.ext-index l.exts)

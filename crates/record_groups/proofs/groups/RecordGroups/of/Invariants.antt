@@ -1,8 +1,0 @@
-use Rattle.std.proofs.Common.{drop}
-use Rattle.std.specs.HashMap.{get_by}
-use Rattle.std.specs.Str.{bytes_eq}
-use Rattle.record_groups.specs.MergeTables.{FindFirst}
-use Rattle.record_groups.proofs.groups.RecordGroups.of.Given as goal
-
-abbrev pub invariant-loop-number : goal.invariant-loop-number
-invariant-loop-number l = FindFirst l.number (drop l.number l.rows) (λ member. get_by (λ key. bytes_eq member key.items) l.by_second)

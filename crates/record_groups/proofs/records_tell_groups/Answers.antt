@@ -1,5 +1,0 @@
-use Rattle.record_groups.proofs.RecordedGroups.{records_tell}
-use Rattle.record_groups.proofs.records_tell_groups.Goals as goal
-
-pub returns : goal.returns
-returns c = records_tell c.args.tech.now

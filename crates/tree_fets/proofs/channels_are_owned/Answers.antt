@@ -1,5 +1,0 @@
-use Rattle.tree_fets.proofs.OwnedChannels.{owned_channels}
-use Rattle.tree_fets.proofs.channels_are_owned.Goals as goal
-
-pub returns : goal.returns
-returns c = λ raw tree formed rules typed clean. owned_channels raw formed rules tree typed clean

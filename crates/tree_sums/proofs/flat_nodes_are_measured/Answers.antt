@@ -1,6 +1,0 @@
-use Rattle.tree_sums.proofs.FlatMeasures.{measured}
-use Rattle.tree_sums.proofs.flat_nodes_are_measured.Goals as goal
-
-pub returns : goal.returns
-returns c = λ raw exts tree root node well rules is has found deep flat place path here named.
-    measured raw exts tree root node well rules is has found deep flat place path here named

@@ -1,7 +1,0 @@
-use Rattle.tree_sums.specs.Laws.{HasClosedSums}
-use Rattle.tree_sums.proofs.ClosedSums.{clean_tree_closes, of_each}
-use Rattle.tree_sums.proofs.sums_of_records_close.Goals as goal
-
-pub returns : goal.returns
-returns c = λ raw exts tree well rules is has.
-    of_each raw (HasClosedSums raw exts tree) (λ quantity quantities. clean_tree_closes raw well rules quantity quantities exts tree is has)
