@@ -1,11 +1,11 @@
 -- what crates above name of those below
 pub use Rattle.flat_limits.proofs as FlatLimits
 pub use Rattle.name_classes.proofs as NameClasses
-pub mod PlaceLaws
-pub mod LabelLaws
-pub mod GroupLaws
-pub mod NodeLaws
-pub mod SpotLaws
+mod PlaceLaws
+mod LabelLaws
+mod GroupLaws
+mod NodeLaws
+mod SpotLaws
 mod ScanLaws
 mod PlacedLaws
 mod AmountLaws

@@ -1,8 +1,8 @@
 -- what crates above name of those below
 pub use Rattle.full_names.proofs as FullNames
 pub use Rattle.meeting_sums.proofs.LowerMeetingLaws as LowerMeetingLaws
-pub mod PlacesOfPieces
-pub mod MarkedGroups
+mod PlacesOfPieces
+mod MarkedGroups
 mod MemberLaws
 mod LinkLaws
 mod WalkLaws

@@ -21,13 +21,13 @@ mod OwnedFets
 mod AllFets
 mod StandingPaths
 mod FoundNames
-pub mod RecordFets
+mod RecordFets
 mod NamedSums
 mod RecordedQuantities
 pub mod MaterialPlaces
 mod Shares
 mod OwnMembers
-pub mod GroupShares
+mod GroupShares
 mod AllGroups
 pub mod BelowSums
 mod CellSums
