@@ -40,7 +40,8 @@ counts_below sizes (entry ∷ rest) some =
     mul-le-mul_left (length (displacements entry.1.grid)) (some 0 entry refl) in
     omega arith
 
-elements_are : (sizes : ℕ → Size) (cell : CellState) → (size_of sizes cell).elements ≡ suc (elements_below sizes cell.uses)
+-- the elements of a size that was worked out
+pub elements_are : (sizes : ℕ → Size) (cell : CellState) → (size_of sizes cell).elements ≡ suc (elements_below sizes cell.uses)
 unfolding size_of
 elements_are sizes cell = refl
 

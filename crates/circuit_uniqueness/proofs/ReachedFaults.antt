@@ -24,6 +24,7 @@ use Rattle.circuit_model.specs.Elements.{Element, elements_of, ext_of}
 use Rattle.circuit_model.specs.FlatNodes.{is_among}
 use Rattle.circuit_model.specs.Refusals.{after_slash, before_slash, chain_length, class_fault, count_fault, depth_of, element_fault, first_fault, flat_fault}
 use Rattle.circuit_model.specs.Refusals.{greatest, leads, merge_count, merge_fault, name_bytes, node_count, past, path_fault, use_fault, walk_fault}
+use Rattle.plain_records.proofs.ElementTree.RecordWalks.{at_use}
 use Rattle.circuit_uniqueness.specs.FlatCircuits.{AgreeBelow}
 use Rattle.circuit_uniqueness.proofs.ReachedElements.{IsReached, child_reached, elements_reached, same_child, same_elements}
 
@@ -52,14 +53,6 @@ few_names exts names once found =
     omega (arith, few, length-map exts (λ (e : CellExt). e.cell))
 
 -- ---- the walk, and its chains
-
--- what a use gives, by what its cell has
-abbrev at_use : ℕ → List CellExt → List (List ℕ) → List ℕ → Option CellExt → Option FlatFault
-at_use bound exts open_cells name found =
-    elim found [
-      | None ↦ Some (NoCell name)
-      | Some child ↦ if is_among open_cells name then Some (Cycle name) else use_fault bound exts (name ∷ open_cells) child
-    ]
 
 -- the use that a path begins with
 abbrev find_use : CellExt → List ℕ → Option UseRec

@@ -1,11 +1,11 @@
 -- The uses of a cell as its record has them, and their elements.
 use Rattle.std.proofs.Common.{◌≡◌, ℕ, ℤ, pos, zero, suc, ◌+◌, ◌<◌, ◌≤◌, List, [], ◌∷◌, ◌++◌, length, map, take, append_assoc, Some, None}
-use Rattle.std.proofs.Common.{◌+ℤ◌, ◌*ℤ◌, inl, inr, refl, sym, ap, ◌∙◌, arith}
+use Rattle.std.proofs.Common.{◌+ℤ◌, ◌*ℤ◌, refl, sym, ap, ◌∙◌, arith}
 use Rattle.std.specs.Prelude.{Option, slice_get}
 use Rattle.std.specs.List.{flat_map}
 use Rattle.std.proofs.lemmas.Int.{ints}
 use Rattle.std.proofs.lemmas.List.{length-map, take_more}
-use Rattle.std.proofs.lemmas.Option.{get_or_from_slice_get, none-some, slice_get_cases, slice_get_within}
+use Rattle.std.proofs.lemmas.Option.{get_or_from_slice_get, slice_get_within}
 use Rattle.std.proofs.lemmas.Simd.{map-map}
 use Rattle.geo_core.specs.declared.grids.Grid.{Grid}
 use Rattle.geo_core.specs.declared.orients.Orient.{Orient}
@@ -43,10 +43,6 @@ added_on {X} all n next before so_far after at is more =
     ∙ ap (λ (xs : List X). xs ++ next ∷ []) is
     ∙ append_assoc before (take n all) (next ∷ [])
     ∙ ap (λ (xs : List X). before ++ xs) (sym one_more)
-
--- where nothing is found all is past
-pub none_past : {X : Type 0} (xs : List X) (k : ℕ) → slice_get xs k ≡ None → length xs ≤ k
-none_past xs k none = elim (slice_get_cases xs k).1 [ inl there ↦ absurd (none-some there.0 (sym none ∙ there.2)) | inr past ↦ past.0 ]
 
 -- ---- elements
 

@@ -1,7 +1,7 @@
 mod WalkLaws
 mod Turns
 pub mod Cells
-mod Walks
+pub mod RecordWalks
 mod Orders
 mod NameOrders
 pub mod Transforms

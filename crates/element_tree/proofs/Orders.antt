@@ -25,7 +25,7 @@ use Rattle.element_tree.specs.declared.graph.RecordGraph.{RecordGraph}
 use Rattle.element_tree.specs.Graphs.{LeadTo, AreDone, IsGraphOf, children_of}
 use Rattle.element_tree.specs.Goals.{cells_of, goals_in, goal_graph, found_goals, IsUseAt, IsUseOf, IsNamedFault}
 use Rattle.element_tree.proofs.Cells.{numbered}
-use Rattle.element_tree.proofs.Walks.{fault_named, cell_of_use, cell_named}
+use Rattle.element_tree.proofs.RecordWalks.{fault_named, cell_of_use, cell_named}
 
 -- ---- lists turned round
 

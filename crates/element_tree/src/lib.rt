@@ -37,7 +37,7 @@
 //! ## The graph
 //!
 //! The records become a graph of numbers, in which `walk` finds the order or the first fault. `Cells` ties the number of a cell to
-//! its record, `Walks` shows by recursion on the depth that the walk over numbers finds the fault of the records, and `Orders` that the
+//! its record, `RecordWalks` shows by recursion on the depth that the walk over numbers finds the fault of the records, and `Orders` that the
 //! order of the walk leads each use to a record done before, and that a fault names a use that is there.
 #![tactic(auto)]
 

@@ -4,7 +4,7 @@ use Rattle.std.proofs.lemmas.List.{length-map}
 use Rattle.std.proofs.lemmas.Option.{slice_get_within, same_Some}
 use Rattle.finite_sets.specs.Chain.{EitherWay}
 use Rattle.finite_sets.specs.Lists.{In}
-use Rattle.finite_sets.proofs.Chains.{Chain-one, Chain-append, Chain-carries}
+use Rattle.finite_sets.proofs.Chains.{Chain-one, Chain-carries}
 use Rattle.finite_sets.proofs.Members.{In-map, In-map_source}
 use Rattle.finite_sets.proofs.Places.{one_place}
 use Rattle.geo_core.specs.declared.squares.Square.{Square}
@@ -23,7 +23,7 @@ use Rattle.offences.specs.Offences.{SetLayout}
 use Rattle.group_meetings.specs.TreeRecords.NamedTrees.{NamedTree}
 use Rattle.group_meetings.specs.TreeRecords.NamedTrees.NamedTree.{named_tree}
 use Rattle.group_meetings.specs.TreeRecords.MemberGroups.{AreOneGroup, IsMemberAt, IsMemberOf}
-use Rattle.group_meetings.proofs.TreeNames.GroupNames.{members_together}
+use Rattle.group_meetings.proofs.TreeNames.GroupNames.{group_then, members_together}
 use Rattle.group_meetings.specs.MeetingLaws.PartLayouts.{parts_layout, Passes}
 use Rattle.group_meetings.specs.Members.{tree_parts, MeetInRegion}
 use Rattle.group_meetings.proofs.GroupRegions.{members_joined}
@@ -36,10 +36,6 @@ use Rattle.piece_groups.specs.MemberMarks.{region_position, mark_at}
 use Rattle.piece_groups.specs.PieceMembers.{LiesInPiece}
 use Rattle.piece_groups.proofs.PlacesOfPieces.{tile_is_material, place_of_piece, stands_in_piece, material_is_within, restricted_is_material}
 use Rattle.piece_groups.proofs.PlacesOfPieces.{part_stands_there}
-
--- one group and then another
-group_then : (raw : RawTech) (tree : NamedTree) (a b c : Place) → AreOneGroup raw tree a b → AreOneGroup raw tree b c → AreOneGroup raw tree a c
-group_then raw (named_tree own elements) a b c first second = Chain-append first second
 
 -- The member of this name is listed, and has the mark.
 abbrev IsMarked : List (List ℕ) → List ℕ → ℕ → List ℕ → Type 0

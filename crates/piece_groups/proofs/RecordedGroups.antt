@@ -1,5 +1,5 @@
 -- The groups of marked pieces are those of the cell's record.
-use Rattle.std.proofs.Common.{◌≡◌, ℕ, Bool, List, length, inl, inr, refl, sym, ap, subst, ◌∙◌}
+use Rattle.std.proofs.Common.{◌≡◌, ℕ, Bool, List, length, inl, inr, refl, sym, subst, ◌∙◌}
 use Rattle.finite_sets.specs.Lists.{In}
 use Rattle.finite_sets.proofs.Places.{slice_get-In}
 use Rattle.geo_core.specs.declared.squares.Square.{Square}
@@ -15,9 +15,9 @@ use Rattle.offences.specs.Offences.{SetLayout}
 use Rattle.piece_groups.specs.TreeRecords.NamedTrees.{NamedTree}
 use Rattle.piece_groups.specs.TreeRecords.FlatLayouts.{flat_layout}
 use Rattle.piece_groups.specs.TreeRecords.MemberGroups.{IsGroupName, IsMemberAt}
-use Rattle.piece_groups.specs.TreeRecords.Merges.{Adjustment, AreAdjustments, HasGroupIn, IsMemberGroup, MemberGroup, group_name}
+use Rattle.piece_groups.specs.TreeRecords.Merges.{Adjustment, AreAdjustments, HasGroupIn, IsMemberGroup, MemberGroup}
 use Rattle.piece_groups.specs.TreeRecords.PlaceWeights.{capacitance_weight, IsAdjustment}
-use Rattle.group_meetings.proofs.TreeNames.GroupNames.{group_name_along, members_together}
+use Rattle.group_meetings.proofs.TreeNames.GroupNames.{group_name_is, group_name_along, members_together}
 use Rattle.piece_groups.proofs.MeetingLaws.LinkLaws.{someone_stands}
 use Rattle.group_meetings.specs.Members.{tree_parts}
 use Rattle.group_meetings.proofs.PartMembers.{flat_is_of_parts, member_at_part}
@@ -32,11 +32,6 @@ use Rattle.piece_groups.proofs.MarkedMembers.{group_at}
 use Rattle.piece_groups.proofs.GroupAdjustments.{space_in_none, cap_adjusts, measures_adjust}
 use Rattle.piece_groups.proofs.MarkedAdjustments.{mark_counts}
 use Rattle.piece_groups.proofs.UnlistedMembers.{alone, alone_is_group, alone_is_named, zero_is_zero}
-
--- the name of a group is the name that its members begin with
-group_name_is : (raw : RawTech) (tree : NamedTree) (group : MemberGroup) (is : IsMemberGroup raw tree group) → group_name group ≡ is.name
-group_name_is raw tree group is =
-    ap (λ (members : List (List ℕ)). group_name (record { members = members; adjustment = group.adjustment })) is.members_are
 
 module _ (raw : RawTech) (formed : IsWellFormed raw) (rules : KeepsRules raw) (within : Square → Bool) (tree : NamedTree) (others : List SetLayout)
     (stacks : List PlaneStack) (names : List (List ℕ)) (pairs : List (ℕ × ℕ)) (tiles : List RegionTile) (count : ℕ) (marks : List ℕ)

@@ -1,3 +1,5 @@
+-- what crates above name of those below
+pub use Rattle.element_tree.proofs as ElementTree
 mod CutLaws
 mod StepLaws
 pub mod UseLaws

@@ -36,7 +36,7 @@ use Rattle.element_tree.proofs.Counting.{leads_at}
 use Rattle.plain_records.specs.Plains.{plains}
 use Rattle.plain_records.specs.Reached.{reach_fault, with_merges, IsExpandedAt}
 use Rattle.plain_records.proofs.PlaceLaws.{found_at}
-use Rattle.plain_records.proofs.WalkLaws.{at_use}
+use Rattle.element_tree.proofs.RecordWalks.{at_use}
 
 -- The record is one of those in the order.
 pub record IsReached (records : List CellExt) (order : List ℕ) (ext : CellExt) : Type 0 where

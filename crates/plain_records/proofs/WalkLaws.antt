@@ -11,10 +11,11 @@ use Rattle.ext_model.specs.declared.arrays.ArrayUse.{ArrayUse}
 use Rattle.ext_model.specs.declared.arrays.ArrayExt.{ArrayExt}
 use Rattle.ext_model.specs.Plain.{plain, plain_uses}
 use Rattle.circuit_model.specs.declared.faults.FlatFault.{FlatFault}
-use Rattle.circuit_model.specs.declared.faults.FlatFault.TheVariants.{NoCell, Cycle}
+use Rattle.circuit_model.specs.declared.faults.FlatFault.TheVariants.{Cycle}
 use Rattle.circuit_model.specs.Elements.{ext_of}
 use Rattle.circuit_model.specs.FlatNodes.{is_among}
 use Rattle.circuit_model.specs.Refusals.{first_fault, use_fault, walk_fault}
+use Rattle.element_tree.proofs.RecordWalks.{at_use}
 use Rattle.plain_records.specs.Plains.{plains}
 use Rattle.plain_records.specs.Thin.{first_use, thin, thins}
 use Rattle.plain_records.proofs.UseLaws.{some_uses, uses_cell, first_in}
@@ -42,14 +43,6 @@ first_blocks f g [] same = refl
 first_blocks f g (used ∷ uses) same =
     ap (option_or (f (first_use used))) (first_blocks f g uses same)
     ∙ sym (one_block g (f (first_use used)) (plain_uses used) (flat_map plain_uses uses) (same used) (some_uses used))
-
--- the fault at a use that leads to this
-abbrev pub at_use : ℕ → List CellExt → List (List ℕ) → List ℕ → Option CellExt → Option FlatFault
-at_use bound records open_cells cell found =
-    elim found [
-      | None ↦ Some (NoCell cell)
-      | Some child ↦ cond (is_among open_cells cell) (Some (Cycle cell)) (use_fault bound records (cell ∷ open_cells) child)
-    ]
 
 module _ (exts : List ArrayExt) where
   abbrev here : ℕ → List CellExt → List (List ℕ) → List ℕ → Option FlatFault

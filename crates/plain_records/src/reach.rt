@@ -9,10 +9,9 @@ ghost use Rattle.plain_records.specs.Reached.{spread, spread_graph, AreReached, 
 
 use crate::uses::element_count;
 use circuit_model::{CircuitLimit, FlatFault, LONGEST_CHAIN, MOST_FLAT_ELEMENTS};
-use element_tree::chain_lengths;
+use element_tree::{RecordGraph, chain_lengths, record_graph};
 use ext_model::{ArrayExt, ArrayUse, CellExt};
 use names_lists::List;
-use element_tree::{RecordGraph, record_graph};
 use std::alloc::{AllocError, Global};
 
 // How many elements are at or below a record whose uses lead to these children, or one more than the most.

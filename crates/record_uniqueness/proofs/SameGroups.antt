@@ -1,7 +1,6 @@
 -- Groups of a cell with one name are one.
-use Rattle.std.proofs.Common.{◌≡◌, ℕ, List, sym, ap, subst}
+use Rattle.std.proofs.Common.{◌≡◌, ℕ, List, sym, subst}
 use Rattle.finite_sets.specs.Lists.{In}
-use Rattle.finite_sets.proofs.Chains.{Chain-append}
 use Rattle.tech_model.specs.declared.raw.RawTech.{RawTech}
 use Rattle.tech_model.specs.WellFormed.{IsWellFormed}
 use Rattle.tree_circuits.specs.TreeNames.CleanTrees.{IsCleanTree}
@@ -9,24 +8,14 @@ use Rattle.tree_circuits.specs.TreeNames.TreeRecords.LayoutModel.Places.{Place}
 use Rattle.tree_circuits.specs.TreeNames.TreeRecords.LayoutModel.Technologies.{rules_of}
 use Rattle.tree_circuits.specs.TreeNames.TreeRecords.MemberGroups.{AreOneGroup, IsGroupName, IsMemberOf}
 use Rattle.tree_circuits.specs.TreeNames.TreeRecords.NamedTrees.{NamedTree}
-use Rattle.tree_circuits.specs.TreeNames.TreeRecords.NamedTrees.NamedTree.{named_tree}
-use Rattle.tree_circuits.specs.TreeRecords.Merges.{AreAdjustments, IsMemberGroup, MemberGroup, group_name}
+use Rattle.tree_circuits.specs.TreeRecords.Merges.{AreAdjustments, IsMemberGroup, MemberGroup}
 use Rattle.tree_circuits.specs.TreeRecords.PlaceWeights.{IsAdjustment, capacitance_weight}
 use Rattle.tree_circuits.proofs.FullNames.ListOrders.{same_in_order}
-use Rattle.tree_circuits.proofs.TreeNames.GroupNames.{one_group}
+use Rattle.tree_circuits.proofs.TreeNames.GroupNames.{group_then, one_group}
 use Rattle.tree_circuits.proofs.TreeNames.GroupNodes.{group_back}
 use Rattle.record_uniqueness.proofs.SameTotals.{same_adjustment, same_adjustments}
 
--- a place of a group, and another of that one's group
-group_through : (raw : RawTech) (tree : NamedTree) (a b c : Place) → AreOneGroup raw tree a b → AreOneGroup raw tree b c → AreOneGroup raw tree a c
-group_through raw (named_tree own elements) a b c first second = Chain-append first second
-
 module _ (raw : RawTech) (well : IsWellFormed raw) (tree : NamedTree) (clean : IsCleanTree raw tree) where
-  -- the name of a group is that of its first member
-  pub name_of_group : (group : MemberGroup) (is : IsMemberGroup raw tree group) → group_name group ≡ is.name
-  name_of_group group is =
-      ap (λ (members : List (List ℕ)). group_name (record { members = members; adjustment = group.adjustment })) is.members_are
-
   module _ (group other : MemberGroup) (p : IsMemberGroup raw tree group) (q : IsMemberGroup raw tree other) (names : p.name ≡ q.name) where
     -- both are of one place
     together : AreOneGroup raw tree p.place q.place
@@ -39,12 +28,12 @@ module _ (raw : RawTech) (well : IsWellFormed raw) (tree : NamedTree) (clean : I
         there : (member : List ℕ) → In member group.members → In member other.members
         there member here =
             let of : IsMemberOf raw tree p.place member = (p.members member).0 here in
-            (q.members member).1 (of.0, group_through raw tree q.place p.place of.0 (group_back raw tree p.place q.place together) of.1, of.2)
+            (q.members member).1 (of.0, group_then raw tree q.place p.place of.0 (group_back raw tree p.place q.place together) of.1, of.2)
 
         back : (member : List ℕ) → In member other.members → In member group.members
         back member here =
             let of : IsMemberOf raw tree q.place member = (q.members member).0 here in
-            (p.members member).1 (of.0, group_through raw tree p.place q.place of.0 together of.1, of.2)
+            (p.members member).1 (of.0, group_then raw tree p.place q.place of.0 together of.1, of.2)
 
     -- and add the same to them
     same_group_adjustment : group.adjustment ≡ other.adjustment

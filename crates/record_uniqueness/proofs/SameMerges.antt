@@ -18,9 +18,9 @@ use Rattle.tree_circuits.specs.TreeNames.TreeRecords.FetRecords.{IsNameBefore}
 use Rattle.tree_circuits.specs.TreeRecords.Merges.{AreGroupMerges, MemberGroup, group_merges, group_name, is_zero_adjustment, merge_of}
 use Rattle.tree_circuits.proofs.FullNames.ListOrders.{not_before_itself}
 use Rattle.tree_circuits.proofs.MaterialPlaces.{named_place}
-use Rattle.tree_circuits.proofs.TreeNames.GroupNames.{one_group_name}
+use Rattle.tree_circuits.proofs.TreeNames.GroupNames.{group_name_is, one_group_name}
 use Rattle.record_uniqueness.specs.RecordUniqueness.{GroupMergesAreUnique}
-use Rattle.record_uniqueness.proofs.SameGroups.{name_of_group, same_group}
+use Rattle.record_uniqueness.proofs.SameGroups.{same_group}
 
 -- ---- lists that may be empty
 
@@ -76,7 +76,7 @@ module _ (raw : RawTech) (well : IsWellFormed raw) (rules : KeepsRules raw) (tre
       let passes : some group ≡ true = In-filter_passes some group p.groups here in
       let found = q.whole is.place (named_place raw well rules tree clean is.place is.name is.named) in
       let name : is.name ≡ found.is.name =
-      one_group_name raw tree is.place is.name (group_name found.group) is.named found.named ∙ name_of_group raw well tree clean found.group found.is in
+      one_group_name raw tree is.place is.name (group_name found.group) is.named found.named ∙ group_name_is raw tree found.group found.is in
       let same : group ≡ found.group = same_group raw well tree clean group found.group is found.is name in
       let passes_too : some found.group ≡ true = ap some (sym same) ∙ passes in
       elim found.listed [

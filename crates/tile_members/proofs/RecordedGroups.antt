@@ -1,7 +1,6 @@
 -- The record of a clean cell tells the name of the group of each member.
-use Rattle.std.proofs.Common.{◌≡◌, ◌⊎◌, ℕ, List, inl, inr, sym, ap, subst, ◌∙◌}
+use Rattle.std.proofs.Common.{◌≡◌, ◌⊎◌, ℕ, List, inl, inr, sym, subst, ◌∙◌}
 use Rattle.finite_sets.specs.Lists.{In}
-use Rattle.finite_sets.proofs.Chains.{Chain-append}
 use Rattle.finite_sets.proofs.Images.{In-flat_map, In-flat_map_source}
 use Rattle.tech_model.specs.declared.raw.RawTech.{RawTech}
 use Rattle.tech_model.specs.Rules.{KeepsRules}
@@ -11,13 +10,12 @@ use Rattle.layout_model.specs.Places.{Place}
 use Rattle.layout_model.specs.Technologies.{Class, rules_of}
 use Rattle.ext_model.specs.declared.records.MergeRec.{MergeRec}
 use Rattle.group_meetings.specs.TreeRecords.NamedTrees.{NamedTree}
-use Rattle.group_meetings.specs.TreeRecords.NamedTrees.NamedTree.{named_tree}
 use Rattle.group_meetings.specs.TreeRecords.FlatLayouts.{flat_layout}
 use Rattle.group_meetings.specs.TreeRecords.MemberGroups.{AreOneGroup, IsGroupName, IsMemberAt}
 use Rattle.group_meetings.specs.TreeRecords.Merges.{MemberGroup, AreGroupMerges, HasGroupIn, IsMemberGroup, group_merges, group_name}
 use Rattle.group_meetings.specs.TreeNames.CleanTrees.{IsCleanTree}
 use Rattle.group_meetings.proofs.TreeNames.GroupMerges.{merge_members}
-use Rattle.group_meetings.proofs.TreeNames.GroupNames.{group_name_along, members_together, one_group, one_group_name}
+use Rattle.group_meetings.proofs.TreeNames.GroupNames.{group_name_is, group_then, group_name_along, members_together, one_group, one_group_name}
 use Rattle.group_meetings.proofs.MemberMaterial.{flat_of_part, member_is_material}
 use Rattle.group_meetings.proofs.PartMembers.{part_of_member}
 use Rattle.tile_members.specs.GroupLaws.{RecordsTellGroups}
@@ -31,14 +29,6 @@ member_has_material raw formed rules tree is place member at =
     let part = part_of_member raw tree place member at in
     flat_of_part raw tree is.clean part.0 place (member_is_material raw formed rules tree is.typed is.clean part.0 place member part.1)
 
--- places that are of one group with a third are of one group
-through : (raw : RawTech) (tree : NamedTree) (a b c : Place) → AreOneGroup raw tree a b → AreOneGroup raw tree b c → AreOneGroup raw tree a c
-through raw (named_tree own elements) a b c first second = Chain-append first second
-
--- the name of a group, by the group as its record has it
-named_first : (raw : RawTech) (tree : NamedTree) (group : MemberGroup) (of : IsMemberGroup raw tree group) → group_name group ≡ of.name
-named_first raw tree group of = ap (λ (members : List (List ℕ)). group_name (group_with group.adjustment members)) of.members_are
-
 module _ (raw : RawTech) (formed : IsWellFormed raw) (tree : NamedTree) (is : IsCleanTree raw tree) (merges : List MergeRec)
     (are : AreGroupMerges raw tree merges) (place : Place) (member : List ℕ) (at : IsMemberAt raw tree place member) where
   abbrev classes : List Class
@@ -48,8 +38,8 @@ module _ (raw : RawTech) (formed : IsWellFormed raw) (tree : NamedTree) (is : Is
   name_of_place : (group : MemberGroup) → IsMemberGroup raw tree group → In member group.members → IsGroupName raw tree place (group_name group)
   name_of_place group of listed =
       let has = (of.members member).0 listed in
-      let together = through raw tree of.place has.0 place has.1 (members_together raw formed tree is has.0 place member has.2 at) in
-      subst (IsGroupName raw tree place) (sym (named_first raw tree group of)) (group_name_along raw tree of.place place of.name together of.named)
+      let together = group_then raw tree of.place has.0 place has.1 (members_together raw formed tree is has.0 place member has.2 at) in
+      subst (IsGroupName raw tree place) (sym (group_name_is raw tree group of)) (group_name_along raw tree of.place place of.name together of.named)
 
   -- a merge that has the member as its second begins with the name of the group of the place
   first_of_merge : (name : List ℕ) → IsGroupName raw tree place name → (merge : MergeRec) → In merge merges → merge.second ≡ member → merge.first ≡ name
@@ -68,7 +58,7 @@ module _ (raw : RawTech) (formed : IsWellFormed raw) (tree : NamedTree) (is : Is
   first_or_second found name named =
       let group = found.group in
       let of = found.is in
-      let first = named_first raw tree group of in
+      let first = group_name_is raw tree group of in
       let same : group_name group ≡ name = one_group_name raw tree place (group_name group) name found.named named in
       let at_place : IsGroupName raw tree place of.name = subst (IsGroupName raw tree place) first found.named in
       let together = one_group raw formed tree is of.place place of.name of.named at_place in

@@ -24,8 +24,9 @@ use Rattle.tree_names.specs.TreeRecords.MemberGroups.{AreOneGroup, IsGroupName, 
 use Rattle.tree_names.specs.TreeRecords.NamedTrees.{NamedTree}
 use Rattle.tree_names.specs.TreeRecords.Merges.{AreGroupMerges, MemberGroup, IsMemberGroup, HasGroupIn, group_name, group_merges}
 use Rattle.tree_circuits.specs.TreeSums.{RecordedQuantity}
+use Rattle.tree_names.proofs.GroupNames.{group_name_is}
 use Rattle.tree_circuits.proofs.RecordedQuantities.{IsRecordedQuantity, amount_of}
-use Rattle.tree_circuits.proofs.GroupShares.{IsShared, shares_of, first_is_name, merges_passing, merges_of_group, cond_nothing}
+use Rattle.tree_circuits.proofs.GroupShares.{IsShared, shares_of, merges_passing, merges_of_group, cond_nothing}
 use Rattle.tree_names.proofs.FullNames.ListOrders.{not_before_itself}
 use Rattle.tree_circuits.proofs.Shares.{Shared, adds_passing}
 use Rattle.tree_circuits.proofs.NamedSums.{names_in}
@@ -111,7 +112,7 @@ module _ (raw : RawTech) (quantity : RecordedQuantity) (quantities : IsRecordedQ
     named_member : (place : Place) (member : List ℕ) (group : MemberGroup) → IsMemberGroup raw tree group → IsGroupName raw tree place (group_name group)
         → IsMemberAt raw tree place member → In member group.members
     named_member place member group is named at =
-        let name = subst (IsGroupName raw tree place) (first_is_name raw tree group is) named in
+        let name = subst (IsGroupName raw tree place) (group_name_is raw tree group is) named in
         (is.members member).1 (place, by_name is.place place is.name is.named name, at)
 
     -- Groups of one of the members each that add nothing, for those that merges do not tell of.
@@ -244,7 +245,7 @@ module _ (raw : RawTech) (quantity : RecordedQuantity) (quantities : IsRecordedQ
             let P : List ℕ → Type 0 = λ n. In n found.0.members in
             let first = subst (In is.name) (sym is.members_are) (inl refl) in
             (others.names name there).1 (In-flat_map members_of found.0 name are.groups found.1.0
-            (subst P (sym (first_is_name raw tree found.0 is) ∙ found.1.1) first))));
+            (subst P (sym (group_name_is raw tree found.0 is) ∙ found.1.1) first))));
         whole = λ place member at. elim (others.whole member (known place member at)) [
           | inl old ↦
               let source = In-flat_map_source members_of member are.groups old in

@@ -16,6 +16,7 @@ use Rattle.tree_names.specs.TreeRecords.Merges.{Adjustment, MemberGroup, IsMembe
 use Rattle.tree_names.specs.TreeRecords.PlaceWeights.{PlaceWeight, AreMemberTotals, IsGroupTotal, IsMemberTotal}
 use Rattle.tree_circuits.specs.TreeSums.{RecordedQuantity}
 use Rattle.tree_circuits.proofs.RecordedQuantities.{IsRecordedQuantity, amount_of}
+use Rattle.tree_names.proofs.GroupNames.{group_name_is}
 use Rattle.tree_names.proofs.FullNames.ListOrders.{Distinct-names, pairwise_names}
 use Rattle.tree_circuits.proofs.Shares.{Shared, AddsTheRest, members_sum}
 use Rattle.tree_circuits.proofs.NamedSums.{names_in}
@@ -63,10 +64,6 @@ pub record SharesOf (raw : RawTech) (quantity : RecordedQuantity) (tree : NamedT
   pub names : names_in shared.members ≡ group.members
   pub adds : shared.adds ≡ amount_of quantity group.adjustment
 
--- a group goes by its first member
-pub first_is_name : (raw : RawTech) (tree : NamedTree) (group : MemberGroup) (is : IsMemberGroup raw tree group) → group_name group ≡ is.name
-first_is_name raw tree group is = ap (λ (members : List (List ℕ)). group_name (record { members = members; adjustment = group.adjustment })) is.members_are
-
 -- each group has them
 pub shares_of : (raw : RawTech) (quantity : RecordedQuantity) → IsRecordedQuantity raw quantity → (tree : NamedTree) (group : MemberGroup)
     → IsMemberGroup raw tree group
@@ -86,7 +83,7 @@ shares_of raw quantity quantities tree group is =
         totals = pairs.totals;
         rest = adjusts.is ∙ ap (λ z. adjusts.whole -ℤ z) (sym pairs.sum);
       };
-      name = sym (first_is_name raw tree group is);
+      name = sym (group_name_is raw tree group is);
       names = pairs.names;
       adds = refl;
     }

@@ -31,9 +31,8 @@ use Rattle.tree_circuits.specs.TreeRecords.Merges.{Adjustment, MemberGroup, IsMe
 use Rattle.tree_circuits.specs.TreeRecords.TreeRecords.{HasTreeRecord, HasTreeRecords, HaveTreeRecords}
 use Rattle.tree_circuits.specs.TreeNames.CleanTrees.{IsCleanTree, depth_below, depth_of}
 use Rattle.tree_circuits.proofs.TreeNames.CleanTrees.{AreCleanTrees, clean_below, clean_first, clean_rest}
-use Rattle.tree_circuits.proofs.TreeNames.GroupNames.{group_name_along, members_together, one_group_name}
+use Rattle.tree_circuits.proofs.TreeNames.GroupNames.{group_name_is, group_name_along, members_together, one_group_name}
 use Rattle.tree_circuits.proofs.TreeNames.GroupNodes.{group_back}
-use Rattle.tree_circuits.proofs.GroupShares.{first_is_name}
 use Rattle.tree_circuits.proofs.MergePaths.{name_member}
 use Rattle.tree_circuits.proofs.RecordCounts.{found_count, found_names, node_paths, node_paths_below, nodes_in, path_count, tree_count, tree_count_below}
 
@@ -88,7 +87,7 @@ module _ (raw : RawTech) (formed : IsWellFormed raw) where
       let joined = Chain-append first.1 (Chain-append middle (group_back raw tree is_other.place second.0 second.1)) in
       let same = one_group_name raw tree is_other.place is_one.name is_other.name
       (group_name_along raw tree is_one.place is_other.place is_one.name joined is_one.named) is_other.named in
-      first_is_name raw tree one is_one ∙ same ∙ sym (first_is_name raw tree other is_other)
+      group_name_is raw tree one is_one ∙ same ∙ sym (group_name_is raw tree other is_other)
 
   -- the members of groups differ
   members_differ : (tree : NamedTree) → IsCleanTree raw tree → (groups : List MemberGroup)

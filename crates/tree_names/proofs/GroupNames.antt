@@ -1,5 +1,5 @@
 -- The names of groups and members: one group goes by a name, and a group goes by one name.
-use Rattle.std.proofs.Common.{◌≡◌, ℕ, List, inl, inr, refl, sym, ◌∙◌, subst}
+use Rattle.std.proofs.Common.{◌≡◌, ℕ, List, inl, inr, refl, sym, ◌∙◌, ap, subst}
 use Rattle.finite_sets.specs.Lists.{Distinct}
 use Rattle.finite_sets.proofs.Chains.{Chain-append, Chain-one}
 use Rattle.finite_sets.proofs.Leasts.{IsLeast-iff, IsLeast-unique}
@@ -10,6 +10,7 @@ use Rattle.layout_model.specs.Places.{Place}
 use Rattle.hierarchy_model.specs.LayoutModel.CellTrees.{place_back}
 use Rattle.own_record_laws.specs.TreeRecords.FetRecords.{IsNoLaterName}
 use Rattle.own_record_laws.proofs.PreferredNames.{later_both_ways}
+use Rattle.tree_records.specs.Merges.{IsMemberGroup, MemberGroup, group_name}
 use Rattle.tree_records.specs.MemberGroups.{AreOneGroup, AreOneGroupBelow, IsGroupName, IsMemberAt, IsMemberBelow}
 use Rattle.tree_records.specs.NamedTrees.{NamedTree, NamedElements, OwnBody}
 use Rattle.tree_records.specs.NamedTrees.NamedTree.{named_tree}
@@ -19,6 +20,14 @@ use Rattle.tree_names.proofs.CleanTrees.{AreCleanTrees, clean_below, clean_first
 use Rattle.tree_names.proofs.GroupNodes.{group_back}
 use Rattle.tree_names.proofs.OwnNames.{goes_by_own, one_own_node, own_name_whole}
 use Rattle.tree_names.proofs.Paths.{BeginsIn, begins_later, begins_once, begins_with_slash, one_split}
+
+-- one place of a group, and another of that one's group
+pub group_then : (raw : RawTech) (tree : NamedTree) (a b c : Place) → AreOneGroup raw tree a b → AreOneGroup raw tree b c → AreOneGroup raw tree a c
+group_then raw (named_tree own elements) a b c first second = Chain-append first second
+
+-- a group goes by its first member
+pub group_name_is : (raw : RawTech) (tree : NamedTree) (group : MemberGroup) (is : IsMemberGroup raw tree group) → group_name group ≡ is.name
+group_name_is raw tree group is = ap (λ (members : List (List ℕ)). group_name (record { members = members; adjustment = group.adjustment })) is.members_are
 
 -- the group of a place goes by one name
 pub one_group_name : (raw : RawTech) (tree : NamedTree) (place : Place) (name other : List ℕ) → IsGroupName raw tree place name

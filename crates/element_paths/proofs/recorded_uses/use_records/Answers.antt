@@ -10,7 +10,8 @@ use Rattle.cell_library.specs.Libraries.{seen}
 use Rattle.cell_library.specs.Views.{view_at}
 use Rattle.cell_library.proofs.ElementCounts.{use_is_lawful}
 use Rattle.library_trees.specs.CellRecords.{library_use, library_uses}
-use Rattle.element_paths.proofs.RecordLaws.{added_on, few_uses, none_past}
+use Rattle.element_paths.proofs.RecordLaws.{added_on, few_uses}
+use Rattle.element_paths.proofs.StartLaws.{none_past}
 use Rattle.element_paths.proofs.recorded_uses.use_records.Goals as goal
 
 pub name_of-requires : goal.name_of-requires

@@ -7,7 +7,7 @@ use Rattle.element_tree.specs.declared.faults.WalkFault.{WalkFault}
 use Rattle.circuit_model.specs.Refusals.{walk_fault}
 use Rattle.element_tree.specs.Graphs.{IsGraphOf}
 use Rattle.element_tree.specs.Goals.{cells_of, found_goals, goal_graph, IsUseOf, IsNamedFault}
-use Rattle.element_tree.proofs.Walks.{fault_named, walks_find}
+use Rattle.element_tree.proofs.RecordWalks.{fault_named, walks_find}
 use Rattle.element_tree.proofs.Orders.{is_graph, graph_of_order, fault_at, named_is}
 use Rattle.element_tree.proofs.graph.record_graph.Goals as goal
 

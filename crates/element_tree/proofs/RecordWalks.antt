@@ -40,7 +40,7 @@ fault_named exts top (CycleAt place) = Cycle (cell_named exts top place)
 fault_named exts top NoMemory = Memory
 
 -- what a use gives, whose cell has this record
-abbrev at_use : ℕ → List CellExt → List (List ℕ) → List ℕ → Option CellExt → Option FlatFault
+abbrev pub at_use : ℕ → List CellExt → List (List ℕ) → List ℕ → Option CellExt → Option FlatFault
 at_use depth exts names cell found =
     elim found [
       | None ↦ Some (NoCell cell)
