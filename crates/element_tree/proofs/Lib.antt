@@ -8,7 +8,7 @@ pub mod Transforms
 mod Chains
 mod Ranks
 mod Growth
-mod Measures
+pub mod Measures
 pub mod Counting
 mod Steps
 mod RankSums

@@ -3,5 +3,5 @@ pub use Rattle.offences.proofs.LayoutModel as LayoutModel
 pub mod KindLaws
 pub mod PartSearch
 pub mod CleanLaws
-mod MeetingLaws
+pub mod MeetingLaws
 pub mod RoleLaws

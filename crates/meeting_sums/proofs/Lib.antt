@@ -1,5 +1,5 @@
 -- what crates above name of those below
-pub use Rattle.meeting_laws.proofs as MeetingLaws
+pub use Rattle.meeting_laws.proofs as LowerMeetingLaws
 mod TileTests
 mod AmountLaws
 mod KindLaws

@@ -1,6 +1,6 @@
 -- what crates above name of those below
 pub use Rattle.meeting_laws.specs.HierarchyModel as HierarchyModel
-pub use Rattle.meeting_laws.specs as MeetingLaws
+pub use Rattle.meeting_laws.specs as LowerMeetingLaws
 pub use Rattle.meeting_laws.specs.TreeRecords as TreeRecords
 pub mod Counts
 pub mod Laws

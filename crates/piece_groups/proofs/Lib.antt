@@ -1,6 +1,6 @@
 -- what crates above name of those below
 pub use Rattle.full_names.proofs as FullNames
-pub use Rattle.meeting_sums.proofs.LowerMeetingLaws as LowerMeetingLaws
+pub use Rattle.meeting_sums.proofs.LowerMeetingLaws as MeetingLaws
 mod PlacesOfPieces
 mod MarkedGroups
 mod MemberLaws

@@ -17,7 +17,7 @@ pub mod CleanTrees
 pub mod GroupNames
 pub mod Representatives
 pub mod RecordedNodes
-mod GroupMerges
+pub mod GroupMerges
 pub mod ToGroups
 pub mod JoinedPaths
 mod Standings
