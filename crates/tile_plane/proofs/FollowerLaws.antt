@@ -3,6 +3,7 @@ use Rattle.std.proofs.Common.{◌≡◌, ◌⊎◌, inl, inr, ℕ, ◌<◌, ℤ,
 use Rattle.std.specs.Prelude.{All}
 use Rattle.std.specs.Borrow.{Bor}
 use Rattle.std.specs.Option.{unwrap_or, option_copied}
+use Rattle.std.specs.Int.{int_min}
 use Rattle.std.specs.Slice.{IsItemAt}
 use Rattle.std.proofs.lemmas.Int.{ints, clamps, by_lt_z}
 use Rattle.std.proofs.lemmas.List.{append-nil, append_assoc}
@@ -20,7 +21,7 @@ use Rattle.tile_plane.specs.Walks.{square_at}
 use Rattle.tile_plane.specs.Listings.{Meets, IsOnSide, IsFollower, AddsAll, low_row}
 use Rattle.tile_plane.proofs.TileLaws.{owner_taken}
 use Rattle.tile_plane.proofs.SideLaws.{beside_above, beside_right}
-use Rattle.tile_plane.proofs.BesideLaws.{next_below, next_right}
+use Rattle.tile_plane.proofs.BesideLaws.{next_below}
 use Rattle.tile_plane.proofs.WalkLaws.{extent_falls_down}
 
 -- one more thing that has P at the end of a list, where what else has Q has P
@@ -253,14 +254,20 @@ module _ (tiles : Tiles) (area : Rect) (partition : IsPartition tiles) (stitches
         };
       }
 
-  pub followers_begin : (tile_at tiles id).area.xhi <ℤ area.xhi → AreFollowersFrom tiles area id (tile_at tiles id).area.yhi (tile_at tiles id).right []
-  followers_begin inside =
-      let edge = near.xhi.1 in
-      record {
-        lists = Lists-none (IsFrom tiles area id (tile_at tiles id).area.yhi) (λ b has. let c = has.0.beside.covers in let high = has.1 in omega (arith, ints));
-        top = omega (arith, ints);
-        beside = λ more. next_right tiles id partition stitches taken (omega (arith, ints));
-      }
+  -- above the lower of the ends of the tile and the area there are none
+  pub followers_begin : (y : ℤ) (next : ℕ) → y ≡ int_min (tile_at tiles id).area.yhi area.yhi
+      → Owns tiles next (square_at (tile_at tiles id).area.xhi (y -ℤ pos 1))
+      → AreFollowersFrom tiles area id y next []
+  followers_begin y next at owns = record {
+    lists = Lists-none (IsFrom tiles area id y) (λ b has.
+        let c = has.0.beside.covers in
+        let d = has.0.meets.owns.covers in
+        let e = has.0.meets.covers in
+        let high = has.1 in
+        omega (arith, ints, clamps, at));
+    top = omega (arith, ints, clamps, at);
+    beside = λ more. owns;
+  }
 
   module _ (inside : (tile_at tiles id).area.xhi <ℤ area.xhi) (y : ℤ) (next : ℕ) (more : List ℕ) (from : AreFollowersFrom tiles area id y next more)
       (left : low <ℤ y) where
@@ -365,12 +372,12 @@ module _ (tiles : Tiles) (area : Rect) (partition : IsPartition tiles) (stitches
 module _ (tiles : Tiles) (area : Rect) (partition : IsPartition tiles) (stitches : HasStitches tiles) (near : IsNear area) (id : ℕ)
     (meets : Meets tiles area id)
     (inside : (tile_at tiles id).area.xhi <ℤ area.xhi) (old : List ℕ) where
-  pub adding_begins : (y : ℤ) (next : ℕ) → y ≡ (tile_at tiles id).area.yhi → next ≡ (tile_at tiles id).right → AddsFrom tiles area id y next old old
-  adding_begins y next at is = record {
+  pub adding_begins : (y : ℤ) (next : ℕ) → y ≡ int_min (tile_at tiles id).area.yhi area.yhi
+      → Owns tiles next (square_at (tile_at tiles id).area.xhi (y -ℤ pos 1))
+      → AddsFrom tiles area id y next old old
+  adding_begins y next at owns = record {
     more = [];
-    from = subst (λ (v : ℕ). AreFollowersFrom tiles area id y v []) (sym is) (subst (λ (h : ℤ). AreFollowersFrom tiles area id h (tile_at tiles id).right
-        []) (sym at)
-        (followers_begin tiles area partition stitches near id meets inside));
+    from = followers_begin tiles area partition stitches near id meets y next at owns;
     joined = sym (append-nil old);
   }
 

@@ -63,7 +63,8 @@ module _ (tiles others : Tiles) (areas : (k : ℕ) → (tile_at others k).area �
   areas_partition partition = record {
     one = λ a b s p q. partition.one a b s (back a s p) (back b s q);
     whole = λ s inside. let owner = partition.whole s inside in (owner.0, own owner.0 s owner.1);
-    within = λ k taken. subst (λ (r : Rect). LiesWithin r plane_range) (sym (areas k)) (partition.within k (record { proper = subst IsProper (areas k) taken.proper }));
+    within = λ k taken. subst (λ (r : Rect). LiesWithin r plane_range) (sym (areas k))
+        (partition.within k (record { proper = subst IsProper (areas k) taken.proper }));
   }
 
   pub areas_hand : (area : Rect) (id : ℕ) (old : Tiles) → IsHandedOver area id old tiles → IsHandedOver area id old others

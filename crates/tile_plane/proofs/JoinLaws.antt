@@ -149,8 +149,10 @@ module _ {old mid new : Tiles} {id other : ℕ} {tile part whole : Tile} (joinin
   up_given : IsGiven (tile_at old other).area id old new
   up_given = join_given joining.partition up_join joining.stitches leads where
     leads : LeadsElsewhere (tile_at old other).area old (up_whole (tile_at old id) (tile_at old other))
-    leads Above off = subst (λ (z : ℤ). Leads old (tile_at old other).above (square_at (z -ℤ pos 1) (tile_at old other).area.yhi)) joining.high (joining.stitches.above other joining.other_taken)
-    leads Right off = subst (λ (z : ℤ). Leads old (tile_at old other).right (square_at z ((tile_at old other).area.yhi -ℤ pos 1))) joining.high (joining.stitches.right other joining.other_taken)
+    leads Above off = subst (λ (z : ℤ). Leads old (tile_at old other).above (square_at (z -ℤ pos 1) (tile_at old other).area.yhi)) joining.high
+        (joining.stitches.above other joining.other_taken)
+    leads Right off = subst (λ (z : ℤ). Leads old (tile_at old other).right (square_at z ((tile_at old other).area.yhi -ℤ pos 1))) joining.high
+        (joining.stitches.right other joining.other_taken)
     leads Below off = joining.stitches.below id joining.taken
     leads Left off = joining.stitches.left id joining.taken
 
@@ -164,8 +166,10 @@ module _ {old mid new : Tiles} {id other : ℕ} {tile part whole : Tile} (joinin
       let proper = joining.taken.proper in
       subst (λ (t : Tile). IsUpperEnd new t id) (sym joining.is_part) (record {
         above = upper_side joining.partition up_given _ (ap (λ (t : Tile). t.area.yhi) up_join.here) (joining.stitches.above other joining.other_taken);
-        left = left_side joining.partition up_given _ (ap (λ (t : Tile). t.area.xlo) up_join.here ∙ sym joining.low) (joining.stitches.left other joining.other_taken);
-        right = right_side joining.partition up_given _ (ap (λ (t : Tile). t.area.xhi) up_join.here ∙ sym joining.high) (joining.stitches.right other joining.other_taken);
+        left = left_side joining.partition up_given _ (ap (λ (t : Tile). t.area.xlo) up_join.here ∙ sym joining.low)
+            (joining.stitches.left other joining.other_taken);
+        right = right_side joining.partition up_given _ (ap (λ (t : Tile). t.area.xhi) up_join.here ∙ sym joining.high)
+            (joining.stitches.right other joining.other_taken);
         below = λ k its covers. up_into joining.partition up_given k (ap (λ (t : Tile). t.area.yhi) up_join.here) its covers (λ w from to owns. absurd (
             let low = joining.low in
             let high = joining.high in
@@ -235,7 +239,8 @@ module _ {old mid new : Tiles} {id other : ℕ} {tile part whole : Tile} (joinin
         taken = joining.taken;
         other_taken = joining.other_taken;
         gone = joining.gone;
-        here = joining.removed id (λ e. let same = ap (λ (v : ℕ). (tile_at old v).area.xlo) e in absurd (omega (arith, ints))) ∙ joining.put.here ∙ right_whole_is;
+        here = joining.removed id (λ e. let same = ap (λ (v : ℕ). (tile_at old v).area.xlo) e in absurd (omega (arith, ints))) ∙ joining.put.here
+            ∙ right_whole_is;
         others = λ k p q. joining.removed k q ∙ joining.put.others k p;
         id_in = λ s covers. omega (arith, ints);
         other_in = λ s covers. omega (arith, ints);
@@ -245,8 +250,10 @@ module _ {old mid new : Tiles} {id other : ℕ} {tile part whole : Tile} (joinin
   right_given : IsGiven (tile_at old other).area id old new
   right_given = join_given joining.partition right_join joining.stitches leads where
     leads : LeadsElsewhere (tile_at old other).area old (right_whole (tile_at old id) (tile_at old other))
-    leads Above off = subst (λ (z : ℤ). Leads old (tile_at old other).above (square_at ((tile_at old other).area.xhi -ℤ pos 1) z)) joining.high (joining.stitches.above other joining.other_taken)
-    leads Right off = subst (λ (z : ℤ). Leads old (tile_at old other).right (square_at (tile_at old other).area.xhi (z -ℤ pos 1))) joining.high (joining.stitches.right other joining.other_taken)
+    leads Above off = subst (λ (z : ℤ). Leads old (tile_at old other).above (square_at ((tile_at old other).area.xhi -ℤ pos 1) z)) joining.high
+        (joining.stitches.above other joining.other_taken)
+    leads Right off = subst (λ (z : ℤ). Leads old (tile_at old other).right (square_at (tile_at old other).area.xhi (z -ℤ pos 1))) joining.high
+        (joining.stitches.right other joining.other_taken)
     leads Below off = joining.stitches.below id joining.taken
     leads Left off = joining.stitches.left id joining.taken
 
@@ -260,8 +267,10 @@ module _ {old mid new : Tiles} {id other : ℕ} {tile part whole : Tile} (joinin
       let proper = joining.taken.proper in
       subst (λ (t : Tile). IsRightEnd new t id) (sym joining.is_part) (record {
         right = right_side joining.partition right_given _ (ap (λ (t : Tile). t.area.xhi) right_join.here) (joining.stitches.right other joining.other_taken);
-        below = lower_side joining.partition right_given _ (ap (λ (t : Tile). t.area.ylo) right_join.here ∙ sym joining.low) (joining.stitches.below other joining.other_taken);
-        above = upper_side joining.partition right_given _ (ap (λ (t : Tile). t.area.yhi) right_join.here ∙ sym joining.high) (joining.stitches.above other joining.other_taken);
+        below = lower_side joining.partition right_given _ (ap (λ (t : Tile). t.area.ylo) right_join.here ∙ sym joining.low)
+            (joining.stitches.below other joining.other_taken);
+        above = upper_side joining.partition right_given _ (ap (λ (t : Tile). t.area.yhi) right_join.here ∙ sym joining.high)
+            (joining.stitches.above other joining.other_taken);
         left = λ k its covers. right_into joining.partition right_given k (ap (λ (t : Tile). t.area.xhi) right_join.here) its covers (λ w from to owns. absurd (
             let low = joining.low in
             let high = joining.high in

@@ -1,15 +1,17 @@
 -- A list of tiles that have only grown upward is as wide and as tall as before, and what a step up one column does.
-use Rattle.std.proofs.Common.{◌≡◌, ◌≢◌, ◌⊎◌, inl, inr, ℕ, ℤ, pos, ◌+ℤ◌, ◌≤ℤ◌, ◌<ℤ◌, refl, sym, ◌∙◌, ap, subst, arith}
+use Rattle.std.proofs.Common.{◌≡◌, inl, inr, ℕ, ℤ, pos, ◌+ℤ◌, ◌-ℤ◌, ◌≤ℤ◌, ◌<ℤ◌, refl, sym, ◌∙◌, ap, subst, arith}
 use Rattle.std.proofs.lemmas.Bool.{cases_eq}
 use Rattle.std.proofs.lemmas.Int.{ints, by_lt_z}
 use Rattle.geo_core.specs.declared.squares.Rect.{Rect}
-use Rattle.geo_core.specs.Covering.{Covers, IsProper}
-use Rattle.geo_core.specs.Planes.{AreSame}
-use Rattle.tile_plane.specs.Tiles.{Tiles, tile_at, IsTaken, Owns, IsPartition, HasStitches, value_at}
+use Rattle.geo_core.specs.Covering.{Covers}
+use Rattle.geo_core.specs.Planes.{plane_range}
+use Rattle.tile_plane.specs.Tiles.{Tiles, tile_at, IsTaken, Owns, IsPartition, HasStitches, square_above, square_below}
 use Rattle.tile_plane.specs.Walks.{square_at}
 use Rattle.tile_plane.specs.Cuts.{IsJoinedUp}
 use Rattle.tile_plane.specs.Tall.{IsWideAt, IsTallAt, AreGrown}
 use Rattle.tile_plane.proofs.TileLaws.{owner_taken}
+use Rattle.tile_plane.proofs.SideLaws.{beside_above, beside_below}
+use Rattle.tile_plane.proofs.BesideLaws.{next_above, next_below}
 
 pub grown_self : (tiles : Tiles) → AreGrown tiles tiles
 grown_self tiles = record { goes = λ j. (j, λ s owns. owns); source = λ k s owns. (k, owns, refl, refl, refl) }
@@ -43,8 +45,10 @@ tall_kept old new x y partition grown tall = record {
 }
 
 -- a join of two of one value and the same columns
-pub join_grows : (old new : Tiles) (id other : ℕ) → IsTaken old id → IsTaken old other → (tile_at old other).area.ylo ≡ (tile_at old id).area.yhi → (tile_at old other).area.xlo ≡ (tile_at old id).area.xlo
-    → (tile_at old other).area.xhi ≡ (tile_at old id).area.xhi → (tile_at old other).value ≡ (tile_at old id).value → IsJoinedUp id other old new → AreGrown old new
+pub join_grows : (old new : Tiles) (id other : ℕ) → IsTaken old id → IsTaken old other → (tile_at old other).area.ylo ≡ (tile_at old id).area.yhi
+    → (tile_at old other).area.xlo ≡ (tile_at old id).area.xlo
+    → (tile_at old other).area.xhi ≡ (tile_at old id).area.xhi → (tile_at old other).value ≡ (tile_at old id).value → IsJoinedUp id other old new
+    → AreGrown old new
 join_grows old new id other taken other_taken meet low high value join = record {
   goes = λ j. elim (cases_eq j other) [
     | inl e ↦ (
@@ -77,8 +81,14 @@ join_grows old new id other taken other_taken meet low high value join = record 
           (λ less. (id, omega (arith, ints), is, left, right))
           (λ more. (other, omega (arith, ints), is ∙ sym value, left ∙ sym low, right ∙ sym high)))
       | inr m ↦ (
-          let alike = join.others k m n in
-          (k, record { covers = subst (λ (r : Rect). Covers r s) alike.area owns.covers }, alike.value, ap (λ (r : Rect). r.xlo) alike.area, ap (λ (r : Rect). r.xhi) alike.area))
+          let alike = join.others k m n in (
+            k,
+            record { covers = subst (λ (r : Rect). Covers r s) alike.area owns.covers },
+            alike.value,
+            ap (λ (r : Rect). r.xlo) alike.area,
+            ap
+                (λ (r : Rect). r.xhi) alike.area,
+          ))
     ]
   ];
 }
@@ -90,20 +100,17 @@ pub record IsTallBelow (tiles : Tiles) (x from : ℤ) (id : ℕ) : Type 0 where
   pub high : x <ℤ (tile_at tiles id).area.xhi
   pub done : (y : ℤ) → from ≤ℤ y → (y +ℤ pos 1) <ℤ (tile_at tiles id).area.yhi → IsTallAt tiles x y
 
--- what holds of the tiles while a column is joined
-pub record AreJoining (old tiles : Tiles) : Type 0 where
-  pub partition : IsPartition tiles
-  pub stitches : HasStitches tiles
-  pub same : AreSame (value_at old) (value_at tiles)
-  pub grown : AreGrown old tiles
-
 -- both squares in one tile
-tall_in_one : (tiles : Tiles) (x y : ℤ) (id : ℕ) → IsPartition tiles → Owns tiles id (square_at x y) → Owns tiles id (square_at x (y +ℤ pos 1)) → IsTallAt tiles x y
-tall_in_one tiles x y id partition p q = record { apart = λ a b r s low high same. partition.one a id (square_at x y) r p ∙ sym (partition.one b id (square_at x (y +ℤ pos 1)) s q) }
+pub tall_in_one : (tiles : Tiles) (x y : ℤ) (id : ℕ) → IsPartition tiles → Owns tiles id (square_at x y) → Owns tiles id (square_at x (y +ℤ pos 1))
+    → IsTallAt tiles x y
+tall_in_one tiles x y id partition p q =
+    record { apart = λ a b r s low high same. partition.one a id (square_at x y) r p ∙ sym (partition.one b id (square_at x (y +ℤ pos 1)) s q) }
 
 -- the walk goes on to the next tile where the two are not to be joined
-pub tall_on : (tiles : Tiles) (x from : ℤ) (id next : ℕ) → IsPartition tiles → IsTallBelow tiles x from id → Owns tiles next (square_at x (tile_at tiles id).area.yhi) → (tile_at tiles next).area.ylo ≡ (tile_at tiles id).area.yhi
-    → ((tile_at tiles id).area.xlo ≡ (tile_at tiles next).area.xlo → (tile_at tiles id).area.xhi ≡ (tile_at tiles next).area.xhi → (tile_at tiles id).value ≡ (tile_at tiles next).value → ⊥)
+pub tall_on : (tiles : Tiles) (x from : ℤ) (id next : ℕ) → IsPartition tiles → IsTallBelow tiles x from id
+    → Owns tiles next (square_at x (tile_at tiles id).area.yhi) → (tile_at tiles next).area.ylo ≡ (tile_at tiles id).area.yhi
+    → ((tile_at tiles id).area.xlo ≡ (tile_at tiles next).area.xlo → (tile_at tiles id).area.xhi ≡ (tile_at tiles next).area.xhi
+    → (tile_at tiles id).value ≡ (tile_at tiles next).value → ⊥)
     → IsTallBelow tiles x from next
 tall_on tiles x from id next partition below owns meet other =
     let c = owns.covers in
@@ -118,25 +125,44 @@ tall_on tiles x from id next partition below owns meet other =
           (λ less. below.done y p less)
           (λ more. by_lt_z (tile_at tiles id).area.yhi (y +ℤ pos 1)
           (λ past. tall_in_one tiles x y next partition
-          (record { covers = record { right_of_xlo = c.right_of_xlo; left_of_xhi = c.left_of_xhi; above_ylo = omega (arith, ints); below_yhi = omega (arith, ints) } })
-          (record { covers = record { right_of_xlo = c.right_of_xlo; left_of_xhi = c.left_of_xhi; above_ylo = omega (arith, ints); below_yhi = omega (arith, ints) } }))
+          (record {
+            covers = record {
+              right_of_xlo = c.right_of_xlo;
+              left_of_xhi = c.left_of_xhi;
+              above_ylo = omega (arith, ints);
+              below_yhi = omega (arith, ints);
+            };
+          })
+          (record {
+            covers = record {
+              right_of_xlo = c.right_of_xlo;
+              left_of_xhi = c.left_of_xhi;
+              above_ylo = omega (arith, ints);
+              below_yhi = omega (arith, ints);
+            };
+          }))
           (λ here.
           let at : (tile_at tiles id).area.yhi ≡ y +ℤ pos 1 = omega (arith, ints) in
-          let mine : Owns tiles id (square_at x y) = record { covers = record { right_of_xlo = low; left_of_xhi = high; above_ylo = omega (arith, ints); below_yhi = omega (arith, ints) } } in
+          let mine : Owns tiles id (square_at x y) =
+          record { covers = record { right_of_xlo = low; left_of_xhi = high; above_ylo = omega (arith, ints); below_yhi = omega (arith, ints) } } in
           let its : Owns tiles next (square_at x (y +ℤ pos 1)) = subst (λ (v : ℤ). Owns tiles next (square_at x v)) at owns in
           record {
             apart = λ a b r s left right same. (
                 let e = partition.one a id (square_at x y) r mine in
                 let f = partition.one b next (square_at x (y +ℤ pos 1)) s its in
                 absurd (other
-                (subst (λ (v : ℕ). (tile_at tiles v).area.xlo ≡ (tile_at tiles next).area.xlo) e (subst (λ (v : ℕ). (tile_at tiles a).area.xlo ≡ (tile_at tiles v).area.xlo) f left))
-                (subst (λ (v : ℕ). (tile_at tiles v).area.xhi ≡ (tile_at tiles next).area.xhi) e (subst (λ (v : ℕ). (tile_at tiles a).area.xhi ≡ (tile_at tiles v).area.xhi) f right))
-                (subst (λ (v : ℕ). (tile_at tiles v).value ≡ (tile_at tiles next).value) e (subst (λ (v : ℕ). (tile_at tiles a).value ≡ (tile_at tiles v).value) f same))));
+                (subst (λ (v : ℕ). (tile_at tiles v).area.xlo ≡ (tile_at tiles next).area.xlo) e
+                (subst (λ (v : ℕ). (tile_at tiles a).area.xlo ≡ (tile_at tiles v).area.xlo) f left))
+                (subst (λ (v : ℕ). (tile_at tiles v).area.xhi ≡ (tile_at tiles next).area.xhi) e
+                (subst (λ (v : ℕ). (tile_at tiles a).area.xhi ≡ (tile_at tiles v).area.xhi) f right))
+                (subst (λ (v : ℕ). (tile_at tiles v).value ≡ (tile_at tiles next).value) e
+                (subst (λ (v : ℕ). (tile_at tiles a).value ≡ (tile_at tiles v).value) f same))));
           }));
     }
 
 -- and stays at the tile where they are joined
-pub tall_joined : (old new : Tiles) (x from : ℤ) (id next : ℕ) → IsPartition new → AreGrown old new → IsTallBelow old x from id → IsTaken old next → (tile_at old next).area.ylo ≡ (tile_at old id).area.yhi
+pub tall_joined : (old new : Tiles) (x from : ℤ) (id next : ℕ) → IsPartition new → AreGrown old new → IsTallBelow old x from id → IsTaken old next
+    → (tile_at old next).area.ylo ≡ (tile_at old id).area.yhi
     → IsJoinedUp id next old new → IsTallBelow new x from id
 tall_joined old new x from id next partition grown below next_taken meet join =
     let low = below.low in
@@ -158,40 +184,86 @@ tall_joined old new x from id next partition grown below next_taken meet join =
           (omega (arith, ints)));
     }
 
--- at first it is the tile of the lowest square
-pub tall_begins : (tiles : Tiles) (x from : ℤ) (id : ℕ) → IsPartition tiles → Owns tiles id (square_at x from) → IsTallBelow tiles x from id
-tall_begins tiles x from id partition owns =
+-- at first it is the tile of the square above the lowest row, once that row is tall
+pub tall_begins : (tiles : Tiles) (x y from : ℤ) (id : ℕ) → from +ℤ pos 1 ≡ y → IsPartition tiles → Owns tiles id (square_at x y) → IsTallAt tiles x from
+    → IsTallBelow tiles x from id
+tall_begins tiles x y from id next partition owns tall =
     let c = owns.covers in
     record {
       taken = owner_taken tiles id _ owns;
       low = c.right_of_xlo;
       high = c.left_of_xhi;
-      done = λ y p q. tall_in_one tiles x y id partition
-          (record { covers = record { right_of_xlo = c.right_of_xlo; left_of_xhi = c.left_of_xhi; above_ylo = omega (arith, ints); below_yhi = omega (arith, ints) } })
-          (record { covers = record { right_of_xlo = c.right_of_xlo; left_of_xhi = c.left_of_xhi; above_ylo = omega (arith, ints); below_yhi = omega (arith, ints) } });
+      done = λ h p q. by_lt_z from h
+          (λ more. tall_in_one tiles x h id partition
+          (record {
+            covers = record {
+              right_of_xlo = c.right_of_xlo;
+              left_of_xhi = c.left_of_xhi;
+              above_ylo = omega (arith, ints, next);
+              below_yhi = omega (arith, ints);
+            };
+          })
+          (record {
+            covers = record {
+              right_of_xlo = c.right_of_xlo;
+              left_of_xhi = c.left_of_xhi;
+              above_ylo = omega (arith, ints, next);
+              below_yhi = omega (arith, ints);
+            };
+          }))
+          (λ here. subst (λ (v : ℤ). IsTallAt tiles x v) (omega (arith, ints)) tall);
     }
 
--- the tile was passed before the walk came to this one, or is this one
-pub record IsBefore (tiles : Tiles) (before id : ℕ) : Type 0 where
-  pub taken : IsTaken tiles before
-  pub place : (before ≡ id) ⊎ ((tile_at tiles before).area.yhi ≤ℤ (tile_at tiles id).area.ylo)
+-- the tiles to which the stitches at the ends of a tile lead begin and end there
+module _ (tiles : Tiles) (id : ℕ) (partition : IsPartition tiles) (stitches : HasStitches tiles) (taken : IsTaken tiles id) where
+  pub upon_begins : (tile_at tiles id).area.yhi <ℤ plane_range.yhi → (tile_at tiles (tile_at tiles id).above).area.ylo ≡ (tile_at tiles id).area.yhi
+  upon_begins inside =
+      let proper = taken.proper in
+      beside_above tiles id (tile_at tiles id).above ((tile_at tiles id).area.xhi -ℤ pos 1) partition taken (omega (arith, ints)) (omega (arith, ints))
+      (next_above tiles id partition stitches taken inside)
 
--- where the tile that the walk is at is joined, it stays
-pub before_joined : (old new : Tiles) (before id next : ℕ) → IsTaken old id → IsTaken new id → IsTaken old next
-    → (tile_at old next).area.ylo ≡ (tile_at old id).area.yhi → IsJoinedUp id next old new → IsBefore old before id → IsBefore new before id
-before_joined old new before id next id_taken still_taken next_taken meet join is = elim is.place [
-  | inl same ↦ record { taken = subst (IsTaken new) (sym same) still_taken; place = inl same }
-  | inr under ↦
-      let proper = id_taken.proper in
-      let more = next_taken.proper in
-      let not_id : before ≢ id = λ same.
-      let here : (tile_at old before).area.yhi ≡ (tile_at old id).area.yhi = ap (λ (k : ℕ). (tile_at old k).area.yhi) same in
-      omega (arith, ints, here) in
-      let not_next : before ≢ next = λ same.
-      let here : (tile_at old before).area.yhi ≡ (tile_at old next).area.yhi = ap (λ (k : ℕ). (tile_at old k).area.yhi) same in
-      omega (arith, ints, here) in
-      let alike = join.others before not_id not_next in
-      let top : (tile_at new before).area.yhi ≡ (tile_at old before).area.yhi = ap (λ (r : Rect). r.yhi) alike.area in
-      let low : (tile_at new id).area.ylo ≡ (tile_at old id).area.ylo = ap (λ (r : Rect). r.ylo) join.whole in
-      record { taken = record { proper = subst IsProper (sym alike.area) is.taken.proper }; place = inr (omega (arith, ints, top, low, under)) }
-]
+  pub under_ends : plane_range.ylo <ℤ (tile_at tiles id).area.ylo → (tile_at tiles (tile_at tiles id).below).area.yhi ≡ (tile_at tiles id).area.ylo
+  under_ends inside =
+      let proper = taken.proper in
+      beside_below tiles id (tile_at tiles id).below (tile_at tiles id).area.xlo partition taken (omega (arith, ints)) (omega (arith, ints))
+      (next_below tiles id partition stitches taken inside)
+
+-- the stitch of a tile under its lower end leads to the only tile that it may be joined with there
+pub tall_under : (tiles : Tiles) (id under : ℕ) (x y : ℤ) → IsPartition tiles → IsTaken tiles id → Owns tiles under (square_below (tile_at tiles id))
+    → (tile_at tiles id).area.ylo ≡ y +ℤ pos 1
+    → ((tile_at tiles under).area.xlo ≡ (tile_at tiles id).area.xlo → (tile_at tiles under).area.xhi ≡ (tile_at tiles id).area.xhi
+    → (tile_at tiles under).value ≡ (tile_at tiles id).value → ⊥)
+    → Owns tiles id (square_at x (y +ℤ pos 1)) → IsTallAt tiles x y
+tall_under tiles id under x y partition taken leads begins other owns = record {
+  apart = λ a b p q low high same. (
+      let proper = taken.proper in
+      let its = partition.one b id (square_at x (y +ℤ pos 1)) q owns in
+      let left : (tile_at tiles a).area.xlo ≡ (tile_at tiles id).area.xlo = low ∙ ap (λ (v : ℕ). (tile_at tiles v).area.xlo) its in
+      let right : (tile_at tiles a).area.xhi ≡ (tile_at tiles id).area.xhi = high ∙ ap (λ (v : ℕ). (tile_at tiles v).area.xhi) its in
+      let at_end : Owns tiles a (square_below (tile_at tiles id)) = omega (arith, ints, begins, left, right) in
+      let one = partition.one a under (square_below (tile_at tiles id)) at_end leads in
+      absurd (other
+      (subst (λ (v : ℕ). (tile_at tiles v).area.xlo ≡ (tile_at tiles id).area.xlo) one left)
+      (subst (λ (v : ℕ). (tile_at tiles v).area.xhi ≡ (tile_at tiles id).area.xhi) one right)
+      (subst (λ (v : ℕ). (tile_at tiles v).value ≡ (tile_at tiles id).value) one (same ∙ ap (λ (v : ℕ). (tile_at tiles v).value) its))));
+}
+
+-- and the one upon its upper end
+pub tall_upon : (tiles : Tiles) (id upon : ℕ) (x y : ℤ) → IsPartition tiles → IsTaken tiles id → Owns tiles upon (square_above (tile_at tiles id))
+    → (tile_at tiles id).area.yhi ≡ y +ℤ pos 1
+    → ((tile_at tiles id).area.xlo ≡ (tile_at tiles upon).area.xlo → (tile_at tiles id).area.xhi ≡ (tile_at tiles upon).area.xhi
+    → (tile_at tiles id).value ≡ (tile_at tiles upon).value → ⊥)
+    → Owns tiles id (square_at x y) → IsTallAt tiles x y
+tall_upon tiles id upon x y partition taken leads ends other owns = record {
+  apart = λ a b p q low high same. (
+      let proper = taken.proper in
+      let its = partition.one a id (square_at x y) p owns in
+      let left : (tile_at tiles id).area.xlo ≡ (tile_at tiles b).area.xlo = sym (ap (λ (v : ℕ). (tile_at tiles v).area.xlo) its) ∙ low in
+      let right : (tile_at tiles id).area.xhi ≡ (tile_at tiles b).area.xhi = sym (ap (λ (v : ℕ). (tile_at tiles v).area.xhi) its) ∙ high in
+      let at_end : Owns tiles b (square_above (tile_at tiles id)) = omega (arith, ints, ends, left, right) in
+      let one = partition.one b upon (square_above (tile_at tiles id)) at_end leads in
+      absurd (other
+      (subst (λ (v : ℕ). (tile_at tiles id).area.xlo ≡ (tile_at tiles v).area.xlo) one left)
+      (subst (λ (v : ℕ). (tile_at tiles id).area.xhi ≡ (tile_at tiles v).area.xhi) one right)
+      (subst (λ (v : ℕ). (tile_at tiles id).value ≡ (tile_at tiles v).value) one (sym (ap (λ (v : ℕ). (tile_at tiles v).value) its) ∙ same))));
+}

@@ -24,12 +24,15 @@ pub record IsRowKept (y : ℤ) (old new : Tiles) : Type 0 where
   pub source : (k : ℕ) (x : ℤ) → Owns new k (square_at x y) → (j : ℕ) × Owns old j (square_at x y) × AreAsWide (tile_at old j) (tile_at new k)
 
 -- a tile that has a square of a row has the others between its sides
-pub owns_beside : (tiles : Tiles) (k : ℕ) (x c y : ℤ) → Owns tiles k (square_at x y) → (tile_at tiles k).area.xlo ≤ℤ c → c <ℤ (tile_at tiles k).area.xhi → Owns tiles k (square_at c y)
-owns_beside tiles k x c y owns from to = let covers = owns.covers in record { covers = record { right_of_xlo = from; left_of_xhi = to; above_ylo = covers.above_ylo; below_yhi = covers.below_yhi } }
+pub owns_beside : (tiles : Tiles) (k : ℕ) (x c y : ℤ) → Owns tiles k (square_at x y) → (tile_at tiles k).area.xlo ≤ℤ c → c <ℤ (tile_at tiles k).area.xhi
+    → Owns tiles k (square_at c y)
+owns_beside tiles k x c y owns from to = let covers = owns.covers in
+    record { covers = record { right_of_xlo = from; left_of_xhi = to; above_ylo = covers.above_ylo; below_yhi = covers.below_yhi } }
 
 module _ (old new : Tiles) (y : ℤ) (partition : IsPartition new) (row : IsRowKept y old new) where
   -- two tiles that were one are one
-  still_one : (a b f : ℕ) (x : ℤ) → Owns new a (square_at x y) → Owns new b (square_at (x +ℤ pos 1) y) → Owns old f (square_at (x +ℤ pos 1) y) → AreAsWide (tile_at old f) (tile_at new a) → a ≡ b
+  still_one : (a b f : ℕ) (x : ℤ) → Owns new a (square_at x y) → Owns new b (square_at (x +ℤ pos 1) y) → Owns old f (square_at (x +ℤ pos 1) y)
+      → AreAsWide (tile_at old f) (tile_at new a) → a ≡ b
   still_one a b f x p q r wide =
       let c = r.covers in
       let d = p.covers in
@@ -54,5 +57,6 @@ module _ (old new : Tiles) (y : ℤ) (partition : IsPartition new) (row : IsRowK
         still_one a b f.0 x p q (subst (λ (v : ℕ). Owns old v (square_at (x +ℤ pos 1) y)) (sym one) g.1) f.2);
   }
 
-  pub row_begun : (x : ℤ) → ((k : ℕ) → Owns old k (square_at x y) → (tile_at old k).area.xlo ≡ x) → (k : ℕ) → Owns new k (square_at x y) → (tile_at new k).area.xlo ≡ x
+  pub row_begun : (x : ℤ) → ((k : ℕ) → Owns old k (square_at x y) → (tile_at old k).area.xlo ≡ x) → (k : ℕ) → Owns new k (square_at x y)
+      → (tile_at new k).area.xlo ≡ x
   row_begun x begin k owns = let f = row.source k x owns in f.2.xlo ∙ begin f.0 f.1

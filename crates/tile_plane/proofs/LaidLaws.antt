@@ -56,13 +56,21 @@ cut_none tiles id y = record {
 }
 
 -- one cut
-module _ (old new : Tiles) (id lower upper : ℕ) (y : ℤ) (from : (tile_at old id).area.ylo <ℤ y) (to : y <ℤ (tile_at old id).area.yhi) (cut : IsCutAcross id lower upper y old new) where
+module _ (old new : Tiles) (id lower upper : ℕ) (y : ℤ) (from : (tile_at old id).area.ylo <ℤ y) (to : y <ℤ (tile_at old id).area.yhi)
+    (cut : IsCutAcross id lower upper y old new) where
   source : (k : ℕ) (s : Square) → Owns new k s → (j : ℕ) × Owns old j s × AreAsWide (tile_at old j) (tile_at new k)
   source k s owns = elim (cases_eq k upper) [
     | inl e ↦ (
         let c = subst (λ (r : Rect). Covers r s) cut.high (subst (λ (v : ℕ). Owns new v s) e owns).covers in (
           id,
-          record { covers = record { right_of_xlo = omega (arith, ints); left_of_xhi = omega (arith, ints); above_ylo = omega (arith, ints); below_yhi = omega (arith, ints) } },
+          record {
+            covers = record {
+              right_of_xlo = omega (arith, ints);
+              left_of_xhi = omega (arith, ints);
+              above_ylo = omega (arith, ints);
+              below_yhi = omega (arith, ints);
+            };
+          },
           record {
             value = ap (λ (v : ℕ). (tile_at new v).value) e ∙ cut.high_value;
             xlo = ap (λ (v : ℕ). (tile_at new v).area.xlo) e ∙ ap (λ (r : Rect). r.xlo) cut.high;
@@ -73,7 +81,14 @@ module _ (old new : Tiles) (id lower upper : ℕ) (y : ℤ) (from : (tile_at old
       | inl e ↦ (
           let c = subst (λ (r : Rect). Covers r s) cut.low (subst (λ (v : ℕ). Owns new v s) e owns).covers in (
             id,
-            record { covers = record { right_of_xlo = omega (arith, ints); left_of_xhi = omega (arith, ints); above_ylo = omega (arith, ints); below_yhi = omega (arith, ints) } },
+            record {
+              covers = record {
+                right_of_xlo = omega (arith, ints);
+                left_of_xhi = omega (arith, ints);
+                above_ylo = omega (arith, ints);
+                below_yhi = omega (arith, ints);
+              };
+            },
             record {
               value = ap (λ (v : ℕ). (tile_at new v).value) e ∙ cut.low_value;
               xlo = ap (λ (v : ℕ). (tile_at new v).area.xlo) e ∙ ap (λ (r : Rect). r.xlo) cut.low;
@@ -99,14 +114,18 @@ module _ (old new : Tiles) (id lower upper : ℕ) (y : ℤ) (from : (tile_at old
         by_lt_z (h +ℤ pos 1) y
         (λ less. (
           lower,
-          area_owns new lower _ (square_at x h) cut.low (record { right_of_xlo = c.right_of_xlo; left_of_xhi = c.left_of_xhi; above_ylo = c.above_ylo; below_yhi = omega (arith, ints) }),
-          area_owns new lower _ (square_at x (h +ℤ pos 1)) cut.low (record { right_of_xlo = d.right_of_xlo; left_of_xhi = d.left_of_xhi; above_ylo = d.above_ylo; below_yhi = less }),
+          area_owns new lower _ (square_at x h) cut.low
+              (record { right_of_xlo = c.right_of_xlo; left_of_xhi = c.left_of_xhi; above_ylo = c.above_ylo; below_yhi = omega (arith, ints) }),
+          area_owns new lower _ (square_at x (h +ℤ pos 1)) cut.low
+              (record { right_of_xlo = d.right_of_xlo; left_of_xhi = d.left_of_xhi; above_ylo = d.above_ylo; below_yhi = less }),
         ))
         (λ more. by_lt_z y (h +ℤ pos 1)
         (λ past. (
           upper,
-          area_owns new upper _ (square_at x h) cut.high (record { right_of_xlo = c.right_of_xlo; left_of_xhi = c.left_of_xhi; above_ylo = omega (arith, ints); below_yhi = c.below_yhi }),
-          area_owns new upper _ (square_at x (h +ℤ pos 1)) cut.high (record { right_of_xlo = d.right_of_xlo; left_of_xhi = d.left_of_xhi; above_ylo = more; below_yhi = d.below_yhi }),
+          area_owns new upper _ (square_at x h) cut.high
+              (record { right_of_xlo = c.right_of_xlo; left_of_xhi = c.left_of_xhi; above_ylo = omega (arith, ints); below_yhi = c.below_yhi }),
+          area_owns new upper _ (square_at x (h +ℤ pos 1)) cut.high
+              (record { right_of_xlo = d.right_of_xlo; left_of_xhi = d.left_of_xhi; above_ylo = more; below_yhi = d.below_yhi }),
         ))
         (λ last. absurd (n (omega (arith, ints))))))
     | inr m ↦ (let alike = other j (owner_taken old j _ p) m in (j, alike_owns old new j _ alike p, alike_owns old new j _ alike q))
@@ -125,14 +144,16 @@ pub cut_from : (old new : Tiles) (id part : ℕ) (y : ℤ) → y <ℤ (tile_at o
 cut_from old new id part y to is = elim is [
   | inl whole ↦ record {
     cut = subst (IsTileCut id y old) (sym whole.2) (cut_none old id y);
-    area = ap (λ (t : Tiles). (tile_at t part).area) whole.2 ∙ ap (λ (k : ℕ). (tile_at old k).area) whole.1 ∙ ap (λ (v : ℤ). record (tile_at old id).area { ylo = v }) whole.0;
+    area = ap (λ (t : Tiles). (tile_at t part).area) whole.2 ∙ ap (λ (k : ℕ). (tile_at old k).area) whole.1
+        ∙ ap (λ (v : ℤ). record (tile_at old id).area { ylo = v }) whole.0;
     value = ap (λ (t : Tiles). (tile_at t part).value) whole.2 ∙ ap (λ (k : ℕ). (tile_at old k).value) whole.1;
   }
   | inr some ↦ record { cut = cut_one old new id some.0 part y some.1 to some.2; area = some.2.high; value = some.2.high_value }
 ]
 
 -- A tile is cut below and above: what is left is some of its rows.
-pub laid_cut : (old mid new : Tiles) (id part last : ℕ) (y top : ℤ) → IsPartition new → IsTaken old id → (tile_at old id).area.ylo ≤ℤ y → y <ℤ top → top ≤ℤ (tile_at old id).area.yhi
+pub laid_cut : (old mid new : Tiles) (id part last : ℕ) (y top : ℤ) → IsPartition new → IsTaken old id → (tile_at old id).area.ylo ≤ℤ y → y <ℤ top
+    → top ≤ℤ (tile_at old id).area.yhi
     → IsTileCut id y old mid → (tile_at mid part).area ≡ record (tile_at old id).area { ylo = y } → (tile_at mid part).value ≡ (tile_at old id).value
     → IsTileCut part top mid new → (tile_at new last).area ≡ record (tile_at mid part).area { yhi = top } → (tile_at new last).value ≡ (tile_at mid part).value
     → IsLaid (record (tile_at old id).area { ylo = y; yhi = top }) (tile_at old id).value last old new
@@ -140,8 +161,15 @@ laid_cut old mid new id part last y top partition taken from wide to low low_are
     let area : Rect = record (tile_at old id).area { ylo = y; yhi = top } in
     let proper = taken.proper in
     let corner : Square = square_at area.xlo y in
-    let covered : Covers area corner = record { right_of_xlo = omega (arith, ints); left_of_xhi = proper.wide; above_ylo = omega (arith, ints); below_yhi = wide } in
-    let in_part : Covers (tile_at mid part).area corner = subst (λ (r : Rect). Covers r corner) (sym low_area) (record { right_of_xlo = omega (arith, ints); left_of_xhi = proper.wide; above_ylo = omega (arith, ints); below_yhi = omega (arith, ints) }) in
+    let covered : Covers area corner = record {
+      right_of_xlo = omega (arith, ints);
+      left_of_xhi = proper.wide;
+      above_ylo = omega (arith, ints);
+      below_yhi = wide;
+    } in
+    let in_part : Covers (tile_at mid part).area corner =
+    subst (λ (r : Rect). Covers r corner) (sym low_area)
+    (record { right_of_xlo = omega (arith, ints); left_of_xhi = proper.wide; above_ylo = omega (arith, ints); below_yhi = omega (arith, ints) }) in
     record {
       here = high_area ∙ ap (λ (r : Rect). record r { yhi = top }) low_area;
       value_here = high_value ∙ low_value;
@@ -153,17 +181,29 @@ laid_cut old mid new id part last y top partition taken from wide to low low_are
           let b = high.source k (square_at x h) owns in
           let a = low.source b.0 (square_at x h) b.1 in
           let j = a.0 in
-          let inside : Covers (record (tile_at old id).area { ylo = y }) (square_at x h) → ⊥ = λ c. out (record { right_of_xlo = c.right_of_xlo; left_of_xhi = c.left_of_xhi; above_ylo = up; below_yhi = down }) in
+          let inside : Covers (record (tile_at old id).area { ylo = y }) (square_at x h)
+          → ⊥ = λ c. out (record { right_of_xlo = c.right_of_xlo; left_of_xhi = c.left_of_xhi; above_ylo = up; below_yhi = down }) in
           let here = low.others j (owner_taken old j _ a.1) (λ e.
           let c = (subst (λ (v : ℕ). Owns old v (square_at x h)) e a.1).covers in
           inside (record { right_of_xlo = c.right_of_xlo; left_of_xhi = c.left_of_xhi; above_ylo = up; below_yhi = c.below_yhi })) in
           let mine = alike_owns old mid j _ here a.1 in
-          let there = high.others j (owner_taken mid j _ mine) (λ e. inside (subst (λ (r : Rect). Covers r (square_at x h)) low_area (subst (λ (v : ℕ). Owns mid v (square_at x h)) e mine).covers)) in
-          let one = partition.one k j (square_at x h) owns (alike_owns mid new j _ there mine) in
-          (j, a.1, subst (λ (v : ℕ). AreAlike (tile_at old j) (tile_at new v)) (sym one) (alike_then (tile_at old j) (tile_at mid j) (tile_at new j) here there));
+          let there = high.others j (owner_taken mid j _ mine)
+          (λ e. inside (subst (λ (r : Rect). Covers r (square_at x h)) low_area (subst (λ (v : ℕ). Owns mid v (square_at x h)) e mine).covers)) in
+          let one = partition.one k j (square_at x h) owns (alike_owns mid new j _ there mine) in (
+            j,
+            a.1,
+            subst (λ (v : ℕ). AreAlike (tile_at old j) (tile_at new v)) (sym one)
+                (alike_then (tile_at old j) (tile_at mid j) (tile_at new j) here there),
+          );
       untouched = λ j had none.
-          let a = low.others j had (λ e. none corner covered (record { covers = subst (λ (v : ℕ). Covers (tile_at old v).area corner) (sym e) (record { right_of_xlo = omega (arith, ints); left_of_xhi = proper.wide; above_ylo = from; below_yhi = omega (arith, ints) }) })) in
-          let b = high.others j (alike_taken old mid j a had) (λ e. none corner covered (alike_owned old mid j corner a (record { covers = subst (λ (v : ℕ). Covers (tile_at mid v).area corner) (sym e) in_part }))) in
+          let a = low.others j had (λ e. none corner covered
+          (record {
+            covers = subst (λ (v : ℕ). Covers (tile_at old v).area corner) (sym e)
+                (record { right_of_xlo = omega (arith, ints); left_of_xhi = proper.wide; above_ylo = from; below_yhi = omega (arith, ints) });
+          })) in
+          let b = high.others j (alike_taken old mid j a had)
+          (λ e. none corner covered (alike_owned old mid j corner a
+          (record { covers = subst (λ (v : ℕ). Covers (tile_at mid v).area corner) (sym e) in_part }))) in
           alike_then (tile_at old j) (tile_at mid j) (tile_at new j) a b;
       upright = λ j x h p q n m. (let a = low.upright j x h p q n in high.upright a.0 x h a.1 a.2 m);
     }
@@ -206,7 +246,8 @@ laid_then old mid new area more value other id last within low high p q = record
 module _ (old new : Tiles) (id value : ℕ) (put : IsPut id (record (tile_at old id) { value = value }) old new) where
   same_but_value : (k : ℕ) → (tile_at new k) ≡ record (tile_at old k) { value = (tile_at new k).value }
   same_but_value k = elim (cases_eq k id) [
-    | inl e ↦ subst (λ (v : ℕ). tile_at new v ≡ record (tile_at old v) { value = (tile_at new v).value }) (sym e) (put.here ∙ ap (λ (v : ℕ). record (tile_at old id) { value = v }) (sym (ap (λ (t : Tile). t.value) put.here)))
+    | inl e ↦ subst (λ (v : ℕ). tile_at new v ≡ record (tile_at old v) { value = (tile_at new v).value }) (sym e)
+        (put.here ∙ ap (λ (v : ℕ). record (tile_at old id) { value = v }) (sym (ap (λ (t : Tile). t.value) put.here)))
     | inr n ↦ put.others k n ∙ ap (λ (v : ℕ). record (tile_at old k) { value = v }) (sym (ap (λ (t : Tile). t.value) (put.others k n)))
   ]
 
@@ -223,16 +264,23 @@ module _ (old new : Tiles) (id value : ℕ) (put : IsPut id (record (tile_at old
   value_partition partition = partition_moves old new partition areas
 
   -- a stitch that is as it was leads where it led
-  leads : (k : ℕ) (stitch : Tile → ℕ) (to : Tile → Square) → stitch (tile_at new k) ≡ stitch (tile_at old k) → to (tile_at new k) ≡ to (tile_at old k) → Leads old (stitch (tile_at old k)) (to (tile_at old k)) → Leads new (stitch (tile_at new k)) (to (tile_at new k))
+  leads : (k : ℕ) (stitch : Tile → ℕ) (to : Tile → Square) → stitch (tile_at new k) ≡ stitch (tile_at old k) → to (tile_at new k) ≡ to (tile_at old k)
+      → Leads old (stitch (tile_at old k)) (to (tile_at old k)) → Leads new (stitch (tile_at new k)) (to (tile_at new k))
   leads k stitch to same at led inside =
-      own (stitch (tile_at new k)) (to (tile_at new k)) (subst (λ (v : ℕ). Owns old v (to (tile_at new k))) (sym same) (subst (λ (s : Square). Owns old (stitch (tile_at old k)) s) (sym at) (led (subst (Covers plane_range) at inside))))
+      own (stitch (tile_at new k)) (to (tile_at new k))
+      (subst (λ (v : ℕ). Owns old v (to (tile_at new k))) (sym same)
+      (subst (λ (s : Square). Owns old (stitch (tile_at old k)) s) (sym at) (led (subst (Covers plane_range) at inside))))
 
   pub value_stitches : HasStitches old → HasStitches new
   value_stitches stitches = record {
-    above = λ k taken. leads k (λ t. t.above) square_above (ap (λ (t : Tile). t.above) (same_but_value k)) (ap (λ (t : Tile). square_above t) (same_but_value k)) (stitches.above k (was k taken));
-    right = λ k taken. leads k (λ t. t.right) square_right (ap (λ (t : Tile). t.right) (same_but_value k)) (ap (λ (t : Tile). square_right t) (same_but_value k)) (stitches.right k (was k taken));
-    below = λ k taken. leads k (λ t. t.below) square_below (ap (λ (t : Tile). t.below) (same_but_value k)) (ap (λ (t : Tile). square_below t) (same_but_value k)) (stitches.below k (was k taken));
-    left = λ k taken. leads k (λ t. t.left) square_left (ap (λ (t : Tile). t.left) (same_but_value k)) (ap (λ (t : Tile). square_left t) (same_but_value k)) (stitches.left k (was k taken));
+    above = λ k taken. leads k (λ t. t.above) square_above (ap (λ (t : Tile). t.above) (same_but_value k))
+        (ap (λ (t : Tile). square_above t) (same_but_value k)) (stitches.above k (was k taken));
+    right = λ k taken. leads k (λ t. t.right) square_right (ap (λ (t : Tile). t.right) (same_but_value k))
+        (ap (λ (t : Tile). square_right t) (same_but_value k)) (stitches.right k (was k taken));
+    below = λ k taken. leads k (λ t. t.below) square_below (ap (λ (t : Tile). t.below) (same_but_value k))
+        (ap (λ (t : Tile). square_below t) (same_but_value k)) (stitches.below k (was k taken));
+    left = λ k taken. leads k (λ t. t.left) square_left (ap (λ (t : Tile). t.left) (same_but_value k)) (ap (λ (t : Tile). square_left t) (same_but_value k))
+        (stitches.left k (was k taken));
   } where
     was : (k : ℕ) → IsTaken new k → IsTaken old k
     was k taken = record { proper = subst IsProper (areas k) taken.proper }
@@ -244,33 +292,59 @@ module _ (old new : Tiles) (id value : ℕ) (put : IsPut id (record (tile_at old
   laid_value taken = record {
     here = areas id;
     value_here = ap (λ (t : Tile). t.value) put.here;
-    elsewhere = λ k s owns out. (k, back k s owns, alike_wide (tile_at old k) (tile_at new k) (others k (λ e. out (subst (λ (v : ℕ). Covers (tile_at old v).area s) e (back k s owns).covers))));
-    beside = λ k x h owns up down out. (k, back k _ owns, others k (λ e. out (subst (λ (v : ℕ). Covers (tile_at old v).area (square_at x h)) e (back k _ owns).covers)));
+    elsewhere = λ k s owns out. (
+      k,
+      back k s owns,
+      alike_wide (tile_at old k) (tile_at new k)
+          (others k (λ e. out (subst (λ (v : ℕ). Covers (tile_at old v).area s) e (back k s owns).covers))),
+    );
+    beside = λ k x h owns up down out. (
+      k,
+      back k _ owns,
+      others k
+          (λ e. out (subst (λ (v : ℕ). Covers (tile_at old v).area (square_at x h)) e (back k _ owns).covers)),
+    );
     untouched = λ j had none. others j (λ e.
         let c = corner_covered (tile_at old id).area taken.proper in
-        none _ c (record { covers = subst (λ (v : ℕ). Covers (tile_at old v).area (square_at (tile_at old id).area.xlo (tile_at old id).area.ylo)) (sym e) c }));
+        none _ c (record {
+          covers = subst (λ (v : ℕ). Covers (tile_at old v).area (square_at (tile_at old id).area.xlo (tile_at old id).area.ylo)) (sym e) c;
+        }));
     upright = λ j x h p q n m. (j, own j _ p, own j _ q);
   }
 
 -- Two tiles of the same rows and value, side by side, are joined.
-pub laid_join : (old new : Tiles) (left right : ℕ) → IsTaken old left → IsTaken old right → (tile_at old right).area.xlo ≡ (tile_at old left).area.xhi → (tile_at old right).area.ylo ≡ (tile_at old left).area.ylo
-    → (tile_at old right).area.yhi ≡ (tile_at old left).area.yhi → IsJoinedRight left right old new → IsLaid (record (tile_at old left).area { xhi = (tile_at old right).area.xhi }) (tile_at old left).value left old new
+pub laid_join : (old new : Tiles) (left right : ℕ) → IsTaken old left → IsTaken old right → (tile_at old right).area.xlo ≡ (tile_at old left).area.xhi
+    → (tile_at old right).area.ylo ≡ (tile_at old left).area.ylo
+    → (tile_at old right).area.yhi ≡ (tile_at old left).area.yhi → IsJoinedRight left right old new
+    → IsLaid (record (tile_at old left).area { xhi = (tile_at old right).area.xhi }) (tile_at old left).value left old new
 laid_join old new left right taken other_taken meet low high join = record {
   here = join.whole;
   value_here = join.value;
   elsewhere = λ k s owns out. (let alike = stays k s owns out in (k, alike_owned old new k s alike owns, alike_wide (tile_at old k) (tile_at new k) alike));
   beside = λ k x h owns up down out. (let alike = stays k (square_at x h) owns out in (k, alike_owned old new k _ alike owns, alike));
-  untouched = λ j had none. join.others j (λ e. none _ from_left (subst (λ (v : ℕ). Owns old v (square_at (tile_at old left).area.xlo (tile_at old left).area.ylo)) (sym e) own_left))
+  untouched = λ j had none. join.others j (λ e.
+      none _ from_left (subst (λ (v : ℕ). Owns old v (square_at (tile_at old left).area.xlo (tile_at old left).area.ylo)) (sym e) own_left))
       (λ e. none _ from_right (subst (λ (v : ℕ). Owns old v (square_at (tile_at old right).area.xlo (tile_at old right).area.ylo)) (sym e) own_right));
   upright = λ j x h p q n m. elim (cases_eq j left) [
-    | inl e ↦ (left, in_left (square_at x h) (subst (λ (v : ℕ). Owns old v (square_at x h)) e p), in_left (square_at x (h +ℤ pos 1)) (subst (λ (v : ℕ). Owns old v (square_at x (h +ℤ pos 1))) e q))
+    | inl e ↦ (
+      left,
+      in_left (square_at x h) (subst (λ (v : ℕ). Owns old v (square_at x h)) e p),
+      in_left (square_at x (h +ℤ pos 1))
+          (subst (λ (v : ℕ). Owns old v (square_at x (h +ℤ pos 1))) e q),
+    )
     | inr a ↦ elim (cases_eq j right) [
-      | inl e ↦ (left, in_right (square_at x h) (subst (λ (v : ℕ). Owns old v (square_at x h)) e p), in_right (square_at x (h +ℤ pos 1)) (subst (λ (v : ℕ). Owns old v (square_at x (h +ℤ pos 1))) e q))
+      | inl e ↦ (
+        left,
+        in_right (square_at x h) (subst (λ (v : ℕ). Owns old v (square_at x h)) e p),
+        in_right (square_at x (h +ℤ pos 1))
+            (subst (λ (v : ℕ). Owns old v (square_at x (h +ℤ pos 1))) e q),
+      )
       | inr b ↦ (let alike = join.others j a b in (j, alike_owns old new j _ alike p, alike_owns old new j _ alike q))
     ]
   ];
 } where
-  stays : (k : ℕ) (s : Square) → Owns new k s → (Covers (record (tile_at old left).area { xhi = (tile_at old right).area.xhi }) s → ⊥) → AreAlike (tile_at old k) (tile_at new k)
+  stays : (k : ℕ) (s : Square) → Owns new k s → (Covers (record (tile_at old left).area { xhi = (tile_at old right).area.xhi }) s → ⊥)
+      → AreAlike (tile_at old k) (tile_at new k)
   stays k s owns out = elim (cases_eq k right) [
     | inl e ↦ absurd (join.gone (subst (IsTaken new) e (owner_taken new k s owns)))
     | inr n ↦ elim (cases_eq k left) [
@@ -286,13 +360,28 @@ laid_join old new left right taken other_taken meet low high join = record {
   own_right = record { covers = corner_covered (tile_at old right).area other_taken.proper }
 
   from_left : Covers (record (tile_at old left).area { xhi = (tile_at old right).area.xhi }) (square_at (tile_at old left).area.xlo (tile_at old left).area.ylo)
-  from_left = let p = taken.proper in let q = other_taken.proper in record { right_of_xlo = omega (arith, ints); left_of_xhi = omega (arith, ints); above_ylo = omega (arith, ints); below_yhi = p.high }
+  from_left = let p = taken.proper in let q = other_taken.proper in
+      record { right_of_xlo = omega (arith, ints); left_of_xhi = omega (arith, ints); above_ylo = omega (arith, ints); below_yhi = p.high }
 
-  from_right : Covers (record (tile_at old left).area { xhi = (tile_at old right).area.xhi }) (square_at (tile_at old right).area.xlo (tile_at old right).area.ylo)
-  from_right = let p = taken.proper in let q = other_taken.proper in record { right_of_xlo = omega (arith, ints); left_of_xhi = q.wide; above_ylo = omega (arith, ints); below_yhi = omega (arith, ints) }
+  from_right : Covers (record (tile_at old left).area { xhi = (tile_at old right).area.xhi })
+      (square_at (tile_at old right).area.xlo (tile_at old right).area.ylo)
+  from_right = let p = taken.proper in let q = other_taken.proper in
+      record { right_of_xlo = omega (arith, ints); left_of_xhi = q.wide; above_ylo = omega (arith, ints); below_yhi = omega (arith, ints) }
 
   in_left : (s : Square) → Owns old left s → Owns new left s
-  in_left s owns = let c = owns.covers in let q = other_taken.proper in area_owns new left _ s join.whole (record { right_of_xlo = c.right_of_xlo; left_of_xhi = omega (arith, ints); above_ylo = c.above_ylo; below_yhi = c.below_yhi })
+  in_left s owns = let c = owns.covers in let q = other_taken.proper in
+      area_owns new left _ s join.whole (record {
+        right_of_xlo = c.right_of_xlo;
+        left_of_xhi = omega (arith, ints);
+        above_ylo = c.above_ylo;
+        below_yhi = c.below_yhi;
+      })
 
   in_right : (s : Square) → Owns old right s → Owns new left s
-  in_right s owns = let c = owns.covers in let q = taken.proper in area_owns new left _ s join.whole (record { right_of_xlo = omega (arith, ints); left_of_xhi = c.left_of_xhi; above_ylo = omega (arith, ints); below_yhi = omega (arith, ints) })
+  in_right s owns = let c = owns.covers in let q = taken.proper in
+      area_owns new left _ s join.whole (record {
+        right_of_xlo = omega (arith, ints);
+        left_of_xhi = c.left_of_xhi;
+        above_ylo = omega (arith, ints);
+        below_yhi = omega (arith, ints);
+      })

@@ -70,7 +70,8 @@ module _ (side : Side) (area : Rect) (id : ℕ) (old : Tiles) where
     ];
     inside = λ k taken in_area d_passed. elim (cases_eq k next) [
       | inl e ↦ ap (λ (v : ℕ). stitch_of side (tile_at put v)) e ∙ set_stitch
-      | inr n ↦ ap (stitch_of side) (is_put.others k n) ∙ mended.inside k taken in_area (elim (only k taken in_area d_passed) [ inl c_passed ↦ c_passed | inr e ↦ absurd (n e) ])
+      | inr n ↦ ap (stitch_of side) (is_put.others k n)
+          ∙ mended.inside k taken in_area (elim (only k taken in_area d_passed) [ inl c_passed ↦ c_passed | inr e ↦ absurd (n e) ])
     ];
     outside = λ k no. elim (cases_eq k next) [
       | inl e ↦ absurd (subst (λ (v : ℕ). Covers area (square_of side (tile_at old v)) → IsPassed side d (tile_at old v).area → ⊥) e no covers passed)
@@ -117,12 +118,14 @@ module _ (old : Tiles) (area : Rect) (first id : ℕ) (partition : IsPartition o
       let within = side.within in
       by_lt_z (tile_at old k).area.ylo area.yhi
       (λ over.
-      let both = strangers old id k (square_at (tile_at old k).area.xlo (tile_at old k).area.ylo) (square_below (tile_at old k)) partition (omega (arith, ints)) (omega (arith, ints)) (omega (arith, ints)) in
+      let both = strangers old id k (square_at (tile_at old k).area.xlo (tile_at old k).area.ylo) (square_below (tile_at old k)) partition
+      (omega (arith, ints)) (omega (arith, ints)) (omega (arith, ints)) in
       absurd (omega (arith, ints)))
       (λ touches. omega (arith, ints))
 
   -- and it is the tile at which the walk is, where it is passed in this step
-  upper_passed : (next k : ℕ) (c : ℤ) → c ≤ℤ area.xhi → area.xlo <ℤ c → Owns old next (square_at (c -ℤ pos 1) area.yhi) → IsTaken old k → Covers area (square_below (tile_at old k))
+  upper_passed : (next k : ℕ) (c : ℤ) → c ≤ℤ area.xhi → area.xlo <ℤ c → Owns old next (square_at (c -ℤ pos 1) area.yhi) → IsTaken old k
+      → Covers area (square_below (tile_at old k))
       → IsPassed Below (tile_at old next).area.xlo (tile_at old k).area → IsPassed Below c (tile_at old k).area ⊎ (k ≡ next)
   upper_passed next k c bound more owns taken covers passed =
       let proper = taken.proper in
@@ -151,52 +154,57 @@ module _ (old : Tiles) (area : Rect) (first id : ℕ) (partition : IsPartition o
       omega (arith, ints))
 
   pub upper_next_taken : (new : Tiles) (next : ℕ) (c : ℤ) → IsMendingUpper old new area id next c → area.xlo <ℤ c → IsTaken new next
-  upper_next_taken new next c walk more = record { proper = subst (λ (t : Tile). IsProper t.area) (sym (walk.mended.rest next)) (owner_taken old next _ (walk.at more)).proper }
+  upper_next_taken new next c walk more = record {
+    proper =
+        subst (λ (t : Tile). IsProper t.area) (sym (walk.mended.rest next)) (owner_taken old next _ (walk.at more)).proper;
+  }
 
   -- the tile at which the walk is, as it was before it was read
-  module _ (new : Tiles) (next : ℕ) (c : ℤ) (tile : Tile) (walk : IsMendingUpper old new area id next c) (more : area.xlo <ℤ c) (is : tile ≡ tile_at new next) where
-    upper_end : tile.area.xlo ≡ (tile_at old next).area.xlo
-    upper_end = ap (λ (t : Tile). t.area.xlo) (is ∙ walk.mended.rest next)
+  module _ (new : Tiles) (next : ℕ) (c : ℤ) (tile : Tile) (walk : IsMendingUpper old new area id next c) (more : area.xlo <ℤ c) (is : tile ≡ tile_at new next)
+    where
+      upper_end : tile.area.xlo ≡ (tile_at old next).area.xlo
+      upper_end = ap (λ (t : Tile). t.area.xlo) (is ∙ walk.mended.rest next)
 
-    pub upper_falls : extent area.xlo tile.area.xlo < extent area.xlo c
-    upper_falls = let at = (walk.at more).covers in let end = upper_end in extent_falls_down area.xlo tile.area.xlo c (omega (arith, ints)) more
+      pub upper_falls : extent area.xlo tile.area.xlo < extent area.xlo c
+      upper_falls = let at = (walk.at more).covers in let end = upper_end in extent_falls_down area.xlo tile.area.xlo c (omega (arith, ints)) more
 
-    -- the last tile reaches past the area
-    pub upper_last : tile.area.xlo <ℤ area.xlo → LeadTo Below area id old new
-    upper_last past = mending_ends Below area id old new c walk.mended (λ k taken covers.
-        let end = upper_end in
-        let at = (walk.at more).covers in
-        elim (upper_passed next k c walk.bound more (walk.at more) taken covers (omega (arith, ints))) [
-          | inl passed ↦ passed
-          | inr same ↦ (let e = ap (λ (v : ℕ). (tile_at old v).area.xlo) same in absurd (omega (arith, ints)))
-        ])
+      -- the last tile reaches past the area
+      pub upper_last : tile.area.xlo <ℤ area.xlo → LeadTo Below area id old new
+      upper_last past = mending_ends Below area id old new c walk.mended (λ k taken covers.
+          let end = upper_end in
+          let at = (walk.at more).covers in
+          elim (upper_passed next k c walk.bound more (walk.at more) taken covers (omega (arith, ints))) [
+            | inl passed ↦ passed
+            | inr same ↦ (let e = ap (λ (v : ℕ). (tile_at old v).area.xlo) same in absurd (omega (arith, ints)))
+          ])
 
-    pub upper_goes_on : (put : Tiles) → area.xlo ≤ℤ tile.area.xlo → IsPut next (record (tile_at new next) { below = id }) new put
-        → IsMendingUpper old put area id tile.left tile.area.xlo
-    upper_goes_on put on is_put =
-        let end = upper_end in
-        let stitch = ap (λ (t : Tile). t.left) (is ∙ walk.mended.rest next) in
-        let owns = walk.at more in
-        let at = owns.covers in
-        let bound = walk.bound in
-        let within = side.within in
-        let holder = upper_taken in
-        let proper = (owner_taken old next _ owns).proper in
-        let sound = side.proper in
-        let edge = side.edge in
-        let reaches : (tile_at old next).area.ylo ≡ area.yhi = (
-        let e = beside_above old id next (c -ℤ pos 1) partition holder (omega (arith, ints)) (omega (arith, ints)) (omega (arith, ints)) in
-        omega (arith, ints)) in
-        let around = partition.within id holder in
-        let beside = partition.within next (owner_taken old next _ owns) in
-        let leads = side.along next (c -ℤ pos 1) (omega (arith, ints)) (omega (arith, ints)) owns in
-        record {
-          mended = mending_goes_on Below area id old new put next c tile.area.xlo walk.mended is_put (omega (arith, ints)) (omega (arith, ints))
-              (λ k passed. omega (arith, ints))
-              (λ k taken covers passed. upper_passed next k c bound more owns taken covers (omega (arith, ints)));
-          bound = omega (arith, ints);
-          at = λ again. subst (λ (v : ℕ). Owns old v (square_at (tile.area.xlo -ℤ pos 1) area.yhi)) (sym stitch) (let there = leads (omega (arith, ints)) in let covers = there.covers in omega (arith, ints));
-        }
+      pub upper_goes_on : (put : Tiles) → area.xlo ≤ℤ tile.area.xlo → IsPut next (record (tile_at new next) { below = id }) new put
+          → IsMendingUpper old put area id tile.left tile.area.xlo
+      upper_goes_on put on is_put =
+          let end = upper_end in
+          let stitch = ap (λ (t : Tile). t.left) (is ∙ walk.mended.rest next) in
+          let owns = walk.at more in
+          let at = owns.covers in
+          let bound = walk.bound in
+          let within = side.within in
+          let holder = upper_taken in
+          let proper = (owner_taken old next _ owns).proper in
+          let sound = side.proper in
+          let edge = side.edge in
+          let reaches : (tile_at old next).area.ylo ≡ area.yhi = (
+          let e = beside_above old id next (c -ℤ pos 1) partition holder (omega (arith, ints)) (omega (arith, ints)) (omega (arith, ints)) in
+          omega (arith, ints)) in
+          let around = partition.within id holder in
+          let beside = partition.within next (owner_taken old next _ owns) in
+          let leads = side.along next (c -ℤ pos 1) (omega (arith, ints)) (omega (arith, ints)) owns in
+          record {
+            mended = mending_goes_on Below area id old new put next c tile.area.xlo walk.mended is_put (omega (arith, ints)) (omega (arith, ints))
+                (λ k passed. omega (arith, ints))
+                (λ k taken covers passed. upper_passed next k c bound more owns taken covers (omega (arith, ints)));
+            bound = omega (arith, ints);
+            at = λ again. subst (λ (v : ℕ). Owns old v (square_at (tile.area.xlo -ℤ pos 1) area.yhi)) (sym stitch)
+                (let there = leads (omega (arith, ints)) in let covers = there.covers in omega (arith, ints));
+          }
 
   pub upper_ends : (new : Tiles) (next : ℕ) (c : ℤ) → IsMendingUpper old new area id next c → c ≤ℤ area.xlo → LeadTo Below area id old new
   upper_ends new next c walk over = mending_ends Below area id old new c walk.mended (λ k taken covers. let proper = taken.proper in omega (arith, ints))
@@ -218,12 +226,14 @@ module _ (old : Tiles) (area : Rect) (first id : ℕ) (partition : IsPartition o
       let within = side.within in
       by_lt_z (tile_at old k).area.xlo area.xhi
       (λ over.
-      let both = strangers old id k (square_at (tile_at old k).area.xlo (tile_at old k).area.ylo) (square_left (tile_at old k)) partition (omega (arith, ints)) (omega (arith, ints)) (omega (arith, ints)) in
+      let both = strangers old id k (square_at (tile_at old k).area.xlo (tile_at old k).area.ylo) (square_left (tile_at old k)) partition
+      (omega (arith, ints)) (omega (arith, ints)) (omega (arith, ints)) in
       absurd (omega (arith, ints)))
       (λ touches. omega (arith, ints))
 
   -- and it is the tile at which the walk is, where it is passed in this step
-  right_passed : (next k : ℕ) (c : ℤ) → c ≤ℤ area.yhi → area.ylo <ℤ c → Owns old next (square_at area.xhi (c -ℤ pos 1)) → IsTaken old k → Covers area (square_left (tile_at old k))
+  right_passed : (next k : ℕ) (c : ℤ) → c ≤ℤ area.yhi → area.ylo <ℤ c → Owns old next (square_at area.xhi (c -ℤ pos 1)) → IsTaken old k
+      → Covers area (square_left (tile_at old k))
       → IsPassed Left (tile_at old next).area.ylo (tile_at old k).area → IsPassed Left c (tile_at old k).area ⊎ (k ≡ next)
   right_passed next k c bound more owns taken covers passed =
       let proper = taken.proper in
@@ -252,52 +262,57 @@ module _ (old : Tiles) (area : Rect) (first id : ℕ) (partition : IsPartition o
       omega (arith, ints))
 
   pub right_next_taken : (new : Tiles) (next : ℕ) (c : ℤ) → IsMendingRight old new area id next c → area.ylo <ℤ c → IsTaken new next
-  right_next_taken new next c walk more = record { proper = subst (λ (t : Tile). IsProper t.area) (sym (walk.mended.rest next)) (owner_taken old next _ (walk.at more)).proper }
+  right_next_taken new next c walk more = record {
+    proper =
+        subst (λ (t : Tile). IsProper t.area) (sym (walk.mended.rest next)) (owner_taken old next _ (walk.at more)).proper;
+  }
 
   -- the tile at which the walk is, as it was before it was read
-  module _ (new : Tiles) (next : ℕ) (c : ℤ) (tile : Tile) (walk : IsMendingRight old new area id next c) (more : area.ylo <ℤ c) (is : tile ≡ tile_at new next) where
-    right_end : tile.area.ylo ≡ (tile_at old next).area.ylo
-    right_end = ap (λ (t : Tile). t.area.ylo) (is ∙ walk.mended.rest next)
+  module _ (new : Tiles) (next : ℕ) (c : ℤ) (tile : Tile) (walk : IsMendingRight old new area id next c) (more : area.ylo <ℤ c) (is : tile ≡ tile_at new next)
+    where
+      right_end : tile.area.ylo ≡ (tile_at old next).area.ylo
+      right_end = ap (λ (t : Tile). t.area.ylo) (is ∙ walk.mended.rest next)
 
-    pub right_falls : extent area.ylo tile.area.ylo < extent area.ylo c
-    right_falls = let at = (walk.at more).covers in let end = right_end in extent_falls_down area.ylo tile.area.ylo c (omega (arith, ints)) more
+      pub right_falls : extent area.ylo tile.area.ylo < extent area.ylo c
+      right_falls = let at = (walk.at more).covers in let end = right_end in extent_falls_down area.ylo tile.area.ylo c (omega (arith, ints)) more
 
-    -- the last tile reaches past the area
-    pub right_last : tile.area.ylo <ℤ area.ylo → LeadTo Left area id old new
-    right_last past = mending_ends Left area id old new c walk.mended (λ k taken covers.
-        let end = right_end in
-        let at = (walk.at more).covers in
-        elim (right_passed next k c walk.bound more (walk.at more) taken covers (omega (arith, ints))) [
-          | inl passed ↦ passed
-          | inr same ↦ (let e = ap (λ (v : ℕ). (tile_at old v).area.ylo) same in absurd (omega (arith, ints)))
-        ])
+      -- the last tile reaches past the area
+      pub right_last : tile.area.ylo <ℤ area.ylo → LeadTo Left area id old new
+      right_last past = mending_ends Left area id old new c walk.mended (λ k taken covers.
+          let end = right_end in
+          let at = (walk.at more).covers in
+          elim (right_passed next k c walk.bound more (walk.at more) taken covers (omega (arith, ints))) [
+            | inl passed ↦ passed
+            | inr same ↦ (let e = ap (λ (v : ℕ). (tile_at old v).area.ylo) same in absurd (omega (arith, ints)))
+          ])
 
-    pub right_goes_on : (put : Tiles) → area.ylo ≤ℤ tile.area.ylo → IsPut next (record (tile_at new next) { left = id }) new put
-        → IsMendingRight old put area id tile.below tile.area.ylo
-    right_goes_on put on is_put =
-        let end = right_end in
-        let stitch = ap (λ (t : Tile). t.below) (is ∙ walk.mended.rest next) in
-        let owns = walk.at more in
-        let at = owns.covers in
-        let bound = walk.bound in
-        let within = side.within in
-        let holder = right_taken in
-        let proper = (owner_taken old next _ owns).proper in
-        let sound = side.proper in
-        let edge = side.edge in
-        let reaches : (tile_at old next).area.xlo ≡ area.xhi = (
-        let e = beside_right old id next (c -ℤ pos 1) partition holder (omega (arith, ints)) (omega (arith, ints)) (omega (arith, ints)) in
-        omega (arith, ints)) in
-        let around = partition.within id holder in
-        let beside = partition.within next (owner_taken old next _ owns) in
-        let leads = side.along next (c -ℤ pos 1) (omega (arith, ints)) (omega (arith, ints)) owns in
-        record {
-          mended = mending_goes_on Left area id old new put next c tile.area.ylo walk.mended is_put (omega (arith, ints)) (omega (arith, ints))
-              (λ k passed. omega (arith, ints))
-              (λ k taken covers passed. right_passed next k c bound more owns taken covers (omega (arith, ints)));
-          bound = omega (arith, ints);
-          at = λ again. subst (λ (v : ℕ). Owns old v (square_at area.xhi (tile.area.ylo -ℤ pos 1))) (sym stitch) (let there = leads (omega (arith, ints)) in let covers = there.covers in omega (arith, ints));
-        }
+      pub right_goes_on : (put : Tiles) → area.ylo ≤ℤ tile.area.ylo → IsPut next (record (tile_at new next) { left = id }) new put
+          → IsMendingRight old put area id tile.below tile.area.ylo
+      right_goes_on put on is_put =
+          let end = right_end in
+          let stitch = ap (λ (t : Tile). t.below) (is ∙ walk.mended.rest next) in
+          let owns = walk.at more in
+          let at = owns.covers in
+          let bound = walk.bound in
+          let within = side.within in
+          let holder = right_taken in
+          let proper = (owner_taken old next _ owns).proper in
+          let sound = side.proper in
+          let edge = side.edge in
+          let reaches : (tile_at old next).area.xlo ≡ area.xhi = (
+          let e = beside_right old id next (c -ℤ pos 1) partition holder (omega (arith, ints)) (omega (arith, ints)) (omega (arith, ints)) in
+          omega (arith, ints)) in
+          let around = partition.within id holder in
+          let beside = partition.within next (owner_taken old next _ owns) in
+          let leads = side.along next (c -ℤ pos 1) (omega (arith, ints)) (omega (arith, ints)) owns in
+          record {
+            mended = mending_goes_on Left area id old new put next c tile.area.ylo walk.mended is_put (omega (arith, ints)) (omega (arith, ints))
+                (λ k passed. omega (arith, ints))
+                (λ k taken covers passed. right_passed next k c bound more owns taken covers (omega (arith, ints)));
+            bound = omega (arith, ints);
+            at = λ again. subst (λ (v : ℕ). Owns old v (square_at area.xhi (tile.area.ylo -ℤ pos 1))) (sym stitch)
+                (let there = leads (omega (arith, ints)) in let covers = there.covers in omega (arith, ints));
+          }
 
   pub right_ends : (new : Tiles) (next : ℕ) (c : ℤ) → IsMendingRight old new area id next c → c ≤ℤ area.ylo → LeadTo Left area id old new
   right_ends new next c walk over = mending_ends Left area id old new c walk.mended (λ k taken covers. let proper = taken.proper in omega (arith, ints))
@@ -319,12 +334,14 @@ module _ (old : Tiles) (area : Rect) (first id : ℕ) (partition : IsPartition o
       let within = side.within in
       by_lt_z area.ylo (tile_at old k).area.yhi
       (λ over.
-      let both = strangers old id k (square_at ((tile_at old k).area.xhi -ℤ pos 1) ((tile_at old k).area.yhi -ℤ pos 1)) (square_above (tile_at old k)) partition (omega (arith, ints)) (omega (arith, ints)) (omega (arith, ints)) in
+      let both = strangers old id k (square_at ((tile_at old k).area.xhi -ℤ pos 1) ((tile_at old k).area.yhi -ℤ pos 1)) (square_above (tile_at old k))
+      partition (omega (arith, ints)) (omega (arith, ints)) (omega (arith, ints)) in
       absurd (omega (arith, ints)))
       (λ touches. omega (arith, ints))
 
   -- and it is the tile at which the walk is, where it is passed in this step
-  lower_passed : (next k : ℕ) (c : ℤ) → area.xlo ≤ℤ c → c <ℤ area.xhi → Owns old next (square_at c (area.ylo -ℤ pos 1)) → IsTaken old k → Covers area (square_above (tile_at old k))
+  lower_passed : (next k : ℕ) (c : ℤ) → area.xlo ≤ℤ c → c <ℤ area.xhi → Owns old next (square_at c (area.ylo -ℤ pos 1)) → IsTaken old k
+      → Covers area (square_above (tile_at old k))
       → IsPassed Above (tile_at old next).area.xhi (tile_at old k).area → IsPassed Above c (tile_at old k).area ⊎ (k ≡ next)
   lower_passed next k c bound more owns taken covers passed =
       let proper = taken.proper in
@@ -353,52 +370,57 @@ module _ (old : Tiles) (area : Rect) (first id : ℕ) (partition : IsPartition o
       omega (arith, ints))
 
   pub lower_next_taken : (new : Tiles) (next : ℕ) (c : ℤ) → IsMendingLower old new area id next c → c <ℤ area.xhi → IsTaken new next
-  lower_next_taken new next c walk more = record { proper = subst (λ (t : Tile). IsProper t.area) (sym (walk.mended.rest next)) (owner_taken old next _ (walk.at more)).proper }
+  lower_next_taken new next c walk more = record {
+    proper =
+        subst (λ (t : Tile). IsProper t.area) (sym (walk.mended.rest next)) (owner_taken old next _ (walk.at more)).proper;
+  }
 
   -- the tile at which the walk is, as it was before it was read
-  module _ (new : Tiles) (next : ℕ) (c : ℤ) (tile : Tile) (walk : IsMendingLower old new area id next c) (more : c <ℤ area.xhi) (is : tile ≡ tile_at new next) where
-    lower_end : tile.area.xhi ≡ (tile_at old next).area.xhi
-    lower_end = ap (λ (t : Tile). t.area.xhi) (is ∙ walk.mended.rest next)
+  module _ (new : Tiles) (next : ℕ) (c : ℤ) (tile : Tile) (walk : IsMendingLower old new area id next c) (more : c <ℤ area.xhi) (is : tile ≡ tile_at new next)
+    where
+      lower_end : tile.area.xhi ≡ (tile_at old next).area.xhi
+      lower_end = ap (λ (t : Tile). t.area.xhi) (is ∙ walk.mended.rest next)
 
-    pub lower_falls : extent tile.area.xhi area.xhi < extent c area.xhi
-    lower_falls = let at = (walk.at more).covers in let end = lower_end in extent_falls c tile.area.xhi area.xhi (omega (arith, ints)) more
+      pub lower_falls : extent tile.area.xhi area.xhi < extent c area.xhi
+      lower_falls = let at = (walk.at more).covers in let end = lower_end in extent_falls c tile.area.xhi area.xhi (omega (arith, ints)) more
 
-    -- the last tile reaches past the area
-    pub lower_last : area.xhi <ℤ tile.area.xhi → LeadTo Above area id old new
-    lower_last past = mending_ends Above area id old new c walk.mended (λ k taken covers.
-        let end = lower_end in
-        let at = (walk.at more).covers in
-        elim (lower_passed next k c walk.bound more (walk.at more) taken covers (omega (arith, ints))) [
-          | inl passed ↦ passed
-          | inr same ↦ (let e = ap (λ (v : ℕ). (tile_at old v).area.xhi) same in absurd (omega (arith, ints)))
-        ])
+      -- the last tile reaches past the area
+      pub lower_last : area.xhi <ℤ tile.area.xhi → LeadTo Above area id old new
+      lower_last past = mending_ends Above area id old new c walk.mended (λ k taken covers.
+          let end = lower_end in
+          let at = (walk.at more).covers in
+          elim (lower_passed next k c walk.bound more (walk.at more) taken covers (omega (arith, ints))) [
+            | inl passed ↦ passed
+            | inr same ↦ (let e = ap (λ (v : ℕ). (tile_at old v).area.xhi) same in absurd (omega (arith, ints)))
+          ])
 
-    pub lower_goes_on : (put : Tiles) → tile.area.xhi ≤ℤ area.xhi → IsPut next (record (tile_at new next) { above = id }) new put
-        → IsMendingLower old put area id tile.right tile.area.xhi
-    lower_goes_on put on is_put =
-        let end = lower_end in
-        let stitch = ap (λ (t : Tile). t.right) (is ∙ walk.mended.rest next) in
-        let owns = walk.at more in
-        let at = owns.covers in
-        let bound = walk.bound in
-        let within = side.within in
-        let holder = lower_taken in
-        let proper = (owner_taken old next _ owns).proper in
-        let sound = side.proper in
-        let edge = side.edge in
-        let reaches : (tile_at old next).area.yhi ≡ area.ylo = (
-        let e = beside_below old id next c partition holder (omega (arith, ints)) (omega (arith, ints)) (omega (arith, ints)) in
-        omega (arith, ints)) in
-        let around = partition.within id holder in
-        let beside = partition.within next (owner_taken old next _ owns) in
-        let leads = side.along next c (omega (arith, ints)) (omega (arith, ints)) owns in
-        record {
-          mended = mending_goes_on Above area id old new put next c tile.area.xhi walk.mended is_put (omega (arith, ints)) (omega (arith, ints))
-              (λ k passed. omega (arith, ints))
-              (λ k taken covers passed. lower_passed next k c bound more owns taken covers (omega (arith, ints)));
-          bound = omega (arith, ints);
-          at = λ again. subst (λ (v : ℕ). Owns old v (square_at tile.area.xhi (area.ylo -ℤ pos 1))) (sym stitch) (let there = leads (omega (arith, ints)) in let covers = there.covers in omega (arith, ints));
-        }
+      pub lower_goes_on : (put : Tiles) → tile.area.xhi ≤ℤ area.xhi → IsPut next (record (tile_at new next) { above = id }) new put
+          → IsMendingLower old put area id tile.right tile.area.xhi
+      lower_goes_on put on is_put =
+          let end = lower_end in
+          let stitch = ap (λ (t : Tile). t.right) (is ∙ walk.mended.rest next) in
+          let owns = walk.at more in
+          let at = owns.covers in
+          let bound = walk.bound in
+          let within = side.within in
+          let holder = lower_taken in
+          let proper = (owner_taken old next _ owns).proper in
+          let sound = side.proper in
+          let edge = side.edge in
+          let reaches : (tile_at old next).area.yhi ≡ area.ylo = (
+          let e = beside_below old id next c partition holder (omega (arith, ints)) (omega (arith, ints)) (omega (arith, ints)) in
+          omega (arith, ints)) in
+          let around = partition.within id holder in
+          let beside = partition.within next (owner_taken old next _ owns) in
+          let leads = side.along next c (omega (arith, ints)) (omega (arith, ints)) owns in
+          record {
+            mended = mending_goes_on Above area id old new put next c tile.area.xhi walk.mended is_put (omega (arith, ints)) (omega (arith, ints))
+                (λ k passed. omega (arith, ints))
+                (λ k taken covers passed. lower_passed next k c bound more owns taken covers (omega (arith, ints)));
+            bound = omega (arith, ints);
+            at = λ again. subst (λ (v : ℕ). Owns old v (square_at tile.area.xhi (area.ylo -ℤ pos 1))) (sym stitch)
+                (let there = leads (omega (arith, ints)) in let covers = there.covers in omega (arith, ints));
+          }
 
   pub lower_ends : (new : Tiles) (next : ℕ) (c : ℤ) → IsMendingLower old new area id next c → area.xhi ≤ℤ c → LeadTo Above area id old new
   lower_ends new next c walk over = mending_ends Above area id old new c walk.mended (λ k taken covers. let proper = taken.proper in omega (arith, ints))
@@ -420,12 +442,14 @@ module _ (old : Tiles) (area : Rect) (first id : ℕ) (partition : IsPartition o
       let within = side.within in
       by_lt_z area.xlo (tile_at old k).area.xhi
       (λ over.
-      let both = strangers old id k (square_at ((tile_at old k).area.xhi -ℤ pos 1) ((tile_at old k).area.yhi -ℤ pos 1)) (square_right (tile_at old k)) partition (omega (arith, ints)) (omega (arith, ints)) (omega (arith, ints)) in
+      let both = strangers old id k (square_at ((tile_at old k).area.xhi -ℤ pos 1) ((tile_at old k).area.yhi -ℤ pos 1)) (square_right (tile_at old k))
+      partition (omega (arith, ints)) (omega (arith, ints)) (omega (arith, ints)) in
       absurd (omega (arith, ints)))
       (λ touches. omega (arith, ints))
 
   -- and it is the tile at which the walk is, where it is passed in this step
-  left_passed : (next k : ℕ) (c : ℤ) → area.ylo ≤ℤ c → c <ℤ area.yhi → Owns old next (square_at (area.xlo -ℤ pos 1) c) → IsTaken old k → Covers area (square_right (tile_at old k))
+  left_passed : (next k : ℕ) (c : ℤ) → area.ylo ≤ℤ c → c <ℤ area.yhi → Owns old next (square_at (area.xlo -ℤ pos 1) c) → IsTaken old k
+      → Covers area (square_right (tile_at old k))
       → IsPassed Right (tile_at old next).area.yhi (tile_at old k).area → IsPassed Right c (tile_at old k).area ⊎ (k ≡ next)
   left_passed next k c bound more owns taken covers passed =
       let proper = taken.proper in
@@ -454,52 +478,57 @@ module _ (old : Tiles) (area : Rect) (first id : ℕ) (partition : IsPartition o
       omega (arith, ints))
 
   pub left_next_taken : (new : Tiles) (next : ℕ) (c : ℤ) → IsMendingLeft old new area id next c → c <ℤ area.yhi → IsTaken new next
-  left_next_taken new next c walk more = record { proper = subst (λ (t : Tile). IsProper t.area) (sym (walk.mended.rest next)) (owner_taken old next _ (walk.at more)).proper }
+  left_next_taken new next c walk more = record {
+    proper =
+        subst (λ (t : Tile). IsProper t.area) (sym (walk.mended.rest next)) (owner_taken old next _ (walk.at more)).proper;
+  }
 
   -- the tile at which the walk is, as it was before it was read
-  module _ (new : Tiles) (next : ℕ) (c : ℤ) (tile : Tile) (walk : IsMendingLeft old new area id next c) (more : c <ℤ area.yhi) (is : tile ≡ tile_at new next) where
-    left_end : tile.area.yhi ≡ (tile_at old next).area.yhi
-    left_end = ap (λ (t : Tile). t.area.yhi) (is ∙ walk.mended.rest next)
+  module _ (new : Tiles) (next : ℕ) (c : ℤ) (tile : Tile) (walk : IsMendingLeft old new area id next c) (more : c <ℤ area.yhi) (is : tile ≡ tile_at new next)
+    where
+      left_end : tile.area.yhi ≡ (tile_at old next).area.yhi
+      left_end = ap (λ (t : Tile). t.area.yhi) (is ∙ walk.mended.rest next)
 
-    pub left_falls : extent tile.area.yhi area.yhi < extent c area.yhi
-    left_falls = let at = (walk.at more).covers in let end = left_end in extent_falls c tile.area.yhi area.yhi (omega (arith, ints)) more
+      pub left_falls : extent tile.area.yhi area.yhi < extent c area.yhi
+      left_falls = let at = (walk.at more).covers in let end = left_end in extent_falls c tile.area.yhi area.yhi (omega (arith, ints)) more
 
-    -- the last tile reaches past the area
-    pub left_last : area.yhi <ℤ tile.area.yhi → LeadTo Right area id old new
-    left_last past = mending_ends Right area id old new c walk.mended (λ k taken covers.
-        let end = left_end in
-        let at = (walk.at more).covers in
-        elim (left_passed next k c walk.bound more (walk.at more) taken covers (omega (arith, ints))) [
-          | inl passed ↦ passed
-          | inr same ↦ (let e = ap (λ (v : ℕ). (tile_at old v).area.yhi) same in absurd (omega (arith, ints)))
-        ])
+      -- the last tile reaches past the area
+      pub left_last : area.yhi <ℤ tile.area.yhi → LeadTo Right area id old new
+      left_last past = mending_ends Right area id old new c walk.mended (λ k taken covers.
+          let end = left_end in
+          let at = (walk.at more).covers in
+          elim (left_passed next k c walk.bound more (walk.at more) taken covers (omega (arith, ints))) [
+            | inl passed ↦ passed
+            | inr same ↦ (let e = ap (λ (v : ℕ). (tile_at old v).area.yhi) same in absurd (omega (arith, ints)))
+          ])
 
-    pub left_goes_on : (put : Tiles) → tile.area.yhi ≤ℤ area.yhi → IsPut next (record (tile_at new next) { right = id }) new put
-        → IsMendingLeft old put area id tile.above tile.area.yhi
-    left_goes_on put on is_put =
-        let end = left_end in
-        let stitch = ap (λ (t : Tile). t.above) (is ∙ walk.mended.rest next) in
-        let owns = walk.at more in
-        let at = owns.covers in
-        let bound = walk.bound in
-        let within = side.within in
-        let holder = left_taken in
-        let proper = (owner_taken old next _ owns).proper in
-        let sound = side.proper in
-        let edge = side.edge in
-        let reaches : (tile_at old next).area.xhi ≡ area.xlo = (
-        let e = beside_left old id next c partition holder (omega (arith, ints)) (omega (arith, ints)) (omega (arith, ints)) in
-        omega (arith, ints)) in
-        let around = partition.within id holder in
-        let beside = partition.within next (owner_taken old next _ owns) in
-        let leads = side.along next c (omega (arith, ints)) (omega (arith, ints)) owns in
-        record {
-          mended = mending_goes_on Right area id old new put next c tile.area.yhi walk.mended is_put (omega (arith, ints)) (omega (arith, ints))
-              (λ k passed. omega (arith, ints))
-              (λ k taken covers passed. left_passed next k c bound more owns taken covers (omega (arith, ints)));
-          bound = omega (arith, ints);
-          at = λ again. subst (λ (v : ℕ). Owns old v (square_at (area.xlo -ℤ pos 1) tile.area.yhi)) (sym stitch) (let there = leads (omega (arith, ints)) in let covers = there.covers in omega (arith, ints));
-        }
+      pub left_goes_on : (put : Tiles) → tile.area.yhi ≤ℤ area.yhi → IsPut next (record (tile_at new next) { right = id }) new put
+          → IsMendingLeft old put area id tile.above tile.area.yhi
+      left_goes_on put on is_put =
+          let end = left_end in
+          let stitch = ap (λ (t : Tile). t.above) (is ∙ walk.mended.rest next) in
+          let owns = walk.at more in
+          let at = owns.covers in
+          let bound = walk.bound in
+          let within = side.within in
+          let holder = left_taken in
+          let proper = (owner_taken old next _ owns).proper in
+          let sound = side.proper in
+          let edge = side.edge in
+          let reaches : (tile_at old next).area.xhi ≡ area.xlo = (
+          let e = beside_left old id next c partition holder (omega (arith, ints)) (omega (arith, ints)) (omega (arith, ints)) in
+          omega (arith, ints)) in
+          let around = partition.within id holder in
+          let beside = partition.within next (owner_taken old next _ owns) in
+          let leads = side.along next c (omega (arith, ints)) (omega (arith, ints)) owns in
+          record {
+            mended = mending_goes_on Right area id old new put next c tile.area.yhi walk.mended is_put (omega (arith, ints)) (omega (arith, ints))
+                (λ k passed. omega (arith, ints))
+                (λ k taken covers passed. left_passed next k c bound more owns taken covers (omega (arith, ints)));
+            bound = omega (arith, ints);
+            at = λ again. subst (λ (v : ℕ). Owns old v (square_at (area.xlo -ℤ pos 1) tile.area.yhi)) (sym stitch)
+                (let there = leads (omega (arith, ints)) in let covers = there.covers in omega (arith, ints));
+          }
 
   pub left_ends : (new : Tiles) (next : ℕ) (c : ℤ) → IsMendingLeft old new area id next c → area.yhi ≤ℤ c → LeadTo Right area id old new
   left_ends new next c walk over = mending_ends Right area id old new c walk.mended (λ k taken covers. let proper = taken.proper in omega (arith, ints))

@@ -63,7 +63,8 @@ module _ (tiles others : Tiles) (areas : HaveSameAreas tiles others) where
 
   -- so does where a stitch leads that stays
   stitch_moves : (side : Side) (k : ℕ) → stitch_of side (tile_at others k) ≡ stitch_of side (tile_at tiles k)
-      → Leads tiles (stitch_of side (tile_at tiles k)) (square_of side (tile_at tiles k)) → Leads others (stitch_of side (tile_at others k)) (square_of side (tile_at others k))
+      → Leads tiles (stitch_of side (tile_at tiles k)) (square_of side (tile_at tiles k))
+      → Leads others (stitch_of side (tile_at others k)) (square_of side (tile_at others k))
   stitch_moves side k same leads = leads_moves _ _ (subst (λ (v : ℕ). Leads tiles v (square_of side (tile_at others k))) (sym same)
       (subst (Leads tiles (stitch_of side (tile_at tiles k))) (sym (square_same side (tile_at others k) (tile_at tiles k) (areas k))) leads))
 
@@ -95,7 +96,8 @@ module _ (tiles others : Tiles) (areas : HaveSameAreas tiles others) where
     }
 
     lower_moves : IsLowerSide tiles area first id
-        → ((k : ℕ) (c : ℤ) → area.xlo ≤ℤ c → c <ℤ area.xhi → Owns tiles k (square_at c (area.ylo -ℤ pos 1)) → (tile_at others k).right ≡ (tile_at tiles k).right)
+        → ((k : ℕ) (c : ℤ) → area.xlo ≤ℤ c → c <ℤ area.xhi → Owns tiles k (square_at c (area.ylo -ℤ pos 1))
+        → (tile_at others k).right ≡ (tile_at tiles k).right)
         → IsLowerSide others area first id
     lower_moves side same = record {
       proper = side.proper;
@@ -148,20 +150,28 @@ lower_apart tiles area first id k c partition side low high owns covers =
     omega (arith, ints)
 
 -- the left side, once the stitches from above are mended
-pub left_after_above : (area : Rect) (first id : ℕ) (one two : Tiles) → LeadTo Below area id one two → IsLeftSide one area first id → IsLeftSide two area first id
-left_after_above area first id one two down side = left_moves one two (same_areas Below area id one two down) area first id side (λ k. ap (λ (t : Tile). t.above) (down.rest k))
+pub left_after_above : (area : Rect) (first id : ℕ) (one two : Tiles) → LeadTo Below area id one two → IsLeftSide one area first id
+    → IsLeftSide two area first id
+left_after_above area first id one two down side =
+    left_moves one two (same_areas Below area id one two down) area first id side (λ k. ap (λ (t : Tile). t.above) (down.rest k))
 
 -- the lower side, once the stitches from the right are mended
-pub below_after_right : (area : Rect) (first id : ℕ) (one two : Tiles) → LeadTo Left area id one two → IsLowerSide one area first id → IsLowerSide two area first id
-below_after_right area first id one two left side = lower_moves one two (same_areas Left area id one two left) area first id side (λ k c low high owns. ap (λ (t : Tile). t.right) (left.rest k))
+pub below_after_right : (area : Rect) (first id : ℕ) (one two : Tiles) → LeadTo Left area id one two → IsLowerSide one area first id
+    → IsLowerSide two area first id
+below_after_right area first id one two left side =
+    lower_moves one two (same_areas Left area id one two left) area first id side (λ k c low high owns. ap (λ (t : Tile). t.right) (left.rest k))
 
 -- the upper side, once the stitches from the left are mended
-pub above_after_left : (area : Rect) (first id : ℕ) (one two : Tiles) → LeadTo Right area id one two → IsUpperSide one area first id → IsUpperSide two area first id
-above_after_left area first id one two right side = upper_moves one two (same_areas Right area id one two right) area first id side (λ k c low high owns. ap (λ (t : Tile). t.left) (right.rest k))
+pub above_after_left : (area : Rect) (first id : ℕ) (one two : Tiles) → LeadTo Right area id one two → IsUpperSide one area first id
+    → IsUpperSide two area first id
+above_after_left area first id one two right side =
+    upper_moves one two (same_areas Right area id one two right) area first id side (λ k c low high owns. ap (λ (t : Tile). t.left) (right.rest k))
 
 -- the right side, once the stitches from the left are mended
-pub right_once_left : (area : Rect) (first id : ℕ) (one two : Tiles) → LeadTo Right area id one two → IsRightSide one area first id → IsRightSide two area first id
-right_once_left area first id one two right side = right_moves one two (same_areas Right area id one two right) area first id side (λ k c low high owns. ap (λ (t : Tile). t.below) (right.rest k))
+pub right_once_left : (area : Rect) (first id : ℕ) (one two : Tiles) → LeadTo Right area id one two → IsRightSide one area first id
+    → IsRightSide two area first id
+right_once_left area first id one two right side =
+    right_moves one two (same_areas Right area id one two right) area first id side (λ k c low high owns. ap (λ (t : Tile). t.below) (right.rest k))
 
 -- the upper end of a tile: first the stitches from above are mended, then those from the left, then those from the right
 module _ (area : Rect) (id : ℕ) (one two three : Tiles) (down : LeadTo Below area id one two) (right : LeadTo Right area id two three) where
@@ -172,7 +182,8 @@ module _ (area : Rect) (id : ℕ) (one two three : Tiles) (down : LeadTo Below a
   right_after_left first partition side = right_moves one three areas_three area first id side (λ k c low high owns.
       ap (λ (t : Tile). t.below) (right.rest k) ∙ down.outside k (right_apart one area first id k c partition side low high owns))
 
-  pub redirected_up : (four : Tiles) → LeadTo Left area id three four → ((k : ℕ) → IsTaken one k → Covers area (square_above (tile_at one k)) → (tile_at one k).above ≡ id)
+  pub redirected_up : (four : Tiles) → LeadTo Left area id three four
+      → ((k : ℕ) → IsTaken one k → Covers area (square_above (tile_at one k)) → (tile_at one k).above ≡ id)
       → AreRedirected area id one four
   redirected_up four left up = record {
     alike = λ k. record {
@@ -186,7 +197,8 @@ module _ (area : Rect) (id : ℕ) (one two three : Tiles) (down : LeadTo Below a
     mid = same_areas Below area id one two down
 
     inside : (side : Side) (k : ℕ) → IsTaken one k → Covers area (square_of side (tile_at one k)) → stitch_of side (tile_at four k) ≡ id
-    inside Above k taken covers = ap (λ (t : Tile). t.above) (left.rest k) ∙ ap (λ (t : Tile). t.above) (right.rest k) ∙ ap (λ (t : Tile). t.above) (down.rest k) ∙ up k taken covers
+    inside Above k taken covers = ap (λ (t : Tile). t.above) (left.rest k) ∙ ap (λ (t : Tile). t.above) (right.rest k)
+        ∙ ap (λ (t : Tile). t.above) (down.rest k) ∙ up k taken covers
     inside Right k taken covers =
         ap (λ (t : Tile). t.right) (left.rest k) ∙ right.inside k (taken_moves one two mid k taken) (covers_moves one two mid Right area k covers)
     inside Below k taken covers = ap (λ (t : Tile). t.below) (left.rest k) ∙ ap (λ (t : Tile). t.below) (right.rest k) ∙ down.inside k taken covers
@@ -195,10 +207,12 @@ module _ (area : Rect) (id : ℕ) (one two three : Tiles) (down : LeadTo Below a
     outside : (side : Side) (k : ℕ) → (Covers area (square_of side (tile_at one k)) → ⊥) → stitch_of side (tile_at four k) ≡ stitch_of side (tile_at one k)
     outside Above k off = ap (λ (t : Tile). t.above) (left.rest k) ∙ ap (λ (t : Tile). t.above) (right.rest k) ∙ ap (λ (t : Tile). t.above) (down.rest k)
     outside Right k off =
-        ap (λ (t : Tile). t.right) (left.rest k) ∙ right.outside k (λ covers. off (covers_back one two mid Right area k covers)) ∙ ap (λ (t : Tile). t.right) (down.rest k)
+        ap (λ (t : Tile). t.right) (left.rest k) ∙ right.outside k (λ covers. off (covers_back one two mid Right area k covers))
+        ∙ ap (λ (t : Tile). t.right) (down.rest k)
     outside Below k off = ap (λ (t : Tile). t.below) (left.rest k) ∙ ap (λ (t : Tile). t.below) (right.rest k) ∙ down.outside k off
     outside Left k off =
-        left.outside k (λ covers. off (covers_back one three areas_three Left area k covers)) ∙ ap (λ (t : Tile). t.left) (right.rest k) ∙ ap (λ (t : Tile). t.left) (down.rest k)
+        left.outside k (λ covers. off (covers_back one three areas_three Left area k covers)) ∙ ap (λ (t : Tile). t.left) (right.rest k)
+        ∙ ap (λ (t : Tile). t.left) (down.rest k)
 
 -- the right end: first the stitches from the right, then those from below, then those from above
 module _ (area : Rect) (id : ℕ) (one two three : Tiles) (left : LeadTo Left area id one two) (up : LeadTo Above area id two three) where
@@ -209,7 +223,8 @@ module _ (area : Rect) (id : ℕ) (one two three : Tiles) (left : LeadTo Left ar
   above_after_below first partition side = upper_moves one three areas_two area first id side (λ k c low high owns.
       ap (λ (t : Tile). t.left) (up.rest k) ∙ left.outside k (upper_apart one area first id k c partition side low high owns))
 
-  pub redirected_right : (four : Tiles) → LeadTo Below area id three four → ((k : ℕ) → IsTaken one k → Covers area (square_right (tile_at one k)) → (tile_at one k).right ≡ id)
+  pub redirected_right : (four : Tiles) → LeadTo Below area id three four
+      → ((k : ℕ) → IsTaken one k → Covers area (square_right (tile_at one k)) → (tile_at one k).right ≡ id)
       → AreRedirected area id one four
   redirected_right four down right = record {
     alike = λ k. record {
@@ -225,16 +240,19 @@ module _ (area : Rect) (id : ℕ) (one two three : Tiles) (left : LeadTo Left ar
     inside : (side : Side) (k : ℕ) → IsTaken one k → Covers area (square_of side (tile_at one k)) → stitch_of side (tile_at four k) ≡ id
     inside Above k taken covers =
         ap (λ (t : Tile). t.above) (down.rest k) ∙ up.inside k (taken_moves one two mid k taken) (covers_moves one two mid Above area k covers)
-    inside Right k taken covers = ap (λ (t : Tile). t.right) (down.rest k) ∙ ap (λ (t : Tile). t.right) (up.rest k) ∙ ap (λ (t : Tile). t.right) (left.rest k) ∙ right k taken covers
+    inside Right k taken covers = ap (λ (t : Tile). t.right) (down.rest k) ∙ ap (λ (t : Tile). t.right) (up.rest k) ∙ ap (λ (t : Tile). t.right) (left.rest k)
+        ∙ right k taken covers
     inside Below k taken covers = down.inside k (taken_moves one three areas_two k taken) (covers_moves one three areas_two Below area k covers)
     inside Left k taken covers = ap (λ (t : Tile). t.left) (down.rest k) ∙ ap (λ (t : Tile). t.left) (up.rest k) ∙ left.inside k taken covers
 
     outside : (side : Side) (k : ℕ) → (Covers area (square_of side (tile_at one k)) → ⊥) → stitch_of side (tile_at four k) ≡ stitch_of side (tile_at one k)
     outside Above k off =
-        ap (λ (t : Tile). t.above) (down.rest k) ∙ up.outside k (λ covers. off (covers_back one two mid Above area k covers)) ∙ ap (λ (t : Tile). t.above) (left.rest k)
+        ap (λ (t : Tile). t.above) (down.rest k) ∙ up.outside k (λ covers. off (covers_back one two mid Above area k covers))
+        ∙ ap (λ (t : Tile). t.above) (left.rest k)
     outside Right k off = ap (λ (t : Tile). t.right) (down.rest k) ∙ ap (λ (t : Tile). t.right) (up.rest k) ∙ ap (λ (t : Tile). t.right) (left.rest k)
     outside Below k off =
-        down.outside k (λ covers. off (covers_back one three areas_two Below area k covers)) ∙ ap (λ (t : Tile). t.below) (up.rest k) ∙ ap (λ (t : Tile). t.below) (left.rest k)
+        down.outside k (λ covers. off (covers_back one three areas_two Below area k covers)) ∙ ap (λ (t : Tile). t.below) (up.rest k)
+        ∙ ap (λ (t : Tile). t.below) (left.rest k)
     outside Left k off = ap (λ (t : Tile). t.left) (down.rest k) ∙ ap (λ (t : Tile). t.left) (up.rest k) ∙ left.outside k off
 
 -- the left end: first the stitches from the left, then those from above, then those from below
@@ -246,7 +264,8 @@ module _ (area : Rect) (id : ℕ) (one two three : Tiles) (right : LeadTo Right 
   below_after_above first partition side = lower_moves one three areas_left area first id side (λ k c low high owns.
       ap (λ (t : Tile). t.right) (down.rest k) ∙ right.outside k (lower_apart one area first id k c partition side low high owns))
 
-  pub redirected_left : (four : Tiles) → LeadTo Above area id three four → ((k : ℕ) → IsTaken one k → Covers area (square_left (tile_at one k)) → (tile_at one k).left ≡ id)
+  pub redirected_left : (four : Tiles) → LeadTo Above area id three four
+      → ((k : ℕ) → IsTaken one k → Covers area (square_left (tile_at one k)) → (tile_at one k).left ≡ id)
       → AreRedirected area id one four
   redirected_left four up left = record {
     alike = λ k. record {
@@ -264,14 +283,17 @@ module _ (area : Rect) (id : ℕ) (one two three : Tiles) (right : LeadTo Right 
     inside Right k taken covers = ap (λ (t : Tile). t.right) (up.rest k) ∙ ap (λ (t : Tile). t.right) (down.rest k) ∙ right.inside k taken covers
     inside Below k taken covers =
         ap (λ (t : Tile). t.below) (up.rest k) ∙ down.inside k (taken_moves one two mid k taken) (covers_moves one two mid Below area k covers)
-    inside Left k taken covers = ap (λ (t : Tile). t.left) (up.rest k) ∙ ap (λ (t : Tile). t.left) (down.rest k) ∙ ap (λ (t : Tile). t.left) (right.rest k) ∙ left k taken covers
+    inside Left k taken covers = ap (λ (t : Tile). t.left) (up.rest k) ∙ ap (λ (t : Tile). t.left) (down.rest k) ∙ ap (λ (t : Tile). t.left) (right.rest k)
+        ∙ left k taken covers
 
     outside : (side : Side) (k : ℕ) → (Covers area (square_of side (tile_at one k)) → ⊥) → stitch_of side (tile_at four k) ≡ stitch_of side (tile_at one k)
     outside Above k off =
-        up.outside k (λ covers. off (covers_back one three areas_left Above area k covers)) ∙ ap (λ (t : Tile). t.above) (down.rest k) ∙ ap (λ (t : Tile). t.above) (right.rest k)
+        up.outside k (λ covers. off (covers_back one three areas_left Above area k covers)) ∙ ap (λ (t : Tile). t.above) (down.rest k)
+        ∙ ap (λ (t : Tile). t.above) (right.rest k)
     outside Right k off = ap (λ (t : Tile). t.right) (up.rest k) ∙ ap (λ (t : Tile). t.right) (down.rest k) ∙ right.outside k off
     outside Below k off =
-        ap (λ (t : Tile). t.below) (up.rest k) ∙ down.outside k (λ covers. off (covers_back one two mid Below area k covers)) ∙ ap (λ (t : Tile). t.below) (right.rest k)
+        ap (λ (t : Tile). t.below) (up.rest k) ∙ down.outside k (λ covers. off (covers_back one two mid Below area k covers))
+        ∙ ap (λ (t : Tile). t.below) (right.rest k)
     outside Left k off = ap (λ (t : Tile). t.left) (up.rest k) ∙ ap (λ (t : Tile). t.left) (down.rest k) ∙ ap (λ (t : Tile). t.left) (right.rest k)
 
 -- the lower end: first the stitches from the left, then those from the right, then those from below
@@ -283,7 +305,8 @@ module _ (area : Rect) (id : ℕ) (one two three : Tiles) (right : LeadTo Right 
   below_after_sides first partition side = lower_moves one three areas_lower area first id side (λ k c low high owns.
       ap (λ (t : Tile). t.right) (left.rest k) ∙ right.outside k (lower_apart one area first id k c partition side low high owns))
 
-  pub redirected_down : (four : Tiles) → LeadTo Above area id three four → ((k : ℕ) → IsTaken one k → Covers area (square_below (tile_at one k)) → (tile_at one k).below ≡ id)
+  pub redirected_down : (four : Tiles) → LeadTo Above area id three four
+      → ((k : ℕ) → IsTaken one k → Covers area (square_below (tile_at one k)) → (tile_at one k).below ≡ id)
       → AreRedirected area id one four
   redirected_down four up below = record {
     alike = λ k. record {
@@ -299,14 +322,17 @@ module _ (area : Rect) (id : ℕ) (one two three : Tiles) (right : LeadTo Right 
     inside : (side : Side) (k : ℕ) → IsTaken one k → Covers area (square_of side (tile_at one k)) → stitch_of side (tile_at four k) ≡ id
     inside Above k taken covers = up.inside k (taken_moves one three areas_lower k taken) (covers_moves one three areas_lower Above area k covers)
     inside Right k taken covers = ap (λ (t : Tile). t.right) (up.rest k) ∙ ap (λ (t : Tile). t.right) (left.rest k) ∙ right.inside k taken covers
-    inside Below k taken covers = ap (λ (t : Tile). t.below) (up.rest k) ∙ ap (λ (t : Tile). t.below) (left.rest k) ∙ ap (λ (t : Tile). t.below) (right.rest k) ∙ below k taken covers
+    inside Below k taken covers = ap (λ (t : Tile). t.below) (up.rest k) ∙ ap (λ (t : Tile). t.below) (left.rest k)
+        ∙ ap (λ (t : Tile). t.below) (right.rest k) ∙ below k taken covers
     inside Left k taken covers =
         ap (λ (t : Tile). t.left) (up.rest k) ∙ left.inside k (taken_moves one two mid k taken) (covers_moves one two mid Left area k covers)
 
     outside : (side : Side) (k : ℕ) → (Covers area (square_of side (tile_at one k)) → ⊥) → stitch_of side (tile_at four k) ≡ stitch_of side (tile_at one k)
     outside Above k off =
-        up.outside k (λ covers. off (covers_back one three areas_lower Above area k covers)) ∙ ap (λ (t : Tile). t.above) (left.rest k) ∙ ap (λ (t : Tile). t.above) (right.rest k)
+        up.outside k (λ covers. off (covers_back one three areas_lower Above area k covers)) ∙ ap (λ (t : Tile). t.above) (left.rest k)
+        ∙ ap (λ (t : Tile). t.above) (right.rest k)
     outside Right k off = ap (λ (t : Tile). t.right) (up.rest k) ∙ ap (λ (t : Tile). t.right) (left.rest k) ∙ right.outside k off
     outside Below k off = ap (λ (t : Tile). t.below) (up.rest k) ∙ ap (λ (t : Tile). t.below) (left.rest k) ∙ ap (λ (t : Tile). t.below) (right.rest k)
     outside Left k off =
-        ap (λ (t : Tile). t.left) (up.rest k) ∙ left.outside k (λ covers. off (covers_back one two mid Left area k covers)) ∙ ap (λ (t : Tile). t.left) (right.rest k)
+        ap (λ (t : Tile). t.left) (up.rest k) ∙ left.outside k (λ covers. off (covers_back one two mid Left area k covers))
+        ∙ ap (λ (t : Tile). t.left) (right.rest k)

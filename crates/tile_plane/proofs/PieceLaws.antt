@@ -28,7 +28,8 @@ pub record AreBanding (piece : Piece) (y : ℤ) (old now : Tiles) : Type 0 where
   pub kept : AreKept piece.area old now
   pub state : IsOpenFrom piece.area y now
 
-pub banding_begins : (piece : Piece) (tiles : Tiles) → IsPartition tiles → HasStitches tiles → IsProper piece.area → IsOpenFrom piece.area piece.area.ylo tiles → AreBanding piece piece.area.ylo tiles tiles
+pub banding_begins : (piece : Piece) (tiles : Tiles) → IsPartition tiles → HasStitches tiles → IsProper piece.area
+    → IsOpenFrom piece.area piece.area.ylo tiles → AreBanding piece piece.area.ylo tiles tiles
 banding_begins piece tiles partition stitches proper state = record {
   partition = partition;
   stitches = stitches;
@@ -36,7 +37,8 @@ banding_begins piece tiles partition stitches proper state = record {
   to = let tall = proper.high in omega (arith, ints);
   set = record {
     set = λ other i s covers. elim i [
-      | inl e ↦ (let c = subst (λ (v : Piece). Covers v.area s) (sym e) covers in let up = c.above_ylo in let down = c.below_yhi in absurd (omega (arith, ints)))
+      | inl e ↦ (let c = subst (λ (v : Piece). Covers v.area s) (sym e) covers in let up = c.above_ylo in let down = c.below_yhi in
+          absurd (omega (arith, ints)))
       | inr none ↦ absurd none
     ];
     others = λ s none. refl;
@@ -97,8 +99,11 @@ module _ (piece : Piece) (y : ℤ) (old now : Tiles) (proper : IsProper piece.ar
             stitches = stitches;
             from = omega (arith, ints);
             to = to;
-            set = set_on piece y top (value_at old) (value_at now) (value_at new) banding.from (omega (arith, ints)) banding.set (band_set (band_of piece y top) whole now new banding.partition partition laid band_proper band_near band_free);
-            kept = kept_then piece.area old now new banding.kept (band_kept (band_of piece y top) whole now new banding.partition partition laid band_proper band_near band_free piece.area refl refl banding.from to);
+            set = set_on piece y top (value_at old) (value_at now) (value_at new) banding.from (omega (arith, ints)) banding.set
+                (band_set (band_of piece y top) whole now new banding.partition partition laid band_proper band_near band_free);
+            kept = kept_then piece.area old now new banding.kept
+                (band_kept (band_of piece y top) whole now new banding.partition partition laid band_proper band_near band_free piece.area refl refl
+                banding.from to);
             state = open_on piece whole y top now new banding.partition partition laid band_proper band_near band_free to banding.state;
           }
 
@@ -113,7 +118,8 @@ module _ (piece : Piece) (y : ℤ) (old now : Tiles) (proper : IsProper piece.ar
       }
 
 -- the same where only cuts away from it came before
-pub banded_after : (piece : Piece) (old mid new : Tiles) → AreSame (value_at old) (value_at mid) → AreKept piece.area old mid → IsBanded piece mid new → IsBanded piece old new
+pub banded_after : (piece : Piece) (old mid new : Tiles) → AreSame (value_at old) (value_at mid) → AreKept piece.area old mid → IsBanded piece mid new
+    → IsBanded piece old new
 banded_after piece old mid new same kept banded = record {
   set = record { set = banded.set.set; others = λ s none. banded.set.others s none ∙ same s };
   wide = banded.wide;
@@ -138,76 +144,87 @@ pub record IsAtBand (band : Piece) (tile : Tile) : Type 0 where
   pub low : tile.area.ylo ≡ band.area.ylo
   pub top : tile.area.yhi ≡ band.area.yhi
 
-module _ (piece rest : Piece) (id : ℕ) (old now : Tiles) (proper : IsProper piece.area) (near : IsNear piece.area) (walk : IsBandWalk piece rest id old now) where
-  rest_high : rest.area.yhi ≡ piece.area.yhi
-  rest_high = ap (λ (v : Piece). v.area.yhi) walk.rest_is
+module _ (piece rest : Piece) (id : ℕ) (old now : Tiles) (proper : IsProper piece.area) (near : IsNear piece.area) (walk : IsBandWalk piece rest id old now)
+  where
+    rest_high : rest.area.yhi ≡ piece.area.yhi
+    rest_high = ap (λ (v : Piece). v.area.yhi) walk.rest_is
 
-  rest_low : rest.area.xlo ≡ piece.area.xlo
-  rest_low = ap (λ (v : Piece). v.area.xlo) walk.rest_is
+    rest_low : rest.area.xlo ≡ piece.area.xlo
+    rest_low = ap (λ (v : Piece). v.area.xlo) walk.rest_is
 
-  pub walk_near : IsNear rest.area
-  walk_near = subst (λ (v : Piece). IsNear v.area) (sym walk.rest_is) (rest_near piece rest.area.ylo old now proper near walk.banding piece.area.yhi walk.banding.to (omega (arith, ints)))
+    pub walk_near : IsNear rest.area
+    walk_near = subst (λ (v : Piece). IsNear v.area) (sym walk.rest_is)
+        (rest_near piece rest.area.ylo old now proper near walk.banding piece.area.yhi walk.banding.to (omega (arith, ints)))
 
-  module _ (more : rest.area.ylo <ℤ rest.area.yhi) where
-    pub walk_owns : Owns now id (corner_of rest.area)
-    walk_owns = let e = rest_high in subst (λ (v : ℤ). Owns now id (square_at v rest.area.ylo)) (sym rest_low) (walk.owns (omega (arith, ints)))
+    module _ (more : rest.area.ylo <ℤ rest.area.yhi) where
+      pub walk_owns : Owns now id (corner_of rest.area)
+      walk_owns = let e = rest_high in subst (λ (v : ℤ). Owns now id (square_at v rest.area.ylo)) (sym rest_low) (walk.owns (omega (arith, ints)))
 
-    pub walk_begins : (tile_at now id).area.xlo ≡ rest.area.xlo
-    walk_begins = let e = rest_high in walk.banding.state.left.begin id rest.area.ylo (omega (arith, ints)) (omega (arith, ints)) (walk.owns (omega (arith, ints))) ∙ sym rest_low
+      pub walk_begins : (tile_at now id).area.xlo ≡ rest.area.xlo
+      walk_begins = let e = rest_high in walk.banding.state.left.begin id rest.area.ylo (omega (arith, ints)) (omega (arith, ints))
+          (walk.owns (omega (arith, ints))) ∙ sym rest_low
 
-    module _ (band : Piece) (is : band ≡ band_of rest rest.area.ylo band.area.yhi) (above : rest.area.ylo <ℤ band.area.yhi) (within : band.area.yhi ≤ℤ rest.area.yhi) (reach : AreHigh rest.area rest.area.ylo band.area.yhi now) where
-      abbrev top : ℤ
-      top = band.area.yhi
+      module _ (band : Piece) (is : band ≡ band_of rest rest.area.ylo band.area.yhi) (above : rest.area.ylo <ℤ band.area.yhi)
+          (within : band.area.yhi ≤ℤ rest.area.yhi) (reach : AreHigh rest.area rest.area.ylo band.area.yhi now) where
+        abbrev top : ℤ
+        top = band.area.yhi
 
-      band_is : band ≡ band_of piece rest.area.ylo top
-      band_is = is ∙ ap (λ (v : Piece). band_of v rest.area.ylo top) walk.rest_is
+        band_is : band ≡ band_of piece rest.area.ylo top
+        band_is = is ∙ ap (λ (v : Piece). band_of v rest.area.ylo top) walk.rest_is
 
-      under : top ≤ℤ piece.area.yhi
-      under = let e = rest_high in omega (arith, ints)
+        under : top ≤ℤ piece.area.yhi
+        under = let e = rest_high in omega (arith, ints)
 
-      high_here : AreHigh piece.area rest.area.ylo top now
-      high_here = record { reach = (subst (λ (v : Piece). AreHigh v.area rest.area.ylo top now) walk.rest_is reach).reach }
+        high_here : AreHigh piece.area rest.area.ylo top now
+        high_here = record { reach = (subst (λ (v : Piece). AreHigh v.area rest.area.ylo top now) walk.rest_is reach).reach }
 
-      pub walk_band_near : IsNear band.area
-      walk_band_near = subst (λ (v : Piece). IsNear v.area) (sym band_is) (rest_near piece rest.area.ylo old now proper near walk.banding top (omega (arith, ints)) under)
+        pub walk_band_near : IsNear band.area
+        walk_band_near = subst (λ (v : Piece). IsNear v.area) (sym band_is)
+            (rest_near piece rest.area.ylo old now proper near walk.banding top (omega (arith, ints)) under)
 
-      pub walk_band_owns : Owns now id (corner_of band.area)
-      walk_band_owns = let e = rest_high in subst (λ (v : Piece). Owns now id (corner_of v.area)) (sym band_is) (walk.owns (omega (arith, ints)))
+        pub walk_band_owns : Owns now id (corner_of band.area)
+        walk_band_owns = let e = rest_high in subst (λ (v : Piece). Owns now id (corner_of v.area)) (sym band_is) (walk.owns (omega (arith, ints)))
 
-      pub walk_band_free : IsBandFree band.area now
-      walk_band_free = subst (λ (v : Piece). IsBandFree v.area now) (sym band_is) (band_free piece rest.area.ylo old now proper near walk.banding top above under high_here)
+        pub walk_band_free : IsBandFree band.area now
+        walk_band_free = subst (λ (v : Piece). IsBandFree v.area now) (sym band_is)
+            (band_free piece rest.area.ylo old now proper near walk.banding top above under high_here)
 
-      module _ (whole : ℕ) (new : Tiles) (partition : IsPartition new) (laid : IsBandLaid band whole now new) where
-        laid_here : IsBandLaid (band_of piece rest.area.ylo top) whole now new
-        laid_here = subst (λ (v : Piece). IsBandLaid v whole now new) band_is laid
+        module _ (whole : ℕ) (new : Tiles) (partition : IsPartition new) (laid : IsBandLaid band whole now new) where
+          laid_here : IsBandLaid (band_of piece rest.area.ylo top) whole now new
+          laid_here = subst (λ (v : Piece). IsBandLaid v whole now new) band_is laid
 
-        pub walk_whole : IsAtBand band (tile_at new whole)
-        walk_whole = subst (λ (v : Piece). IsAtBand v (tile_at new whole)) (sym band_is) (record {
-          from = whole_from piece rest.area.ylo old now proper near walk.banding top above under high_here whole new partition laid_here;
-          to = whole_to piece rest.area.ylo old now proper near walk.banding top above under high_here whole new partition laid_here;
-          low = whole_below piece rest.area.ylo old now proper near walk.banding top above under high_here whole new partition laid_here;
-          top = whole_top piece rest.area.ylo old now proper near walk.banding top above under high_here whole new partition laid_here;
-        })
+          pub walk_whole : IsAtBand band (tile_at new whole)
+          walk_whole = subst (λ (v : Piece). IsAtBand v (tile_at new whole)) (sym band_is) (record {
+            from = whole_from piece rest.area.ylo old now proper near walk.banding top above under high_here whole new partition laid_here;
+            to = whole_to piece rest.area.ylo old now proper near walk.banding top above under high_here whole new partition laid_here;
+            low = whole_below piece rest.area.ylo old now proper near walk.banding top above under high_here whole new partition laid_here;
+            top = whole_top piece rest.area.ylo old now proper near walk.banding top above under high_here whole new partition laid_here;
+          })
 
-        pub walk_taken : IsTaken new whole
-        walk_taken = let at = walk_whole in let e = ap (λ (v : Piece). v.area.ylo) band_is in record { proper = record { wide = omega (arith, ints); high = omega (arith, ints) } }
+          pub walk_taken : IsTaken new whole
+          walk_taken = let at = walk_whole in let e = ap (λ (v : Piece). v.area.ylo) band_is in
+              record { proper = record { wide = omega (arith, ints); high = omega (arith, ints) } }
 
-        pub walk_on : (next : ℕ) (left : Piece) → left ≡ band_of rest top rest.area.yhi → HasStitches new → IsTaken new next → (left.area.ylo <ℤ left.area.yhi → Owns new next (square_at band.area.xlo top)) → IsBandWalk piece left next old new
-        walk_on next left left_is stitches taken owns =
-            let y : left.area.ylo ≡ top = ap (λ (v : Piece). v.area.ylo) left_is in
-            let end : left.area.yhi ≡ piece.area.yhi = ap (λ (v : Piece). v.area.yhi) left_is ∙ rest_high in
-            record {
-              rest_is = left_is ∙ ap (λ (v : Piece). band_of v top rest.area.yhi) walk.rest_is ∙ ap (λ (v : ℤ). band_of piece v rest.area.yhi) (sym y) ∙ ap (λ (v : ℤ). band_of piece left.area.ylo v) rest_high;
-              banding = subst (λ (v : ℤ). AreBanding piece v old new) (sym y) (banding_on piece rest.area.ylo old now proper near walk.banding top above under high_here whole new partition laid_here stitches);
-              taken = taken;
-              owns = λ less. subst (λ (v : ℤ). Owns new next (square_at v left.area.ylo)) (ap (λ (v : Piece). v.area.xlo) band_is)
-                  (subst (λ (v : ℤ). Owns new next (square_at band.area.xlo v)) (sym y) (owns (omega (arith, ints))));
-            }
+          pub walk_on : (next : ℕ) (left : Piece) → left ≡ band_of rest top rest.area.yhi → HasStitches new → IsTaken new next
+              → (left.area.ylo <ℤ left.area.yhi → Owns new next (square_at band.area.xlo top)) → IsBandWalk piece left next old new
+          walk_on next left left_is stitches taken owns =
+              let y : left.area.ylo ≡ top = ap (λ (v : Piece). v.area.ylo) left_is in
+              let end : left.area.yhi ≡ piece.area.yhi = ap (λ (v : Piece). v.area.yhi) left_is ∙ rest_high in
+              record {
+                rest_is = left_is ∙ ap (λ (v : Piece). band_of v top rest.area.yhi) walk.rest_is ∙ ap (λ (v : ℤ). band_of piece v rest.area.yhi) (sym y)
+                    ∙ ap (λ (v : ℤ). band_of piece left.area.ylo v) rest_high;
+                banding = subst (λ (v : ℤ). AreBanding piece v old new) (sym y)
+                    (banding_on piece rest.area.ylo old now proper near walk.banding top above under high_here whole new partition laid_here stitches);
+                taken = taken;
+                owns = λ less. subst (λ (v : ℤ). Owns new next (square_at v left.area.ylo)) (ap (λ (v : Piece). v.area.xlo) band_is)
+                    (subst (λ (v : ℤ). Owns new next (square_at band.area.xlo v)) (sym y) (owns (omega (arith, ints))));
+              }
 
-  pub walk_ends : rest.area.yhi ≤ℤ rest.area.ylo → IsBanded piece old now
-  walk_ends done = let e = rest_high in banding_ends piece rest.area.ylo old now proper near walk.banding (omega (arith, ints))
+    pub walk_ends : rest.area.yhi ≤ℤ rest.area.ylo → IsBanded piece old now
+    walk_ends done = let e = rest_high in banding_ends piece rest.area.ylo old now proper near walk.banding (omega (arith, ints))
 
-pub walk_starts : (piece : Piece) (id : ℕ) (tiles : Tiles) → IsPartition tiles → HasStitches tiles → IsProper piece.area → IsOpenFrom piece.area piece.area.ylo tiles → Owns tiles id (corner_of piece.area) → IsBandWalk piece piece id tiles tiles
+pub walk_starts : (piece : Piece) (id : ℕ) (tiles : Tiles) → IsPartition tiles → HasStitches tiles → IsProper piece.area
+    → IsOpenFrom piece.area piece.area.ylo tiles → Owns tiles id (corner_of piece.area) → IsBandWalk piece piece id tiles tiles
 walk_starts piece id tiles partition stitches proper state owns = record {
   rest_is = refl;
   banding = banding_begins piece tiles partition stitches proper state;
@@ -218,7 +235,8 @@ walk_starts piece id tiles partition stitches proper state owns = record {
 -- What a cut across does: rows are as wide as before, and what is far from the piece is kept.
 module _ (area : Rect) (y : ℤ) (old new : Tiles) (partition : IsPartition new) (cut : AreCut old new) (only : NothingElseIsCut area y old new) where
   pub across_wide : (h : ℤ) → IsWideAt old h → IsWideAt new h
-  across_wide h = row_wide old new h partition (record { source = λ k x owns. (let f = cut.source k (square_at x h) owns in (f.0, f.1, record { value = f.2; xlo = f.3; xhi = f.4 })) })
+  across_wide h = row_wide old new h partition
+      (record { source = λ k x owns. (let f = cut.source k (square_at x h) owns in (f.0, f.1, record { value = f.2; xlo = f.3; xhi = f.4 })) })
 
   pub across_kept : area.ylo ≤ℤ y → y ≤ℤ area.yhi → AreKept area old new
   across_kept from to = record {
@@ -241,7 +259,8 @@ module _ (area : Rect) (y : ℤ) (old new : Tiles) (partition : IsPartition new)
   }
 
 -- The same of a cut along one side of the piece, from where tiles do not go over its lowest or its highest row.
-module _ (area : Rect) (x : ℤ) (old new : Tiles) (p : IsPartition old) (partition : IsPartition new) (cut : AreCutAlong old new) (only : NothingElseIsCutAlong area x old new) where
+module _ (area : Rect) (x : ℤ) (old new : Tiles) (p : IsPartition old) (partition : IsPartition new) (cut : AreCutAlong old new)
+    (only : NothingElseIsCutAlong area x old new) where
   pub along_kept : area.xlo ≤ℤ x → x ≤ℤ area.xhi → AreKept area old new
   along_kept from to = record {
     far = λ j taken off. (only.others j taken (λ crosses.
@@ -269,7 +288,8 @@ module _ (area : Rect) (x : ℤ) (old new : Tiles) (p : IsPartition old) (partit
   }
 
   -- where a tile with both of two squares side by side still has them, two tiles of one value were one before
-  along_apart : (a b : ℕ) (w h : ℤ) → ((f : ℕ) → Owns old f (square_at w h) → Owns old f (square_at (w +ℤ pos 1) h) → (k : ℕ) × Owns new k (square_at w h) × Owns new k (square_at (w +ℤ pos 1) h))
+  along_apart : (a b : ℕ) (w h : ℤ) → ((f : ℕ) → Owns old f (square_at w h) → Owns old f (square_at (w +ℤ pos 1) h)
+      → (k : ℕ) × Owns new k (square_at w h) × Owns new k (square_at (w +ℤ pos 1) h))
       → ((f g : ℕ) → Owns old f (square_at w h) → Owns old g (square_at (w +ℤ pos 1) h) → (tile_at old f).value ≡ (tile_at old g).value → f ≡ g)
       → Owns new a (square_at w h) → Owns new b (square_at (w +ℤ pos 1) h) → (tile_at new a).value ≡ (tile_at new b).value → a ≡ b
   along_apart a b w h stays wide r s same =
@@ -280,14 +300,17 @@ module _ (area : Rect) (x : ℤ) (old new : Tiles) (p : IsPartition old) (partit
       partition.one a k.0 (square_at w h) r k.1 ∙ sym (partition.one b k.0 (square_at (w +ℤ pos 1) h) s k.2)
 
   -- a tile with a row off the area that goes over the cut has no row of the area
-  along_stays : AreCutAt old area.ylo area.xlo area.xhi → AreCutAt old area.yhi area.xlo area.xhi → area.xlo ≤ℤ x → x ≤ℤ area.xhi → area.xlo <ℤ area.xhi → (w h : ℤ) → (h <ℤ area.ylo) ⊎ (area.yhi ≤ℤ h)
-      → (f : ℕ) → Owns old f (square_at w h) → Owns old f (square_at (w +ℤ pos 1) h) → (k : ℕ) × Owns new k (square_at w h) × Owns new k (square_at (w +ℤ pos 1) h)
+  along_stays : AreCutAt old area.ylo area.xlo area.xhi → AreCutAt old area.yhi area.xlo area.xhi → area.xlo ≤ℤ x → x ≤ℤ area.xhi → area.xlo <ℤ area.xhi
+      → (w h : ℤ) → (h <ℤ area.ylo) ⊎ (area.yhi ≤ℤ h)
+      → (f : ℕ) → Owns old f (square_at w h) → Owns old f (square_at (w +ℤ pos 1) h)
+      → (k : ℕ) × Owns new k (square_at w h) × Owns new k (square_at (w +ℤ pos 1) h)
   along_stays low high from to wide w h off f r s =
       let alike = only.others f (owner_taken old f _ r) crossing in
       (f, alike_owns old new f _ alike r, alike_owns old new f _ alike s) where
         crossing : CrossesColumn (tile_at old f) area x → ⊥
         crossing crosses = by_lt_z area.xlo x
-            (λ past. at (x -ℤ pos 1) (omega (arith, ints)) (omega (arith, ints)) (let before = crosses.before in omega (arith, ints)) (let after = crosses.after in omega (arith, ints)))
+            (λ past. at (x -ℤ pos 1) (omega (arith, ints)) (omega (arith, ints)) (let before = crosses.before in omega (arith, ints))
+            (let after = crosses.after in omega (arith, ints)))
             (λ begin. at x (omega (arith, ints)) (omega (arith, ints)) (let before = crosses.before in omega (arith, ints)) crosses.after) where
               at : (c : ℤ) → area.xlo ≤ℤ c → c <ℤ area.xhi → (tile_at old f).area.xlo ≤ℤ c → c <ℤ (tile_at old f).area.xhi → ⊥
               at c c_from c_to c_left c_right =
@@ -299,8 +322,13 @@ module _ (area : Rect) (x : ℤ) (old new : Tiles) (p : IsPartition old) (partit
                     | inr more ↦ (let e = high.begin f c c_from c_to (omega (arith, ints)) in omega (arith, ints))
                   ]
 
-  pub along_wide : AreCutAt old area.ylo area.xlo area.xhi → AreCutAt old area.yhi area.xlo area.xhi → area.xlo ≤ℤ x → x ≤ℤ area.xhi → area.xlo <ℤ area.xhi → (h : ℤ) → (h <ℤ area.ylo) ⊎ (area.yhi ≤ℤ h) → IsWideAt old h → IsWideAt new h
-  along_wide low high from to wide h off before = record { apart = λ a b w r s same. along_apart a b w h (along_stays low high from to wide w h off) (λ f g q t value. before.apart f g w q t value) r s same }
+  pub along_wide : AreCutAt old area.ylo area.xlo area.xhi → AreCutAt old area.yhi area.xlo area.xhi → area.xlo ≤ℤ x → x ≤ℤ area.xhi → area.xlo <ℤ area.xhi
+      → (h : ℤ) → (h <ℤ area.ylo) ⊎ (area.yhi ≤ℤ h) → IsWideAt old h → IsWideAt new h
+  along_wide low high from to wide h off before =
+      record {
+        apart = λ a b w r s same. along_apart a b w h (along_stays low high from to wide w h off) (λ f g q t value. before.apart f g w q t value) r s
+            same;
+      }
 
   pub along_beside : (x ≡ area.xlo) ⊎ (x ≡ area.xhi) → (h : ℤ) → IsWideBeside area old h → IsWideBeside area new h
   along_beside side h before = record {
@@ -310,15 +338,18 @@ module _ (area : Rect) (x : ℤ) (old new : Tiles) (p : IsPartition old) (partit
   }
 
 -- Once it is cut along both sides, the piece may be set band by band.
-pub opened : (area : Rect) (two three four : Tiles) → IsProper area → IsPartition two → IsPartition three → IsPartition four → ((h : ℤ) → IsWideAt two h) → AreCutAt two area.ylo area.xlo area.xhi → AreCutAt two area.yhi area.xlo area.xhi
+pub opened : (area : Rect) (two three four : Tiles) → IsProper area → IsPartition two → IsPartition three → IsPartition four → ((h : ℤ) → IsWideAt two h)
+    → AreCutAt two area.ylo area.xlo area.xhi → AreCutAt two area.yhi area.xlo area.xhi
     → AreCutAlong two three → NothingElseIsCutAlong area area.xhi two three → AreCutAlongAt three area.xhi area.ylo area.yhi
     → AreCutAlong three four → NothingElseIsCutAlong area area.xlo three four → AreCutAlongAt four area.xlo area.ylo area.yhi → IsOpenFrom area area.ylo four
 opened area two three four proper p q r wide low high right only_right right_at left only_left left_at =
     let broad = proper.wide in
     record {
-      wide = λ h off. along_wide area area.xlo three four q r left only_left (at_three area.ylo low) (at_three area.yhi high) (omega (arith, ints)) (omega (arith, ints)) broad h off
+      wide = λ h off. along_wide area area.xlo three four q r left only_left (at_three area.ylo low) (at_three area.yhi high) (omega (arith, ints))
+          (omega (arith, ints)) broad h off
           (along_wide area area.xhi two three p q right only_right low high (omega (arith, ints)) (omega (arith, ints)) broad h off (wide h));
-      beside = λ h from to. along_beside area area.xlo three four q r left only_left (inl refl) h (along_beside area area.xhi two three p q right only_right (inr refl) h (record { apart = λ a b w n m s t same. (wide h).apart a b w s t same }));
+      beside = λ h from to. along_beside area area.xlo three four q r left only_left (inl refl) h
+          (along_beside area area.xhi two three p q right only_right (inr refl) h (record { apart = λ a b w n m s t same. (wide h).apart a b w s t same }));
       left = left_at;
       right = along_begun area area.xlo three four q r left only_left area.xhi area.ylo area.yhi right_at;
     } where
@@ -327,14 +358,16 @@ opened area two three four proper p q r wide low high right only_right right_at 
 
 -- Columns that are joined one after another are all tall at last.
 pub columns_tall : (area : Rect) (one two three : Tiles) → IsPartition two → IsPartition three → AreGrown one two → AreGrown two three
-    → ((y : ℤ) → area.ylo ≤ℤ (y +ℤ pos 1) → y <ℤ area.yhi → IsTallAt one area.xhi y) → ((y : ℤ) → area.ylo ≤ℤ (y +ℤ pos 1) → y <ℤ area.yhi → IsTallAt two (area.xlo -ℤ pos 1) y)
+    → ((y : ℤ) → area.ylo ≤ℤ (y +ℤ pos 1) → y <ℤ area.yhi → IsTallAt one area.xhi y)
+    → ((y : ℤ) → area.ylo ≤ℤ (y +ℤ pos 1) → y <ℤ area.yhi → IsTallAt two (area.xlo -ℤ pos 1) y)
     → ((y : ℤ) → area.ylo ≤ℤ (y +ℤ pos 1) → y <ℤ area.yhi → IsTallAt three area.xlo y) → AreColumnsTall area three
 columns_tall area one two three q r first second right left begin = record {
   tall = λ x y which from to. elim which [
     | inl before ↦ subst (λ (v : ℤ). IsTallAt three v y) (sym before) (tall_kept two three (area.xlo -ℤ pos 1) y r second (left y from to))
     | inr in_or_after ↦ elim in_or_after [
       | inl is_first ↦ subst (λ (v : ℤ). IsTallAt three v y) (sym is_first) (begin y from to)
-      | inr after ↦ subst (λ (v : ℤ). IsTallAt three v y) (sym after) (tall_kept two three area.xhi y r second (tall_kept one two area.xhi y q first (right y from to)))
+      | inr after ↦ subst (λ (v : ℤ). IsTallAt three v y) (sym after)
+          (tall_kept two three area.xhi y r second (tall_kept one two area.xhi y q first (right y from to)))
     ]
   ];
 }

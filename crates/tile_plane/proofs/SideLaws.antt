@@ -11,38 +11,46 @@ pub strangers : (tiles : Tiles) (a b : ℕ) (s t : Square) → IsPartition tiles
     → Covers (tile_at tiles b).area t
 strangers tiles a b s t partition p q r = subst (λ (v : ℕ). Covers (tile_at tiles v).area t) (partition.one a b s p q) r.covers
 
-pub beside_right : (tiles : Tiles) (id n : ℕ) (h : ℤ) → IsPartition tiles → IsTaken tiles id → (tile_at tiles id).area.ylo ≤ℤ h → h <ℤ (tile_at tiles id).area.yhi
+pub beside_right : (tiles : Tiles) (id n : ℕ) (h : ℤ) → IsPartition tiles → IsTaken tiles id → (tile_at tiles id).area.ylo ≤ℤ h
+    → h <ℤ (tile_at tiles id).area.yhi
     → Owns tiles n (square_at (tile_at tiles id).area.xhi h) → (tile_at tiles n).area.xlo ≡ (tile_at tiles id).area.xhi
 beside_right tiles id n h partition taken low high owns =
     by_lt_z (tile_at tiles n).area.xlo (tile_at tiles id).area.xhi
     (λ both.
-    let past = strangers tiles n id (square_at ((tile_at tiles id).area.xhi -ℤ pos 1) h) (square_at (tile_at tiles id).area.xhi h) partition (omega (arith, ints)) (omega (arith, ints)) owns in
+    let past = strangers tiles n id (square_at ((tile_at tiles id).area.xhi -ℤ pos 1) h) (square_at (tile_at tiles id).area.xhi h) partition
+    (omega (arith, ints)) (omega (arith, ints)) owns in
     absurd (omega (arith, ints)))
     (λ touches. omega (arith, ints))
 
-pub beside_above : (tiles : Tiles) (id n : ℕ) (h : ℤ) → IsPartition tiles → IsTaken tiles id → (tile_at tiles id).area.xlo ≤ℤ h → h <ℤ (tile_at tiles id).area.xhi
+pub beside_above : (tiles : Tiles) (id n : ℕ) (h : ℤ) → IsPartition tiles → IsTaken tiles id → (tile_at tiles id).area.xlo ≤ℤ h
+    → h <ℤ (tile_at tiles id).area.xhi
     → Owns tiles n (square_at h (tile_at tiles id).area.yhi) → (tile_at tiles n).area.ylo ≡ (tile_at tiles id).area.yhi
 beside_above tiles id n h partition taken low high owns =
     by_lt_z (tile_at tiles n).area.ylo (tile_at tiles id).area.yhi
     (λ both.
-    let past = strangers tiles n id (square_at h ((tile_at tiles id).area.yhi -ℤ pos 1)) (square_at h (tile_at tiles id).area.yhi) partition (omega (arith, ints)) (omega (arith, ints)) owns in
+    let past = strangers tiles n id (square_at h ((tile_at tiles id).area.yhi -ℤ pos 1)) (square_at h (tile_at tiles id).area.yhi) partition
+    (omega (arith, ints)) (omega (arith, ints)) owns in
     absurd (omega (arith, ints)))
     (λ touches. omega (arith, ints))
 
-pub beside_left : (tiles : Tiles) (id n : ℕ) (h : ℤ) → IsPartition tiles → IsTaken tiles id → (tile_at tiles id).area.ylo ≤ℤ h → h <ℤ (tile_at tiles id).area.yhi
+pub beside_left : (tiles : Tiles) (id n : ℕ) (h : ℤ) → IsPartition tiles → IsTaken tiles id → (tile_at tiles id).area.ylo ≤ℤ h
+    → h <ℤ (tile_at tiles id).area.yhi
     → Owns tiles n (square_at ((tile_at tiles id).area.xlo -ℤ pos 1) h) → (tile_at tiles n).area.xhi ≡ (tile_at tiles id).area.xlo
 beside_left tiles id n h partition taken low high owns =
     by_lt_z (tile_at tiles id).area.xlo (tile_at tiles n).area.xhi
     (λ both.
-    let past = strangers tiles n id (square_at (tile_at tiles id).area.xlo h) (square_at ((tile_at tiles id).area.xlo -ℤ pos 1) h) partition (omega (arith, ints)) (omega (arith, ints)) owns in
+    let past = strangers tiles n id (square_at (tile_at tiles id).area.xlo h) (square_at ((tile_at tiles id).area.xlo -ℤ pos 1) h) partition
+    (omega (arith, ints)) (omega (arith, ints)) owns in
     absurd (omega (arith, ints)))
     (λ touches. omega (arith, ints))
 
-pub beside_below : (tiles : Tiles) (id n : ℕ) (h : ℤ) → IsPartition tiles → IsTaken tiles id → (tile_at tiles id).area.xlo ≤ℤ h → h <ℤ (tile_at tiles id).area.xhi
+pub beside_below : (tiles : Tiles) (id n : ℕ) (h : ℤ) → IsPartition tiles → IsTaken tiles id → (tile_at tiles id).area.xlo ≤ℤ h
+    → h <ℤ (tile_at tiles id).area.xhi
     → Owns tiles n (square_at h ((tile_at tiles id).area.ylo -ℤ pos 1)) → (tile_at tiles n).area.yhi ≡ (tile_at tiles id).area.ylo
 beside_below tiles id n h partition taken low high owns =
     by_lt_z (tile_at tiles id).area.ylo (tile_at tiles n).area.yhi
     (λ both.
-    let past = strangers tiles n id (square_at h (tile_at tiles id).area.ylo) (square_at h ((tile_at tiles id).area.ylo -ℤ pos 1)) partition (omega (arith, ints)) (omega (arith, ints)) owns in
+    let past = strangers tiles n id (square_at h (tile_at tiles id).area.ylo) (square_at h ((tile_at tiles id).area.ylo -ℤ pos 1)) partition
+    (omega (arith, ints)) (omega (arith, ints)) owns in
     absurd (omega (arith, ints)))
     (λ touches. omega (arith, ints))

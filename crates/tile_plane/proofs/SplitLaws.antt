@@ -27,9 +27,12 @@ pub record IsSplit (old new : Tiles) (id other : ℕ) (rest part : Tile) : Type 
   pub apart : (s : Square) → Covers rest.area s → Covers part.area s → ⊥
 
 -- what putting the part and then the rest does
-pub split_by_puts : {old mid new : Tiles} {id other : ℕ} {rest part : Tile} → IsTaken old id → (IsTaken old other → ⊥) → IsPut other part old mid → IsPut id rest mid new
-    → ((s : Square) → Covers (tile_at old id).area s → (Covers part.area s → ⊥) → Covers rest.area s) → ((s : Square) → Covers rest.area s → Covers (tile_at old id).area s)
-    → ((s : Square) → Covers part.area s → Covers (tile_at old id).area s) → ((s : Square) → Covers rest.area s → Covers part.area s → ⊥) → IsSplit old new id other rest part
+pub split_by_puts : {old mid new : Tiles} {id other : ℕ} {rest part : Tile} → IsTaken old id → (IsTaken old other → ⊥) → IsPut other part old mid
+    → IsPut id rest mid new
+    → ((s : Square) → Covers (tile_at old id).area s → (Covers part.area s → ⊥) → Covers rest.area s)
+    → ((s : Square) → Covers rest.area s → Covers (tile_at old id).area s)
+    → ((s : Square) → Covers part.area s → Covers (tile_at old id).area s) → ((s : Square) → Covers rest.area s → Covers part.area s → ⊥)
+    → IsSplit old new id other rest part
 split_by_puts {old = old} {other = other} taken free put_part put_rest whole rest_in part_in apart = record {
   taken = taken;
   free = free;
@@ -81,7 +84,8 @@ module _ {old new : Tiles} {id other : ℕ} {rest part : Tile} (partition : IsPa
   }
 
   -- the stitches of the rest and of the part are right, apart from those to squares of the part
-  pub split_given : HasStitches old → IsProper part.area → LeadsElsewhere part.area old rest → LeadsElsewhere part.area old part → IsGiven part.area other old new
+  pub split_given : HasStitches old → IsProper part.area → LeadsElsewhere part.area old rest → LeadsElsewhere part.area old part
+      → IsGiven part.area other old new
   split_given stitches proper rest_leads part_leads = record {
     proper = proper;
     inside = (
@@ -118,7 +122,8 @@ module _ {old new : Tiles} {id other : ℕ} {rest part : Tile} (partition : IsPa
         (λ k taken _. (redirected.alike k).value ∙ elim (cases_eq k other) [
           | inl e ↦ absurd (split.free (subst (IsTaken old) e taken))
           | inr q ↦ elim (cases_eq k id) [
-            | inl e ↦ ap (λ (v : ℕ). (tile_at new v).value) e ∙ ap (λ (t : Tile). t.value) split.here ∙ rest_value ∙ ap (λ (v : ℕ). (tile_at old v).value) (sym e)
+            | inl e ↦ ap (λ (v : ℕ). (tile_at new v).value) e ∙ ap (λ (t : Tile). t.value) split.here ∙ rest_value
+                ∙ ap (λ (v : ℕ). (tile_at old v).value) (sym e)
             | inr p ↦ ap (λ (t : Tile). t.value) (split.others k p q)
           ]
         ])
@@ -152,7 +157,8 @@ pub record IsCutAtHeight (old mid new : Tiles) (id upper right left : ℕ) (y be
   pub right_leads : Leads old right (square_at (tile_at old id).area.xhi before)
   pub left_leads : Leads old left (square_at ((tile_at old id).area.xlo -ℤ pos 1) y)
 
-module _ {old mid new : Tiles} {id upper right left : ℕ} {y before : ℤ} {tile part rest : Tile} (cut : IsCutAtHeight old mid new id upper right left y before tile part rest) where
+module _ {old mid new : Tiles} {id upper right left : ℕ} {y before : ℤ} {tile part rest : Tile}
+    (cut : IsCutAtHeight old mid new id upper right left y before tile part rest) where
   across_part_is : part ≡ upper_part (tile_at old id) y id left
   across_part_is = cut.is_part ∙ ap (λ (t : Tile). upper_part t y id left) cut.is
 
@@ -239,7 +245,8 @@ pub record IsCutOffBelow (old mid new : Tiles) (id lower right left : ℕ) (y be
   pub right_leads : Leads old right (square_at (tile_at old id).area.xhi before)
   pub left_leads : Leads old left (square_at ((tile_at old id).area.xlo -ℤ pos 1) y)
 
-module _ {old mid new : Tiles} {id lower right left : ℕ} {y before : ℤ} {tile part rest : Tile} (cut : IsCutOffBelow old mid new id lower right left y before tile part rest) where
+module _ {old mid new : Tiles} {id lower right left : ℕ} {y before : ℤ} {tile part rest : Tile}
+    (cut : IsCutOffBelow old mid new id lower right left y before tile part rest) where
   under_part_is : part ≡ lower_part (tile_at old id) y id right
   under_part_is = cut.is_part ∙ ap (λ (t : Tile). lower_part t y id right) cut.is
 
@@ -337,7 +344,8 @@ pub record IsCutAtColumn (old mid new : Tiles) (id right above below : ℕ) (x b
   pub above_leads : Leads old above (square_at before (tile_at old id).area.yhi)
   pub below_leads : Leads old below (square_at x ((tile_at old id).area.ylo -ℤ pos 1))
 
-module _ {old mid new : Tiles} {id right above below : ℕ} {x before : ℤ} {tile part rest : Tile} (cut : IsCutAtColumn old mid new id right above below x before tile part rest) where
+module _ {old mid new : Tiles} {id right above below : ℕ} {x before : ℤ} {tile part rest : Tile}
+    (cut : IsCutAtColumn old mid new id right above below x before tile part rest) where
   along_part_is : part ≡ right_part (tile_at old id) x id below
   along_part_is = cut.is_part ∙ ap (λ (t : Tile). right_part t x id below) cut.is
 
@@ -424,7 +432,8 @@ pub record IsCutOffLeft (old mid new : Tiles) (id left above below : ℕ) (x bef
   pub above_leads : Leads old above (square_at before (tile_at old id).area.yhi)
   pub below_leads : Leads old below (square_at x ((tile_at old id).area.ylo -ℤ pos 1))
 
-module _ {old mid new : Tiles} {id left above below : ℕ} {x before : ℤ} {tile part rest : Tile} (cut : IsCutOffLeft old mid new id left above below x before tile part rest) where
+module _ {old mid new : Tiles} {id left above below : ℕ} {x before : ℤ} {tile part rest : Tile}
+    (cut : IsCutOffLeft old mid new id left above below x before tile part rest) where
   off_part_is : part ≡ left_part (tile_at old id) x id above
   off_part_is = cut.is_part ∙ ap (λ (t : Tile). left_part t x id above) cut.is
 

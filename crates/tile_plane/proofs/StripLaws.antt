@@ -34,7 +34,8 @@ module _ (tiles : Tiles) (partition : IsPartition tiles) where
       let k = found.0 in
       let c = found.1.covers in
       let has : (x : ℤ) → (tile_at tiles k).area.xlo ≤ℤ x → x <ℤ (tile_at tiles k).area.xhi → HasIn value (square_at x y)
-      = λ x p q. subst (λ (v : ℕ). HasIn v (square_at x y)) found.2 (own_has k (square_at x y) (record { covers = record { right_of_xlo = p; left_of_xhi = q; above_ylo = c.above_ylo; below_yhi = c.below_yhi } })) in
+      = λ x p q. subst (λ (v : ℕ). HasIn v (square_at x y)) found.2
+      (own_has k (square_at x y) (record { covers = record { right_of_xlo = p; left_of_xhi = q; above_ylo = c.above_ylo; below_yhi = c.below_yhi } })) in
       let begin : (tile_at tiles k).area.xlo ≡ xlo = by_lt_z (tile_at tiles k).area.xlo xlo
       (λ less. absurd (run.left (has (xlo -ℤ pos 1) (omega (arith, ints)) (omega (arith, ints)))))
       (λ more. omega (arith, ints)) in
@@ -43,7 +44,15 @@ module _ (tiles : Tiles) (partition : IsPartition tiles) where
       let e = (tile_at tiles k).area.xhi in
       let next = has_own value (square_at e y) (run.within e (omega (arith, ints)) less) in
       let at : e ≡ e -ℤ pos 1 +ℤ pos 1 = omega (arith, ints) in
-      let mine : Owns tiles k (square_at (e -ℤ pos 1) y) = record { covers = record { right_of_xlo = omega (arith, ints); left_of_xhi = omega (arith, ints); above_ylo = c.above_ylo; below_yhi = c.below_yhi } } in
+      let mine : Owns tiles k (square_at (e -ℤ pos 1) y) =
+      record {
+        covers = record {
+          right_of_xlo = omega (arith, ints);
+          left_of_xhi = omega (arith, ints);
+          above_ylo = c.above_ylo;
+          below_yhi = c.below_yhi;
+        };
+      } in
       let same = wide.apart k next.0 (e -ℤ pos 1) mine (subst (λ (v : ℤ). Owns tiles next.0 (square_at v y)) at next.1) (found.2 ∙ sym next.2) in
       let d = (subst (λ (v : ℕ). Owns tiles v (square_at e y)) (sym same) next.1).covers in
       absurd (omega (arith, ints)))
@@ -80,7 +89,8 @@ module _ (tiles : Tiles) (partition : IsPartition tiles) where
       }
 
   -- Where all rows are wide and all columns tall, a tile is a strip of its value.
-  pub tile_strip : (id : ℕ) → IsTaken tiles id → AreStrips tiles → IsTile (value_at tiles) (record { area = (tile_at tiles id).area; value = (tile_at tiles id).value })
+  pub tile_strip : (id : ℕ) → IsTaken tiles id → AreStrips tiles
+      → IsTile (value_at tiles) (record { area = (tile_at tiles id).area; value = (tile_at tiles id).value })
   tile_strip id taken strips =
       let proper = taken.proper in
       let value = (tile_at tiles id).value in
@@ -103,7 +113,8 @@ module _ (tiles : Tiles) (partition : IsPartition tiles) where
             let at : (tile_at tiles id).area.yhi ≡ y +ℤ pos 1 = omega (arith, ints) in
             let found = run_tile value xlo xhi (tile_at tiles id).area.yhi (strips.wide (tile_at tiles id).area.yhi) run in
             let mine : Owns tiles id (square_at xlo y) = own y (omega (arith, ints)) (omega (arith, ints)) in
-            let same = (strips.tall xlo y).apart id found.0 mine (subst (λ (v : ℤ). Owns tiles found.0 (square_at xlo v)) at found.1) (sym found.3) (sym found.4) (sym found.2) in
+            let same = (strips.tall xlo y).apart id found.0 mine (subst (λ (v : ℤ). Owns tiles found.0 (square_at xlo v)) at found.1) (sym found.3)
+            (sym found.4) (sym found.2) in
             let c = (subst (λ (v : ℕ). Owns tiles v (square_at xlo (tile_at tiles id).area.yhi)) (sym same) found.1).covers in
             omega (arith, ints);
       }

@@ -1,5 +1,5 @@
 -- Tiles and their squares, and what putting, adding and taking away one tile does.
-use Rattle.std.proofs.Common.{◌≡◌, ◌≢◌, ℕ, Bool, true, false, true≢false, ◌||◌, List, [], ◌∷◌, Option, Some, None, IsSome, is_some, cond, inl, inr, refl, sym, ◌∙◌, ap, subst, arith}
+use Rattle.std.proofs.Common.{◌≡◌, ◌≢◌, ℕ, Bool, true, true≢false, ◌||◌, List, [], ◌∷◌, Option, Some, None, IsSome, is_some, cond, inl, inr, refl, sym, ◌∙◌, ap, subst, arith}
 use Rattle.std.proofs.lemmas.Int.{ints}
 use Rattle.std.proofs.lemmas.Bool.{cases_eq}
 use Rattle.std.proofs.lemmas.Bool.Decides.{nat_tests}
@@ -51,7 +51,10 @@ module _ (tiles : Tiles) (id : ℕ) (slot : Slot) where
   pub AreProper-insert : IsProper (tile_of slot).area → AreProper tiles → AreProper (fin_map.insert tiles id slot)
   AreProper-insert proper all = record {
     proper = λ other live. elim (cases_eq other id) [
-      | inl same ↦ record { proper = subst (λ (o : Option Slot). IsProper (tile_if o).area) (sym (ap (fin_map.get (fin_map.insert tiles id slot)) same ∙ get-insert_same)) proper }
+      | inl same ↦ record {
+        proper = subst (λ (o : Option Slot). IsProper (tile_if o).area)
+            (sym (ap (fin_map.get (fin_map.insert tiles id slot)) same ∙ get-insert_same)) proper;
+      }
       | inr apart ↦ (
           let is = get-insert_other other apart in
           let was = all.proper other (ap is_some (sym is) ∙ live) in

@@ -18,7 +18,8 @@ pub record IsTopWalk (tiles : Tiles) (area : Rect) (id : ℕ) (top : ℤ) : Type
   pub started : area.xlo ≤ℤ (tile_at tiles id).area.xhi
   pub above : area.ylo <ℤ top
   pub within : top ≤ℤ area.yhi
-  pub reach : (k : ℕ) (x : ℤ) → (area.xlo -ℤ pos 1) ≤ℤ x → x <ℤ (tile_at tiles id).area.xhi → Owns tiles k (square_at x area.ylo) → top ≤ℤ (tile_at tiles k).area.yhi
+  pub reach : (k : ℕ) (x : ℤ) → (area.xlo -ℤ pos 1) ≤ℤ x → x <ℤ (tile_at tiles id).area.xhi → Owns tiles k (square_at x area.ylo)
+      → top ≤ℤ (tile_at tiles k).area.yhi
 
 -- what is asked of a height that is lowered to the end of a tile
 pub record IsLowered (end top new : ℤ) : Type 0 where
@@ -28,7 +29,8 @@ pub record IsLowered (end top new : ℤ) : Type 0 where
 
 module _ (tiles : Tiles) (area : Rect) (partition : IsPartition tiles) (proper : IsProper area) where
   -- the walk begins left of the area
-  pub top_begins : (id : ℕ) (top : ℤ) → Owns tiles id (square_at (area.xlo -ℤ pos 1) area.ylo) → IsLowered (tile_at tiles id).area.yhi area.yhi top → IsTopWalk tiles area id top
+  pub top_begins : (id : ℕ) (top : ℤ) → Owns tiles id (square_at (area.xlo -ℤ pos 1) area.ylo) → IsLowered (tile_at tiles id).area.yhi area.yhi top
+      → IsTopWalk tiles area id top
   top_begins id top owns low =
       let covers = owns.covers in
       record {
@@ -65,12 +67,15 @@ module _ (tiles : Tiles) (area : Rect) (partition : IsPartition tiles) (proper :
               (λ less. let before = walk.reach k x from less had in omega (arith, ints))
               (λ more.
               let mine : Owns tiles next (square_at x area.ylo) = owns_beside tiles next (tile_at tiles id).area.xhi x area.ylo owns (omega (arith, ints)) to in
-              let end : (tile_at tiles k).area.yhi ≡ (tile_at tiles next).area.yhi = ap (λ (v : ℕ). (tile_at tiles v).area.yhi) (partition.one k next _ had mine) in
+              let end : (tile_at tiles k).area.yhi ≡ (tile_at tiles next).area.yhi =
+              ap (λ (v : ℕ). (tile_at tiles v).area.yhi) (partition.one k next _ had mine) in
               omega (arith, ints));
         }
 
-    pub top_nearer : (tile_at tiles id).area.xhi ≤ℤ area.xhi → extent (tile_at tiles next).area.xhi (area.xhi +ℤ pos 1) < extent (tile_at tiles id).area.xhi (area.xhi +ℤ pos 1)
-    top_nearer more = let covers = owns.covers in extent_falls (tile_at tiles id).area.xhi (tile_at tiles next).area.xhi (area.xhi +ℤ pos 1) (omega (arith, ints)) (omega (arith, ints))
+    pub top_nearer : (tile_at tiles id).area.xhi ≤ℤ area.xhi
+        → extent (tile_at tiles next).area.xhi (area.xhi +ℤ pos 1) < extent (tile_at tiles id).area.xhi (area.xhi +ℤ pos 1)
+    top_nearer more = let covers = owns.covers in
+        extent_falls (tile_at tiles id).area.xhi (tile_at tiles next).area.xhi (area.xhi +ℤ pos 1) (omega (arith, ints)) (omega (arith, ints))
 
   pub top_ends : (id : ℕ) (top : ℤ) → IsTopWalk tiles area id top → area.xhi <ℤ (tile_at tiles id).area.xhi → AreHigh area area.ylo top tiles
   top_ends id top walk past = record { reach = λ k x from to owns. walk.reach k x from (omega (arith, ints)) owns }

@@ -53,7 +53,8 @@ find-swap_entries : (k : ℕ) (es : List (ℕ × Slot)) → fin_map.find nat_cmp
 unfolding swap_entries swap_found
 find-swap_entries k [] = refl
 find-swap_entries k (e ∷ es) =
-    elim (eq_by_cmp nat_cmp k e.0) as (λ b. cond b (Some (swap_slot e.1)) (fin_map.find nat_cmp k (swap_entries es)) ≡ swap_found (cond b (Some e.1) (fin_map.find nat_cmp k es))) [
+    elim (eq_by_cmp nat_cmp k e.0) as (λ b. cond b (Some (swap_slot e.1)) (fin_map.find nat_cmp k (swap_entries es))
+    ≡ swap_found (cond b (Some e.1) (fin_map.find nat_cmp k es))) [
       | true ↦ refl
       | false ↦ find-swap_entries k es
     ]
@@ -68,7 +69,8 @@ pub tile_at-transposed : (tiles : Tiles) (k : ℕ) → tile_at (transposed tiles
 unfolding transposed
 tile_at-transposed tiles k =
     let entries = fin_map.entries tiles in
-    ap tile_if (fin_map.get-from_entries nat_cmp_total (swap_entries entries) k ∙ find-swap_entries k entries ∙ ap swap_found (sym (fin_map.get-entries tiles k)))
+    ap tile_if (fin_map.get-from_entries nat_cmp_total (swap_entries entries) k ∙ find-swap_entries k entries
+    ∙ ap swap_found (sym (fin_map.get-entries tiles k)))
     ∙ tile_if-swap_found (fin_map.get tiles k)
 
 module _ (tiles : Tiles) (k : ℕ) where
@@ -122,15 +124,18 @@ module _ (old new : Tiles) where
     },
   )
 
-  within_over : (k j : ℕ) → LiesWithin (tile_at new k).area (tile_at old j).area → LiesWithin (tile_at (transposed new) k).area (tile_at (transposed old) j).area
+  within_over : (k j : ℕ) → LiesWithin (tile_at new k).area (tile_at old j).area
+      → LiesWithin (tile_at (transposed new) k).area (tile_at (transposed old) j).area
   within_over k j within =
       subst (λ (r : Rect). LiesWithin r (tile_at (transposed old) j).area) (sym (area_is new k))
       (subst (LiesWithin (swap_rect (tile_at new k).area)) (sym (area_is old j)) (omega (arith, ints)))
 
-  within_back : (k j : ℕ) → LiesWithin (tile_at (transposed new) k).area (tile_at (transposed old) j).area → LiesWithin (tile_at new k).area (tile_at old j).area
+  within_back : (k j : ℕ) → LiesWithin (tile_at (transposed new) k).area (tile_at (transposed old) j).area
+      → LiesWithin (tile_at new k).area (tile_at old j).area
   within_back k j within =
       let swapped : LiesWithin (swap_rect (tile_at new k).area) (swap_rect (tile_at old j).area) =
-      subst (λ (r : Rect). LiesWithin r (swap_rect (tile_at old j).area)) (area_is new k) (subst (LiesWithin (tile_at (transposed new) k).area) (area_is old j) within) in
+      subst (λ (r : Rect). LiesWithin r (swap_rect (tile_at old j).area)) (area_is new k)
+      (subst (LiesWithin (tile_at (transposed new) k).area) (area_is old j) within) in
       omega (arith, ints)
 
   pub cut_over : AreCutAlong old new → AreCut (transposed old) (transposed new)
@@ -168,7 +173,8 @@ module _ (old new : Tiles) where
   pub nothing_else_over : (area : Rect) (x : ℤ) → NothingElseIsCutAlong area x old new → NothingElseIsCut (swap_rect area) x (transposed old) (transposed new)
   nothing_else_over area x nothing = record {
     others = λ k taken none.
-        let alike = nothing.others k (taken_back old k taken) (λ crosses. none (subst (λ (t : Tile). CrossesHeight t (swap_rect area) x) (sym (tile_at-transposed old k)) (omega (arith, ints)))) in
+        let alike = nothing.others k (taken_back old k taken)
+        (λ crosses. none (subst (λ (t : Tile). CrossesHeight t (swap_rect area) x) (sym (tile_at-transposed old k)) (omega (arith, ints)))) in
         record { area = area_is new k ∙ ap swap_rect alike.area ∙ sym (area_is old k); value = value_is new k ∙ alike.value ∙ sym (value_is old k) };
     stays = λ k taken. taken_over new k (nothing.stays k (taken_back old k taken));
     columns = λ j y w off p q.
@@ -193,7 +199,13 @@ module _ (old new : Tiles) where
 
 module _ (tiles : Tiles) (x from to : ℤ) where
   pub cut_at_over : AreCutAlongAt tiles x from to → AreCutAt (transposed tiles) x from to
-  cut_at_over at = record { begin = λ k y low high owns. ap (λ (r : Rect). r.ylo) (area_is tiles k) ∙ at.begin k y low high (owns_back tiles k (square_at x y) owns) }
+  cut_at_over at = record {
+    begin = λ k y low high owns. ap (λ (r : Rect). r.ylo) (area_is tiles k)
+        ∙ at.begin k y low high (owns_back tiles k (square_at x y) owns);
+  }
 
   pub cut_at_back : AreCutAt (transposed tiles) x from to → AreCutAlongAt tiles x from to
-  cut_at_back at = record { begin = λ k y low high owns. sym (ap (λ (r : Rect). r.ylo) (area_is tiles k)) ∙ at.begin k y low high (owns_over tiles k (square_at x y) owns) }
+  cut_at_back at = record {
+    begin = λ k y low high owns. sym (ap (λ (r : Rect). r.ylo) (area_is tiles k))
+        ∙ at.begin k y low high (owns_over tiles k (square_at x y) owns);
+  }

@@ -21,9 +21,11 @@ value_of_first : (tiles : Tiles) (k : ℕ) (ids : List ℕ) (square : Square) �
 value_of_first tiles k ids square owns =
     ap (λ (b : Bool). if b then (tile_at tiles k).value else value_among tiles ids square) (is_covered-Covers (tile_at tiles k).area square owns.covers)
 
-value_of_rest : (tiles : Tiles) (k : ℕ) (ids : List ℕ) (square : Square) → (Owns tiles k square → ⊥) → value_among tiles (k ∷ ids) square ≡ value_among tiles ids square
+value_of_rest : (tiles : Tiles) (k : ℕ) (ids : List ℕ) (square : Square) → (Owns tiles k square → ⊥)
+    → value_among tiles (k ∷ ids) square ≡ value_among tiles ids square
 value_of_rest tiles k ids square off =
-    ap (λ (b : Bool). if b then (tile_at tiles k).value else value_among tiles ids square) (not_covered (tile_at tiles k).area square (λ c. off (record { covers = c })))
+    ap (λ (b : Bool). if b then (tile_at tiles k).value else value_among tiles ids square)
+    (not_covered (tile_at tiles k).area square (λ c. off (record { covers = c })))
 
 value_of_one : (tiles : Tiles) (ids : List ℕ) (id : ℕ) (square : Square) → IsPartition tiles → Owns tiles id square → In id ids
     → value_among tiles ids square ≡ (tile_at tiles id).value
@@ -50,7 +52,8 @@ value_off_range tiles square partition off = value_of_none tiles (fin_map.keys t
 
 -- where each square is in a tile of the value that it had, all values are as they were
 pub same_by_owners : (old new : Tiles) → IsPartition old → IsPartition new
-    → ((k : ℕ) (square : Square) → Owns new k square → (j : ℕ) × Owns old j square × ((tile_at new k).value ≡ (tile_at old j).value)) → AreSame (value_at old) (value_at new)
+    → ((k : ℕ) (square : Square) → Owns new k square → (j : ℕ) × Owns old j square × ((tile_at new k).value ≡ (tile_at old j).value))
+    → AreSame (value_at old) (value_at new)
 same_by_owners old new p q source square = elim (covers_or_not plane_range square) [
   | inl inside ↦ (
       let owner = q.whole square inside in

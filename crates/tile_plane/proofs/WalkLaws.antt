@@ -31,9 +31,15 @@ pub record IsRightWalk (tiles : Tiles) (id next : ℕ) (y : ℤ) : Type 0 where
 module _ (tiles : Tiles) (id : ℕ) (y : ℤ) (partition : IsPartition tiles) (stitches : HasStitches tiles) (taken : IsTaken tiles id)
     (from : (tile_at tiles id).area.ylo ≤ℤ y) (to : y <ℤ (tile_at tiles id).area.yhi) (inside : (tile_at tiles id).area.xhi <ℤ plane_range.xhi) where
   pub right_begins : IsRightWalk tiles id (tile_at tiles id).right y
-  right_begins = record { at = (tile_at tiles id).area.yhi -ℤ pos 1; owns = next_right tiles id partition stitches taken inside; from = omega (arith, ints); to = omega (arith, ints) }
+  right_begins = record {
+    at = (tile_at tiles id).area.yhi -ℤ pos 1;
+    owns = next_right tiles id partition stitches taken inside;
+    from = omega (arith, ints);
+    to = omega (arith, ints);
+  }
 
-  right_next : (next : ℕ) → IsRightWalk tiles id next y → y <ℤ (tile_at tiles next).area.ylo → Owns tiles (tile_at tiles next).below (square_at (tile_at tiles id).area.xhi ((tile_at tiles next).area.ylo -ℤ pos 1))
+  right_next : (next : ℕ) → IsRightWalk tiles id next y → y <ℤ (tile_at tiles next).area.ylo
+      → Owns tiles (tile_at tiles next).below (square_at (tile_at tiles id).area.xhi ((tile_at tiles next).area.ylo -ℤ pos 1))
   right_next next way past =
       let touches = beside_right tiles id next way.at partition taken (omega (arith, ints)) (omega (arith, ints)) way.owns in
       let within = partition.within id taken in
@@ -46,7 +52,8 @@ module _ (tiles : Tiles) (id : ℕ) (y : ℤ) (partition : IsPartition tiles) (s
       let covers = way.owns.covers in
       record { at = (tile_at tiles next).area.ylo -ℤ pos 1; owns = right_next next way past; from = omega (arith, ints); to = omega (arith, ints) }
 
-  pub right_nearer : (next : ℕ) → IsRightWalk tiles id next y → y <ℤ (tile_at tiles next).area.ylo → extent y (tile_at tiles (tile_at tiles next).below).area.ylo < extent y (tile_at tiles next).area.ylo
+  pub right_nearer : (next : ℕ) → IsRightWalk tiles id next y → y <ℤ (tile_at tiles next).area.ylo
+      → extent y (tile_at tiles (tile_at tiles next).below).area.ylo < extent y (tile_at tiles next).area.ylo
   right_nearer next way past =
       let covers = (right_next next way past).covers in
       extent_falls_down y (tile_at tiles (tile_at tiles next).below).area.ylo (tile_at tiles next).area.ylo (omega (arith, ints)) past
@@ -61,9 +68,15 @@ pub record IsLeftWalk (tiles : Tiles) (id next : ℕ) (y : ℤ) : Type 0 where
 module _ (tiles : Tiles) (id : ℕ) (y : ℤ) (partition : IsPartition tiles) (stitches : HasStitches tiles) (taken : IsTaken tiles id)
     (from : (tile_at tiles id).area.ylo ≤ℤ y) (to : y <ℤ (tile_at tiles id).area.yhi) (inside : plane_range.xlo <ℤ (tile_at tiles id).area.xlo) where
   pub left_begins : IsLeftWalk tiles id (tile_at tiles id).left y
-  left_begins = record { at = (tile_at tiles id).area.ylo; owns = next_left tiles id partition stitches taken inside; from = omega (arith, ints); to = omega (arith, ints) }
+  left_begins = record {
+    at = (tile_at tiles id).area.ylo;
+    owns = next_left tiles id partition stitches taken inside;
+    from = omega (arith, ints);
+    to = omega (arith, ints);
+  }
 
-  left_next : (next : ℕ) → IsLeftWalk tiles id next y → (tile_at tiles next).area.yhi ≤ℤ y → Owns tiles (tile_at tiles next).above (square_at ((tile_at tiles id).area.xlo -ℤ pos 1) ((tile_at tiles next).area.yhi))
+  left_next : (next : ℕ) → IsLeftWalk tiles id next y → (tile_at tiles next).area.yhi ≤ℤ y
+      → Owns tiles (tile_at tiles next).above (square_at ((tile_at tiles id).area.xlo -ℤ pos 1) ((tile_at tiles next).area.yhi))
   left_next next way past =
       let touches = beside_left tiles id next way.at partition taken (omega (arith, ints)) (omega (arith, ints)) way.owns in
       let within = partition.within id taken in
@@ -76,7 +89,8 @@ module _ (tiles : Tiles) (id : ℕ) (y : ℤ) (partition : IsPartition tiles) (s
       let covers = way.owns.covers in
       record { at = (tile_at tiles next).area.yhi; owns = left_next next way past; from = omega (arith, ints); to = omega (arith, ints) }
 
-  pub left_nearer : (next : ℕ) → IsLeftWalk tiles id next y → (tile_at tiles next).area.yhi ≤ℤ y → extent (tile_at tiles (tile_at tiles next).above).area.yhi (y +ℤ pos 1) < extent (tile_at tiles next).area.yhi (y +ℤ pos 1)
+  pub left_nearer : (next : ℕ) → IsLeftWalk tiles id next y → (tile_at tiles next).area.yhi ≤ℤ y
+      → extent (tile_at tiles (tile_at tiles next).above).area.yhi (y +ℤ pos 1) < extent (tile_at tiles next).area.yhi (y +ℤ pos 1)
   left_nearer next way past =
       let covers = (left_next next way past).covers in
       extent_falls (tile_at tiles next).area.yhi (tile_at tiles (tile_at tiles next).above).area.yhi (y +ℤ pos 1) (omega (arith, ints)) (omega (arith, ints))
@@ -91,9 +105,15 @@ pub record IsAboveWalk (tiles : Tiles) (id next : ℕ) (x : ℤ) : Type 0 where
 module _ (tiles : Tiles) (id : ℕ) (x : ℤ) (partition : IsPartition tiles) (stitches : HasStitches tiles) (taken : IsTaken tiles id)
     (from : (tile_at tiles id).area.xlo ≤ℤ x) (to : x <ℤ (tile_at tiles id).area.xhi) (inside : (tile_at tiles id).area.yhi <ℤ plane_range.yhi) where
   pub above_begins : IsAboveWalk tiles id (tile_at tiles id).above x
-  above_begins = record { at = (tile_at tiles id).area.xhi -ℤ pos 1; owns = next_above tiles id partition stitches taken inside; from = omega (arith, ints); to = omega (arith, ints) }
+  above_begins = record {
+    at = (tile_at tiles id).area.xhi -ℤ pos 1;
+    owns = next_above tiles id partition stitches taken inside;
+    from = omega (arith, ints);
+    to = omega (arith, ints);
+  }
 
-  above_next : (next : ℕ) → IsAboveWalk tiles id next x → x <ℤ (tile_at tiles next).area.xlo → Owns tiles (tile_at tiles next).left (square_at ((tile_at tiles next).area.xlo -ℤ pos 1) (tile_at tiles id).area.yhi)
+  above_next : (next : ℕ) → IsAboveWalk tiles id next x → x <ℤ (tile_at tiles next).area.xlo
+      → Owns tiles (tile_at tiles next).left (square_at ((tile_at tiles next).area.xlo -ℤ pos 1) (tile_at tiles id).area.yhi)
   above_next next way past =
       let touches = beside_above tiles id next way.at partition taken (omega (arith, ints)) (omega (arith, ints)) way.owns in
       let within = partition.within id taken in
@@ -106,7 +126,8 @@ module _ (tiles : Tiles) (id : ℕ) (x : ℤ) (partition : IsPartition tiles) (s
       let covers = way.owns.covers in
       record { at = (tile_at tiles next).area.xlo -ℤ pos 1; owns = above_next next way past; from = omega (arith, ints); to = omega (arith, ints) }
 
-  pub above_nearer : (next : ℕ) → IsAboveWalk tiles id next x → x <ℤ (tile_at tiles next).area.xlo → extent x (tile_at tiles (tile_at tiles next).left).area.xlo < extent x (tile_at tiles next).area.xlo
+  pub above_nearer : (next : ℕ) → IsAboveWalk tiles id next x → x <ℤ (tile_at tiles next).area.xlo
+      → extent x (tile_at tiles (tile_at tiles next).left).area.xlo < extent x (tile_at tiles next).area.xlo
   above_nearer next way past =
       let covers = (above_next next way past).covers in
       extent_falls_down x (tile_at tiles (tile_at tiles next).left).area.xlo (tile_at tiles next).area.xlo (omega (arith, ints)) past
@@ -121,9 +142,15 @@ pub record IsBelowWalk (tiles : Tiles) (id next : ℕ) (x : ℤ) : Type 0 where
 module _ (tiles : Tiles) (id : ℕ) (x : ℤ) (partition : IsPartition tiles) (stitches : HasStitches tiles) (taken : IsTaken tiles id)
     (from : (tile_at tiles id).area.xlo ≤ℤ x) (to : x <ℤ (tile_at tiles id).area.xhi) (inside : plane_range.ylo <ℤ (tile_at tiles id).area.ylo) where
   pub below_begins : IsBelowWalk tiles id (tile_at tiles id).below x
-  below_begins = record { at = (tile_at tiles id).area.xlo; owns = next_below tiles id partition stitches taken inside; from = omega (arith, ints); to = omega (arith, ints) }
+  below_begins = record {
+    at = (tile_at tiles id).area.xlo;
+    owns = next_below tiles id partition stitches taken inside;
+    from = omega (arith, ints);
+    to = omega (arith, ints);
+  }
 
-  below_next : (next : ℕ) → IsBelowWalk tiles id next x → (tile_at tiles next).area.xhi ≤ℤ x → Owns tiles (tile_at tiles next).right (square_at ((tile_at tiles next).area.xhi) ((tile_at tiles id).area.ylo -ℤ pos 1))
+  below_next : (next : ℕ) → IsBelowWalk tiles id next x → (tile_at tiles next).area.xhi ≤ℤ x
+      → Owns tiles (tile_at tiles next).right (square_at ((tile_at tiles next).area.xhi) ((tile_at tiles id).area.ylo -ℤ pos 1))
   below_next next way past =
       let touches = beside_below tiles id next way.at partition taken (omega (arith, ints)) (omega (arith, ints)) way.owns in
       let within = partition.within id taken in
@@ -136,7 +163,8 @@ module _ (tiles : Tiles) (id : ℕ) (x : ℤ) (partition : IsPartition tiles) (s
       let covers = way.owns.covers in
       record { at = (tile_at tiles next).area.xhi; owns = below_next next way past; from = omega (arith, ints); to = omega (arith, ints) }
 
-  pub below_nearer : (next : ℕ) → IsBelowWalk tiles id next x → (tile_at tiles next).area.xhi ≤ℤ x → extent (tile_at tiles (tile_at tiles next).right).area.xhi (x +ℤ pos 1) < extent (tile_at tiles next).area.xhi (x +ℤ pos 1)
+  pub below_nearer : (next : ℕ) → IsBelowWalk tiles id next x → (tile_at tiles next).area.xhi ≤ℤ x
+      → extent (tile_at tiles (tile_at tiles next).right).area.xhi (x +ℤ pos 1) < extent (tile_at tiles next).area.xhi (x +ℤ pos 1)
   below_nearer next way past =
       let covers = (below_next next way past).covers in
       extent_falls (tile_at tiles next).area.xhi (tile_at tiles (tile_at tiles next).right).area.xhi (x +ℤ pos 1) (omega (arith, ints)) (omega (arith, ints))

@@ -34,10 +34,13 @@ pub record IsTileCut (id : ℕ) (y : ℤ) (old new : Tiles) : Type 0 where
 pub record IsLaid (area : Rect) (value id : ℕ) (old new : Tiles) : Type 0 where
   pub here : (tile_at new id).area ≡ area
   pub value_here : (tile_at new id).value ≡ value
-  pub elsewhere : (k : ℕ) (square : Square) → Owns new k square → (Covers area square → ⊥) → (j : ℕ) × Owns old j square × AreAsWide (tile_at old j) (tile_at new k)
-  pub beside : (k : ℕ) (x h : ℤ) → Owns new k (square_at x h) → area.ylo ≤ℤ h → h <ℤ area.yhi → (Covers area (square_at x h) → ⊥) → (j : ℕ) × Owns old j (square_at x h) × AreAlike (tile_at old j) (tile_at new k)
+  pub elsewhere : (k : ℕ) (square : Square) → Owns new k square → (Covers area square → ⊥)
+      → (j : ℕ) × Owns old j square × AreAsWide (tile_at old j) (tile_at new k)
+  pub beside : (k : ℕ) (x h : ℤ) → Owns new k (square_at x h) → area.ylo ≤ℤ h → h <ℤ area.yhi → (Covers area (square_at x h) → ⊥)
+      → (j : ℕ) × Owns old j (square_at x h) × AreAlike (tile_at old j) (tile_at new k)
   pub untouched : (j : ℕ) → IsTaken old j → ((square : Square) → Covers area square → Owns old j square → ⊥) → AreAlike (tile_at old j) (tile_at new j)
-  pub upright : (j : ℕ) (x h : ℤ) → Owns old j (square_at x h) → Owns old j (square_at x (h +ℤ pos 1)) → (h +ℤ pos 1 ≡ area.ylo → ⊥) → (h +ℤ pos 1 ≡ area.yhi → ⊥)
+  pub upright : (j : ℕ) (x h : ℤ) → Owns old j (square_at x h) → Owns old j (square_at x (h +ℤ pos 1)) → (h +ℤ pos 1 ≡ area.ylo → ⊥)
+      → (h +ℤ pos 1 ≡ area.yhi → ⊥)
       → (k : ℕ) × Owns new k (square_at x h) × Owns new k (square_at x (h +ℤ pos 1))
 
 -- Where an area ends on one side: at the near end, or at the far end of what lies there, if that has its value.
@@ -46,11 +49,13 @@ IsSide value other near far end = ((end ≡ near) × (other ≡ value → ⊥)) 
 
 -- A tile of a band is one now with what the tile to its left has of its rows, if that has the band's value.
 abbrev pub IsLaidLeft : Piece → Tile → Tile → ℕ → Tiles → Tiles → Type 0
-IsLaidLeft band tile left id old new = (end : ℤ) × IsSide band.value left.value tile.area.xlo left.area.xlo end × IsLaid (record tile.area { xlo = end }) band.value id old new
+IsLaidLeft band tile left id old new = (end : ℤ) × IsSide band.value left.value tile.area.xlo left.area.xlo end
+    × IsLaid (record tile.area { xlo = end }) band.value id old new
 
 -- The same of the tile to its right.
 abbrev pub IsLaidRight : Piece → Tile → Tile → ℕ → Tiles → Tiles → Type 0
-IsLaidRight band tile right id old new = (end : ℤ) × IsSide band.value right.value tile.area.xhi right.area.xhi end × IsLaid (record tile.area { xhi = end }) band.value id old new
+IsLaidRight band tile right id old new = (end : ℤ) × IsSide band.value right.value tile.area.xhi right.area.xhi end
+    × IsLaid (record tile.area { xhi = end }) band.value id old new
 
 -- The squares of a band are one tile now, with what the tiles to its left and right have of its rows, if they have its value.
 pub record IsBandLaid (band : Piece) (id : ℕ) (old new : Tiles) : Type 0 where
@@ -58,8 +63,10 @@ pub record IsBandLaid (band : Piece) (id : ℕ) (old new : Tiles) : Type 0 where
   pub laid : IsLaid area band.value id old new
   pub low : area.ylo ≡ band.area.ylo
   pub high : area.yhi ≡ band.area.yhi
-  pub left : (k : ℕ) → Owns old k (square_at (band.area.xlo -ℤ pos 1) band.area.ylo) → IsSide band.value (tile_at old k).value band.area.xlo (tile_at old k).area.xlo area.xlo
-  pub right : (k : ℕ) → Owns old k (square_at band.area.xhi band.area.ylo) → IsSide band.value (tile_at old k).value band.area.xhi (tile_at old k).area.xhi area.xhi
+  pub left : (k : ℕ) → Owns old k (square_at (band.area.xlo -ℤ pos 1) band.area.ylo)
+      → IsSide band.value (tile_at old k).value band.area.xlo (tile_at old k).area.xlo area.xlo
+  pub right : (k : ℕ) → Owns old k (square_at band.area.xhi band.area.ylo)
+      → IsSide band.value (tile_at old k).value band.area.xhi (tile_at old k).area.xhi area.xhi
 
 -- The tiles of the row from the one left of the area to the one right of it go on up to a height.
 pub record AreHigh (area : Rect) (y top : ℤ) (tiles : Tiles) : Type 0 where
@@ -79,7 +86,8 @@ pub record IsOfBand (band : Piece) (tile : Tile) : Type 0 where
 
 -- In this row tiles side by side have other values, but for those that a side of the area divides.
 pub record IsWideBeside (area : Rect) (tiles : Tiles) (y : ℤ) : Type 0 where
-  pub apart : (a b : ℕ) (x : ℤ) → (x +ℤ pos 1 ≡ area.xlo → ⊥) → (x +ℤ pos 1 ≡ area.xhi → ⊥) → Owns tiles a (square_at x y) → Owns tiles b (square_at (x +ℤ pos 1) y)
+  pub apart : (a b : ℕ) (x : ℤ) → (x +ℤ pos 1 ≡ area.xlo → ⊥) → (x +ℤ pos 1 ≡ area.xhi → ⊥) → Owns tiles a (square_at x y)
+      → Owns tiles b (square_at (x +ℤ pos 1) y)
       → (tile_at tiles a).value ≡ (tile_at tiles b).value → a ≡ b
 
 -- From a row on up to the top of the area no tile goes over its left or right side, and there alone two tiles side by side may have one
@@ -93,7 +101,8 @@ pub record IsOpenFrom (area : Rect) (y : ℤ) (tiles : Tiles) : Type 0 where
 -- A tile whose columns lie apart from the area and do not touch it is as it was. Rows below the lowest of the area are not cut from one
 -- another, and neither are rows above its highest.
 pub record AreKept (area : Rect) (old new : Tiles) : Type 0 where
-  pub far : (j : ℕ) → IsTaken old j → ((tile_at old j).area.xhi <ℤ area.xlo) ⊎ (area.xhi <ℤ (tile_at old j).area.xlo) → (tile_at new j).area ≡ (tile_at old j).area
+  pub far : (j : ℕ) → IsTaken old j → ((tile_at old j).area.xhi <ℤ area.xlo) ⊎ (area.xhi <ℤ (tile_at old j).area.xlo)
+      → (tile_at new j).area ≡ (tile_at old j).area
   pub rows : (j : ℕ) (x y : ℤ) → ((y +ℤ pos 1) <ℤ area.ylo) ⊎ (area.yhi ≤ℤ y) → Owns old j (square_at x y) → Owns old j (square_at x (y +ℤ pos 1))
       → (k : ℕ) × Owns new k (square_at x y) × Owns new k (square_at x (y +ℤ pos 1))
 

@@ -1,20 +1,23 @@
 -- Tiles as strips, said of tiles alone: side by side they have other values, and none stands upon one of its columns and value.
 use Rattle.std.specs.Prelude.{◌≡◌, ◌≢◌, ℕ, ℤ, pos, ◌+ℤ◌, ◌≤ℤ◌, ◌<ℤ◌}
 use Rattle.geo_core.specs.Areas.{LiesWithin}
+use Rattle.geo_core.specs.Planes.{AreSame}
 use Rattle.geo_core.specs.declared.squares.Rect.{Rect}
 use Rattle.geo_core.specs.declared.squares.Square.{Square}
 use Rattle.tile_plane.specs.declared.tiles.Tile.{Tile}
-use Rattle.tile_plane.specs.Tiles.{Tiles, tile_at, IsTaken, Owns}
+use Rattle.tile_plane.specs.Tiles.{Tiles, tile_at, IsTaken, Owns, IsPartition, HasStitches, value_at}
 use Rattle.tile_plane.specs.Walks.{square_at}
 use Rattle.tile_plane.specs.Cuts.{AreAlike}
 
 -- In this row tiles side by side have other values.
 pub record IsWideAt (tiles : Tiles) (y : ℤ) : Type 0 where
-  pub apart : (a b : ℕ) (x : ℤ) → Owns tiles a (square_at x y) → Owns tiles b (square_at (x +ℤ pos 1) y) → (tile_at tiles a).value ≡ (tile_at tiles b).value → a ≡ b
+  pub apart : (a b : ℕ) (x : ℤ) → Owns tiles a (square_at x y) → Owns tiles b (square_at (x +ℤ pos 1) y) → (tile_at tiles a).value ≡ (tile_at tiles b).value
+      → a ≡ b
 
 -- The tiles of one of these squares and of the one above it are one, if they have the same columns and value.
 pub record IsTallAt (tiles : Tiles) (x y : ℤ) : Type 0 where
-  pub apart : (a b : ℕ) → Owns tiles a (square_at x y) → Owns tiles b (square_at x (y +ℤ pos 1)) → (tile_at tiles a).area.xlo ≡ (tile_at tiles b).area.xlo → (tile_at tiles a).area.xhi ≡ (tile_at tiles b).area.xhi
+  pub apart : (a b : ℕ) → Owns tiles a (square_at x y) → Owns tiles b (square_at x (y +ℤ pos 1)) → (tile_at tiles a).area.xlo ≡ (tile_at tiles b).area.xlo
+      → (tile_at tiles a).area.xhi ≡ (tile_at tiles b).area.xhi
       → (tile_at tiles a).value ≡ (tile_at tiles b).value → a ≡ b
 
 -- All tiles are strips.
@@ -27,6 +30,13 @@ pub record AreGrown (old new : Tiles) : Type 0 where
   pub goes : (j : ℕ) → (k : ℕ) × ((square : Square) → Owns old j square → Owns new k square)
   pub source : (k : ℕ) (square : Square) → Owns new k square → (j : ℕ) × Owns old j square × ((tile_at new k).value ≡ (tile_at old j).value)
       × ((tile_at new k).area.xlo ≡ (tile_at old j).area.xlo) × ((tile_at new k).area.xhi ≡ (tile_at old j).area.xhi)
+
+-- From the first tiles to the second some were joined, and nothing else was done.
+pub record AreJoining (old new : Tiles) : Type 0 where
+  pub partition : IsPartition new
+  pub stitches : HasStitches new
+  pub same : AreSame (value_at old) (value_at new)
+  pub grown : AreGrown old new
 
 -- From the first tiles to the second they are only cut across: each lies within one of the same columns and value, and the part of a
 -- tile in a row is still in one.

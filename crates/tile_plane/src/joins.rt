@@ -1,10 +1,12 @@
 //! Joining two tiles into one.
 
-ghost use Rattle.std.specs.Prelude.{◌≡◌, true, false, ℤ, pos, ◌+ℤ◌, ◌≤ℤ◌, ◌<ℤ◌};
+ghost use Rattle.std.specs.Prelude.{◌≡◌, true, false, ℤ, pos, ◌+ℤ◌, ◌-ℤ◌, ◌≤ℤ◌, ◌<ℤ◌};
+ghost use Rattle.geo_core.specs.declared.squares.Square.{Square as OneSquare};
 ghost use Rattle.geo_core.specs.Planes.{AreSame, plane_range};
-ghost use Rattle.tile_plane.specs.Tiles.{tile_at, IsTaken, IsPartition, HasStitches, value_at};
+ghost use Rattle.tile_plane.specs.Tiles.{tile_at, IsTaken, Owns, IsPartition, HasStitches, value_at};
+ghost use Rattle.tile_plane.specs.Walks.{square_at};
 ghost use Rattle.tile_plane.specs.Cuts.{IsJoinedUp, IsJoinedRight};
-ghost use Rattle.tile_plane.specs.Tall.{IsTallAt, AreGrown};
+ghost use Rattle.tile_plane.specs.Tall.{IsTallAt, AreGrown, AreJoining};
 
 use crate::mends::{mend_right_end, mend_upper_end};
 use crate::stores::Store;
@@ -98,8 +100,11 @@ fn may_join(lower: &Tile, upper: &Tile) -> bool
         && lower.area.xhi == upper.area.xhi
 }
 
-/// Joins the tiles of a column that meet at a height from `ylo` to `yhi` where they can be. The result is
-/// the tile of the column that has squares just below `yhi`.
+/// Joins the tiles of a column that meet at a height from `ylo` to `yhi` where they can be. The result is the tile of the column that
+/// has squares just below `yhi`.
+///
+/// The tiles just below and just above may be as wide as the plane. Which of them has the columns of one in between is told by a
+/// stitch of that one, so no walk goes along them.
 pub fn join_column(store: &mut Store, x: i64, ylo: i64, yhi: i64, hint: u32) -> u32
     requires partition { IsPartition store.old }
     requires stitches { HasStitches store.old }
@@ -116,31 +121,65 @@ pub fn join_column(store: &mut Store, x: i64, ylo: i64, yhi: i64, hint: u32) -> 
     ensures grown { AreGrown store.old store.new }
     ensures tall { (y : ℤ) → ylo ≤ℤ (y +ℤ pos 1) → y <ℤ yhi → IsTallAt store.new x y }
 {
-    let mut id = find(store, Square { x, y: ylo - 1 }, hint);
-    let mut before = id;
-    'column: while store.get(id).area.yhi <= yhi {
+    let first = find(store, Square { x, y: ylo }, hint);
+    let mut id = join_below(store, first, ylo);
+    'column: while store.get(id).area.yhi < yhi {
         let next = above_at(store, id, x);
         let lower = store.get(id);
         let upper = store.get(next);
         if may_join(&lower, &upper) {
             join_up(store, id, next);
         } else {
-            before = id;
             id = next;
         }
     }
-    below_or(store, id, yhi, before)
+    join_above(store, id, yhi);
+    id
 }
 
-/// A tile where it has squares below a height, and else another.
-fn below_or(store: &Store, id: u32, y: i64, other: u32) -> u32
-    requires taken { IsTaken store.now id }
-    requires other_taken { IsTaken store.now other }
-    ensures { IsTaken store.now result }
+/// Joins a tile with the one under it, if it begins at a height and they can be joined. The result is the number that it has then.
+fn join_below(store: &mut Store, id: u32, y: i64) -> u32
+    requires partition { IsPartition store.old }
+    requires stitches { HasStitches store.old }
+    requires taken { IsTaken store.old id }
+    requires from { (tile_at store.old id).area.ylo ≤ℤ y }
+    requires to { y <ℤ (tile_at store.old id).area.yhi }
+    requires inside { plane_range.ylo <ℤ y }
+    ensures joining { AreJoining store.old store.new }
+    ensures goes { (square : OneSquare) → Owns store.old id square → Owns store.new result square }
+    ensures tall { (x : ℤ) → Owns store.old id (square_at x y) → IsTallAt store.new x (y -ℤ pos 1) }
 {
-    if store.get(id).area.ylo < y {
-        id
-    } else {
-        other
+    let upper = store.get(id);
+    if upper.area.ylo < y {
+        return id;
+    }
+    let under = upper.below;
+    let lower = store.get(under);
+    if may_join(&lower, &upper) {
+        join_up(store, under, id);
+        return under;
+    }
+    id
+}
+
+/// Joins a tile with the one upon it, if it ends at a height and they can be joined.
+fn join_above(store: &mut Store, id: u32, y: i64)
+    requires partition { IsPartition store.old }
+    requires stitches { HasStitches store.old }
+    requires taken { IsTaken store.old id }
+    requires reach { y ≤ℤ (tile_at store.old id).area.yhi }
+    requires inside { y <ℤ plane_range.yhi }
+    ensures joining { AreJoining store.old store.new }
+    ensures taken { IsTaken store.new id }
+    ensures tall { (tile_at store.old id).area.yhi ≡ y → (x : ℤ) → Owns store.old id (square_at x (y -ℤ pos 1)) → IsTallAt store.new x (y -ℤ pos 1) }
+{
+    let lower = store.get(id);
+    if y < lower.area.yhi {
+        return;
+    }
+    let upon = lower.above;
+    let upper = store.get(upon);
+    if may_join(&lower, &upper) {
+        join_up(store, id, upon);
     }
 }

@@ -17,6 +17,10 @@
 //! values other than 0 its tiles (`PartLaws`): such a tile is a strip of its value, since space alone reaches the edges of the plane
 //! (`MaterialLaws`). What goes over all tiles goes by their numbers (`WholeLaws`).
 //!
+//! A search may begin at any tile, so of the tiles that are marked to begin at (`marks`) it is known only that they are tiles. What makes
+//! walks short is not proved: they begin near, go to a place on a side of a tile from both of its ends, and keep out of tiles of space,
+//! which may be as wide as the plane and whose stitches lead to their ends.
+//!
 //! The two sheets: pieces that lie apart may be set one by one (`SheetLaws`), and setting them has one outcome (`SetLaws`), so a sheet that
 //! is one change behind catches up by setting the pieces of that change. A plane begins as one tile (`FirstLaws`).
 #![tactic(auto)]
@@ -24,6 +28,7 @@
 mod cuts;
 mod joins;
 mod listings;
+mod marks;
 mod mends;
 mod pieces;
 mod sheets;

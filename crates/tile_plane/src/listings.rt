@@ -1,14 +1,15 @@
 //! Lists of tiles.
-ghost use Rattle.std.specs.Prelude.{◌≡◌, ◌≢◌, All, AllPairs, IfOk, OnOk, IfSome, MatchOption};
+ghost use Rattle.std.specs.Prelude.{◌≡◌, ◌≢◌, pos, ◌-ℤ◌, ◌≤ℤ◌, ◌<ℤ◌, All, AllPairs, IfOk, OnOk, IfSome, MatchOption};
 ghost use Rattle.finite_sets.specs.Lists.{Lists};
 ghost use Rattle.geo_core.specs.declared.squares.Square.{Square as OneSquare};
 ghost use Rattle.geo_core.specs.Areas.{corner_of, AreDisjoint, IsNear};
 ghost use Rattle.geo_core.specs.Covering.{IsProper};
-ghost use Rattle.geo_core.specs.Planes.{HasValue, AreTilesIn, IsBox};
+ghost use Rattle.geo_core.specs.Planes.{HasValue, AreTilesIn, IsBox, plane_range};
 ghost use Rattle.geo_core.specs.Strips.{IsStrips};
 ghost use Rattle.tile_plane.specs.Contents.{IsPlane};
 ghost use Rattle.tile_plane.specs.Listings.{Meets, IsOnSide, IsFollower, AddsAll, AddsParts, ArePiecesIn, part_in};
-ghost use Rattle.tile_plane.specs.Tiles.{value_at, IsTaken, Owns, IsPartition, HasStitches};
+ghost use Rattle.tile_plane.specs.Walks.{square_at};
+ghost use Rattle.tile_plane.specs.Tiles.{tile_at, value_at, IsTaken, Owns, IsPartition, HasStitches};
 
 use crate::stores::Store;
 use crate::walks::find;
@@ -122,7 +123,7 @@ fn tiles_meeting(
     let mut index = 0;
     while index < found.len() {
         let id = found[index];
-        push_followers(&mut found, store, area, id)?;
+        push_followers(&mut found, store, area, id, hints)?;
         index += 1;
     }
     Ok(found)
@@ -160,17 +161,20 @@ fn left_side(
     Ok(side)
 }
 
-/// Adds the tiles that follow this one, from above.
+/// Adds the tiles that follow this one, from above. The first is sought from the tile that has its place among the hints, since this one may
+/// be as high as the plane.
 fn push_followers(
     found: &mut Vec<u32>,
     store: &Store,
     area: &Rect,
     id: u32,
+    hints: &[u32],
 ) -> Result<(), AllocError>
     requires partition { IsPartition store.now }
     requires stitches { HasStitches store.now }
     requires near { IsNear area.now }
     requires meets { Meets store.now area.now id }
+    requires hints { All (IsTaken store.now) hints.now }
     ensures { OnOk result (AddsAll (IsFollower store.now area.now id) found.old.items found.new.items) }
 {
     let tile = store.get(id);
@@ -178,8 +182,10 @@ fn push_followers(
         return Ok(());
     }
     let low = tile.area.ylo.max(area.ylo);
-    let mut next = tile.right;
-    let mut y = tile.area.yhi;
+    let top = tile.area.yhi.min(area.yhi);
+    let hint = hints.get(found.len()).copied().unwrap_or(id);
+    let mut next = right_below(store, id, top, hint);
+    let mut y = top;
     while low < y {
         let follower = store.get(next);
         y = follower.area.ylo.max(area.ylo);
@@ -189,6 +195,28 @@ fn push_followers(
         next = follower.below;
     }
     Ok(())
+}
+
+/// The tile to the right of a tile in the row below y. It is sought from the hint, unless a stitch leads there.
+fn right_below(store: &Store, id: u32, y: i64, hint: u32) -> u32
+    requires partition { IsPartition store.now }
+    requires stitches { HasStitches store.now }
+    requires taken { IsTaken store.now id }
+    requires hint { IsTaken store.now hint }
+    requires inside { (tile_at store.now id).area.xhi <ℤ plane_range.xhi }
+    requires from { (tile_at store.now id).area.ylo <ℤ y }
+    requires to { y ≤ℤ (tile_at store.now id).area.yhi }
+    ensures { Owns store.now result (square_at (tile_at store.now id).area.xhi (y -ℤ pos 1)) }
+{
+    let tile = store.get(id);
+    if tile.area.yhi <= y {
+        return tile.right;
+    }
+    let square = Square {
+        x: tile.area.xhi,
+        y: y - 1,
+    };
+    find(store, square, hint)
 }
 
 /// Adds the parts in the area of all tiles that meet it. These become the hints. Where one tile has all of the area, no list of tiles is

@@ -237,8 +237,10 @@ fn band_top(store: &Store, first: u32, area: &Rect) -> i64
     ensures within { result ≤ℤ area.now.yhi }
     ensures high { AreHigh area.now area.now.ylo result store.now }
 {
-    let mut id = left_of(store, first, area);
-    let mut top = lower_top(store, id, area.yhi);
+    let left = left_of(store, first, area);
+    let beside = lower_top(store, left, area.yhi);
+    let mut id = first;
+    let mut top = lower_top(store, first, beside);
     'row: while store.get(id).area.xhi <= area.xhi {
         id = right_of(store, id, area);
         top = lower_top(store, id, top);

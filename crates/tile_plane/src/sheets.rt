@@ -4,8 +4,9 @@ ghost use Rattle.geo_core.specs.declared.squares.Square.{Square as OneSquare};
 ghost use Rattle.geo_core.specs.Covering.{Covers};
 ghost use Rattle.geo_core.specs.Planes.{plane_range, AreSame, AreSet};
 ghost use Rattle.tile_plane.specs.Sheets.{IsSheet, AreSettable, next_of, IsSecond};
-ghost use Rattle.tile_plane.specs.Tiles.{value_at};
+ghost use Rattle.tile_plane.specs.Tiles.{value_at, IsTaken};
 
+use crate::marks::Marks;
 use crate::pieces::set_piece;
 use crate::stores::Store;
 use crate::tiles::Tile;
@@ -18,8 +19,10 @@ use std::mem;
 #[derive(Drop)]
 pub struct Sheet {
     pub store: Store,
-    /// The tile at which searches begin.
+    /// The tile at which the last piece was set.
     pub hint: u32,
+    /// Tiles at which pieces were set before.
+    pub marks: Marks,
 }
 
 /// The other sheet of a plane.
@@ -57,7 +60,11 @@ impl Sheet {
         let Ok(hint) = store.insert(whole) else {
             return Err(PlaneFault::Memory);
         };
-        Ok(Sheet { store, hint })
+        Ok(Sheet {
+            store,
+            hint,
+            marks: Marks::new(alloc),
+        })
     }
 
     /// The value at the square.
@@ -68,7 +75,9 @@ impl Sheet {
         if !is_in_range(&square) {
             return 0;
         }
-        self.store.get(find(&self.store, square, self.hint)).value
+        self.store
+            .get(find(&self.store, square, self.near(square)))
+            .value
     }
 
     fn copy(&self) -> Result<Sheet, PlaneFault>
@@ -80,14 +89,76 @@ impl Sheet {
         let Ok(store) = self.store.copy() else {
             return Err(PlaneFault::Memory);
         };
+        let marks = self.marks.copy()?;
         Ok(Sheet {
             store,
             hint: self.hint,
+            marks,
         })
     }
 
-    /// The sheet with the pieces set. Each search begins where the last piece was set.
+    /// A tile at which a search for the square begins.
+    pub fn near(&self, square: Square) -> u32
+        requires { IsSheet self.now }
+        ensures { IsTaken self.now.store result }
+    {
+        match self.marks.near(&self.store, square) {
+            Some(id) => id,
+            None => self.hint,
+        }
+    }
+
+    /// A tile at which a search for the first of the areas begins.
+    pub fn near_first(&self, areas: &[Rect]) -> u32
+        requires { IsSheet self.now }
+        ensures { IsTaken self.now.store result }
+    {
+        match areas.first() {
+            Some(area) => self.near(area.corner()),
+            None => self.hint,
+        }
+    }
+
+    /// The sheet with the pieces set. The search for the first begins near it, and each other where the last piece was set.
     pub fn with_pieces(mut self, pieces: &[Piece]) -> Result<Sheet, PlaneFault>
+        requires sheet { IsSheet self }
+        requires settable { AreSettable pieces.now }
+        ensures sheet { IfOk result IsSheet }
+        ensures set { IfOk result (λ sheet. AreSet (value_at self.store) (value_at sheet.store) pieces.now) }
+        ensures memory { IsOkUnless result PlaneFault.Memory }
+    {
+        self.begin_near(pieces);
+        let mut sheet = self.with_each(pieces)?;
+        sheet.mark_last(pieces)?;
+        Ok(sheet)
+    }
+
+    /// Searches begin near the first of the pieces.
+    fn begin_near(&mut self, pieces: &[Piece])
+        requires { IsSheet self.old }
+        ensures sheet { IsSheet self.new }
+        ensures same { self.new.store ≡ self.old.store }
+    {
+        if let Some(piece) = pieces.first() {
+            self.hint = self.near(piece.area.corner());
+        }
+    }
+
+    /// Marks where the last of the pieces was set.
+    fn mark_last(&mut self, pieces: &[Piece]) -> Result<(), PlaneFault>
+        ensures store { self.new.store ≡ self.old.store }
+        ensures hint { self.new.hint ≡ self.old.hint }
+        ensures memory { IsOkUnless result PlaneFault.Memory }
+    {
+        if let Some(piece) = pieces.last() {
+            self.marks
+                .mark(&self.store, piece.area.corner(), self.hint)?;
+        }
+        Ok(())
+    }
+
+    /// The sheet with the pieces set. Each search begins where the last piece was set.
+    fn with_each(mut self, pieces: &[Piece]) -> Result<Sheet, PlaneFault>
         requires sheet { IsSheet self }
         requires settable { AreSettable pieces.now }
         ensures sheet { IfOk result IsSheet }
@@ -99,6 +170,8 @@ impl Sheet {
                 return Err(PlaneFault::Memory);
             };
             self.hint = hint;
+            self.marks
+                .mark_some(&self.store, piece.area.corner(), hint)?;
         }
         Ok(self)
     }

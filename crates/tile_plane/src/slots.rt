@@ -42,6 +42,7 @@ impl Slot {
         }
     }
 
+    #[inline(always)]
     pub fn tile(&self) -> Tile
         ensures { result ≡ tile_of self.now }
     {

@@ -74,6 +74,8 @@ impl Store {
         Some(next.0)
     }
 
+    /// The tile under a number.
+    #[inline(always)]
     pub fn get(&self, id: u32) -> Tile
         requires { IsTaken self.now id }
         ensures { result ≡ tile_at self.now id }

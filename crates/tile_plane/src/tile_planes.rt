@@ -73,7 +73,12 @@ impl TilePlane {
         ensures pieces { IfOk result (λ pieces. ArePiecesIn (value_in self.now) areas.now pieces.items) }
         ensures memory { IsOkUnless result PlaneFault.Memory }
     {
-        let pieces = listings::pieces_in(self.alloc, &self.first.store, areas, self.first.hint)?;
+        let pieces = listings::pieces_in(
+            self.alloc,
+            &self.first.store,
+            areas,
+            self.first.near_first(areas),
+        )?;
         Ok(pieces)
     }
 }
@@ -109,7 +114,12 @@ impl Plane for TilePlane {
     }
 
     fn tiles_in(&self, area: Rect) -> Result<Vec<Piece>, PlaneFault> {
-        let tiles = listings::tiles_in(self.alloc, &self.first.store, &area, self.first.hint)?;
+        let tiles = listings::tiles_in(
+            self.alloc,
+            &self.first.store,
+            &area,
+            self.first.near(area.corner()),
+        )?;
         Ok(tiles)
     }
 

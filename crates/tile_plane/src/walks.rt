@@ -76,7 +76,8 @@ fn below_near(store: &Store, id: u32, x: i64) -> u32
     tile.below
 }
 
-/// The tile to the right of a tile at y. Any tile where the range ends there.
+/// The tile to the right of a tile at y. Any tile where the range ends there. Two walks go to it, one from either end of the right side, so
+/// it is found soon where it is near one of them.
 pub fn right_at(store: &Store, id: u32, y: i64) -> u32
     requires partition { IsPartition store.now }
     requires stitches { HasStitches store.now }
@@ -89,14 +90,23 @@ pub fn right_at(store: &Store, id: u32, y: i64) -> u32
     if PLANE_EDGE <= tile.area.xhi {
         return id;
     }
+    let square = Square {
+        x: tile.area.xhi,
+        y,
+    };
+    let mut other = below_or_self(store, id);
     let mut next = tile.right;
     'downward: while y < store.get(next).area.ylo {
+        let Some(step) = step_across(store, other, square) else {
+            return other;
+        };
+        other = step;
         next = store.get(next).below;
     }
     next
 }
 
-/// The tile to the left of a tile at y. Any tile where the range ends there.
+/// The tile to the left of a tile at y. Any tile where the range ends there. Two walks go to it, one from either end of the left side.
 pub fn left_at(store: &Store, id: u32, y: i64) -> u32
     requires partition { IsPartition store.now }
     requires stitches { HasStitches store.now }
@@ -109,15 +119,23 @@ pub fn left_at(store: &Store, id: u32, y: i64) -> u32
     if tile.area.xlo <= -PLANE_EDGE {
         return id;
     }
+    let square = Square {
+        x: tile.area.xlo - 1,
+        y,
+    };
+    let mut other = above_or_self(store, id);
     let mut next = tile.left;
     'upward: while store.get(next).area.yhi <= y {
+        let Some(step) = step_across(store, other, square) else {
+            return other;
+        };
+        other = step;
         next = store.get(next).above;
     }
     next
 }
 
-/// The tile above a tile at x. Any tile where the range ends there. Two walks go to it, one from either end of the upper side, so it is
-/// found soon where it is near one of them.
+/// The tile above a tile at x. Any tile where the range ends there. Two walks go to it, one from either end of the upper side.
 pub fn above_at(store: &Store, id: u32, x: i64) -> u32
     requires partition { IsPartition store.now }
     requires stitches { HasStitches store.now }
@@ -203,6 +221,34 @@ fn right_or_self(store: &Store, id: u32) -> u32
     tile.right
 }
 
+/// The tile below a tile, or the tile itself where the range ends there.
+fn below_or_self(store: &Store, id: u32) -> u32
+    requires partition { IsPartition store.now }
+    requires stitches { HasStitches store.now }
+    requires taken { IsTaken store.now id }
+    ensures { IsTaken store.now result }
+{
+    let tile = store.get(id);
+    if tile.area.ylo <= -PLANE_EDGE {
+        return id;
+    }
+    tile.below
+}
+
+/// The tile above a tile, or the tile itself where the range ends there.
+fn above_or_self(store: &Store, id: u32) -> u32
+    requires partition { IsPartition store.now }
+    requires stitches { HasStitches store.now }
+    requires taken { IsTaken store.now id }
+    ensures { IsTaken store.now result }
+{
+    let tile = store.get(id);
+    if PLANE_EDGE <= tile.area.yhi {
+        return id;
+    }
+    tile.above
+}
+
 /// One step from a tile towards a square, up or down first and then to a side. None where the tile has the square.
 fn step_to(store: &Store, id: u32, square: Square) -> Option<u32>
     requires partition { IsPartition store.now }
@@ -223,6 +269,30 @@ fn step_to(store: &Store, id: u32, square: Square) -> Option<u32>
     }
     if square.x < tile.area.xlo {
         return Some(tile.left);
+    }
+    None
+}
+
+/// One step from a tile towards a square, to a side first and then up or down. None where the tile has the square.
+fn step_across(store: &Store, id: u32, square: Square) -> Option<u32>
+    requires partition { IsPartition store.now }
+    requires stitches { HasStitches store.now }
+    requires taken { IsTaken store.now id }
+    requires inside { Covers plane_range square }
+    ensures { MatchOption result (Owns store.now id square) (IsTaken store.now) }
+{
+    let tile = store.get(id);
+    if tile.area.xhi <= square.x {
+        return Some(tile.right);
+    }
+    if square.x < tile.area.xlo {
+        return Some(tile.left);
+    }
+    if tile.area.yhi <= square.y {
+        return Some(tile.above);
+    }
+    if square.y < tile.area.ylo {
+        return Some(tile.below);
     }
     None
 }

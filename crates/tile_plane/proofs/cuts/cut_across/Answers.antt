@@ -13,7 +13,8 @@ get-x-requires c =
     let area = c.args.area.now in
     let more = c.row-test.true in
     let part = c.in_ok-id.ensures in
-    let step = row_step area _ _ c.args.store.now c.row.store c.part_from.new.store c.row.id c.in_ok-id.id (tile_at c.part_from.new.store c.in_ok-id.id).area.xhi
+    let step = row_step area _ _ c.args.store.now c.row.store c.part_from.new.store c.row.id c.in_ok-id.id
+    (tile_at c.part_from.new.store c.in_ok-id.id).area.xhi
     c.row.invariant.cutting c.row.invariant.walk (omega (arith, ints)) part.partition part.part refl in
     step.taken
 
@@ -55,8 +56,13 @@ row-preserved-then-x-area c =
     let ahead = step.ahead in
     let within = part.partition.within c.in_ok-id.id step.taken in
     let next = c.right_at-id.ensures (let branch = c.if-x-area.true in let bounds = c.requires in let from = walk.bound in omega (arith, ints)) in
-    let plane : IsSamePlane c.args.store.now c.part_from.new.store = record { partition = part.partition; stitches = part.stitches; same = λ s. part.same s ∙ c.row.invariant.plane.same s } in
-    record { plane = plane; cutting = step.cutting; walk = row_next area _ _ c.args.store.now _ _ _ xhi step walk.bound end (λ again. next) (owner_taken _ _ _ next) }
+    let plane : IsSamePlane c.args.store.now c.part_from.new.store =
+    record { partition = part.partition; stitches = part.stitches; same = λ s. part.same s ∙ c.row.invariant.plane.same s } in
+    record {
+      plane = plane;
+      cutting = step.cutting;
+      walk = row_next area _ _ c.args.store.now _ _ _ xhi step walk.bound end (λ again. next) (owner_taken _ _ _ next);
+    }
 
 pub row-preserved : goal.row-preserved
 row-preserved c =
@@ -69,8 +75,13 @@ row-preserved c =
     let step = row_step area _ _ c.args.store.now c.row.store c.part_from.new.store c.row.id c.in_ok-id.id xhi
     c.row.invariant.cutting c.row.invariant.walk (omega (arith, ints)) part.partition part.part end in
     let branch = c.if-x-area.false in
-    let plane : IsSamePlane c.args.store.now c.part_from.new.store = record { partition = part.partition; stitches = part.stitches; same = λ s. part.same s ∙ c.row.invariant.plane.same s } in
-    record { plane = plane; cutting = step.cutting; walk = row_next area _ _ c.args.store.now _ _ _ xhi step c.row.invariant.walk.bound end (λ again. absurd (omega (arith, ints))) step.taken }
+    let plane : IsSamePlane c.args.store.now c.part_from.new.store =
+    record { partition = part.partition; stitches = part.stitches; same = λ s. part.same s ∙ c.row.invariant.plane.same s } in
+    record {
+      plane = plane;
+      cutting = step.cutting;
+      walk = row_next area _ _ c.args.store.now _ _ _ xhi step c.row.invariant.walk.bound end (λ again. absurd (omega (arith, ints))) step.taken;
+    }
 
 pub row-smaller-then-x-area : goal.row-smaller-then-x-area
 row-smaller-then-x-area c =
@@ -101,4 +112,7 @@ returns-clause-at c =
     let walk = c.row.invariant.walk in
     let test = c.row-test.false in
     let same_y : to_z w64 (of_z w64 c.args.y) ≡ c.args.y = to_z-of_z w64 c.args.y c.ranges.y in
-    record { begin = λ k x p q owns. walk.at.begin k x p (omega (arith, ints)) (subst (λ (v : ℤ). Owns c.row.store k (square_at x v)) (sym same_y) owns) ∙ same_y }
+    record {
+      begin = λ k x p q owns. walk.at.begin k x p (omega (arith, ints)) (subst (λ (v : ℤ). Owns c.row.store k (square_at x v)) (sym same_y) owns)
+          ∙ same_y;
+    }

@@ -14,7 +14,8 @@ get-y-requires c =
     let area = c.args.area.now in
     let more = c.column-test.true in
     let part = c.in_ok-id.ensures in
-    let step = column_step area _ _ c.args.store.now c.column.store c.part_after.new.store c.column.id c.in_ok-id.id (tile_at c.part_after.new.store c.in_ok-id.id).area.yhi
+    let step = column_step area _ _ c.args.store.now c.column.store c.part_after.new.store c.column.id c.in_ok-id.id
+    (tile_at c.part_after.new.store c.in_ok-id.id).area.yhi
     c.column.invariant.cutting c.column.invariant.walk (omega (arith, ints)) part.partition part.part refl in
     step.taken
 
@@ -56,8 +57,13 @@ column-preserved-then-y-area c =
     let ahead = step.ahead in
     let within = part.partition.within c.in_ok-id.id step.taken in
     let next = c.above_at-id.ensures (let branch = c.if-y-area.true in let bounds = c.requires in let from = walk.bound in omega (arith, ints)) in
-    let plane : IsSamePlane c.args.store.now c.part_after.new.store = record { partition = part.partition; stitches = part.stitches; same = λ s. part.same s ∙ c.column.invariant.plane.same s } in
-    record { plane = plane; cutting = step.cutting; walk = column_next area _ _ c.args.store.now _ _ _ yhi step walk.bound end (λ again. next) (owner_taken _ _ _ next) }
+    let plane : IsSamePlane c.args.store.now c.part_after.new.store =
+    record { partition = part.partition; stitches = part.stitches; same = λ s. part.same s ∙ c.column.invariant.plane.same s } in
+    record {
+      plane = plane;
+      cutting = step.cutting;
+      walk = column_next area _ _ c.args.store.now _ _ _ yhi step walk.bound end (λ again. next) (owner_taken _ _ _ next);
+    }
 
 pub column-preserved : goal.column-preserved
 column-preserved c =
@@ -70,8 +76,13 @@ column-preserved c =
     let step = column_step area _ _ c.args.store.now c.column.store c.part_after.new.store c.column.id c.in_ok-id.id yhi
     c.column.invariant.cutting c.column.invariant.walk (omega (arith, ints)) part.partition part.part end in
     let branch = c.if-y-area.false in
-    let plane : IsSamePlane c.args.store.now c.part_after.new.store = record { partition = part.partition; stitches = part.stitches; same = λ s. part.same s ∙ c.column.invariant.plane.same s } in
-    record { plane = plane; cutting = step.cutting; walk = column_next area _ _ c.args.store.now _ _ _ yhi step c.column.invariant.walk.bound end (λ again. absurd (omega (arith, ints))) step.taken }
+    let plane : IsSamePlane c.args.store.now c.part_after.new.store =
+    record { partition = part.partition; stitches = part.stitches; same = λ s. part.same s ∙ c.column.invariant.plane.same s } in
+    record {
+      plane = plane;
+      cutting = step.cutting;
+      walk = column_next area _ _ c.args.store.now _ _ _ yhi step c.column.invariant.walk.bound end (λ again. absurd (omega (arith, ints))) step.taken;
+    }
 
 pub column-smaller-then-y-area : goal.column-smaller-then-y-area
 column-smaller-then-y-area c =
@@ -102,4 +113,7 @@ returns-clause-at c =
     let walk = c.column.invariant.walk in
     let test = c.column-test.false in
     let same_x : to_z w64 (of_z w64 c.args.x) ≡ c.args.x = to_z-of_z w64 c.args.x c.ranges.x in
-    record { begin = λ k y p q owns. walk.at.begin k y p (omega (arith, ints)) (subst (λ (v : ℤ). Owns c.column.store k (square_at v y)) (sym same_x) owns) ∙ same_x }
+    record {
+      begin = λ k y p q owns. walk.at.begin k y p (omega (arith, ints)) (subst (λ (v : ℤ). Owns c.column.store k (square_at v y)) (sym same_x) owns)
+          ∙ same_x;
+    }

@@ -31,7 +31,12 @@ returns-then-left-right-clause-part c =
     let edge = ap (λ (t : Tile). t.area.xlo) c.get.ensures in
     let test = c.if-x-area.false in
     let left = c.in_ok-_left._left in
-    inr (left, omega (arith, ints), subst (λ (v : ℤ). IsCutAlong c.args.id left c.args.id v c.args.store.now c.split_off_left.new.store) same c.in_ok-_left.ensures.cut)
+    inr (
+      left,
+      omega (arith, ints),
+      subst (λ (v : ℤ). IsCutAlong c.args.id left c.args.id v c.args.store.now c.split_off_left.new.store) same
+          c.in_ok-_left.ensures.cut,
+    )
 
 pub returns-clause-part : goal.returns-clause-part
 returns-clause-part c =
@@ -39,4 +44,9 @@ returns-clause-part c =
     let edge = ap (λ (t : Tile). t.area.xlo) c.get.ensures in
     let test = c.if-x-area.false in
     let part = c.in_ok-part.part in
-    inr (c.args.id, omega (arith, ints), subst (λ (v : ℤ). IsCutAlong c.args.id c.args.id part v c.args.store.now c.split_along.new.store) same c.in_ok-part.ensures.cut)
+    inr (
+      c.args.id,
+      omega (arith, ints),
+      subst (λ (v : ℤ). IsCutAlong c.args.id c.args.id part v c.args.store.now c.split_along.new.store) same
+          c.in_ok-part.ensures.cut,
+    )

@@ -10,7 +10,12 @@ returns-then-get-y-clause-part c =
     let edge = ap (λ (t : Tile). t.area.ylo) c.get.ensures in
     let test = c.if-get-y.true in
     let parts = c.in_ok-parts.parts in
-    inr (parts.0, omega (arith, ints), subst (λ (v : ℤ). IsCutAcross c.args.id parts.0 parts.1 v c.args.store.now c.cut_in_two.new.store) same c.in_ok-parts.ensures.cut)
+    inr (
+      parts.0,
+      omega (arith, ints),
+      subst (λ (v : ℤ). IsCutAcross c.args.id parts.0 parts.1 v c.args.store.now c.cut_in_two.new.store) same
+          c.in_ok-parts.ensures.cut,
+    )
 
 pub returns-clause-part : goal.returns-clause-part
 returns-clause-part c =

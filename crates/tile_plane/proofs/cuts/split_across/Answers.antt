@@ -15,7 +15,8 @@ insert-requires-clause-within c =
 
 pub put-requires-clause-taken : goal.put-requires-clause-taken
 put-requires-clause-taken c = record {
-  proper = subst (λ (t : Tile). IsProper t.area) (sym (c.in_ok-upper.ensures.put.others c.args.id (λ e. c.in_ok-upper.ensures.free (subst (IsTaken c.args.store.now) e c.requires.taken))))
+  proper = subst (λ (t : Tile). IsProper t.area)
+      (sym (c.in_ok-upper.ensures.put.others c.args.id (λ e. c.in_ok-upper.ensures.free (subst (IsTaken c.args.store.now) e c.requires.taken))))
       c.requires.taken.proper;
 }
 
@@ -31,7 +32,8 @@ mend_upper_end-requires c =
     let same : y ≡ c.args.y = to_z-of_z w64 c.args.y c.ranges.y in
     let bounds = c.requires in
     let within = c.requires.partition.within c.args.id c.requires.taken in
-    let cut : IsCutAtHeight c.args.store.now c.insert.new.self c.put.new.self c.args.id c.in_ok-upper.upper c.right_at-right.result c.left_at-left.result y (to_z w64 (of_z w64 (y -ℤ pos 1)))
+    let cut : IsCutAtHeight c.args.store.now c.insert.new.self c.put.new.self c.args.id c.in_ok-upper.upper c.right_at-right.result c.left_at-left.result y
+    (to_z w64 (of_z w64 (y -ℤ pos 1)))
     c.get-tile.result c.upper_part-part.result c.lower_part-rest.result = record {
       partition = c.requires.partition;
       stitches = c.requires.stitches;
@@ -56,7 +58,8 @@ returns c =
     let same : y ≡ c.args.y = to_z-of_z w64 c.args.y c.ranges.y in
     let bounds = c.requires in
     let within = c.requires.partition.within c.args.id c.requires.taken in
-    let cut : IsCutAtHeight c.args.store.now c.insert.new.self c.put.new.self c.args.id c.in_ok-upper.upper c.right_at-right.result c.left_at-left.result y (to_z w64 (of_z w64 (y -ℤ pos 1)))
+    let cut : IsCutAtHeight c.args.store.now c.insert.new.self c.put.new.self c.args.id c.in_ok-upper.upper c.right_at-right.result c.left_at-left.result y
+    (to_z w64 (of_z w64 (y -ℤ pos 1)))
     c.get-tile.result c.upper_part-part.result c.lower_part-rest.result = record {
       partition = c.requires.partition;
       stitches = c.requires.stitches;

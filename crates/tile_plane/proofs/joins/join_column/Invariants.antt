@@ -1,16 +1,16 @@
--- The tiles have only grown, the column is tall below the tile at which the walk is, and the tile before that stays.
-use Rattle.std.proofs.Common.{pos, ◌+ℤ◌, ◌-ℤ◌}
+-- The tiles have only grown, and the column is tall below the tile at which the walk is.
+use Rattle.std.proofs.Common.{pos, ◌-ℤ◌}
 use Rattle.finite_sets.specs.Range.{extent}
 use Rattle.tile_plane.specs.Tiles.{tile_at}
-use Rattle.tile_plane.proofs.KeepLaws.{AreJoining, IsTallBelow, IsBefore}
+use Rattle.tile_plane.specs.Tall.{AreJoining}
+use Rattle.tile_plane.proofs.KeepLaws.{IsTallBelow}
 use Rattle.tile_plane.proofs.joins.join_column.Given as goal
 
 abbrev pub invariant-column : goal.invariant-column
 invariant-column l = record {
   joining : AreJoining l.initial.store l.store;
   below : IsTallBelow l.store l.x (l.ylo -ℤ pos 1) l.id;
-  before : IsBefore l.store l.before l.id;
 }
 
 abbrev pub decreases-column : goal.decreases-column
-decreases-column l = extent (tile_at l.store l.id).area.yhi (l.yhi +ℤ pos 1)
+decreases-column l = extent (tile_at l.store l.id).area.yhi l.yhi

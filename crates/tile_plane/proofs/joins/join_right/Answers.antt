@@ -29,7 +29,8 @@ remove-requires c = record {
 
 pub mend_right_end-requires : goal.mend_right_end-requires
 mend_right_end-requires c =
-    let joining : IsJoiningRight c.args.store.now c.put.new.self c.remove.new.self c.args.left c.args.right c.get-tile.result c.get-part.result c.right_whole-whole.result = record {
+    let joining : IsJoiningRight c.args.store.now c.put.new.self c.remove.new.self c.args.left c.args.right c.get-tile.result c.get-part.result
+    c.right_whole-whole.result = record {
       partition = c.requires.partition;
       stitches = c.requires.stitches;
       taken = c.requires.taken;
@@ -49,7 +50,8 @@ mend_right_end-requires c =
 
 pub returns : goal.returns
 returns c =
-    let joining : IsJoiningRight c.args.store.now c.put.new.self c.remove.new.self c.args.left c.args.right c.get-tile.result c.get-part.result c.right_whole-whole.result = record {
+    let joining : IsJoiningRight c.args.store.now c.put.new.self c.remove.new.self c.args.left c.args.right c.get-tile.result c.get-part.result
+    c.right_whole-whole.result = record {
       partition = c.requires.partition;
       stitches = c.requires.stitches;
       taken = c.requires.taken;

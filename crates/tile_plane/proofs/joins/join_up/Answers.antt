@@ -29,7 +29,8 @@ remove-requires c = record {
 
 pub mend_upper_end-requires : goal.mend_upper_end-requires
 mend_upper_end-requires c =
-    let joining : IsJoiningUp c.args.store.now c.put.new.self c.remove.new.self c.args.lower c.args.upper c.get-tile.result c.get-part.result c.up_whole-whole.result = record {
+    let joining : IsJoiningUp c.args.store.now c.put.new.self c.remove.new.self c.args.lower c.args.upper c.get-tile.result c.get-part.result
+    c.up_whole-whole.result = record {
       partition = c.requires.partition;
       stitches = c.requires.stitches;
       taken = c.requires.taken;
@@ -49,7 +50,8 @@ mend_upper_end-requires c =
 
 pub returns : goal.returns
 returns c =
-    let joining : IsJoiningUp c.args.store.now c.put.new.self c.remove.new.self c.args.lower c.args.upper c.get-tile.result c.get-part.result c.up_whole-whole.result = record {
+    let joining : IsJoiningUp c.args.store.now c.put.new.self c.remove.new.self c.args.lower c.args.upper c.get-tile.result c.get-part.result
+    c.up_whole-whole.result = record {
       partition = c.requires.partition;
       stitches = c.requires.stitches;
       taken = c.requires.taken;

@@ -1,4 +1,4 @@
-use Rattle.std.proofs.Common.{ℕ, ◌++◌, ◌∷◌, [], List, Option, w64, to_z, of_z, sym, ◌∙◌, ap, subst, arith, rules}
+use Rattle.std.proofs.Common.{ℕ, ◌++◌, ◌∷◌, [], List, Option, w64, sym, ◌∙◌, ap, subst, arith, rules}
 use Rattle.std.specs.Option.{unwrap_or}
 use Rattle.std.proofs.lemmas.Int.{ints, to_z-of_z}
 use Rattle.tile_plane.specs.declared.tiles.Tile.{Tile}
@@ -20,7 +20,8 @@ upward-init c =
 pub find-id-requires-clause-taken : goal.find-id-requires-clause-taken
 find-id-requires-clause-taken c =
     let last = owner_taken _ _ _ c.upward.invariant.on.owns in
-    let taken = hint_taken c.args.store.now c.args.hints.now c.len.result c.get-in-upward-2.result c.upward.id c.requires.hints c.get-in-upward-2.ensures.lookup last in
+    let taken = hint_taken c.args.store.now c.args.hints.now c.len.result c.get-in-upward-2.result c.upward.id c.requires.hints
+    c.get-in-upward-2.ensures.lookup last in
     subst (IsTaken c.args.store.now) (sym (c.unwrap_or-hint.ensures ∙ ap (λ (v : Option ℕ). unwrap_or v c.upward.id) c.copied.ensures)) taken
 
 pub find-id-requires-clause-inside : goal.find-id-requires-clause-inside

@@ -1,12 +1,14 @@
-use Rattle.std.proofs.Common.{◌≡◌, true, false, ℤ, ◌≤ℤ◌, ◌<ℤ◌, FitsSigned, w64, to_z, of_z, [], refl, sym, ◌∙◌, ap, arith, rules}
-use Rattle.std.specs.Int.{int_max}
+use Rattle.std.proofs.Common.{◌≡◌, true, false, ℕ, Option, ℤ, ◌≤ℤ◌, ◌<ℤ◌, FitsSigned, w64, to_z, of_z, [], refl, sym, ◌∙◌, ap, subst, arith, rules}
+use Rattle.std.specs.Int.{int_max, int_min}
+use Rattle.std.specs.Option.{unwrap_or}
 use lib.Signed.{lt_z, le_z}
-use Rattle.std.proofs.lemmas.Int.{ints, to_z-of_z}
+use Rattle.std.proofs.lemmas.Int.{ints, clamps, to_z-of_z}
 use Rattle.std.proofs.lemmas.List.{append-nil}
 use Rattle.tile_plane.specs.declared.tiles.Tile.{Tile}
-use Rattle.tile_plane.specs.Tiles.{tile_at}
+use Rattle.tile_plane.specs.Tiles.{tile_at, IsTaken}
+use Rattle.tile_plane.proofs.TileLaws.{owner_taken}
 use Rattle.tile_plane.specs.Listings.{low_row}
-use Rattle.tile_plane.proofs.FollowerLaws.{next_taken, no_followers, adding_begins, adding_goes_on, adding_passes, adding_falls, adding_ends}
+use Rattle.tile_plane.proofs.FollowerLaws.{hint_taken, next_taken, no_followers, adding_begins, adding_goes_on, adding_passes, adding_falls, adding_ends}
 use Rattle.tile_plane.proofs.listings.push_followers.Goals as goal
 use Rattle.tile_plane.proofs.listings.push_followers.Goals.{else-low-y-via-then-low-y+else-y-area, else-low-y-via-else-low-y}
 
@@ -15,6 +17,12 @@ max_in_bits : (m a b x : ℤ) → FitsSigned w64 m → FitsSigned w64 a → Fits
     → to_z w64 (of_z w64 m) ≡ int_max x b
 max_in_bits m a b x p q r is same =
     to_z-of_z w64 m p ∙ is ∙ ap (λ (z : ℤ). int_max z (to_z w64 (of_z w64 b))) (to_z-of_z w64 a q ∙ same) ∙ ap (λ (z : ℤ). int_max x z) (to_z-of_z w64 b r)
+
+-- the lesser
+min_in_bits : (m a b x : ℤ) → FitsSigned w64 m → FitsSigned w64 a → FitsSigned w64 b → m ≡ int_min (to_z w64 (of_z w64 a)) (to_z w64 (of_z w64 b)) → a ≡ x
+    → to_z w64 (of_z w64 m) ≡ int_min x b
+min_in_bits m a b x p q r is same =
+    to_z-of_z w64 m p ∙ is ∙ ap (λ (z : ℤ). int_min z (to_z w64 (of_z w64 b))) (to_z-of_z w64 a q ∙ same) ∙ ap (λ (z : ℤ). int_min x z) (to_z-of_z w64 b r)
 
 -- tests of numbers that are equal to these
 is_less : (a b x y : ℤ) → a ≡ x → b ≡ y → lt_z a b ≡ true → x <ℤ y
@@ -28,6 +36,9 @@ is_not_less a b x y p q test less = omega (arith, ints)
 
 is_not_at_most : (a b x y : ℤ) → a ≡ x → b ≡ y → le_z a b ≡ false → x ≤ℤ y → ⊥
 is_not_at_most a b x y p q test most = omega (arith, ints)
+
+is_past : (a b x y : ℤ) → a ≡ y → b ≡ x → le_z a b ≡ false → x <ℤ y
+is_past a b x y p q test = omega (arith, ints)
 
 no_more : (l low y : ℤ) → l ≡ low → lt_z l y ≡ false → y ≤ℤ low
 no_more l low y same test = omega (arith, ints)
@@ -45,17 +56,79 @@ returns-then-area-tile c =
       joined = sym (append-nil c.args.found.now.items);
     }
 
+pub right_below-next-requires-clause-taken : goal.right_below-next-requires-clause-taken
+right_below-next-requires-clause-taken c =
+    owner_taken _ _ _ c.requires.meets.owns
+
+pub right_below-next-requires-clause-hint : goal.right_below-next-requires-clause-hint
+right_below-next-requires-clause-hint c =
+    let last = owner_taken _ _ _ c.requires.meets.owns in
+    let taken = hint_taken c.args.store.now c.args.hints.now c.len.result c.get.result c.args.id c.requires.hints c.get.ensures.lookup last in
+    subst (IsTaken c.args.store.now) (sym (c.unwrap_or-hint.ensures ∙ ap (λ (v : Option ℕ). unwrap_or v c.args.id) c.copied.ensures)) taken
+
+pub right_below-next-requires-clause-inside : goal.right_below-next-requires-clause-inside
+right_below-next-requires-clause-inside c =
+    let tiles = c.args.store.now in
+    let area = c.args.area.now in
+    let edge = ap (λ (t : Tile). t.area.xhi) c.get-tile.ensures in
+    let test = c.if-area-tile.false in
+    let inside : (tile_at tiles c.args.id).area.xhi <ℤ area.xhi =
+    is_past (to_z w64 (of_z w64 area.xhi)) (to_z w64 (of_z w64 c.get-tile.result.area.xhi)) (tile_at tiles c.args.id).area.xhi area.xhi
+    (to_z-of_z w64 area.xhi (search rules)) (to_z-of_z w64 c.get-tile.result.area.xhi (search rules) ∙ edge) test in
+    let top = to_z w64 (of_z w64 c.min-top.result) in
+    let at : top ≡ int_min (tile_at tiles c.args.id).area.yhi area.yhi =
+    min_in_bits c.min-top.result c.get-tile.result.area.yhi area.yhi (tile_at tiles c.args.id).area.yhi
+    (search rules) (search rules) (search rules) c.min-top.ensures.value (ap (λ (t : Tile). t.area.yhi) c.get-tile.ensures) in
+    let near = c.requires.near.xhi.1 in
+    omega (arith, ints)
+
+pub right_below-next-requires-clause-from : goal.right_below-next-requires-clause-from
+right_below-next-requires-clause-from c =
+    let tiles = c.args.store.now in
+    let area = c.args.area.now in
+    let edge = ap (λ (t : Tile). t.area.xhi) c.get-tile.ensures in
+    let test = c.if-area-tile.false in
+    let inside : (tile_at tiles c.args.id).area.xhi <ℤ area.xhi =
+    is_past (to_z w64 (of_z w64 area.xhi)) (to_z w64 (of_z w64 c.get-tile.result.area.xhi)) (tile_at tiles c.args.id).area.xhi area.xhi
+    (to_z-of_z w64 area.xhi (search rules)) (to_z-of_z w64 c.get-tile.result.area.xhi (search rules) ∙ edge) test in
+    let top = to_z w64 (of_z w64 c.min-top.result) in
+    let at : top ≡ int_min (tile_at tiles c.args.id).area.yhi area.yhi =
+    min_in_bits c.min-top.result c.get-tile.result.area.yhi area.yhi (tile_at tiles c.args.id).area.yhi
+    (search rules) (search rules) (search rules) c.min-top.ensures.value (ap (λ (t : Tile). t.area.yhi) c.get-tile.ensures) in
+    let covers = c.requires.meets.covers in
+    let mine = c.requires.meets.owns.covers in
+    omega (arith, ints, clamps, at)
+
+pub right_below-next-requires-clause-to : goal.right_below-next-requires-clause-to
+right_below-next-requires-clause-to c =
+    let tiles = c.args.store.now in
+    let area = c.args.area.now in
+    let edge = ap (λ (t : Tile). t.area.xhi) c.get-tile.ensures in
+    let test = c.if-area-tile.false in
+    let inside : (tile_at tiles c.args.id).area.xhi <ℤ area.xhi =
+    is_past (to_z w64 (of_z w64 area.xhi)) (to_z w64 (of_z w64 c.get-tile.result.area.xhi)) (tile_at tiles c.args.id).area.xhi area.xhi
+    (to_z-of_z w64 area.xhi (search rules)) (to_z-of_z w64 c.get-tile.result.area.xhi (search rules) ∙ edge) test in
+    let top = to_z w64 (of_z w64 c.min-top.result) in
+    let at : top ≡ int_min (tile_at tiles c.args.id).area.yhi area.yhi =
+    min_in_bits c.min-top.result c.get-tile.result.area.yhi area.yhi (tile_at tiles c.args.id).area.yhi
+    (search rules) (search rules) (search rules) c.min-top.ensures.value (ap (λ (t : Tile). t.area.yhi) c.get-tile.ensures) in
+    omega (arith, ints, clamps, at)
+
 pub loop-y-init : goal.loop-y-init
 loop-y-init c =
     let tiles = c.args.store.now in
     let area = c.args.area.now in
     let edge = ap (λ (t : Tile). t.area.xhi) c.get-tile.ensures in
     let test = c.if-area-tile.false in
-    let inside : (tile_at tiles c.args.id).area.xhi <ℤ area.xhi = omega (arith, ints) in
-    let same : to_z w64 (of_z w64 c.get-tile.result.area.yhi) ≡ c.get-tile.result.area.yhi = to_z-of_z w64 c.get-tile.result.area.yhi (search rules) in
+    let inside : (tile_at tiles c.args.id).area.xhi <ℤ area.xhi =
+    is_past (to_z w64 (of_z w64 area.xhi)) (to_z w64 (of_z w64 c.get-tile.result.area.xhi)) (tile_at tiles c.args.id).area.xhi area.xhi
+    (to_z-of_z w64 area.xhi (search rules)) (to_z-of_z w64 c.get-tile.result.area.xhi (search rules) ∙ edge) test in
+    let top = to_z w64 (of_z w64 c.min-top.result) in
+    let at : top ≡ int_min (tile_at tiles c.args.id).area.yhi area.yhi =
+    min_in_bits c.min-top.result c.get-tile.result.area.yhi area.yhi (tile_at tiles c.args.id).area.yhi
+    (search rules) (search rules) (search rules) c.min-top.ensures.value (ap (λ (t : Tile). t.area.yhi) c.get-tile.ensures) in
     adding_begins tiles area c.requires.partition c.requires.stitches c.requires.near c.args.id c.requires.meets inside c.args.found.now.items
-    (to_z w64 (of_z w64 c.get-tile.result.area.yhi)) c.get-tile.result.right
-    (same ∙ ap (λ (t : Tile). t.area.yhi) c.get-tile.ensures) (ap (λ (t : Tile). t.right) c.get-tile.ensures)
+    top c.right_below-next.result at c.right_below-next.ensures
 
 pub get-follower-requires : goal.get-follower-requires
 get-follower-requires c =
@@ -64,7 +137,9 @@ get-follower-requires c =
     let edge = ap (λ (t : Tile). t.area.xhi) c.get-tile.ensures in
     let bottom = ap (λ (t : Tile). t.area.ylo) c.get-tile.ensures in
     let test = c.if-area-tile.false in
-    let inside : (tile_at tiles c.args.id).area.xhi <ℤ area.xhi = omega (arith, ints) in
+    let inside : (tile_at tiles c.args.id).area.xhi <ℤ area.xhi =
+    is_past (to_z w64 (of_z w64 area.xhi)) (to_z w64 (of_z w64 c.get-tile.result.area.xhi)) (tile_at tiles c.args.id).area.xhi area.xhi
+    (to_z-of_z w64 area.xhi (search rules)) (to_z-of_z w64 c.get-tile.result.area.xhi (search rules) ∙ edge) test in
     let low : to_z w64 (of_z w64 c.max-low.result) ≡ low_row tiles area c.args.id =
     max_in_bits c.max-low.result c.get-tile.result.area.ylo area.ylo (tile_at tiles c.args.id).area.ylo
     (search rules) (search rules) (search rules) c.max-low.ensures.value bottom in
@@ -80,7 +155,9 @@ loop-y-smaller-in_ok-push c =
     let edge = ap (λ (t : Tile). t.area.xhi) c.get-tile.ensures in
     let bottom = ap (λ (t : Tile). t.area.ylo) c.get-tile.ensures in
     let test = c.if-area-tile.false in
-    let inside : (tile_at tiles c.args.id).area.xhi <ℤ area.xhi = omega (arith, ints) in
+    let inside : (tile_at tiles c.args.id).area.xhi <ℤ area.xhi =
+    is_past (to_z w64 (of_z w64 area.xhi)) (to_z w64 (of_z w64 c.get-tile.result.area.xhi)) (tile_at tiles c.args.id).area.xhi area.xhi
+    (to_z-of_z w64 area.xhi (search rules)) (to_z-of_z w64 c.get-tile.result.area.xhi (search rules) ∙ edge) test in
     let low : to_z w64 (of_z w64 c.max-low.result) ≡ low_row tiles area c.args.id =
     max_in_bits c.max-low.result c.get-tile.result.area.ylo area.ylo (tile_at tiles c.args.id).area.ylo
     (search rules) (search rules) (search rules) c.max-low.ensures.value bottom in
@@ -101,7 +178,9 @@ loop-y-preserved-in_ok-push c =
     let edge = ap (λ (t : Tile). t.area.xhi) c.get-tile.ensures in
     let bottom = ap (λ (t : Tile). t.area.ylo) c.get-tile.ensures in
     let test = c.if-area-tile.false in
-    let inside : (tile_at tiles c.args.id).area.xhi <ℤ area.xhi = omega (arith, ints) in
+    let inside : (tile_at tiles c.args.id).area.xhi <ℤ area.xhi =
+    is_past (to_z w64 (of_z w64 area.xhi)) (to_z w64 (of_z w64 c.get-tile.result.area.xhi)) (tile_at tiles c.args.id).area.xhi area.xhi
+    (to_z-of_z w64 area.xhi (search rules)) (to_z-of_z w64 c.get-tile.result.area.xhi (search rules) ∙ edge) test in
     let low : to_z w64 (of_z w64 c.max-low.result) ≡ low_row tiles area c.args.id =
     max_in_bits c.max-low.result c.get-tile.result.area.ylo area.ylo (tile_at tiles c.args.id).area.ylo
     (search rules) (search rules) (search rules) c.max-low.ensures.value bottom in
@@ -125,7 +204,9 @@ loop-y-smaller c =
     let edge = ap (λ (t : Tile). t.area.xhi) c.get-tile.ensures in
     let bottom = ap (λ (t : Tile). t.area.ylo) c.get-tile.ensures in
     let test = c.if-area-tile.false in
-    let inside : (tile_at tiles c.args.id).area.xhi <ℤ area.xhi = omega (arith, ints) in
+    let inside : (tile_at tiles c.args.id).area.xhi <ℤ area.xhi =
+    is_past (to_z w64 (of_z w64 area.xhi)) (to_z w64 (of_z w64 c.get-tile.result.area.xhi)) (tile_at tiles c.args.id).area.xhi area.xhi
+    (to_z-of_z w64 area.xhi (search rules)) (to_z-of_z w64 c.get-tile.result.area.xhi (search rules) ∙ edge) test in
     let low : to_z w64 (of_z w64 c.max-low.result) ≡ low_row tiles area c.args.id =
     max_in_bits c.max-low.result c.get-tile.result.area.ylo area.ylo (tile_at tiles c.args.id).area.ylo
     (search rules) (search rules) (search rules) c.max-low.ensures.value bottom in
@@ -146,7 +227,9 @@ loop-y-preserved c =
     let edge = ap (λ (t : Tile). t.area.xhi) c.get-tile.ensures in
     let bottom = ap (λ (t : Tile). t.area.ylo) c.get-tile.ensures in
     let test = c.if-area-tile.false in
-    let inside : (tile_at tiles c.args.id).area.xhi <ℤ area.xhi = omega (arith, ints) in
+    let inside : (tile_at tiles c.args.id).area.xhi <ℤ area.xhi =
+    is_past (to_z w64 (of_z w64 area.xhi)) (to_z w64 (of_z w64 c.get-tile.result.area.xhi)) (tile_at tiles c.args.id).area.xhi area.xhi
+    (to_z-of_z w64 area.xhi (search rules)) (to_z-of_z w64 c.get-tile.result.area.xhi (search rules) ∙ edge) test in
     let low : to_z w64 (of_z w64 c.max-low.result) ≡ low_row tiles area c.args.id =
     max_in_bits c.max-low.result c.get-tile.result.area.ylo area.ylo (tile_at tiles c.args.id).area.ylo
     (search rules) (search rules) (search rules) c.max-low.ensures.value bottom in
@@ -172,7 +255,9 @@ returns c =
     let edge = ap (λ (t : Tile). t.area.xhi) c.get-tile.ensures in
     let bottom = ap (λ (t : Tile). t.area.ylo) c.get-tile.ensures in
     let test = c.if-area-tile.false in
-    let inside : (tile_at tiles c.args.id).area.xhi <ℤ area.xhi = omega (arith, ints) in
+    let inside : (tile_at tiles c.args.id).area.xhi <ℤ area.xhi =
+    is_past (to_z w64 (of_z w64 area.xhi)) (to_z w64 (of_z w64 c.get-tile.result.area.xhi)) (tile_at tiles c.args.id).area.xhi area.xhi
+    (to_z-of_z w64 area.xhi (search rules)) (to_z-of_z w64 c.get-tile.result.area.xhi (search rules) ∙ edge) test in
     let low : to_z w64 (of_z w64 c.max-low.result) ≡ low_row tiles area c.args.id =
     max_in_bits c.max-low.result c.get-tile.result.area.ylo area.ylo (tile_at tiles c.args.id).area.ylo
     (search rules) (search rules) (search rules) c.max-low.ensures.value bottom in

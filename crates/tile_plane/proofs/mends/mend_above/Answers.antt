@@ -19,20 +19,23 @@ leftward-init c =
 pub get-tile-requires : goal.get-tile-requires
 get-tile-requires c =
     let test = c.leftward-test.true in
-    upper_next_taken c.args.store.now c.args.area.now c.args.first c.args.id c.requires.partition c.requires.side c.leftward.store c.leftward.next (to_z w64 c.leftward.x-bits) c.leftward.invariant
+    upper_next_taken c.args.store.now c.args.area.now c.args.first c.args.id c.requires.partition c.requires.side c.leftward.store c.leftward.next
+    (to_z w64 c.leftward.x-bits) c.leftward.invariant
     (omega (arith, ints))
 
 pub set_below-requires : goal.set_below-requires
 set_below-requires c =
     let test = c.leftward-test.true in
-    upper_next_taken c.args.store.now c.args.area.now c.args.first c.args.id c.requires.partition c.requires.side c.leftward.store c.leftward.next (to_z w64 c.leftward.x-bits) c.leftward.invariant
+    upper_next_taken c.args.store.now c.args.area.now c.args.first c.args.id c.requires.partition c.requires.side c.leftward.store c.leftward.next
+    (to_z w64 c.leftward.x-bits) c.leftward.invariant
     (omega (arith, ints))
 
 pub returns-then-tile-area : goal.returns-then-tile-area
 returns-then-tile-area c =
     let test = c.leftward-test.true in
     let stop = c.if-tile-area.true in
-    upper_last c.args.store.now c.args.area.now c.args.first c.args.id c.requires.partition c.requires.side c.leftward.store c.leftward.next (to_z w64 c.leftward.x-bits)
+    upper_last c.args.store.now c.args.area.now c.args.first c.args.id c.requires.partition c.requires.side c.leftward.store c.leftward.next
+    (to_z w64 c.leftward.x-bits)
     c.get-tile.result c.leftward.invariant (omega (arith, ints)) c.get-tile.ensures (omega (arith, ints))
 
 pub leftward-preserved : goal.leftward-preserved
@@ -42,7 +45,8 @@ leftward-preserved c =
     let fits : FitsSigned w64 c.get-tile.result.area.xlo = search rules in
     let same : to_z w64 (of_z w64 c.get-tile.result.area.xlo) ≡ c.get-tile.result.area.xlo = to_z-of_z w64 c.get-tile.result.area.xlo fits in
     subst (IsMendingUpper c.args.store.now c.set_below.new.self c.args.area.now c.args.id c.get-tile.result.left) (sym same)
-    (upper_goes_on c.args.store.now c.args.area.now c.args.first c.args.id c.requires.partition c.requires.side c.leftward.store c.leftward.next (to_z w64 c.leftward.x-bits)
+    (upper_goes_on c.args.store.now c.args.area.now c.args.first c.args.id c.requires.partition c.requires.side c.leftward.store c.leftward.next
+    (to_z w64 c.leftward.x-bits)
     c.get-tile.result c.leftward.invariant (omega (arith, ints)) c.get-tile.ensures c.set_below.new.self (omega (arith, ints)) c.set_below.ensures)
 
 pub leftward-smaller : goal.leftward-smaller
@@ -50,10 +54,13 @@ leftward-smaller c =
     let test = c.leftward-test.true in
     let fits : FitsSigned w64 c.get-tile.result.area.xlo = search rules in
     let same : to_z w64 (of_z w64 c.get-tile.result.area.xlo) ≡ c.get-tile.result.area.xlo = to_z-of_z w64 c.get-tile.result.area.xlo fits in
-    subst (λ (v : ℤ). extent c.args.area.now.xlo v < extent c.args.area.now.xlo (to_z w64 c.leftward.x-bits)) (sym same) (upper_falls c.args.store.now c.args.area.now c.args.first c.args.id c.requires.partition c.requires.side c.leftward.store c.leftward.next (to_z w64 c.leftward.x-bits)
+    subst (λ (v : ℤ). extent c.args.area.now.xlo v < extent c.args.area.now.xlo (to_z w64 c.leftward.x-bits)) (sym same)
+    (upper_falls c.args.store.now c.args.area.now c.args.first c.args.id c.requires.partition c.requires.side c.leftward.store c.leftward.next
+    (to_z w64 c.leftward.x-bits)
     c.get-tile.result c.leftward.invariant (omega (arith, ints)) c.get-tile.ensures)
 
 pub returns : goal.returns
 returns c =
     let test = c.leftward-test.false in
-    upper_ends c.args.store.now c.args.area.now c.args.first c.args.id c.requires.partition c.requires.side c.leftward.store c.leftward.next (to_z w64 c.leftward.x-bits) c.leftward.invariant (omega (arith, ints))
+    upper_ends c.args.store.now c.args.area.now c.args.first c.args.id c.requires.partition c.requires.side c.leftward.store c.leftward.next
+    (to_z w64 c.leftward.x-bits) c.leftward.invariant (omega (arith, ints))

@@ -19,20 +19,23 @@ rightward-init c =
 pub get-tile-requires : goal.get-tile-requires
 get-tile-requires c =
     let test = c.rightward-test.true in
-    lower_next_taken c.args.store.now c.args.area.now c.args.first c.args.id c.requires.partition c.requires.side c.rightward.store c.rightward.next (to_z w64 c.rightward.x-bits) c.rightward.invariant
+    lower_next_taken c.args.store.now c.args.area.now c.args.first c.args.id c.requires.partition c.requires.side c.rightward.store c.rightward.next
+    (to_z w64 c.rightward.x-bits) c.rightward.invariant
     (omega (arith, ints))
 
 pub set_above-requires : goal.set_above-requires
 set_above-requires c =
     let test = c.rightward-test.true in
-    lower_next_taken c.args.store.now c.args.area.now c.args.first c.args.id c.requires.partition c.requires.side c.rightward.store c.rightward.next (to_z w64 c.rightward.x-bits) c.rightward.invariant
+    lower_next_taken c.args.store.now c.args.area.now c.args.first c.args.id c.requires.partition c.requires.side c.rightward.store c.rightward.next
+    (to_z w64 c.rightward.x-bits) c.rightward.invariant
     (omega (arith, ints))
 
 pub returns-then-area-tile : goal.returns-then-area-tile
 returns-then-area-tile c =
     let test = c.rightward-test.true in
     let stop = c.if-area-tile.true in
-    lower_last c.args.store.now c.args.area.now c.args.first c.args.id c.requires.partition c.requires.side c.rightward.store c.rightward.next (to_z w64 c.rightward.x-bits)
+    lower_last c.args.store.now c.args.area.now c.args.first c.args.id c.requires.partition c.requires.side c.rightward.store c.rightward.next
+    (to_z w64 c.rightward.x-bits)
     c.get-tile.result c.rightward.invariant (omega (arith, ints)) c.get-tile.ensures (omega (arith, ints))
 
 pub rightward-preserved : goal.rightward-preserved
@@ -42,7 +45,8 @@ rightward-preserved c =
     let fits : FitsSigned w64 c.get-tile.result.area.xhi = search rules in
     let same : to_z w64 (of_z w64 c.get-tile.result.area.xhi) ≡ c.get-tile.result.area.xhi = to_z-of_z w64 c.get-tile.result.area.xhi fits in
     subst (IsMendingLower c.args.store.now c.set_above.new.self c.args.area.now c.args.id c.get-tile.result.right) (sym same)
-    (lower_goes_on c.args.store.now c.args.area.now c.args.first c.args.id c.requires.partition c.requires.side c.rightward.store c.rightward.next (to_z w64 c.rightward.x-bits)
+    (lower_goes_on c.args.store.now c.args.area.now c.args.first c.args.id c.requires.partition c.requires.side c.rightward.store c.rightward.next
+    (to_z w64 c.rightward.x-bits)
     c.get-tile.result c.rightward.invariant (omega (arith, ints)) c.get-tile.ensures c.set_above.new.self (omega (arith, ints)) c.set_above.ensures)
 
 pub rightward-smaller : goal.rightward-smaller
@@ -50,10 +54,13 @@ rightward-smaller c =
     let test = c.rightward-test.true in
     let fits : FitsSigned w64 c.get-tile.result.area.xhi = search rules in
     let same : to_z w64 (of_z w64 c.get-tile.result.area.xhi) ≡ c.get-tile.result.area.xhi = to_z-of_z w64 c.get-tile.result.area.xhi fits in
-    subst (λ (v : ℤ). extent v c.args.area.now.xhi < extent (to_z w64 c.rightward.x-bits) c.args.area.now.xhi) (sym same) (lower_falls c.args.store.now c.args.area.now c.args.first c.args.id c.requires.partition c.requires.side c.rightward.store c.rightward.next (to_z w64 c.rightward.x-bits)
+    subst (λ (v : ℤ). extent v c.args.area.now.xhi < extent (to_z w64 c.rightward.x-bits) c.args.area.now.xhi) (sym same)
+    (lower_falls c.args.store.now c.args.area.now c.args.first c.args.id c.requires.partition c.requires.side c.rightward.store c.rightward.next
+    (to_z w64 c.rightward.x-bits)
     c.get-tile.result c.rightward.invariant (omega (arith, ints)) c.get-tile.ensures)
 
 pub returns : goal.returns
 returns c =
     let test = c.rightward-test.false in
-    lower_ends c.args.store.now c.args.area.now c.args.first c.args.id c.requires.partition c.requires.side c.rightward.store c.rightward.next (to_z w64 c.rightward.x-bits) c.rightward.invariant (omega (arith, ints))
+    lower_ends c.args.store.now c.args.area.now c.args.first c.args.id c.requires.partition c.requires.side c.rightward.store c.rightward.next
+    (to_z w64 c.rightward.x-bits) c.rightward.invariant (omega (arith, ints))

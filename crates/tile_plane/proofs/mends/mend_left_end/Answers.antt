@@ -9,7 +9,8 @@ pub mend_above-requires-clause-side : goal.mend_above-requires-clause-side
 mend_above-requires-clause-side c = above_after_left _ _ c.args.id _ _ c.mend_left.ensures c.requires.end.above
 
 pub mend_below-requires-clause-partition : goal.mend_below-requires-clause-partition
-mend_below-requires-clause-partition c = mended_partition Below _ c.args.id _ _ c.mend_above.ensures (mended_partition Right _ c.args.id _ _ c.mend_left.ensures c.requires.partition)
+mend_below-requires-clause-partition c =
+    mended_partition Below _ c.args.id _ _ c.mend_above.ensures (mended_partition Right _ c.args.id _ _ c.mend_left.ensures c.requires.partition)
 
 pub mend_below-requires-clause-side : goal.mend_below-requires-clause-side
 mend_below-requires-clause-side c = below_after_above _ c.args.id _ _ _ c.mend_left.ensures c.mend_above.ensures _ c.requires.partition c.requires.end.below

@@ -9,7 +9,8 @@ pub mend_right-requires-clause-side : goal.mend_right-requires-clause-side
 mend_right-requires-clause-side c = right_once_left _ _ c.args.id _ _ c.mend_left.ensures c.requires.end.right
 
 pub mend_below-requires-clause-partition : goal.mend_below-requires-clause-partition
-mend_below-requires-clause-partition c = mended_partition Left _ c.args.id _ _ c.mend_right.ensures (mended_partition Right _ c.args.id _ _ c.mend_left.ensures c.requires.partition)
+mend_below-requires-clause-partition c =
+    mended_partition Left _ c.args.id _ _ c.mend_right.ensures (mended_partition Right _ c.args.id _ _ c.mend_left.ensures c.requires.partition)
 
 pub mend_below-requires-clause-side : goal.mend_below-requires-clause-side
 mend_below-requires-clause-side c = below_after_sides _ c.args.id _ _ _ c.mend_left.ensures c.mend_right.ensures _ c.requires.partition c.requires.end.below

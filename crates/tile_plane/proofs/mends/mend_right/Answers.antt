@@ -19,20 +19,23 @@ downward-init c =
 pub get-tile-requires : goal.get-tile-requires
 get-tile-requires c =
     let test = c.downward-test.true in
-    right_next_taken c.args.store.now c.args.area.now c.args.first c.args.id c.requires.partition c.requires.side c.downward.store c.downward.next (to_z w64 c.downward.y-bits) c.downward.invariant
+    right_next_taken c.args.store.now c.args.area.now c.args.first c.args.id c.requires.partition c.requires.side c.downward.store c.downward.next
+    (to_z w64 c.downward.y-bits) c.downward.invariant
     (omega (arith, ints))
 
 pub set_left-requires : goal.set_left-requires
 set_left-requires c =
     let test = c.downward-test.true in
-    right_next_taken c.args.store.now c.args.area.now c.args.first c.args.id c.requires.partition c.requires.side c.downward.store c.downward.next (to_z w64 c.downward.y-bits) c.downward.invariant
+    right_next_taken c.args.store.now c.args.area.now c.args.first c.args.id c.requires.partition c.requires.side c.downward.store c.downward.next
+    (to_z w64 c.downward.y-bits) c.downward.invariant
     (omega (arith, ints))
 
 pub returns-then-tile-area : goal.returns-then-tile-area
 returns-then-tile-area c =
     let test = c.downward-test.true in
     let stop = c.if-tile-area.true in
-    right_last c.args.store.now c.args.area.now c.args.first c.args.id c.requires.partition c.requires.side c.downward.store c.downward.next (to_z w64 c.downward.y-bits)
+    right_last c.args.store.now c.args.area.now c.args.first c.args.id c.requires.partition c.requires.side c.downward.store c.downward.next
+    (to_z w64 c.downward.y-bits)
     c.get-tile.result c.downward.invariant (omega (arith, ints)) c.get-tile.ensures (omega (arith, ints))
 
 pub downward-preserved : goal.downward-preserved
@@ -42,7 +45,8 @@ downward-preserved c =
     let fits : FitsSigned w64 c.get-tile.result.area.ylo = search rules in
     let same : to_z w64 (of_z w64 c.get-tile.result.area.ylo) ≡ c.get-tile.result.area.ylo = to_z-of_z w64 c.get-tile.result.area.ylo fits in
     subst (IsMendingRight c.args.store.now c.set_left.new.self c.args.area.now c.args.id c.get-tile.result.below) (sym same)
-    (right_goes_on c.args.store.now c.args.area.now c.args.first c.args.id c.requires.partition c.requires.side c.downward.store c.downward.next (to_z w64 c.downward.y-bits)
+    (right_goes_on c.args.store.now c.args.area.now c.args.first c.args.id c.requires.partition c.requires.side c.downward.store c.downward.next
+    (to_z w64 c.downward.y-bits)
     c.get-tile.result c.downward.invariant (omega (arith, ints)) c.get-tile.ensures c.set_left.new.self (omega (arith, ints)) c.set_left.ensures)
 
 pub downward-smaller : goal.downward-smaller
@@ -50,10 +54,13 @@ downward-smaller c =
     let test = c.downward-test.true in
     let fits : FitsSigned w64 c.get-tile.result.area.ylo = search rules in
     let same : to_z w64 (of_z w64 c.get-tile.result.area.ylo) ≡ c.get-tile.result.area.ylo = to_z-of_z w64 c.get-tile.result.area.ylo fits in
-    subst (λ (v : ℤ). extent c.args.area.now.ylo v < extent c.args.area.now.ylo (to_z w64 c.downward.y-bits)) (sym same) (right_falls c.args.store.now c.args.area.now c.args.first c.args.id c.requires.partition c.requires.side c.downward.store c.downward.next (to_z w64 c.downward.y-bits)
+    subst (λ (v : ℤ). extent c.args.area.now.ylo v < extent c.args.area.now.ylo (to_z w64 c.downward.y-bits)) (sym same)
+    (right_falls c.args.store.now c.args.area.now c.args.first c.args.id c.requires.partition c.requires.side c.downward.store c.downward.next
+    (to_z w64 c.downward.y-bits)
     c.get-tile.result c.downward.invariant (omega (arith, ints)) c.get-tile.ensures)
 
 pub returns : goal.returns
 returns c =
     let test = c.downward-test.false in
-    right_ends c.args.store.now c.args.area.now c.args.first c.args.id c.requires.partition c.requires.side c.downward.store c.downward.next (to_z w64 c.downward.y-bits) c.downward.invariant (omega (arith, ints))
+    right_ends c.args.store.now c.args.area.now c.args.first c.args.id c.requires.partition c.requires.side c.downward.store c.downward.next
+    (to_z w64 c.downward.y-bits) c.downward.invariant (omega (arith, ints))

@@ -9,7 +9,8 @@ pub mend_below-requires-clause-side : goal.mend_below-requires-clause-side
 mend_below-requires-clause-side c = below_after_right _ _ c.args.id _ _ c.mend_right.ensures c.requires.end.below
 
 pub mend_above-requires-clause-partition : goal.mend_above-requires-clause-partition
-mend_above-requires-clause-partition c = mended_partition Above _ c.args.id _ _ c.mend_below.ensures (mended_partition Left _ c.args.id _ _ c.mend_right.ensures c.requires.partition)
+mend_above-requires-clause-partition c =
+    mended_partition Above _ c.args.id _ _ c.mend_below.ensures (mended_partition Left _ c.args.id _ _ c.mend_right.ensures c.requires.partition)
 
 pub mend_above-requires-clause-side : goal.mend_above-requires-clause-side
 mend_above-requires-clause-side c = above_after_below _ c.args.id _ _ _ c.mend_right.ensures c.mend_below.ensures _ c.requires.partition c.requires.end.above

@@ -9,7 +9,8 @@ pub mend_left-requires-clause-side : goal.mend_left-requires-clause-side
 mend_left-requires-clause-side c = left_after_above _ _ c.args.id _ _ c.mend_above.ensures c.requires.end.left
 
 pub mend_right-requires-clause-partition : goal.mend_right-requires-clause-partition
-mend_right-requires-clause-partition c = mended_partition Right _ c.args.id _ _ c.mend_left.ensures (mended_partition Below _ c.args.id _ _ c.mend_above.ensures c.requires.partition)
+mend_right-requires-clause-partition c =
+    mended_partition Right _ c.args.id _ _ c.mend_left.ensures (mended_partition Below _ c.args.id _ _ c.mend_above.ensures c.requires.partition)
 
 pub mend_right-requires-clause-side : goal.mend_right-requires-clause-side
 mend_right-requires-clause-side c = right_after_left _ c.args.id _ _ _ c.mend_above.ensures c.mend_left.ensures _ c.requires.partition c.requires.end.right

@@ -19,5 +19,6 @@ returns c =
     let top = c.requires.inside in
     let within = c.requires.partition.within c.args.id c.requires.taken in
     let inside : Covers plane_range (square_at x y) = omega (arith, ints) in
-    let above : Owns tiles c.above_at.result (square_at x y) = subst (λ (v : ℤ). Covers plane_range (square_at v y) → Owns tiles c.above_at.result (square_at v y)) same c.above_at.ensures inside in
+    let above : Owns tiles c.above_at.result (square_at x y) =
+    subst (λ (v : ℤ). Covers plane_range (square_at v y) → Owns tiles c.above_at.result (square_at v y)) same c.above_at.ensures inside in
     subst (λ (v : ℤ). Owns tiles c.above_at.result (square_at x v)) ends above

@@ -9,7 +9,8 @@ pub cut_along-requires-clause-taken : goal.cut_along-requires-clause-taken
 cut_along-requires-clause-taken c = c.in_ok-_high.ensures.nothing_else.stays c.in_ok-low.low c.in_ok-low.ensures.taken
 
 pub cut_along-requires-2-clause-taken : goal.cut_along-requires-2-clause-taken
-cut_along-requires-2-clause-taken c = c.in_ok-_right.ensures.nothing_else.stays c.in_ok-low.low (c.in_ok-_high.ensures.nothing_else.stays c.in_ok-low.low c.in_ok-low.ensures.taken)
+cut_along-requires-2-clause-taken c = c.in_ok-_right.ensures.nothing_else.stays c.in_ok-low.low
+    (c.in_ok-_high.ensures.nothing_else.stays c.in_ok-low.low c.in_ok-low.ensures.taken)
 
 pub returns-clause-same : goal.returns-clause-same
 returns-clause-same c = λ s. c.in_ok-first.ensures.same s ∙ c.in_ok-_right.ensures.same s ∙ c.in_ok-_high.ensures.same s ∙ c.in_ok-low.ensures.same s
@@ -39,8 +40,10 @@ returns-clause-state c =
     let at_right : AreCutAlongAt three area.xhi area.ylo area.yhi = subst (λ (v : ℤ). AreCutAlongAt three v area.ylo area.yhi) same_right right.at in
     let at_left : AreCutAlongAt four area.xlo area.ylo area.yhi = subst (λ (v : ℤ). AreCutAlongAt four v area.ylo area.yhi) same_left left.at in
     opened area two three four c.requires.proper high.partition right.partition left.partition
-    (λ h. across_wide area area.yhi one two high.partition high.cut only_high h (across_wide area area.ylo old one low.partition low.cut only_low h (c.requires.wide h)))
-    (across_at area area.yhi one two high.partition high.cut only_high area.ylo area.xlo area.xhi at_low) at_high right.cut only_right at_right left.cut only_left at_left
+    (λ h. across_wide area area.yhi one two high.partition high.cut only_high h
+    (across_wide area area.ylo old one low.partition low.cut only_low h (c.requires.wide h)))
+    (across_at area area.yhi one two high.partition high.cut only_high area.ylo area.xlo area.xhi at_low) at_high right.cut only_right at_right left.cut
+    only_left at_left
 
 pub returns-clause-kept : goal.returns-clause-kept
 returns-clause-kept c =
@@ -66,6 +69,7 @@ returns-clause-kept c =
     let tall = c.requires.proper.high in
     kept_then area old three four
     (kept_then area old two three
-    (kept_then area old one two (across_kept area area.ylo old one low.partition low.cut only_low (omega (arith, ints)) (omega (arith, ints))) (across_kept area area.yhi one two high.partition high.cut only_high (omega (arith, ints)) (omega (arith, ints))))
+    (kept_then area old one two (across_kept area area.ylo old one low.partition low.cut only_low (omega (arith, ints)) (omega (arith, ints)))
+    (across_kept area area.yhi one two high.partition high.cut only_high (omega (arith, ints)) (omega (arith, ints))))
     (along_kept area area.xhi two three high.partition right.partition right.cut only_right (omega (arith, ints)) (omega (arith, ints))))
     (along_kept area area.xlo three four right.partition left.partition left.cut only_left (omega (arith, ints)) (omega (arith, ints)))

@@ -6,7 +6,8 @@ use Rattle.tile_plane.proofs.FillLaws.{fill_reach, fill_next, fill_on, fill_near
 use Rattle.tile_plane.proofs.pieces.fill_band.Goals as goal
 
 pub take_right-requires-clause-reach : goal.take_right-requires-clause-reach
-take_right-requires-clause-reach c = λ k owns. fill_reach c.args.band.now c.in_ok-id.id c.args.store.now c.row.store c.requires.proper c.requires.near c.requires.free c.row.invariant k owns
+take_right-requires-clause-reach c = λ k owns. fill_reach c.args.band.now c.in_ok-id.id c.args.store.now c.row.store c.requires.proper c.requires.near
+    c.requires.free c.row.invariant k owns
 
 pub row-preserved : goal.row-preserved
 row-preserved c =
@@ -18,7 +19,8 @@ row-preserved c =
     let more : (tile_at now id).area.xhi <ℤ band.area.xhi = omega (arith, ints) in
     let next = fill_next band id c.args.store.now now c.requires.proper c.requires.near c.requires.free c.row.invariant more in
     let made = c.in_ok-take_right.ensures in
-    fill_on band id c.args.store.now now c.requires.proper c.requires.near c.requires.free c.row.invariant next.0 more next.1 c.take_right.new.store made.partition made.stitches (made.laid next.0 next.1)
+    fill_on band id c.args.store.now now c.requires.proper c.requires.near c.requires.free c.row.invariant next.0 more next.1 c.take_right.new.store
+    made.partition made.stitches (made.laid next.0 next.1)
 
 pub row-smaller : goal.row-smaller
 row-smaller c =
@@ -30,7 +32,8 @@ row-smaller c =
     let more : (tile_at now id).area.xhi <ℤ band.area.xhi = omega (arith, ints) in
     let next = fill_next band id c.args.store.now now c.requires.proper c.requires.near c.requires.free c.row.invariant more in
     let made = c.in_ok-take_right.ensures in
-    fill_nearer band id c.args.store.now now c.requires.proper c.requires.near c.requires.free c.row.invariant next.0 more next.1 c.take_right.new.store (made.laid next.0 next.1)
+    fill_nearer band id c.args.store.now now c.requires.proper c.requires.near c.requires.free c.row.invariant next.0 more next.1 c.take_right.new.store
+    (made.laid next.0 next.1)
 
 pub returns-clause-laid : goal.returns-clause-laid
 returns-clause-laid c =

@@ -28,7 +28,8 @@ returns-clause-tall c =
     let right : to_z w64 (of_z w64 area.xhi) ≡ area.xhi = to_z-of_z w64 area.xhi (search rules) in
     let begin : to_z w64 (of_z w64 area.xlo) ≡ area.xlo = to_z-of_z w64 area.xlo (search rules) in
     let left : to_z w64 (of_z w64 (to_z w64 (of_z w64 area.xlo) -ℤ pos 1)) ≡ area.xlo -ℤ pos 1 = omega (arith, ints) in
-    columns_tall area one two three c.join_column-left.ensures.partition c.join_column-first.ensures.partition c.join_column-left.ensures.grown c.join_column-first.ensures.grown
+    columns_tall area one two three c.join_column-left.ensures.partition c.join_column-first.ensures.partition c.join_column-left.ensures.grown
+    c.join_column-first.ensures.grown
     (λ y from to. subst (λ (v : ℤ). IsTallAt one v y) right (c.join_column-right.ensures.tall y (omega (arith, ints)) (omega (arith, ints))))
     (λ y from to. subst (λ (v : ℤ). IsTallAt two v y) left (c.join_column-left.ensures.tall y (omega (arith, ints)) (omega (arith, ints))))
     (λ y from to. subst (λ (v : ℤ). IsTallAt three v y) begin (c.join_column-first.ensures.tall y (omega (arith, ints)) (omega (arith, ints))))

@@ -17,7 +17,8 @@ pub returns-then-get-band-clause-laid : goal.returns-then-get-band-clause-laid
 returns-then-get-band-clause-laid c = λ k owns.
     let tiles = c.args.store.now in
     let value = ap (λ (t : Tile). t.value) c.get.ensures in
-    subst (λ (v : ℕ). IsLaidLeft c.args.band.now (tile_at tiles c.args.id) (tile_at tiles v) c.args.id tiles tiles) (c.requires.partition.one c.left_of-left.result k _ c.left_of-left.ensures owns)
+    subst (λ (v : ℕ). IsLaidLeft c.args.band.now (tile_at tiles c.args.id) (tile_at tiles v) c.args.id tiles tiles)
+    (c.requires.partition.one c.left_of-left.result k _ c.left_of-left.ensures owns)
     (none_left c.args.band.now c.args.id c.left_of-left.result tiles c.requires.of_band (λ same. c.if-get-band.true (value ∙ same)))
 
 pub set_part-requires-clause-taken : goal.set_part-requires-clause-taken
@@ -26,7 +27,8 @@ set_part-requires-clause-taken c = owner_taken c.args.store.now c.left_of-left.r
 pub join_right-requires : goal.join_right-requires
 join_right-requires c =
     let made = c.in_ok-part.ensures in
-    let both = to_join_left c.args.band.now c.args.id c.left_of-left.result c.in_ok-part.part c.args.store.now c.set_part.new.store c.requires.partition c.requires.taken c.requires.of_band
+    let both = to_join_left c.args.band.now c.args.id c.left_of-left.result c.in_ok-part.part c.args.store.now c.set_part.new.store c.requires.partition
+    c.requires.taken c.requires.of_band
     (c.requires.reach c.left_of-left.result c.left_of-left.ensures) made.laid c.left_of-left.ensures in
     record {
       partition = made.partition;
@@ -47,5 +49,6 @@ returns-clause-laid c = λ k owns.
     let value = ap (λ (t : Tile). t.value) c.get.ensures in
     let laid = taken_left c.args.band.now c.args.id left c.in_ok-part.part old c.set_part.new.store c.requires.partition c.requires.taken c.requires.of_band
     (c.requires.reach left c.left_of-left.ensures) c.in_ok-part.ensures.laid c.left_of-left.ensures new c.join_right.ensures.joined in
-    subst (λ (v : ℕ). IsLaidLeft c.args.band.now (tile_at old c.args.id) (tile_at old v) c.in_ok-part.part old new) (c.requires.partition.one left k _ c.left_of-left.ensures owns)
+    subst (λ (v : ℕ). IsLaidLeft c.args.band.now (tile_at old c.args.id) (tile_at old v) c.in_ok-part.part old new)
+    (c.requires.partition.one left k _ c.left_of-left.ensures owns)
     ((tile_at old left).area.xlo, inr (refl, sym value ∙ c.if-get-band.false), laid)

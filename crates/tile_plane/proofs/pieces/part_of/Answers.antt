@@ -23,5 +23,6 @@ returns-clause-laid c =
     let from : IsCutFrom c.args.id rest y old mid = cut_from old mid c.args.id rest y (omega (arith, ints)) is in
     let ends = c.in_ok-part.ensures in
     let cut : IsTileCut rest top mid new = subst (λ (v : ℤ). IsTileCut rest v mid new) same_top ends.cut in
-    let area : (tile_at new part).area ≡ record (tile_at mid rest).area { yhi = top } = subst (λ (v : ℤ). (tile_at new part).area ≡ record (tile_at mid rest).area { yhi = v }) same_top ends.area in
+    let area : (tile_at new part).area ≡ record (tile_at mid rest).area { yhi = top } =
+    subst (λ (v : ℤ). (tile_at new part).area ≡ record (tile_at mid rest).area { yhi = v }) same_top ends.area in
     laid_cut old mid new c.args.id rest part y top ends.partition c.requires.taken c.requires.from order up from.cut from.area from.value cut area ends.value

@@ -3,7 +3,8 @@ use Rattle.tile_plane.proofs.pieces.set_band.Goals as goal
 
 pub join_left_of-requires-clause-reach : goal.join_left_of-requires-clause-reach
 join_left_of-requires-clause-reach c =
-    left_reach c.args.band.now c.in_ok-id.id c.args.store.now c.fill_band.new.store c.requires.partition c.in_ok-id.ensures.partition c.requires.proper c.requires.near c.requires.free c.in_ok-id.ensures.laid
+    left_reach c.args.band.now c.in_ok-id.id c.args.store.now c.fill_band.new.store c.requires.partition c.in_ok-id.ensures.partition c.requires.proper
+    c.requires.near c.requires.free c.in_ok-id.ensures.laid
 
 pub join_right_of-requires : goal.join_right_of-requires
 join_right_of-requires c =
@@ -30,5 +31,6 @@ returns-clause-laid c =
     let know = c.requires in
     let filled = c.in_ok-id.ensures in
     let left = c.in_ok-whole.ensures in
-    band_is_laid c.args.band.now c.in_ok-id.id c.args.store.now c.fill_band.new.store know.partition filled.partition know.proper know.near know.free filled.laid c.in_ok-whole.whole c.join_left_of.new.store left.partition left.laid
+    band_is_laid c.args.band.now c.in_ok-id.id c.args.store.now c.fill_band.new.store know.partition filled.partition know.proper know.near know.free
+    filled.laid c.in_ok-whole.whole c.join_left_of.new.store left.partition left.laid
     c.join_right_of.new.store c.in_ok-join_right_of.ensures.laid

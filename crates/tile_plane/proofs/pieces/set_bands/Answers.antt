@@ -96,7 +96,8 @@ above_of-id-requires-clause-taken c =
     let is = c.lowest_band-band.ensures in
     let new = c.set_band.new.store in
     let made = c.in_ok-id.ensures in
-    walk_taken piece rest c.bands.id old now c.requires.proper c.requires.near walk more band is.band is.above is.within is.high c.in_ok-id.id new made.partition made.laid
+    walk_taken piece rest c.bands.id old now c.requires.proper c.requires.near walk more band is.band is.above is.within is.high c.in_ok-id.id new
+    made.partition made.laid
 
 pub above_of-id-requires-clause-from : goal.above_of-id-requires-clause-from
 above_of-id-requires-clause-from c =
@@ -111,7 +112,8 @@ above_of-id-requires-clause-from c =
     let is = c.lowest_band-band.ensures in
     let new = c.set_band.new.store in
     let made = c.in_ok-id.ensures in
-    (walk_whole piece rest c.bands.id old now c.requires.proper c.requires.near walk more band is.band is.above is.within is.high c.in_ok-id.id new made.partition made.laid).from
+    (walk_whole piece rest c.bands.id old now c.requires.proper c.requires.near walk more band is.band is.above is.within is.high c.in_ok-id.id new
+    made.partition made.laid).from
 
 pub above_of-id-requires-clause-to : goal.above_of-id-requires-clause-to
 above_of-id-requires-clause-to c =
@@ -126,7 +128,8 @@ above_of-id-requires-clause-to c =
     let is = c.lowest_band-band.ensures in
     let new = c.set_band.new.store in
     let made = c.in_ok-id.ensures in
-    (walk_whole piece rest c.bands.id old now c.requires.proper c.requires.near walk more band is.band is.above is.within is.high c.in_ok-id.id new made.partition made.laid).to
+    (walk_whole piece rest c.bands.id old now c.requires.proper c.requires.near walk more band is.band is.above is.within is.high c.in_ok-id.id new
+    made.partition made.laid).to
 
 pub bands-preserved-then-rest : goal.bands-preserved-then-rest
 bands-preserved-then-rest c =
@@ -142,7 +145,9 @@ bands-preserved-then-rest c =
     let new = c.set_band.new.store in
     let made = c.in_ok-id.ensures in
     let next = c.above_of-id.result in
-    walk_on piece rest c.bands.id old now c.requires.proper c.requires.near walk more band is.band is.above is.within is.high c.in_ok-id.id new made.partition made.laid next c.above_band-rest.result c.above_band-rest.ensures made.stitches (owner_taken new next _ c.above_of-id.ensures) (λ less. c.above_of-id.ensures)
+    walk_on piece rest c.bands.id old now c.requires.proper c.requires.near walk more band is.band is.above is.within is.high c.in_ok-id.id new made.partition
+    made.laid next c.above_band-rest.result c.above_band-rest.ensures made.stitches (owner_taken new next _ c.above_of-id.ensures)
+    (λ less. c.above_of-id.ensures)
 
 pub bands-preserved : goal.bands-preserved
 bands-preserved c =
@@ -159,7 +164,10 @@ bands-preserved c =
     let made = c.in_ok-id.ensures in
     let done = c.if-rest.false in
     let none : c.above_band-rest.result.area.yhi ≤ℤ c.above_band-rest.result.area.ylo = omega (arith, ints) in
-    walk_on piece rest c.bands.id old now c.requires.proper c.requires.near walk more band is.band is.above is.within is.high c.in_ok-id.id new made.partition made.laid c.in_ok-id.id c.above_band-rest.result c.above_band-rest.ensures made.stitches (walk_taken piece rest c.bands.id old now c.requires.proper c.requires.near walk more band is.band is.above is.within is.high c.in_ok-id.id new made.partition made.laid) (λ less. absurd (omega (arith, ints)))
+    walk_on piece rest c.bands.id old now c.requires.proper c.requires.near walk more band is.band is.above is.within is.high c.in_ok-id.id new made.partition
+    made.laid c.in_ok-id.id c.above_band-rest.result c.above_band-rest.ensures made.stitches
+    (walk_taken piece rest c.bands.id old now c.requires.proper c.requires.near walk more band is.band is.above is.within is.high c.in_ok-id.id new
+    made.partition made.laid) (λ less. absurd (omega (arith, ints)))
 
 pub returns-clause-banded : goal.returns-clause-banded
 returns-clause-banded c =

@@ -24,7 +24,8 @@ returns-clause-strips c =
     let y' = near.yhi in
     let inside : LiesWithin piece.area plane_range = omega (arith, ints) in
     let banded : IsBanded piece old set = banded_after piece old cut set made.same made.kept bands.banded in
-    strips_again piece old set c.requires.partition bands.partition c.requires.strips banded inside c.join_columns-id.new.store c.requires.proper joined.partition joined.grown joined.tall
+    strips_again piece old set c.requires.partition bands.partition c.requires.strips banded inside c.join_columns-id.new.store c.requires.proper
+    joined.partition joined.grown joined.tall
 
 pub returns-clause-set : goal.returns-clause-set
 returns-clause-set c =

@@ -15,7 +15,8 @@ set_part-requires-clause-taken c = owner_taken c.args.store.now c.right_of-next.
 pub join_right-requires : goal.join_right-requires
 join_right-requires c =
     let made = c.in_ok-part.ensures in
-    let both = to_join_right c.args.band.now c.args.id c.right_of-next.result c.in_ok-part.part c.args.store.now c.set_part.new.store c.requires.partition c.requires.taken c.requires.of_band
+    let both = to_join_right c.args.band.now c.args.id c.right_of-next.result c.in_ok-part.part c.args.store.now c.set_part.new.store c.requires.partition
+    c.requires.taken c.requires.of_band
     (c.requires.reach c.right_of-next.result c.right_of-next.ensures) made.laid c.right_of-next.ensures in
     record {
       partition = made.partition;
@@ -35,4 +36,5 @@ returns-clause-laid c = λ k owns.
     let made = c.in_ok-part.ensures in
     let laid = taken_right c.args.band.now c.args.id next c.in_ok-part.part old c.set_part.new.store c.requires.partition c.requires.taken c.requires.of_band
     (c.requires.reach next c.right_of-next.ensures) made.laid c.right_of-next.ensures c.join_right.new.store c.join_right.ensures.joined in
-    subst (λ (v : ℕ). IsLaid (record (tile_at old c.args.id).area { xhi = (tile_at old v).area.xhi }) c.args.band.now.value c.args.id old c.join_right.new.store) (c.requires.partition.one next k _ c.right_of-next.ensures owns) laid
+    subst (λ (v : ℕ). IsLaid (record (tile_at old c.args.id).area { xhi = (tile_at old v).area.xhi }) c.args.band.now.value c.args.id old
+    c.join_right.new.store) (c.requires.partition.one next k _ c.right_of-next.ensures owns) laid

@@ -13,7 +13,8 @@ rightward-init c =
     let same : x ≡ c.args.x = to_z-of_z w64 c.args.x c.ranges.x in
     let bounds = c.requires in
     record {
-      walk = rw c.get-tile.ensures (below_begins c.args.store.now c.args.id x c.requires.partition c.requires.stitches c.requires.taken (omega (arith, ints)) (omega (arith, ints))
+      walk = rw c.get-tile.ensures (below_begins c.args.store.now c.args.id x c.requires.partition c.requires.stitches c.requires.taken (omega (arith, ints))
+          (omega (arith, ints))
           (omega (arith, ints)));
       other = c.right_or_self-other.ensures;
     }

@@ -31,7 +31,8 @@ rightward-smaller c =
     let beside : Owns c.args.store.now c.right_at-id.result (square_at (tile_at c.args.store.now c.rightward.id).area.xhi y) =
     c.right_at-id.ensures (let inside = c.requires.inside in omega (arith, ints)) in
     let covers = beside.covers in
-    extent_falls (tile_at c.args.store.now c.rightward.id).area.xhi (tile_at c.args.store.now c.right_at-id.result).area.xhi (c.args.square.x +ℤ pos 1) (omega (arith, ints)) (omega (arith, ints))
+    extent_falls (tile_at c.args.store.now c.rightward.id).area.xhi (tile_at c.args.store.now c.right_at-id.result).area.xhi (c.args.square.x +ℤ pos 1)
+    (omega (arith, ints)) (omega (arith, ints))
 
 pub leftward-preserved : goal.leftward-preserved
 leftward-preserved c =
@@ -57,7 +58,8 @@ leftward-smaller c =
     let beside : Owns c.args.store.now c.left_at-id.result (square_at ((tile_at c.args.store.now c.leftward.id).area.xlo -ℤ pos 1) y) =
     c.left_at-id.ensures (let inside = c.requires.inside in omega (arith, ints)) in
     let covers = beside.covers in
-    extent_falls_down c.args.square.x (tile_at c.args.store.now c.left_at-id.result).area.xlo (tile_at c.args.store.now c.leftward.id).area.xlo (omega (arith, ints)) (omega (arith, ints))
+    extent_falls_down c.args.square.x (tile_at c.args.store.now c.left_at-id.result).area.xlo (tile_at c.args.store.now c.leftward.id).area.xlo
+    (omega (arith, ints)) (omega (arith, ints))
 
 pub returns : goal.returns
 returns c =

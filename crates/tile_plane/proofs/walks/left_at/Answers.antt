@@ -12,8 +12,33 @@ upward-init c =
     let y = to_z w64 (of_z w64 c.args.y) in
     let same : y ≡ c.args.y = to_z-of_z w64 c.args.y c.ranges.y in
     let bounds = c.requires in
-    rw c.get-tile.ensures (left_begins c.args.store.now c.args.id y c.requires.partition c.requires.stitches c.requires.taken (omega (arith, ints)) (omega (arith, ints))
-    (omega (arith, ints)))
+    record {
+      walk = rw c.get-tile.ensures (left_begins c.args.store.now c.args.id y c.requires.partition c.requires.stitches c.requires.taken (omega (arith, ints))
+          (omega (arith, ints))
+          (omega (arith, ints)));
+      other = c.above_or_self-other.ensures;
+    }
+
+pub step_across-requires-clause-inside : goal.step_across-requires-clause-inside
+step_across-requires-clause-inside c =
+    let end = ap (λ (t : Tile). t.area.xlo) c.get-tile.ensures in
+    let test = c.if-tile.false in
+    let y = to_z w64 (of_z w64 c.args.y) in
+    let same : y ≡ c.args.y = to_z-of_z w64 c.args.y c.ranges.y in
+    let bounds = c.requires in
+    let within = c.requires.partition.within c.args.id c.requires.taken in
+    let proper = c.requires.taken.proper in
+    omega (arith, ints)
+
+pub returns-in_default : goal.returns-in_default
+returns-in_default c =
+    let end = ap (λ (t : Tile). t.area.xlo) c.get-tile.ensures in
+    let test = c.if-tile.false in
+    let y = to_z w64 (of_z w64 c.args.y) in
+    let same : y ≡ c.args.y = to_z-of_z w64 c.args.y c.ranges.y in
+    let within = c.requires.partition.within c.args.id c.requires.taken in
+    let covers = c.in_default.ensures.covers in
+    λ inside. omega (arith, ints)
 
 pub upward-preserved : goal.upward-preserved
 upward-preserved c =
@@ -26,8 +51,8 @@ upward-preserved c =
     let goes_on = c.upward-test.true in
     let past : (tile_at c.args.store.now c.upward.next).area.yhi ≤ℤ y = omega (arith, ints) in
     let next = left_goes_on c.args.store.now c.args.id y c.requires.partition c.requires.stitches c.requires.taken (omega (arith, ints)) (omega (arith, ints))
-    (omega (arith, ints)) c.upward.next c.upward.invariant past in
-    rw c.get-next.ensures next
+    (omega (arith, ints)) c.upward.next c.upward.invariant.walk past in
+    record { walk = rw c.get-next.ensures next; other = c.in-Some.ensures }
 
 pub upward-smaller : goal.upward-smaller
 upward-smaller c =
@@ -40,7 +65,7 @@ upward-smaller c =
     let goes_on = c.upward-test.true in
     let past : (tile_at c.args.store.now c.upward.next).area.yhi ≤ℤ y = omega (arith, ints) in
     let nearer = left_nearer c.args.store.now c.args.id y c.requires.partition c.requires.stitches c.requires.taken (omega (arith, ints)) (omega (arith, ints))
-    (omega (arith, ints)) c.upward.next c.upward.invariant past in
+    (omega (arith, ints)) c.upward.next c.upward.invariant.walk past in
     rw c.get-next.ensures nearer
 
 pub returns : goal.returns
@@ -49,6 +74,6 @@ returns c =
     let y = to_z w64 (of_z w64 c.args.y) in
     let same : y ≡ c.args.y = to_z-of_z w64 c.args.y c.ranges.y in
     let test = c.upward-test.false in
-    let way = c.upward.invariant in
+    let way = c.upward.invariant.walk in
     let covers = way.owns.covers in
     λ inside. omega (arith, ints)

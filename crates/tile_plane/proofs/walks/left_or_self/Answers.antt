@@ -9,4 +9,5 @@ pub returns : goal.returns
 returns c =
     let end = ap (λ (t : Tile). t.area.xlo) c.get-tile.ensures in
     let test = c.if-tile.false in
-    rw c.get-tile.ensures (owner_taken _ _ _ (next_left c.args.store.now c.args.id c.requires.partition c.requires.stitches c.requires.taken (omega (arith, ints))))
+    rw c.get-tile.ensures (owner_taken _ _ _
+    (next_left c.args.store.now c.args.id c.requires.partition c.requires.stitches c.requires.taken (omega (arith, ints))))

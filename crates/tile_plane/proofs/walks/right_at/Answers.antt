@@ -12,8 +12,33 @@ downward-init c =
     let y = to_z w64 (of_z w64 c.args.y) in
     let same : y ≡ c.args.y = to_z-of_z w64 c.args.y c.ranges.y in
     let bounds = c.requires in
-    rw c.get-tile.ensures (right_begins c.args.store.now c.args.id y c.requires.partition c.requires.stitches c.requires.taken (omega (arith, ints)) (omega (arith, ints))
-    (omega (arith, ints)))
+    record {
+      walk = rw c.get-tile.ensures (right_begins c.args.store.now c.args.id y c.requires.partition c.requires.stitches c.requires.taken (omega (arith, ints))
+          (omega (arith, ints))
+          (omega (arith, ints)));
+      other = c.below_or_self-other.ensures;
+    }
+
+pub step_across-requires-clause-inside : goal.step_across-requires-clause-inside
+step_across-requires-clause-inside c =
+    let end = ap (λ (t : Tile). t.area.xhi) c.get-tile.ensures in
+    let test = c.if-tile-ge-PLANE_EDGE.false in
+    let y = to_z w64 (of_z w64 c.args.y) in
+    let same : y ≡ c.args.y = to_z-of_z w64 c.args.y c.ranges.y in
+    let bounds = c.requires in
+    let within = c.requires.partition.within c.args.id c.requires.taken in
+    let proper = c.requires.taken.proper in
+    omega (arith, ints)
+
+pub returns-in_default : goal.returns-in_default
+returns-in_default c =
+    let end = ap (λ (t : Tile). t.area.xhi) c.get-tile.ensures in
+    let test = c.if-tile-ge-PLANE_EDGE.false in
+    let y = to_z w64 (of_z w64 c.args.y) in
+    let same : y ≡ c.args.y = to_z-of_z w64 c.args.y c.ranges.y in
+    let within = c.requires.partition.within c.args.id c.requires.taken in
+    let covers = c.in_default.ensures.covers in
+    λ inside. omega (arith, ints)
 
 pub downward-preserved : goal.downward-preserved
 downward-preserved c =
@@ -26,8 +51,8 @@ downward-preserved c =
     let goes_on = c.downward-test.true in
     let past : y <ℤ (tile_at c.args.store.now c.downward.next).area.ylo = omega (arith, ints) in
     let next = right_goes_on c.args.store.now c.args.id y c.requires.partition c.requires.stitches c.requires.taken (omega (arith, ints)) (omega (arith, ints))
-    (omega (arith, ints)) c.downward.next c.downward.invariant past in
-    rw c.get-next.ensures next
+    (omega (arith, ints)) c.downward.next c.downward.invariant.walk past in
+    record { walk = rw c.get-next.ensures next; other = c.in-Some.ensures }
 
 pub downward-smaller : goal.downward-smaller
 downward-smaller c =
@@ -40,7 +65,7 @@ downward-smaller c =
     let goes_on = c.downward-test.true in
     let past : y <ℤ (tile_at c.args.store.now c.downward.next).area.ylo = omega (arith, ints) in
     let nearer = right_nearer c.args.store.now c.args.id y c.requires.partition c.requires.stitches c.requires.taken (omega (arith, ints)) (omega (arith, ints))
-    (omega (arith, ints)) c.downward.next c.downward.invariant past in
+    (omega (arith, ints)) c.downward.next c.downward.invariant.walk past in
     rw c.get-next.ensures nearer
 
 pub returns : goal.returns
@@ -49,6 +74,6 @@ returns c =
     let y = to_z w64 (of_z w64 c.args.y) in
     let same : y ≡ c.args.y = to_z-of_z w64 c.args.y c.ranges.y in
     let test = c.downward-test.false in
-    let way = c.downward.invariant in
+    let way = c.downward.invariant.walk in
     let covers = way.owns.covers in
     λ inside. omega (arith, ints)

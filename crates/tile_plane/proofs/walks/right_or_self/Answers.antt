@@ -9,4 +9,5 @@ pub returns : goal.returns
 returns c =
     let end = ap (λ (t : Tile). t.area.xhi) c.get-tile.ensures in
     let test = c.if-tile-ge-PLANE_EDGE.false in
-    rw c.get-tile.ensures (owner_taken _ _ _ (next_right c.args.store.now c.args.id c.requires.partition c.requires.stitches c.requires.taken (omega (arith, ints))))
+    rw c.get-tile.ensures (owner_taken _ _ _
+    (next_right c.args.store.now c.args.id c.requires.partition c.requires.stitches c.requires.taken (omega (arith, ints))))

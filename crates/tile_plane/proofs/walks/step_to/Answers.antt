@@ -10,28 +10,32 @@ returns-then-tile-square c =
     let end = ap (λ (t : Tile). t.area.yhi) c.get-tile.ensures in
     let test = c.if-tile-square.true in
     let inside = c.requires.inside in
-    rw c.get-tile.ensures (owner_taken _ _ _ (next_above c.args.store.now c.args.id c.requires.partition c.requires.stitches c.requires.taken (omega (arith, ints))))
+    rw c.get-tile.ensures (owner_taken _ _ _
+    (next_above c.args.store.now c.args.id c.requires.partition c.requires.stitches c.requires.taken (omega (arith, ints))))
 
 pub returns-then-square-tile : goal.returns-then-square-tile
 returns-then-square-tile c =
     let end = ap (λ (t : Tile). t.area.ylo) c.get-tile.ensures in
     let test = c.if-square-tile.true in
     let inside = c.requires.inside in
-    rw c.get-tile.ensures (owner_taken _ _ _ (next_below c.args.store.now c.args.id c.requires.partition c.requires.stitches c.requires.taken (omega (arith, ints))))
+    rw c.get-tile.ensures (owner_taken _ _ _
+    (next_below c.args.store.now c.args.id c.requires.partition c.requires.stitches c.requires.taken (omega (arith, ints))))
 
 pub returns-then-tile-square-2 : goal.returns-then-tile-square-2
 returns-then-tile-square-2 c =
     let end = ap (λ (t : Tile). t.area.xhi) c.get-tile.ensures in
     let test = c.if-tile-square-2.true in
     let inside = c.requires.inside in
-    rw c.get-tile.ensures (owner_taken _ _ _ (next_right c.args.store.now c.args.id c.requires.partition c.requires.stitches c.requires.taken (omega (arith, ints))))
+    rw c.get-tile.ensures (owner_taken _ _ _
+    (next_right c.args.store.now c.args.id c.requires.partition c.requires.stitches c.requires.taken (omega (arith, ints))))
 
 pub returns-then-square-tile-2 : goal.returns-then-square-tile-2
 returns-then-square-tile-2 c =
     let end = ap (λ (t : Tile). t.area.xlo) c.get-tile.ensures in
     let test = c.if-square-tile-2.true in
     let inside = c.requires.inside in
-    rw c.get-tile.ensures (owner_taken _ _ _ (next_left c.args.store.now c.args.id c.requires.partition c.requires.stitches c.requires.taken (omega (arith, ints))))
+    rw c.get-tile.ensures (owner_taken _ _ _
+    (next_left c.args.store.now c.args.id c.requires.partition c.requires.stitches c.requires.taken (omega (arith, ints))))
 
 pub returns : goal.returns
 returns c =

@@ -21,7 +21,8 @@ after_from (Some n) from id is late = let bound = subst (λ (o : Option Id). num
 not_taken : (arena : Arena Slot) (id : ℕ) → value_at arena (record { 0 = id }) ≡ None → IsTaken arena.live id → ⊥
 not_taken arena id none taken = true≢false (sym (taken_live arena.live id taken) ∙ ap is_some none)
 
-next_is : (arena : Arena Slot) (after : Option ℕ) (from found : Option Id) → IsIdOf after from → AreProper arena.live → IsLeastLiveFrom arena (number_after from) found
+next_is : (arena : Arena Slot) (after : Option ℕ) (from found : Option Id) → IsIdOf after from → AreProper arena.live
+    → IsLeastLiveFrom arena (number_after from) found
     → MatchOption found (IsNextTile arena.live after None) (λ (next : Id). IsNextTile arena.live after (Some next.0))
 next_is arena after from None is all none = λ id late. not_taken arena id (none (record { 0 = id }) (from_after after from id is late))
 next_is arena after from (Some next) is all least = (
@@ -31,7 +32,8 @@ next_is arena after from (Some next) is all least = (
 )
 
 pub returns-in_err-next : goal.returns-in_err-next
-returns-in_err-next c = rw (c.from_residual.ensures, ← c.self.view_is) (next_is c.self.inside.arena c.args.after _ None c.id_if.ensures c.self.invariant c.in_err-next.ensures)
+returns-in_err-next c = rw (c.from_residual.ensures, ← c.self.view_is)
+    (next_is c.self.inside.arena c.args.after _ None c.id_if.ensures c.self.invariant c.in_err-next.ensures)
 
 pub returns : goal.returns
 returns c = rw (← c.self.view_is) (next_is c.self.inside.arena c.args.after _ (Some c.in_ok-next.next) c.id_if.ensures c.self.invariant c.in_ok-next.ensures)
