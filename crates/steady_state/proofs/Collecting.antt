@@ -75,15 +75,15 @@ seeded_more net seeds inside new n in_n grown here old k d lt st = elim (cases_e
   | inr other ↦ grown (slice_index_or seeds k d) (old k d (omega arith) st)
 ]
 
--- the nodes that are gone by are covered
-pub covered_more : (net : Network) (s : List Level) (side : Side) (inside new : List Bool) (order after : List ℕ) (n count : ℕ) → n < count → ((u : ℕ) →
-    IsInside inside u → IsInside new u) →
-    ((i : ℕ) → i < count → slice_index after i ≡ slice_index order i) → IsCovered net s side new (slice_index order n) → ((i : ℕ) → i < n →
+-- the nodes that are gone by are covered, from some node on
+pub covered_late : (net : Network) (s : List Level) (side : Side) (inside new : List Bool) (order after : List ℕ) (first n count : ℕ) → n < count →
+    ((u : ℕ) → IsInside inside u → IsInside new u) →
+    ((i : ℕ) → i < count → slice_index after i ≡ slice_index order i) → IsCovered net s side new (slice_index order n) → ((i : ℕ) → first ≤ i → i < n →
     IsCovered net s side inside (slice_index order i)) →
-    (i : ℕ) → i < n + 1 → IsCovered net s side new (slice_index after i)
-covered_more net s side inside new order after n count in_n grown same here old i lt = elim (cases_eq i n) [
+    (i : ℕ) → first ≤ i → i < n + 1 → IsCovered net s side new (slice_index after i)
+covered_late net s side inside new order after first n count in_n grown same here old i from lt = elim (cases_eq i n) [
   | inl e ↦ (let f : slice_index after i ≡ slice_index order n = same i (omega arith) ∙ ap (slice_index order) e in covered_at f here)
-  | inr other ↦ covered_at (same i (omega arith)) (covered_grown net s side inside new (slice_index order i) grown (old i (omega arith)))
+  | inr other ↦ covered_at (same i (omega arith)) (covered_grown net s side inside new (slice_index order i) grown (old i from (omega arith)))
 ]
   where
     covered_at : {a b : ℕ} → a ≡ b → IsCovered net s side new b → IsCovered net s side new a

@@ -6,3 +6,5 @@ pub mod Moving
 mod Wires
 pub mod Resting
 mod Rounds
+mod Gathering
+mod Vicinity

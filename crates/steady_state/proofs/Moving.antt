@@ -1,9 +1,8 @@
 -- From one step to the next.
-use Rattle.std.proofs.Common.{◌≡◌, ◌≢◌, ℕ, add-one, ◌+◌, ◌<◌, ◌≤◌, List, Bool, false, inl, inr, refl, sym, ap, subst, arith, length}
-use Rattle.std.proofs.Common.{slice_index, slice_index_or, ◌∙◌, take, get_or-take, length-take}
+use Rattle.std.proofs.Common.{◌≡◌, ◌≢◌, ℕ, add-one, ◌+◌, ◌<◌, ◌≤◌, List, Bool, false, inl, inr, refl, sym, subst, arith, length}
+use Rattle.std.proofs.Common.{slice_index, slice_index_or, take, get_or-take, length-take}
 use Rattle.std.proofs.lemmas.Bool.{cases_eq, cases_Bool}
-use Rattle.std.proofs.lemmas.List.{get_or_default, same_lists, length-take-le}
-use Rattle.switch_net.specs.declared.node_set.NodeSet.{NodeSet}
+use Rattle.std.proofs.lemmas.List.{get_or_default, same_lists}
 use Rattle.switch_net.specs.declared.switches.Level.{Level}
 use Rattle.switch_net.specs.declared.switches.Level.TheVariants.{X}
 use Rattle.switch_net.specs.declared.switches.Switch.{Switch}
@@ -14,11 +13,8 @@ use Rattle.switch_net.specs.Steady.{IsStep, IsSteadyValue}
 use Rattle.switch_net.specs.Vicinity.{IsStorage, IsChain}
 use Rattle.switch_net.proofs.Ranges.{level_cases}
 use Rattle.switch_net.specs.Sets.{IsInside, IsAmong}
-use Rattle.steady_state.specs.Marked.{AreMarked, EndsInside, IsCovered, IsGated, IsQuiet}
-use Rattle.steady_state.specs.Parts.{IsPartOf}
-use Rattle.steady_state.specs.declared.part.Part.{Part}
-use Rattle.switch_net.specs.declared.terminals.Side.TheVariants.{Left, Right}
-use Rattle.switch_net.proofs.Listing.{count-le, known}
+use Rattle.steady_state.specs.Marked.{EndsInside, IsGated, IsQuiet}
+use Rattle.switch_net.proofs.Listing.{known}
 use Rattle.switch_net.proofs.Vicinities.{keeps_value, chain_from, in_self}
 
 -- more marks leave the ends of a switch marked
@@ -78,31 +74,6 @@ below_take xs n m le h k d lt =
     let lt' : k < n = omega (arith, simp length-take at lt) in
     let in_xs : k < length xs = omega arith in
     rw (get_or-take n xs k d lt', get_or_default xs k d 0 in_xs) (h k lt')
-
--- marked nodes that are closed make a part of the network
-pub part_of : (net : Network) (marks : NodeSet) (part : Part) → length part.state.now ≡ net.nodes → part.inside.now ≡ marks.inside →
-    part.order.now ≡ take marks.count marks.order → AreMarked net marks →
-    ((v : ℕ) → IsInside marks.inside v → IsCovered net part.state.now Left marks.inside v) → ((v : ℕ) → IsInside marks.inside v →
-    IsCovered net part.state.now Right marks.inside v) → IsPartOf net part
-part_of net marks part len is_inside is_order k left right = record {
-  state = len;
-  inside = ap length is_inside ∙ k.fits;
-  few = omega (arith, ap length is_order, taken, below, k.fits);
-  listed = λ i lt. let lt' : i < marks.count = omega (arith, ap length is_order, taken) in
-      rw (is_inside, is_order, get_or-take marks.count marks.order i 0 lt') (marks.listed.listed i lt');
-  known = rw (is_inside, is_order) (λ v ins. waiting_take marks.order marks.count v in_order (known marks.inside marks.order marks.count v marks.listed ins));
-  covered_left = rw is_inside left;
-  covered_right = rw is_inside right;
-}
-  where
-    below : marks.count ≤ length marks.inside
-    below = count-le marks.inside marks.order marks.count marks.listed
-
-    in_order : marks.count ≤ length marks.order
-    in_order = omega (arith, below, marks.listed.room)
-
-    taken : length (take marks.count marks.order) ≡ marks.count
-    taken = length-take-le marks.count marks.order in_order
 
 -- each node that changed is listed
 pub all_changed : (s t : List Level) (inside : List Bool) (order changed : List ℕ) (part moved : ℕ) → part ≤ length order → ((v : ℕ) → IsInside inside v →

@@ -1,8 +1,8 @@
 -- A kind over a part, from its start to its end.
-use Rattle.std.proofs.Common.{◌≡◌, ℕ, ◌<◌, ◌≤◌, List, [], Bool, true, ◌⊎◌, inl, inr, min, refl, ap, arith, length, slice_index, slice_index_or}
+use Rattle.std.proofs.Common.{◌≡◌, ℕ, ◌<◌, ◌≤◌, List, [], Bool, true, ◌⊎◌, inl, inr, min, refl, ap, arith, slice_index, slice_index_or}
 use Rattle.std.specs.Prelude.{Contains, All}
 use Rattle.std.proofs.lemmas.List.{get_or_default}
-use Rattle.std.proofs.lemmas.Bool.{cases_lt, cases_Bool}
+use Rattle.std.proofs.lemmas.Bool.{cases_Bool}
 use Rattle.switch_net.specs.declared.switches.Level.{Level}
 use Rattle.switch_net.specs.declared.switches.Switch.{Switch}
 use Rattle.switch_net.specs.declared.switches.Level.TheVariants.{Zero, One, X}
@@ -17,44 +17,36 @@ use Rattle.switch_net.specs.Network.{Network, IsSound}
 use Rattle.switch_net.specs.Path.{Joins, switch_strength, root_strength, is_input, end_of, strength, state_of, is_closed_or_unknown}
 use Rattle.switch_net.specs.Steady.{AllRootsAre, IsSteadyValue}
 use Rattle.steady_state.specs.Kinds.{goes_through, BeginsAt, IsFloor, IsStrongestOfKind}
-use Rattle.switch_net.specs.Terminals.{near_end}
-use Rattle.switch_net.specs.Sets.{IsAmong, IsInside}
-use Rattle.steady_state.specs.Marked.{IsCovered}
-use Rattle.steady_state.specs.Spreading.{IsRelaxed, IsWorking, IsFirstStrength, IsFilled}
+use Rattle.switch_net.specs.Terminals.{near_end, far_end}
+use Rattle.switch_net.specs.declared.node_set.NodeSet.{NodeSet}
+use Rattle.switch_net.specs.Sets.{IsInside}
+use Rattle.steady_state.specs.Spreading.{IsRelaxed, IsWorking, IsFirstStrength}
 use Rattle.switch_net.specs.Vicinity.{IsStorage}
 use Rattle.steady_state.specs.declared.part.Part.{Part}
-use Rattle.steady_state.specs.declared.part.Pass.{Pass}
-use Rattle.steady_state.specs.Parts.{IsPartOf, IsPassOver}
-use Rattle.switch_net.proofs.Listing.{inside_range}
+use Rattle.steady_state.specs.Parts.{IsInPart, IsPartOf}
+use Rattle.switch_net.proofs.Listing.{none_inside}
 use Rattle.steady_state.proofs.Within.{IsSpread, bound}
 
-module _ (net : Network) (s : List Level) (kind : PathKind) (inside : List Bool) (floor order : List ℕ) (known : (v : ℕ) → IsInside inside v →
-    IsAmong order (length order) v) where
-  -- what has begun is under way
-  pub filled_working : (best : List ℕ) (waiting : List Bool) → IsFilled net s kind inside floor order (length order) best waiting →
-      IsWorking net s kind inside floor best waiting []
-  filled_working best waiting x = record {
-    attained = λ a ins pos. let q = known a ins in let at = q.2 in let p : 0 < slice_index best (slice_index order q.0) = rw at pos in rw at at
-        ((x.begun q.0 q.1).attained p);
-    low = x.low;
-    waits = x.inner;
-    settled = λ side k d lt ins. inr (go side (slice_index_or net.switches k d) ins);
+module _ (net : Network) (s : List Level) (kind : PathKind) (Inner : ℕ → Type 0) (floor : List ℕ) where
+  -- strengths that paths begin with are under way, where each node waits or brings no more
+  pub begun_working : (best : List ℕ) (waiting : List Bool) → ((v : ℕ) → Inner v → IsFirstStrength net s kind floor v (slice_index best v)) →
+      ((v : ℕ) → IsInside waiting v → Inner v) →
+      ((side : Side) (w : Switch) → Inner (near_end side w) → IsInside waiting (near_end side w) ⊎ IsRelaxed s kind Inner floor best side w) →
+      IsWorking net s kind Inner floor best waiting []
+  begun_working best waiting begun inner ready = record {
+    attained = λ a ins pos. (begun a ins).attained pos;
+    waits = inner;
+    settled = λ side k d lt ins. inr (ready side (slice_index_or net.switches k d) ins);
   }
-    where
-      go : (side : Side) (w : Switch) → IsInside inside (near_end side w) → IsInside waiting (near_end side w) ⊎ IsRelaxed s kind inside floor best side w
-      go side w ins = elim (cases_lt 0 (slice_index best (near_end side w))) [
-        | inl pos ↦ (let q = known (near_end side w) ins in let at = q.2 in
-            let p : 0 < slice_index best (slice_index order q.0) = rw at pos in inl (rw at at (x.waits q.0 q.1 p)))
-        | inr none ↦ inr (λ go' in_far le. omega arith)
-      ]
 
   -- with none waiting, nothing more is brought
-  pub done : (start best : List ℕ) (waiting idle : List Bool) → IsSound net → IsFilled net s kind inside floor order (length order) start waiting →
+  pub done : (start best : List ℕ) (idle : List Bool) → IsSound net → ((v : ℕ) → Inner v → IsFirstStrength net s kind floor v (slice_index start v)) →
       ((v : ℕ) → slice_index start v ≤ slice_index best v) →
-      ((v : ℕ) → IsInside inside v → IsFloor net s kind v (slice_index floor v)) → ((v : ℕ) → IsInside inside v → IsCovered net s Left inside v) →
-      ((v : ℕ) → IsInside inside v → IsCovered net s Right inside v) →
-      IsWorking net s kind inside floor best idle [] → ((v : ℕ) → IsInside idle v → ⊥) → IsSpread net s kind inside floor best
-  done start best waiting idle sound x above floors left right k none = record {
+      ((v : ℕ) → Inner v → IsFloor net s kind v (slice_index floor v)) →
+      ((side : Side) (w : Switch) → Contains net.switches w → Inner (near_end side w) → is_closed_or_unknown s w ≡ true → IsStorage net (far_end side w) →
+      Inner (far_end side w)) →
+      IsWorking net s kind Inner floor best idle [] → ((v : ℕ) → IsInside idle v → ⊥) → IsSpread net s kind Inner floor best
+  done start best idle sound begun above floors closed k none = record {
     closed = λ w a b c j o ins. elim (cases_Bool (is_input net a)) [
       | inl e ↦ inr e
       | inr e ↦ inl
@@ -66,39 +58,35 @@ module _ (net : Network) (s : List Level) (kind : PathKind) (inside : List Bool)
     relaxed = λ w a b c j go in_a in_b le. relaxes w a b c j go in_a in_b le;
   }
     where
-      begun : (v : ℕ) → IsInside inside v → IsFirstStrength net s kind floor v (slice_index start v)
-      begun v ins = let q = known v ins in let at = q.2 in rw at at (x.begun q.0 q.1)
-
-      covers : (w : Switch) (a b : ℕ) → Contains net.switches w → Joins w a b → is_closed_or_unknown s w ≡ true → IsInside inside b → IsStorage net a →
-          IsInside inside a
-      covers w a b c (inl (p, q)) o ins st = let r = right b ins c.0 w c.1 (rw c.2 q) (rw c.2 o) in rw (c.2, p) at (r (rw (c.2, p) st))
-      covers w a b c (inr (p, q)) o ins st = let r = left b ins c.0 w c.1 (rw c.2 q) (rw c.2 o) in rw (c.2, p) at (r (rw (c.2, p) st))
+      covers : (w : Switch) (a b : ℕ) → Contains net.switches w → Joins w a b → is_closed_or_unknown s w ≡ true → Inner b → IsStorage net a → Inner a
+      covers w a b c (inl (p, q)) o ins st = let r = closed Right w c (rw q ins) o (rw p st) in rw p at r
+      covers w a b c (inr (p, q)) o ins st = let r = closed Left w c (rw q ins) o (rw p st) in rw p at r
 
       pulls : (w : Switch) (a b : ℕ) → Contains net.switches w → Joins w a b → goes_through s kind w ≡ true → is_input net a ≡ true → BeginsAt s kind a →
-          IsInside inside b → slice_index floor b ≤ switch_strength w.kind → switch_strength w.kind ≤ slice_index start b
+          Inner b → slice_index floor b ≤ switch_strength w.kind → switch_strength w.kind ≤ slice_index start b
       pulls w a b c (inl (p, q)) go inp adm ins le = let r = (begun b ins).right c.0 w c.1 (rw c.2 q) (rw c.2 go) (rw (c.2, p) inp) (rw (c.2, p) adm)
           (rw (c.2, q) le) in rw c.2 at r
       pulls w a b c (inr (p, q)) go inp adm ins le = let r = (begun b ins).left c.0 w c.1 (rw c.2 q) (rw c.2 go) (rw (c.2, p) inp) (rw (c.2, p) adm)
           (rw (c.2, q) le) in rw c.2 at r
 
-      settled_at : (side : Side) (w : Switch) → Contains net.switches w → IsInside inside (near_end side w) → IsRelaxed s kind inside floor best side w
+      settled_at : (side : Side) (w : Switch) → Contains net.switches w → Inner (near_end side w) → IsRelaxed s kind Inner floor best side w
       settled_at side w c ins = elim (k.settled side c.0 w c.1 (rw c.2 ins)) [
         | inl busy ↦ absurd busy
         | inr y ↦ elim y [ inl q ↦ absurd (none (near_end side w) (rw c.2 at q)) | inr rel ↦ rw c.2 at rel ]
       ]
 
-      relaxes : (w : Switch) (a b : ℕ) → Contains net.switches w → Joins w a b → goes_through s kind w ≡ true → IsInside inside a → IsInside inside b →
+      relaxes : (w : Switch) (a b : ℕ) → Contains net.switches w → Joins w a b → goes_through s kind w ≡ true → Inner a → Inner b →
           slice_index floor b ≤ min (slice_index best a) (switch_strength w.kind) →
           min (slice_index best a) (switch_strength w.kind) ≤ slice_index best b
       relaxes w a b c (inl (p, q)) go in_a in_b le = let r = settled_at Left w c (rw p in_a) go (rw q in_b) (rw (p, q) le) in rw (p, q) at r
       relaxes w a b c (inr (p, q)) go in_a in_b le = let r = settled_at Right w c (rw p in_a) go (rw q in_b) (rw (p, q) le) in rw (p, q) at r
 
   -- so each entry is the strongest
-  pub strongest_of : (best : List ℕ) (idle : List Bool) → IsSound net → IsSpread net s kind inside floor best →
-      IsWorking net s kind inside floor best idle [] → (v : ℕ) → IsInside inside v → IsStrongestOfKind net s kind v (slice_index best v)
+  pub strongest_of : (best : List ℕ) (idle : List Bool) → IsSound net → IsSpread net s kind Inner floor best →
+      IsWorking net s kind Inner floor best idle [] → (v : ℕ) → Inner v → IsStrongestOfKind net s kind v (slice_index best v)
   strongest_of best idle sound x k v ins = record {
     attained = λ pos. k.attained v ins pos;
-    bound = λ j p. let at = p.ends in let b = bound net s sound kind inside floor best x p.root p.path p.of_kind (rw at ins) in
+    bound = λ j p. let at = p.ends in let b = bound net s sound kind Inner floor best x p.root p.path p.of_kind (rw at ins) in
         let f : slice_index best (end_of p.root p.path) ≡ slice_index best v = ap (slice_index best) at in omega (arith, b, f, p.is_strength);
   }
 
@@ -141,18 +129,17 @@ steady_of net s sound v p q X a b l = (some_other net s One v p a l.0, some_othe
 
 -- the nodes of a part's list are nodes of the network
 pub order_below : (net : Network) (part : Part) → IsPartOf net part → All (λ v. v < net.nodes) part.order.now
-order_below net part p k d lt =
-    let r = inside_range part.inside.now (slice_index part.order.now k) (p.listed k lt) in
-    let below : slice_index part.order.now k < net.nodes = omega (arith, r, p.inside) in
-    rw (get_or_default part.order.now k d 0 lt) below
+order_below net part p k d lt = rw (get_or_default part.order.now k d 0 lt) ((p.storage (slice_index part.order.now k) (k, lt, refl)).0)
 
--- with the definite strengths as floors, a pass over the part for other roots may begin
-pub pass_from_other : (net : Network) (part : Part) (level : Level) (pass : Pass) → IsSound net → IsPartOf net part → pass.part ≡ part →
-    pass.kind ≡ FromOther level → length pass.floor.now ≡ net.nodes →
-    ((v : ℕ) → IsInside part.inside.now v → IsStrongestOfKind net part.state.now Definite v (slice_index pass.floor.now v)) → IsPassOver net pass
-pass_from_other net part level pass sound p same_part same_kind fits strongest = record {
-  part = rw same_part p;
-  floor = fits;
-  floors = rw (same_part, same_kind) (λ v ins. let r = inside_range part.inside.now v ins in definite_of net part.state.now sound v
-      (slice_index pass.floor.now v) (omega (arith, r, p.inside)) (strongest v ins));
-}
+module _ (net : Network) (sound : IsSound net) (part : Part) (p : IsPartOf net part) (kind : PathKind) (floor : List ℕ)
+    (floors : (v : ℕ) → IsInPart part v → IsFloor net part.state.now kind v (slice_index floor v)) where
+  -- when none waits, the strongest paths to the nodes of the part are found
+  pub found : (start best : List ℕ) (waiting : NodeSet) →
+      ((v : ℕ) → IsInPart part v → IsFirstStrength net part.state.now kind floor v (slice_index start v)) →
+      ((v : ℕ) → slice_index start v ≤ slice_index best v) →
+      IsWorking net part.state.now kind (λ v. IsInPart part v) floor best waiting.inside [] → waiting.count ≡ 0 →
+      (v : ℕ) → IsInPart part v → IsStrongestOfKind net part.state.now kind v (slice_index best v)
+  found start best waiting begun above working idle v ins =
+      strongest_of net part.state.now kind (λ u. IsInPart part u) floor best waiting.inside sound
+      (done net part.state.now kind (λ u. IsInPart part u) floor start best waiting.inside sound begun above floors p.closed working
+      (λ u waits. none_inside waiting.inside waiting.order waiting.count u waiting.listed idle waits)) working v ins

@@ -12,7 +12,7 @@ use Rattle.steady_state.specs.declared.kinds.PathKind.TheVariants.{Definite, Fro
 use Rattle.switch_net.specs.declared.terminals.Side.{Side}
 use Rattle.switch_net.specs.declared.terminals.Side.TheVariants.{Left, Right}
 use Rattle.switch_net.specs.Network.{Network}
-use Rattle.switch_net.specs.Path.{Hop, Joins, DefiniteTo, strength, switch_strength, state_of, end_of}
+use Rattle.switch_net.specs.Path.{Hop, Joins, DefiniteTo, strength, switch_strength, state_of, end_of, is_closed_or_unknown}
 use Rattle.steady_state.specs.Spreading.{IsLift, IsRelaxed, IsWorking, IsRaised, total}
 use Rattle.steady_state.specs.Kinds.{goes_through, IsFloor, HasPath}
 use Rattle.switch_net.specs.Terminals.{near_end, far_end}
@@ -24,6 +24,11 @@ use Rattle.finite_sets.specs.Lists.{In}
 pub joins : (side : Side) (w : Switch) → Joins w (near_end side w) (far_end side w)
 joins Left w = inl (refl, refl)
 joins Right w = inr (refl, refl)
+
+-- what paths of a kind go through is closed or unknown
+pub conducts : (s : List Level) (kind : PathKind) (w : Switch) → goes_through s kind w ≡ true → is_closed_or_unknown s w ≡ true
+conducts s Definite w go = closed_or_more w.kind (state_of s w.gate) go
+conducts s (FromOther level) w go = go
 
 -- a path of the kind goes on through a switch
 pub extend : (net : Network) (s : List Level) (kind : PathKind) (w : Switch) (a b k f : ℕ) → HasPath net s kind a k → Contains net.switches w → Joins w a b →
@@ -55,14 +60,14 @@ extend net s (FromOther kept) w a b k f t c j g fl le =
     not_overcome : (root : ℕ) (p : List Hop) → ((k : ℕ) → DefiniteTo net s (end_of root p) k → k ≤ strength net root p) → NotOvercome net s root p
     not_overcome root p n = n
 
-module _ (net : Network) (s : List Level) (kind : PathKind) (inside : List Bool) (floor : List ℕ) where
+module _ (net : Network) (s : List Level) (kind : PathKind) (Inner : ℕ → Type 0) (floor : List ℕ) where
   -- a node rises and waits
-  pub rise : (best : List ℕ) (waiting new : List Bool) (busy : List ℕ) (v : ℕ) (w : Switch) (b c : ℕ) → IsWorking net s kind inside floor best waiting busy →
-      Contains net.switches w → Joins w v b → goes_through s kind w ≡ true → IsInside inside v → IsInside inside b →
+  pub rise : (best : List ℕ) (waiting new : List Bool) (busy : List ℕ) (v : ℕ) (w : Switch) (b c : ℕ) → IsWorking net s kind Inner floor best waiting busy →
+      Contains net.switches w → Joins w v b → goes_through s kind w ≡ true → Inner v → Inner b →
       IsFloor net s kind b (slice_index floor b) →
       c ≡ min (slice_index best v) (switch_strength w.kind) → slice_index best b < c → slice_index floor b ≤ c → b < length best →
       IsInside new b → ((u : ℕ) → IsInside waiting u → IsInside new u) → ((u : ℕ) → IsInside new u → IsInside waiting u ⊎ (u ≡ b)) →
-      IsWorking net s kind inside floor (slice_set best b c) new busy
+      IsWorking net s kind Inner floor (slice_set best b c) new busy
   rise best waiting new busy v w b c k con j g in_v in_b fl e more above in_best here grown others = record {
     attained = λ a ins pos. elim (cases_eq a b) [
       | inl same ↦ (let pos_v : 0 < slice_index best v = omega arith in
@@ -71,10 +76,6 @@ module _ (net : Network) (s : List Level) (kind : PathKind) (inside : List Bool)
       | inr other ↦ (let kept : get_or (slice_set best b c) a 0 ≡ get_or best a 0 = get_or-set_other best b a c 0 other in
           let pos_old : 0 < get_or best a 0 = omega (arith, kept) in rw kept (k.attained a ins pos_old))
     ];
-    low = λ a. elim (cases_eq a b) [
-      | inl same ↦ rw (same, get_or-set_same best b c 0 in_best) (omega (arith, k.low v))
-      | inr other ↦ rw (get_or-set_other best b a c 0 other) (k.low a)
-    ];
     waits = λ u ins. elim (others u ins) [ inl old ↦ k.waits u old | inr is ↦ rw is in_b ];
     settled = λ side i d lt ins. elim (k.settled side i d lt ins) [
       | inl x ↦ inl x
@@ -82,8 +83,8 @@ module _ (net : Network) (s : List Level) (kind : PathKind) (inside : List Bool)
     ];
   }
     where
-      waits_on : (side : Side) (x : Switch) → IsInside waiting (near_end side x) ⊎ IsRelaxed s kind inside floor best side x →
-          IsInside new (near_end side x) ⊎ IsRelaxed s kind inside floor (slice_set best b c) side x
+      waits_on : (side : Side) (x : Switch) → IsInside waiting (near_end side x) ⊎ IsRelaxed s kind Inner floor best side x →
+          IsInside new (near_end side x) ⊎ IsRelaxed s kind Inner floor (slice_set best b c) side x
       waits_on side x (inl q) = inl (grown (near_end side x) q)
       waits_on side x (inr rel) = elim (cases_eq (near_end side x) b) [
         | inl same ↦ inl (rw same here)
@@ -99,12 +100,11 @@ module _ (net : Network) (s : List Level) (kind : PathKind) (inside : List Bool)
       ]
 
   -- a node that waits is taken to be looked at
-  pub take : (best : List ℕ) (waiting new : List Bool) (node : ℕ) → IsWorking net s kind inside floor best waiting [] → ((u : ℕ) → IsInside new u →
+  pub take : (best : List ℕ) (waiting new : List Bool) (node : ℕ) → IsWorking net s kind Inner floor best waiting [] → ((u : ℕ) → IsInside new u →
       IsInside waiting u) →
-      ((u : ℕ) → IsInside waiting u → (u ≡ node) ⊎ IsInside new u) → IsWorking net s kind inside floor best new (node ∷ [])
+      ((u : ℕ) → IsInside waiting u → (u ≡ node) ⊎ IsInside new u) → IsWorking net s kind Inner floor best new (node ∷ [])
   take best waiting new node w left kept = record {
     attained = w.attained;
-    low = w.low;
     waits = λ v ins. w.waits v (left v ins);
     settled = λ side k d lt ins. elim (w.settled side k d lt ins) [
       | inl none ↦ absurd none
@@ -112,21 +112,20 @@ module _ (net : Network) (s : List Level) (kind : PathKind) (inside : List Bool)
     ];
   }
     where
-      go : (side : Side) (x : Switch) → IsInside waiting (near_end side x) ⊎ IsRelaxed s kind inside floor best side x →
-          In (near_end side x) (node ∷ []) ⊎ (IsInside new (near_end side x) ⊎ IsRelaxed s kind inside floor best side x)
+      go : (side : Side) (x : Switch) → IsInside waiting (near_end side x) ⊎ IsRelaxed s kind Inner floor best side x →
+          In (near_end side x) (node ∷ []) ⊎ (IsInside new (near_end side x) ⊎ IsRelaxed s kind Inner floor best side x)
       go side x (inl q) = elim (kept (near_end side x) q) [ inl is ↦ inl (inl (sym is)) | inr still ↦ inr (inl still) ]
       go side x (inr rel) = inr (inr rel)
 
   -- it is done with when its switches bring no more
-  pub finish : (best : List ℕ) (waiting : List Bool) (node : ℕ) → IsWorking net s kind inside floor best waiting (node ∷ []) →
+  pub finish : (best : List ℕ) (waiting : List Bool) (node : ℕ) → IsWorking net s kind Inner floor best waiting (node ∷ []) →
       ((k : ℕ) (d : Switch) → k < length net.switches → near_end Left (slice_index_or net.switches k d) ≡ node →
-      IsRelaxed s kind inside floor best Left (slice_index_or net.switches k d)) →
+      IsRelaxed s kind Inner floor best Left (slice_index_or net.switches k d)) →
       ((k : ℕ) (d : Switch) → k < length net.switches → near_end Right (slice_index_or net.switches k d) ≡ node →
-      IsRelaxed s kind inside floor best Right (slice_index_or net.switches k d)) →
-      IsWorking net s kind inside floor best waiting []
+      IsRelaxed s kind Inner floor best Right (slice_index_or net.switches k d)) →
+      IsWorking net s kind Inner floor best waiting []
   finish best waiting node w left right = record {
     attained = w.attained;
-    low = w.low;
     waits = w.waits;
     settled = λ side k d lt ins. elim (w.settled side k d lt ins) [
       | inl q ↦ elim q [ inl is ↦ inr (inr (both side k d lt (sym is))) | inr none ↦ absurd none ]
@@ -135,15 +134,15 @@ module _ (net : Network) (s : List Level) (kind : PathKind) (inside : List Bool)
   }
     where
       both : (side : Side) (k : ℕ) (d : Switch) → k < length net.switches → near_end side (slice_index_or net.switches k d) ≡ node →
-          IsRelaxed s kind inside floor best side (slice_index_or net.switches k d)
+          IsRelaxed s kind Inner floor best side (slice_index_or net.switches k d)
       both Left k d lt is = left k d lt is
       both Right k d lt is = right k d lt is
 
 -- a switch that brings no more brings no more when other entries rise
-pub relaxed_up : (s : List Level) (kind : PathKind) (inside : List Bool) (floor best new : List ℕ) (side : Side) (w : Switch) →
+pub relaxed_up : (s : List Level) (kind : PathKind) (Inner : ℕ → Type 0) (floor best new : List ℕ) (side : Side) (w : Switch) →
     slice_index new (near_end side w) ≡ slice_index best (near_end side w) →
-    ((a : ℕ) → slice_index best a ≤ slice_index new a) → IsRelaxed s kind inside floor best side w → IsRelaxed s kind inside floor new side w
-relaxed_up s kind inside floor best new side w same above old go ins le = let r = old go ins (rw same at le) in rw same
+    ((a : ℕ) → slice_index best a ≤ slice_index new a) → IsRelaxed s kind Inner floor best side w → IsRelaxed s kind Inner floor new side w
+relaxed_up s kind Inner floor best new side w same above old go ins le = let r = old go ins (rw same at le) in rw same
     (omega (arith, r, above (far_end side w)))
 
 -- a node rises only for what it pays
@@ -170,16 +169,16 @@ raised_then a b c i j k r q = record {
 }
 
 -- a node rises by a lift and waits
-pub rise_by_lift : (net : Network) (s : List Level) (kind : PathKind) (inside : List Bool) (floor best lifted : List ℕ) (waiting new : List Bool)
+pub rise_by_lift : (net : Network) (s : List Level) (kind : PathKind) (Inner : ℕ → Type 0) (floor best lifted : List ℕ) (waiting new : List Bool)
     (busy : List ℕ) (side : Side) (w : Switch) (a b g : ℕ) →
     a ≡ near_end side w → b ≡ far_end side w → g ≡ switch_strength w.kind → IsLift floor best lifted a b g true → goes_through s kind w ≡ true →
-    IsInside inside (near_end side w) → IsInside inside b →
-    ((v : ℕ) → IsInside inside v → IsFloor net s kind v (slice_index floor v)) → Contains net.switches w → b < length best →
+    Inner (near_end side w) → Inner b →
+    ((v : ℕ) → Inner v → IsFloor net s kind v (slice_index floor v)) → Contains net.switches w → b < length best →
     IsInside new b → ((u : ℕ) → IsInside waiting u → IsInside new u) → ((u : ℕ) → IsInside new u → IsInside waiting u ⊎ (u ≡ b)) →
-    IsWorking net s kind inside floor best waiting busy → IsWorking net s kind inside floor lifted new busy
-rise_by_lift net s kind inside floor best lifted waiting new busy side w a b g ea eb eg lift go in_a in_b floors con lt here grown others k =
+    IsWorking net s kind Inner floor best waiting busy → IsWorking net s kind Inner floor lifted new busy
+rise_by_lift net s kind Inner floor best lifted waiting new busy side w a b g ea eb eg lift go in_a in_b floors con lt here grown others k =
     let same : slice_index best a ≡ slice_index best (near_end side w) = ap (slice_index best) ea in
-    rw lift.0 (rise net s kind inside floor best waiting new busy (near_end side w) w b (min (slice_index best a) g) k con (rw eb (joins side w)) go in_a
+    rw lift.0 (rise net s kind Inner floor best waiting new busy (near_end side w) w b (min (slice_index best a) g) k con (rw eb (joins side w)) go in_a
     in_b (floors b in_b)
     (rw (same, eg) refl) lift.1 lift.2 lt here grown others)
 
@@ -187,6 +186,6 @@ pub far_below : (side : Side) (w : Switch) (n : ℕ) → w.left < n → w.right 
 far_below Left w n l r = r
 far_below Right w n l r = l
 
--- strengths are at most six
-pub total-le : (best : List ℕ) → ((v : ℕ) → slice_index best v ≤ 6) → total best ≤ length best * 6
-total-le best low = sum_by-le (λ (x : ℕ). x) 6 best (All-from_get_or (λ x. x ≤ 6) best 0 (λ k lt. low k))
+-- bytes are at most 255
+pub total-le : (best : List ℕ) → ((v : ℕ) → v < length best → slice_index best v < 256) → total best ≤ length best * 255
+total-le best low = sum_by-le (λ (x : ℕ). x) 255 best (All-from_get_or (λ x. x ≤ 255) best 0 (λ k lt. let r = low k lt in omega (arith, r)))

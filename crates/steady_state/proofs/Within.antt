@@ -1,8 +1,7 @@
 -- When no arc brings more, each entry of the part is the greatest strength of a path of the kind.
-use Rattle.std.proofs.Common.{◌≡◌, ◌≢◌, ℕ, ◌+◌, ◌<◌, ◌≤◌, List, [], ◌∷◌, Bool, true, ◌⊎◌, inl, inr, min, refl, ap, subst, arith, length}
-use Rattle.std.proofs.Common.{slice_index, slice_index_or, slice_set, get_or-set_same, get_or-set_other}
+use Rattle.std.proofs.Common.{◌≡◌, ℕ, ◌<◌, ◌≤◌, List, [], ◌∷◌, true, ◌⊎◌, inl, inr, min, refl, ap, subst, arith}
+use Rattle.std.proofs.Common.{slice_index, slice_index_or}
 use Rattle.std.specs.Prelude.{Contains}
-use Rattle.std.proofs.lemmas.Bool.{cases_eq}
 use Rattle.switch_net.specs.declared.switches.Level.{Level}
 use Rattle.switch_net.specs.declared.switches.Switch.{Switch}
 use Rattle.steady_state.specs.declared.kinds.PathKind.{PathKind}
@@ -13,9 +12,8 @@ use Rattle.switch_net.specs.Network.{Network, IsSound}
 use Rattle.switch_net.specs.Path.{Hop, Joins, IsBlocked, strength, switch_strength, root_strength, is_input, end_of, is_closed_or_unknown}
 use Rattle.steady_state.specs.Strongest.{IsStrongestDefinite}
 use Rattle.steady_state.specs.Kinds.{IsOfKind, goes_through, BeginsAt, IsFloor, HasPath}
-use Rattle.switch_net.specs.Sets.{IsInside}
 use Rattle.switch_net.specs.Terminals.{near_end, far_end}
-use Rattle.steady_state.specs.Spreading.{BringsAtMost, IsPulled, IsFirstStrength, IsFilled}
+use Rattle.steady_state.specs.Spreading.{BringsAtMost, IsPulled}
 use Rattle.switch_net.proofs.Paths.{NotOvercome, drop_not_overcome, drop_unblocked, unblocked-root}
 use Rattle.steady_state.proofs.UnderWay.{extend}
 use Rattle.switch_net.proofs.Ranges.{switch_strength-le, at_input, end_in_range, input_stands}
@@ -27,34 +25,34 @@ module _ (net : Network) (s : List Level) (sound : IsSound net) where
   above_definite root p k u st = drop_not_overcome net s root [] p u k st.attained
 
 -- nothing more is brought to a node of the part, by its own strength, from an input or from the part
-pub record IsSpread (net : Network) (s : List Level) (kind : PathKind) (inside : List Bool) (floor best : List ℕ) : Type 0 where
-  pub closed : (w : Switch) (a b : ℕ) → Contains net.switches w → Joins w a b → is_closed_or_unknown s w ≡ true → IsInside inside b →
-      IsInside inside a ⊎ (is_input net a ≡ true)
-  pub floors : (v : ℕ) → IsInside inside v → IsFloor net s kind v (slice_index floor v)
-  pub own : (v : ℕ) → IsInside inside v → BeginsAt s kind v → slice_index floor v ≤ root_strength net v → root_strength net v ≤ slice_index best v
+pub record IsSpread (net : Network) (s : List Level) (kind : PathKind) (Inner : ℕ → Type 0) (floor best : List ℕ) : Type 0 where
+  pub closed : (w : Switch) (a b : ℕ) → Contains net.switches w → Joins w a b → is_closed_or_unknown s w ≡ true → Inner b →
+      Inner a ⊎ (is_input net a ≡ true)
+  pub floors : (v : ℕ) → Inner v → IsFloor net s kind v (slice_index floor v)
+  pub own : (v : ℕ) → Inner v → BeginsAt s kind v → slice_index floor v ≤ root_strength net v → root_strength net v ≤ slice_index best v
   pub from_inputs : (w : Switch) (a b : ℕ) → Contains net.switches w → Joins w a b → goes_through s kind w ≡ true → is_input net a ≡ true →
-      BeginsAt s kind a → IsInside inside b →
+      BeginsAt s kind a → Inner b →
       slice_index floor b ≤ switch_strength w.kind → switch_strength w.kind ≤ slice_index best b
-  pub relaxed : (w : Switch) (a b : ℕ) → Contains net.switches w → Joins w a b → goes_through s kind w ≡ true → IsInside inside a → IsInside inside b →
+  pub relaxed : (w : Switch) (a b : ℕ) → Contains net.switches w → Joins w a b → goes_through s kind w ≡ true → Inner a → Inner b →
       slice_index floor b ≤ min (slice_index best a) (switch_strength w.kind) → min (slice_index best a) (switch_strength w.kind) ≤ slice_index best b
 
-pub bound : (net : Network) (s : List Level) → IsSound net → (kind : PathKind) (inside : List Bool) (floor best : List ℕ) →
-    IsSpread net s kind inside floor best →
-    (root : ℕ) (p : List Hop) → IsOfKind net s kind root p → IsInside inside (end_of root p) → strength net root p ≤ slice_index best (end_of root p)
-bound net s sound Definite inside floor best x root [] i ins = x.own root ins tt (omega (arith, x.floors root ins))
-bound net s sound Definite inside floor best x root (h ∷ p) i ins =
+pub bound : (net : Network) (s : List Level) → IsSound net → (kind : PathKind) (Inner : ℕ → Type 0) (floor best : List ℕ) →
+    IsSpread net s kind Inner floor best →
+    (root : ℕ) (p : List Hop) → IsOfKind net s kind root p → Inner (end_of root p) → strength net root p ≤ slice_index best (end_of root p)
+bound net s sound Definite Inner floor best x root [] i ins = x.own root ins tt (omega (arith, x.floors root ins))
+bound net s sound Definite Inner floor best x root (h ∷ p) i ins =
     elim (x.closed h.through (end_of root p) h.to i.0.1 i.0.2 i.0.3 ins) [
-      | inl ins_a ↦ (let ih = bound net s sound Definite inside floor best x root p (i.0.0, i.1.0) ins_a in
+      | inl ins_a ↦ (let ih = bound net s sound Definite Inner floor best x root p (i.0.0, i.1.0) ins_a in
           let r = x.relaxed h.through (end_of root p) h.to i.0.1 i.0.2 i.1.1 ins_a ins (omega (arith, x.floors h.to ins)) in omega (arith, ih, r))
       | inr input ↦ (let r = x.from_inputs h.through (end_of root p) h.to i.0.1 i.0.2 i.1.1 input tt ins (omega (arith, x.floors h.to ins)) in omega (arith, r))
     ]
-bound net s sound (FromOther kept) inside floor best x root [] i ins = x.own root ins i.2
+bound net s sound (FromOther kept) Inner floor best x root [] i ins = x.own root ins i.2
     (above_definite net s sound root [] (slice_index floor root) i.1 (x.floors root ins))
-bound net s sound (FromOther kept) inside floor best x root (h ∷ p) i ins =
+bound net s sound (FromOther kept) Inner floor best x root (h ∷ p) i ins =
     let fl = above_definite net s sound root (h ∷ p) (slice_index floor h.to) i.1 (x.floors h.to ins) in
     let u = drop_unblocked net s root (h ∷ []) p i.1 in
     elim (x.closed h.through (end_of root p) h.to i.0.1 i.0.2 i.0.3 ins) [
-      | inl ins_a ↦ (let ih = bound net s sound (FromOther kept) inside floor best x root p (i.0.0, u, i.2) ins_a in
+      | inl ins_a ↦ (let ih = bound net s sound (FromOther kept) Inner floor best x root p (i.0.0, u, i.2) ins_a in
           let r = x.relaxed h.through (end_of root p) h.to i.0.1 i.0.2 i.0.3 ins_a ins (omega (arith, fl, ih)) in omega (arith, ih, r))
       | inr input ↦ (let nil = at_input net s sound root p i.0.0 u input (end_in_range net s sound root p i.0.0) in
           let at : end_of root p ≡ root = ap (end_of root) nil in
@@ -97,46 +95,6 @@ by_itself net s (FromOther kept) v f lt adm fl le = record {
       (lt, unblocked-root net s v (λ k d. omega (arith, fl.bound k d)), adm);
   ends = refl;
   is_strength = refl;
-}
-
--- one node more has begun
-pub filled_more : (net : Network) (s : List Level) (kind : PathKind) (inside : List Bool) (floor order : List ℕ) (n : ℕ) (best : List ℕ)
-    (waiting new : List Bool) (b : ℕ) →
-    IsFilled net s kind inside floor order n best waiting → slice_index order n < length best → IsInside inside (slice_index order n) →
-    IsFirstStrength net s kind floor (slice_index order n) b →
-    ((v : ℕ) → IsInside waiting v → IsInside new v) → ((v : ℕ) → IsInside new v → IsInside waiting v ⊎ (v ≡ slice_index order n)) →
-    (0 < b → IsInside new (slice_index order n)) → IsFilled net s kind inside floor order (n + 1) (slice_set best (slice_index order n) b) new
-filled_more net s kind inside floor order n best waiting new b x in_best ins bg kept others waits = record {
-  begun = λ i lt. elim (cases_eq (slice_index order i) v) [
-    | inl same ↦ rw (same, get_or-set_same best v b 0 in_best) bg
-    | inr other ↦ rw (get_or-set_other best v (slice_index order i) b 0 other) (x.begun i (before i lt other))
-  ];
-  waits = λ i lt. elim (cases_eq (slice_index order i) v) [
-    | inl same ↦ rw (same, get_or-set_same best v b 0 in_best) waits
-    | inr other ↦ rw (get_or-set_other best v (slice_index order i) b 0 other) (λ pos. kept (slice_index order i) (x.waits i (before i lt other) pos))
-  ];
-  inner = λ u now. elim (others u now) [ inl old ↦ x.inner u old | inr is ↦ rw is ins ];
-  low = λ u. elim (cases_eq u v) [
-    | inl same ↦ rw (same, get_or-set_same best v b 0 in_best) bg.low
-    | inr other ↦ rw (get_or-set_other best v u b 0 other) (x.low u)
-  ];
-}
-  where
-    v : ℕ
-    v = slice_index order n
-
-    before : (i : ℕ) → i < n + 1 → slice_index order i ≢ slice_index order n → i < n
-    before i lt ne = elim (cases_eq i n) [ inl e ↦ absurd (ne (ap (slice_index order) e)) | inr other ↦ omega arith ]
-
-pub none_filled : (net : Network) (s : List Level) (kind : PathKind) (inside : List Bool) (floor order best : List ℕ) (waiting : List Bool) → ((v : ℕ) →
-    slice_index best v ≤ 6) →
-    ((v : ℕ) → IsInside waiting v → ⊥) → IsFilled net s kind inside floor order 0 best waiting
-none_filled net s kind inside floor order best waiting low none = record {
-  begun = λ i lt. absurd (omega arith);
-  waits = λ i lt. absurd (omega arith);
-  inner
-      = λ v ins. absurd (none v ins);
-  low = low;
 }
 
 pub pulled_up : (net : Network) (s : List Level) (kind : PathKind) (floor : List ℕ) (side : Side) (v best new : ℕ) → best ≤ new →

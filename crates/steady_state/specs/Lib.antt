@@ -4,6 +4,8 @@ pub mod Kinds
 pub mod Marked
 pub mod Parts
 pub mod Spreading
+pub mod Gathering
+pub mod Lowering
 pub mod Passing
 pub mod Levels
 pub mod Rounds

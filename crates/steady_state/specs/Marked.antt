@@ -30,6 +30,10 @@ pub record AddsMarks (old new : NodeSet) : Type 0 where
   pub same : (i : ℕ) → i < old.count → slice_index new.order i ≡ slice_index old.order i
   pub more : old.count ≤ new.count
 
+-- the node is one of those that were marked last, behind so many others
+abbrev pub IsLate : NodeSet → ℕ → ℕ → Type 0
+IsLate marks before v = (i : ℕ) × (before ≤ i) × (i < marks.count) × (slice_index marks.order i ≡ v)
+
 -- each marked node is in the vicinity of a seed
 abbrev pub AreReached : Network → List Level → List ℕ → List Bool → Type 0
 AreReached net s seeds inside = (v : ℕ) → IsInside inside v → IsReached net s seeds v
@@ -43,6 +47,11 @@ abbrev pub IsCovered : Network → List Level → Side → List Bool → ℕ →
 IsCovered net s side inside v =
     (k : ℕ) (d : Switch) → k < length net.switches → near_end side (slice_index_or net.switches k d) ≡ v →
     LeadsInside net s side inside (slice_index_or net.switches k d)
+
+-- closed or unknown switches lead from marked nodes to marked nodes and inputs alone
+pub record AreClosed (net : Network) (s : List Level) (inside : List Bool) : Type 0 where
+  pub left : (v : ℕ) → IsInside inside v → IsCovered net s Left inside v
+  pub right : (v : ℕ) → IsInside inside v → IsCovered net s Right inside v
 
 -- the ends of the switch are marked, or inputs
 abbrev pub EndsInside : Network → List Bool → Switch → Type 0

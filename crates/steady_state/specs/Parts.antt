@@ -1,25 +1,35 @@
--- The part of a network that a step works on, and a pass over it.
-use Rattle.std.specs.Prelude.{◌≡◌, ℕ, ◌<◌, ◌≤◌, slice_index, length}
+-- The part of a network that is worked out at once, and a pass over it.
+use Rattle.std.specs.Prelude.{◌≡◌, ℕ, List, [], Option, Some, None, IfSome, true, Contains, slice_index, length}
+use Rattle.std.specs.Borrow.{Bor}
+use Rattle.switch_net.specs.declared.switches.Switch.{Switch}
+use Rattle.switch_net.specs.declared.terminals.Side.{Side}
 use Rattle.switch_net.specs.Network.{Network}
-use Rattle.switch_net.specs.declared.terminals.Side.TheVariants.{Left, Right}
+use Rattle.switch_net.specs.Path.{is_closed_or_unknown}
+use Rattle.switch_net.specs.Sets.{IsAmong}
+use Rattle.switch_net.specs.Terminals.{near_end, far_end}
+use Rattle.switch_net.specs.Vicinity.{IsStorage}
 use Rattle.steady_state.specs.declared.part.Part.{Part}
 use Rattle.steady_state.specs.declared.part.Pass.{Pass}
 use Rattle.steady_state.specs.Kinds.{IsFloor}
-use Rattle.switch_net.specs.Sets.{IsInside, IsAmong}
-use Rattle.steady_state.specs.Marked.{IsCovered}
 
--- the nodes inside are those that are listed, and closed or unknown switches lead from them to no other storage nodes
+-- the node is listed
+abbrev pub IsInPart : Part → ℕ → Type 0
+IsInPart part v = IsAmong part.order.now (length part.order.now) v
+
+-- the nodes of the part store charge, and closed or unknown switches lead from them to no other nodes that do
 pub record IsPartOf (net : Network) (part : Part) : Type 0 where
   pub state : length part.state.now ≡ net.nodes
-  pub inside : length part.inside.now ≡ net.nodes
-  pub few : length part.order.now ≤ net.nodes
-  pub listed : (i : ℕ) → i < length part.order.now → IsInside part.inside.now (slice_index part.order.now i)
-  pub known : (v : ℕ) → IsInside part.inside.now v → IsAmong part.order.now (length part.order.now) v
-  pub covered_left : (v : ℕ) → IsInside part.inside.now v → IsCovered net part.state.now Left part.inside.now v
-  pub covered_right : (v : ℕ) → IsInside part.inside.now v → IsCovered net part.state.now Right part.inside.now v
+  pub storage : (v : ℕ) → IsInPart part v → IsStorage net v
+  pub closed : (side : Side) (w : Switch) → Contains net.switches w → IsInPart part (near_end side w) → is_closed_or_unknown part.state.now w ≡ true →
+      IsStorage net (far_end side w) → IsInPart part (far_end side w)
+
+-- the floors: where there are none, each is 0
+abbrev pub floors_in : Option (Bor (List ℕ)) → List ℕ
+floors_in None = []
+floors_in (Some floors) = floors.now
 
 -- each node of the part has its floor
 pub record IsPassOver (net : Network) (pass : Pass) : Type 0 where
   pub part : IsPartOf net pass.part
-  pub floor : length pass.floor.now ≡ net.nodes
-  pub floors : (v : ℕ) → IsInside pass.part.inside.now v → IsFloor net pass.part.state.now pass.kind v (slice_index pass.floor.now v)
+  pub floor : IfSome pass.floor (λ floors. length floors.now ≡ net.nodes)
+  pub floors : (v : ℕ) → IsInPart pass.part v → IsFloor net pass.part.state.now pass.kind v (slice_index (floors_in pass.floor) v)

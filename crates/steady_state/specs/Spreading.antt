@@ -20,21 +20,20 @@ IsLift floor old new from to g true =
 IsLift floor old new from to g false = (new ≡ old) × (slice_index floor to ≤ min (slice_index old from) g → min (slice_index old from) g ≤ slice_index old to)
 
 -- the switch brings no more from its end on this side to the other
-abbrev pub IsRelaxed : List Level → PathKind → List Bool → List ℕ → List ℕ → Side → Switch → Type 0
-IsRelaxed s kind inside floor best side switch =
-    goes_through s kind switch ≡ true → IsInside inside (far_end side switch) →
+abbrev pub IsRelaxed : List Level → PathKind → (ℕ → Type 0) → List ℕ → List ℕ → Side → Switch → Type 0
+IsRelaxed s kind Inner floor best side switch =
+    goes_through s kind switch ≡ true → Inner (far_end side switch) →
     slice_index floor (far_end side switch) ≤ min (slice_index best (near_end side switch)) (switch_strength switch.kind) →
     min (slice_index best (near_end side switch)) (switch_strength switch.kind) ≤ slice_index best (far_end side switch)
 
 -- Strengths under way. Every switch of the part brings no more, but those at nodes that wait or are just being looked at.
-pub record IsWorking (net : Network) (s : List Level) (kind : PathKind) (inside : List Bool) (floor best : List ℕ) (waiting : List Bool) (busy : List ℕ) :
+pub record IsWorking (net : Network) (s : List Level) (kind : PathKind) (Inner : ℕ → Type 0) (floor best : List ℕ) (waiting : List Bool) (busy : List ℕ) :
     Type 0 where
-  pub attained : (a : ℕ) → IsInside inside a → 0 < slice_index best a → HasPath net s kind a (slice_index best a)
-  pub low : (a : ℕ) → slice_index best a ≤ 6
-  pub waits : (v : ℕ) → IsInside waiting v → IsInside inside v
-  pub settled : (side : Side) (k : ℕ) (d : Switch) → k < length net.switches → IsInside inside (near_end side (slice_index_or net.switches k d)) →
+  pub attained : (a : ℕ) → Inner a → 0 < slice_index best a → HasPath net s kind a (slice_index best a)
+  pub waits : (v : ℕ) → IsInside waiting v → Inner v
+  pub settled : (side : Side) (k : ℕ) (d : Switch) → k < length net.switches → Inner (near_end side (slice_index_or net.switches k d)) →
       In (near_end side (slice_index_or net.switches k d)) busy
-      ⊎ (IsInside waiting (near_end side (slice_index_or net.switches k d)) ⊎ IsRelaxed s kind inside floor best side (slice_index_or net.switches k d))
+      ⊎ (IsInside waiting (near_end side (slice_index_or net.switches k d)) ⊎ IsRelaxed s kind Inner floor best side (slice_index_or net.switches k d))
 
 -- the sum of the entries
 abbrev pub total : List ℕ → ℕ
@@ -61,15 +60,6 @@ IsPulled net s kind floor side v best =
 -- what a node has by itself and from inputs
 pub record IsFirstStrength (net : Network) (s : List Level) (kind : PathKind) (floor : List ℕ) (v best : ℕ) : Type 0 where
   pub attained : 0 < best → HasPath net s kind v best
-  pub low : best ≤ 6
   pub own : BeginsAt s kind v → slice_index floor v ≤ root_strength net v → root_strength net v ≤ best
   pub left : IsPulled net s kind floor Left v best
   pub right : IsPulled net s kind floor Right v best
-
--- the first n nodes of the list have begun, and wait where they have some strength
-pub record IsFilled (net : Network) (s : List Level) (kind : PathKind) (inside : List Bool) (floor order : List ℕ) (n : ℕ) (best : List ℕ)
-    (waiting : List Bool) : Type 0 where
-  pub begun : (i : ℕ) → i < n → IsFirstStrength net s kind floor (slice_index order i) (slice_index best (slice_index order i))
-  pub waits : (i : ℕ) → i < n → 0 < slice_index best (slice_index order i) → IsInside waiting (slice_index order i)
-  pub inner : (v : ℕ) → IsInside waiting v → IsInside inside v
-  pub low : (v : ℕ) → slice_index best v ≤ 6

@@ -8,6 +8,7 @@ use crate::wiring::Wiring;
 use switch_net::{Side, SortedSwitches, Terminal};
 
 /// The run of a node in the sorted switches.
+#[inline(always)]
 fn run_of(sorted: &SortedSwitches, node: usize) -> &[u32]
     requires node { node + 1 < length sorted.now.starts }
     requires rising { slice_index sorted.now.starts node ≤ slice_index sorted.now.starts (node + 1) }
@@ -21,6 +22,7 @@ fn run_of(sorted: &SortedSwitches, node: usize) -> &[u32]
 }
 
 /// The switches sorted at a terminal.
+#[inline(always)]
 fn sorted<'a>(net: &'a Wiring<'_>, terminal: Terminal) -> &'a SortedSwitches
     ensures { result.now ≡ sorted_at terminal net.now }
 {
@@ -32,6 +34,7 @@ fn sorted<'a>(net: &'a Wiring<'_>, terminal: Terminal) -> &'a SortedSwitches
 }
 
 /// The places of the switches that have a node at a terminal.
+#[inline(always)]
 pub(crate) fn switches_at<'a>(net: &'a Wiring<'_>, terminal: Terminal, node: usize) -> &'a [u32]
     requires { node < net.now.nodes }
     ensures { AreSwitchesAt net.now.switches.now terminal node result.now }

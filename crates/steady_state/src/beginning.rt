@@ -1,65 +1,79 @@
-//! What nodes have by themselves and from inputs, and the strongest paths that spread from there.
+//! What paths begin with at a node: its own strength, or what an input brings through a switch.
 
-ghost use Rattle.std.specs.Prelude.{◌≡◌, ◌<◌, ◌≤◌, ◌⊎◌, ℕ, length, slice_index, true};
-ghost use Rattle.switch_net.specs.Path.{is_input, switch_strength, root_strength};
+ghost use Rattle.std.specs.Prelude.{◌≡◌, ◌<◌, ◌≤◌, ℕ, List, [], length, true};
+ghost use Rattle.switch_net.specs.Path.{is_input};
 ghost use Rattle.switch_net.specs.Terminals.{near_end, far_end};
-ghost use Rattle.steady_state.specs.Levels.{AreLow};
+ghost use Rattle.switch_net.specs.Vicinity.{IsReached};
+ghost use Rattle.steady_state.specs.Gathering.{IsGathering, AreGathering, AreGathered, AreMore};
+ghost use Rattle.steady_state.specs.Gathering.{ArePulled, BringAtMost};
+ghost use Rattle.steady_state.specs.Marked.{AddsMarks, AreMarked, AreReached, IsCovered, LeadsInside};
+ghost use Rattle.steady_state.specs.Spreading.{BringsAtMost};
 ghost use Rattle.steady_state.specs.Wired.{network_in, IsSwitchOf};
-ghost use Rattle.switch_net.specs.Sets.{IsInside};
-ghost use Rattle.steady_state.specs.Parts.{IsPassOver};
-ghost use Rattle.steady_state.specs.Passing.{IsOver, Finds, StrongestIs, GoesThrough};
-ghost use Rattle.steady_state.specs.Passing.{MayBeginAt, BeginsWith};
-ghost use Rattle.steady_state.specs.Passing.{HasBegun, InputsBringAtMost, floor_at};
 
 use crate::adjacent::{strength_at, switches_at};
-use crate::kinds::{begins_at, passes, strength_of};
-use crate::part::Pass;
-use crate::spreading::drain;
+use crate::kinds::{PathKind, begins_at, may_conduct, passes, strength_of};
+use crate::marking::mark;
 use crate::wiring::Wiring;
-use switch_net::{NodeSet, Side, Switch, Terminal};
+use switch_net::{Level, NodeSet, Side, Switch, Terminal};
 
-/// What a node of the part has by itself.
-fn alone(net: &Wiring<'_>, pass: &Pass<'_>, node: usize) -> u8
-    requires pass { IsPassOver (network_in net.now) pass.now }
-    requires node { IsOver pass.now node }
-    ensures attained { 0 < result → Finds (network_in net.now) pass.now node result }
-    ensures low { result ≤ 6 }
-    ensures own { MayBeginAt pass.now node
-        → floor_at pass.now node ≤ root_strength (network_in net.now) node
-        → root_strength (network_in net.now) node ≤ result }
+/// The greatest strengths that paths begin with at a node, or 0: definite paths, paths from roots in
+/// another state than one, and paths from roots in another state than zero.
+#[derive(Clone, Copy)]
+pub(crate) struct Begun {
+    pub definite: u8,
+    pub other_than_one: u8,
+    pub other_than_zero: u8,
+}
+
+/// What paths of a kind from the node itself begin with.
+fn own_one(net: &Wiring<'_>, kind: PathKind, state: &[Level], node: usize) -> u8
+    requires state { length state.now ≡ net.now.nodes }
+    requires node { node < net.now.nodes }
+    ensures { IsGathering (network_in net.now) state.now kind node result }
 {
-    let own = strength_at(net, node);
-    if begins_at(pass.kind, pass.part.state, node) && pass.floor[node] <= own {
-        own
+    if begins_at(kind, state, node) {
+        strength_at(net, node)
     } else {
         0
     }
 }
 
-/// What an input at the far end of a switch brings to the near end, where that is more than this.
-fn pull_one(net: &Wiring<'_>, pass: &Pass<'_>, side: Side, switch: &Switch, so_far: u8) -> u8
-    requires pass { IsPassOver (network_in net.now) pass.now }
-    requires switch { IsSwitchOf (network_in net.now) switch.now }
-    requires near { IsOver pass.now (near_end side switch.now) }
-    requires low { so_far ≤ 6 }
-    ensures attained { so_far < result
-        → Finds (network_in net.now) pass.now (near_end side switch.now) result }
-    ensures more { so_far ≤ result }
-    ensures low { result ≤ 6 }
-    ensures pulled { GoesThrough pass.now switch.now
-        → is_input (network_in net.now) (far_end side switch.now) ≡ true
-        → MayBeginAt pass.now (far_end side switch.now)
-        → floor_at pass.now (near_end side switch.now) ≤ switch_strength switch.now.kind
-        → switch_strength switch.now.kind ≤ result }
+/// What paths from the node itself begin with.
+fn own(net: &Wiring<'_>, state: &[Level], node: usize) -> Begun
+    requires state { length state.now ≡ net.now.nodes }
+    requires node { node < net.now.nodes }
+    ensures { AreGathering (network_in net.now) state.now node result }
 {
-    let from = switch.far(side) as usize;
-    let at = switch.near(side) as usize;
+    Begun {
+        definite: own_one(net, PathKind::Definite, state, node),
+        other_than_one: own_one(net, PathKind::FromOther(Level::One), state, node),
+        other_than_zero: own_one(net, PathKind::FromOther(Level::Zero), state, node),
+    }
+}
+
+/// What paths of a kind begin with at the near end of a switch with an input at its far end, where
+/// this is the greatest so far.
+#[inline(always)]
+fn bring_one(
+    net: &Wiring<'_>,
+    kind: PathKind,
+    state: &[Level],
+    side: Side,
+    switch: &Switch,
+    so_far: u8,
+) -> u8
+    requires state { length state.now ≡ net.now.nodes }
+    requires switch { IsSwitchOf (network_in net.now) switch.now }
+    requires input { is_input (network_in net.now) (far_end side switch.now) ≡ true }
+    requires gathering { IsGathering (network_in net.now) state.now kind (near_end side switch.now) so_far }
+    ensures gathering { IsGathering (network_in net.now) state.now kind (near_end side switch.now) result }
+    ensures more { so_far ≤ result }
+    ensures brings { BringsAtMost (network_in net.now) state.now kind [] side result switch.now }
+{
     let strength = strength_of(switch.kind);
     if so_far < strength
-        && pass.floor[at] <= strength
-        && net.inputs[from]
-        && begins_at(pass.kind, pass.part.state, from)
-        && passes(pass.kind, pass.part.state, switch)
+        && begins_at(kind, state, switch.far(side) as usize)
+        && passes(kind, state, switch)
     {
         strength
     } else {
@@ -67,88 +81,113 @@ fn pull_one(net: &Wiring<'_>, pass: &Pass<'_>, side: Side, switch: &Switch, so_f
     }
 }
 
-/// The most that inputs bring to a node of the part through switches on this side, or what it has
-/// so far.
-fn pull(net: &Wiring<'_>, pass: &Pass<'_>, side: Side, node: usize, before: u8) -> u8
-    requires pass { IsPassOver (network_in net.now) pass.now }
-    requires node { IsOver pass.now node }
-    requires low { before ≤ 6 }
-    ensures attained { before < result
-        → Finds (network_in net.now) pass.now node result }
-    ensures more { before ≤ result }
-    ensures low { result ≤ 6 }
-    ensures pulled { InputsBringAtMost (network_in net.now) pass.now side node result }
+/// The same for each kind.
+#[inline(always)]
+fn bring(net: &Wiring<'_>, state: &[Level], side: Side, switch: &Switch, begun: Begun) -> Begun
+    requires state { length state.now ≡ net.now.nodes }
+    requires switch { IsSwitchOf (network_in net.now) switch.now }
+    requires input { is_input (network_in net.now) (far_end side switch.now) ≡ true }
+    requires gathering { AreGathering (network_in net.now) state.now (near_end side switch.now) begun }
+    ensures gathering { AreGathering (network_in net.now) state.now (near_end side switch.now) result }
+    ensures more { AreMore begun result }
+    ensures bring { BringAtMost (network_in net.now) state.now side switch.now result }
 {
-    let mut best = before;
-    let places = switches_at(net, Terminal::End(side), node);
+    let not_one = PathKind::FromOther(Level::One);
+    let not_zero = PathKind::FromOther(Level::Zero);
+    Begun {
+        definite: bring_one(net, PathKind::Definite, state, side, switch, begun.definite),
+        other_than_one: bring_one(net, not_one, state, side, switch, begun.other_than_one),
+        other_than_zero: bring_one(net, not_zero, state, side, switch, begun.other_than_zero),
+    }
+}
+
+/// Looks at a switch from its near end: where it may conduct, an input at its far end brings
+/// something, and another node there is marked.
+#[inline(always)]
+fn look(
+    net: &Wiring<'_>,
+    state: &[Level],
+    side: Side,
+    switch: &Switch,
+    begun: Begun,
+    marks: &mut NodeSet,
+) -> Begun
+    requires state { length state.now ≡ net.now.nodes }
+    requires switch { IsSwitchOf (network_in net.now) switch.now }
+    requires gathering { AreGathering (network_in net.now) state.now (near_end side switch.now) begun }
+    requires marks { AreMarked (network_in net.now) marks.old }
+    ensures gathering { AreGathering (network_in net.now) state.now (near_end side switch.now) result }
+    ensures more { AreMore begun result }
+    ensures bring { BringAtMost (network_in net.now) state.now side switch.now result }
+    ensures marks { AreMarked (network_in net.now) marks.new }
+    ensures adds { AddsMarks marks.old marks.new }
+    ensures reached { (seeds : List ℕ)
+        → AreReached (network_in net.now) state.now seeds marks.old.inside
+        → IsReached (network_in net.now) state.now seeds (near_end side switch.now)
+        → AreReached (network_in net.now) state.now seeds marks.new.inside }
+    ensures marked { LeadsInside (network_in net.now) state.now side marks.new.inside switch.now }
+{
+    if !may_conduct(state, switch) {
+        return begun;
+    }
+    let far = switch.far(side);
+    if net.inputs[far as usize] {
+        return bring(net, state, side, switch, begun);
+    }
+    mark(net, far, marks);
+    begun
+}
+
+/// Looks at the switches that a node has on this side.
+#[inline(always)]
+fn look_all(
+    net: &Wiring<'_>,
+    state: &[Level],
+    side: Side,
+    node: u32,
+    before: Begun,
+    marks: &mut NodeSet,
+) -> Begun
+    requires state { length state.now ≡ net.now.nodes }
+    requires node { node < net.now.nodes }
+    requires gathering { AreGathering (network_in net.now) state.now node before }
+    requires marks { AreMarked (network_in net.now) marks.old }
+    ensures gathering { AreGathering (network_in net.now) state.now node result }
+    ensures more { AreMore before result }
+    ensures pulled { ArePulled (network_in net.now) state.now side node result }
+    ensures marks { AreMarked (network_in net.now) marks.new }
+    ensures adds { AddsMarks marks.old marks.new }
+    ensures reached { (seeds : List ℕ)
+        → AreReached (network_in net.now) state.now seeds marks.old.inside
+        → IsReached (network_in net.now) state.now seeds node
+        → AreReached (network_in net.now) state.now seeds marks.new.inside }
+    ensures covered { IsCovered (network_in net.now) state.now side marks.new.inside node }
+{
+    let mut begun = before;
+    let places = switches_at(net, Terminal::End(side), node as usize);
     'switches: for place in places {
         let switch = net.switches[*place as usize];
-        best = pull_one(net, pass, side, &switch, best);
+        begun = look(net, state, side, &switch, begun, marks);
     }
-    best
+    begun
 }
 
-/// What a node of the part has by itself and from inputs.
-fn first_strength(net: &Wiring<'_>, pass: &Pass<'_>, node: usize) -> u8
-    requires pass { IsPassOver (network_in net.now) pass.now }
-    requires node { IsOver pass.now node }
-    ensures { BeginsWith (network_in net.now) pass.now node result }
+/// What paths begin with at a node. Marks the nodes to which closed or unknown switches lead from it.
+pub(crate) fn gather(net: &Wiring<'_>, state: &[Level], node: u32, marks: &mut NodeSet) -> Begun
+    requires state { length state.now ≡ net.now.nodes }
+    requires node { node < net.now.nodes }
+    requires marks { AreMarked (network_in net.now) marks.old }
+    ensures gathered { AreGathered (network_in net.now) state.now node result }
+    ensures marks { AreMarked (network_in net.now) marks.new }
+    ensures adds { AddsMarks marks.old marks.new }
+    ensures reached { (seeds : List ℕ)
+        → AreReached (network_in net.now) state.now seeds marks.old.inside
+        → IsReached (network_in net.now) state.now seeds node
+        → AreReached (network_in net.now) state.now seeds marks.new.inside }
+    ensures left { IsCovered (network_in net.now) state.now Side.Left marks.new.inside node }
+    ensures right { IsCovered (network_in net.now) state.now Side.Right marks.new.inside node }
 {
-    let own = alone(net, pass, node);
-    let left = pull(net, pass, Side::Left, node, own);
-    pull(net, pass, Side::Right, node, left)
-}
-
-/// Has a node wait where it has some strength.
-fn enqueue(waiting: &mut NodeSet, node: u32, strength: u8)
-    requires { node < length waiting.old.inside }
-    ensures fits { length waiting.new.inside ≡ length waiting.old.inside }
-    ensures kept { (v : ℕ) → IsInside waiting.old.inside v → IsInside waiting.new.inside v }
-    ensures others { (v : ℕ) → IsInside waiting.new.inside v
-        → IsInside waiting.old.inside v ⊎ (v ≡ node) }
-    ensures waits { 0 < strength → IsInside waiting.new.inside node }
-{
-    if strength > 0 {
-        waiting.add(node);
-    }
-}
-
-/// Gives each node of the part what it has by itself and from inputs. Those that have some wait.
-fn fill(net: &Wiring<'_>, pass: &Pass<'_>, best: &mut [u8], waiting: &mut NodeSet)
-    requires pass { IsPassOver (network_in net.now) pass.now }
-    requires best { length best.old ≡ net.now.nodes }
-    requires low { AreLow best.old }
-    requires fits { length waiting.old.inside ≡ net.now.nodes }
-    requires idle { waiting.old.count ≡ 0 }
-    ensures fits { length waiting.new.inside ≡ net.now.nodes }
-    ensures filled { HasBegun (network_in net.now) pass.now best.new waiting.new.inside }
-{
-    'nodes: for place in 0..pass.part.order.len() {
-        let node = pass.part.order[place];
-        let strength = first_strength(net, pass, node as usize);
-        best[node as usize] = strength;
-        enqueue(waiting, node, strength);
-    }
-}
-
-/// Finds the strongest paths of a pass to the nodes of the part.
-pub(crate) fn find_strongest(
-    net: &Wiring<'_>,
-    pass: &Pass<'_>,
-    best: &mut [u8],
-    waiting: &mut NodeSet,
-)
-    requires pass { IsPassOver (network_in net.now) pass.now }
-    requires best { length best.old ≡ net.now.nodes }
-    requires low { AreLow best.old }
-    requires fits { length waiting.old.inside ≡ net.now.nodes }
-    requires idle { waiting.old.count ≡ 0 }
-    ensures strongest { (v : ℕ) → IsOver pass.now v
-        → StrongestIs (network_in net.now) pass.now v (slice_index best.new v) }
-    ensures low { AreLow best.new }
-    ensures fits { length waiting.new.inside ≡ net.now.nodes }
-    ensures idle { waiting.new.count ≡ 0 }
-{
-    fill(net, pass, best, waiting);
-    drain(net, pass, best, waiting);
+    let own = own(net, state, node as usize);
+    let left = look_all(net, state, Side::Left, node, own, marks);
+    look_all(net, state, Side::Right, node, left, marks)
 }

@@ -6,7 +6,7 @@ ghost use Rattle.switch_net.specs.Phase.{AreForced};
 ghost use Rattle.switch_net.specs.Sets.{IsAmong, IsInside};
 ghost use Rattle.switch_net.specs.Steady.{IsStep};
 ghost use Rattle.steady_state.specs.Rounds.{AreMadeX};
-ghost use Rattle.steady_state.specs.Levels.{AreLowStrengths, KeepsOthers};
+ghost use Rattle.steady_state.specs.Levels.{AreReadyFor, KeepsOthers};
 ghost use Rattle.steady_state.specs.Marked.{AddsMarks, AreMarked};
 ghost use Rattle.steady_state.specs.Wired.{network_in};
 
@@ -52,7 +52,7 @@ pub(crate) fn force_all(
     requires state { length state.old ≡ net.now.nodes }
     requires forced { length forced.old.inside ≡ net.now.nodes }
     requires marks { AreMarked (network_in net.now) marks.old }
-    requires strengths { AreLowStrengths net.now.nodes strengths.old }
+    requires strengths { AreReadyFor net.now.nodes strengths.old }
     requires step { IsStep (network_in net.now) state.old next.old }
     requires kept { KeepsOthers marks.old.inside state.old next.old }
     requires changed { length changed.old ≡ net.now.nodes }
@@ -60,7 +60,7 @@ pub(crate) fn force_all(
     ensures few { result ≤ count_by not net.now.inputs.now }
     ensures forced { length forced.new.inside ≡ net.now.nodes }
     ensures marks { length marks.new.inside ≡ net.now.nodes }
-    ensures strengths { AreLowStrengths net.now.nodes strengths.new }
+    ensures strengths { AreReadyFor net.now.nodes strengths.new }
 {
     forced.clear();
     let mut rounds = 0;
@@ -73,7 +73,7 @@ pub(crate) fn force_all(
         }
         marks.clear();
         mark_changed(net, &forced.nodes()[before..], marks);
-        step_marked(net, state, marks, strengths, next);
+        step_marked(net, state, marks, changed, strengths, next);
         rounds += 1;
     }
 }

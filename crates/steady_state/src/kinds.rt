@@ -14,6 +14,7 @@ pub(crate) enum PathKind {
 }
 
 /// The strength of a switch.
+#[inline(always)]
 pub(crate) fn strength_of(kind: SwitchKind) -> u8
     ensures { result ≡ switch_strength kind }
 {
@@ -24,6 +25,7 @@ pub(crate) fn strength_of(kind: SwitchKind) -> u8
 }
 
 /// Whether a switch is closed.
+#[inline(always)]
 pub(crate) fn is_closed_now(state: &[Level], switch: &Switch) -> bool
     requires { switch.now.gate < length state.now }
     ensures { result ≡ is_closed state.now switch.now }
@@ -36,6 +38,7 @@ pub(crate) fn is_closed_now(state: &[Level], switch: &Switch) -> bool
 }
 
 /// Whether a switch is closed or unknown.
+#[inline(always)]
 pub(crate) fn may_conduct(state: &[Level], switch: &Switch) -> bool
     requires { switch.now.gate < length state.now }
     ensures { result ≡ is_closed_or_unknown state.now switch.now }
@@ -48,6 +51,7 @@ pub(crate) fn may_conduct(state: &[Level], switch: &Switch) -> bool
 }
 
 /// Whether paths of a kind go through a switch.
+#[inline(always)]
 pub(crate) fn passes(kind: PathKind, state: &[Level], switch: &Switch) -> bool
     requires { switch.now.gate < length state.now }
     ensures { result ≡ goes_through state.now kind switch.now }
@@ -59,6 +63,7 @@ pub(crate) fn passes(kind: PathKind, state: &[Level], switch: &Switch) -> bool
 }
 
 /// Whether paths of a kind may begin at a node.
+#[inline(always)]
 pub(crate) fn begins_at(kind: PathKind, state: &[Level], node: usize) -> bool
     requires { node < length state.now }
     ensures { IsTrue result ↔ BeginsAt state.now kind node }

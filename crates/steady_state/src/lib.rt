@@ -10,12 +10,16 @@
 //! # How the proof goes
 //!
 //! A step needs three strengths at each node: that of the strongest definite path, and those of the
-//! strongest unblocked paths from roots in another state than one, and than zero (`Kinds`). Each is
-//! found by a pass. A pass gives each node what it has by itself and from inputs (`Within`), and then
-//! lifts the nodes at the far ends of switches until no switch brings more (`UnderWay`). Every switch
-//! brings no more, but those of nodes that wait and of the node that is looked at; entries only rise,
-//! which also bounds the work. When none waits, each entry bounds all paths of its kind, by a
-//! recursion on the path, and is the strength of one of them (`Within`, `Passes`). The two others say
+//! strongest unblocked paths from roots in another state than one, and than zero (`Kinds`). They are
+//! found vicinity by vicinity: what is listed while one is explored is closed, since no switch leads
+//! from it to an earlier one (`Vicinity`). What paths begin with at a node, by itself and from inputs,
+//! is gathered for all three kinds in one look at its switches (`Gathering`). Then a pass for each kind
+//! takes away what is below the floors, the strengths of the definite paths, and lifts the nodes at the
+//! far ends of switches until no switch brings more (`UnderWay`). Every switch brings no more, but those
+//! of nodes that wait and of the node that is looked at; entries only rise, which also bounds the work.
+//! A node need not wait where it is alone in its vicinity, or has no more than all have by themselves.
+//! When none waits, each entry bounds all paths of its kind, by a recursion on the path, and is the
+//! strength of one of them (`Within`, `Passes`). The two others say
 //! the steady value: one where no unblocked path has a root in another state than one, and likewise
 //! zero. A step of the marked vicinities is a step of the network where all other nodes are quiet
 //! (`Collecting`, `Moving`), and after it the nodes are quiet that are in no vicinity of what changed.
@@ -28,6 +32,8 @@
 mod adjacent;
 mod beginning;
 mod changes;
+mod exploring;
+mod finding;
 mod forcing;
 mod kinds;
 mod marking;

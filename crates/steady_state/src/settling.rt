@@ -8,15 +8,13 @@ ghost use Rattle.switch_net.specs.Steady.{IsStep, IsSteadyValue};
 ghost use Rattle.switch_net.specs.Phase.{AreSteadyOrX, HasRounds, IsPhase};
 ghost use Rattle.switch_net.specs.Vicinity.{IsReached};
 ghost use Rattle.steady_state.specs.Rounds.{DoStepsEnd};
-ghost use Rattle.steady_state.specs.Levels.{AreLowStrengths, AreSteady, KeepsOthers};
+ghost use Rattle.steady_state.specs.Levels.{AreReadyFor, AreSteady, KeepsOthers};
 ghost use Rattle.steady_state.specs.Marked.{AreMarked, IsNear, IsQuiet, IsRestedBut, States};
 ghost use Rattle.steady_state.specs.Wired.{network_in};
 
 use crate::changes::{changes, commit, mark_all_touched, mark_changed};
 use crate::forcing::force_all;
-use crate::stepping::{
-    clear_strengths, mark_afresh, step_all, step_marked, step_near_nodes, step_seeds,
-};
+use crate::stepping::{mark_afresh, step_all, step_marked, step_near_nodes, step_seeds};
 use crate::wiring::Wiring;
 use std::alloc::{AllocError, Global};
 use switch_net::{Level, Net, NodeSet, Strengths};
@@ -38,6 +36,7 @@ pub fn step(alloc: Global, net: &Net, state: &[Level]) -> Result<Vec<Level>, All
 {
     let mut marks = NodeSet::build(alloc, state.len())?;
     let mut strengths = Strengths::build(alloc, state.len())?;
+    let mut seeds = vec![in alloc; 0; state.len()]?;
     let mut next = Vec::from_slice(alloc, state)?;
     let wiring = Wiring {
         nodes: net.nodes,
@@ -46,7 +45,14 @@ pub fn step(alloc: Global, net: &Net, state: &[Level]) -> Result<Vec<Level>, All
         inputs: net.inputs.items(),
         adjacency: &net.work.adjacency,
     };
-    step_all(&wiring, state, &mut marks, &mut strengths, &mut next);
+    step_all(
+        &wiring,
+        state,
+        &mut marks,
+        &mut seeds,
+        &mut strengths,
+        &mut next,
+    );
     Ok(next)
 }
 
@@ -70,7 +76,7 @@ pub fn settle(net: &mut Net, state: &mut [Level], budget: u32) -> Settled
 
 /// Settles as `settle` does. Where some nodes are told, the network rests but for them: a step
 /// changes nothing that switches at which they stand do not lead to. The phase then costs what its
-/// changes cost, beside the copy of a byte or two for each node.
+/// changes cost, beside the copy of a byte for each node.
 pub fn settle_from(
     net: &mut Net,
     state: &mut [Level],
@@ -147,6 +153,7 @@ pub fn step_within(net: &mut Net, old: &[Level], new: &mut [Level], seeds: &[u32
         old,
         seeds,
         &mut net.work.marks,
+        net.work.changed.items_mut(),
         &mut net.work.strengths,
         new,
     );
@@ -178,6 +185,7 @@ pub fn step_near(net: &mut Net, old: &[Level], new: &mut [Level], nodes: &[u32],
         nodes,
         held,
         &mut net.work.marks,
+        net.work.changed.items_mut(),
         &mut net.work.strengths,
         new,
     );
@@ -221,13 +229,13 @@ fn take_steps(
     ensures ends { DoStepsEnd (network_in net.now) budget state.old
         result state.new next.new marks.new.inside }
     ensures marks { AreMarked (network_in net.now) marks.new }
-    ensures strengths { AreLowStrengths net.now.nodes strengths.new }
+    ensures strengths { AreReadyFor net.now.nodes strengths.new }
 {
-    clear_strengths(strengths);
+    strengths.waiting.clear();
     next.copy_from_slice(state);
     let mut steps = 0;
     'steps: loop {
-        step_marked(net, state, marks, strengths, next);
+        step_marked(net, state, marks, changed, strengths, next);
         let moved = changes(marks.nodes(), state, next, changed);
         if moved == 0 {
             return Some(steps);

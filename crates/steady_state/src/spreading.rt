@@ -1,9 +1,9 @@
 //! Strengths spread from node to node, until no switch brings more.
 
-ghost use Rattle.std.specs.Prelude.{◌≡◌, ◌<◌, ◌≤◌, ℕ, [], ◌∷◌, length, slice_index};
+ghost use Rattle.std.specs.Prelude.{◌≡◌, ◌<◌, ◌≤◌, ◌↔◌, ℕ, [], ◌∷◌, IfSome, IsTrue, length, slice_index};
 ghost use Rattle.switch_net.specs.Terminals.{near_end};
 ghost use Rattle.steady_state.specs.Wired.{network_in, IsSwitchOf};
-ghost use Rattle.steady_state.specs.Parts.{IsPassOver};
+ghost use Rattle.steady_state.specs.Parts.{IsPassOver, floors_in};
 ghost use Rattle.steady_state.specs.Passing.{IsOver, IsSpreading, BringsNoMore, BringsNoMoreFrom};
 ghost use Rattle.steady_state.specs.Spreading.{IsLift, IsRaised};
 
@@ -13,16 +13,29 @@ use crate::part::Pass;
 use crate::wiring::Wiring;
 use switch_net::{NodeSet, Side, Switch, Terminal};
 
+/// Whether a strength is no less than the floor of a node.
+#[inline(always)]
+fn is_high(floor: Option<&[u8]>, node: u32, strength: u8) -> bool
+    requires { IfSome floor (λ floors. node < length floors.now) }
+    ensures { IsTrue result ↔ (slice_index (floors_in floor.entry) node ≤ strength) }
+{
+    match floor {
+        None => true,
+        Some(floors) => floors[node as usize] <= strength,
+    }
+}
+
 /// Raises the entry of `to` to what a switch of this strength brings from `from`, where that is
 /// more and no less than the floor. Says whether it rose.
-fn lift(from: u32, to: u32, strength: u8, floor: &[u8], best: &mut [u8]) -> bool
+#[inline(always)]
+fn lift(from: u32, to: u32, strength: u8, floor: Option<&[u8]>, best: &mut [u8]) -> bool
     requires from { from < length best.old }
     requires to { to < length best.old }
-    requires floor { to < length floor.now }
-    ensures { IsLift floor.now best.old best.new from to strength result }
+    requires floor { IfSome floor (λ floors. to < length floors.now) }
+    ensures { IsLift (floors_in floor.entry) best.old best.new from to strength result }
 {
     let brought = best[from as usize].min(strength);
-    if best[to as usize] < brought && floor[to as usize] <= brought {
+    if best[to as usize] < brought && is_high(floor, to, brought) {
         best[to as usize] = brought;
         true
     } else {
@@ -31,6 +44,7 @@ fn lift(from: u32, to: u32, strength: u8, floor: &[u8], best: &mut [u8]) -> bool
 }
 
 /// Lifts the node at the far end of a switch. It waits then, if it rose.
+#[inline(always)]
 fn relax(
     net: &Wiring<'_>,
     pass: &Pass<'_>,
@@ -55,8 +69,8 @@ fn relax(
         ≡ slice_index best.old (near_end side switch.now) }
 {
     let to = switch.far(side);
-    if pass.part.inside[to as usize]
-        && passes(pass.kind, pass.part.state, switch)
+    if passes(pass.kind, pass.part.state, switch)
+        && !net.inputs[to as usize]
         && lift(
             switch.near(side),
             to,
@@ -71,6 +85,7 @@ fn relax(
 
 /// Lifts the nodes at the far ends of the switches that a node has on this side. Those that rose
 /// wait then.
+#[inline(always)]
 fn visit(
     net: &Wiring<'_>,
     pass: &Pass<'_>,

@@ -1,7 +1,7 @@
 use Rattle.std.proofs.Common.{◌≤◌, ◌-◌, false, replicate}
 use Rattle.switch_net.specs.Phase.{Rounds}
 use Rattle.steady_state.specs.Rounds.{IsRoundDue}
-use Rattle.steady_state.specs.Levels.{AreLowStrengths}
+use Rattle.steady_state.specs.Levels.{AreReadyFor}
 use Rattle.steady_state.specs.Marked.{AreMarked}
 use Rattle.steady_state.specs.Wired.{network_in}
 use Rattle.steady_state.proofs.forcing.force_all.Given as goal
@@ -13,7 +13,7 @@ invariant-rounds l = record {
   few : l.rounds ≤ l.forced.count;
   marks : AreMarked (network_in l.net) l.marks;
   due : IsRoundDue (network_in l.net) l.forced.inside l.state l.next l.marks.inside;
-  strengths : AreLowStrengths l.net.nodes l.strengths;
+  strengths : AreReadyFor l.net.nodes l.strengths;
 }
 
 abbrev pub decreases-rounds : goal.decreases-rounds

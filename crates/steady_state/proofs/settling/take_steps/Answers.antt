@@ -69,7 +69,8 @@ mark_changed-requires-clause-changed c =
 
 pub mark_changed-requires-clause-marks : goal.mark_changed-requires-clause-marks
 mark_changed-requires-clause-marks c =
-    none_marked (network_in c.args.net.now) c.clear.new.self (c.clear.ensures.fits ∙ c.step_marked.ensures.marks.fits) c.clear.ensures.empty
+    none_marked (network_in c.args.net.now) c.clear-in-steps.new.self (c.clear-in-steps.ensures.fits ∙ c.step_marked.ensures.marks.fits)
+    c.clear-in-steps.ensures.empty
 
 pub steps-preserved : goal.steps-preserved
 steps-preserved c =

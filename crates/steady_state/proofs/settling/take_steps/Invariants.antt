@@ -1,6 +1,6 @@
 use Rattle.std.proofs.Common.{◌≡◌, ◌≤◌, ◌-◌}
 use Rattle.switch_net.specs.Phase.{Steps, NoneRests}
-use Rattle.steady_state.specs.Levels.{AreLowStrengths}
+use Rattle.steady_state.specs.Levels.{AreReadyFor}
 use Rattle.steady_state.specs.Marked.{AreMarked, IsQuiet}
 use Rattle.steady_state.specs.Wired.{network_in}
 use Rattle.steady_state.proofs.settling.take_steps.Given as goal
@@ -13,7 +13,7 @@ invariant-steps l = record {
   same : l.next ≡ l.state;
   marks : AreMarked (network_in l.net) l.marks;
   quiet : IsQuiet (network_in l.net) l.state l.marks.inside;
-  strengths : AreLowStrengths l.net.nodes l.strengths;
+  strengths : AreReadyFor l.net.nodes l.strengths;
 }
 
 abbrev pub decreases-steps : goal.decreases-steps

@@ -1,10 +1,15 @@
 use Rattle.std.proofs.Common.{◌≡◌, ◌∙◌, arith, refl, slice_index, slice_index_or}
 use Rattle.switch_net.specs.declared.terminals.Terminal.TheVariants.{End}
 use Rattle.switch_net.proofs.Counting.{no_switch}
+use Rattle.steady_state.specs.Parts.{floors_in}
+use Rattle.steady_state.specs.Passing.{IsOver}
 use Rattle.steady_state.specs.Spreading.{IsRelaxed}
 use Rattle.steady_state.proofs.UnderWay.{raised_same, raised_then, relaxed_up}
 use Rattle.steady_state.proofs.Wires.{switch_at, each_at, next_at}
 use Rattle.steady_state.proofs.spreading.visit.Goals as goal
+
+pub switches_at-places-requires : goal.switches_at-places-requires
+switches_at-places-requires c = (c.requires.pass.part.storage c.args.node c.requires.node).0
 
 pub bounds-net-place : goal.bounds-net-place
 bounds-net-place c = c.switches_at-places.ensures.stand c.switches.place-index c.switches-test.true
@@ -39,9 +44,10 @@ switches-preserved c =
           inv.raised here.raised;
       same = same ∙ inv.same;
       relaxed = next_at c.args.net.now.switches.now (End c.args.side) c.args.node c.switches_at-places.result.now places
-          (IsRelaxed c.args.pass.now.part.state.now c.args.pass.now.kind c.args.pass.now.part.inside.now c.args.pass.now.floor.now c.relax.new.best c.args.side)
+          (IsRelaxed c.args.pass.now.part.state.now c.args.pass.now.kind (IsOver c.args.pass.now) (floors_in c.args.pass.now.floor) c.relax.new.best
+          c.args.side)
           c.switches.place-index no_switch c.switches-test.true
-          (λ i lt d. relaxed_up c.args.pass.now.part.state.now c.args.pass.now.kind c.args.pass.now.part.inside.now c.args.pass.now.floor.now c.switches.best
+          (λ i lt d. relaxed_up c.args.pass.now.part.state.now c.args.pass.now.kind (IsOver c.args.pass.now) (floors_in c.args.pass.now.floor) c.switches.best
           c.relax.new.best c.args.side
           (slice_index_or c.args.net.now.switches.now (slice_index c.switches_at-places.result.now i) d) (rw (places.own i d (omega arith)) same)
           here.raised.above (inv.relaxed i lt d)) here.relaxed;
@@ -50,5 +56,5 @@ switches-preserved c =
 pub returns-clause-relaxed : goal.returns-clause-relaxed
 returns-clause-relaxed c =
     each_at c.args.net.now.switches.now (End c.args.side) c.args.node c.switches_at-places.result.now c.switches_at-places.ensures
-    (IsRelaxed c.args.pass.now.part.state.now c.args.pass.now.kind c.args.pass.now.part.inside.now c.args.pass.now.floor.now c.switches.best c.args.side)
+    (IsRelaxed c.args.pass.now.part.state.now c.args.pass.now.kind (IsOver c.args.pass.now) (floors_in c.args.pass.now.floor) c.switches.best c.args.side)
     (λ i lt d. c.switches.invariant.relaxed i (omega arith) d)

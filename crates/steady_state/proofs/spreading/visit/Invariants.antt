@@ -1,5 +1,7 @@
 use Rattle.std.proofs.Common.{◌≡◌, ◌<◌, ℕ, [], ◌∷◌, length, slice_index, slice_index_or}
 use Rattle.switch_net.specs.declared.switches.Switch.{Switch}
+use Rattle.steady_state.specs.Parts.{floors_in}
+use Rattle.steady_state.specs.Passing.{IsOver}
 use Rattle.steady_state.specs.Wired.{network_in}
 use Rattle.steady_state.specs.Spreading.{IsRelaxed, IsWorking, IsRaised}
 use Rattle.steady_state.proofs.spreading.visit.Given as goal
@@ -7,10 +9,10 @@ use Rattle.steady_state.proofs.spreading.visit.Given as goal
 abbrev pub invariant-switches : goal.invariant-switches
 invariant-switches l = record {
   fits : length l.waiting.inside ≡ l.net.nodes;
-  working : IsWorking (network_in l.net) l.pass.part.state.now l.pass.kind l.pass.part.inside.now l.pass.floor.now l.best l.waiting.inside (l.node ∷ []);
+  working : IsWorking (network_in l.net) l.pass.part.state.now l.pass.kind (IsOver l.pass) (floors_in l.pass.floor) l.best l.waiting.inside (l.node ∷ []);
   raised : IsRaised l.fn.best l.best l.fn.waiting.count l.waiting.count;
   same : slice_index l.best l.node ≡ slice_index l.fn.best l.node;
   relaxed : (i : ℕ) → i < l.place-index → (d : Switch) →
-      IsRelaxed l.pass.part.state.now l.pass.kind l.pass.part.inside.now l.pass.floor.now l.best l.side
+      IsRelaxed l.pass.part.state.now l.pass.kind (IsOver l.pass) (floors_in l.pass.floor) l.best l.side
       (slice_index_or l.net.switches.now (slice_index l.places i) d);
 }

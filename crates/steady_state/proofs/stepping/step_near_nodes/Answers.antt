@@ -5,7 +5,7 @@ use Rattle.switch_net.specs.Sets.{IsInside}
 use Rattle.steady_state.specs.Marked.{AreEndsMarked}
 use Rattle.steady_state.specs.Wired.{network_in}
 use Rattle.steady_state.proofs.Collecting.{chain_inside, none_marked}
-use Rattle.steady_state.proofs.Moving.{ends_grown, gated_grown, part_of}
+use Rattle.steady_state.proofs.Moving.{ends_grown, gated_grown}
 use Rattle.steady_state.proofs.stepping.step_near_nodes.Goals as goal
 
 -- more marks leave the ends of the switches at the held node marked
@@ -19,26 +19,20 @@ beside_grown net inside new (Some v) grown marked = (
 
 pub mark_changed-requires-clause-marks : goal.mark_changed-requires-clause-marks
 mark_changed-requires-clause-marks c =
-    none_marked (network_in c.args.net.now) c.clear.new.self (c.clear.ensures.fits ∙ c.requires.marks) c.clear.ensures.empty
-
-pub step_part-requires-clause-part : goal.step_part-requires-clause-part
-step_part-requires-clause-part c = part_of (network_in c.args.net.now) c.close.new.marks _ c.requires.state c.items.ensures c.nodes.ensures
-    c.close.ensures.marks c.close.ensures.left c.close.ensures.right
+    none_marked (network_in c.args.net.now) c.clear-2.new.self (c.clear-2.ensures.fits ∙ c.requires.marks) c.clear-2.ensures.empty
 
 pub returns-clause-near : goal.returns-clause-near
 returns-clause-near c =
     let net = network_in c.args.net.now in
-    let inside = c.close.new.marks.inside in
+    let inside = c.step_vicinities.new.marks.inside in
     record {
-      storage = c.close.ensures.marks.storage;
-      listed = λ i lt st. c.close.ensures.grown (slice_index c.args.nodes.now i)
+      storage = c.step_vicinities.ensures.marks.storage;
+      listed = λ i lt st. c.step_vicinities.ensures.grown (slice_index c.args.nodes.now i)
           (c.mark_beside.ensures.grown (slice_index c.args.nodes.now i) (c.mark_changed.ensures.changed i lt st));
       gated = λ i lt. gated_grown net c.mark_changed.new.marks.inside inside (slice_index c.args.nodes.now i)
-          (λ u ins. c.close.ensures.grown u (c.mark_beside.ensures.grown u ins)) (c.mark_changed.ensures.gated i lt);
-      beside = beside_grown net c.mark_beside.new.marks.inside inside c.args.held c.close.ensures.grown c.mark_beside.ensures.beside;
+          (λ u ins. c.step_vicinities.ensures.grown u (c.mark_beside.ensures.grown u ins)) (c.mark_changed.ensures.gated i lt);
+      beside = beside_grown net c.mark_beside.new.marks.inside inside c.args.held c.step_vicinities.ensures.grown c.mark_beside.ensures.beside;
       closed = λ m v ins i. let e = i.ends in
-          rw e at (chain_inside net c.args.state.now inside c.close.ensures.left c.close.ensures.right m i.chain ins i.is_chain);
+          rw e at (chain_inside net c.args.state.now inside c.step_vicinities.ensures.closed.left c.step_vicinities.ensures.closed.right m i.chain ins
+          i.is_chain);
     }
-
-pub returns-clause-steady : goal.returns-clause-steady
-returns-clause-steady c = let inside = c.items.ensures in rw inside at c.step_part.ensures.steady

@@ -1,17 +1,23 @@
-use Rattle.std.proofs.Common.{◌∙◌}
+use Rattle.std.proofs.Common.{◌∙◌, false, inl, inr, slice_index_or}
+use Rattle.std.proofs.lemmas.Bool.{cases_Bool}
 use Rattle.steady_state.specs.Wired.{network_in}
 use Rattle.steady_state.proofs.Collecting.{none_marked, reached_inside}
-use Rattle.steady_state.proofs.Moving.{part_of}
 use Rattle.steady_state.proofs.stepping.step_seeds.Goals as goal
 
-pub collect-requires-clause-marks : goal.collect-requires-clause-marks
-collect-requires-clause-marks c = none_marked (network_in c.args.net.now) c.clear.new.self (c.clear.ensures.fits ∙ c.requires.marks) c.clear.ensures.empty
-
-pub step_part-requires-clause-part : goal.step_part-requires-clause-part
-step_part-requires-clause-part c = part_of (network_in c.args.net.now) c.collect.new.marks _ c.requires.state c.items.ensures c.nodes.ensures
-    c.collect.ensures.marks c.collect.ensures.left c.collect.ensures.right
+pub mark_seeds-requires-clause-marks : goal.mark_seeds-requires-clause-marks
+mark_seeds-requires-clause-marks c =
+    none_marked (network_in c.args.net.now) c.clear-2.new.self (c.clear-2.ensures.fits ∙ c.requires.marks) c.clear-2.ensures.empty
 
 pub returns-clause-steady : goal.returns-clause-steady
-returns-clause-steady c = λ v reached. c.step_part.ensures.steady v (rw c.items.ensures
-    (reached_inside (network_in c.args.net.now) c.args.state.now c.args.seeds.now c.collect.new.marks.inside c.collect.ensures.left c.collect.ensures.right
-    c.collect.ensures.seeds v reached))
+returns-clause-steady c = λ v reached.
+    let here = c.step_vicinities.ensures in
+    here.steady v (reached_inside (network_in c.args.net.now) c.args.state.now c.args.nodes.now c.step_vicinities.new.marks.inside here.closed.left
+    here.closed.right (λ u is st. here.grown u (c.mark_seeds.ensures.seeds u is st)) v reached)
+
+pub returns-clause-kept : goal.returns-clause-kept
+returns-clause-kept c = λ v out.
+    let here = c.step_vicinities.ensures in
+    here.kept v (elim (cases_Bool (slice_index_or c.step_vicinities.new.marks.inside v false)) [
+      | inl ins ↦ absurd (out (here.reached c.args.nodes.now (c.mark_seeds.ensures.reached c.args.state.now) v ins))
+      | inr off ↦ off
+    ])
