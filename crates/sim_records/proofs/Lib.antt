@@ -1,3 +1,4 @@
 mod Additions
 mod WrittenNumbers
 mod WrittenRecords
+mod DraftLaws

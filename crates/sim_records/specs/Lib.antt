@@ -1,3 +1,4 @@
 pub mod Switches
 pub mod SimRecords
 pub mod SimNames
+pub mod Drafts

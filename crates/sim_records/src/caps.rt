@@ -9,14 +9,20 @@ use ext_model::NodeRec;
 use names_lists::Name;
 use std::alloc::{AllocError, Global};
 
+/// The capacitance of a node, in units of a sim file.
+pub fn cap_of(node: &NodeRec) -> i128
+    ensures { result ≡ (cap_of node.now).1 }
+{
+    node.cap.div_euclid(ATTOFARADS_IN_A_UNIT)
+}
+
 /// The capacitance of each node, in units of a sim file.
 pub fn caps_of(alloc: Global, nodes: &[NodeRec]) -> Result<Vec<(Name, i128)>, AllocError>
     ensures { IfOk result (λ caps. caps.items ≡ map cap_of nodes.now) }
 {
     let mut caps = Vec::new(alloc);
     for node in nodes {
-        let cap = node.cap.div_euclid(ATTOFARADS_IN_A_UNIT);
-        add(&mut caps, (node.name.copy(alloc)?, cap))?;
+        add(&mut caps, (node.name.copy(alloc)?, cap_of(node)))?;
     }
     Ok(caps)
 }

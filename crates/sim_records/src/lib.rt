@@ -3,11 +3,13 @@
 
 mod adding;
 mod caps;
+mod drafts;
 mod laws;
 mod limits;
 mod records;
 mod switches;
 
+pub use drafts::{SimDraft, SimText, sim_text_of};
 pub use laws::sim_records_are_read_back;
 pub use limits::MOST_SWITCHES;
 pub use records::sim_of;

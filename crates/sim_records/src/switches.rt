@@ -14,7 +14,7 @@ use sim_text::{SimFault, SimFet, SimLimit};
 use std::alloc::{AllocError, Global};
 
 // the letter of a transistor
-fn letter_of(kind: &[u8]) -> u8
+pub fn letter_of(kind: &[u8]) -> u8
     requires { kind.now ≢ [] }
     ensures { result ≡ letter_of kind.now }
 {
@@ -22,7 +22,7 @@ fn letter_of(kind: &[u8]) -> u8
 }
 
 // the width of a switch between terminals whose lengths are together that
-fn width_of(lengths: i128) -> i128
+pub fn width_of(lengths: i128) -> i128
     ensures value { result ≡ width_of lengths }
     ensures positive { pos 1 ≤ℤ result }
 {
@@ -30,7 +30,7 @@ fn width_of(lengths: i128) -> i128
 }
 
 // the length of a switch of that width
-fn length_of(area: i128, width: i128) -> i128
+pub fn length_of(area: i128, width: i128) -> i128
     requires { pos 1 ≤ℤ width }
     ensures { result ≡ length_of area width }
 {
@@ -38,7 +38,7 @@ fn length_of(area: i128, width: i128) -> i128
 }
 
 // the lengths of two terminals together
-fn together(source: &TermRec, drain: &TermRec) -> i128
+pub fn together(source: &TermRec, drain: &TermRec) -> i128
     requires source { unsigned_abs source.now.length < LENGTHS_EDGE }
     requires drain { unsigned_abs drain.now.length < LENGTHS_EDGE }
     ensures { result ≡ source.now.length +ℤ drain.now.length }

@@ -1,5 +1,5 @@
 pub mod WrittenLines
 pub mod WrittenBack
-mod AppendedText
+pub mod AppendedText
 pub mod SpelledTexts
 mod RefusedTexts

@@ -28,4 +28,4 @@ pub use laws::{
 };
 pub use limits::{CAP_EDGE, LONGEST_SIM_NAME, LONGEST_TEXT, SimLimit};
 pub use reading::read_sim;
-pub use writing::write_sim;
+pub use writing::{append_alias, append_cap, append_fet, append_header, write_sim};

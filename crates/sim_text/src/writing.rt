@@ -1,7 +1,7 @@
 //! Writes a sim text.
 ghost use Rattle.std.specs.Prelude.{◌≡◌, ◌≢◌, ◌<◌, ◌≤◌, ◌∷◌, ◌++◌, length, IfOk, IfErr, OnOk};
 ghost use Rattle.text_scan.specs.Decimal.{decimal};
-ghost use Rattle.sim_text.specs.declared.files.SimLine.TheVariants.{Header, Fet};
+ghost use Rattle.sim_text.specs.declared.files.SimLine.TheVariants.{Header, Fet, Cap, Alias};
 ghost use Rattle.sim_text.specs.declared.faults.SimFault.TheVariants.{Memory as OutOfMemory};
 ghost use Rattle.sim_text.specs.WrittenTexts.{line_saying, saying_cap, saying_alias, whole_line_saying};
 ghost use Rattle.sim_text.specs.WrittenTexts.{lines_saying, numbers_behind_blanks, sim_text, IsTooLong};
@@ -47,12 +47,14 @@ impl LineRecord for SimFet {
     ghost said = { Fet };
 
     fn write_words(&self, out: &mut Vec<u8>) -> Result<(), AllocError> {
-        out.push(self.letter)?;
-        append_word(out, self.gate.bytes())?;
-        append_word(out, self.source.bytes())?;
-        append_word(out, self.drain.bytes())?;
-        append_numbers(out, &self.numbers)?;
-        Ok(())
+        append_fet_words(
+            out,
+            self.letter,
+            &self.gate,
+            &self.source,
+            &self.drain,
+            &self.numbers,
+        )
     }
 }
 
@@ -62,11 +64,7 @@ impl LineRecord for (Name, i128) {
     ghost said = { saying_cap };
 
     fn write_words(&self, out: &mut Vec<u8>) -> Result<(), AllocError> {
-        out.push(b'C')?;
-        append_word(out, self.0.bytes())?;
-        out.extend_from_slice(b" GND!")?;
-        append_number(out, self.1)?;
-        Ok(())
+        append_cap_words(out, &self.0, self.1)
     }
 }
 
@@ -76,10 +74,7 @@ impl LineRecord for (Name, Name) {
     ghost said = { saying_alias };
 
     fn write_words(&self, out: &mut Vec<u8>) -> Result<(), AllocError> {
-        out.push(b'=')?;
-        append_word(out, self.0.bytes())?;
-        append_word(out, self.1.bytes())?;
-        Ok(())
+        append_alias_words(out, &self.0, &self.1)
     }
 }
 
@@ -88,19 +83,107 @@ fn write_circuit(out: &mut Vec<u8>, sim: &SimFile) -> Result<(), SimFault>
     ensures refused { IfErr result (λ fault.
         fault ≢ OutOfMemory → IsTooLong fault (out.old.items ++ sim_text sim.now)) }
 {
-    write_header(out, &sim.tech)?;
+    append_header(out, &sim.tech)?;
     write_lines(out, sim.fets.items())?;
     write_lines(out, sim.caps.items())?;
     write_lines(out, sim.aliases.items())?;
     Ok(())
 }
 
-fn write_header(out: &mut Vec<u8>, tech: &Name) -> Result<(), AllocError>
+/// Writes the first line, with the technology's name, behind a text. Want of memory alone refuses, here and in the next three; part of the
+/// line may then stand there.
+pub fn append_header(out: &mut Vec<u8>, tech: &Name) -> Result<(), AllocError>
     ensures { OnOk result (out.new.items ≡ out.old.items ++ whole_line_saying (Header tech.now)) }
 {
     out.extend_from_slice(b"| units: 1 tech:")?;
     append_word(out, tech.bytes())?;
     out.extend_from_slice(b" format: MIT\n")?;
+    Ok(())
+}
+
+/// Writes the line of a transistor behind a text.
+pub fn append_fet(
+    out: &mut Vec<u8>,
+    letter: u8,
+    gate: &Name,
+    source: &Name,
+    drain: &Name,
+    numbers: &[i128],
+) -> Result<(), AllocError>
+    ensures { OnOk result (out.new.items ≡ out.old.items ++ whole_line_saying (Fet (record {
+      letter = letter;
+      gate = gate.now;
+      source = source.now;
+      drain = drain.now;
+      numbers = numbers.now;
+    }))) }
+{
+    append_fet_words(out, letter, gate, source, drain, numbers)?;
+    out.push(b'\n')?;
+    Ok(())
+}
+
+/// Writes the line of a node's capacitance behind a text.
+pub fn append_cap(out: &mut Vec<u8>, node: &Name, cap: i128) -> Result<(), AllocError>
+    ensures { OnOk result (out.new.items ≡ out.old.items ++ whole_line_saying (Cap node.now cap)) }
+{
+    append_cap_words(out, node, cap)?;
+    out.push(b'\n')?;
+    Ok(())
+}
+
+/// Writes the line of another name of a node behind a text.
+pub fn append_alias(out: &mut Vec<u8>, node: &Name, alias: &Name) -> Result<(), AllocError>
+    ensures { OnOk result (out.new.items ≡ out.old.items ++ whole_line_saying (Alias node.now alias.now)) }
+{
+    append_alias_words(out, node, alias)?;
+    out.push(b'\n')?;
+    Ok(())
+}
+
+// Writes the words of the line of a transistor.
+fn append_fet_words(
+    out: &mut Vec<u8>,
+    letter: u8,
+    gate: &Name,
+    source: &Name,
+    drain: &Name,
+    numbers: &[i128],
+) -> Result<(), AllocError>
+    ensures { OnOk result (out.new.items ≡ out.old.items ++ line_saying (Fet (record {
+      letter = letter;
+      gate = gate.now;
+      source = source.now;
+      drain = drain.now;
+      numbers = numbers.now;
+    }))) }
+{
+    out.push(letter)?;
+    append_word(out, gate.bytes())?;
+    append_word(out, source.bytes())?;
+    append_word(out, drain.bytes())?;
+    append_numbers(out, numbers)?;
+    Ok(())
+}
+
+// Writes the words of the line of a capacitance.
+fn append_cap_words(out: &mut Vec<u8>, node: &Name, cap: i128) -> Result<(), AllocError>
+    ensures { OnOk result (out.new.items ≡ out.old.items ++ line_saying (Cap node.now cap)) }
+{
+    out.push(b'C')?;
+    append_word(out, node.bytes())?;
+    out.extend_from_slice(b" GND!")?;
+    append_number(out, cap)?;
+    Ok(())
+}
+
+// Writes the words of the line of another name.
+fn append_alias_words(out: &mut Vec<u8>, node: &Name, alias: &Name) -> Result<(), AllocError>
+    ensures { OnOk result (out.new.items ≡ out.old.items ++ line_saying (Alias node.now alias.now)) }
+{
+    out.push(b'=')?;
+    append_word(out, node.bytes())?;
+    append_word(out, alias.bytes())?;
     Ok(())
 }
 

@@ -1,5 +1,5 @@
 use Rattle.sim_text.proofs.AppendedText.{header_appended, named}
-use Rattle.sim_text.proofs.writing.write_header.Goals as goal
+use Rattle.sim_text.proofs.writing.append_header.Goals as goal
 
 pub returns : goal.returns
 returns c =

@@ -1,0 +1,8 @@
+use Rattle.std.proofs.Common.{take}
+use Rattle.sim_records.specs.Switches.{switches_from}
+use Rattle.sim_records.specs.Drafts.{AddsSwitches}
+use Rattle.sim_records.proofs.drafts.add_from.Given as goal
+
+-- the switches to the terminals passed have been added
+abbrev pub invariant-loop-drain : goal.invariant-loop-drain
+invariant-loop-drain l = AddsSwitches (switches_from l.fet l.source (take l.drain-index l.others)) l.initial.draft l.draft

@@ -1,8 +1,0 @@
-use Rattle.sim_text.proofs.AppendedText.{fet_appended, named}
-use Rattle.sim_text.proofs.writing.SimFetLineRecord.write_words.Goals as goal
-
-pub returns : goal.returns
-returns c =
-    fet_appended c.args.self.now _ _ _ _ _ _ c.in_ok-push.ensures.items (named _ _ _ _ c.in_ok-append_word.ensures c.bytes.ensures)
-    (named _ _ _ _ c.in_ok-append_word-2.ensures c.bytes-2.ensures) (named _ _ _ _ c.in_ok-append_word-3.ensures c.bytes-3.ensures)
-    c.in_ok-append_numbers.ensures
