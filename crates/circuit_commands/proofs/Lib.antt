@@ -1,3 +1,4 @@
+mod WrittenSims
 pub mod CircuitInside
 mod TreeCommands
 pub mod RestLaws

@@ -1,10 +1,9 @@
 //! The files of circuits, and what is told of them.
-ghost use Rattle.std.specs.Prelude.{◌≡◌, ◌≤◌, ◌++◌, ◌∷◌, [], All, IfOk, IsOkUnless, OnOk, length};
-ghost use Rattle.sim_records.specs.declared.limits.TheConstants.{MOST_SWITCHES};
-ghost use Rattle.sim_records.specs.SimRecords.{HasLetterAndLengths, sim_of};
+ghost use Rattle.std.specs.Prelude.{◌≡◌, ◌++◌, ◌∷◌, [], All, IfOk, IsOkUnless, OnOk, codes};
+ghost use Rattle.sim_records.specs.SimRecords.{HasLetterAndLengths};
 ghost use Rattle.line_answers.specs.LineEffects.{reply};
 ghost use Rattle.circuit_commands.specs.Circuits.{IsFlatWritten, IsSimWritten, IsWritten, bare_line, bare_lines, bare_of};
-ghost use Rattle.circuit_commands.specs.Circuits.{counts_text, flat_reply, lines_of, sim_reply, stores_of};
+ghost use Rattle.circuit_commands.specs.Circuits.{counts_text, flat_reply, lines_of, stores_of};
 
 use crate::limits::{Limit, limit_word};
 use ext_model::{Circuit, FetRec};
@@ -14,8 +13,8 @@ use line_answers::{
 };
 use names_lists::{List, Name};
 use session_model::{Answer, Halt, ReportLine, Store};
-use sim_records::sim_of;
-use sim_text::{SimFault, SimFile, write_sim};
+use sim_records::{SimText, sim_text_of};
+use sim_text::SimFault;
 use std::alloc::{AllocError, Global};
 
 /// The files that a circuit is written into.
@@ -75,36 +74,50 @@ pub fn write_sim_file(alloc: Global, name: &Name, circuit: &Circuit) -> Result<W
     ensures written { IfOk result (IsSimWritten name.now circuit.now) }
     ensures memory { IsOkUnless result Halt.Memory }
 {
-    match sim_of(alloc, circuit) {
-        Ok(sim) => write_sim_records(alloc, name, circuit, &sim),
+    match sim_text_of(alloc, circuit) {
+        Ok(text) => {
+            let bare = bare_lines(alloc, circuit.fets.items())?;
+            store_sim(alloc, name, circuit.nodes.items().len(), bare, text)
+        }
         Err(SimFault::Memory) => Err(Halt::Memory),
-        Err(_) => Ok(Written::Passed(Limit::Switches)),
+        Err(SimFault::TooMany(_)) => Ok(Written::Passed(Limit::Switches)),
+        Err(_) => Ok(Written::Passed(Limit::Text)),
     }
 }
 
-// Writes the sim records of a circuit.
-fn write_sim_records(
+/// The sim text of a circuit with so many nodes in its file. Before the line that tells of it stand those of transistors without terminals.
+pub fn store_sim(
     alloc: Global,
     name: &Name,
-    circuit: &Circuit,
-    sim: &SimFile,
+    nodes: usize,
+    bare: Vec<ReportLine>,
+    text: SimText,
 ) -> Result<Written, Halt>
-    requires records { sim.now ≡ sim_of circuit.now }
-    requires few { length sim.now.fets ≤ MOST_SWITCHES }
-    ensures written { IfOk result (IsSimWritten name.now circuit.now) }
+    ensures stored { IfOk result (λ written. written ≡ Written.Stored
+        (bare.items ++ reply (counts_text (codes "sim ") name.now nodes text.switches (codes " switches")) ∷ [])
+        (record { name = name.now ++ codes ".sim"; bytes = text.bytes.items })) }
     ensures memory { IsOkUnless result Halt.Memory }
 {
-    match write_sim(alloc, sim) {
-        Ok(text) => stored(
-            alloc,
-            name,
-            b".sim",
-            text,
-            sim_lines(alloc, name, circuit, sim)?,
-        ),
-        Err(SimFault::Memory) => Err(Halt::Memory),
-        Err(_) => Ok(Written::Passed(Limit::Text)),
-    }
+    let SimText { bytes, switches } = text;
+    let lines = sim_lines(alloc, name, nodes, bare, switches)?;
+    stored(alloc, name, b".sim", bytes, lines)
+}
+
+// The lines that tell of a sim file: those of the transistors that are in no line of it, and one of the file.
+fn sim_lines(
+    alloc: Global,
+    name: &Name,
+    nodes: usize,
+    bare: Vec<ReportLine>,
+    switches: usize,
+) -> Result<Vec<ReportLine>, AllocError>
+    ensures { IfOk result (λ lines. lines.items
+        ≡ bare.items ++ reply (counts_text (codes "sim ") name.now nodes switches (codes " switches")) ∷ []) }
+{
+    let mut lines = bare;
+    let told = counts(alloc, b"sim ", name, nodes, switches, b" switches")?;
+    lines.push(reply(told))?;
+    Ok(lines)
 }
 
 // The text in the file of this name and ending, with these lines.
@@ -154,24 +167,6 @@ fn counts(
     Ok(text)
 }
 
-// The lines that tell of a sim file: of the transistors that are in no line of it, and of the file.
-fn sim_lines(
-    alloc: Global,
-    name: &Name,
-    circuit: &Circuit,
-    sim: &SimFile,
-) -> Result<Vec<ReportLine>, AllocError>
-    requires { sim.now ≡ sim_of circuit.now }
-    ensures { IfOk result (λ lines. lines.items ≡ bare_lines circuit.now.fets ++ reply (sim_reply name.now circuit.now) ∷ []) }
-{
-    let mut lines = bare_lines(alloc, circuit.fets.items())?;
-    let nodes = circuit.nodes.items().len();
-    let switches = sim.fets.items().len();
-    let text = counts(alloc, b"sim ", name, nodes, switches, b" switches")?;
-    lines.push(reply(text))?;
-    Ok(lines)
-}
-
 // A line for each transistor without terminals.
 fn bare_lines(alloc: Global, fets: &[FetRec]) -> Result<Vec<ReportLine>, AllocError>
     ensures { IfOk result (λ lines. lines.items ≡ bare_lines fets.now) }
@@ -183,8 +178,8 @@ fn bare_lines(alloc: Global, fets: &[FetRec]) -> Result<Vec<ReportLine>, AllocEr
     Ok(lines)
 }
 
-// Adds the line of a transistor, where it has no terminals.
-fn add_bare(alloc: Global, lines: &mut Vec<ReportLine>, fet: &FetRec) -> Result<(), AllocError>
+/// Adds the line of a transistor, where it has no terminals.
+pub fn add_bare(alloc: Global, lines: &mut Vec<ReportLine>, fet: &FetRec) -> Result<(), AllocError>
     ensures { OnOk result (lines.new.items ≡ lines.old.items ++ bare_of fet.now) }
 {
     if !fet.terminals.items().is_empty() {

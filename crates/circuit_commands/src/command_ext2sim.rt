@@ -10,13 +10,14 @@ ghost use Rattle.ext_loading.specs.Loads.{AreRead, CanBeFlattened};
 ghost use Rattle.line_answers.specs.LineEffects.{IsOfInside};
 ghost use Rattle.circuit_commands.specs.CommandExt2sim.{Ext2simMeans};
 
-use crate::circuits::{write_sim_file, written_alone};
+use crate::circuits::written_alone;
+use crate::given::write_given;
 use crate::refusals::{refuse_flat, refuse_tree};
-use circuit_laws::flat_transistors_have_letter_and_lengths;
+use circuit_laws::flat_transistor_has_letter_and_lengths;
 use circuit_model::FlatFault;
 use ext_loading::{LoadedExts, load_exts};
 use ext_model::ArrayExt;
-use flatten::flatten;
+use flatten::flatten_into;
 use names_lists::Name;
 use outside_io::Shelf;
 use session_model::{Answer, Halt};
@@ -54,10 +55,10 @@ fn sim_of_records(
     ensures inside { IfOk result (λ answer. IsOfInside answer.lines.items) }
     ensures memory { IsOkUnless result Halt.Memory }
 {
-    flat_transistors_have_letter_and_lengths();
-    match flatten(alloc, exts, cell) {
+    flat_transistor_has_letter_and_lengths();
+    match flatten_into(alloc, exts, cell) {
         Ok(circuit) => {
-            let written = write_sim_file(alloc, cell, &circuit)?;
+            let written = write_given(alloc, cell, circuit)?;
             written_alone(alloc, number, written)
         }
         Err(FlatFault::Memory) => Err(Halt::Memory),

@@ -3,6 +3,7 @@
 
 mod circuits;
 mod command_ext2sim;
+mod given;
 mod limits;
 mod refusals;
 

@@ -1,8 +1,8 @@
 -- Sim records can be made of flat transistors: their names are those of the records' transistors, and their lengths are sums of some of theirs.
-use Rattle.std.proofs.Common.{◌≡◌, ◌<◌, ◌≤◌, ◌+◌, ℕ, zero, suc, ℤ, pos, negsuc, Bool, true, false, cond, List, [], ◌∷◌, ◌++◌, length, refl, sym, ◌∙◌}
+use Rattle.std.proofs.Common.{◌≡◌, ◌<◌, ◌≤◌, ◌+◌, ℕ, zero, suc, ℤ, pos, negsuc, Bool, true, false, cond, List, [], ◌∷◌, ◌++◌, refl, sym, ◌∙◌}
 use Rattle.std.proofs.Common.{subst, inl, inr, arith}
 use Rattle.std.proofs.lemmas.Int.{ints}
-use Rattle.std.specs.Prelude.{◌≢◌, ◌+ℤ◌, ◌-ℤ◌, ◌≤ℤ◌, All, IsTrue, Option, Some, None, sum_by}
+use Rattle.std.specs.Prelude.{◌≢◌, ◌+ℤ◌, ◌-ℤ◌, ◌≤ℤ◌, IsTrue, Option, Some, None, sum_by}
 use Rattle.std.specs.Int.RustNames.{unsigned_abs}
 use Rattle.std.specs.Str.{bytes_eq}
 use Rattle.std.proofs.lemmas.List.Sums.{sum_by-cons}
@@ -22,7 +22,7 @@ use Rattle.ext_model.specs.NodeNames.{is_word}
 use Rattle.circuit_model.specs.Elements.{Element, elements_below, elements_of, ext_of, of_option}
 use Rattle.circuit_model.specs.FlatFets.{AreFlatFets, IsFlatFet, fets_in, fets_of, side_name}
 use Rattle.sim_records.specs.SimRecords.{HasLetterAndLengths}
-use Rattle.circuit_laws.specs.CircuitLaws.{FlatTransistorsHaveLetterAndLengths}
+use Rattle.circuit_laws.specs.CircuitLaws.{FlatTransistorHasLetterAndLengths, FlatTransistorsHaveLetterAndLengths}
 
 -- what holds of the record of an element and of all records holds of the record of each element at and below it
 below : (P : CellExt → Type 0) (levels : ℕ) (exts : List CellExt) (uses : List UseRec) (ext : CellExt) → P ext
@@ -89,9 +89,8 @@ word_some : (text : List ℕ) → IsTrue (is_word text) → text ≢ []
 word_some text is none = cc (subst (λ (t : List ℕ). IsTrue (is_word t)) none is)
 
 -- the flat transistor of a lawful one
-flat_fet : (nodes : List NodeRec) (element : Element) (fet flat : FetRec) → IsLawfulFet element.ext fet → IsFlatFet nodes element fet flat
-    → HasLetterAndLengths flat
-flat_fet nodes element fet flat lawful is = record {
+pub flat_transistor_has_letter_and_lengths : FlatTransistorHasLetterAndLengths
+flat_transistor_has_letter_and_lengths nodes element fet flat lawful is = record {
   letter = λ none. word_some fet.kind lawful.kind (sym is.kind ∙ none);
   lengths = All-from_In (λ side. unsigned_abs side.length < LENGTHS_EDGE) flat.terminals each;
 }
@@ -117,4 +116,4 @@ flat_transistors_have_letter_and_lengths exts root circuit records is =
         (λ ext there. All-In IsLawful exts ext records.lawful there) source.0 source.1.0 in
         let fet_lawful = All-In (IsLawfulFet source.0.ext) source.0.ext.fets pair.0 lawful.fets pair.1.0 in
         let flat_is = subst (λ (p : Element × FetRec). IsFlatFet circuit.nodes p.0 p.1 flat) (sym pair.1.1) one.1.1 in
-        flat_fet circuit.nodes source.0 pair.0 flat fet_lawful flat_is
+        flat_transistor_has_letter_and_lengths circuit.nodes source.0 pair.0 flat fet_lawful flat_is

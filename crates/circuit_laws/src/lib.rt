@@ -13,7 +13,7 @@
 //! one's, which are bounded together (`Writable`).
 #![tactic(auto)]
 
-ghost use Rattle.circuit_laws.specs.CircuitLaws.{CircuitsAreUnique, FlatTransistorsHaveLetterAndLengths};
+ghost use Rattle.circuit_laws.specs.CircuitLaws.{CircuitsAreUnique, FlatTransistorHasLetterAndLengths, FlatTransistorsHaveLetterAndLengths};
 
 /// Records mean one flat circuit at most at a root.
 pub fn circuits_are_unique()
@@ -23,4 +23,9 @@ pub fn circuits_are_unique()
 /// Sim records can be made of the flat circuit of lawful records.
 pub fn flat_transistors_have_letter_and_lengths()
     ensures { FlatTransistorsHaveLetterAndLengths }
+{}
+
+/// Sim records can be made of each flat transistor of a lawful one.
+pub fn flat_transistor_has_letter_and_lengths()
+    ensures { FlatTransistorHasLetterAndLengths }
 {}

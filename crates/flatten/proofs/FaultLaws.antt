@@ -1,10 +1,11 @@
 -- What trees without a fault keep to.
 use Rattle.std.proofs.Common.{◌≡◌, ℕ, ◌≤◌, Bool, cond, eqb, List, [], length, inl, inr, refl, sym, ◌∙◌, ap}
-use Rattle.std.specs.Prelude.{Option, Some, None, slice_get, IsSome}
+use Rattle.std.specs.Prelude.{Option, Some, None, Result, Ok, Err, IfOk, slice_get, IsSome}
 use Rattle.std.specs.Option.{option_or}
 use Rattle.std.proofs.lemmas.Bool.{cases_Bool, cases_lt, lt-ltb, eqb-true}
 use Rattle.finite_sets.proofs.Searches.{option_or-none}
 use Rattle.ext_model.specs.declared.records.CellExt.{CellExt}
+use Rattle.ext_model.specs.declared.records.FetRec.{FetRec}
 use Rattle.circuit_model.specs.declared.faults.FlatFault.{FlatFault}
 use Rattle.circuit_model.specs.declared.faults.FlatFault.TheVariants.{TooMany, Classes}
 use Rattle.circuit_model.specs.declared.limits.CircuitLimit.{CircuitLimit}
@@ -12,12 +13,15 @@ use Rattle.circuit_model.specs.declared.limits.CircuitLimit.TheVariants.{Depth, 
 use Rattle.circuit_model.specs.Elements.{Element, ext_of, elements_of}
 use Rattle.full_names.specs.declared.names.FullNames.{FullNames}
 use Rattle.full_names.specs.Names.{elements_in}
-use Rattle.circuit_model.specs.Refusals.{past, class_fault, node_count, merge_count, walk_fault, depth_of, count_fault, flat_fault, IsFlatFaultOf}
+use Rattle.circuit_model.specs.Refusals.{past, class_fault, node_count, merge_count, walk_fault, depth_of, count_fault, flat_fault, IsFlatFaultOf, IsFlatOf}
 use Rattle.circuit_model.specs.declared.limits.TheConstants.{LONGEST_CHAIN, MOST_FLAT_ELEMENTS, MOST_NODES, MOST_MERGES}
 use Rattle.element_tree.specs.Trees.{tree_fault}
 use Rattle.full_names.specs.NameLists.{name_fault}
 use Rattle.flat_limits.specs.Counts.{node_fault, merge_fault}
-use Rattle.flatten.specs.Stages.{use_fault, number_fault, late_fault, HasNoUseFault, HasNoCountFault, IsLateFaultOf}
+use Rattle.flatten.specs.Stages.{use_fault, number_fault, late_fault, HasNoUseFault, HasNoCountFault, HasNoLateFault}
+use Rattle.flatten.specs.Stages.{IsLateFaultOf, IsMeantAt}
+use Rattle.flatten.specs.Sinks.{IsGiven}
+use Rattle.flatten.specs.declared.sinks.GivenCircuit.{GivenCircuit}
 
 -- a number that is not past its limit
 not_past : (most : ℕ) (limit : CircuitLimit) (number : ℕ) → past most limit number ≡ None → number ≤ most
@@ -69,9 +73,9 @@ count_none exts top used numbered =
     ap (λ (f : Option FlatFault). option_or f (option_or (past MOST_FLAT_ELEMENTS Elements (length elements)) numbers)) two.0
     ∙ ap (λ (f : Option FlatFault). option_or f numbers) two.1 ∙ numbered
 
-late_is_fault : (exts : List CellExt) (top : CellExt) (fault : FlatFault) → use_fault exts top ≡ None → number_fault exts top ≡ None
-    → late_fault exts top ≡ Some fault → flat_fault exts top ≡ Some fault
-late_is_fault exts top fault used numbered late =
+late_is : (exts : List CellExt) (top : CellExt) (found : Option FlatFault) → use_fault exts top ≡ None → number_fault exts top ≡ None
+    → late_fault exts top ≡ found → flat_fault exts top ≡ found
+late_is exts top found used numbered late =
     ap (λ (f : Option FlatFault). option_or f (option_or (count_fault exts top) (late_fault exts top)))
     (option_or-none (walk_fault exts top) (tree_fault exts top) used).0
     ∙ ap (λ (f : Option FlatFault). option_or f (late_fault exts top)) (count_none exts top used numbered) ∙ late
@@ -82,8 +86,27 @@ pub late_fault_at : (exts : List CellExt) (root : List ℕ) (number : ℕ) (top 
 late_fault_at exts root number top fault at found used numbered late = record {
   top = top;
   found = found;
-  faulty = late_is_fault exts top fault (used top at) (numbered top at) (late top at);
+  faulty = late_is exts top (Some fault) (used top at) (numbered top at) (late top at);
 }
+
+-- the circuit that is given is that of the tree, where it has no fault
+pub flat_given : {S : Type 0} (has : S → List ℕ → List FetRec → Type 0) (exts : List CellExt) (root : List ℕ) (number : ℕ) (top : CellExt)
+    → slice_get exts number ≡ Some top → ext_of exts root ≡ Some top → HasNoUseFault exts number → HasNoCountFault exts number
+    → (result : Result (GivenCircuit S) FlatFault) → IfOk result (λ _. HasNoLateFault exts number)
+    → IfOk result (IsGiven has (IsMeantAt exts number)) → IfOk result (IsGiven has (IsFlatOf exts root))
+flat_given has exts root number top at found used numbered (Ok given) sound meant = (
+  meant.0,
+  (
+    meant.1.0,
+    record {
+      top = top;
+      found = found;
+      sound = late_is exts top None (used top at) (numbered top at) (sound top at);
+      meaning = meant.1.1 top at;
+    },
+  ),
+)
+flat_given has exts root number top at found used numbered (Err fault) sound meant = tt
 
 -- what is there is something
 pub something : {X : Type 0} (found : Option X) → IsSome found → (x : X) × (found ≡ Some x)

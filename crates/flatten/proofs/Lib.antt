@@ -18,5 +18,6 @@ mod JoinLaws
 mod TerminalLaws
 mod FetLaws
 mod FlatNodeLaws
+mod GivenLaws
 mod FaultLaws
 mod ArrayLaws

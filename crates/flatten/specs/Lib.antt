@@ -7,5 +7,5 @@ pub mod Filled
 pub mod Amounts
 pub mod Sums
 pub mod Sides
-pub mod Fets
+pub mod Sinks
 pub mod Stages

@@ -5,14 +5,16 @@ ghost use Rattle.circuit_model.specs.Refusals.{IsFlatOf, IsFlatFaultOf, flat_fau
 ghost use Rattle.plain_records.specs.Plains.{plains, AreArrayRecords};
 ghost use Rattle.plain_records.specs.Thin.{thins};
 ghost use Rattle.plain_records.specs.Reached.{AreReached, HasNoReachFault, AreCalled, AreExpanded, IsExpandedAt};
+ghost use Rattle.flatten.specs.Sinks.{AllFit, IsGiven};
 ghost use Rattle.flatten.specs.Stages.{IsFaultAt};
 
 use crate::flat::{elements_at, flatten_plain};
+use crate::sinks::{AllFets, FetSink, GivenCircuit};
 use circuit_model::FlatFault;
 use ext_model::{ArrayExt, CellExt, Circuit};
 use flat_limits::{check_nodes, root_number};
 use full_names::full_names;
-use names_lists::Name;
+use names_lists::{List, Name};
 use plain_records::{check_rows, expanded, may_have_too_many, reached_records, thin_records};
 use std::alloc::Global;
 
@@ -78,6 +80,24 @@ fn plain_records(
     Ok(expanded(alloc, exts, order.items(), records, true)?)
 }
 
+/// The flat circuit of the tree of records whose root is this cell's, as `flatten` makes it, with its transistors given to a sink.
+pub fn flatten_into<S: FetSink>(
+    alloc: Global,
+    exts: &[ArrayExt],
+    root: &Name,
+) -> Result<GivenCircuit<S>, FlatFault>
+    requires records { AreArrayRecords exts.now }
+    requires root { IsSome (ext_of (plains exts.now) root.now) }
+    requires fit { AllFit S.fits }
+    ensures meaning { IfOk result (IsGiven S.has (IsFlatOf (plains exts.now) root.now)) }
+    ensures fault { IfErr result (λ fault. (fault ≡ FlatFault.Memory) ⊎ IsFlatFaultOf (plains exts.now) root.now fault) }
+{
+    let thin = thin_records(alloc, exts)?;
+    let top = root_number(thin.as_slice(), root);
+    let records = plain_records(alloc, exts, thin, top)?;
+    flatten_plain(alloc, records.as_slice(), root)
+}
+
 /// The flat circuit of the tree of records whose root is this cell's. It takes time near-linear in the uses of all records, and in the
 /// names, merges and transistors of all elements.
 ///
@@ -92,8 +112,16 @@ pub fn flatten(alloc: Global, exts: &[ArrayExt], root: &Name) -> Result<Circuit,
     ensures meaning { IfOk result (λ circuit. IsFlatOf (plains exts.now) root.now circuit) }
     ensures fault { IfErr result (λ fault. (fault ≡ FlatFault.Memory) ⊎ IsFlatFaultOf (plains exts.now) root.now fault) }
 {
-    let thin = thin_records(alloc, exts)?;
-    let top = root_number(thin.as_slice(), root);
-    let records = plain_records(alloc, exts, thin, top)?;
-    flatten_plain(alloc, records.as_slice(), root)
+    let GivenCircuit {
+        tech,
+        classes,
+        nodes,
+        sink: AllFets { fets },
+    } = flatten_into(alloc, exts, root)?;
+    Ok(Circuit {
+        tech,
+        classes,
+        nodes,
+        fets: List::of(fets),
+    })
 }

@@ -8,15 +8,17 @@ ghost use Rattle.circuit_model.specs.Refusals.{node_count, merge_count};
 ghost use Rattle.full_names.specs.Names.{AreNames, elements_in};
 ghost use Rattle.name_classes.specs.Classes.{AreClasses};
 ghost use Rattle.flatten.specs.Spots.{AreCellSpots, AreNamedOf};
+ghost use Rattle.flatten.specs.Sinks.{AllFit, IsGiven};
 
-use crate::fets::flat_fets;
+use crate::fets::give_flat_fets;
 use crate::filling::with_sums;
 use crate::nodes::named_nodes;
+use crate::sinks::{FetSink, GivenCircuit};
 use crate::spots::{CellSpots, cell_spots};
 use crate::sums::node_sums;
 use circuit_model::{MOST_MERGES, MOST_NODES};
 use element_tree::ElementTree;
-use ext_model::{CellExt, Circuit, NodeRec};
+use ext_model::{CellExt, NodeRec};
 use full_names::FullNames;
 use name_classes::NameClasses;
 use names_lists::List;
@@ -51,14 +53,14 @@ fn flat_nodes(
 }
 
 /// The circuit that the elements of a tree mean, whose root has this record. Want of memory alone refuses.
-pub fn circuit_of(
+pub fn circuit_of<S: FetSink>(
     alloc: Global,
     exts: &[CellExt],
     top: &CellExt,
     tree: &ElementTree,
     names: &FullNames<'_>,
     classes: &NameClasses,
-) -> Result<Circuit, AllocError>
+) -> Result<GivenCircuit<S>, AllocError>
     requires names { AreNames names.now }
     requires exts { exts.now ≡ names.now.exts.now }
     requires tree { tree.now ≡ names.now.tree.now }
@@ -66,18 +68,29 @@ pub fn circuit_of(
     requires measured { (element : Element) → In element (elements_in names.now) → length element.ext.classes ≡ length top.now.classes }
     requires few_nodes { node_count (elements_in names.now) ≤ MOST_NODES }
     requires few_merges { merge_count (elements_in names.now) ≤ MOST_MERGES }
-    ensures { IfOk result (λ circuit. IsCircuitOf (elements_in names.now) top.now circuit) }
+    requires fit { AllFit S.fits }
+    ensures { IfOk result (IsGiven S.has (IsCircuitOf (elements_in names.now) top.now)) }
 {
     let measured = top.classes.items();
     let spots = cell_spots(alloc, exts, tree, names)?;
     let spots = spots.as_slice();
     let nodes = flat_nodes(alloc, exts, tree, names, classes, spots, measured.len())?;
     let labels = classes.labels.items();
-    let fets = flat_fets(alloc, exts, tree, names, labels, spots, nodes.as_slice())?;
-    Ok(Circuit {
+    let mut sink = S::begin(alloc, &top.tech)?;
+    give_flat_fets(
+        alloc,
+        &mut sink,
+        exts,
+        tree,
+        names,
+        labels,
+        spots,
+        nodes.as_slice(),
+    )?;
+    Ok(GivenCircuit {
         tech: top.tech.copy(alloc)?,
         classes: List::of(Vec::from_slice(alloc, measured)?),
         nodes: List::of(nodes),
-        fets: List::of(fets),
+        sink,
     })
 }

@@ -1,13 +1,14 @@
 //! Transistors between nodes of the flat circuit.
 ghost use Rattle.std.specs.Prelude.{◌≡◌, ◌<◌, IfOk, OnOk, All, length, map};
 ghost use Rattle.ext_model.specs.Lawful.{IsLawfulFet};
-ghost use Rattle.circuit_model.specs.FlatFets.{IsFlatFet, side_name, fets_of, AreFlatFets};
+ghost use Rattle.circuit_model.specs.FlatFets.{IsFlatFet, side_name, fets_of};
 ghost use Rattle.full_names.specs.Names.{AreNames, elements_in};
 ghost use Rattle.flatten.specs.Spots.{AreFetSpots, AreFetSpotsOf, AreCellSpots, AreLabelsOf, AreNamedOf, cell_at, element_at};
-ghost use Rattle.flatten.specs.Fets.{AddFets};
+ghost use Rattle.flatten.specs.Sinks.{AllFit, GivesFets};
 
 use crate::labels::node_of;
 use crate::sides::flat_terminals;
+use crate::sinks::FetSink;
 use crate::spots::{CellSpots, FetSpots};
 use element_tree::ElementTree;
 use ext_model::{CellExt, FetRec, NodeRec, TermRec};
@@ -78,10 +79,10 @@ fn flat_fet(
     })
 }
 
-// adds the transistors of the element of this number
-fn add_fets(
+// gives the transistors of the element of this number
+fn give_fets<S: FetSink>(
     alloc: Global,
-    flats: &mut Vec<FetRec>,
+    sink: &mut S,
     names: &FullNames<'_>,
     labels: &[usize],
     nodes: &[NodeRec],
@@ -97,41 +98,41 @@ fn add_fets(
     requires element { element < length (elements_in names.now) }
     requires fets { All (IsLawfulFet (element_at names.now element).ext) fets.now }
     requires spots { AreFetSpotsOf names.now (cell_at names.now element) fets.now spots.now }
+    requires fit { AllFit S.fits }
     ensures { OnOk result
-        (AddFets nodes.now (map (λ fet. (element_at names.now element, fet)) fets.now) flats.old.items flats.new.items) }
+        (GivesFets S.has nodes.now (map (λ fet. (element_at names.now element, fet)) fets.now) sink.old sink.new) }
 {
     for (at, fet) in fets.iter().enumerate() {
-        flats.push(flat_fet(alloc, names, labels, nodes, tree, element, fet, &spots[at])?)?;
+        sink.give(flat_fet(alloc, names, labels, nodes, tree, element, fet, &spots[at])?)?;
     }
     Ok(())
 }
 
-/// The transistors of all elements between these nodes: in the order of elements, and then in that of their records. It takes time for a
-/// sort of the terminals of each. Want of memory alone refuses.
-pub fn flat_fets(
+/// Gives the transistors of all elements between these nodes to a sink: in the order of elements, and then in that of their records. It
+/// takes time for a sort of the terminals of each. Want of memory alone refuses.
+pub fn give_flat_fets<S: FetSink>(
     alloc: Global,
+    sink: &mut S,
     exts: &[CellExt],
     tree: &ElementTree,
     names: &FullNames<'_>,
     labels: &[usize],
     spots: &[CellSpots],
     nodes: &[NodeRec],
-) -> Result<Vec<FetRec>, AllocError>
+) -> Result<(), AllocError>
     requires names { AreNames names.now }
     requires exts { exts.now ≡ names.now.exts.now }
     requires tree { tree.now ≡ names.now.tree.now }
     requires labels { AreLabelsOf names.now labels.now (length nodes.now) }
     requires spots { AreCellSpots names.now spots.now }
     requires nodes { AreNamedOf names.now labels.now (length nodes.now) nodes.now }
-    ensures { IfOk result (λ fets. AreFlatFets nodes.now (fets_of (elements_in names.now)) fets.items) }
+    requires fit { AllFit S.fits }
+    ensures { OnOk result (GivesFets S.has nodes.now (fets_of (elements_in names.now)) sink.old sink.new) }
 {
-    let mut flats = Vec::new(alloc);
     for (number, element) in tree.elements.items().iter().enumerate() {
         let fets = exts[element.cell].fets.items();
         let ends = spots[element.cell].fets.items();
-        add_fets(
-            alloc, &mut flats, names, labels, nodes, tree, number, fets, ends,
-        )?;
+        give_fets(alloc, sink, names, labels, nodes, tree, number, fets, ends)?;
     }
-    Ok(flats)
+    Ok(())
 }

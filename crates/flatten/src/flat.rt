@@ -4,12 +4,14 @@ ghost use Rattle.circuit_model.specs.Elements.{AreRecords, ext_of};
 ghost use Rattle.circuit_model.specs.Refusals.{IsFlatOf, IsFlatFaultOf};
 ghost use Rattle.element_tree.specs.Trees.{IsTreeOf};
 ghost use Rattle.full_names.specs.Names.{AreNames};
+ghost use Rattle.flatten.specs.Sinks.{AllFit, IsGiven};
 ghost use Rattle.flatten.specs.Stages.{HasNoUseFault, IsUseFaultOf, HasNoCountFault, IsCountFaultOf, HasNoLateFault, IsLateFaultOf, IsMeantAt};
 
 use crate::circuits::circuit_of;
+use crate::sinks::{FetSink, GivenCircuit};
 use circuit_model::FlatFault;
 use element_tree::{ElementTree, element_tree, record_graph};
-use ext_model::{CellExt, Circuit};
+use ext_model::CellExt;
 use flat_limits::{check_classes, check_merges, check_nodes, root_number};
 use full_names::{FullNames, full_names};
 use name_classes::name_classes;
@@ -52,20 +54,21 @@ fn counted_names<'a>(
 }
 
 // the circuit of a tree, where it has no fault in its classes and paths
-fn meant_circuit(
+fn meant_circuit<S: FetSink>(
     alloc: Global,
     exts: &[CellExt],
     root: usize,
     tree: &ElementTree,
     names: &FullNames<'_>,
-) -> Result<Circuit, FlatFault>
+) -> Result<GivenCircuit<S>, FlatFault>
     requires names { AreNames names.now }
     requires exts { exts.now ≡ names.now.exts.now }
     requires root { root ≡ names.now.root }
     requires tree { tree.now ≡ names.now.tree.now }
     requires few { HasNoCountFault exts.now root }
+    requires fit { AllFit S.fits }
     ensures sound { IfOk result (λ circuit. HasNoLateFault exts.now root) }
-    ensures meaning { IfOk result (λ circuit. IsMeantAt exts.now root circuit) }
+    ensures meaning { IfOk result (IsGiven S.has (IsMeantAt exts.now root)) }
     ensures fault { IfErr result (λ fault. (fault ≡ FlatFault.Memory) ⊎ IsLateFaultOf exts.now root fault) }
 {
     check_classes(alloc, exts, root, tree)?;
@@ -74,10 +77,15 @@ fn meant_circuit(
 }
 
 /// The flat circuit of the tree of plain records whose root is this cell's.
-pub fn flatten_plain(alloc: Global, exts: &[CellExt], root: &Name) -> Result<Circuit, FlatFault>
+pub fn flatten_plain<S: FetSink>(
+    alloc: Global,
+    exts: &[CellExt],
+    root: &Name,
+) -> Result<GivenCircuit<S>, FlatFault>
     requires records { AreRecords exts.now }
     requires root { IsSome (ext_of exts.now root.now) }
-    ensures meaning { IfOk result (λ circuit. IsFlatOf exts.now root.now circuit) }
+    requires fit { AllFit S.fits }
+    ensures meaning { IfOk result (IsGiven S.has (IsFlatOf exts.now root.now)) }
     ensures fault { IfErr result (λ fault. (fault ≡ FlatFault.Memory) ⊎ IsFlatFaultOf exts.now root.now fault) }
 {
     let top = root_number(exts, root);

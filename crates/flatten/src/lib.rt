@@ -58,7 +58,9 @@ mod labels;
 mod nodes;
 mod reached;
 mod sides;
+mod sinks;
 mod spots;
 mod sums;
 
-pub use arrays::flatten;
+pub use arrays::{flatten, flatten_into};
+pub use sinks::{FetSink, GivenCircuit};

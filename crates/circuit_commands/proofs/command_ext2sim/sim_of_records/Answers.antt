@@ -3,7 +3,7 @@ use Rattle.std.proofs.lemmas.Result.{IfOk-weaker}
 use Rattle.session_model.specs.declared.report.ReportLine.{ReportLine}
 use Rattle.circuit_model.specs.Refusals.{IsFlatFaultOf}
 use Rattle.plain_records.specs.Plains.{plains}
-use Rattle.plain_records.proofs.PlainLaws.{plains_are_records}
+use Rattle.flatten.specs.Sinks.{with_fets}
 use Rattle.circuit_commands.specs.declared.circuits.CircuitFile.TheVariants.{Sim}
 use Rattle.line_answers.specs.LineEffects.{IsOfInside}
 use Rattle.line_answers.proofs.AnswerLaws.{both_ok}
@@ -11,24 +11,26 @@ use Rattle.circuit_commands.proofs.CircuitInside.{written_inside}
 use Rattle.circuit_commands.proofs.TreeCommands.{refuses_records, writes_tree}
 use Rattle.circuit_commands.proofs.command_ext2sim.sim_of_records.Goals as goal
 
-pub write_sim_file-requires : goal.write_sim_file-requires
-write_sim_file-requires c =
-    let exts = c.args.exts.now in
-    c.flat_transistors_have_letter_and_lengths.ensures (plains exts) c.args.cell.now c.in-Ok.circuit (plains_are_records exts c.requires.records)
-    c.in-Ok.ensures.meaning
+pub flatten_into-requires-clause-fit : goal.flatten_into-requires-clause-fit
+flatten_into-requires-clause-fit c = c.flat_transistor_has_letter_and_lengths.ensures
 
 pub returns-in_ok-written-in-Ok-clause-effect : goal.returns-in_ok-written-in-Ok-clause-effect
 returns-in_ok-written-in-Ok-clause-effect c files read =
+    let given = c.in-Ok.ensures.meaning in
+    let circuit = with_fets c.in-Ok.circuit given.0 in
     both_ok c.written_alone.result _ _ _
-    (λ answer lines stores. writes_tree c.args.number files c.args.cell.now c.args.exts.now c.in-Ok.circuit c.in_ok-written-in-Ok.written answer read
-    c.in-Ok.ensures.meaning c.in_ok-written-in-Ok.ensures.written lines stores)
+    (λ answer lines stores. writes_tree c.args.number files c.args.cell.now c.args.exts.now circuit c.in_ok-written-in-Ok.written answer read
+    given.1.1 (c.in_ok-written-in-Ok.ensures.written given.0 given.1.0) lines stores)
     c.written_alone.ensures.lines c.written_alone.ensures.stores
 
 pub returns-in_ok-written-in-Ok-clause-inside : goal.returns-in_ok-written-in-Ok-clause-inside
 returns-in_ok-written-in-Ok-clause-inside c =
+    let given = c.in-Ok.ensures.meaning in
+    let circuit = with_fets c.in-Ok.circuit given.0 in
     IfOk-weaker c.written_alone.result _ _
     (λ answer lines. subst (λ (all : List ReportLine). IsOfInside all) (sym lines)
-    (written_inside Sim c.args.number c.args.cell.now c.in-Ok.circuit c.in_ok-written-in-Ok.written c.in_ok-written-in-Ok.ensures.written))
+    (written_inside Sim c.args.number c.args.cell.now circuit c.in_ok-written-in-Ok.written
+    (c.in_ok-written-in-Ok.ensures.written given.0 given.1.0)))
     c.written_alone.ensures.lines
 
 pub returns-in-Err-clause-effect : goal.returns-in-Err-clause-effect

@@ -9,6 +9,7 @@ use Rattle.circuit_model.specs.Circuits.{IsCircuitOf}
 use Rattle.circuit_model.specs.Refusals.{node_count, merge_count, class_fault}
 use Rattle.circuit_model.specs.declared.limits.TheConstants.{MOST_NODES, MOST_MERGES}
 use Rattle.full_names.specs.Names.{elements_in}
+use Rattle.flatten.specs.Sinks.{with_fets}
 use Rattle.flatten.proofs.FaultLaws.{few_nodes, few_merges, alike_classes, elements_at_root}
 use Rattle.flatten.proofs.flat.meant_circuit.Goals as goal
 
@@ -16,7 +17,7 @@ abbrev no_ext : CellExt
 no_ext = record { cell = []; tech = []; classes = []; uses = []; nodes = []; fets = []; merges = [] }
 
 pub circuit_of-requires-clause-measured : goal.circuit_of-requires-clause-measured
-circuit_of-requires-clause-measured c element here =
+circuit_of-requires-clause-measured g c element here =
     let exts = c.args.exts.now in
     let root = c.args.root in
     let names = c.args.names.now in
@@ -32,7 +33,7 @@ circuit_of-requires-clause-measured c element here =
     (sym (get_or_from_slice_get exts root top c.index-exts-root.result is) ∙ sym c.index-exts-root.is)
 
 pub circuit_of-requires-clause-few_nodes : goal.circuit_of-requires-clause-few_nodes
-circuit_of-requires-clause-few_nodes c =
+circuit_of-requires-clause-few_nodes g c =
     let exts = c.args.exts.now in
     let root = c.args.root in
     let names = c.args.names.now in
@@ -45,7 +46,7 @@ circuit_of-requires-clause-few_nodes c =
     subst P (sym elements) (few_nodes exts top (c.requires.few top is))
 
 pub circuit_of-requires-clause-few_merges : goal.circuit_of-requires-clause-few_merges
-circuit_of-requires-clause-few_merges c =
+circuit_of-requires-clause-few_merges g c =
     let exts = c.args.exts.now in
     let root = c.args.root in
     let names = c.args.names.now in
@@ -58,11 +59,17 @@ circuit_of-requires-clause-few_merges c =
     subst P (sym elements) (few_merges exts top (c.requires.few top is))
 
 pub returns-clause-meaning : goal.returns-clause-meaning
-returns-clause-meaning c top is =
+returns-clause-meaning g c =
     let exts = c.args.exts.now in
     let root = c.args.root in
-    let elements = elements_at_root c.args.names.now exts c.requires.exts root c.requires.root top is in
-    let P : List Element → Type 0 = λ l. IsCircuitOf l top c.in_ok-circuit_of.field-0 in
-    let Q : CellExt → Type 0 = λ e. IsCircuitOf (elements_in c.args.names.now) e c.in_ok-circuit_of.field-0 in
-    subst P elements
-    (subst Q (c.index-exts-root.is ∙ get_or_from_slice_get exts root top c.index-exts-root.result is) c.in_ok-circuit_of.ensures)
+    let given = c.in_ok-circuit_of.ensures in
+    let circuit = with_fets c.in_ok-circuit_of.field-0 given.0 in (
+      given.0,
+      (
+        given.1.0,
+        λ top is. (let elements = elements_at_root c.args.names.now exts c.requires.exts root c.requires.root top is in
+            let P : List Element → Type 0 = λ l. IsCircuitOf l top circuit in
+            let Q : CellExt → Type 0 = λ e. IsCircuitOf (elements_in c.args.names.now) e circuit in
+            subst P elements (subst Q (c.index-exts-root.is ∙ get_or_from_slice_get exts root top c.index-exts-root.result is) given.1.1)),
+      ),
+    )

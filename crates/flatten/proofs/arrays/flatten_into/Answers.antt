@@ -8,21 +8,22 @@ use Rattle.circuit_model.specs.Refusals.{IsFlatOf}
 use Rattle.plain_records.specs.Plains.{plains}
 use Rattle.plain_records.specs.Thin.{thin}
 use Rattle.plain_records.specs.Reached.{IsExpandedAt}
+use Rattle.flatten.specs.Sinks.{IsGiven, with_fets}
 use Rattle.flatten.proofs.ArrayLaws.{some_thin, fault_of, some_new, flat_is, fault_is}
-use Rattle.flatten.proofs.arrays.flatten.Goals as goal
+use Rattle.flatten.proofs.arrays.flatten_into.Goals as goal
 
 pub root_number-top-requires : goal.root_number-top-requires
-root_number-top-requires c =
+root_number-top-requires g c =
     let S : List CellExt → Type 0 = λ l. IsSome (ext_of l c.args.root.now) in
     subst S (sym (c.as_slice.ensures.value ∙ c.in_ok-thin.ensures)) (some_thin c.args.exts.now c.args.root.now c.requires.root)
 
 pub plain_records-requires-clause-root : goal.plain_records-requires-clause-root
-plain_records-requires-clause-root c =
+plain_records-requires-clause-root g c =
     let long = ap length (c.as_slice.ensures.value ∙ c.in_ok-thin.ensures) in
     omega (arith, long, length-map c.args.exts.now thin, c.root_number-top.ensures.within)
 
 pub returns-in_err-records-clause-fault : goal.returns-in_err-records-clause-fault
-returns-in_err-records-clause-fault c =
+returns-in_err-records-clause-fault g c =
     let F : List CellExt → Type 0 = λ l. slice_get l c.root_number-top.result ≡ ext_of l c.args.root.now in
     let found = subst F (c.as_slice.ensures.value ∙ c.in_ok-thin.ensures) c.root_number-top.ensures.found in
     let given = err_from_is_err_and c.from_residual-in_err-records.result c.from_residual-in_err-records.ensures.1 in
@@ -33,11 +34,11 @@ returns-in_err-records-clause-fault c =
     ])
 
 pub flatten_plain-requires-clause-records : goal.flatten_plain-requires-clause-records
-flatten_plain-requires-clause-records c =
+flatten_plain-requires-clause-records g c =
     let R : List CellExt → Type 0 = AreRecords in subst R (sym c.as_slice-2.ensures.value) c.in_ok-records.ensures.records.expanded.lawful
 
 pub flatten_plain-requires-clause-root : goal.flatten_plain-requires-clause-root
-flatten_plain-requires-clause-root c =
+flatten_plain-requires-clause-root g c =
     let F : List CellExt → Type 0 = λ l. slice_get l c.root_number-top.result ≡ ext_of l c.args.root.now in
     let found = subst F (c.as_slice.ensures.value ∙ c.in_ok-thin.ensures) c.root_number-top.ensures.found in
     let S : List CellExt → Type 0 = λ l. IsSome (ext_of l c.args.root.now) in
@@ -46,7 +47,7 @@ flatten_plain-requires-clause-root c =
     c.in_ok-records.ensures.records)
 
 pub returns-clause-meaning : goal.returns-clause-meaning
-returns-clause-meaning c =
+returns-clause-meaning g c =
     let exts = c.args.exts.now in
     let root = c.args.root.now in
     let number = c.root_number-top.result in
@@ -55,12 +56,16 @@ returns-clause-meaning c =
     let found = subst F (c.as_slice.ensures.value ∙ c.in_ok-thin.ensures) c.root_number-top.ensures.found in
     let R : List CellExt → Type 0 = IsExpandedAt true exts number in
     let ready = subst R (sym c.as_slice-2.ensures.value) c.in_ok-records.ensures.records in
-    IfOk-weaker c.flatten_plain.result (IsFlatOf news root) (IsFlatOf (plains exts) root)
-    (λ circuit is. flat_is exts c.requires.records root number found c.requires.root news ready circuit is)
+    let have = g.S.FetSink.has in
+    IfOk-weaker c.flatten_plain.result (IsGiven have (IsFlatOf news root)) (IsGiven have (IsFlatOf (plains exts) root))
+    (λ given is. (
+      is.0,
+      (is.1.0, flat_is exts c.requires.records root number found c.requires.root news ready (with_fets given is.0) is.1.1),
+    ))
     c.flatten_plain.ensures.meaning
 
 pub returns-clause-fault : goal.returns-clause-fault
-returns-clause-fault c =
+returns-clause-fault g c =
     let exts = c.args.exts.now in
     let root = c.args.root.now in
     let number = c.root_number-top.result in

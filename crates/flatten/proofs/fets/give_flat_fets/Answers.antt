@@ -1,21 +1,24 @@
-use Rattle.std.proofs.Common.{◌≡◌, ◌<◌, List, ◌++◌, length, map, take, get_or, sym, ◌∙◌, ap, subst, arith, rules}
+use Rattle.std.proofs.Common.{◌≡◌, ◌≤◌, ◌<◌, List, ◌++◌, length, map, take, get_or, sym, ◌∙◌, ap, subst, arith, rules}
 use Rattle.std.specs.Prelude.{All}
 use Rattle.ext_model.specs.declared.records.FetRec.{FetRec}
 use Rattle.ext_model.specs.declared.records.CellExt.{CellExt}
 use Rattle.ext_model.specs.Lawful.{IsLawfulFet}
 use Rattle.circuit_model.specs.Elements.{Element}
-use Rattle.circuit_model.specs.FlatFets.{fets_of, AreFlatFets}
+use Rattle.circuit_model.specs.FlatFets.{fets_of}
 use Rattle.element_tree.specs.declared.tree.ElementTree.{ElementTree}
 use Rattle.full_names.specs.Names.{elements_in}
 use Rattle.flatten.proofs.FlatLimits.TreeLaws.{no_flat}
 use Rattle.flatten.specs.declared.spots.FetSpots.{FetSpots}
+use Rattle.flatten.specs.Sinks.{GivesFets}
 use Rattle.flatten.specs.Spots.{AreFetSpotsOf, element_at, cell_at, no_element}
 use Rattle.flatten.proofs.SpotLaws.{element_read, spots_read}
-use Rattle.flatten.proofs.FetLaws.{fets_more}
-use Rattle.flatten.proofs.fets.flat_fets.Goals as goal
+use Rattle.flatten.proofs.NameClasses.TreeLaws.{tree_of_names}
+use Rattle.std.proofs.lemmas.List.{take_all}
+use Rattle.flatten.proofs.FetLaws.{fets_more, gives_both, gives_none}
+use Rattle.flatten.proofs.fets.give_flat_fets.Goals as goal
 
 pub bounds-exts-element : goal.bounds-exts-element
-bounds-exts-element c =
+bounds-exts-element g c =
     let names = c.args.names.now in
     let are = c.requires.names in
     let flats = c.items-element-items.result.now in
@@ -26,7 +29,7 @@ bounds-exts-element c =
     read.cell_within
 
 pub offset_bounds-exts-element : goal.offset_bounds-exts-element
-offset_bounds-exts-element c =
+offset_bounds-exts-element g c =
     let names = c.args.names.now in
     let are = c.requires.names in
     let flats = c.items-element-items.result.now in
@@ -38,7 +41,7 @@ offset_bounds-exts-element c =
     search rules
 
 pub bounds-spots-element : goal.bounds-spots-element
-bounds-spots-element c =
+bounds-spots-element g c =
     let names = c.args.names.now in
     let are = c.requires.names in
     let flats = c.items-element-items.result.now in
@@ -51,7 +54,7 @@ bounds-spots-element c =
     within
 
 pub offset_bounds-spots-element : goal.offset_bounds-spots-element
-offset_bounds-spots-element c =
+offset_bounds-spots-element g c =
     let names = c.args.names.now in
     let are = c.requires.names in
     let flats = c.items-element-items.result.now in
@@ -63,8 +66,8 @@ offset_bounds-spots-element c =
     omega (arith, a, long, many)) in
     search rules
 
-pub add_fets-requires-clause-element : goal.add_fets-requires-clause-element
-add_fets-requires-clause-element c =
+pub give_fets-requires-clause-element : goal.give_fets-requires-clause-element
+give_fets-requires-clause-element g c =
     let names = c.args.names.now in
     let are = c.requires.names in
     let flats = c.items-element-items.result.now in
@@ -74,8 +77,8 @@ add_fets-requires-clause-element c =
     (c.items-element-items.ensures ∙ ap (λ (tree : ElementTree). tree.elements) c.requires.tree) number c.loop-number-test.true in
     read.within
 
-pub add_fets-requires-clause-fets : goal.add_fets-requires-clause-fets
-add_fets-requires-clause-fets c =
+pub give_fets-requires-clause-fets : goal.give_fets-requires-clause-fets
+give_fets-requires-clause-fets g c =
     let names = c.args.names.now in
     let are = c.requires.names in
     let flats = c.items-element-items.result.now in
@@ -88,8 +91,8 @@ add_fets-requires-clause-fets c =
     let P : List FetRec → Type 0 = All (IsLawfulFet (element_at names number).ext) in
     subst P (sym fets) read.lawful.fets
 
-pub add_fets-requires-clause-spots : goal.add_fets-requires-clause-spots
-add_fets-requires-clause-spots c =
+pub give_fets-requires-clause-spots : goal.give_fets-requires-clause-spots
+give_fets-requires-clause-spots g c =
     let names = c.args.names.now in
     let are = c.requires.names in
     let flats = c.items-element-items.result.now in
@@ -104,8 +107,11 @@ add_fets-requires-clause-spots c =
     let Q : List FetSpots → Type 0 = λ l. AreFetSpotsOf names (cell_at names number) (element_at names number).ext.fets l in
     subst P (sym fets) (subst Q (sym c.items-ends.ensures) spots.fets)
 
+pub loop-number-init : goal.loop-number-init
+loop-number-init g c = gives_none g.S.FetSink.has c.args.nodes.now c.args.sink.now
+
 pub loop-number-preserved : goal.loop-number-preserved
-loop-number-preserved c =
+loop-number-preserved g c =
     let names = c.args.names.now in
     let are = c.requires.names in
     let flats = c.items-element-items.result.now in
@@ -115,7 +121,21 @@ loop-number-preserved c =
     (c.items-element-items.ensures ∙ ap (λ (tree : ElementTree). tree.elements) c.requires.tree) number c.loop-number-test.true in
     let fets : c.items-fets.result.now ≡ (element_at names number).ext.fets = c.items-fets.ensures
     ∙ ap (λ (e : CellExt). e.fets) (read.ext c.index-exts-element.result) in
-    let P : List (Element × FetRec) → Type 0 = λ l. AreFlatFets c.args.nodes.now l c.add_fets.new.flats.items in
-    let whole = c.in_ok-add_fets.ensures (fets_of (take number (elements_in names))) c.loop-number.invariant in
-    subst P (ap (λ (l : List FetRec). fets_of (take number (elements_in names)) ++ map (λ fet. (element_at names number, fet)) l) fets
-    ∙ fets_more (elements_in names) number no_element read.within) whole
+    let have = g.S.FetSink.has in
+    let P : List (Element × FetRec) → Type 0 = λ l. GivesFets have c.args.nodes.now l c.args.sink.now c.give_fets.new.sink in
+    let before = fets_of (take number (elements_in names)) in
+    let f : FetRec → Element × FetRec = λ fet. (element_at names number, fet) in
+    subst P (ap (λ (l : List FetRec). before ++ map f l) fets ∙ fets_more (elements_in names) number no_element read.within)
+    (gives_both have c.args.nodes.now before (map f c.items-fets.result.now) c.args.sink.now c.loop-number.sink c.give_fets.new.sink c.loop-number.invariant
+    c.in_ok-give_fets.ensures)
+
+pub returns : goal.returns
+returns g c =
+    let names = c.args.names.now in
+    let all = c.items-element-items.ensures ∙ ap (λ (tree : ElementTree). tree.elements) c.requires.tree in
+    let many = ap length all in
+    let long = (tree_of_names names c.requires.names).long in
+    let number = c.loop-number.number in
+    let past : length (elements_in names) ≤ number = omega (arith, many, long, c.loop-number-test.false) in
+    subst (λ (l : List Element). GivesFets g.S.FetSink.has c.args.nodes.now (fets_of l) c.args.sink.now c.loop-number.sink)
+    (take_all number (elements_in names) past) c.loop-number.invariant
