@@ -34,7 +34,17 @@ pub struct TypedStack {
     pub members: List<usize>,
 }
 
-/// The types of parts with these sets. Each set has one: none is taken for space.
+/// The type of a part with this set, which has one: none is taken for space.
+fn kind_of(tech: &Tech, sum: &PartSum, plane: u8) -> PartKind
+    ensures { result ≡ kind_of tech.now plane sum.now }
+{
+    PartKind {
+        part: sum.part,
+        kind: tech.joined(plane, sum.set).unwrap_or(TypeId(0)),
+    }
+}
+
+/// The types of parts with these sets. The list has room for them alone, since it is kept for each piece.
 fn kinds_of(
     alloc: Global,
     tech: &Tech,
@@ -43,12 +53,11 @@ fn kinds_of(
 ) -> Result<Vec<PartKind>, AllocError>
     ensures { IfOk result (λ kinds. kinds.items ≡ map (kind_of tech.now plane) sums.now) }
 {
-    sums.iter()
-        .map(|sum| PartKind {
-            part: sum.part,
-            kind: tech.joined(plane, sum.set).unwrap_or(TypeId(0)),
-        })
-        .collect(alloc)
+    let mut kinds = Vec::with_capacity(alloc, sums.len())?;
+    for sum in sums {
+        kinds.push(kind_of(tech, sum, plane))?;
+    }
+    Ok(kinds)
 }
 
 /// The first part that has the type.

@@ -21,7 +21,6 @@ use Rattle.layout_model.specs.RegionTiles.{regions_of}
 use Rattle.offences.specs.declared.plane_stacks.PlaneStack.{PlaneStack}
 use Rattle.offences.specs.Offences.{SetLayout}
 use Rattle.group_meetings.specs.TreeRecords.NamedTrees.{NamedTree}
-use Rattle.group_meetings.specs.TreeRecords.NamedTrees.NamedTree.{named_tree}
 use Rattle.group_meetings.specs.TreeRecords.MemberGroups.{AreOneGroup, IsMemberAt, IsMemberOf}
 use Rattle.group_meetings.proofs.TreeNames.GroupNames.{group_then, members_together}
 use Rattle.group_meetings.specs.MeetingLaws.PartLayouts.{parts_layout, Passes}

@@ -1,44 +1,73 @@
 -- Members one after the other, and then in the order of their names.
 use Rattle.std.proofs.Common.{◌≡◌, ◌≢◌, ◌<◌, ◌≤◌, ◌+◌, ℕ, false, List, [], ◌∷◌, ◌++◌, Some, take, length, get_or}
-use Rattle.std.proofs.Common.{sym, ◌∙◌, ap, subst, arith}
+use Rattle.std.proofs.Common.{inl, inr, refl, sym, ◌∙◌, ap, subst, arith}
 use Rattle.std.specs.Prelude.{slice_get, IsPermutation, IsSorted}
 use Rattle.std.specs.Cmp.{IsTotalOrder}
 use Rattle.std.specs.Option.{option_map}
 use Rattle.std.specs.declared.cmp.Ordering.{Ordering}
 use Rattle.std.specs.declared.cmp.Ordering.TheVariants.{Less, Equal, Greater}
-use Rattle.std.specs.Ordering.{is_lt, ordering_reverse}
-use Rattle.std.proofs.lemmas.Cmp.{on_total}
+use Rattle.std.specs.Cmp.Lexicographic.{slice_cmp}
+use Rattle.std.specs.Ordering.{is_lt, nat_cmp, ordering_reverse, ordering_then}
+use Rattle.std.proofs.lemmas.Cmp.{nat_list_cmp_total, on_total}
 use Rattle.std.proofs.lemmas.List.{take_more, take_all, get_or-take, length-map, map-append}
 use Rattle.std.proofs.lemmas.List.Sorted.{IsPermutation-map, IsPermutation-sym}
 use Rattle.std.proofs.lemmas.Option.{get_or_from_slice_get, slice_get-map, slice_get_within}
 use Rattle.finite_sets.specs.Lists.{In, Distinct}
-use Rattle.finite_sets.proofs.Members.{In-map, In-permutation}
+use Rattle.finite_sets.proofs.Members.{In-map, In-permutation, In-push_cases}
 use Rattle.finite_sets.proofs.Orders.{IsSorted-pairs}
 use Rattle.finite_sets.proofs.Pairs.{Pairwise, Pairwise-from_AllPairs, AllPairs-from_Pairwise}
 use Rattle.finite_sets.proofs.Places.{In-slice_get, slice_get-In, slice_get-below}
 use Rattle.finite_sets.proofs.Images.{Distinct-permutation}
-use Rattle.ext_model.specs.NameOrder.{name_cmp}
+use Rattle.ext_model.specs.NameOrder.{kind_rank, name_cmp, name_rank}
+use Rattle.ext_model.specs.NodeNames.{name_kind, slashes_in}
 use Rattle.ext_model.proofs.NameOrders.{name_cmp_total, name_cmp_exact}
 use Rattle.meeting_sums.specs.TreeRecords.FetRecords.{IsNameBefore}
 use Rattle.piece_groups.specs.declared.members.Member.{Member}
-use Rattle.piece_groups.specs.Members.{names_of, marks_of, member_cmp, IsMemberAt, AreMembers}
+use Rattle.piece_groups.specs.Members.{names_of, marks_of, member_cmp, member_rank, IsMemberAt, AreMembers}
 
 pub member_cmp_total : IsTotalOrder member_cmp
 unfolding member_cmp
-member_cmp_total = on_total (λ (member : Member). member.name.now) name_cmp_total
+member_cmp_total = on_total member_rank nat_list_cmp_total
+
+-- of three answers the first that decides
+pub then_assoc : (a b c : Ordering) → ordering_then (ordering_then a b) c ≡ ordering_then a (ordering_then b c)
+then_assoc Less b c = refl
+then_assoc Equal b c = refl
+then_assoc Greater b c = refl
+
+-- The member is compared as its name is.
+abbrev pub IsRanked : Member → Type 0
+IsRanked member = member_rank member ≡ name_rank member.name.now
+
+-- a member of what the order asks of its name is compared so
+pub member_ranked : (member : Member) (name : List ℕ) → member.name.now ≡ name → member.kind ≡ name_kind name → member.slashes ≡ slashes_in name
+    → IsRanked member
+member_ranked member name named kind slashes =
+    let same_kind : member.kind ≡ name_kind member.name.now = kind ∙ ap name_kind (sym named) in
+    let same_slashes : member.slashes ≡ slashes_in member.name.now = slashes ∙ ap slashes_in (sym named) in
+    λ i. kind_rank (same_kind i) ∷ same_slashes i ∷ length member.name.now ∷ member.name.now
 
 -- These are the members with the names and marks below this number, one after the other.
 pub record AreCollected (names : List (List ℕ)) (marks : List ℕ) (number : ℕ) (members : List Member) : Type 0 where
+  pub ranked : (member : Member) → In member members → IsRanked member
   pub names_are : names_of members ≡ take number names
   pub marks_are : marks_of members ≡ take number marks
 
 pub collected_none : (names : List (List ℕ)) (marks : List ℕ) (members : List Member) → members ≡ [] → AreCollected names marks 0 members
-collected_none names marks members none = record { names_are = ap names_of none; marks_are = ap marks_of none }
+collected_none names marks members none = record {
+  ranked = λ member among. absurd (subst (In member) none among);
+  names_are = ap names_of none;
+  marks_are = ap marks_of none;
+}
 
 pub collected_more : (names : List (List ℕ)) (marks : List ℕ) (number : ℕ) (members later : List Member) (member : Member)
     (d : List ℕ) → length names ≤ length marks → number < length names → member.name.now ≡ get_or names number d → member.mark ≡ get_or marks number 0
-    → later ≡ members ++ member ∷ [] → AreCollected names marks number members → AreCollected names marks (number + 1) later
-collected_more names marks number members later member d enough within name mark is so_far = record {
+    → IsRanked member → later ≡ members ++ member ∷ [] → AreCollected names marks number members → AreCollected names marks (number + 1) later
+collected_more names marks number members later member d enough within name mark is_ranked is so_far = record {
+  ranked = λ other among. elim (In-push_cases other members member (subst (In other) is among)) [
+    | inl before ↦ so_far.ranked other before
+    | inr same ↦ subst IsRanked same is_ranked
+  ];
   names_are = ap names_of is ∙ map-append (λ (m : Member). m.name.now) members (member ∷ [])
       ∙ (λ i. so_far.names_are i ++ name i ∷ []) ∙ sym (take_more names number d within);
   marks_are = ap marks_of is ∙ map-append (λ (m : Member). m.mark) members (member ∷ [])
@@ -76,15 +105,21 @@ name_before a b no_later differ = by (name_cmp a b) (name_cmp b a) (name_cmp_tot
   by there Equal turned less equal = absurd (equal turned)
   by there Greater turned less equal = turned
 
--- sorted members with different names stand in the order of their names
-strictly_in_order : (members : List Member) → Pairwise (λ a b. is_lt (member_cmp b a) ≡ false) members → Distinct (names_of members)
-    → Pairwise (λ a b. IsNameBefore a.name.now b.name.now) members
+-- members that are compared as their names are
+by_names : (a b : Member) → IsRanked a → IsRanked b → member_cmp a b ≡ name_cmp a.name.now b.name.now
 unfolding member_cmp
-strictly_in_order [] sorted once = tt
-strictly_in_order (member ∷ members) sorted once = (
-  λ other here. name_before member.name.now other.name.now (sorted.0 other here)
+by_names a b first second = λ i. slice_cmp nat_cmp (first i) (second i)
+
+-- sorted members with different names stand in the order of their names
+strictly_in_order : (members : List Member) → ((member : Member) → In member members → IsRanked member)
+    → Pairwise (λ a b. is_lt (member_cmp b a) ≡ false) members → Distinct (names_of members)
+    → Pairwise (λ a b. IsNameBefore a.name.now b.name.now) members
+strictly_in_order [] ranked sorted once = tt
+strictly_in_order (member ∷ members) ranked sorted once = (
+  λ other here. name_before member.name.now other.name.now
+      (ap is_lt (sym (by_names other member (ranked other (inr here)) (ranked member (inl refl)))) ∙ sorted.0 other here)
       (λ same. once.0 (subst (λ (name : List ℕ). In name (names_of members)) (sym same) (In-map (λ (m : Member). m.name.now) other members here))),
-  strictly_in_order members sorted.1 once.1,
+  strictly_in_order members (λ other here. ranked other (inr here)) sorted.1 once.1,
 )
 
 -- the members once they are sorted
@@ -95,7 +130,9 @@ members_all names marks number members sorted once enough past within are moved 
   in_order =
       let no_later = IsSorted-pairs member_cmp member_cmp_total sorted ordered in
       AllPairs-from_Pairwise (λ (a b : Member). IsNameBefore a.name.now b.name.now) sorted
-      (strictly_in_order sorted (Pairwise-from_AllPairs (λ a b. is_lt (member_cmp b a) ≡ false) sorted no_later)
+      (strictly_in_order sorted
+      (λ member here. are.ranked member (In-permutation member sorted members (IsPermutation-sym members sorted moved) here))
+      (Pairwise-from_AllPairs (λ a b. is_lt (member_cmp b a) ≡ false) sorted no_later)
       (Distinct-permutation (names_of members) (names_of sorted) (IsPermutation-map (λ (m : Member). m.name.now) members sorted moved)
       (subst Distinct (sym (all_names names marks number members enough past within are)) once)));
   each = λ member here.

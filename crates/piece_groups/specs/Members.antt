@@ -1,8 +1,10 @@
 -- Members in the order of their names, each with its mark.
-use Rattle.std.specs.Prelude.{◌≡◌, ℕ, Some, List, AllPairs, map, slice_get, slice_index}
+use Rattle.std.specs.Prelude.{◌≡◌, ℕ, Some, List, ◌∷◌, AllPairs, length, map, slice_get, slice_index}
 use Rattle.std.specs.declared.cmp.Ordering.{Ordering}
+use Rattle.std.specs.Cmp.Lexicographic.{slice_cmp}
+use Rattle.std.specs.Ordering.{nat_cmp}
 use Rattle.finite_sets.specs.Lists.{In}
-use Rattle.ext_model.specs.NameOrder.{name_cmp}
+use Rattle.ext_model.specs.NameOrder.{kind_rank}
 use Rattle.meeting_sums.specs.TreeRecords.FetRecords.{IsNameBefore}
 use Rattle.piece_groups.specs.declared.members.Member.{Member}
 
@@ -14,9 +16,13 @@ names_of members = map (λ member. member.name.now) members
 abbrev pub marks_of : List Member → List ℕ
 marks_of members = map (λ member. member.mark) members
 
--- which of two members stands first, by their names
+-- the numbers by which members are compared
+abbrev pub member_rank : Member → List ℕ
+member_rank member = kind_rank member.kind ∷ member.slashes ∷ length member.name.now ∷ member.name.now
+
+-- which of two members stands first
 unfoldable pub member_cmp : Member → Member → Ordering
-member_cmp a b = name_cmp a.name.now b.name.now
+member_cmp a b = slice_cmp nat_cmp (member_rank a) (member_rank b)
 
 -- The member has the name and the mark that stand at one number.
 pub record IsMemberAt (names : List (List ℕ)) (marks : List ℕ) (member : Member) (number : ℕ) : Type 0 where

@@ -34,7 +34,7 @@ use Rattle.cell_library.proofs.ViewLaws.{state_there}
 use Rattle.library_trees.specs.NamedCells.{named_tree_at, own_body_of}
 use Rattle.library_trees.specs.KeptRecords.{HaveKeptRecordsBelow, KeptRecords}
 use Rattle.library_trees.specs.RecordLaws.{KeptRecordsAreOfTheTree}
-use Rattle.hier_merge.specs.declared.meetings.Meeting.{Meeting}
+use Rattle.cell_library.specs.declared.part_tiles.PartTile.{PartTile}
 use Rattle.hier_merge.specs.MeetingPieces.{AreMeetingPieces}
 use Rattle.meeting_sums.specs.declared.limits.TheConstants.{MOST_PARTS}
 use Rattle.piece_groups.specs.MemberLaws.{AreMarkedPieces}
@@ -42,6 +42,7 @@ use Rattle.piece_groups.specs.MemberMarks.{AreMemberMarks}
 use Rattle.piece_groups.specs.Laws.{HasRecordsBelow, MarkedGroupsAreRecorded}
 use Rattle.tile_members.specs.declared.members.TileMembers.{TileMembers}
 use Rattle.tile_members.specs.TileMembers.{AreTileMembers}
+use Rattle.tree_merges.specs.declared.marking.CellPieces.{CellPieces}
 use Rattle.tree_merges.specs.MarkedMerges.{AreMarkedMerges}
 use Rattle.tree_merges.specs.MemberPairs.{member_pairs}
 use Rattle.tree_merges.specs.Pieces.{ArePieceRegions, ArePieces}
@@ -101,27 +102,29 @@ records_below library lawful kept cell below law have nodes are =
 -- ---- pieces
 
 -- the pieces of a clean cell are pieces of few parts, with types
-pub meeting_pieces : (raw : RawTech) (cells : CellTree) (meeting : Meeting) → IsClean raw cells → length (parts_in raw cells) < MOST_PARTS
-    → AreMeetingPieces raw cells meeting.tiles.items meeting.starts.items meeting.stacks.items → ArePieces raw meeting.stacks.items
-meeting_pieces raw cells meeting clean few pieces = record {
+pub meeting_pieces : (raw : RawTech) (cells : CellTree) (cell_tiles : List PartTile) (piece_list : CellPieces) → IsClean raw cells
+    → length (parts_in raw cells) < MOST_PARTS → AreMeetingPieces raw cells cell_tiles piece_list.starts.items piece_list.stacks.items
+    → ArePieces raw piece_list.stacks.items
+meeting_pieces raw cells cell_tiles piece_list clean few pieces = record {
   parts = pieces.others;
   are = pieces.pieces;
   few = let count = pieces.restricted.count in omega (arith, few, count);
-  typed = pieces_are_typed raw cells meeting.tiles.items meeting.starts.items meeting.stacks.items clean pieces;
+  typed = pieces_are_typed raw cells cell_tiles piece_list.starts.items piece_list.stacks.items clean pieces;
   by_plane = pieces.by_plane;
   planes = pieces.planes;
 }
 
-module _ (raw : RawTech) (tree : NamedTree) (cells : CellTree) (same : layouts_of tree ≡ cells) (meeting : Meeting) (members : TileMembers)
-    (regions : Regions) (pieces : AreMeetingPieces raw cells meeting.tiles.items meeting.starts.items meeting.stacks.items)
-    (are_members : AreTileMembers raw tree meeting.tiles.items members.names.items members.numbers.items)
-    (are_regions : ArePieceRegions raw meeting.stacks.items regions) (clean : IsCleanTree raw tree) where
+module _ (raw : RawTech) (tree : NamedTree) (cells : CellTree) (same : layouts_of tree ≡ cells) (cell_tiles : List PartTile)
+    (piece_list : CellPieces) (members : TileMembers)
+    (regions : Regions) (pieces : AreMeetingPieces raw cells cell_tiles piece_list.starts.items piece_list.stacks.items)
+    (are_members : AreTileMembers raw tree cell_tiles members.names.items members.numbers.items)
+    (are_regions : ArePieceRegions raw piece_list.stacks.items regions) (clean : IsCleanTree raw tree) where
   -- the pieces of the cell are marked
   marked_pieces : PartsHaveMembers raw tree → (marks : List ℕ)
       → AreMemberMarks (length members.names.items) regions.tiles regions.count
-      (member_pairs members.numbers.items meeting.starts.items meeting.stacks.items) marks
-      → AreMarkedPieces raw pieces.within tree pieces.others meeting.stacks.items members.names.items
-      (member_pairs members.numbers.items meeting.starts.items meeting.stacks.items) regions.tiles regions.count marks
+      (member_pairs members.numbers.items piece_list.starts.items piece_list.stacks.items) marks
+      → AreMarkedPieces raw pieces.within tree pieces.others piece_list.stacks.items members.names.items
+      (member_pairs members.numbers.items piece_list.starts.items piece_list.stacks.items) regions.tiles regions.count marks
   marked_pieces have marks are_marks = record {
     clean = clean;
     members = have;
@@ -132,19 +135,20 @@ module _ (raw : RawTech) (tree : NamedTree) (cells : CellTree) (same : layouts_o
       restricted = subst (λ (c : CellTree). IsRestriction (Passes pieces.within) (parts_in raw c) pieces.others) (sym same) pieces.restricted;
     };
     stacks = pieces.pieces;
-    names = members_in_pieces raw tree cells meeting.tiles.items meeting.starts.items meeting.stacks.items members.names.items members.numbers.items
+    names = members_in_pieces raw tree cells cell_tiles piece_list.starts.items piece_list.stacks.items members.names.items members.numbers.items
         pieces are_members;
-    one_each = piece_is_tile meeting.stacks.items are_regions.labels regions.tiles are_regions.same;
+    one_each = piece_is_tile piece_list.stacks.items are_regions.labels regions.tiles are_regions.same;
     regions = are_regions.are pieces.others pieces.pieces;
     marks = are_marks;
   }
 
   -- so the merges of the marks are those of the cell
   pub merges_of_cell : IsWellFormed raw → KeepsRules raw → RecordedPartsHaveMembers raw → MarkedGroupsAreRecorded raw → HasRecordsBelow raw tree
-      → (merges : List MergeRec) → AreMarkedMerges raw meeting members regions merges → AreGroupMerges raw tree merges
+      → (merges : List MergeRec) → AreMarkedMerges raw piece_list members regions merges → AreGroupMerges raw tree merges
   merges_of_cell formed rules recorded law records merges are =
       let have = recorded formed records.exts tree records.nodes clean.clean records.own records.elements in
-      law formed rules pieces.within tree pieces.others meeting.stacks.items members.names.items
-      (member_pairs members.numbers.items meeting.starts.items meeting.stacks.items) regions.tiles regions.count are.marks are.sums
-      are.are_merges.groups merges records (marked_pieces have are.marks are.are_marks) (are.are_sums pieces.others pieces.pieces)
+      law formed rules pieces.within tree pieces.others piece_list.stacks.items members.names.items
+      (member_pairs members.numbers.items piece_list.starts.items piece_list.stacks.items) regions.tiles regions.count
+      are.found.marks.items are.found.sums.items
+      are.are_merges.groups merges records (marked_pieces have are.found.marks.items are.are.are_marks) (are.are.are_sums pieces.others pieces.pieces)
       are.are_merges.marked are.are_merges.are

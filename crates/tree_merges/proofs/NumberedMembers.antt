@@ -17,18 +17,16 @@ use Rattle.offences.specs.PlaneStacks.{ArePlaneStacks}
 use Rattle.offences.specs.TypedStacks.{AreByPart}
 use Rattle.meeting_sums.specs.TreeRecords.NamedTrees.{NamedTree}
 use Rattle.cell_library.specs.declared.part_tiles.PartTile.{PartTile}
-use Rattle.hier_merge.specs.declared.meetings.Meeting.{Meeting}
 use Rattle.hier_merge.specs.MeetingPieces.{AreMeetingPieces, HasCoveringTiles}
-use Rattle.ext_model.specs.declared.records.MergeRec.{MergeRec}
 use Rattle.meeting_sums.specs.declared.limits.TheConstants.{MOST_PARTS}
-use Rattle.meeting_sums.specs.declared.sums.MeetingSum.{MeetingSum}
 use Rattle.meeting_sums.specs.Sums.{AreMeetingSums}
-use Rattle.piece_groups.specs.MarkMerges.{AreMergesOfMarks}
 use Rattle.piece_groups.specs.MemberMarks.{AreMemberMarks, mark_at}
 use Rattle.piece_groups.specs.Laws.{piece_marks}
 use Rattle.tile_members.specs.declared.members.TileMembers.{TileMembers}
 use Rattle.tile_members.specs.TileMembers.{AreTileMembers}
-use Rattle.tree_merges.specs.MarkedMerges.{AreMarkedMerges}
+use Rattle.tree_merges.specs.declared.marking.CellPieces.{CellPieces}
+use Rattle.tree_merges.specs.declared.merging.MarkedSums.{MarkedSums}
+use Rattle.tree_merges.specs.MarkedMerges.{AreMarkedSums}
 use Rattle.tree_merges.specs.MemberPairs.{member_pairs}
 use Rattle.tree_merges.specs.Pieces.{AreNumbered, ArePieceRegions, ArePieces}
 use Rattle.tree_merges.proofs.PieceTiles.{as_many}
@@ -58,23 +56,24 @@ regions_are_few raw stacks regions pieces are =
     omega (arith, few, length-map regions.tiles (λ (tile : RegionTile). tile.region), as_many stacks are.labels regions.tiles are.same)
 
 -- the tiles of a meeting have members, and its pieces have regions
-pub members_are_numbered : (raw : RawTech) (tree : NamedTree) (cells : CellTree) (meeting : Meeting) (members : TileMembers) (regions : Regions)
-    → AreMeetingPieces raw cells meeting.tiles.items meeting.starts.items meeting.stacks.items → ArePieces raw meeting.stacks.items
-    → AreTileMembers raw tree meeting.tiles.items members.names.items members.numbers.items → ArePieceRegions raw meeting.stacks.items regions
-    → AreNumbered meeting members regions
-members_are_numbered raw tree cells meeting members regions pieces few has are = record {
+pub members_are_numbered : (raw : RawTech) (tree : NamedTree) (cells : CellTree) (cell_tiles : List PartTile) (piece_list : CellPieces)
+    (members : TileMembers) (regions : Regions) → AreMeetingPieces raw cells cell_tiles piece_list.starts.items piece_list.stacks.items
+    → ArePieces raw piece_list.stacks.items
+    → AreTileMembers raw tree cell_tiles members.names.items members.numbers.items → ArePieceRegions raw piece_list.stacks.items regions
+    → AreNumbered piece_list members regions
+members_are_numbered raw tree cells cell_tiles piece_list members regions pieces few has are = record {
   starts =
-      All-from_In (λ (piece : PlaneStack). piece.plane < length meeting.starts.items) meeting.stacks.items (λ piece among.
-      let below = All-In (λ (p : PlaneStack). p.plane < length raw.planes) meeting.stacks.items piece pieces.planes among in
+      All-from_In (λ (piece : PlaneStack). piece.plane < length piece_list.starts.items) piece_list.stacks.items (λ piece among.
+      let below = All-In (λ (p : PlaneStack). p.plane < length raw.planes) piece_list.stacks.items piece pieces.planes among in
       let long = pieces.one_each in
       omega (arith, below, long));
   tiles =
-      All-from_In (λ (piece : PlaneStack). All (λ tile. slice_index meeting.starts.items piece.plane + tile < length members.numbers.items)
-      piece.stack.members) meeting.stacks.items (λ piece among.
-      All-from_In (λ tile. slice_index meeting.starts.items piece.plane + tile < length members.numbers.items) piece.stack.members (λ tile listed.
+      All-from_In (λ (piece : PlaneStack). All (λ tile. slice_index piece_list.starts.items piece.plane + tile < length members.numbers.items)
+      piece.stack.members) piece_list.stacks.items (λ piece among.
+      All-from_In (λ tile. slice_index piece_list.starts.items piece.plane + tile < length members.numbers.items) piece.stack.members (λ tile listed.
       let covers =
-      (All-In (HasCoveringTiles meeting.tiles.items meeting.starts.items) meeting.stacks.items piece pieces.covered among).each tile listed in
-      let within = slice_get_within meeting.tiles.items (slice_index meeting.starts.items piece.plane + tile) covers.tile covers.there in
+      (All-In (HasCoveringTiles cell_tiles piece_list.starts.items) piece_list.stacks.items piece pieces.covered among).each tile listed in
+      let within = slice_get_within cell_tiles (slice_index piece_list.starts.items piece.plane + tile) covers.tile covers.there in
       let long = has.one_each in
       omega (arith, within, long)));
   named =
@@ -82,37 +81,36 @@ members_are_numbered raw tree cells meeting members regions pieces few has are =
       let place = In-index number members.numbers.items among in
       let below = place.1.0 in
       let long = has.one_each in
-      let tile = tile_there meeting.tiles.items place.0 (omega (arith, below, long)) in
+      let tile = tile_there cell_tiles place.0 (omega (arith, below, long)) in
       let named = has.each place.0 tile.0 tile.1 in
       subst (λ (n : ℕ). n < length members.names.items) (place.1.1 0)
       (slice_get_within members.names.items (slice_index members.numbers.items place.0) named.name named.there));
-  one_each = as_many meeting.stacks.items are.labels regions.tiles are.same;
-  few = regions_are_few raw meeting.stacks.items regions few are;
+  one_each = as_many piece_list.stacks.items are.labels regions.tiles are.same;
+  few = regions_are_few raw piece_list.stacks.items regions few are;
 }
   where
     tile_there : (tiles : List PartTile) (k : ℕ) → k < length tiles → (tile : PartTile) × (slice_get tiles k ≡ Some tile)
     tile_there [] k below = absurd (omega (arith, below))
     tile_there (first ∷ rest) k below = (get_or (first ∷ rest) k first, slice_get-get_or (first ∷ rest) k first below)
 
--- the sums of pieces by their marks, and the merges of these
-pub marked_merges : (raw : RawTech) (meeting : Meeting) (members : TileMembers) (regions : Regions) (marks : List ℕ) (count : ℕ)
-    (groups : List ℕ) (sums : List MeetingSum) (merges : List MergeRec)
-    → ArePieces raw meeting.stacks.items → length regions.tiles ≡ length meeting.stacks.items
+-- the sums of pieces by their marks
+pub marked_sums_are : (raw : RawTech) (piece_list : CellPieces) (members : TileMembers) (regions : Regions) (found : MarkedSums) (count : ℕ) (groups : List ℕ)
+    → ArePieces raw piece_list.stacks.items → length regions.tiles ≡ length piece_list.stacks.items
     → AreMemberMarks (length members.names.items) regions.tiles regions.count
-    (member_pairs members.numbers.items meeting.starts.items meeting.stacks.items) marks
-    → groups ≡ map (mark_at (length members.names.items) regions.tiles marks) (range_with_len 0 (length regions.tiles))
-    → ((parts : List SetLayout) → ArePlaneStacks raw parts meeting.stacks.items → AreMeetingSums raw parts meeting.stacks.items groups count sums)
-    → AreMergesOfMarks raw members.names.items marks sums merges → AreMarkedMerges raw meeting members regions merges
-marked_merges raw meeting members regions marks count groups sums merges pieces long are_marks are_groups are_sums are_merges = record {
-  marks = marks;
-  are_marks = are_marks;
-  sums = sums;
-  are_sums = λ parts are.
-      subst (λ (so_many : ℕ). AreMeetingSums raw parts meeting.stacks.items
-      (piece_marks (length members.names.items) meeting.stacks.items regions.tiles marks) so_many sums)
-      (sym (are_sums pieces.parts pieces.are).one_each)
-      (subst (λ (all : List ℕ). AreMeetingSums raw parts meeting.stacks.items all count sums)
-      (are_groups ∙ ap (λ (so_many : ℕ). map (mark_at (length members.names.items) regions.tiles marks) (range_with_len 0 so_many)) long)
-      (are_sums parts are));
-  are_merges = are_merges;
-}
+    (member_pairs members.numbers.items piece_list.starts.items piece_list.stacks.items) found.marks.items
+    → All (λ mark. mark < count) found.marks.items
+    → groups ≡ map (mark_at (length members.names.items) regions.tiles found.marks.items) (range_with_len 0 (length regions.tiles))
+    → ((parts : List SetLayout) → ArePlaneStacks raw parts piece_list.stacks.items
+    → AreMeetingSums raw parts piece_list.stacks.items groups count found.sums.items)
+    → AreMarkedSums raw piece_list members regions found
+marked_sums_are raw piece_list members regions found count groups pieces long are_marks below are_groups are_sums =
+    let many : length found.sums.items ≡ count = (are_sums pieces.parts pieces.are).one_each in record {
+      are_marks = are_marks;
+      below = subst (λ (most : ℕ). All (λ mark. mark < most) found.marks.items) (sym many) below;
+      are_sums = λ parts are.
+          subst (λ (so_many : ℕ). AreMeetingSums raw parts piece_list.stacks.items
+          (piece_marks (length members.names.items) piece_list.stacks.items regions.tiles found.marks.items) so_many found.sums.items) (sym many)
+          (subst (λ (all : List ℕ). AreMeetingSums raw parts piece_list.stacks.items all count found.sums.items)
+          (are_groups ∙ ap (λ (so_many : ℕ). map (mark_at (length members.names.items) regions.tiles found.marks.items) (range_with_len 0 so_many)) long)
+          (are_sums parts are));
+    }

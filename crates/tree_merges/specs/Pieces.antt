@@ -9,11 +9,11 @@ use Rattle.flood_nodes.specs.Stacking.{AreTyped}
 use Rattle.offences.specs.declared.plane_stacks.PlaneStack.{PlaneStack}
 use Rattle.offences.specs.Offences.{SetLayout}
 use Rattle.offences.specs.PlaneStacks.{ArePlaneStacks}
-use Rattle.hier_merge.specs.declared.meetings.Meeting.{Meeting}
 use Rattle.meeting_sums.specs.LowerMeetingLaws.PartLayouts.{parts_layout}
 use Rattle.meeting_sums.specs.declared.limits.TheConstants.{MOST_PARTS}
 use Rattle.meeting_sums.specs.StackTiles.{tiles_of}
 use Rattle.tile_members.specs.declared.members.TileMembers.{TileMembers}
+use Rattle.tree_merges.specs.declared.marking.CellPieces.{CellPieces}
 
 -- The pieces are those of some parts, fewer than there may be, plane by plane, and each has a flat type that is the technology's and of its plane.
 pub record ArePieces (raw : RawTech) (stacks : List PlaneStack) : Type 0 where
@@ -31,10 +31,10 @@ pub record ArePieceRegions (raw : RawTech) (stacks : List PlaneStack) (regions :
   pub are : (parts : List SetLayout) → ArePlaneStacks raw parts stacks → AreRegions (connects raw) (parts_layout raw parts) regions.tiles regions.count
 
 -- The tiles that cover the pieces have members, which have names, and each piece has a region.
-pub record AreNumbered (meeting : Meeting) (members : TileMembers) (regions : Regions) : Type 0 where
-  pub starts : All (λ piece. piece.plane < length meeting.starts.items) meeting.stacks.items
-  pub tiles : All (λ piece. All (λ tile. slice_index meeting.starts.items piece.plane + tile < length members.numbers.items) piece.stack.members)
-      meeting.stacks.items
+pub record AreNumbered (pieces : CellPieces) (members : TileMembers) (regions : Regions) : Type 0 where
+  pub starts : All (λ piece. piece.plane < length pieces.starts.items) pieces.stacks.items
+  pub tiles : All (λ piece. All (λ tile. slice_index pieces.starts.items piece.plane + tile < length members.numbers.items) piece.stack.members)
+      pieces.stacks.items
   pub named : All (λ number. number < length members.names.items) members.numbers.items
-  pub one_each : length regions.tiles ≡ length meeting.stacks.items
-  pub few : regions.count ≤ length meeting.stacks.items
+  pub one_each : length regions.tiles ≡ length pieces.stacks.items
+  pub few : regions.count ≤ length pieces.stacks.items

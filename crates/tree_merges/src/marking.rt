@@ -7,10 +7,19 @@ ghost use Rattle.tree_merges.specs.MemberPairs.{AddsPairs, member_pairs};
 ghost use Rattle.tree_merges.specs.Pieces.{AreNumbered};
 
 use flood_nodes::Regions;
-use hier_merge::Meeting;
+use offences::PlaneStack;
 use partition::{Labelling, Partition};
 use std::alloc::{AllocError, Global};
 use tile_members::TileMembers;
+
+/// The pieces at which the parts of a cell meet, by plane.
+#[derive(Drop)]
+pub struct CellPieces {
+    /// For each plane the number of its first tile.
+    pub starts: Vec<usize>,
+    /// The members of a piece are numbers of tiles of its plane, counted from the first of these.
+    pub stacks: Vec<PlaneStack>,
+}
 
 // Joins the members that have these tiles, which are counted from the first one of their plane, with a region.
 fn join_members(
@@ -37,20 +46,20 @@ fn join_members(
 /// member's number, and then those of regions. Want of memory alone refuses. It takes a step for each tile of each piece.
 pub fn marks_of(
     alloc: Global,
-    meeting: &Meeting,
+    pieces: &CellPieces,
     members: &TileMembers,
     regions: &Regions,
 ) -> Result<Labelling, AllocError>
-    requires { AreNumbered meeting.now members.now regions.now }
+    requires { AreNumbered pieces.now members.now regions.now }
     ensures marks { IfOk result (λ made. AreMemberMarks (length members.now.names.items) regions.now.tiles regions.now.count
-        (member_pairs members.now.numbers.items meeting.now.starts.items meeting.now.stacks.items) made.labels.items) }
+        (member_pairs members.now.numbers.items pieces.now.starts.items pieces.now.stacks.items) made.labels.items) }
     ensures numbered { IfOk result (λ made. IsNumbered made.labels.items made.count) }
 {
     let tiles = regions.tiles.items();
     let names = members.names.len();
     let mut classes = Partition::new(alloc, names + regions.count)?;
-    for (index, piece) in meeting.stacks.iter().enumerate() {
-        let start = meeting.starts[usize::from(piece.plane)];
+    for (index, piece) in pieces.stacks.iter().enumerate() {
+        let start = pieces.starts[usize::from(piece.plane)];
         let region = names + tiles[index].region;
         join_members(
             &mut classes,

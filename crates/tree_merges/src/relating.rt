@@ -13,11 +13,12 @@ ghost use Rattle.hier_merge.specs.Interactions.{IsWork};
 ghost use Rattle.tree_merges.specs.Relations.{HasOwnNodes, records_in};
 ghost use Rattle.hier_merge.specs.UncleanCells.{AreOffendingOf, IsCleanCell};
 
+use crate::marking::CellPieces;
 use crate::merging::merges_of;
 use cell_library::{Opened, Reader};
 use ext_model::{CellKey, ExtTable, MergeRow};
 use geo_core::Rect;
-use hier_merge::meeting_of;
+use hier_merge::{Meeting, meeting_of};
 use hierarchy_model::clean_cells_keep_what_they_have;
 use names_lists::List;
 use std::alloc::{AllocError, Global};
@@ -66,9 +67,16 @@ pub fn relate<L: Ledger>(
             offending: List::of(meeting.offending),
         });
     }
-    let merges = merges_of(alloc, library, records, cell, &meeting, steps)?;
+    let Meeting {
+        tiles,
+        starts,
+        stacks,
+        offending,
+    } = meeting;
+    let pieces = CellPieces { starts, stacks };
+    let merges = merges_of(alloc, library, records, cell, tiles, pieces, steps)?;
     Ok(Related {
         merges: List::of(merges),
-        offending: List::of(meeting.offending),
+        offending: List::of(offending),
     })
 }

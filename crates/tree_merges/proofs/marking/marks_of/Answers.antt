@@ -23,8 +23,8 @@ start_at starts stacks index piece below is within start plane same found =
 
 pub loop-index-preserved : goal.loop-index-preserved
 loop-index-preserved c =
-    let stacks = c.args.meeting.now.stacks.items in
-    let starts = c.args.meeting.now.starts.items in
+    let stacks = c.args.pieces.now.stacks.items in
+    let starts = c.args.pieces.now.starts.items in
     let numbers = c.args.members.now.numbers.items in
     let tiles = c.args.regions.now.tiles in
     let names = length c.args.members.now.names.items in
@@ -64,9 +64,9 @@ returns-clause-marks c = record {
   long = omega (arith, c.into_labels.ensures.len, c.loop-index.invariant.long);
   divides = c.into_labels.ensures.divides _
       (subst (λ (stacks : List PlaneStack). Divides c.loop-index.classes (IsPair (joined_pairs (length c.args.members.now.names.items)
-      c.args.regions.now.tiles (pairs_from c.args.members.now.numbers.items c.args.meeting.now.starts.items 0 stacks))))
-      (take_all c.loop-index.index c.args.meeting.now.stacks.items
-      (let long : length c.deref-piece-items.result.now ≡ length c.args.meeting.now.stacks.items = ap length c.deref-piece-items.ensures.value in
+      c.args.regions.now.tiles (pairs_from c.args.members.now.numbers.items c.args.pieces.now.starts.items 0 stacks))))
+      (take_all c.loop-index.index c.args.pieces.now.stacks.items
+      (let long : length c.deref-piece-items.result.now ≡ length c.args.pieces.now.stacks.items = ap length c.deref-piece-items.ensures.value in
       omega (arith, long, c.loop-index-test.false)))
       c.loop-index.invariant.divides);
 }

@@ -10,5 +10,5 @@ invariant-loop-index l = record {
   long : length l.classes ≡ length l.members.names.items + l.regions.count;
   divides : Divides l.classes
       (IsPair (map {B = Pair} (λ pair. (pair.0, region_position (length l.members.names.items) l.regions.tiles pair.1))
-      (pairs_from l.members.numbers.items l.meeting.starts.items 0 (take l.index l.meeting.stacks.items))));
+      (pairs_from l.members.numbers.items l.pieces.starts.items 0 (take l.index l.pieces.stacks.items))));
 }

@@ -1,110 +1,30 @@
-use Rattle.std.proofs.Common.{◌≡◌, ◌<◌, ℕ, List, length, map, sym, ap, subst, ◌∙◌, arith}
-use Rattle.std.specs.Prelude.{slice_index, All}
-use Rattle.std.specs.List.{range_with_len}
-use Rattle.std.proofs.lemmas.List.FromFn.{length-map-range_with_len}
-use Rattle.finite_sets.specs.Lists.{Lists}
-use Rattle.flood_nodes.specs.Stacking.{AreSpread}
-use Rattle.flood_nodes.specs.TileShares.{IsTileContact}
-use Rattle.offences.specs.declared.plane_stacks.PlaneStack.{PlaneStack}
-use Rattle.offences.specs.Offences.{SetLayout}
-use Rattle.offences.specs.PlaneStacks.{ArePlaneStacks}
-use Rattle.offences.specs.TypedStacks.{AreByPart}
-use Rattle.meeting_sums.specs.declared.limits.TheConstants.{MOST_PARTS}
+use Rattle.std.proofs.Common.{◌≡◌, ◌<◌, ◌+◌, ℕ, List, length, ap, subst, arith}
+use Rattle.std.specs.Prelude.{slice_index}
 use Rattle.meeting_sums.specs.declared.sums.MeetingSum.{MeetingSum}
-use Rattle.meeting_sums.specs.StackTiles.{tiles_of}
-use Rattle.meeting_sums.specs.Sums.{AreMeetingSums}
 use Rattle.piece_groups.specs.MarkMerges.{AreMergesOfMarks}
-use Rattle.piece_groups.specs.MemberMarks.{mark_at}
-use Rattle.tree_merges.proofs.NumberedMembers.{marked_merges, parts_are_few, parts_in_order}
-use Rattle.tree_merges.proofs.PieceMarks.{marks_are_counted}
-use Rattle.tree_merges.proofs.PieceTiles.{tiles_are_spread, unnumbered_contacts}
 use Rattle.tree_merges.proofs.merging.merges_of_members.Goals as goal
-
-pub meeting_sums-requires-clause-spread : goal.meeting_sums-requires-clause-spread
-meeting_sums-requires-clause-spread c =
-    subst (λ (stacks : List PlaneStack). AreSpread (tiles_of stacks)) (sym c.as_slice-2.ensures.value)
-    (tiles_are_spread c.args.tech.now c.requires.pieces.parts c.args.meeting.now.stacks.items c.requires.pieces.are)
-
-pub meeting_sums-requires-clause-ordered : goal.meeting_sums-requires-clause-ordered
-meeting_sums-requires-clause-ordered c =
-    subst (λ (stacks : List PlaneStack). All (λ piece. AreByPart piece.stack.kinds) stacks) (sym c.as_slice-2.ensures.value)
-    (parts_in_order c.args.tech.now c.args.meeting.now.stacks.items c.requires.pieces)
-
-pub meeting_sums-requires-clause-few_parts : goal.meeting_sums-requires-clause-few_parts
-meeting_sums-requires-clause-few_parts c =
-    subst (λ (stacks : List PlaneStack). All (λ piece. All (λ entry. entry.part < MOST_PARTS) piece.stack.kinds) stacks)
-    (sym c.as_slice-2.ensures.value) (parts_are_few c.args.tech.now c.args.meeting.now.stacks.items c.requires.pieces)
-
-pub meeting_sums-requires-clause-contacts : goal.meeting_sums-requires-clause-contacts
-meeting_sums-requires-clause-contacts c =
-    subst (λ (stacks : List PlaneStack). Lists (IsTileContact (tiles_of stacks)) c.contacts.result.now) (sym c.as_slice-2.ensures.value)
-    (unnumbered_contacts (tiles_of c.args.meeting.now.stacks.items) c.requires.regions.labels c.args.regions.now.tiles c.requires.regions.same
-    c.contacts.result.now c.contacts.ensures)
-
-pub meeting_sums-requires-clause-one_each : goal.meeting_sums-requires-clause-one_each
-meeting_sums-requires-clause-one_each c =
-    let groups = c.as_slice-3.ensures.value ∙ c.in_ok-groups.ensures in
-    let tiles = c.args.regions.now.tiles in
-    let long = ap length groups ∙ length-map-range_with_len (mark_at c.len.result tiles c.as_slice.result.now) 0 (length tiles) in
-    let pieces : length c.as_slice-2.result.now ≡ length c.args.meeting.now.stacks.items = ap length c.as_slice-2.ensures.value in
-    omega (arith, long, pieces, c.requires.numbered.one_each)
-
-pub meeting_sums-requires-clause-counted : goal.meeting_sums-requires-clause-counted
-meeting_sums-requires-clause-counted c =
-    let tiles = c.args.regions.now.tiles in
-    let labels = c.in_ok-marks.marks.labels.items in
-    let names = length c.args.members.now.names.items in
-    let many : c.len.result ≡ names = omega (arith, c.len.ensures) in
-    let groups : c.as_slice-3.result.now ≡ map (mark_at names tiles labels) (range_with_len 0 (length tiles)) =
-    c.as_slice-3.ensures.value ∙ c.in_ok-groups.ensures
-    ∙ ap (λ (marks : List ℕ). map (mark_at c.len.result tiles marks) (range_with_len 0 (length tiles))) c.as_slice.ensures.value
-    ∙ ap (λ (members : ℕ). map (mark_at members tiles labels) (range_with_len 0 (length tiles))) many in
-    subst (λ (all : List ℕ). All (λ mark. mark < c.in_ok-marks.marks.count) all) (sym groups)
-    (marks_are_counted names tiles c.args.regions.now.count labels c.in_ok-marks.marks.count c.in_ok-marks.ensures.marks.long
-    c.args.regions.now.sound c.in_ok-marks.ensures.numbered)
 
 pub merges_of_marks-requires-clause-within : goal.merges_of_marks-requires-clause-within
 merges_of_marks-requires-clause-within c = λ number below.
-    let labels = c.in_ok-marks.marks.labels.items in
-    let stacks = c.args.meeting.now.stacks.items in
-    let are : ArePlaneStacks c.args.tech.now c.requires.pieces.parts c.as_slice-2.result.now =
-    subst (ArePlaneStacks c.args.tech.now c.requires.pieces.parts) (sym c.as_slice-2.ensures.value) c.requires.pieces.are in
-    let many : length c.in_ok-sums.sums.items ≡ c.in_ok-marks.marks.count = (c.in_ok-sums.ensures c.requires.pieces.parts are).one_each in
-    let sums : length c.as_slice-6.result.now ≡ length c.in_ok-sums.sums.items = ap length c.as_slice-6.ensures.value in
-    let names : length c.as_slice-4.result.now ≡ length c.args.members.now.names.items = ap length c.as_slice-4.ensures.value in
-    let long = c.in_ok-marks.ensures.marks.long in
-    let mark : slice_index labels number < c.in_ok-marks.marks.count = c.in_ok-marks.ensures.numbered.below number 0 (omega (arith, below, names, long)) in
-    let same : slice_index c.as_slice-5.result.now number ≡ slice_index labels number =
-    ap (λ (marks : List ℕ). slice_index marks number) c.as_slice-5.ensures.value in
-    omega (arith, mark, same, many, sums)
+    let are = c.in_ok-found.ensures in
+    let labels = c.in_ok-found.found.marks.items in
+    let sums : length c.as_slice-3.result.now ≡ length c.in_ok-found.found.sums.items = ap length c.as_slice-3.ensures.value in
+    let names : length c.as_slice.result.now ≡ length c.args.members.now.names.items = ap length c.as_slice.ensures.value in
+    let mark : slice_index labels number < length c.in_ok-found.found.sums.items = are.below number 0 (omega (arith, below, names, are.are_marks.long)) in
+    let same : slice_index c.as_slice-2.result.now number ≡ slice_index labels number =
+    ap (λ (marks : List ℕ). slice_index marks number) c.as_slice-2.ensures.value in
+    omega (arith, mark, same, sums)
 
 pub returns : goal.returns
 returns c =
     let raw = c.args.tech.now in
-    let tiles = c.args.regions.now.tiles in
-    let labels = c.in_ok-marks.marks.labels.items in
-    let names = length c.args.members.now.names.items in
-    let stacks = c.args.meeting.now.stacks.items in
-    let many : c.len.result ≡ names = omega (arith, c.len.ensures) in
-    let groups : c.in_ok-groups.groups.items ≡ map (mark_at names tiles labels) (range_with_len 0 (length tiles)) =
-    c.in_ok-groups.ensures
-    ∙ ap (λ (marks : List ℕ). map (mark_at c.len.result tiles marks) (range_with_len 0 (length tiles))) c.as_slice.ensures.value
-    ∙ ap (λ (members : ℕ). map (mark_at members tiles labels) (range_with_len 0 (length tiles))) many in
-    let sums = λ (parts : List SetLayout) (are : ArePlaneStacks raw parts stacks).
-    (let found =
-    c.in_ok-sums.ensures parts (subst (ArePlaneStacks raw parts) (sym c.as_slice-2.ensures.value) are) in
-    subst (λ (all : List ℕ). AreMeetingSums raw parts stacks all c.in_ok-marks.marks.count c.in_ok-sums.sums.items) c.as_slice-3.ensures.value
-    (subst (λ (all : List PlaneStack). AreMeetingSums raw parts all c.as_slice-3.result.now c.in_ok-marks.marks.count c.in_ok-sums.sums.items)
-    c.as_slice-2.ensures.value found)) in
+    let made = c.in_ok-found.found in
     let found = c.in_ok-merges.ensures in
-    let merges : AreMergesOfMarks raw c.args.members.now.names.items labels c.in_ok-sums.sums.items found.0 =
-    subst (λ (all : List MeetingSum). AreMergesOfMarks raw c.args.members.now.names.items labels all found.0)
-    c.as_slice-6.ensures.value
-    (subst (λ (all : List ℕ). AreMergesOfMarks raw c.args.members.now.names.items all c.as_slice-6.result.now found.0)
-    c.as_slice-5.ensures.value
-    (subst (λ (all : List (List ℕ)). AreMergesOfMarks raw all c.as_slice-5.result.now c.as_slice-6.result.now found.0)
-    c.as_slice-4.ensures.value found.1)) in
-    let marked =
-    marked_merges raw c.args.meeting.now c.args.members.now c.args.regions.now labels c.in_ok-marks.marks.count c.in_ok-groups.groups.items
-    c.in_ok-sums.sums.items found.0 c.requires.pieces c.requires.numbered.one_each c.in_ok-marks.ensures.marks groups sums merges in
-    (found.0, marked, found.2)
+    let merges : AreMergesOfMarks raw c.args.members.now.names.items made.marks.items made.sums.items found.0 =
+    subst (λ (all : List MeetingSum). AreMergesOfMarks raw c.args.members.now.names.items made.marks.items all found.0)
+    c.as_slice-3.ensures.value
+    (subst (λ (all : List ℕ). AreMergesOfMarks raw c.args.members.now.names.items all c.as_slice-3.result.now found.0)
+    c.as_slice-2.ensures.value
+    (subst (λ (all : List (List ℕ)). AreMergesOfMarks raw all c.as_slice-2.result.now c.as_slice-3.result.now found.0)
+    c.as_slice.ensures.value found.1)) in
+    (found.0, record { found = made; are = c.in_ok-found.ensures; are_merges = merges }, found.2)
