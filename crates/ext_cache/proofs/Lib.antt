@@ -3,6 +3,7 @@ mod AgreementLaws
 pub mod ArrivalLaws
 mod CleanLaws
 pub mod EditLaws
+mod LendingLaws
 mod LoopLaws
 mod MadeLaws
 pub mod MakingLaws

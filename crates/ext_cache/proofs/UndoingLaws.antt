@@ -24,7 +24,7 @@ with_entry_get entries cell (Some entry) key =
     ∙ ap (λ (tied : Bool). cond tied (Some entry) (fin_map.get entries key)) (unsigned_tied key cell)
 
 -- an entry that was inserted and then put back leaves the entries as they were
-put_back_same : (entries : fin_map.FinMap nat_cmp ExtEntry) (cell : ℕ) (entry : ExtEntry)
+pub put_back_same : (entries : fin_map.FinMap nat_cmp ExtEntry) (cell : ℕ) (entry : ExtEntry)
     → with_entry (fin_map.insert entries cell entry) cell (fin_map.get entries cell) ≡ entries
 put_back_same entries cell entry =
     fin_map.same_map nat_cmp_total fin_map.nat_cmp-IsAntisymmetric (with_entry (fin_map.insert entries cell entry) cell (fin_map.get entries cell)) entries

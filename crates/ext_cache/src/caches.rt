@@ -1,5 +1,5 @@
 //! The records that are kept.
-ghost use Rattle.std.specs.Prelude.{◌≡◌, Some, All, map, IfOk, IsSome, OnOk, OnErr};
+ghost use Rattle.std.specs.Prelude.{◌≡◌, IfOk, IsSome, OnOk, OnErr};
 ghost use Rattle.std.specs.Option.{option_copied};
 ghost use Rattle.ext_cache.specs.Caches.{next_serial};
 ghost use Rattle.ext_cache.specs.Undoing.{with_entry};
@@ -30,6 +30,7 @@ impl Model for Cache {
 
 impl Cache {
     ghost use Rattle.ext_cache.specs.Caches.{entry_in, is_stale, no_records, record_in, with_record};
+    ghost use Rattle.ext_cache.specs.Lending.{replaced};
 
     /// No record was made. It takes no memory.
     pub fn new(alloc: Global) -> Cache
@@ -54,24 +55,6 @@ impl Cache {
         ensures { option_copied result ≡ record_in self.now cell.0 }
     {
         self.table.get(cell)
-    }
-
-    /// Copies of the records that are kept of these cells, in their order. Each of them has one. Want of memory alone refuses.
-    pub fn copies(&self, cells: &[CellKey]) -> Result<Vec<ArrayExt>, AllocError>
-        requires { All (λ cell. IsSome (record_in self.now cell.0)) cells.now }
-        ensures { IfOk result (λ exts. map (λ ext. Some ext) exts.items ≡ map (λ cell. record_in self.now cell.0) cells.now) }
-    {
-        let mut exts = Vec::with_capacity(self.alloc, cells.len())?;
-        for cell in cells {
-            let Some(ext) = self.kept(*cell) else {
-                unreachable!()
-            };
-            let Ok(copy) = ext.copy(self.alloc) else {
-                return Err(AllocError);
-            };
-            exts.push(copy)?;
-        }
-        Ok(exts)
     }
 
     /// What records take their memory from.
@@ -118,6 +101,15 @@ impl Cache {
             stamp,
         };
         Ok(self.table.put(cell, entry))
+    }
+
+    /// Puts an entry in the place of the one that a cell has, and hands that out. It takes no memory.
+    pub(crate) fn put(&mut self, cell: CellKey, entry: ExtEntry) -> Option<ExtEntry>
+        requires { IsSome (entry_in self.old cell.0) }
+        ensures old { result ≡ entry_in self.old cell.0 }
+        ensures new { self.new ≡ replaced self.old cell.0 entry }
+    {
+        self.table.put(cell, entry)
     }
 
     /// Puts back the entry that a cell had when so many records were made. It takes no memory.

@@ -22,6 +22,7 @@ use crate::faults::{ExtractFault, Unclean};
 use crate::undo::Undo;
 use cell_library::{Opened, Reader};
 use cell_records::{CellRecord, cell_record};
+use element_paths::use_records;
 use ext_model::{ArrayExt, CellExt, CellKey};
 use hierarchy_model::clean_cells_keep_what_they_have;
 use lawful_trees::record_is_lawful;
@@ -30,7 +31,6 @@ use std::alloc::{AllocError, Global};
 use std::sync::ledger::Ledger;
 use tree_merges::{Related, relate};
 use use_orders::library_order_law;
-use element_paths::use_records;
 
 /// A cell of which a new record was made, and the texts of its labels that name none of its nodes, in the order of the labels.
 #[derive(Debug, Drop)]

@@ -19,13 +19,15 @@
 //! one after another, follows how far they are counted, and that their serials follow the count (`SerialLaws`).
 //!
 //! A cell that is not clean is the first of the order, since all before it are clean (`UncleanLaws`). A log has what each new record replaced:
-//! put back from the last to the first, this leaves the records as they were (`UndoingLaws`).
+//! put back from the last to the first, this leaves the records as they were (`UndoingLaws`). So does taking records back that were lent, each of
+//! which has an empty one in its place (`LendingLaws`).
 #![tactic(auto)]
 
 mod caches;
 mod extraction;
 mod faults;
 mod laws;
+mod lending;
 mod limits;
 mod undo;
 
@@ -33,4 +35,5 @@ pub use caches::Cache;
 pub use extraction::{Extracted, extract_dirty};
 pub use faults::{ExtractFault, Unclean};
 pub use laws::{edits_keep_agreement, new_cells_keep_agreement, no_records_agree};
+pub use lending::Lent;
 pub use limits::LAST_SERIAL;

@@ -1,5 +1,5 @@
 //! What the commands have in common that run something on the network of a cell's circuit.
-ghost use Rattle.std.specs.Prelude.{◌<◌, ℕ, List as Words, Some, length, IfOk, IsOkUnless};
+ghost use Rattle.std.specs.Prelude.{◌≡◌, ◌<◌, ℕ, List as Words, Some, length, IfOk, IsOkUnless};
 ghost use Rattle.cell_library.specs.Libraries.{seen};
 ghost use Rattle.workspace.specs.Caches.{Agrees};
 ghost use Rattle.line_answers.specs.LineEffects.{IsOfInside};
@@ -52,17 +52,18 @@ pub fn run_extracted(
 // Runs it on the circuit of a cell where none at and below it is dirty.
 fn run_kept(
     alloc: Global,
-    edited: &Edited,
+    edited: &mut Edited,
     number: usize,
     budget: u32,
     run: &NetworkRun,
     cell: CellKey,
 ) -> Result<Vec<ReportLine>, Halt>
-    requires agrees { Agrees edited.now.library edited.now.cache }
-    requires cell { cell.0 < length edited.now.library.contents }
-    requires fresh { IsFreshBelow edited.now.library edited.now.cache cell.0 }
-    ensures tells { IfOk result (λ lines. TellsAt run.now budget number (seen edited.now.library) cell.0 lines.items) }
+    requires agrees { Agrees edited.old.library edited.old.cache }
+    requires cell { cell.0 < length edited.old.library.contents }
+    requires fresh { IsFreshBelow edited.old.library edited.old.cache cell.0 }
+    ensures tells { IfOk result (λ lines. TellsAt run.now budget number (seen edited.old.library) cell.0 lines.items) }
     ensures inside { IfOk result (λ lines. IsOfInside lines.items) }
+    ensures same { edited.new ≡ edited.old }
     ensures memory { IsOkUnless result Halt.Memory }
 {
     match flatten_kept(alloc, edited, cell)? {

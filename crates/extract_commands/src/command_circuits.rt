@@ -90,15 +90,16 @@ fn circuit_found(
 // Writes the circuit of a cell where none at and below it is dirty.
 fn write_kept(
     alloc: Global,
-    edited: &Edited,
+    edited: &mut Edited,
     cell: CellKey,
     name: &Name,
     file: CircuitFile,
 ) -> Result<Written, Halt>
-    requires agrees { Agrees edited.now.library edited.now.cache }
-    requires cell { cell.0 < length edited.now.library.contents }
-    requires fresh { IsFreshBelow edited.now.library edited.now.cache cell.0 }
-    ensures written { IfOk result (IsWrittenAt file (seen edited.now.library) cell.0 name.now) }
+    requires agrees { Agrees edited.old.library edited.old.cache }
+    requires cell { cell.0 < length edited.old.library.contents }
+    requires fresh { IsFreshBelow edited.old.library edited.old.cache cell.0 }
+    ensures written { IfOk result (IsWrittenAt file (seen edited.old.library) cell.0 name.now) }
+    ensures same { edited.new ≡ edited.old }
     ensures memory { IsOkUnless result Halt.Memory }
 {
     match flatten_kept(alloc, edited, cell)? {

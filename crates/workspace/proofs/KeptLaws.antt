@@ -99,6 +99,10 @@ module _ (library : LibraryParts) (lawful : IsLawfulLibrary library) (records : 
         (below_is_before library (numbers order) (library_order-behind (children_in view) root (numbers order) is_order) at.0 at.1.0 cell
         (record { child = child; uses = uses; at_or_below = rest }))
 
+    -- no cell stands there twice
+    pub order_once : Distinct (numbers order)
+    order_once = (library_order-lists (children_in (seen library)) root (numbers order) is_order).0
+
     -- a record is kept of each cell of the order
     pub order_kept : All (λ key. IsSome (record_in records key.0)) order
     order_kept =

@@ -1,5 +1,5 @@
 //! The circuits of cells.
-ghost use Rattle.std.specs.Prelude.{◌<◌, IfOk, IsOkUnless, length};
+ghost use Rattle.std.specs.Prelude.{◌≡◌, ◌<◌, IfOk, IsOkUnless, length};
 ghost use Rattle.cell_library.specs.Libraries.{seen};
 ghost use Rattle.ext_loading.specs.PlainRecords.Plains.{AreArrayRecords, plains};
 ghost use Rattle.ext_cache.specs.Caches.{Agrees};
@@ -15,8 +15,7 @@ use circuit_laws::flat_transistors_have_letter_and_lengths;
 use circuit_model::{CircuitLimit, FlatFault};
 use ext_model::{ArrayExt, CellKey, Circuit};
 use flatten::flatten;
-use library_trees::listed_records_are_of_the_tree;
-use library_trees::{chains_are_short, clean_cell_has_clean_tree};
+use library_trees::{chains_are_short, clean_cell_has_clean_tree, listed_records_are_of_the_tree};
 use network_laws::{flat_circuits_have_letters, flat_networks_fit, flat_networks_have_the_nodes};
 use session_model::Halt;
 use std::alloc::Global;
@@ -29,12 +28,13 @@ pub enum Flattened {
     Passed(CircuitLimit),
 }
 
-/// The circuit of a cell where none at and below it is dirty.
-pub fn flatten_kept(alloc: Global, edited: &Edited, cell: CellKey) -> Result<Flattened, Halt>
-    requires agrees { Agrees edited.now.library edited.now.cache }
-    requires cell { cell.0 < length edited.now.library.contents }
-    requires fresh { IsFreshBelow edited.now.library edited.now.cache cell.0 }
-    ensures flattened { IfOk result (IsFlattenedAt (seen edited.now.library) cell.0) }
+/// The circuit of a cell where none at and below it is dirty. Nothing is changed: the records are taken out to be read, and put back.
+pub fn flatten_kept(alloc: Global, edited: &mut Edited, cell: CellKey) -> Result<Flattened, Halt>
+    requires agrees { Agrees edited.old.library edited.old.cache }
+    requires cell { cell.0 < length edited.old.library.contents }
+    requires fresh { IsFreshBelow edited.old.library edited.old.cache cell.0 }
+    ensures flattened { IfOk result (IsFlattenedAt (seen edited.old.library) cell.0) }
+    ensures same { edited.new ≡ edited.old }
     ensures memory { IsOkUnless result Halt.Memory }
 {
     let library = edited.library.reader();
@@ -42,8 +42,10 @@ pub fn flatten_kept(alloc: Global, edited: &Edited, cell: CellKey) -> Result<Fla
     // The laws by which these are the records of the cell's tree.
     library.lawful();
     listed_records_are_of_the_tree(&library);
-    let exts = edited.cache.copies(order.as_slice())?;
-    flatten_records(alloc, &library, cell, exts.as_slice())
+    let lent = edited.cache.lend(order.as_slice())?;
+    let flattened = flatten_records(alloc, &library, cell, lent.exts.as_slice());
+    edited.cache.take_back(lent);
+    flattened
 }
 
 // The circuit of a clean cell, where these are the records of it and of all below it.

@@ -1,7 +1,9 @@
 use Rattle.std.proofs.Common.{◌≡◌, ◌++◌, List, inl, sym, subst, rules}
 use Rattle.session_model.specs.declared.report.ReportLine.{ReportLine}
 use Rattle.cell_library.specs.Libraries.{LibraryParts, seen}
+use Rattle.workspace.specs.declared.cells.Edited.{Edited}
 use Rattle.workspace.specs.declared.extractions.Extracting.{Extracting}
+use Rattle.workspace.specs.declared.extractions.Extracting.TheVariants.{Done}
 use Rattle.line_answers.specs.LineEffects.{IsOfInside}
 use Rattle.workspace.specs.KeptSessions.{edited_state}
 use Rattle.extract_commands.specs.CellRuns.{TellsAt}
@@ -23,10 +25,13 @@ run_kept-requires-clause-fresh c =
 pub returns-in_ok-joined-in-Done-clause-effect : goal.returns-in_ok-joined-in-Done-clause-effect
 returns-in_ok-joined-in-Done-clause-effect c fetched =
     let work = edited_state c.args.edited.now in
-    let after = edited_state c.extract_cell.new.edited in
+    let before = c.extract_cell.new.edited in
+    let after = edited_state c.run_kept.new.edited in
     let extraction = c.in-Done.extraction in
     let told = c.in_ok-lines-in-Done.lines.items in
-    let is = subst (λ (e : Extracting). IsExtracted c.args.number work after c.args.cell.0 e) c.in-Done.is c.in_ok-extraction.ensures.extracted in
+    let is =
+    subst (λ (edited : Edited). IsExtracted c.args.number work (edited_state edited) c.args.cell.0 (Done extraction)) (sym c.run_kept.ensures.same)
+    (subst (λ (e : Extracting). IsExtracted c.args.number work (edited_state before) c.args.cell.0 e) c.in-Done.is c.in_ok-extraction.ensures.extracted) in
     let tells = subst (λ (l : LibraryParts). TellsAt c.args.run.now c.args.budget c.args.number (seen l) c.args.cell.0 told) c.in_ok-extraction.ensures.library
     c.in_ok-lines-in-Done.ensures.tells in
     let lines : c.in_ok-joined-in-Done.field-0.items ≡ extraction.lines ++ told = search rules in

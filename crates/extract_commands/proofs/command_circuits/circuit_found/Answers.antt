@@ -3,7 +3,9 @@ use Rattle.std.proofs.lemmas.Result.{IfOk-weaker}
 use Rattle.session_model.specs.declared.report.ReportLine.{ReportLine}
 use Rattle.session_model.specs.Effects.{Effect}
 use Rattle.cell_library.specs.Libraries.{LibraryParts, seen}
+use Rattle.workspace.specs.declared.cells.Edited.{Edited}
 use Rattle.workspace.specs.declared.extractions.Extracting.{Extracting}
+use Rattle.workspace.specs.declared.extractions.Extracting.TheVariants.{Done}
 use Rattle.line_answers.specs.LineEffects.{IsOfInside}
 use Rattle.workspace.specs.KeptSessions.{edited_state}
 use Rattle.circuit_commands.specs.Circuits.{lines_of}
@@ -29,10 +31,13 @@ write_kept-requires-clause-fresh c =
 pub returns-in_ok-written-in-Done-clause-effect : goal.returns-in_ok-written-in-Done-clause-effect
 returns-in_ok-written-in-Done-clause-effect c =
     let work = edited_state c.args.edited.now in
-    let after = edited_state c.extract_cell.new.edited in
+    let before = c.extract_cell.new.edited in
+    let after = edited_state c.write_kept.new.edited in
     let extraction = c.in-Done.extraction in
     let written = c.in_ok-written-in-Done.written in
-    let is = subst (λ (e : Extracting). IsExtracted c.args.number work after c.args.cell.0 e) c.in-Done.is c.in_ok-extraction.ensures.extracted in
+    let is =
+    subst (λ (edited : Edited). IsExtracted c.args.number work (edited_state edited) c.args.cell.0 (Done extraction)) (sym c.write_kept.ensures.same)
+    (subst (λ (e : Extracting). IsExtracted c.args.number work (edited_state before) c.args.cell.0 e) c.in-Done.is c.in_ok-extraction.ensures.extracted) in
     let is_written = subst (λ (l : LibraryParts). IsWrittenAt c.args.file (seen l) c.args.cell.0 c.args.name.now written) c.in_ok-extraction.ensures.library
     c.in_ok-written-in-Done.ensures.written in
     both_ok c.answer.result _ _ _
