@@ -41,9 +41,9 @@ counts_below sizes (entry ∷ rest) some =
     omega arith
 
 -- the elements of a size that was worked out
-pub elements_are : (sizes : ℕ → Size) (cell : CellState) → (size_of sizes cell).elements ≡ suc (elements_below sizes cell.uses)
+pub size_elements : (sizes : ℕ → Size) (cell : CellState) → (size_of sizes cell).elements ≡ suc (elements_below sizes cell.uses)
 unfolding size_of
-elements_are sizes cell = refl
+size_elements sizes cell = refl
 
 module _ (library : LibraryParts) (lawful : IsLawfulLibrary library) where
   elements_at_least : (key : ℕ) → key < length library.tree.cells → 1 ≤ (size_at library.tree.sizes key).elements
@@ -51,7 +51,7 @@ module _ (library : LibraryParts) (lawful : IsLawfulLibrary library) where
       let state = cell_at library.tree.cells key in
       let is : (size_at library.tree.sizes key).elements ≡ suc (elements_below (size_at library.tree.sizes) state.uses) =
       ap (λ (size : Size). size.elements) (lawful.tree.sizes.right key state (cell_is library.tree.cells key below))
-      ∙ elements_are (size_at library.tree.sizes) state in
+      ∙ size_elements (size_at library.tree.sizes) state in
       omega arith
 
   -- the uses of a cell have fewer elements than there may be below it
@@ -63,7 +63,7 @@ module _ (library : LibraryParts) (lawful : IsLawfulLibrary library) where
       let is : (size_at library.tree.sizes cell).elements ≡ suc (elements_below (size_at library.tree.sizes) state.uses) =
       ap (λ (size : Size). size.elements) (lawful.tree.sizes.right cell state (cell_is library.tree.cells cell
       (cell_below library lawful cell below)))
-      ∙ elements_are (size_at library.tree.sizes) state in
+      ∙ size_elements (size_at library.tree.sizes) state in
       let fewer : element_count state.uses ≤ elements_below (size_at library.tree.sizes) state.uses =
       counts_below (size_at library.tree.sizes) state.uses (λ k entry at.
       elements_at_least entry.1.child.0 (child_below library lawful cell below k entry at)) in

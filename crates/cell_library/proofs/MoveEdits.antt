@@ -34,7 +34,7 @@ use Rattle.cell_library.specs.Libraries.{LibraryParts, IsLawfulLibrary, HasUseId
 use Rattle.cell_library.specs.Limits.{AreStatesOf, GoesPast}
 use Rattle.cell_library.specs.Refusals.{FirstOf, NothingElse, EditIsRefused, ArrayIsRefused, MoveIsRefused, has_id, stands_in_range, moves_too_far}
 use Rattle.cell_library.specs.Views.{CellView, view_at}
-use Rattle.cell_library.proofs.ElementCounts.{elements_are}
+use Rattle.cell_library.proofs.ElementCounts.{size_elements}
 use Rattle.cell_library.proofs.FaultLaws.{first_of_map, not_first, not_full}
 use Rattle.cell_library.proofs.LimitLaws.{never_past, would_go_past, none_before}
 use Rattle.cell_library.proofs.SizeLaws.{HaveChildren, tree_children, children_of_changed, some_depth, past_last}
@@ -126,9 +126,9 @@ elements_stay_to cells changed k id used placed a b children there is a_right b_
     let falls = child_is_lower (size_at a) cell j entry at in
     elements_stay_to cells changed k id used placed a b children there is a_right b_right n entry.1.child.0
     (children key cell (cell_is cells key below) j entry at) (omega arith)) in
-    ap (λ (s : Size). s.elements) old ∙ elements_are (size_at a) cell ∙ ap suc same ∙ elim (cases_eq key changed) [
+    ap (λ (s : Size). s.elements) old ∙ size_elements (size_at a) cell ∙ ap suc same ∙ elim (cases_eq key changed) [
       | inr apart ↦
-          sym (elements_are (size_at b) cell)
+          sym (size_elements (size_at b) cell)
           ∙ ap (λ (s : Size). s.elements) (sym (b_right key cell (slice_get-set_other cells changed key state apart ∙ (cell_is cells key below))))
       | inl one ↦
           let long : length (slice_set cells changed state) ≡ length cells = length-set cells changed state in
@@ -137,7 +137,7 @@ elements_stay_to cells changed k id used placed a b children there is a_right b_
           ∙ ap (λ (c : CellState). Some c) (get_or-set_same cells changed state state there) in
           let uses : cell.uses ≡ (cell_at cells changed).uses = ap (λ (n : ℕ). (cell_at cells n).uses) one in
           ap suc (ap (elements_below (size_at b)) uses ∙ sym (elements_moved (size_at b) (cell_at cells changed).uses k id used placed is))
-          ∙ sym (elements_are (size_at b) state) ∙ ap (λ (s : Size). s.elements) (sym (b_right key state put))
+          ∙ sym (size_elements (size_at b) state) ∙ ap (λ (s : Size). s.elements) (sym (b_right key state put))
     ]
 
 -- so a move of a lawful library's use passes no limit of elements

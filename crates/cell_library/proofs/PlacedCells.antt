@@ -24,7 +24,7 @@ use Rattle.cell_library.specs.Limits.{AreStatesOf}
 use Rattle.cell_library.specs.MaterialBelow.{HasMaterial, HasMaterialBelow}
 use Rattle.cell_library.specs.Views.{LibraryView, view_at}
 use Rattle.cell_library.specs.VisitedTiles.{placed_cells, placed_below, HasThere, AreOutside}
-use Rattle.cell_library.proofs.ElementCounts.{elements_are}
+use Rattle.cell_library.proofs.ElementCounts.{size_elements}
 use Rattle.cell_library.proofs.HullsHoldMaterial.{hull_holds_material, state_uses}
 use Rattle.cell_library.proofs.PlacedRects.{back_on, composed_assoc, identity_then, then_identity}
 use Rattle.cell_library.proofs.SizeLaws.{HaveChildren, some_depth}
@@ -111,7 +111,7 @@ cells_counted view states sizes are right children zero cell below deep =
     let there = cell_is states cell below in
     let size : size_at sizes cell ≡ size_of (size_at sizes) state = right cell state there in
     let depths : (size_at sizes cell).depth ≡ (size_of (size_at sizes) state).depth = ap (λ (s : Size). s.depth) size in
-    sym (ap (λ (s : Size). s.elements) size ∙ elements_are (size_at sizes) state
+    sym (ap (λ (s : Size). s.elements) size ∙ size_elements (size_at sizes) state
     ∙ ap suc (no_uses state.uses (λ k entry is.
     let child = children cell state there k entry is in
     let falls = child_is_lower (size_at sizes) state k entry is in
@@ -136,7 +136,7 @@ cells_counted view states sizes are right children (suc depth) cell below deep =
     let falls = child_is_lower (size_at sizes) state k entry is in
     cells_counted view states sizes are right children depth entry.1.child.0 child (omega (arith, falls, depths, deep))) in
     ap (λ (u : List (List ℕ × UseBody)). suc (cells_below (elements_from (tree_to view depth) u))) (sym uses)
-    ∙ ap suc counted ∙ sym (ap (λ (s : Size). s.elements) size ∙ elements_are (size_at sizes) state)
+    ∙ ap suc counted ∙ sym (ap (λ (s : Size). s.elements) size ∙ size_elements (size_at sizes) state)
 
 -- ---- standings
 

@@ -23,7 +23,7 @@ use Rattle.cell_library.specs.Spots.{spots_at, spots_from, own_elements, AddsSpo
 use Rattle.cell_library.specs.UsePlaces.{HasRoomBelow, spots_before, spots_of_use, spots_under}
 use Rattle.cell_library.specs.UseTrees.{place_at, start_at, start_behind}
 use Rattle.cell_library.proofs.GridSpots.{element_moves, room_below, room_for_less}
-use Rattle.cell_library.proofs.ElementCounts.{elements_are}
+use Rattle.cell_library.proofs.ElementCounts.{size_elements}
 use Rattle.cell_library.proofs.SpotLaws.{spots_from-more, spots_both}
 
 -- ---- sums over uses
@@ -98,7 +98,7 @@ use_known tree cell k used lawful below is =
 some_elements : (tree : Tree) (cell : ℕ) → IsLawfulTree tree → cell < length tree.cells → 1 ≤ (size_at tree.sizes cell).elements
 some_elements tree cell lawful below =
     let size = ap (λ (s : Size). s.elements) (lawful.sizes.right cell (cell_at tree.cells cell) (cell_is tree.cells cell below)) in
-    let some = elements_are (size_at tree.sizes) (cell_at tree.cells cell) in
+    let some = size_elements (size_at tree.sizes) (cell_at tree.cells cell) in
     omega (arith, size, some)
 
 -- what a cell's elements are
@@ -106,7 +106,7 @@ pub elements_are : (tree : Tree) (cell : ℕ) → IsLawfulTree tree → cell < l
     → (size_at tree.sizes cell).elements ≡ suc (elements_below (size_at tree.sizes) (cell_at tree.cells cell).uses)
 elements_are tree cell lawful below =
     ap (λ (s : Size). s.elements) (lawful.sizes.right cell (cell_at tree.cells cell) (cell_is tree.cells cell below))
-    ∙ elements_are (size_at tree.sizes) (cell_at tree.cells cell)
+    ∙ size_elements (size_at tree.sizes) (cell_at tree.cells cell)
 
 own_few : (tree : Tree) (cell : ℕ) → IsLawfulTree tree → cell < length tree.cells
     → own_elements (cell_at tree.cells cell).uses ≤ elements_below (size_at tree.sizes) (cell_at tree.cells cell).uses
