@@ -36,12 +36,12 @@ lend-requires-clause-once c =
     (subst (λ (l : LibraryParts). IsFreshBelow l c.args.edited.now.cache c.args.cell.0) (sym c.reader-library.ensures) c.requires.fresh)
     c.in_ok-order.order.items c.in_ok-order.ensures)
 
-pub flatten_records-requires-clause-cell : goal.flatten_records-requires-clause-cell
-flatten_records-requires-clause-cell c =
+pub flatten_records-flattened-requires-clause-cell : goal.flatten_records-flattened-requires-clause-cell
+flatten_records-flattened-requires-clause-cell c =
     subst (λ (l : LibraryParts). c.args.cell.0 < length l.contents) (sym c.reader-library.ensures) c.requires.cell
 
-pub flatten_records-requires-clause-clean : goal.flatten_records-requires-clause-clean
-flatten_records-requires-clause-clean c =
+pub flatten_records-flattened-requires-clause-clean : goal.flatten_records-flattened-requires-clause-clean
+flatten_records-flattened-requires-clause-clean c =
     let library = c.reader-library.result in
     let cache = c.args.edited.now.cache in
     let back = sym c.reader-library.ensures in
@@ -50,8 +50,8 @@ flatten_records-requires-clause-clean c =
     let fresh = subst (λ (l : LibraryParts). IsFreshBelow l cache c.args.cell.0) back c.requires.fresh in
     root_clean library c.lawful.ensures cache agrees c.args.cell.0 there fresh
 
-pub flatten_records-requires-clause-records : goal.flatten_records-requires-clause-records
-flatten_records-requires-clause-records c =
+pub flatten_records-flattened-requires-clause-records : goal.flatten_records-flattened-requires-clause-records
+flatten_records-flattened-requires-clause-records c =
     let library = c.reader-library.result in
     let cache = c.args.edited.now.cache in
     let back = sym c.reader-library.ensures in
@@ -63,8 +63,8 @@ flatten_records-requires-clause-records c =
     (are_records library c.lawful.ensures cache agrees c.args.cell.0 there fresh c.in_ok-order.order.items c.in_ok-order.ensures
     c.in_ok-lent.lent.exts.items copied)
 
-pub flatten_records-requires-clause-tree : goal.flatten_records-requires-clause-tree
-flatten_records-requires-clause-tree c =
+pub flatten_records-flattened-requires-clause-tree : goal.flatten_records-flattened-requires-clause-tree
+flatten_records-flattened-requires-clause-tree c =
     let library = c.reader-library.result in
     let cache = c.args.edited.now.cache in
     let back = sym c.reader-library.ensures in
@@ -79,8 +79,8 @@ flatten_records-requires-clause-tree c =
 
 pub returns-clause-flattened : goal.returns-clause-flattened
 returns-clause-flattened c =
-    subst (λ (l : LibraryParts). IfOk c.flatten_records.result (IsFlattenedAt (seen l) c.args.cell.0)) c.reader-library.ensures
-    c.flatten_records.ensures.flattened
+    subst (λ (l : LibraryParts). IfOk c.flatten_records-flattened.result (IsFlattenedAt (seen l) c.args.cell.0)) c.reader-library.ensures
+    c.flatten_records-flattened.ensures.flattened
 
 pub take_back-requires : goal.take_back-requires
 take_back-requires c = (c.args.edited.now.cache, c.in_ok-lent.ensures.lent)
