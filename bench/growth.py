@@ -1,10 +1,10 @@
 #!/usr/bin/env python3
-"""How time grows: many workloads, each at three sizes, in one table; and the marks that the project has set itself, in another.
+"""How time grows: many workloads, each at three sizes, in one table; and the goals that the project has set itself, in another.
 
-    bench/growth.py [--only WORD] [--scale F] [--program PATH] [--marks]
+    bench/growth.py [--only WORD] [--scale F] [--program PATH] [--goals]
 
 A row has the seconds of processor of the whole run at each size, the least of three runs, the most megabytes at the greatest, and the power of n by which time grew
-from the first size to the last, the seconds of an empty script taken off. With `--marks` it measures the workloads that have a mark, once, and prints it beside
+from the first size to the last, the seconds of an empty script taken off. With `--goals` it measures the workloads that have a goal, and prints it beside
 what was measured. `--only` takes the workloads whose names have the word, `--scale` multiplies all sizes.
 """
 import argparse
@@ -41,7 +41,7 @@ def tall(rects):
 
 
 def crossed(count, seed):
-    """So many wires across as many others, of one layer: as many squares as wires squared."""
+    """Wires across as many others of another layer: so many squares at which they cross."""
     side = math.isqrt(count)
     across = [(0, (0, 4 * k, 4 * side, 4 * k + 2)) for k in range(side)]
     return across + [(1, (4 * k, 0, 4 * k + 2, 4 * side)) for k in range(side)]
@@ -159,7 +159,7 @@ GROWTH = [
 ]
 
 # name, what makes it, the size, seconds and megabytes at most
-MARKS = [
+GOALS = [
     ("array of 500 by 500, flat", hierarchy(hierarchies.array, ["flat top"]), 500, 2.5, 210),
     ("array of 500 by 500, sim", hierarchy(hierarchies.array, ["sim top"]), 500, 2.5, 210),
     ("tree of 40,000 elements, sim", hierarchy(hierarchies.tree, ["sim top"]), 40_000, 3.5, 230),
@@ -188,11 +188,11 @@ def main():
     parser.add_argument("--only", default="")
     parser.add_argument("--scale", type=float, default=1)
     parser.add_argument("--program", default=str(PROGRAM))
-    parser.add_argument("--marks", action="store_true")
+    parser.add_argument("--goals", action="store_true")
     options = parser.parse_args()
-    if options.marks:
-        print("| Workload | Seconds | Mark | MB | Mark |\n|---|---:|---:|---:|---:|")
-        for name, write, size, seconds, megabytes in MARKS:
+    if options.goals:
+        print("| Workload | Seconds | Goal | MB | Goal |\n|---|---:|---:|---:|---:|")
+        for name, write, size, seconds, megabytes in GOALS:
             if options.only in name:
                 took, peak = run(options.program, write, size)
                 print(f"| {name} | {took:.2f} | {seconds} | {peak:.0f} | {megabytes} |", flush=True)
